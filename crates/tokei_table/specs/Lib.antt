@@ -1,0 +1,4 @@
+pub mod Bytes
+pub mod Row
+pub mod RowOf
+pub mod Sound
