@@ -1,4 +1,5 @@
 pub mod Bytes
+pub mod NewRow
 pub mod Row
 pub mod RowOf
 pub mod Sound

@@ -1,11 +1,12 @@
 //! What the table says of one language.
-ghost use Rattle.std.specs.Prelude.{◌≡◌, ◌↔◌, IsTrue, OnOk, [], false};
+ghost use Rattle.std.specs.Prelude.{◌≡◌, ◌↔◌, IsTrue, IfOk};
 ghost use Rattle.std.specs.List.{list_all};
 ghost use Rattle.tokei_table.specs.RowOf.{pairs_of, tokens_of, row_of};
 ghost use Rattle.tokei_table.specs.Sound.{no_newline, is_token, is_pair, IsSound};
-ghost use Rattle.tokei_table.specs.Row.{Row};
+ghost use Rattle.tokei_table.specs.NewRow.{new_row};
 
 use crate::ext::is_blank_text;
+use std::alloc::{AllocError, Global};
 
 /// One language: its name, its comments and string literals, and what it is found by.
 #[derive(Drop)]
@@ -95,6 +96,34 @@ fn are_pairs(pairs: &[(String, String)]) -> bool
 }
 
 impl Syntax {
+    /// A language of that key and name, without comments, string literals or files. It fails where memory runs out.
+    pub fn new(alloc: Global, key: &str) -> Result<Syntax, AllocError>
+        ensures { IfOk result (λ s. row_of s ≡ new_row key.now) }
+    {
+        Ok(Syntax {
+            key: String::from_str(alloc, key)?,
+            name: String::from_str(alloc, key)?,
+            html: false,
+            line_comment: Vec::new(alloc),
+            multi_line_comments: Vec::new(alloc),
+            nested: false,
+            nested_comments: Vec::new(alloc),
+            quotes: Vec::new(alloc),
+            verbatim_quotes: Vec::new(alloc),
+            doc_quotes: Vec::new(alloc),
+            literate: false,
+            blank: false,
+            important_syntax: Vec::new(alloc),
+            extensions: Vec::new(alloc),
+            filenames: Vec::new(alloc),
+            path_suffixes: Vec::new(alloc),
+            mime: Vec::new(alloc),
+            shebangs: Vec::new(alloc),
+            env: Vec::new(alloc),
+            contexts: Vec::new(alloc),
+        })
+    }
+
     /// Whether no text of the comments and string literals is empty, all blank or holds a newline.
     pub fn sound(&self) -> bool
         ensures { IsTrue result ↔ IsSound (row_of self.now) }
