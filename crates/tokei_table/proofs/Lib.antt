@@ -1,1 +1,4 @@
+pub mod Finds
+pub mod Stops
+pub mod TrimParts
 pub mod Trims

@@ -2,7 +2,11 @@
 #![tactic(auto)]
 
 pub mod ext;
+pub mod laws;
 pub mod syntax;
 
-pub use ext::{is_line_ending_whitespace, is_whitespace, trim, trim_start};
+pub use ext::{
+    contains_slice, is_line_ending_whitespace, is_whitespace, trim,
+    trim_first_and_last_line_of_whitespace, trim_start,
+};
 pub use syntax::Syntax;
