@@ -1,0 +1,67 @@
+ghost use Rattle.std.specs.Prelude.{◌≡◌, [], ◌∷◌, ◌++◌, OnOk, OnErr, length, take, ◌-◌};
+
+use std::alloc::{AllocFailed, Global};
+use std::marker::Model;
+
+/// An owned list, which contracts see as its items in order.
+#[derive(Drop)]
+pub struct Items<T> {
+    inner: Vec<T>,
+}
+
+impl<T> Model for Items<T> {
+    ghost use Rattle.std.specs.Prelude.{List};
+
+    ghost Value = { List T };
+
+    ghost view = { λ l. l.inner.items };
+}
+
+impl<T> Items<T> {
+    /// An empty list, which takes no memory.
+    pub fn new(alloc: Global) -> Items<T>
+        ensures { result ≡ [] }
+    {
+        Items {
+            inner: Vec::new(alloc),
+        }
+    }
+
+    /// The list of a vector's items.
+    pub fn from_vec(inner: Vec<T>) -> Items<T>
+        ensures { result ≡ inner.items }
+    {
+        Items { inner }
+    }
+
+    /// The items.
+    pub fn as_slice(&self) -> &[T]
+        ensures { result.now ≡ self.now }
+    {
+        self.inner.as_slice()
+    }
+
+    /// Adds an item at the end; where memory is refused the list stays as it was.
+    pub fn push(&mut self, item: T) -> Result<(), AllocFailed<T>>
+        ensures ok { OnOk result (self.new ≡ self.old ++ item ∷ []) }
+        ensures err { OnErr result (self.new ≡ self.old) }
+    {
+        self.inner.push(item)
+    }
+}
+
+impl<T: Drop> Items<T> {
+    /// Drops the last item, where there is one.
+    pub fn drop_last(&mut self)
+        ensures { self.new ≡ take (length self.old - 1) self.old }
+    {
+        let _last = self.inner.pop();
+    }
+
+    /// Drops all items.
+    pub fn clear(&mut self)
+        ensures { self.new ≡ [] }
+    {
+        self.inner.clear();
+    }
+}
