@@ -1,0 +1,64 @@
+-- Cutting marks whose bytes stand in one line.
+use Rattle.std.proofs.Common.{◌≡◌, ℕ, ◌<◌, ◌==◌, Bool, true, false, not, ◌&&◌, cond, List, [], ◌∷◌, ◌++◌, length, refl, sym, ◌∙◌, ap, append_assoc, arith}
+use Rattle.std.proofs.lemmas.List.{append-nil}
+use Rattle.tokei_table.specs.Sound.{no_newline}
+use Rattle.tokei_count.specs.Items.{Mode}
+use Rattle.tokei_count.specs.Modes.{Chain, innermost, Mark, inside, of_choice, closing_from, closing}
+use Rattle.tokei_count.specs.Modes.Mark.{byte_at}
+use Rattle.tokei_count.specs.Parts.{cut}
+
+-- the first byte is no newline, and neither are the others
+pub no_newline_first : (b : ℕ) (t : List ℕ) → no_newline (b ∷ t) ≡ true → (b == 10) ≡ false
+no_newline_first b t h = by_test (b == 10) h
+  where
+    by_test : (x : Bool) → (not x && no_newline t) ≡ true → x ≡ false
+    by_test true h = cc
+    by_test false h = refl
+
+pub no_newline_later : (b : ℕ) (t : List ℕ) → no_newline (b ∷ t) ≡ true → no_newline t ≡ true
+no_newline_later b t h = by_test (b == 10) h
+  where
+    by_test : (x : Bool) → (not x && no_newline t) ≡ true → no_newline t ≡ true
+    by_test true h = cc
+    by_test false h = h
+
+cut_one : (m : Mode) (s : List ℕ) (e : Mode) (b : ℕ) (x : Bool) (c : Chain) (ms : List Mark) → (b == 10) ≡ false → cut m s e (byte_at b x c ∷ ms) ≡ cut m (s ++ b ∷ []) (innermost c) ms
+unfolding cut
+cut_one m s e b x c ms h = ap (λ y. cond y (record { begun = m; bytes = s ++ b ∷ []; ended = innermost c } ∷ cut (innermost c) [] (innermost c) ms) (cut m (s ++ b ∷ []) (innermost c) ms)) h
+
+-- a newline ends the part, whether or not a choice begins at it
+pub cut_newline : (m : Mode) (s : List ℕ) (e : Mode) (x : Bool) (c : Chain) (ms : List Mark) → cut m s e (byte_at 10 x c ∷ ms) ≡ record { begun = m; bytes = s ++ 10 ∷ []; ended = innermost c } ∷ cut (innermost c) [] (innermost c) ms
+unfolding cut
+cut_newline m s e x c ms = refl
+
+-- bytes inside a choice that stand in one line
+pub cut_inside : (m : Mode) (s : List ℕ) (c : Chain) (p : List ℕ) (ms : List Mark) → no_newline p ≡ true → cut m s (innermost c) (inside c p ++ ms) ≡ cut m (s ++ p) (innermost c) ms
+cut_inside m s c [] ms h = ap (λ w. cut m w (innermost c) ms) (sym (append-nil s))
+cut_inside m s c (b ∷ t) ms h =
+    cut_one m s (innermost c) b false c (inside c t ++ ms) (no_newline_first b t h)
+    ∙ cut_inside m (s ++ b ∷ []) c t ms (no_newline_later b t h)
+    ∙ ap (λ w. cut m w (innermost c) ms) (append_assoc s (b ∷ []) t)
+
+-- a choice that stands in one line
+pub cut_choice : (m : Mode) (s : List ℕ) (e : Mode) (c : Chain) (p : List ℕ) (ms : List Mark) → 0 < length p → no_newline p ≡ true → cut m s e (of_choice c p ++ ms) ≡ cut m (s ++ p) (innermost c) ms
+cut_choice m s e c [] ms l h = absurd (omega arith)
+cut_choice m s e c (b ∷ t) ms l h =
+    cut_one m s e b true c (inside c t ++ ms) (no_newline_first b t h)
+    ∙ cut_inside m (s ++ b ∷ []) c t ms (no_newline_later b t h)
+    ∙ ap (λ w. cut m w (innermost c) ms) (append_assoc s (b ∷ []) t)
+
+cut_closing_from : (x : Bool) (m : Mode) (s : List ℕ) (e : Mode) (c d : Chain) (p : List ℕ) (ms : List Mark) → 0 < length p → no_newline p ≡ true → cut m s e (closing_from x c d p ++ ms) ≡ cut m (s ++ p) (innermost d) ms
+cut_closing_from x m s e c d [] ms l h = absurd (omega arith)
+cut_closing_from x m s e c d (b ∷ []) ms l h = cut_one m s e b x d ms (no_newline_first b [] h)
+cut_closing_from x m s e c d (b ∷ b' ∷ t) ms l h =
+    cut_one m s e b x c (closing_from false c d (b' ∷ t) ++ ms) (no_newline_first b (b' ∷ t) h)
+    ∙ cut_closing_from false m (s ++ b ∷ []) (innermost c) c d (b' ∷ t) ms (omega arith) (no_newline_later b (b' ∷ t) h)
+    ∙ ap (λ w. cut m w (innermost d) ms) (append_assoc s (b ∷ []) (b' ∷ t))
+
+-- a closer that stands in one line
+pub cut_closing : (m : Mode) (s : List ℕ) (e : Mode) (c d : Chain) (p : List ℕ) (ms : List Mark) → 0 < length p → no_newline p ≡ true → cut m s e (closing c d p ++ ms) ≡ cut m (s ++ p) (innermost d) ms
+cut_closing m s e c d p ms l h = cut_closing_from true m s e c d p ms l h
+
+pub cut_end : (m : Mode) (b : ℕ) (t : List ℕ) (e : Mode) → cut m (b ∷ t) e [] ≡ record { begun = m; bytes = b ∷ t; ended = e } ∷ []
+unfolding cut
+cut_end m b t e = refl

@@ -1,0 +1,10 @@
+pub mod Ahead
+pub mod Cuts
+pub mod Fits
+pub mod Leading
+pub mod Stepping
+pub mod Stack
+pub mod Lines
+pub mod LineEnd
+pub mod Childless
+pub mod SpelledItems

@@ -1,0 +1,85 @@
+-- A line that was walked is one part.
+use Rattle.std.proofs.Common.{◌≡◌, ℕ, suc, ◌+◌, ◌<◌, ◌≤◌, ◌==◌, Bool, true, false, cond, List, [], ◌∷◌, length, take, drop, refl, sym, ◌∙◌, ap, arith}
+use Rattle.tokei_count.proofs.Leading.{line_done}
+use Rattle.tokei_count.proofs.Ahead.{marks_ahead-end}
+use Rattle.tokei_count.proofs.Stepping.{top_closed}
+use Rattle.tokei_count.specs.Class.{class_of}
+use Rattle.tokei_count.specs.Derivation.{no_child}
+use Rattle.tokei_count.specs.Lines.{first_line, line_len}
+use Rattle.tokei_count.specs.Modes.{Chain, innermost}
+use Rattle.tokei_count.specs.Parts.{cut}
+use Rattle.tokei_count.specs.PlainReading.{tally, one_of}
+use Rattle.tokei_count.specs.Progress.{marks_ahead, Leads, ReadsLine, left_of, IsClosable}
+use Rattle.tokei_count.specs.Statistics.{Counts, plus, no_lines}
+use Rattle.tokei_count.specs.declared.class.Class.{Class}
+use Rattle.tokei_table.specs.Row.{Row}
+use Rattle.tokei_table.specs.Sound.{IsSound}
+
+first_by : (x : Bool) (n k m : ℕ) (b : ℕ) (t : List ℕ) → (n < m → length t ≡ n + 1) → (m ≤ n → length t ≡ n) → cond x 0 (suc n) < suc m → length (cond x (b ∷ []) (b ∷ t)) ≡ cond x 0 (suc n) + 1
+first_by true n k m b t f g h = refl
+first_by false n k m b t f g h = let e : length t ≡ n + 1 = f (omega arith) in omega (arith, e)
+
+first_all : (x : Bool) (n m : ℕ) (b : ℕ) (t : List ℕ) → (m ≤ n → length t ≡ n) → suc m ≤ cond x 0 (suc n) → length (cond x (b ∷ []) (b ∷ t)) ≡ cond x 0 (suc n)
+first_all true n m b t g h = absurd (omega arith)
+first_all false n m b t g h = let e : length t ≡ n = g (omega arith) in omega (arith, e)
+
+pub length-whole : (u : List ℕ) → length u ≤ line_len u → length (first_line u) ≡ line_len u
+length-whole [] h = refl
+length-whole (b ∷ t) h = first_all (b == 10) (line_len t) (length t) b (first_line t) (length-whole t) h
+
+pub length-broken : (u : List ℕ) → line_len u < length u → length (first_line u) ≡ line_len u + 1
+length-broken [] h = absurd (omega arith)
+length-broken (b ∷ t) h = first_by (b == 10) (line_len t) 0 (length t) b (first_line t) (length-broken t) (length-whole t) h
+
+take_by : (x : Bool) (b : ℕ) (t : List ℕ) → take (length (first_line t)) t ≡ first_line t → take (length (cond x (b ∷ []) (b ∷ first_line t))) (b ∷ t) ≡ cond x (b ∷ []) (b ∷ first_line t)
+take_by true b t h = refl
+take_by false b t h = ap (λ w. b ∷ w) h
+
+pub take-first : (u : List ℕ) → take (length (first_line u)) u ≡ first_line u
+take-first [] = refl
+take-first (b ∷ t) = take_by (b == 10) b t (take-first t)
+
+within_by : (x : Bool) (b : ℕ) (t : List ℕ) → length (first_line t) ≤ length t → length (cond x (b ∷ []) (b ∷ first_line t)) ≤ suc (length t)
+within_by true b t h = omega arith
+within_by false b t h = omega arith
+
+first_within : (u : List ℕ) → length (first_line u) ≤ length u
+first_within [] = omega arith
+first_within (b ∷ t) = within_by (b == 10) b t (first_within t)
+
+pub first_some : (b : ℕ) (t : List ℕ) → 0 < length (first_line (b ∷ t))
+first_some b t = by_test (b == 10)
+  where
+    by_test : (x : Bool) → 0 < length (cond x (b ∷ []) (b ∷ first_line t))
+    by_test true = omega arith
+    by_test false = omega arith
+
+pub line_reads : (g : Row) (docs : Bool) (c d : Chain) (u : List ℕ) (class : Class) → IsSound g → IsClosable d → 0 < length u
+    → ((l : ℕ) → Leads g no_child l c (line_len u) d u)
+    → class ≡ class_of g docs (record { begun = innermost c; bytes = first_line u; ended = innermost d })
+    → ReadsLine g docs c (length (first_line u)) class d u
+line_reads g docs c d [] class s k h f e = absurd (omega arith)
+line_reads g docs c d (b ∷ t) class s k h f e = record {
+  some = first_some b t;
+  within = first_within (b ∷ t);
+  closable = k;
+  reads = λ l. ap (tally g docs) (line_done g l c d b t s (top_closed d k) (f l)) ∙ ap (λ w. plus (one_of w) (tally g docs (cut (innermost d) [] (innermost d) (marks_ahead g no_child l d (drop (length (first_line (b ∷ t))) (b ∷ t)))))) (sym e);
+}
+
+-- nothing is left behind the text
+pub left_none : (g : Row) (docs : Bool) (l : ℕ) (c : Chain) → left_of g docs l c [] ≡ no_lines
+unfolding cut
+left_none g docs l c = ap (λ w. tally g docs (cut (innermost c) [] (innermost c) w)) (marks_ahead-end g no_child l c)
+
+pub plus-no_lines : (a : Counts) → plus a no_lines ≡ a
+plus-no_lines a =
+    let x : a.blanks + 0 ≡ a.blanks = omega arith in
+    let y : a.code + 0 ≡ a.code = omega arith in
+    let z : a.comments + 0 ≡ a.comments = omega arith in
+    ap (λ w. record { blanks = w; code = a.code + 0; comments = a.comments + 0 }) x
+    ∙ ap (λ w. record { blanks = a.blanks; code = w; comments = a.comments + 0 }) y
+    ∙ ap (λ w. record { blanks = a.blanks; code = a.code; comments = w }) z
+
+pub empty_is : (t : List ℕ) → length t ≡ 0 → t ≡ []
+empty_is [] h = refl
+empty_is (b ∷ t) h = absurd (omega arith)

@@ -1,0 +1,13 @@
+pub mod Lines
+pub mod Items
+pub mod Choice
+pub mod Derivation
+pub mod Spelling
+pub mod Modes
+pub mod Parts
+pub mod Class
+pub mod Statistics
+pub mod PlainReading
+pub mod Languages
+pub mod Progress
+pub mod Seen

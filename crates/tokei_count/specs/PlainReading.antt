@@ -1,0 +1,60 @@
+-- The plain reading: the statistics of a text, by its derivation alone.
+use Rattle.std.specs.Prelude.{ℕ, zero, suc, Bool, List, [], ◌∷◌, cond}
+use Rattle.tokei_table.specs.Row.{Row}
+use Rattle.tokei_count.specs.Items.{Block}
+use Rattle.tokei_count.specs.Derivation.{items_of, no_child}
+use Rattle.tokei_count.specs.Modes.{Mark, marks}
+use Rattle.tokei_count.specs.Modes.Mark.{byte_at, child_at}
+use Rattle.tokei_count.specs.Parts.{Part, parts_of}
+use Rattle.tokei_count.specs.Class.{class_of}
+use Rattle.tokei_count.specs.Languages.{Languages, is_notebook}
+use Rattle.tokei_count.specs.Statistics.{Counts, Statistics, Blobs, no_lines, plus, empty, at, put, joined, sum}
+use Rattle.tokei_count.specs.Statistics.Statistics.{node}
+use Rattle.tokei_count.specs.Statistics.Blobs.{none}
+use Rattle.tokei_count.specs.declared.class.Class.{Class}
+use Rattle.tokei_count.specs.declared.class.Class.TheVariants.{Blank, Code, Comment}
+
+-- one line of the class
+abbrev pub one_of : Class → Counts
+one_of Blank = record { blanks = 1; code = 0; comments = 0 }
+one_of Code = record { blanks = 0; code = 1; comments = 0 }
+one_of Comment = record { blanks = 0; code = 0; comments = 1 }
+
+-- each counted part is 1 in the column of its class
+abbrev pub tally : Row → Bool → List Part → Counts
+tally r docs [] = no_lines
+tally r docs (p ∷ ps) = plus (one_of (class_of r docs p)) (tally r docs ps)
+
+-- the children, in order
+abbrev pub children : List Mark → List Block
+children [] = []
+children (byte_at b x c ∷ ms) = children ms
+children (child_at k ∷ ms) = k ∷ children ms
+
+-- what the children add to the parent's own counts
+abbrev pub shares : List Block → Counts
+shares [] = no_lines
+shares (k ∷ ks) = plus k.share (shares ks)
+
+-- the blobs, with the statistics of each child added at its language
+abbrev pub gathered : (Block → Statistics) → Blobs → List Block → Blobs
+gathered read bs [] = bs
+gathered read bs (k ∷ ks) = gathered read (put bs k.language (joined (at bs k.language) (λ s. sum s (read k)) (read k))) ks
+
+-- the statistics of a text by its marks, where `read` gives those of a child
+abbrev pub read_by : Row → Bool → (Block → Statistics) → List Mark → Statistics
+read_by r docs read ms = node (plus (tally r docs (parts_of ms)) (shares (children ms))) (gathered read none (children ms))
+
+-- The reading of a text in a language, with so many levels left. With none left no child opens; a child has one level
+-- less than its parent. A notebook counts nothing yet.
+unfoldable pub reading : Languages → Bool → ℕ → ℕ → List ℕ → Statistics
+reading ls docs zero language t =
+    cond (is_notebook (ls.row language)) empty
+    (read_by (ls.row language) docs (λ k. empty) (marks [] (items_of (ls.row language) no_child t)))
+reading ls docs (suc levels) language t =
+    cond (is_notebook (ls.row language)) empty
+    (read_by (ls.row language) docs (λ k. reading ls docs levels k.language k.contents) (marks [] (items_of (ls.row language) (ls.block language t) t)))
+
+-- the outermost text has 50 levels left
+abbrev pub outermost_levels : ℕ
+outermost_levels = 50

@@ -1,0 +1,31 @@
+-- The bytes that items spell.
+use Rattle.std.specs.Prelude.{◌≡◌, ℕ, ◌<◌, cond, List, [], ◌∷◌, ◌++◌, Option, Some}
+use Rattle.tokei_table.specs.Row.{Row}
+use Rattle.tokei_table.specs.Sound.{IsSound}
+use Rattle.tokei_count.specs.Items.{Block, Item, Items}
+use Rattle.tokei_count.specs.Items.Item.{one, escaped, passed_over, string_literal, comment, line_comment, child}
+use Rattle.tokei_count.specs.Items.Items.{none, more}
+use Rattle.tokei_count.specs.Derivation.{items_of}
+
+-- an item with a body spells its opener, its body and, where it is closed, its closer
+unfoldable mutual
+  pub spelled : Items → List ℕ
+  spelled none = []
+  spelled (more i is) = spelled_by i ++ spelled is
+
+  pub spelled_by : Item → List ℕ
+  spelled_by (one b) = b ∷ []
+  spelled_by (escaped a b) = a ∷ b ∷ []
+  spelled_by (passed_over p) = p.opener
+  spelled_by (string_literal k p is closed) = p.opener ++ (spelled is ++ cond closed p.closer [])
+  spelled_by (comment p is closed) = p.opener ++ (spelled is ++ cond closed p.closer [])
+  spelled_by (line_comment t) = t
+  spelled_by (child k t) = t
+
+-- each block takes a byte at least
+pub record TakesBytes (block : ℕ → List ℕ → Option Block) : Type 0 where
+  pub some : (l : ℕ) (t : List ℕ) (k : Block) → block l t ≡ Some k → 0 < k.size
+
+-- the law: by sound tokens the items of a text spell it, whatever children open
+abbrev pub ItemsSpellText : Type 0
+ItemsSpellText = (r : Row) (block : ℕ → List ℕ → Option Block) (t : List ℕ) → IsSound r → TakesBytes block → spelled (items_of r block t) ≡ t

@@ -1,0 +1,161 @@
+//! The choice at one place.
+ghost use Rattle.std.specs.Prelude.{◌≡◌, None, option_map};
+ghost use Rattle.std.specs.Option.{option_copied};
+ghost use Rattle.tokei_table.specs.Bytes.{begins};
+ghost use Rattle.tokei_table.specs.RowOf.{pair_of, pairs_of, tokens_of, row_of};
+ghost use Rattle.tokei_count.specs.Choice.{opened, any_begins, is_escape, has_pair, met_in_comment, choice_in_string, choice_in_comment, choice_in_plain, choice};
+ghost use Rattle.tokei_count.specs.Seen.{choice_of, mode_of};
+
+use crate::items::{Enclosure, Kind};
+use tokei_table::Syntax;
+
+/// The choice at a place.
+#[derive(Clone, Copy)]
+pub enum Choice<'a> {
+    /// The closer of the innermost item that encloses the place.
+    Closer,
+    /// A backslash and the byte behind it.
+    Escape,
+    /// The opener of a string literal or a comment.
+    Opener(Kind, &'a (String, String)),
+    /// An opener that stands for nothing inside a comment.
+    PassedOpener(&'a (String, String)),
+    /// A line comment, which covers the rest of its line.
+    LineComment,
+    /// A byte that stands for itself.
+    Byte,
+}
+
+/// Whether the token stands at the front of the text.
+pub(crate) fn begins(token: &str, text: &[u8]) -> bool
+    ensures { result ≡ begins token.now text.now }
+{
+    text.starts_with(token.as_bytes())
+}
+
+/// The first pair whose opener stands at the front of the text.
+fn opened<'a>(pairs: &'a [(String, String)], text: &[u8]) -> Option<&'a (String, String)>
+    ensures { option_map pair_of (option_copied result) ≡ opened (pairs_of pairs.now) text.now }
+{
+    for pair in pairs {
+        if begins(&pair.0, text) {
+            return Some(pair);
+        }
+    }
+    None
+}
+
+/// Whether some token stands at the front of the text.
+pub(crate) fn any_begins(tokens: &[String], text: &[u8]) -> bool
+    ensures { result ≡ any_begins (tokens_of tokens.now) text.now }
+{
+    for token in tokens {
+        if begins(token, text) {
+            return true;
+        }
+    }
+    false
+}
+
+/// Whether an escape stands at the front of the text.
+fn is_escape(syntax: &Syntax, text: &[u8]) -> bool
+    ensures { result ≡ is_escape (row_of syntax.now) text.now }
+{
+    match text {
+        [b'\\', rest @ ..] => begins("\\", rest) || opened(&syntax.quotes, rest).is_some(),
+        _ => false,
+    }
+}
+
+/// Whether the pair is in the list.
+fn has_pair(pairs: &[(String, String)], pair: &(String, String)) -> bool
+    ensures { result ≡ has_pair (pairs_of pairs.now) (pair_of pair.now) }
+{
+    for other in pairs {
+        if other.0 == pair.0 && other.1 == pair.1 {
+            return true;
+        }
+    }
+    false
+}
+
+/// The choice for a multi-line opener that is met inside a comment.
+fn met_in_comment<'a>(syntax: &Syntax, pair: &'a (String, String)) -> Choice<'a>
+    ensures { choice_of result ≡ met_in_comment (row_of syntax.now) (pair_of pair.now) }
+{
+    if syntax.nested || has_pair(&syntax.nested_comments, pair) {
+        Choice::Opener(Kind::MultiLineComment, pair)
+    } else {
+        Choice::PassedOpener(pair)
+    }
+}
+
+fn in_string<'a>(syntax: &Syntax, verbatim: bool, closer: &[u8], text: &[u8]) -> Choice<'a>
+    ensures { choice_of result ≡ choice_in_string (row_of syntax.now) verbatim closer.now text.now }
+{
+    if text.starts_with(closer) {
+        Choice::Closer
+    } else if !verbatim && is_escape(syntax, text) {
+        Choice::Escape
+    } else {
+        Choice::Byte
+    }
+}
+
+fn in_comment<'a>(syntax: &'a Syntax, closer: &[u8], text: &[u8]) -> Choice<'a>
+    ensures { choice_of result ≡ choice_in_comment (row_of syntax.now) closer.now text.now }
+{
+    if is_escape(syntax, text) {
+        Choice::Escape
+    } else if text.starts_with(closer) {
+        Choice::Closer
+    } else if let Some(pair) = opened(&syntax.multi_line_comments, text) {
+        met_in_comment(syntax, pair)
+    } else if let Some(pair) = opened(&syntax.nested_comments, text) {
+        Choice::Opener(Kind::MultiLineComment, pair)
+    } else {
+        Choice::Byte
+    }
+}
+
+fn in_plain<'a>(syntax: &'a Syntax, text: &[u8]) -> Choice<'a>
+    ensures { choice_of result ≡ choice_in_plain (row_of syntax.now) None text.now }
+{
+    if is_escape(syntax, text) {
+        Choice::Escape
+    } else if let Some(pair) = opened(&syntax.doc_quotes, text) {
+        Choice::Opener(Kind::DocString, pair)
+    } else if let Some(pair) = opened(&syntax.verbatim_quotes, text) {
+        Choice::Opener(Kind::VerbatimString, pair)
+    } else if let Some(pair) = opened(&syntax.quotes, text) {
+        Choice::Opener(Kind::OrdinaryString, pair)
+    } else if let Some(pair) = opened(&syntax.multi_line_comments, text) {
+        Choice::Opener(Kind::MultiLineComment, pair)
+    } else if let Some(pair) = opened(&syntax.nested_comments, text) {
+        Choice::Opener(Kind::MultiLineComment, pair)
+    } else if any_begins(&syntax.line_comment, text) {
+        Choice::LineComment
+    } else {
+        Choice::Byte
+    }
+}
+
+/// The first choice that fits at the front of the text, where no child can open.
+#[tactic(auto, unfolding(crate::specs::Choice::choice))]
+pub fn choose<'a>(syntax: &'a Syntax, mode: Option<Enclosure<'a>>, text: &[u8]) -> Choice<'a>
+    ensures { choice_of result ≡ choice (row_of syntax.now) (mode_of mode.entry) None text.now }
+{
+    match mode {
+        None => in_plain(syntax, text),
+        Some(enclosure) => match enclosure.kind {
+            Kind::DocString | Kind::OrdinaryString => in_string(
+                syntax,
+                false,
+                enclosure.closer,
+                text,
+            ),
+            Kind::VerbatimString => in_string(syntax, true, enclosure.closer, text),
+            Kind::MultiLineComment => in_comment(syntax, enclosure.closer, text),
+        },
+    }
+}

@@ -1,0 +1,133 @@
+//! What a part counts as.
+ghost use Rattle.std.specs.Prelude.{◌≡◌};
+ghost use Rattle.tokei_table.specs.RowOf.{pairs_of, row_of};
+ghost use Rattle.tokei_count.specs.Class.{encloses, opens_with, class_of, head_of, in_comment, in_string, in_doc_string, ends_opened};
+ghost use Rattle.tokei_count.specs.Seen.{mode_of};
+
+use crate::choice::{any_begins, begins};
+use crate::items::{Enclosure, Kind};
+use tokei_table::Syntax;
+use tokei_table::ext::{is_blank_text, trim};
+
+/// What a line counts as.
+#[derive(Clone, Copy, Debug, PartialEq, Eq)]
+pub enum Class {
+    Blank,
+    Code,
+    Comment,
+}
+
+/// Whether a pair opens at the front of the text and closes at its end.
+fn encloses(pairs: &[(String, String)], text: &[u8]) -> bool
+    ensures { result ≡ encloses (pairs_of pairs.now) text.now }
+{
+    for pair in pairs {
+        if begins(&pair.0, text) && text.ends_with(pair.1.as_bytes()) {
+            return true;
+        }
+    }
+    false
+}
+
+/// Whether a pair with this closer opens at the front of the text.
+fn opens_with(pairs: &[(String, String)], text: &[u8], closer: &[u8]) -> bool
+    ensures { result ≡ opens_with (pairs_of pairs.now) text.now closer.now }
+{
+    for pair in pairs {
+        if begins(&pair.0, text) && pair.1.as_bytes() == closer {
+            return true;
+        }
+    }
+    false
+}
+
+fn in_comment(mode: Option<Enclosure>) -> bool
+    ensures { result ≡ in_comment (mode_of mode.entry) }
+{
+    match mode {
+        Some(enclosure) => enclosure.kind == Kind::MultiLineComment,
+        None => false,
+    }
+}
+
+fn in_string(mode: Option<Enclosure>) -> bool
+    ensures { result ≡ in_string (mode_of mode.entry) }
+{
+    match mode {
+        Some(enclosure) => enclosure.kind != Kind::MultiLineComment,
+        None => false,
+    }
+}
+
+fn in_doc_string(mode: Option<Enclosure>) -> bool
+    ensures { result ≡ in_doc_string (mode_of mode.entry) }
+{
+    match mode {
+        Some(enclosure) => enclosure.kind == Kind::DocString,
+        None => false,
+    }
+}
+
+/// The part without its blanks, or as it stands where columns count.
+fn head_of<'t>(syntax: &Syntax, text: &'t [u8]) -> &'t [u8]
+    ensures { result.now ≡ head_of (row_of syntax.now) text.now }
+{
+    if syntax.key.as_str() == "FortranLegacy" || syntax.key.as_str() == "FortranModern" {
+        text
+    } else {
+        trim(text)
+    }
+}
+
+/// Whether the part ends in a comment that a pair at its head could have opened.
+fn ends_opened(syntax: &Syntax, head: &[u8], ended: Option<Enclosure>) -> bool
+    ensures { result ≡ ends_opened (row_of syntax.now) head.now (mode_of ended.entry) }
+{
+    match ended {
+        Some(enclosure) => {
+            enclosure.kind == Kind::MultiLineComment
+                && (opens_with(&syntax.multi_line_comments, head, enclosure.closer)
+                    || opens_with(&syntax.nested_comments, head, enclosure.closer))
+        }
+        None => false,
+    }
+}
+
+/// The class of a part that began and ended in these modes; `docs` says whether doc strings are treated as comments.
+#[tactic(auto, unfolding(crate::specs::Class::class_of))]
+pub fn class_of(
+    syntax: &Syntax,
+    docs: bool,
+    begun: Option<Enclosure>,
+    bytes: &[u8],
+    ended: Option<Enclosure>,
+) -> Class
+    ensures { result ≡ class_of (row_of syntax.now) docs
+        (record { begun = mode_of begun.entry; bytes = bytes.now; ended = mode_of ended.entry }) }
+{
+    if begun.is_none() && is_blank_text(bytes) {
+        return Class::Blank;
+    }
+    if syntax.literate || (in_doc_string(ended) && docs) {
+        return Class::Comment;
+    }
+    if in_string(ended) {
+        return Class::Code;
+    }
+    if in_comment(begun) || (in_doc_string(begun) && docs) {
+        return Class::Comment;
+    }
+    if in_string(begun) {
+        return Class::Code;
+    }
+    let head = head_of(syntax, bytes);
+    let trimmed = trim(bytes);
+    if any_begins(&syntax.line_comment, head)
+        || encloses(&syntax.multi_line_comments, trimmed)
+        || encloses(&syntax.nested_comments, trimmed)
+        || ends_opened(syntax, head, ended)
+    {
+        return Class::Comment;
+    }
+    Class::Code
+}
