@@ -147,15 +147,10 @@ pub fn choose<'a>(syntax: &'a Syntax, mode: Option<Enclosure<'a>>, text: &[u8]) 
 {
     match mode {
         None => in_plain(syntax, text),
-        Some(enclosure) => match enclosure.kind {
-            Kind::DocString | Kind::OrdinaryString => in_string(
-                syntax,
-                false,
-                enclosure.closer,
-                text,
-            ),
-            Kind::VerbatimString => in_string(syntax, true, enclosure.closer, text),
-            Kind::MultiLineComment => in_comment(syntax, enclosure.closer, text),
+        Some(inner) => match inner.kind {
+            Kind::DocString | Kind::OrdinaryString => in_string(syntax, false, inner.closer, text),
+            Kind::VerbatimString => in_string(syntax, true, inner.closer, text),
+            Kind::MultiLineComment => in_comment(syntax, inner.closer, text),
         },
     }
 }

@@ -4,14 +4,14 @@
 //! the class of a part, statistics, the plain reading.
 #![tactic(auto)]
 
-pub mod choice;
-pub mod class;
-pub mod config;
-pub mod items;
+mod choice;
+mod class;
+mod config;
+mod items;
 pub mod laws;
-pub mod plain_reading;
-pub mod stats;
-pub mod walk;
+mod plain_reading;
+mod stats;
+mod walk;
 
 pub use config::CountConfig;
 pub use plain_reading::count_plain;
