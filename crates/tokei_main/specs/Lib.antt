@@ -1,0 +1,4 @@
+pub mod Faults
+pub mod CRow
+pub mod CountsAsC
+pub mod CountsLine

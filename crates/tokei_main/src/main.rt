@@ -1,0 +1,25 @@
+//! Reads a text from standard input, counts it as C, and prints one line of its blank, code and comment lines.
+#![tactic(auto)]
+
+mod c_syntax;
+mod count_input;
+mod counted;
+mod sink;
+mod source;
+
+use count_input::count_input;
+use counted::Counted;
+use std::io;
+use std::process::ExitCode;
+
+fn main(rt: HostRuntime) -> io::Result<ExitCode> {
+    let mut reader = Counted::new(rt.reader());
+    let mut writer = Counted::new(io::writer(&rt));
+    match count_input(rt.alloc(), &mut reader, &mut writer) {
+        Ok(()) => Ok(ExitCode::SUCCESS),
+        Err(fault) => {
+            eprintln!(rt; "Error: {fault}")?;
+            Ok(ExitCode::FAILURE)
+        }
+    }
+}
