@@ -4,8 +4,14 @@
 mod c_syntax;
 mod count_input;
 mod counted;
+#[cfg(test)]
+mod fail_once;
+#[cfg(test)]
+mod plain_rows;
 mod sink;
 mod source;
+#[cfg(test)]
+mod tests;
 
 use count_input::count_input;
 use counted::Counted;

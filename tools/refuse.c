@@ -1,0 +1,59 @@
+// Preloaded before a program: refuses one of its growths, the one numbered REFUSE_AT, counted from 1.
+// A refusal makes the file that REFUSE_TOLD names, by which the caller knows that there was one.
+#define _GNU_SOURCE
+#include <dlfcn.h>
+#include <errno.h>
+#include <fcntl.h>
+#include <stdlib.h>
+#include <unistd.h>
+
+static unsigned long asked;
+
+// Whether the growth that is asked for now is the one to refuse.
+static int refused(void) {
+    static unsigned long at;
+    static int known;
+    if (!known) {
+        const char *number = getenv("REFUSE_AT");
+        at = number ? strtoul(number, 0, 10) : 0;
+        known = 1;
+    }
+    if (++asked != at) return 0;
+    const char *told = getenv("REFUSE_TOLD");
+    if (told) {
+        int file = open(told, O_CREAT | O_WRONLY, 0600);
+        if (file >= 0) close(file);
+    }
+    errno = ENOMEM;
+    return 1;
+}
+
+void *malloc(size_t size) {
+    static void *(*real)(size_t);
+    if (!real) real = dlsym(RTLD_NEXT, "malloc");
+    return refused() ? 0 : real(size);
+}
+
+void *calloc(size_t count, size_t size) {
+    static void *(*real)(size_t, size_t);
+    if (!real) real = dlsym(RTLD_NEXT, "calloc");
+    return refused() ? 0 : real(count, size);
+}
+
+void *realloc(void *old, size_t size) {
+    static void *(*real)(void *, size_t);
+    if (!real) real = dlsym(RTLD_NEXT, "realloc");
+    return refused() ? 0 : real(old, size);
+}
+
+void *aligned_alloc(size_t align, size_t size) {
+    static void *(*real)(size_t, size_t);
+    if (!real) real = dlsym(RTLD_NEXT, "aligned_alloc");
+    return refused() ? 0 : real(align, size);
+}
+
+int posix_memalign(void **to, size_t align, size_t size) {
+    static int (*real)(void **, size_t, size_t);
+    if (!real) real = dlsym(RTLD_NEXT, "posix_memalign");
+    return refused() ? ENOMEM : real(to, align, size);
+}
