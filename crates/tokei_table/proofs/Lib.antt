@@ -1,4 +1,10 @@
+pub mod Characters
 pub mod Finds
+pub mod KeyOrder
+pub mod Pairs
+pub mod RowParts
+pub mod RowSound
 pub mod Stops
 pub mod TrimParts
 pub mod Trims
+pub mod Utf8

@@ -1,8 +1,16 @@
 pub mod Bytes
+pub mod Escaped
+pub mod Escapes
+pub mod Families
+pub mod Layout
+pub mod Lookups
 pub mod NewRow
 pub mod OuterLines
+pub mod Outcome
 pub mod Row
 pub mod RowOf
+pub mod Rows
 pub mod Slices
 pub mod Sound
 pub mod TrimLaws
+pub mod WellFormed

@@ -73,7 +73,7 @@ fn is_token(text: &[u8]) -> bool
     }
 }
 
-fn are_tokens(tokens: &[String]) -> bool
+pub(crate) fn are_tokens(tokens: &[String]) -> bool
     ensures { result ≡ list_all is_token (tokens_of tokens.now) }
 {
     for token in tokens {
@@ -84,7 +84,7 @@ fn are_tokens(tokens: &[String]) -> bool
     true
 }
 
-fn are_pairs(pairs: &[(String, String)]) -> bool
+pub(crate) fn are_pairs(pairs: &[(String, String)]) -> bool
     ensures { result ≡ list_all is_pair (pairs_of pairs.now) }
 {
     for pair in pairs {

@@ -1,0 +1,41 @@
+-- What becomes of a table's bytes: its rows, or the first cause for which it is refused.
+use Rattle.std.specs.Prelude.{ℕ, not, List, Option, Some, None, Result, Ok, Err, codes, if◌then◌else◌}
+use Rattle.std.specs.List.{list_all, list_any}
+use Rattle.std.specs.Str.{is_utf8}
+use Rattle.serde_json.specs.Data.{Data}
+use Rattle.serde_json.specs.Find.{get}
+use Rattle.serde_json.specs.Read.{read}
+use Rattle.tokei_table.specs.Escaped.{is_escaped_table}
+use Rattle.tokei_table.specs.Layout.{has_layout}
+use Rattle.tokei_table.specs.Row.{Row}
+use Rattle.tokei_table.specs.Rows.{rows_at}
+use Rattle.tokei_table.specs.WellFormed.{has_tokens, names_twice, is_total, has_fallbacks}
+use Rattle.tokei_table.specs.declared.error.TableError.{TableError}
+use Rattle.tokei_table.specs.declared.error.TableError.TheVariants.{NotJson, Layout, Escape, Token, NamedTwice, NamedTotal, Fallback}
+
+-- The JSON value of the bytes, which are UTF-8.
+unfoldable pub data_of : List ℕ → Option Data
+data_of bytes = if is_utf8 bytes then read bytes else None
+
+-- The rows, unless a token, a name or a missing language forbids.
+unfoldable pub tested : List Row → Result (List Row) TableError
+tested rows =
+    if not (list_all has_tokens rows) then Err Token
+    else (if names_twice rows then Err NamedTwice
+    else (if list_any is_total rows then Err NamedTotal
+    else (if not (list_all (has_fallbacks rows) rows) then Err Fallback
+    else Ok rows)))
+
+unfoldable pub outcome_of_value : Data → Result (List Row) TableError
+outcome_of_value d =
+    if not (has_layout d) then Err Layout
+    else (if not (is_escaped_table (get (codes "languages") d)) then Err Escape
+    else tested (rows_at (get (codes "languages") d)))
+
+abbrev pub outcome_of : Option Data → Result (List Row) TableError
+outcome_of None = Err NotJson
+outcome_of (Some d) = outcome_of_value d
+
+-- Want of memory aside, this is what reading a table answers.
+abbrev pub outcome : List ℕ → Result (List Row) TableError
+outcome bytes = outcome_of (data_of bytes)

@@ -1,0 +1,247 @@
+//! The table of languages.
+ghost use Rattle.std.specs.Prelude.{◌≡◌, ◌≢◌, ◌<◌, ◌==◌, Err, Some, None, length, MatchResult, nat_lt, true};
+ghost use Rattle.serde_json.specs.View.{view};
+ghost use Rattle.tokei_table.specs.Outcome.{data_of, outcome};
+ghost use Rattle.tokei_table.specs.WellFormed.{IsWellFormed, has_tokens};
+ghost use Rattle.tokei_table.specs.Sound.{IsSound};
+ghost use Rattle.tokei_table.specs.RowOf.{row_of};
+ghost use Rattle.tokei_table.specs.Lookups.{row_at};
+ghost use Rattle.tokei_table.specs.declared.error.TableError.TheVariants.{NotJson as NotJsonFault, Memory as MemoryFault};
+
+use crate::error::TableError;
+use crate::escaped::is_escaped_table;
+use crate::language_type::LanguageType;
+use crate::layout::has_layout;
+use crate::rows::rows_at;
+use crate::syntax::Syntax;
+use crate::well_formed::{all_have_fallbacks, all_have_tokens, names_total, names_twice};
+use serde_json::Value;
+use std::alloc::Global;
+use std::marker::Model;
+
+/// The table of languages, which contracts see as its rows, in the byte order of their keys.
+#[derive(Drop)]
+pub struct LanguageTable {
+    rows: Vec<Syntax>,
+}
+
+impl Model for LanguageTable {
+    ghost use Rattle.std.specs.Prelude.{List, map};
+    ghost use Rattle.tokei_table.specs.Row.{Row};
+    ghost use Rattle.tokei_table.specs.RowOf.{row_of};
+    ghost use Rattle.tokei_table.specs.WellFormed.{IsWellFormed};
+
+    ghost Value = { List Row };
+
+    ghost view = { λ t. map row_of t.rows.items };
+
+    ghost invariant = { λ t. IsWellFormed (map row_of t.rows.items) };
+}
+
+#[tactic(auto, unfolding(crate::specs::Outcome::data_of))]
+fn data(alloc: Global, bytes: &[u8]) -> Result<Value, TableError>
+    ensures { result ≢ Err MemoryFault → MatchResult result (λ v. data_of bytes.now ≡ Some (view v))
+        (λ e. (e ≡ NotJsonFault) × (data_of bytes.now ≡ None)) }
+{
+    match std::str::from_utf8(bytes) {
+        Ok(text) => match Value::from_str(alloc, text) {
+            Ok(value) => Ok(value),
+            Err(e) => if e.is_memory() {
+                Err(TableError::Memory)
+            } else {
+                Err(TableError::NotJson)
+            },
+        },
+        Err(_) => Err(TableError::NotJson),
+    }
+}
+
+impl LanguageTable {
+    /// Reads a table from its JSON text. Refused is exactly what has a cause of `TableError`, and of those that apply
+    /// the first is answered; `Memory` comes only where a growth was refused.
+    #[tactic(auto, unfolding(crate::specs::Outcome::outcome_of_value, crate::specs::Outcome::tested))]
+    pub fn from_json(alloc: Global, bytes: &[u8]) -> Result<LanguageTable, TableError>
+        ensures { result ≢ Err MemoryFault → result ≡ outcome bytes.now }
+    {
+        let value = data(alloc, bytes)?;
+        if !has_layout(&value) {
+            return Err(TableError::Layout);
+        }
+        if !is_escaped_table(value.get("languages")) {
+            return Err(TableError::Escape);
+        }
+        let rows = rows_at(alloc, value.get("languages"))?;
+        if !all_have_tokens(&rows) {
+            return Err(TableError::Token);
+        }
+        if names_twice(&rows) {
+            return Err(TableError::NamedTwice);
+        }
+        if names_total(&rows) {
+            return Err(TableError::NamedTotal);
+        }
+        if !all_have_fallbacks(&rows) {
+            return Err(TableError::Fallback);
+        }
+        Ok(LanguageTable { rows })
+    }
+
+    /// How many languages there are.
+    pub fn len(&self) -> usize
+        ensures value { result ≡ length self.now }
+        ensures well_formed { IsWellFormed self.now }
+    {
+        self.rows.len()
+    }
+
+    /// Whether there are no languages.
+    pub fn is_empty(&self) -> bool
+        ensures { result ≡ (length self.now == 0) }
+    {
+        self.rows.is_empty()
+    }
+
+    /// Whether the language is one of this table.
+    pub fn has(&self, language: LanguageType) -> bool
+        ensures { result ≡ nat_lt language (length self.now) }
+    {
+        language.index() < self.rows.len()
+    }
+
+    /// The language's row as read. All its tokens are neither empty nor all blank, and none holds a newline.
+    pub fn syntax(&self, language: LanguageType) -> &Syntax
+        requires { language < length self.now }
+        ensures row { row_of result.now ≡ row_at self.entry.now language }
+        ensures tokens { has_tokens (row_of result.now) ≡ true }
+        ensures sound { IsSound (row_of result.now) }
+    {
+        &self.rows[language.index()]
+    }
+}
+
+#[cfg(test)]
+mod tests {
+    use super::*;
+    use std::test::Fail;
+
+    fn outcome_of(alloc: Global, text: &[u8]) -> Result<usize, TableError> {
+        let table = LanguageTable::from_json(alloc, text)?;
+        Ok(table.len())
+    }
+
+    // Under `rt try --test --fail-alloc N` memory may be wanting; no other answer may change.
+    fn is_answer(got: Result<usize, TableError>, want: Result<usize, TableError>) -> bool {
+        got == want || got == Err(TableError::Memory)
+    }
+
+    #[test]
+    fn accepted(rt: HostRuntime) -> Result<(), Fail> {
+        for (text, want) in [
+            (b"{\"languages\":{}}".as_slice(), 0),
+            (
+                b"{\"languages\":{\"X\":{\"name\":\"X\",\"other\":[null]}},\"v\":-3}".as_slice(),
+                1,
+            ),
+            (
+                b"{\"languages\":{\"\":{\"quotes\":[[\"\\\\\\\"\",\"'\"]],\"nested\":true}}}".as_slice(),
+                1,
+            ),
+            (b"{\"languages\":{\"X\":7,\"X\":{}}}".as_slice(), 1),
+            (
+                b"{\"languages\":{\"X\":{\"contexts\":[{\"tag\":7}]},\"Y\":{}}}".as_slice(),
+                2,
+            ),
+        ] {
+            assert!(rt; is_answer(outcome_of(rt.alloc(), text), Ok(want)));
+        }
+        Ok(())
+    }
+
+    #[test]
+    fn refused(rt: HostRuntime) -> Result<(), Fail> {
+        for (text, want) in [
+            (b"{".as_slice(), TableError::NotJson),
+            (b"\xff".as_slice(), TableError::NotJson),
+            (
+                b"{\"languages\":{},\"v\":1e999}".as_slice(),
+                TableError::NotJson,
+            ),
+            (
+                b"{\"languages\":{},\"v\":\"\\ud800\"}".as_slice(),
+                TableError::NotJson,
+            ),
+            (b"[]".as_slice(), TableError::Layout),
+            (b"{}".as_slice(), TableError::Layout),
+            (
+                b"{\"languages\":{},\"v\":1.5}".as_slice(),
+                TableError::Layout,
+            ),
+            (
+                b"{\"languages\":{},\"v\":-0}".as_slice(),
+                TableError::Layout,
+            ),
+            (
+                b"{\"languages\":{},\"v\":18446744073709551616}".as_slice(),
+                TableError::Layout,
+            ),
+            (
+                b"{\"languages\":{\"X\":{\"nested\":1}}}".as_slice(),
+                TableError::Layout,
+            ),
+            (
+                b"{\"languages\":{\"X\":{\"name\":null}}}".as_slice(),
+                TableError::Layout,
+            ),
+            (
+                b"{\"languages\":{\"X\":{\"quotes\":[[\"a\"]]}}}".as_slice(),
+                TableError::Layout,
+            ),
+            (
+                b"{\"languages\":{\"X\":{\"kind\":\"html\",\"contexts\":[{}]}}}".as_slice(),
+                TableError::Layout,
+            ),
+            (
+                b"{\"languages\":{\"X\":{\"quotes\":[[\"\",\"\\\\q\"]]}}}".as_slice(),
+                TableError::Escape,
+            ),
+            (
+                b"{\"languages\":{\"X\":{\"mime\":[\"\\\\\"]}}}".as_slice(),
+                TableError::Escape,
+            ),
+            (
+                b"{\"languages\":{\"X\":{\"line_comment\":[\"\\\\n\"]}}}".as_slice(),
+                TableError::Token,
+            ),
+            (
+                b"{\"languages\":{\"X\":{\"quotes\":[[\"/*\",\"\"]]}}}".as_slice(),
+                TableError::Token,
+            ),
+            (
+                b"{\"languages\":{\"X\":{\"name\":\"Total\",\"line_comment\":[\"\"]}}}".as_slice(),
+                TableError::Token,
+            ),
+            (
+                b"{\"languages\":{\"A\":{\"name\":\"B\"},\"B\":{}}}".as_slice(),
+                TableError::NamedTwice,
+            ),
+            (
+                b"{\"languages\":{\"X\":{\"name\":\"Total\"}}}".as_slice(),
+                TableError::NamedTotal,
+            ),
+            (
+                b"{\"languages\":{\"Rust\":{},\"MD\":{\"name\":\"Markdown\"}}}".as_slice(),
+                TableError::Fallback,
+            ),
+            (
+                b"{\"languages\":{\"Html\":{},\"JavaScript\":{}}}".as_slice(),
+                TableError::Fallback,
+            ),
+        ] {
+            assert!(rt;
+                is_answer(outcome_of(rt.alloc(), text), Err(want)),
+                "at {want:?}"
+            );
+        }
+        Ok(())
+    }
+}
