@@ -1,3 +1,7 @@
+pub mod Ends
 pub mod Fits
-pub mod Segments
+pub mod IgnoreFiles
+pub mod Patterns
 pub mod Reach
+pub mod Reading
+pub mod Segments

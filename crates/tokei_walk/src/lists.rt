@@ -2,6 +2,7 @@ ghost use Rattle.std.specs.Prelude.{◌≡◌, [], ◌∷◌, ◌++◌, OnOk, On
 
 use std::alloc::{AllocFailed, Global};
 use std::marker::Model;
+use std::mem;
 
 /// An owned list, which contracts see as its items in order.
 #[derive(Drop)]
@@ -47,6 +48,18 @@ impl<T> Items<T> {
         ensures err { OnErr result (self.new ≡ self.old) }
     {
         self.inner.push(item)
+    }
+}
+
+impl<T> Items<T> {
+    /// Takes all items out.
+    pub fn take_all(&mut self) -> Items<T>
+        ensures taken { result ≡ self.old }
+        ensures left { self.new ≡ [] }
+    {
+        let alloc = *self.inner.allocator();
+        let inner = mem::replace(&mut self.inner, Vec::new(alloc));
+        Items { inner }
     }
 }
 

@@ -1,0 +1,86 @@
+-- The last character of a line, and the spaces at its end.
+use Rattle.std.proofs.Common.{◌≡◌, ℕ, zero, suc, ◌-◌, ◌<◌, ◌≤◌, ◌==◌, ◌&&◌, nat_lt, List, [], ◌∷◌, ◌++◌, length, take, Bool, true, false, cond, refl, sym, ap, ◌∙◌, arith, length-take, eq-eqb}
+use Rattle.std.proofs.lemmas.Bool.Decides.{nat_tests}
+use Rattle.tokei_walk.specs.Ends.{ends_in, without_last, without_spaces, onto_kept, is_escaped, trimmed}
+use Rattle.tokei_walk.specs.IgnoreFiles.{without_return}
+
+pub ends_in-push : (e c : ℕ) (xs : List ℕ) → ends_in e (xs ++ c ∷ []) ≡ (c == e)
+ends_in-push e c [] = refl
+ends_in-push e c (x ∷ []) = refl
+ends_in-push e c (x ∷ y ∷ xs) = ends_in-push e c (y ∷ xs)
+
+pub without_last-take : {X : Type 0} (xs : List X) → take (length xs - 1) xs ≡ without_last xs
+without_last-take [] = refl
+without_last-take (x ∷ []) = refl
+without_last-take (x ∷ y ∷ xs) =
+    let e : suc (suc (length xs)) - 1 ≡ suc (length (y ∷ xs) - 1) = omega arith in
+    ap (λ n. take n (x ∷ y ∷ xs)) e ∙ ap (λ (ys : List _). x ∷ ys) (without_last-take (y ∷ xs))
+
+pub without_last-push : {X : Type 0} (xs : List X) (x : X) → without_last (xs ++ x ∷ []) ≡ xs
+without_last-push [] x = refl
+without_last-push (y ∷ []) x = refl
+without_last-push (y ∷ z ∷ xs) x = ap (λ (ys : List _). y ∷ ys) (without_last-push (z ∷ xs) x)
+
+space_goes : (c : ℕ) (e : (c == 32) ≡ true) → onto_kept c [] ≡ []
+space_goes c e = ap (λ b. cond b [] (c ∷ [])) e
+
+other_stays : (c : ℕ) (e : (c == 32) ≡ false) → onto_kept c [] ≡ c ∷ []
+other_stays c e = ap (λ b. cond b [] (c ∷ [])) e
+
+pub without_spaces-front : (xs : List ℕ) → ends_in 32 xs ≡ true → without_spaces (without_last xs) ≡ without_spaces xs
+without_spaces-front [] e = refl
+without_spaces-front (x ∷ []) e = sym (space_goes x e)
+without_spaces-front (x ∷ y ∷ xs) e = ap (onto_kept x) (without_spaces-front (y ∷ xs) e)
+
+pub without_spaces_same : (xs : List ℕ) → ends_in 32 xs ≡ false → without_spaces xs ≡ xs
+without_spaces_same [] e = refl
+without_spaces_same (x ∷ []) e = other_stays x e
+without_spaces_same (x ∷ y ∷ xs) e = ap (onto_kept x) (without_spaces_same (y ∷ xs) e)
+
+pub nonempty_from_end : (e : ℕ) (xs : List ℕ) → ends_in e xs ≡ true → 0 < length xs
+nonempty_from_end e [] h = absurd (cc)
+nonempty_from_end e (x ∷ xs) h = omega arith
+
+-- one space fewer
+pub dropped_one : (xs ys whole : List ℕ) → ends_in 32 xs ≡ true → ys ≡ take (length xs - 1) xs → without_spaces xs ≡ without_spaces whole → length xs ≤ length whole
+    → (without_spaces ys ≡ without_spaces whole) × (true ≡ nat_lt (length ys) (length whole)) × (length ys ≤ length whole)
+dropped_one xs ys whole e is same fits =
+    let some = nonempty_from_end 32 xs e in
+    let short : length ys < length whole = omega (arith, ap length is, length-take (length xs - 1) xs) in (
+      ap without_spaces (is ∙ without_last-take xs) ∙ without_spaces-front xs e ∙ same,
+      grind (arith, nat_tests),
+      omega arith,
+    )
+
+-- the line that is left, where the loop over its spaces ends
+pub trimmed_by : (xs whole : List ℕ) (spaces : Bool) → ends_in 32 xs ≡ false → without_spaces xs ≡ without_spaces whole → spaces ≡ nat_lt (length xs) (length whole) → cond (spaces && is_escaped false xs) (xs ++ 32 ∷ []) xs ≡ trimmed whole
+unfolding trimmed
+trimmed_by xs whole spaces e same is =
+    let left : xs ≡ without_spaces whole = sym (without_spaces_same xs e) ∙ same in
+    ap (λ (b : Bool). cond (b && is_escaped false xs) (xs ++ 32 ∷ []) xs) is ∙ ap (λ (ys : List ℕ). cond (nat_lt (length ys) (length whole) && is_escaped false ys) (ys ++ 32 ∷ []) ys) left
+
+pub second_of : {X : Type 0} (b : Bool) (x y z : X) → b ≡ false → cond b x y ≡ z → y ≡ z
+second_of true x y z e h = absurd (cc)
+second_of false x y z e h = h
+
+pub first_of : {X : Type 0} (b : Bool) (x y z : X) → b ≡ true → cond b x y ≡ z → x ≡ z
+first_of true x y z e h = h
+first_of false x y z e h = absurd (cc)
+
+-- the carriage return at a line's end
+pub return_cut : (line front : List ℕ) (last : ℕ) → line ≡ front ++ last ∷ [] → last ≡ 13 → front ≡ without_return line
+unfolding without_return
+return_cut line front last is e =
+    let ends : ends_in 13 line ≡ true = ap (ends_in 13) is ∙ ends_in-push 13 last front ∙ eq-eqb last 13 e in
+    let cut : without_last line ≡ front = ap without_last is ∙ without_last-push front last in
+    sym (ap (λ b. cond b (without_last line) line) ends ∙ cut)
+
+pub return_none : (line front : List ℕ) (last : ℕ) → line ≡ front ++ last ∷ [] → (last ≡ 13 → ⊥) → line ≡ without_return line
+unfolding without_return
+return_none line front last is n =
+    let ends : ends_in 13 line ≡ false = ap (ends_in 13) is ∙ ends_in-push 13 last front ∙ grind (arith, nat_tests) in
+    sym (ap (λ b. cond b (without_last line) line) ends)
+
+pub return_of_nothing : (line : List ℕ) → line ≡ [] → line ≡ without_return line
+unfolding without_return
+return_of_nothing line is = is ∙ sym (ap (λ ys. cond (ends_in 13 ys) (without_last ys) ys) is)
