@@ -1,0 +1,4 @@
+pub mod FenceBlocks
+pub mod Lines
+pub mod Places
+pub mod TargetPlaces

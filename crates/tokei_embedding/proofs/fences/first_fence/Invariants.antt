@@ -1,0 +1,6 @@
+use Rattle.std.proofs.Common.{◌≡◌, ℕ, ◌<◌, false, drop}
+use Rattle.tokei_embedding.specs.Fences.{opens_fence}
+use Rattle.tokei_embedding.proofs.fences.first_fence.Given as goal
+
+abbrev pub invariant-loop-i : goal.invariant-loop-i
+invariant-loop-i l = (j : ℕ) → j < l.i → opens_fence (drop j l.part) ≡ false

@@ -1,0 +1,10 @@
+use Rattle.std.proofs.Common.{◌-◌, ◌∙◌, sym, take, drop, arith}
+use Rattle.tokei_embedding.proofs.Places.{part_from}
+use Rattle.tokei_embedding.proofs.TargetPlaces.{no_target}
+use Rattle.tokei_embedding.proofs.target_blocks.target_at.Goals as goal
+
+pub returns-then-not-starts_with : goal.returns-then-not-starts_with
+returns-then-not-starts_with c =
+    let a = c.args in
+    no_target (take (a.to - a.from) (drop a.from a.text.now)) (drop a.place a.text.now) (take (a.to - a.place) (drop a.place a.text.now)) (a.place - a.from)
+    (part_from a.text.now a.from a.place a.to c.requires.order (omega arith)) (sym c.starts_with.ensures.value ∙ c.if-not-starts_with.true)

@@ -1,0 +1,52 @@
+-- Rust's doc comments: lines that begin with `///` or `//!`.
+use Rattle.std.specs.Prelude.{ℕ, ◌+◌, ◌==◌, cond, List, [], ◌∷◌, ◌++◌, length, take, drop, codes, Option, None, Some, option_map}
+use Rattle.tokei_table.specs.Bytes.{trim_start, begins}
+
+-- The byte before the first line of the others.
+abbrev pub in_front : ℕ → List (List ℕ) → List (List ℕ)
+in_front b [] = (b ∷ []) ∷ []
+in_front b (line ∷ lines) = (b ∷ line) ∷ lines
+
+-- The lines of a text, each through its newline.
+abbrev pub lines_of : List ℕ → List (List ℕ)
+lines_of [] = []
+lines_of (b ∷ t) = cond (b == 10) ((b ∷ []) ∷ lines_of t) (in_front b (lines_of t))
+
+-- The text through its first newline.
+abbrev pub first_line : List ℕ → List ℕ
+first_line [] = []
+first_line (b ∷ t) = cond (b == 10) (b ∷ []) (b ∷ first_line t)
+
+-- The mark with which the line begins behind its front blanks.
+abbrev pub mark_of : List ℕ → Option (List ℕ)
+mark_of line =
+    cond (begins (codes "///") (trim_start line)) (Some (codes "///")) (
+    cond (begins (codes "//!") (trim_start line)) (Some (codes "//!")) None)
+
+-- The length of the lines before the first one that doesn't begin with the mark behind its front blanks.
+abbrev pub marked_len : List ℕ → List (List ℕ) → ℕ
+marked_len mark [] = 0
+marked_len mark (line ∷ lines) = cond (begins mark (trim_start line)) (length line + marked_len mark lines) 0
+
+-- The lines joined, each without its front blanks and the three bytes of the mark. Newlines stay.
+abbrev pub unmarked : List (List ℕ) → List ℕ
+unmarked [] = []
+unmarked (line ∷ lines) = drop 3 (trim_start line) ++ unmarked lines
+
+-- What a block of marked lines says.
+abbrev pub doc_text : List ℕ → List ℕ
+doc_text block = unmarked (lines_of block)
+
+-- A block of doc comments: what it says, and the length of its lines.
+pub record DocBlock : Type 0 where
+  pub contents : List ℕ
+  pub size : ℕ
+
+-- The block of so many bytes at the front of the text.
+abbrev pub doc_of : List ℕ → ℕ → DocBlock
+doc_of rest n = record { contents = doc_text (take n rest); size = n }
+
+-- The block that opens at the front of the text, where the rest of the line there begins with a mark behind its front
+-- blanks: that rest, and the lines behind it that begin with the same mark.
+abbrev pub doc_block : List ℕ → Option DocBlock
+doc_block rest = option_map (λ mark. doc_of rest (marked_len mark (lines_of rest))) (mark_of (first_line rest))

@@ -1,0 +1,6 @@
+pub mod DocComments
+pub mod Fences
+pub mod Searches
+pub mod Seen
+pub mod Spans
+pub mod TargetBlocks

@@ -1,0 +1,27 @@
+-- The first and the last place in a text at which a token stands.
+use Rattle.std.specs.Prelude.{ℕ, suc, Bool, false, ◌==◌, cond, List, [], ◌∷◌, Option, None, Some, option_map}
+use Rattle.tokei_table.specs.Bytes.{begins}
+use Rattle.tokei_table.specs.OuterLines.{later_or}
+
+-- The first place from which on the text passes the test.
+abbrev pub first_where : (List ℕ → Bool) → List ℕ → Option ℕ
+first_where test [] = None
+first_where test (b ∷ t) = cond (test (b ∷ t)) (Some 0) (option_map suc (first_where test t))
+
+-- The last such place.
+abbrev pub last_where : (List ℕ → Bool) → List ℕ → Option ℕ
+last_where test [] = None
+last_where test (b ∷ t) = later_or (test (b ∷ t)) (last_where test t)
+
+-- The first place at which the token stands. A token of one byte finds that byte.
+abbrev pub first_of : List ℕ → List ℕ → Option ℕ
+first_of token t = first_where (begins token) t
+
+-- The last place at which the token stands.
+abbrev pub last_of : List ℕ → List ℕ → Option ℕ
+last_of token t = last_where (begins token) t
+
+-- Whether what was found is the given place.
+abbrev pub is_at : ℕ → Option ℕ → Bool
+is_at k None = false
+is_at k (Some i) = i == k

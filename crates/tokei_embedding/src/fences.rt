@@ -1,0 +1,111 @@
+//! The fences of Markdown.
+ghost use Rattle.std.specs.Prelude.{◌≡◌, ◌+◌, ◌-◌, ◌≤◌, ◌<◌, IfSome, length, take, drop, option_map};
+ghost use Rattle.tokei_embedding.specs.Fences.{solid_len, opens_fence, info_len, first_fence, closing_len, fence_from, fence_block};
+ghost use Rattle.tokei_embedding.specs.Seen.{fence_seen};
+
+use crate::searches::{first_of, is_at};
+use tokei_table::ext::is_whitespace;
+
+const FENCE: &[u8] = b"```";
+
+/// A block of code in fences.
+#[derive(Clone, Copy)]
+pub struct FenceAt<'a> {
+    /// What stands right behind the opening's backticks: bytes that aren't blank.
+    pub info: &'a [u8],
+    /// What stands between the opening and the closing fence, or the text's end.
+    pub contents: &'a [u8],
+    /// The bytes from the opening's first through the closing fence and one blank behind it, or to the text's end.
+    pub size: usize,
+    /// Whether the closing fence came.
+    pub closed: bool,
+}
+
+/// How many bytes stand before the first blank, or before the end.
+fn solid_len(text: &[u8]) -> usize
+    ensures value { result ≡ solid_len text.now }
+    ensures within { result ≤ length text.now }
+{
+    for (i, byte) in text.iter().enumerate() {
+        if is_whitespace(*byte) {
+            return i;
+        }
+    }
+    text.len()
+}
+
+/// Whether a fence opening stands at the front.
+fn opens_fence(text: &[u8]) -> bool
+    ensures { result ≡ opens_fence text.now }
+{
+    if !text.starts_with(FENCE) {
+        return false;
+    }
+    let behind = &text[3..];
+    let len = solid_len(behind);
+    0 < len && len < behind.len()
+}
+
+/// The part's first fence opening.
+fn first_fence(part: &[u8]) -> Option<usize>
+    ensures value { result ≡ first_fence part.now }
+    ensures within { IfSome result (λ i. i < length part.now) }
+{
+    for i in 0..part.len() {
+        if opens_fence(&part[i..]) {
+            return Some(i);
+        }
+    }
+    None
+}
+
+/// How long a closing fence is, by the bytes behind its backticks.
+fn closing_len(behind: &[u8]) -> usize
+    ensures value { result ≡ closing_len behind.now }
+    ensures within { result ≤ 3 + length behind.now }
+{
+    match behind {
+        [first, ..] if is_whitespace(*first) => 4,
+        _ => 3,
+    }
+}
+
+/// The block at the front of the text, whose info has that many bytes.
+fn fence_from<'a>(rest: &'a [u8], info_len: usize) -> FenceAt<'a>
+    requires { info_len + 4 ≤ length rest.now }
+    ensures { fence_seen result ≡ fence_from info_len rest.now }
+{
+    let info = &rest[3..info_len + 3];
+    let behind = &rest[info_len + 4..];
+    match first_of(behind, FENCE) {
+        None => FenceAt {
+            info,
+            contents: behind,
+            size: rest.len(),
+            closed: false,
+        },
+        Some(i) => FenceAt {
+            info,
+            contents: &behind[..i],
+            size: info_len + 4 + i + closing_len(&behind[i + 3..]),
+            closed: true,
+        },
+    }
+}
+
+/// The block that opens at `place`, where the first fence opening of the part `text[from..to]` stands there.
+pub fn fence_at<'a>(text: &'a [u8], from: usize, place: usize, to: usize) -> Option<FenceAt<'a>>
+    requires order { from ≤ place }
+    requires inside { place < to }
+    requires ends { to ≤ length text.now }
+    ensures { option_map fence_seen result ≡ fence_block (take (to - from) (drop from text.now)) (place - from) (drop place text.now) }
+{
+    let here = &text[place..to];
+    if !opens_fence(here) {
+        return None;
+    }
+    if !is_at(first_fence(&text[from..to]), place - from) {
+        return None;
+    }
+    Some(fence_from(&text[place..], solid_len(&here[3..])))
+}

@@ -1,0 +1,13 @@
+//! Where a child opens in a part of a line, and where what it holds ends: the fences of Markdown, the script, style and
+//! template elements of HTML, the doc comments of Rust and the blocks of Lingua Franca. It knows no table of languages.
+//! A part is a range of a text's bytes, and every place counts bytes.
+#![tactic(auto)]
+
+mod doc_comments;
+mod fences;
+mod searches;
+mod target_blocks;
+
+pub use doc_comments::{doc_at, doc_text};
+pub use fences::{FenceAt, fence_at};
+pub use target_blocks::{TargetAt, target_at, target_of};
