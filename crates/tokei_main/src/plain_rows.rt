@@ -1,7 +1,7 @@
 //! Worked rows of `count_plain`, by syntaxes that are made in code.
 use std::alloc::{AllocError, Global};
 use std::test::Fail;
-use tokei_count::{CodeStats, CountConfig, CountError, count_plain};
+use tokei_count::{CountConfig, CountError, count_plain};
 use tokei_table::Syntax;
 
 fn texts(alloc: Global, tokens: &[&str]) -> Result<Vec<String>, AllocError> {
@@ -67,13 +67,13 @@ fn syntax_of(alloc: Global, key: &str) -> Result<Syntax, AllocError> {
     Ok(syntax)
 }
 
-/// The counts of a text, or `None` where the syntax isn't sound.
+/// Blank, code and comment lines of a text, or `None` where the syntax isn't sound.
 fn counted(
     alloc: Global,
     key: &str,
     treat_doc_strings_as_comments: Option<bool>,
     text: &str,
-) -> Result<Option<CodeStats>, CountError> {
+) -> Result<Option<(usize, usize, usize)>, CountError> {
     let syntax = syntax_of(alloc, key)?;
     let config = CountConfig {
         treat_doc_strings_as_comments,
@@ -81,42 +81,35 @@ fn counted(
     if !syntax.sound() {
         return Ok(None);
     }
-    Ok(Some(count_plain(alloc, &syntax, text.as_bytes(), &config)?))
-}
-
-fn stats(blanks: usize, code: usize, comments: usize) -> Option<CodeStats> {
-    Some(CodeStats {
-        blanks,
-        code,
-        comments,
-    })
+    let stats = count_plain(alloc, &syntax, text.as_bytes(), &config)?;
+    Ok(Some((stats.blanks, stats.code, stats.comments)))
 }
 
 #[test]
 fn worked_rows(rt: HostRuntime) -> Result<(), Fail> {
     for (key, text, want) in [
-        ("Rust", "/* a\n\nb */\n", stats(0, 0, 3)),
-        ("Rust", "let s = \"// no\";\n", stats(0, 1, 0)),
-        ("C", "/* a /*/ b\nc */\nd\n", stats(0, 1, 2)),
-        ("D", "/+ /+ +/\n+/\nx\n", stats(0, 1, 2)),
-        ("C", "let s = \"a\n// b\";\n", stats(0, 2, 0)),
-        ("FortranLegacy", "c x\n c x\n", stats(0, 1, 1)),
-        ("Python", "\"\"\"d\ne\"\"\"\nx = 1\n", stats(0, 3, 0)),
-        ("CSharp", "s = @\"\\\";\n// c\n", stats(0, 1, 1)),
-        ("C", "", stats(0, 0, 0)),
-        ("C", "/* a */ x /* b */\n", stats(0, 0, 1)),
-        ("C", "\"a\n\nb", stats(0, 3, 0)),
-        ("C", "/*\n\n", stats(0, 0, 2)),
-        ("Batch", "rem x\nrem \n", stats(0, 1, 1)),
-        ("CSharp", "@\"a\" \\\"\n// x\n", stats(0, 1, 1)),
-        ("CSharp", "@\"a\" \"\\\"\"\n// x\n", stats(0, 1, 1)),
-        ("C", "// \"a\nb\n", stats(0, 1, 1)),
-        ("C", "x\n\n// y\n", stats(1, 1, 1)),
-        ("Spaced", "c \nx e\n", stats(0, 1, 1)),
+        ("Rust", "/* a\n\nb */\n", (0, 0, 3)),
+        ("Rust", "let s = \"// no\";\n", (0, 1, 0)),
+        ("C", "/* a /*/ b\nc */\nd\n", (0, 1, 2)),
+        ("D", "/+ /+ +/\n+/\nx\n", (0, 1, 2)),
+        ("C", "let s = \"a\n// b\";\n", (0, 2, 0)),
+        ("FortranLegacy", "c x\n c x\n", (0, 1, 1)),
+        ("Python", "\"\"\"d\ne\"\"\"\nx = 1\n", (0, 3, 0)),
+        ("CSharp", "s = @\"\\\";\n// c\n", (0, 1, 1)),
+        ("C", "", (0, 0, 0)),
+        ("C", "/* a */ x /* b */\n", (0, 0, 1)),
+        ("C", "\"a\n\nb", (0, 3, 0)),
+        ("C", "/*\n\n", (0, 0, 2)),
+        ("Batch", "rem x\nrem \n", (0, 1, 1)),
+        ("CSharp", "@\"a\" \\\"\n// x\n", (0, 1, 1)),
+        ("CSharp", "@\"a\" \"\\\"\"\n// x\n", (0, 1, 1)),
+        ("C", "// \"a\nb\n", (0, 1, 1)),
+        ("C", "x\n\n// y\n", (1, 1, 1)),
+        ("Spaced", "c \nx e\n", (0, 1, 1)),
     ] {
         assert_eq!(rt;
             counted(rt.alloc(), key, None, text)?,
-            want,
+            Some(want),
             "{key} at {text}"
         );
     }
@@ -126,13 +119,13 @@ fn worked_rows(rt: HostRuntime) -> Result<(), Fail> {
 #[test]
 fn doc_strings_as_comments(rt: HostRuntime) -> Result<(), Fail> {
     for (docs, text, want) in [
-        (Some(true), "\"\"\"d\ne\"\"\"\nx = 1\n", stats(0, 1, 2)),
-        (Some(false), "\"\"\"d\ne\"\"\"\nx = 1\n", stats(0, 3, 0)),
-        (Some(true), "\"\"\"d\"\"\"\n", stats(0, 1, 0)),
+        (Some(true), "\"\"\"d\ne\"\"\"\nx = 1\n", (0, 1, 2)),
+        (Some(false), "\"\"\"d\ne\"\"\"\nx = 1\n", (0, 3, 0)),
+        (Some(true), "\"\"\"d\"\"\"\n", (0, 1, 0)),
     ] {
         assert_eq!(rt;
             counted(rt.alloc(), "Python", docs, text)?,
-            want,
+            Some(want),
             "at {text}"
         );
     }
@@ -143,7 +136,7 @@ fn doc_strings_as_comments(rt: HostRuntime) -> Result<(), Fail> {
 fn refused_count_plain(rt: HostRuntime) -> Result<(), Fail> {
     match counted(rt.alloc(), "D", None, "/+ /+ +/\n+/\nx\n") {
         Err(refused) => assert_eq!(rt; refused, CountError::Memory),
-        Ok(got) => assert_eq!(rt; got, stats(0, 1, 2)),
+        Ok(got) => assert_eq!(rt; got, Some((0, 1, 2))),
     }
     Ok(())
 }

@@ -108,3 +108,16 @@ fn refused_count_input(rt: HostRuntime) -> Result<(), Fail> {
     }
     Ok(())
 }
+
+#[test]
+fn words_of_errors(rt: HostRuntime) -> Result<(), Fail> {
+    for (error, words) in [
+        (InputError::Unreadable, "the input can't be read"),
+        (InputError::Memory, "out of memory"),
+        (InputError::Write, "the output can't be written"),
+    ] {
+        let said = format!(in rt.alloc(); "{error}")?;
+        assert_eq!(rt; said.as_str(), words);
+    }
+    Ok(())
+}
