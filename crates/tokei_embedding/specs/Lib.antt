@@ -3,4 +3,5 @@ pub mod Fences
 pub mod Searches
 pub mod Seen
 pub mod Spans
+pub mod Tags
 pub mod TargetBlocks

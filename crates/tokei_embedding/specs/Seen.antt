@@ -1,11 +1,26 @@
 -- The code's values as the definitions see them.
+use Rattle.std.specs.Prelude.{option_map}
 use Rattle.tokei_embedding.specs.Fences.{Fence}
+use Rattle.tokei_embedding.specs.Spans.{Span}
+use Rattle.tokei_embedding.specs.Tags.{Opening, TagBlock}
 use Rattle.tokei_embedding.specs.TargetBlocks.{TargetBlock}
 use Rattle.tokei_embedding.specs.declared.fences.FenceAt.{FenceAt}
+use Rattle.tokei_embedding.specs.declared.spans.Span as CodeSpan
+use Rattle.tokei_embedding.specs.declared.tags.Opening as CodeOpening
+use Rattle.tokei_embedding.specs.declared.tags.TagAt.{TagAt}
 use Rattle.tokei_embedding.specs.declared.target_blocks.TargetAt.{TargetAt}
 
 abbrev pub fence_seen : FenceAt → Fence
 fence_seen f = record { info = f.info.now; contents = f.contents.now; size = f.size; closed = f.closed }
+
+abbrev pub span_seen : CodeSpan.Span → Span
+span_seen s = record { start = s.start; stop = s.stop }
+
+abbrev pub opening_seen : CodeOpening.Opening → Opening
+opening_seen o = record { whole = span_seen o.whole; value = option_map span_seen o.value }
+
+abbrev pub tag_seen : TagAt → TagBlock
+tag_seen t = record { value = option_map (λ v. v.now) t.value; contents = t.contents.now; size = t.size }
 
 abbrev pub target_seen : TargetAt → TargetBlock
 target_seen b = record { contents = b.contents.now; size = b.size }

@@ -6,8 +6,11 @@
 mod doc_comments;
 mod fences;
 mod searches;
+mod spans;
+mod tags;
 mod target_blocks;
 
 pub use doc_comments::{doc_at, doc_text};
 pub use fences::{FenceAt, fence_at};
+pub use tags::{Tag, TagAt, tag_at};
 pub use target_blocks::{TargetAt, target_at, target_of};
