@@ -1,7 +1,10 @@
+pub mod Answers
 pub mod Ends
 pub mod Fits
 pub mod IgnoreFiles
+pub mod Levels
 pub mod Patterns
 pub mod Reach
 pub mod Reading
 pub mod Segments
+pub mod Tree

@@ -136,12 +136,11 @@ fn given_by(pattern: &Pattern) -> Verdict
 
 /// What the patterns decide: the last one that fits.
 pub fn verdict_among(patterns: &[Pattern], names: &[Text], folder: bool) -> Option<Verdict>
-    requires { 0 < length names.now }
     ensures { result ≡ last_fitting patterns.now names.now folder }
 {
     let mut left = patterns;
     while let Some((pattern, front)) = left.split_last() {
-        if pattern.matches(names, folder) {
+        if pattern.fits(names, folder) {
             return Some(given_by(pattern));
         }
         left = front;

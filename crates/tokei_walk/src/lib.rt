@@ -2,9 +2,13 @@
 #![tactic(auto)]
 
 pub mod ends;
+pub mod failing;
+pub mod fs;
 pub mod ignore_files;
+pub mod levels;
 pub mod lists;
 pub mod matching;
+pub mod names;
 pub mod patterns;
 pub mod pieces;
 pub mod reading;

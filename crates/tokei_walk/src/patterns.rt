@@ -253,6 +253,13 @@ impl Pattern {
         requires { 0 < length names.now }
         ensures { result ≡ fits_entry self.now names.now folder }
     {
+        self.fits(names, folder)
+    }
+
+    /// The same, also where there is no name.
+    pub fn fits(&self, names: &[Text], folder: bool) -> bool
+        ensures { result ≡ fits_entry self.now names.now folder }
+    {
         (folder || !self.folders_only) && fits_names(self.segments.as_slice(), names)
     }
 }

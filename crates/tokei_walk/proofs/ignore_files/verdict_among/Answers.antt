@@ -6,16 +6,16 @@ use Rattle.tokei_walk.specs.Patterns.{fits_entry}
 use Rattle.tokei_walk.proofs.Deciding.{decided, passed, none_decides}
 use Rattle.tokei_walk.proofs.ignore_files.verdict_among.Goals as goal
 
-pub returns-then-matches : goal.returns-then-matches
-returns-then-matches c =
+pub returns-then-fits : goal.returns-then-fits
+returns-then-fits c =
     let names = c.args.names.now in let folder = c.args.folder in let p = c.in-Some.pattern.now in
-    let fits : fits_entry p names folder ≡ true = sym c.matches.ensures ∙ c.if-matches.true in
+    let fits : fits_entry p names folder ≡ true = sym c.fits.ensures ∙ c.if-fits.true in
     ap Some c.given_by.ensures ∙ sym (decided c.in-Some.front.now p names folder fits) ∙ ap (λ (ps : List Pattern). last_fitting ps names folder) (sym c.in-Some.ensures.cases.0) ∙ c.loop-pattern.invariant
 
 pub loop-pattern-preserved : goal.loop-pattern-preserved
 loop-pattern-preserved c =
     let names = c.args.names.now in let folder = c.args.folder in let p = c.in-Some.pattern.now in
-    let fits : fits_entry p names folder ≡ false = sym c.matches.ensures ∙ c.if-matches.false in
+    let fits : fits_entry p names folder ≡ false = sym c.fits.ensures ∙ c.if-fits.false in
     sym (passed c.in-Some.front.now p names folder fits) ∙ ap (λ (ps : List Pattern). last_fitting ps names folder) (sym c.in-Some.ensures.cases.0) ∙ c.loop-pattern.invariant
 
 pub returns : goal.returns

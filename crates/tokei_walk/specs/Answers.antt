@@ -1,0 +1,82 @@
+-- What the calls on a told tree answer.
+use Rattle.std.specs.Prelude.{◌≡◌, ℕ, ◌+◌, List, [], ◌∷◌, Bool, true, false, Option, Some, None, Result, Ok, Err, ⊤, take, map, reverse, if◌then◌else◌, cond, MatchResult}
+use Rattle.tokei_walk.specs.declared.fs.Kind.{Kind}
+use Rattle.tokei_walk.specs.declared.fs.Kind.TheVariants.{File, Folder}
+use Rattle.tokei_walk.specs.declared.fs.Fault.{Fault}
+use Rattle.tokei_walk.specs.declared.fs.Fault.TheVariants.{Refused, Memory}
+use Rattle.tokei_walk.specs.declared.fs.Entry.{Entry}
+use Rattle.tokei_walk.specs.declared.fs.Above.{Above}
+use Rattle.tokei_walk.specs.declared.fs.Listing.{Listing}
+use Rattle.tokei_walk.specs.Tree.{Names, Node, file, folder, Tree, node_at, below, names_of, folders_above}
+
+abbrev pub kind_of : Node → Kind
+kind_of (file r h c) = File
+kind_of (folder r) = Folder
+
+abbrev pub kind_answer : Option Node → Result Kind Fault
+kind_answer None = Err Refused
+kind_answer (Some n) = Ok (kind_of n)
+
+abbrev pub read_answer : Option Node → Result (List ℕ) Fault
+read_answer None = Err Refused
+read_answer (Some (folder r)) = Err Refused
+read_answer (Some (file r h c)) = if r then Err Refused else Ok c
+
+-- the first 128 bytes
+abbrev pub head_answer : Option Node → Result (List ℕ) Fault
+head_answer None = Err Refused
+head_answer (Some (folder r)) = Err Refused
+head_answer (Some (file r h c)) = if h then Err Refused else Ok (take 128 c)
+
+-- a place is an entry of a folder where one name leads down to it
+abbrev pub entry_named : Option Names → Node → List Entry → List Entry
+entry_named None n es = es
+entry_named (Some []) n es = es
+entry_named (Some (m ∷ [])) n es = record { name = m; kind = kind_of n } ∷ es
+entry_named (Some (m ∷ l ∷ ms)) n es = es
+
+-- the entries of a folder, in the tree's order
+abbrev pub entries_in : Names → Tree → List Entry
+entries_in p [] = []
+entries_in p (e ∷ t) = entry_named (below p e.0) e.1 (entries_in p t)
+
+abbrev pub can_list : Option Node → Bool
+can_list None = false
+can_list (Some (file r h c)) = false
+can_list (Some (folder r)) = cond r false true
+
+unfoldable pub list_answer : Tree → Names → Result (List Entry) Fault
+list_answer t p = if can_list (node_at t p) then Ok (entries_in p t) else Err Refused
+
+-- the folders above, nearest first
+abbrev pub above_view : Above → Names × List ℕ
+above_view a = (names_of a.place, a.name)
+
+abbrev pub AboveTells : Option Tree → Names → Result (List Above) Fault → Type 0
+AboveTells None p r = ⊤
+AboveTells (Some t) p r = (r ≡ Err Memory → ⊥) → MatchResult r (λ found. map above_view found ≡ reverse (folders_above [] p)) (λ e. ⊥)
+
+-- where a tree is told, an answer other than want of memory is the tree's own
+abbrev pub Tells : {A : Type 0} → Option Tree → (Tree → Result A Fault) → Result A Fault → Type 0
+Tells None f r = ⊤
+Tells (Some t) f r = (r ≡ Err Memory → ⊥) → r ≡ f t
+
+-- a fact of the told tree, where one is told
+abbrev pub Told : Option Tree → (Tree → Type 0) → Type 0
+Told None P = ⊤
+Told (Some t) P = P t
+
+-- a listing of the told tree has its entries, all of which have names
+abbrev pub entries_of : Result Listing Fault → Result (List Entry) Fault
+entries_of (Ok l) = Ok l.entries
+entries_of (Err e) = Err e
+
+abbrev pub ListTells : Option Tree → Names → Result Listing Fault → Type 0
+ListTells None p r = ⊤
+ListTells (Some t) p r = (r ≡ Err Memory → ⊥) → entries_of r ≡ list_answer t p
+
+-- how many faults for want of memory there were
+abbrev pub counted : {A : Type 0} → Result A Fault → ℕ → ℕ
+counted (Ok a) n = n
+counted (Err Refused) n = n
+counted (Err Memory) n = n + 1

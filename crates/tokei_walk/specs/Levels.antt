@@ -1,0 +1,79 @@
+-- The rules that a folder's ignore files give, and what the rules of folders inside one another decide.
+use Rattle.std.specs.Prelude.{ℕ, ◌==◌, ◌&&◌, List, [], ◌∷◌, ◌++◌, Bool, true, false, Option, Some, None, is_some, if◌then◌else◌, cond, codes}
+use Rattle.std.specs.List.{list_any}
+use Rattle.tokei_walk.specs.declared.levels.Rules.{Rules}
+use Rattle.tokei_walk.specs.declared.levels.Level.{Level}
+use Rattle.tokei_walk.specs.declared.levels.Source.{Source}
+use Rattle.tokei_walk.specs.declared.levels.Source.TheVariants.{Tokeignore, Plain, Gitignore, GitExclude}
+use Rattle.tokei_walk.specs.declared.levels.Context.{Context}
+use Rattle.tokei_walk.specs.declared.patterns.Pattern.{Pattern}
+use Rattle.tokei_walk.specs.declared.ignore_files.Verdict.{Verdict}
+use Rattle.tokei_walk.specs.declared.ignore_files.Verdict.TheVariants.{Ignore, Keep}
+use Rattle.tokei_walk.specs.Ends.{without_first, begins_with}
+use Rattle.tokei_walk.specs.IgnoreFiles.{patterns_of, last_fitting, or_else}
+use Rattle.tokei_walk.specs.Patterns.{fits_entry}
+use Rattle.tokei_walk.specs.Tree.{Names, Node, file, folder, Tree, node_at}
+
+-- an ignore file that is missing, is no file or can't be read gives no pattern
+abbrev pub patterns_at : Option Node → List Pattern
+patterns_at None = []
+patterns_at (Some (folder r)) = []
+patterns_at (Some (file r h content)) = cond r [] (patterns_of content)
+
+-- the patterns of the file that these names lead to from a folder
+unfoldable pub ignore_file_at : Tree → Names → Names → List Pattern
+ignore_file_at t p names = patterns_at (node_at t (p ++ names))
+
+-- a folder with an entry `.git` is the top of a repository
+unfoldable pub has_git : Tree → Names → Bool
+has_git t p = is_some (node_at t (p ++ codes ".git" ∷ []))
+
+-- the rules of a folder; a kind that is switched off has no pattern
+unfoldable pub level_at : Tree → Rules → Names → Level
+level_at t rules p = record {
+  tokeignore = if rules.dot then ignore_file_at t p (codes ".tokeignore" ∷ []) else [];
+  ignore = if rules.dot then ignore_file_at t p (codes ".ignore" ∷ []) else [];
+  gitignore = if rules.git then ignore_file_at t p (codes ".gitignore" ∷ []) else [];
+  git_exclude = if rules.git && has_git t p then ignore_file_at t p (codes ".git" ∷ codes "info" ∷ codes "exclude" ∷ []) else [];
+  git = rules.git && has_git t p;
+}
+
+abbrev pub patterns_from : Source → Level → List Pattern
+patterns_from Tokeignore l = l.tokeignore
+patterns_from Plain l = l.ignore
+patterns_from Gitignore l = l.gitignore
+patterns_from GitExclude l = l.git_exclude
+
+-- from the top down: what a nearer folder decides takes the place of what those above decided; the
+-- names are those from the first folder down to the entry
+abbrev pub decision : Source → List Level → Names → Bool → Option Verdict → Option Verdict
+decision source [] names entered found = found
+decision source (l ∷ ls) names entered found = decision source ls (without_first names) entered (or_else (last_fitting (patterns_from source l) names entered) found)
+
+-- the folders from the nearest one with an entry `.git` on, with the names from there; none without one
+abbrev pub in_repository : List Level → Names → List Level × Names → List Level × Names
+in_repository [] names found = found
+in_repository (l ∷ ls) names found = in_repository ls (without_first names) (if l.git then (l ∷ ls, names) else found)
+
+abbrev pub repository : List Level → Names → List Level × Names
+repository ls names = in_repository ls names ([], [])
+
+-- the kinds of ignore files, in their order; git's two hold in the repository alone
+unfoldable pub decided : List Level → Names → Bool → Option Verdict
+decided ls names entered =
+    or_else (decision Tokeignore ls names entered None) (or_else (decision Plain ls names entered None) (or_else (decision Gitignore (repository ls names).0 (repository ls names).1 entered None) (decision GitExclude (repository ls names).0 (repository ls names).1 entered None)))
+
+-- where no ignore file decides, a name that begins with a dot is dropped
+abbrev pub is_dropped_by : Option Verdict → Bool → Bool
+is_dropped_by (Some Ignore) dotted = true
+is_dropped_by (Some Keep) dotted = false
+is_dropped_by None dotted = dotted
+
+-- an exclude drops what it fits
+unfoldable pub is_excluded : List Pattern → Names → Bool → Bool
+is_excluded excludes shown entered = list_any (λ p. fits_entry p shown entered) excludes
+
+-- whether an entry of a folder is dropped, by its name and whether it is a folder
+unfoldable pub drops : List Pattern → Rules → Context → List ℕ → Bool → Bool
+drops excludes rules c name entered =
+    if is_excluded excludes (c.shown ++ name ∷ []) entered then true else is_dropped_by (decided c.levels (c.names ++ name ∷ []) entered) (rules.hidden && begins_with 46 name)

@@ -1,0 +1,83 @@
+ghost use Rattle.std.specs.Prelude.{◌≡◌, ◌+◌, ◌<◌, true, false};
+
+use crate::fs::{Above, Fault, Folders, Kind, Listing};
+use crate::lists::Items;
+
+/// Folders whose calls all fail for want of memory once a number of calls has passed. They tell
+/// the tree of the folders inside.
+pub struct FailingFolders<F> {
+    inner: F,
+    left: u64,
+    refused: u64,
+}
+
+impl<F: Folders> FailingFolders<F> {
+    /// Folders that pass `passes` calls and fail every later one.
+    pub fn new(inner: F, passes: u64) -> FailingFolders<F>
+        ensures tells { ⟦<FailingFolders<F> as Folders>⟧.tree result ≡ F.tree inner }
+    {
+        FailingFolders {
+            inner,
+            left: passes,
+            refused: 0,
+        }
+    }
+
+    /// Whether this call passes.
+    fn passes(&mut self) -> bool
+        ensures same { self.new.inner ≡ self.old.inner }
+        ensures passed { result ≡ true → self.new.refused ≡ self.old.refused }
+        ensures refused { result ≡ false → self.old.refused < u64.MAX
+            → self.new.refused ≡ self.old.refused + 1 }
+    {
+        if self.left == 0 {
+            self.refused = self.refused.saturating_add(1);
+            return false;
+        }
+        self.left -= 1;
+        true
+    }
+}
+
+impl<F: Folders> Folders for FailingFolders<F> {
+    ghost tree = { λ s. F.tree s.inner };
+
+    ghost memory_faults = { λ s. F.memory_faults s.inner + s.refused };
+
+    ghost sound = { λ s. F.sound s.inner };
+
+    fn kind(&mut self, place: &str) -> Result<Kind, Fault> {
+        if !self.passes() {
+            return Err(Fault::Memory);
+        }
+        self.inner.kind(place)
+    }
+
+    fn list(&mut self, place: &str) -> Result<Listing, Fault> {
+        if !self.passes() {
+            return Err(Fault::Memory);
+        }
+        self.inner.list(place)
+    }
+
+    fn read(&mut self, place: &str) -> Result<Items<u8>, Fault> {
+        if !self.passes() {
+            return Err(Fault::Memory);
+        }
+        self.inner.read(place)
+    }
+
+    fn head(&mut self, place: &str) -> Result<Items<u8>, Fault> {
+        if !self.passes() {
+            return Err(Fault::Memory);
+        }
+        self.inner.head(place)
+    }
+
+    fn above(&mut self, place: &str) -> Result<Items<Above>, Fault> {
+        if !self.passes() {
+            return Err(Fault::Memory);
+        }
+        self.inner.above(place)
+    }
+}

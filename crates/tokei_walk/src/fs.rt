@@ -1,0 +1,98 @@
+ghost use Rattle.std.specs.Prelude.{◌≡◌, ◌<◌, ℕ, Option};
+ghost use Rattle.tokei_walk.specs.Tree.{Tree, IsSound, node_at, names_of};
+ghost use Rattle.tokei_walk.specs.Answers.{Tells, AboveTells, counted, kind_answer, read_answer, head_answer, list_answer, ListTells};
+
+use crate::lists::Items;
+use crate::texts::Text;
+
+/// What stands at a place.
+#[derive(Clone, Copy, Debug, PartialEq, Eq)]
+pub enum Kind {
+    File,
+    Folder,
+    /// Neither, as a link below a root, or a device.
+    Other,
+}
+
+/// Why a call on folders gives no answer.
+#[derive(Clone, Copy, Debug, PartialEq, Eq)]
+pub enum Fault {
+    /// The place is missing, of the wrong kind, or can't be read.
+    Refused,
+    /// Memory was refused.
+    Memory,
+}
+
+/// An entry of a folder.
+#[derive(Drop)]
+pub struct Entry {
+    pub name: Text,
+    pub kind: Kind,
+}
+
+/// What a folder holds.
+#[derive(Drop)]
+pub struct Listing {
+    /// The entries in byte order of their names.
+    pub entries: Items<Entry>,
+    /// How many names aren't UTF-8 and are passed over.
+    pub unnamed: usize,
+}
+
+/// A folder above a place.
+#[derive(Drop)]
+pub struct Above {
+    pub place: Text,
+    /// The name that leads down from it.
+    pub name: Text,
+}
+
+/// Folders, by the places of their entries. A value may tell its tree, which no call changes.
+pub trait Folders {
+    /// The tree that the value tells, where it tells one.
+    ghost tree: { Self → Option Tree };
+
+    /// How many times the value answered that memory was wanting.
+    ghost memory_faults: { Self → ℕ };
+
+    /// What stands at a place, links followed.
+    fn kind(&mut self, place: &str) -> Result<Kind, Fault>
+        ensures told { Tells (tree self.old)
+            (λ t. kind_answer (node_at t (names_of place.now))) result }
+        ensures same { tree self.new ≡ tree self.old }
+        ensures counts { memory_faults self.old < u64.MAX
+            → memory_faults self.new ≡ counted result (memory_faults self.old) };
+
+    /// What a folder holds, no links followed.
+    fn list(&mut self, place: &str) -> Result<Listing, Fault>
+        ensures told { ListTells (tree self.old) (names_of place.now) result }
+        ensures same { tree self.new ≡ tree self.old }
+        ensures counts { memory_faults self.old < u64.MAX
+            → memory_faults self.new ≡ counted result (memory_faults self.old) };
+
+    /// The content of a file.
+    fn read(&mut self, place: &str) -> Result<Items<u8>, Fault>
+        ensures told { Tells (tree self.old)
+            (λ t. read_answer (node_at t (names_of place.now))) result }
+        ensures same { tree self.new ≡ tree self.old }
+        ensures counts { memory_faults self.old < u64.MAX
+            → memory_faults self.new ≡ counted result (memory_faults self.old) };
+
+    /// The first 128 bytes of a file, or all where there are fewer.
+    fn head(&mut self, place: &str) -> Result<Items<u8>, Fault>
+        ensures told { Tells (tree self.old)
+            (λ t. head_answer (node_at t (names_of place.now))) result }
+        ensures same { tree self.new ≡ tree self.old }
+        ensures counts { memory_faults self.old < u64.MAX
+            → memory_faults self.new ≡ counted result (memory_faults self.old) };
+
+    /// The folders above a place, nearest first.
+    fn above(&mut self, place: &str) -> Result<Items<Above>, Fault>
+        ensures told { AboveTells (tree self.old) (names_of place.now) result }
+        ensures same { tree self.new ≡ tree self.old }
+        ensures counts { memory_faults self.old < u64.MAX
+            → memory_faults self.new ≡ counted result (memory_faults self.old) };
+
+    /// A told tree has each place once, in order.
+    ghost sound: { (s : Self) → IsSound (tree s) };
+}

@@ -1,0 +1,170 @@
+ghost use Rattle.std.specs.Prelude.{◌≡◌, ◌&&◌, None, true, cond};
+ghost use Rattle.tokei_walk.specs.Ends.{without_first as rest_of, begins_with};
+ghost use Rattle.tokei_walk.specs.Levels.{patterns_from as level_patterns, decision as level_decision, repository as repository_of, decided as level_decided, is_excluded as excluded_by, is_dropped_by as dropped_by};
+
+use crate::ignore_files::{Verdict, verdict_among};
+use crate::lists::Items;
+use crate::patterns::Pattern;
+use crate::texts::Text;
+
+/// Which rules of the walk apply.
+#[derive(Clone, Copy, Debug, PartialEq, Eq)]
+pub struct Rules {
+    /// Ignore files above the roots, and repositories that begin there.
+    pub parents: bool,
+    /// `.tokeignore` and `.ignore`.
+    pub dot: bool,
+    /// `.gitignore` and `.git/info/exclude`.
+    pub git: bool,
+    /// Names that begin with a dot are dropped.
+    pub hidden: bool,
+}
+
+/// The kinds of ignore files, in the order in which they decide.
+#[derive(Clone, Copy)]
+pub enum Source {
+    Tokeignore,
+    Plain,
+    Gitignore,
+    GitExclude,
+}
+
+/// The rules of a folder: the patterns of its ignore files.
+#[derive(Drop)]
+pub struct Level {
+    pub tokeignore: Items<Pattern>,
+    pub ignore: Items<Pattern>,
+    pub gitignore: Items<Pattern>,
+    pub git_exclude: Items<Pattern>,
+    /// Whether the folder has an entry `.git`.
+    pub git: bool,
+}
+
+/// Where a folder stands: what decides about its entries.
+#[derive(Drop)]
+pub struct Context {
+    /// The rules of the folders that hold, from the top down to the folder itself.
+    pub levels: Items<Level>,
+    /// The names from the first of these folders down to the folder.
+    pub names: Items<Text>,
+    /// The names of the folder's shown path.
+    pub shown: Items<Text>,
+}
+
+fn patterns(level: &Level, source: Source) -> &[Pattern]
+    ensures { result.now ≡ level_patterns source level.entry.now }
+{
+    match source {
+        Source::Tokeignore => level.tokeignore.as_slice(),
+        Source::Plain => level.ignore.as_slice(),
+        Source::Gitignore => level.gitignore.as_slice(),
+        Source::GitExclude => level.git_exclude.as_slice(),
+    }
+}
+
+fn without_first(names: &[Text]) -> &[Text]
+    ensures { result.now ≡ rest_of names.entry.now }
+{
+    match names.split_first() {
+        None => names,
+        Some((_, rest)) => rest,
+    }
+}
+
+/// What the ignore files of one kind decide: the nearest folder's that decides.
+fn decision(
+    source: Source,
+    levels: &[Level],
+    names: &[Text],
+    entered: bool,
+) -> Option<Verdict>
+    ensures { result ≡ level_decision source levels.now names.now entered None }
+{
+    let mut found = None;
+    let mut left = names;
+    for level in levels {
+        if let Some(verdict) = verdict_among(patterns(level, source), left, entered) {
+            found = Some(verdict);
+        }
+        left = without_first(left);
+    }
+    found
+}
+
+/// The folders from the nearest one with an entry `.git` on, with the names from there.
+fn repository<'a>(levels: &'a [Level], names: &'a [Text]) -> (&'a [Level], &'a [Text])
+    ensures levels { result.0.now ≡ (repository_of levels.entry.now names.entry.now).0 }
+    ensures names { result.1.now ≡ (repository_of levels.entry.now names.entry.now).1 }
+{
+    let mut found_levels: &[Level] = &[];
+    let mut found_names: &[Text] = &[];
+    let mut left = levels;
+    let mut left_names = names;
+    while let Some((level, rest)) = left.split_first() {
+        if level.git {
+            found_levels = left;
+            found_names = left_names;
+        }
+        left = rest;
+        left_names = without_first(left_names);
+    }
+    (found_levels, found_names)
+}
+
+#[tactic(auto, unfolding(crate::specs::Levels::decided))]
+/// What the ignore files decide about an entry.
+fn decided(levels: &[Level], names: &[Text], entered: bool) -> Option<Verdict>
+    ensures { result ≡ level_decided levels.now names.now entered }
+{
+    if let Some(verdict) = decision(Source::Tokeignore, levels, names, entered) {
+        return Some(verdict);
+    }
+    if let Some(verdict) = decision(Source::Plain, levels, names, entered) {
+        return Some(verdict);
+    }
+    let (levels, names) = repository(levels, names);
+    if let Some(verdict) = decision(Source::Gitignore, levels, names, entered) {
+        return Some(verdict);
+    }
+    decision(Source::GitExclude, levels, names, entered)
+}
+
+#[tactic(auto, unfolding(crate::specs::Levels::is_excluded))]
+fn is_excluded(excludes: &[Pattern], shown: &[Text], entered: bool) -> bool
+    ensures { result ≡ excluded_by excludes.now shown.now entered }
+{
+    excludes.iter().any(|pattern| pattern.fits(shown, entered))
+}
+
+fn begins_dotted(name: &str) -> bool
+    ensures { result ≡ begins_with 46 name.now }
+{
+    match name.as_bytes() {
+        [] => false,
+        [first, ..] => *first == b'.',
+    }
+}
+
+/// Whether an entry is dropped. The lists of names end with the entry's own, `name`.
+pub fn is_dropped(
+    excludes: &[Pattern],
+    rules: &Rules,
+    levels: &[Level],
+    names: &[Text],
+    shown: &[Text],
+    name: &str,
+    entered: bool,
+) -> bool
+    ensures { result ≡ cond (excluded_by excludes.now shown.now entered) true
+        (dropped_by (level_decided levels.now names.now entered)
+            (rules.now.hidden && begins_with 46 name.now)) }
+{
+    if is_excluded(excludes, shown, entered) {
+        return true;
+    }
+    match decided(levels, names, entered) {
+        Some(Verdict::Ignore) => true,
+        Some(Verdict::Keep) => false,
+        None => rules.hidden && begins_dotted(name),
+    }
+}

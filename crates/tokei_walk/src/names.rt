@@ -1,0 +1,48 @@
+ghost use Rattle.std.specs.Prelude.{◌≡◌, ◌++◌, IfOk, OnOk, map, take, codes};
+ghost use Rattle.std.specs.List.{list_any};
+ghost use Rattle.tokei_walk.specs.Tree.{names_of, is_name as is_a_name, names_cmp};
+
+use crate::lists::Items;
+use crate::texts::Text;
+use std::alloc::{AllocError, Global};
+use std::cmp::Ordering;
+
+fn is_name(piece: &str) -> bool
+    ensures { result ≡ is_a_name piece.now }
+{
+    match piece.as_bytes() {
+        [] => false,
+        [only] => *only != b'.',
+        _ => true,
+    }
+}
+
+#[tactic(auto, unfolding(crate::specs::Tree::names_of))]
+/// The names of a place: its pieces between slashes, empty ones and `.` dropped.
+pub fn names(alloc: Global, place: &str) -> Result<Items<Text>, AllocError>
+    ensures { IfOk result (λ v. v ≡ names_of place.now) }
+{
+    let mut names = Items::new(alloc);
+    for piece in place.split('/') {
+        if is_name(piece) {
+            names.push(Text::from_str(alloc, piece)?)?;
+        }
+    }
+    Ok(names)
+}
+
+/// The order of two lists of names: name by name, in bytes.
+pub fn compare(a: &[Text], b: &[Text]) -> Ordering
+    ensures { result ≡ names_cmp a.now b.now }
+{
+    match (a.split_first(), b.split_first()) {
+        (None, None) => Ordering::Equal,
+        (None, Some(_)) => Ordering::Less,
+        (Some(_), None) => Ordering::Greater,
+        (Some((m, ms)), Some((n, ns))) => match m.as_str().cmp(n.as_str()) {
+            Ordering::Less => Ordering::Less,
+            Ordering::Equal => compare(ms, ns),
+            Ordering::Greater => Ordering::Greater,
+        },
+    }
+}
