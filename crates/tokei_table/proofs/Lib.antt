@@ -1,4 +1,5 @@
 pub mod Characters
+pub mod Dots
 pub mod Finds
 pub mod KeyOrder
 pub mod Pairs

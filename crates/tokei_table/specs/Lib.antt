@@ -3,13 +3,16 @@ pub mod Escaped
 pub mod Escapes
 pub mod Families
 pub mod Layout
+pub mod Listed
 pub mod Lookups
 pub mod NewRow
+pub mod Openers
 pub mod OuterLines
 pub mod Outcome
 pub mod Row
 pub mod RowOf
 pub mod Rows
+pub mod Shebangs
 pub mod Slices
 pub mod Sound
 pub mod TrimLaws

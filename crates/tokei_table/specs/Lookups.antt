@@ -1,5 +1,8 @@
--- A language of the table, and the first one of which a condition is true.
-use Rattle.std.specs.Prelude.{ℕ, suc, Bool, List, [], ◌∷◌, Option, Some, None, option_map, cond, slice_index_or}
+-- Which language of a table a word, a MIME type or the name of a file stands for.
+use Rattle.std.specs.Prelude.{ℕ, suc, Bool, ◌||◌, ◌==◌, List, [], ◌∷◌, Option, Some, None, option_map, cond, bytes_eq, slice_index_or}
+use Rattle.std.specs.List.{list_any}
+use Rattle.std.specs.Str.{str_to_ascii_lowercase}
+use Rattle.tokei_table.specs.Bytes.{ends}
 use Rattle.tokei_table.specs.NewRow.{new_row}
 use Rattle.tokei_table.specs.Row.{Row}
 
@@ -16,3 +19,60 @@ first_where test (r ∷ rs) = cond (test r) (Some 0) (option_map suc (first_wher
 abbrev pub or_else : Option ℕ → Option ℕ → Option ℕ
 or_else None other = other
 or_else (Some l) other = Some l
+
+-- Whether a list of texts holds that one.
+abbrev pub holds : List (List ℕ) → List ℕ → Bool
+holds texts text = list_any (λ t. bytes_eq t text) texts
+
+-- The condition of `from_name`: the word is the key or the name.
+abbrev pub has_name : List ℕ → Row → Bool
+has_name word r = bytes_eq r.key word || bytes_eq r.name word
+
+-- The condition of `from_str`: the word and the name are the same in any ASCII case.
+abbrev pub has_name_in_any_case : List ℕ → Row → Bool
+has_name_in_any_case word r = bytes_eq (str_to_ascii_lowercase r.name) (str_to_ascii_lowercase word)
+
+abbrev pub has_mime : List ℕ → Row → Bool
+has_mime mime r = holds r.mime mime
+
+abbrev pub has_extension : List ℕ → Row → Bool
+has_extension extension r = holds r.extensions extension
+
+abbrev pub has_filename : List ℕ → Row → Bool
+has_filename name r = holds r.filenames name
+
+-- Whether one of the texts is a suffix of the name.
+unfoldable pub ends_with_one : List (List ℕ) → List ℕ → Bool
+ends_with_one suffixes name = list_any (λ s. ends s name) suffixes
+
+abbrev pub has_path_suffix : List ℕ → Row → Bool
+has_path_suffix name r = ends_with_one r.path_suffixes name
+
+-- What stands behind the last dot.
+abbrev pub behind_dot : Bool → List ℕ → Option (List ℕ) → Option (List ℕ)
+behind_dot dot t (Some later) = Some later
+behind_dot dot t None = cond dot (Some t) None
+
+abbrev pub behind_last_dot : List ℕ → Option (List ℕ)
+behind_last_dot [] = None
+behind_last_dot (b ∷ t) = behind_dot (b == 46) t (behind_last_dot t)
+
+-- A name's extension is what follows its last dot, where that dot isn't the name's first byte; it may be empty.
+abbrev pub extension_of : List ℕ → Option (List ℕ)
+extension_of [] = None
+extension_of (b ∷ t) = behind_last_dot t
+
+abbrev pub from_extension : List Row → Option (List ℕ) → Option ℕ
+from_extension rows None = None
+from_extension rows (Some extension) = first_where (has_extension extension) rows
+
+-- By the lowered name of a file: a whole name, else a suffix, else the extension.
+abbrev pub from_lowered_name : List Row → List ℕ → Option ℕ
+from_lowered_name rows name =
+    or_else (first_where (has_filename name) rows) (
+    or_else (first_where (has_path_suffix name) rows) (
+    from_extension rows (extension_of name)))
+
+-- By the name of a file alone.
+abbrev pub from_file_name : List Row → List ℕ → Option ℕ
+from_file_name rows name = from_lowered_name rows (str_to_ascii_lowercase name)

@@ -9,6 +9,8 @@ pub mod family;
 pub mod language_type;
 pub mod laws;
 mod layout;
+pub mod lookups;
+mod openers;
 mod rows;
 pub mod syntax;
 pub mod table;
@@ -21,5 +23,6 @@ pub use ext::{
 };
 pub use family::Family;
 pub use language_type::LanguageType;
+pub use lookups::has_extension;
 pub use syntax::Syntax;
 pub use table::LanguageTable;

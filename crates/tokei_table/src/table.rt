@@ -1,5 +1,5 @@
 //! The table of languages.
-ghost use Rattle.std.specs.Prelude.{◌≡◌, ◌≢◌, ◌<◌, ◌==◌, Err, Some, None, length, MatchResult, nat_lt, true};
+ghost use Rattle.std.specs.Prelude.{◌≡◌, ◌≢◌, ◌<◌, ◌==◌, Err, Some, None, length, map, MatchResult, nat_lt, true};
 ghost use Rattle.serde_json.specs.View.{view};
 ghost use Rattle.tokei_table.specs.Outcome.{data_of, outcome};
 ghost use Rattle.tokei_table.specs.WellFormed.{IsWellFormed, has_tokens};
@@ -84,6 +84,13 @@ impl LanguageTable {
             return Err(TableError::Fallback);
         }
         Ok(LanguageTable { rows })
+    }
+
+    /// The rows as read.
+    pub(crate) fn rows(&self) -> &[Syntax]
+        ensures { map row_of result.now ≡ self.entry.now }
+    {
+        self.rows.as_slice()
     }
 
     /// How many languages there are.

@@ -1,0 +1,56 @@
+-- Which language of a table the head of a script stands for.
+use Rattle.std.specs.Prelude.{ℕ, suc, Bool, ◌==◌, List, [], ◌∷◌, Option, None, cond, bytes_eq, codes, take, drop}
+use Rattle.std.specs.List.{list_any}
+use Rattle.std.specs.Str.{is_utf8}
+use Rattle.tokei_table.specs.Bytes.{is_blank, trim_start, begins}
+use Rattle.tokei_table.specs.Lookups.{first_where, or_else, holds}
+use Rattle.tokei_table.specs.Row.{Row}
+
+-- How many bytes stand before the first newline, or in all.
+abbrev pub line_len : List ℕ → ℕ
+line_len [] = 0
+line_len (b ∷ t) = cond (b == 10) 0 (suc (line_len t))
+
+-- How many bytes stand before the first blank, or in all.
+abbrev pub word_len : List ℕ → ℕ
+word_len [] = 0
+word_len (b ∷ t) = cond (is_blank b) 0 (suc (word_len t))
+
+-- The first longest run of bytes that aren't blank, and what stands behind it.
+abbrev pub first_word : List ℕ → List ℕ
+first_word t = take (word_len (trim_start t)) (trim_start t)
+
+abbrev pub behind_word : List ℕ → List ℕ
+behind_word t = drop (word_len (trim_start t)) (trim_start t)
+
+-- Whether the program's name begins with one of the texts.
+unfoldable pub begins_with_one : List (List ℕ) → List ℕ → Bool
+begins_with_one beginnings program = list_any (λ e. begins e program) beginnings
+
+abbrev pub has_env : List ℕ → Row → Bool
+has_env program r = begins_with_one r.env program
+
+abbrev pub from_env : List Row → List ℕ → Option ℕ
+from_env rows [] = None
+from_env rows (b ∷ program) = first_where (has_env (b ∷ program)) rows
+
+abbrev pub has_shebang : List ℕ → Row → Bool
+has_shebang word r = holds r.shebangs word
+
+-- By the first word, else by the second where the first is `#!/usr/bin/env`.
+abbrev pub from_words : List Row → List ℕ → List ℕ → Option ℕ
+from_words rows [] rest = None
+from_words rows (b ∷ word) rest =
+    or_else (first_where (has_shebang (b ∷ word)) rows) (
+    cond (bytes_eq (b ∷ word) (codes "#!/usr/bin/env")) (from_env rows (first_word rest)) None)
+
+-- The first line of the first 128 bytes.
+abbrev pub head_line : List ℕ → List ℕ
+head_line head = take (line_len (take 128 head)) (take 128 head)
+
+-- By that line, which has to be UTF-8.
+abbrev pub from_line : List Row → List ℕ → Option ℕ
+from_line rows line = cond (is_utf8 line) (from_words rows (first_word line) (behind_word line)) None
+
+abbrev pub from_shebang : List Row → List ℕ → Option ℕ
+from_shebang rows head = from_line rows (head_line head)
