@@ -1,3 +1,4 @@
+pub mod BlockLaws
 pub mod DocComments
 pub mod Fences
 pub mod Searches

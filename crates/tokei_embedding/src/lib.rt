@@ -5,6 +5,7 @@
 
 mod doc_comments;
 mod fences;
+pub mod laws;
 mod searches;
 mod spans;
 mod tags;

@@ -1,0 +1,39 @@
+-- Laws of the blocks: how far each reaches, and that none opens at a newline.
+use Rattle.std.specs.Prelude.{◌≡◌, ℕ, ◌<◌, ◌≤◌, List, ◌∷◌, ◌++◌, length, drop, None, Some}
+use Rattle.tokei_embedding.specs.DocComments.{DocBlock, doc_block}
+use Rattle.tokei_embedding.specs.Fences.{Fence, fence_block}
+use Rattle.tokei_embedding.specs.Tags.{TagBlock, tag_block}
+use Rattle.tokei_embedding.specs.TargetBlocks.{TargetBlock, target_block}
+use Rattle.tokei_embedding.specs.declared.tags.Tag.{Tag}
+
+-- A block takes a byte or more, ends in the text, and holds no more than it takes.
+pub record Reaches (size : ℕ) (contents rest : List ℕ) : Type 0 where
+  pub some : 0 < size
+  pub within : size ≤ length rest
+  pub holds : length contents ≤ size
+
+-- A fence's block reaches so far, where the text goes on as the part does from the place on.
+abbrev pub FencesReach : Type 0
+FencesReach = (part rest tail : List ℕ) (place : ℕ) (f : Fence) → rest ≡ drop place part ++ tail → fence_block part place rest ≡ Some f → Reaches f.size f.contents rest
+
+-- So does an element.
+abbrev pub TagsReach : Type 0
+TagsReach = (tag : Tag) (part rest : List ℕ) (place : ℕ) (b : TagBlock) → tag_block tag part place rest ≡ Some b → Reaches b.size b.contents rest
+
+-- So does a block of doc comments.
+abbrev pub DocsReach : Type 0
+DocsReach = (rest : List ℕ) (b : DocBlock) → doc_block rest ≡ Some b → Reaches b.size b.contents rest
+
+-- So does a block of the target language.
+abbrev pub TargetsReach : Type 0
+TargetsReach = (part rest tail : List ℕ) (place : ℕ) (b : TargetBlock) → rest ≡ drop place part ++ tail → target_block part place rest ≡ Some b → Reaches b.size b.contents rest
+
+-- No block opens where a newline stands.
+pub record NoneAtNewline (part t : List ℕ) (place : ℕ) : Type 0 where
+  pub fence : fence_block part place (10 ∷ t) ≡ None
+  pub tag : (g : Tag) → tag_block g part place (10 ∷ t) ≡ None
+  pub doc : doc_block (10 ∷ t) ≡ None
+  pub target : target_block part place (10 ∷ t) ≡ None
+
+abbrev pub NewlinesOpenNothing : Type 0
+NewlinesOpenNothing = (part t tail : List ℕ) (place : ℕ) → 10 ∷ t ≡ drop place part ++ tail → NoneAtNewline part t place

@@ -1,0 +1,27 @@
+//! Laws of the definitions: each function's contract is a law, and its body does nothing.
+ghost use Rattle.tokei_embedding.specs.BlockLaws.{FencesReach, TagsReach, DocsReach, TargetsReach, NewlinesOpenNothing};
+
+/// A fence's block takes a byte or more, ends in the text, and holds no more than it takes.
+pub fn fences_reach()
+    ensures { FencesReach }
+{}
+
+/// So does an element.
+pub fn tags_reach()
+    ensures { TagsReach }
+{}
+
+/// So does a block of doc comments.
+pub fn docs_reach()
+    ensures { DocsReach }
+{}
+
+/// So does a block of the target language.
+pub fn targets_reach()
+    ensures { TargetsReach }
+{}
+
+/// No block opens where a newline stands.
+pub fn newlines_open_nothing()
+    ensures { NewlinesOpenNothing }
+{}
