@@ -80,7 +80,7 @@ fence_reaches info n rest (Some i) l m h =
       holds = omega (arith, length-take i behind);
     }
 
-opening_fits : (here : List ℕ) → opens_fence here ≡ true → info_len here + 4 ≤ length here
+pub opening_fits : (here : List ℕ) → opens_fence here ≡ true → info_len here + 4 ≤ length here
 opening_fits here h =
     let fits : 3 ≤ length here = begins-fits fence here (and_left (begins fence here) (begins_info (drop 3 here)) h) in
     let info : begins_info (drop 3 here) ≡ true = and_right (begins fence here) (begins_info (drop 3 here)) h in

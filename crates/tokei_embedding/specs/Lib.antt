@@ -1,4 +1,5 @@
 pub mod BlockLaws
+pub mod Captures
 pub mod DocComments
 pub mod Fences
 pub mod Searches

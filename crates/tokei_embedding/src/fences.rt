@@ -6,7 +6,7 @@ ghost use Rattle.tokei_embedding.specs.Seen.{fence_seen};
 use crate::searches::{first_of, is_at};
 use tokei_table::ext::is_whitespace;
 
-const FENCE: &[u8] = b"```";
+pub(crate) const FENCE: &[u8] = b"```";
 
 /// A block of code in fences.
 #[derive(Clone, Copy)]
@@ -46,10 +46,18 @@ fn opens_fence(text: &[u8]) -> bool
     0 < len && len < behind.len()
 }
 
+/// The length of the info in the fence opening at the front.
+pub(crate) fn info_len(opening: &[u8]) -> usize
+    requires { 3 ≤ length opening.now }
+    ensures { result ≡ info_len opening.now }
+{
+    solid_len(&opening[3..])
+}
+
 /// The part's first fence opening.
-fn first_fence(part: &[u8]) -> Option<usize>
+pub(crate) fn first_fence(part: &[u8]) -> Option<usize>
     ensures value { result ≡ first_fence part.now }
-    ensures within { IfSome result (λ i. i < length part.now) }
+    ensures within { IfSome result (λ i. i + (info_len (drop i part.now) + 4) ≤ length part.now) }
 {
     for i in 0..part.len() {
         if opens_fence(&part[i..]) {
@@ -60,7 +68,7 @@ fn first_fence(part: &[u8]) -> Option<usize>
 }
 
 /// How long a closing fence is, by the bytes behind its backticks.
-fn closing_len(behind: &[u8]) -> usize
+pub(crate) fn closing_len(behind: &[u8]) -> usize
     ensures value { result ≡ closing_len behind.now }
     ensures within { result ≤ 3 + length behind.now }
 {
@@ -107,5 +115,5 @@ pub fn fence_at<'a>(text: &'a [u8], from: usize, place: usize, to: usize) -> Opt
     if !is_at(first_fence(&text[from..to]), place - from) {
         return None;
     }
-    Some(fence_from(&text[place..], solid_len(&here[3..])))
+    Some(fence_from(&text[place..], info_len(here)))
 }

@@ -3,15 +3,24 @@
 //! A part is a range of a text's bytes, and every place counts bytes.
 #![tactic(auto)]
 
+mod captures;
 mod doc_comments;
 mod fences;
+mod html_like;
 pub mod laws;
+mod openings;
 mod searches;
 mod spans;
 mod tags;
 mod target_blocks;
 
+pub use captures::{Capture, SimpleCapture};
 pub use doc_comments::{doc_at, doc_text};
 pub use fences::{FenceAt, fence_at};
+pub use html_like::HtmlLike;
+pub use openings::{
+    end_lf, end_markdown, end_script, end_style, end_template, start_lf, start_markdown,
+    start_script, start_style, start_template,
+};
 pub use tags::{Tag, TagAt, tag_at};
 pub use target_blocks::{TargetAt, target_at, target_of};

@@ -2,7 +2,7 @@ use Rattle.std.proofs.Common.{◌-◌, ◌∙◌, ap, sym, take, drop, arith}
 use Rattle.std.proofs.lemmas.List.{take_rest}
 use Rattle.tokei_embedding.proofs.FenceBlocks.{no_fence, fence_here}
 use Rattle.tokei_embedding.proofs.Places.{part_from}
-use Rattle.tokei_embedding.specs.Fences.{solid_len, fence_from}
+use Rattle.tokei_embedding.specs.Fences.{fence_from}
 use Rattle.tokei_embedding.specs.Searches.{is_at}
 use Rattle.tokei_embedding.specs.Seen.{fence_seen}
 use Rattle.tokei_embedding.proofs.fences.fence_at.Goals as goal
@@ -17,9 +17,9 @@ pub returns : goal.returns
 returns c =
     let a = c.args in
     let here = take (a.to - a.place) (drop a.place a.text.now) in
-    let n = c.solid_len.result in
+    let n = c.info_len.result in
     fence_here (take (a.to - a.from) (drop a.from a.text.now)) (drop a.place a.text.now) here (a.place - a.from) n (fence_seen c.fence_from.result)
     (part_from a.text.now a.from a.place a.to c.requires.order (omega arith))
     (ap (is_at (a.place - a.from)) (sym c.first_fence.ensures.value) ∙ sym c.is_at.ensures ∙ c.if-not-is_at.false)
-    (c.solid_len.ensures.value ∙ ap solid_len (take_rest here 3))
+    c.info_len.ensures
     (c.fence_from.ensures ∙ ap (fence_from n) (take_rest a.text.now a.place))
