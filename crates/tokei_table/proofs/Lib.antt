@@ -1,6 +1,7 @@
 pub mod Characters
 pub mod Dots
 pub mod Finds
+pub mod FirstPlaces
 pub mod KeyOrder
 pub mod Pairs
 pub mod RowParts

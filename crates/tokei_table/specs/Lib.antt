@@ -2,6 +2,7 @@ pub mod Bytes
 pub mod Escaped
 pub mod Escapes
 pub mod Families
+pub mod FirstOpener
 pub mod Layout
 pub mod Listed
 pub mod Lookups

@@ -10,6 +10,7 @@ pub mod language_type;
 pub mod laws;
 mod layout;
 pub mod lookups;
+pub mod opener_index;
 mod openers;
 mod rows;
 pub mod syntax;
@@ -24,5 +25,6 @@ pub use ext::{
 pub use family::Family;
 pub use language_type::LanguageType;
 pub use lookups::has_extension;
+pub use opener_index::OpenerIndex;
 pub use syntax::Syntax;
 pub use table::LanguageTable;

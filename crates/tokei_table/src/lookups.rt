@@ -37,7 +37,7 @@ fn ends_with_one(suffixes: &[String], name: &[u8]) -> bool
 }
 
 #[tactic(auto, unfolding(crate::specs::Shebangs::begins_with_one))]
-fn begins_with_one(beginnings: &[String], program: &[u8]) -> bool
+pub(crate) fn begins_with_one(beginnings: &[String], program: &[u8]) -> bool
     ensures { result ≡ begins_with_one (tokens_of beginnings.now) program.now }
 {
     for beginning in beginnings {
