@@ -24,3 +24,6 @@ pub use openings::{
 };
 pub use tags::{Tag, TagAt, tag_at};
 pub use target_blocks::{TargetAt, target_at, target_of};
+
+#[cfg(test)]
+mod tests;

@@ -1,0 +1,3 @@
+//! Rows from outside: openings, contents and places.
+mod blocks;
+mod places;
