@@ -1,5 +1,7 @@
 pub mod Characters
 pub mod Cuts
 pub mod Deciding
+pub mod Joining
 pub mod LineEnds
 pub mod Spans
+pub mod Walking

@@ -42,12 +42,12 @@ nonempty_from_end e [] h = absurd (cc)
 nonempty_from_end e (x ∷ xs) h = omega arith
 
 -- one space fewer
-pub dropped_one : (xs ys whole : List ℕ) → ends_in 32 xs ≡ true → ys ≡ take (length xs - 1) xs → without_spaces xs ≡ without_spaces whole → length xs ≤ length whole
+pub dropped_one : (xs ys whole : List ℕ) → ends_in 32 xs ≡ true → ys ≡ without_last xs → without_spaces xs ≡ without_spaces whole → length xs ≤ length whole
     → (without_spaces ys ≡ without_spaces whole) × (true ≡ nat_lt (length ys) (length whole)) × (length ys ≤ length whole)
 dropped_one xs ys whole e is same fits =
     let some = nonempty_from_end 32 xs e in
-    let short : length ys < length whole = omega (arith, ap length is, length-take (length xs - 1) xs) in (
-      ap without_spaces (is ∙ without_last-take xs) ∙ without_spaces-front xs e ∙ same,
+    let short : length ys < length whole = omega (arith, ap length is, ap length (without_last-take xs), length-take (length xs - 1) xs) in (
+      ap without_spaces is ∙ without_spaces-front xs e ∙ same,
       grind (arith, nat_tests),
       omega arith,
     )
@@ -84,3 +84,11 @@ return_none line front last is n =
 pub return_of_nothing : (line : List ℕ) → line ≡ [] → line ≡ without_return line
 unfolding without_return
 return_of_nothing line is = is ∙ sym (ap (λ ys. cond (ends_in 13 ys) (without_last ys) ys) is)
+
+pub without_last_of_take : {X : Type 0} (xs ys : List X) → ys ≡ take (length xs - 1) xs → ys ≡ without_last xs
+without_last_of_take xs ys is = is ∙ without_last-take xs
+
+pub shorter_by_one : (xs ys : List ℕ) → ends_in 32 xs ≡ true → ys ≡ without_last xs → length ys < length xs
+shorter_by_one xs ys e is =
+    let some = nonempty_from_end 32 xs e in
+    omega (arith, ap length is, ap length (without_last-take xs), length-take (length xs - 1) xs)

@@ -1,5 +1,5 @@
 -- What the calls on a told tree answer.
-use Rattle.std.specs.Prelude.{◌≡◌, ℕ, ◌+◌, List, [], ◌∷◌, Bool, true, false, Option, Some, None, Result, Ok, Err, ⊤, take, map, reverse, if◌then◌else◌, cond, MatchResult}
+use Rattle.std.specs.Prelude.{◌≡◌, ◌≢◌, ℕ, ◌+◌, List, [], ◌∷◌, Bool, true, false, Option, Some, None, Result, Ok, Err, take, map, reverse, if◌then◌else◌, cond, MatchResult}
 use Rattle.tokei_walk.specs.declared.fs.Kind.{Kind}
 use Rattle.tokei_walk.specs.declared.fs.Kind.TheVariants.{File, Folder}
 use Rattle.tokei_walk.specs.declared.fs.Fault.{Fault}
@@ -16,6 +16,17 @@ kind_of (folder r) = Folder
 abbrev pub kind_answer : Option Node → Result Kind Fault
 kind_answer None = Err Refused
 kind_answer (Some n) = Ok (kind_of n)
+
+-- the kind, where anything stands there
+abbrev pub node_kind : Option Node → Option Kind
+node_kind None = None
+node_kind (Some n) = Some (kind_of n)
+
+-- the content, where a file stands there that can be read
+abbrev pub node_content : Option Node → Option (List ℕ)
+node_content None = None
+node_content (Some (folder r)) = None
+node_content (Some (file r h c)) = cond r None (Some c)
 
 abbrev pub read_answer : Option Node → Result (List ℕ) Fault
 read_answer None = Err Refused
@@ -53,27 +64,23 @@ abbrev pub above_view : Above → Names × List ℕ
 above_view a = (names_of a.place, a.name)
 
 abbrev pub AboveTells : Option Tree → Names → Result (List Above) Fault → Type 0
-AboveTells None p r = ⊤
-AboveTells (Some t) p r = (r ≡ Err Memory → ⊥) → MatchResult r (λ found. map above_view found ≡ reverse (folders_above [] p)) (λ e. ⊥)
-
--- where a tree is told, an answer other than want of memory is the tree's own
-abbrev pub Tells : {A : Type 0} → Option Tree → (Tree → Result A Fault) → Result A Fault → Type 0
-Tells None f r = ⊤
-Tells (Some t) f r = (r ≡ Err Memory → ⊥) → r ≡ f t
+AboveTells o p r = (t : Tree) → o ≡ Some t → r ≢ Err Memory → MatchResult r (λ found. map above_view found ≡ reverse (folders_above [] p)) (λ e. ⊥)
 
 -- a fact of the told tree, where one is told
 abbrev pub Told : Option Tree → (Tree → Type 0) → Type 0
-Told None P = ⊤
-Told (Some t) P = P t
+Told o P = (t : Tree) → o ≡ Some t → P t
 
--- a listing of the told tree has its entries, all of which have names
+-- where a tree is told, an answer other than want of memory is the tree's own
+abbrev pub Tells : {A : Type 0} → Option Tree → (Tree → Result A Fault) → Result A Fault → Type 0
+Tells o f r = Told o (λ t. r ≢ Err Memory → r ≡ f t)
+
+-- the entries of a listing
 abbrev pub entries_of : Result Listing Fault → Result (List Entry) Fault
 entries_of (Ok l) = Ok l.entries
 entries_of (Err e) = Err e
 
 abbrev pub ListTells : Option Tree → Names → Result Listing Fault → Type 0
-ListTells None p r = ⊤
-ListTells (Some t) p r = (r ≡ Err Memory → ⊥) → entries_of r ≡ list_answer t p
+ListTells o p r = Told o (λ t. r ≢ Err Memory → entries_of r ≡ list_answer t p)
 
 -- how many faults for want of memory there were
 abbrev pub counted : {A : Type 0} → Result A Fault → ℕ → ℕ

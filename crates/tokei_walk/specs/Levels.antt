@@ -73,7 +73,14 @@ is_dropped_by None dotted = dotted
 unfoldable pub is_excluded : List Pattern → Names → Bool → Bool
 is_excluded excludes shown entered = list_any (λ p. fits_entry p shown entered) excludes
 
+-- the context with an entry's name
+abbrev pub under : Context → List ℕ → Context
+under c name = record c { names = c.names ++ name ∷ []; shown = c.shown ++ name ∷ [] }
+
+-- whether the entry that the context's names lead to is dropped, and its own name
+unfoldable pub drops_last : List Pattern → Rules → Context → List ℕ → Bool → Bool
+drops_last excludes rules c name entered = if is_excluded excludes c.shown entered then true else is_dropped_by (decided c.levels c.names entered) (rules.hidden && begins_with 46 name)
+
 -- whether an entry of a folder is dropped, by its name and whether it is a folder
-unfoldable pub drops : List Pattern → Rules → Context → List ℕ → Bool → Bool
-drops excludes rules c name entered =
-    if is_excluded excludes (c.shown ++ name ∷ []) entered then true else is_dropped_by (decided c.levels (c.names ++ name ∷ []) entered) (rules.hidden && begins_with 46 name)
+abbrev pub drops : List Pattern → Rules → Context → List ℕ → Bool → Bool
+drops excludes rules c name entered = drops_last excludes rules (under c name) name entered

@@ -1,4 +1,5 @@
 pub mod Answers
+pub mod Descent
 pub mod Ends
 pub mod Fits
 pub mod IgnoreFiles
@@ -7,4 +8,5 @@ pub mod Patterns
 pub mod Reach
 pub mod Reading
 pub mod Segments
+pub mod Stacks
 pub mod Tree

@@ -1,6 +1,6 @@
-ghost use Rattle.std.specs.Prelude.{◌≡◌, ◌&&◌, None, true, cond};
+ghost use Rattle.std.specs.Prelude.{◌≡◌, None};
 ghost use Rattle.tokei_walk.specs.Ends.{without_first as rest_of, begins_with};
-ghost use Rattle.tokei_walk.specs.Levels.{patterns_from as level_patterns, decision as level_decision, repository as repository_of, decided as level_decided, is_excluded as excluded_by, is_dropped_by as dropped_by};
+ghost use Rattle.tokei_walk.specs.Levels.{patterns_from as level_patterns, decision as level_decision, repository as repository_of, decided as level_decided, is_excluded as excluded_by, drops_last};
 
 use crate::ignore_files::{Verdict, verdict_among};
 use crate::lists::Items;
@@ -145,24 +145,21 @@ fn begins_dotted(name: &str) -> bool
     }
 }
 
-/// Whether an entry is dropped. The lists of names end with the entry's own, `name`.
+#[tactic(auto, unfolding(crate::specs::Levels::drops_last))]
+/// Whether the entry that the context's names lead to is dropped; its own name is the last.
 pub fn is_dropped(
     excludes: &[Pattern],
     rules: &Rules,
-    levels: &[Level],
-    names: &[Text],
-    shown: &[Text],
+    context: &Context,
     name: &str,
     entered: bool,
 ) -> bool
-    ensures { result ≡ cond (excluded_by excludes.now shown.now entered) true
-        (dropped_by (level_decided levels.now names.now entered)
-            (rules.now.hidden && begins_with 46 name.now)) }
+    ensures { result ≡ drops_last excludes.now rules.now context.now name.now entered }
 {
-    if is_excluded(excludes, shown, entered) {
+    if is_excluded(excludes, context.shown.as_slice(), entered) {
         return true;
     }
-    match decided(levels, names, entered) {
+    match decided(context.levels.as_slice(), context.names.as_slice(), entered) {
         Some(Verdict::Ignore) => true,
         Some(Verdict::Keep) => false,
         None => rules.hidden && begins_dotted(name),

@@ -1,4 +1,5 @@
-ghost use Rattle.std.specs.Prelude.{◌≡◌, [], ◌∷◌, ◌++◌, OnOk, OnErr, length, take, ◌-◌};
+ghost use Rattle.std.specs.Prelude.{◌≡◌, [], ◌∷◌, ◌++◌, OnOk, OnErr, MatchOption, reverse as turned};
+ghost use Rattle.tokei_walk.specs.Ends.{without_last};
 
 use std::alloc::{AllocFailed, Global};
 use std::marker::Model;
@@ -63,10 +64,28 @@ impl<T> Items<T> {
     }
 }
 
+impl<T> Items<T> {
+    /// Takes the last item.
+    pub fn pop(&mut self) -> Option<T>
+        ensures { MatchOption result ((self.old ≡ []) × (self.new ≡ []))
+            (λ last. self.old ≡ self.new ++ last ∷ []) }
+    {
+        self.inner.pop()
+    }
+
+    /// Turns the items round.
+    pub fn reverse(&mut self)
+        ensures { self.new ≡ turned self.old }
+    {
+        self.inner.reverse();
+    }
+}
+
 impl<T: Drop> Items<T> {
+    #[tactic(auto, using(crate::proofs::LineEnds::without_last_of_take))]
     /// Drops the last item, where there is one.
     pub fn drop_last(&mut self)
-        ensures { self.new ≡ take (length self.old - 1) self.old }
+        ensures { self.new ≡ without_last self.old }
     {
         let _last = self.inner.pop();
     }

@@ -1,0 +1,96 @@
+-- The files that one descent through a told tree meets.
+use Rattle.std.specs.Prelude.{◌≡◌, ℕ, zero, suc, ◌-◌, List, [], ◌∷◌, ◌++◌, Bool, true, false, Option, Some, None, Result, Ok, Err, map, reverse, drop, length, if◌then◌else◌, cond}
+use Rattle.std.specs.List.{flat_map}
+use Rattle.tokei_walk.specs.declared.fs.Kind.{Kind}
+use Rattle.tokei_walk.specs.declared.fs.Kind.TheVariants.{File, Folder, Other}
+use Rattle.tokei_walk.specs.declared.fs.Entry.{Entry}
+use Rattle.tokei_walk.specs.declared.fs.Fault.{Fault}
+use Rattle.tokei_walk.specs.declared.kept.KeptFile.{KeptFile}
+use Rattle.tokei_walk.specs.declared.levels.Context.{Context}
+use Rattle.tokei_walk.specs.declared.levels.Rules.{Rules}
+use Rattle.tokei_walk.specs.declared.levels.Level.{Level}
+use Rattle.tokei_walk.specs.declared.stack.Stack.{Stack}
+use Rattle.tokei_walk.specs.declared.stack.Frame.{Frame}
+use Rattle.tokei_walk.specs.declared.patterns.Pattern.{Pattern}
+use Rattle.tokei_walk.specs.Answers.{list_answer}
+use Rattle.tokei_walk.specs.Ends.{ends_in, without_last}
+use Rattle.tokei_walk.specs.Fits.{is_empty}
+use Rattle.tokei_walk.specs.Levels.{level_at, drops, under}
+use Rattle.tokei_walk.specs.Tree.{Names, Node, file, folder, Tree, node_at, names_of, folders_above}
+
+-- the place of an entry: a slash stands between, unless the folder's place ends in one
+unfoldable pub joined : List ℕ → List ℕ → List ℕ
+joined place name = if ends_in 47 place then place ++ name else place ++ 47 ∷ name
+
+-- a kept file's shown path and its place are joined in the same way
+abbrev pub kept : List ℕ → List KeptFile
+kept place = record { path = place; place = place } ∷ []
+
+-- with the rules of the folder itself
+abbrev pub with_level : Context → Level → Context
+with_level c l = record c { levels = c.levels ++ l ∷ [] }
+
+-- what an entry gives, where `below` says what a folder gives
+abbrev pub of_kind : Kind → Bool → List ℕ → List KeptFile → List KeptFile
+of_kind File dropped place inner = cond dropped [] (kept place)
+of_kind Folder dropped place inner = cond dropped [] inner
+of_kind Other dropped place inner = []
+
+abbrev pub is_folder : Kind → Bool
+is_folder File = false
+is_folder Folder = true
+is_folder Other = false
+
+unfoldable pub of_entry : List Pattern → Rules → (Context → List ℕ → List KeptFile) → Context → List ℕ → Entry → List KeptFile
+of_entry excludes rules inside c place e = of_kind e.kind (drops excludes rules c e.name (is_folder e.kind)) (joined place e.name) (inside (under c e.name) (joined place e.name))
+
+unfoldable pub of_entries : List Pattern → Rules → (Context → List ℕ → List KeptFile) → Context → List ℕ → List Entry → List KeptFile
+of_entries excludes rules inside c place es = flat_map (of_entry excludes rules inside c place) es
+
+-- a folder that can't be listed gives nothing
+abbrev pub of_listing : (Context → List ℕ → List Entry → List KeptFile) → Context → List ℕ → Result (List Entry) Fault → List KeptFile
+of_listing entries c place (Ok es) = entries c place es
+of_listing entries c place (Err e) = []
+
+-- what a folder gives, where so many levels may be entered
+unfoldable pub descend : List Pattern → Rules → Tree → ℕ → Context → List ℕ → List KeptFile
+descend excludes rules t zero c place = []
+descend excludes rules t (suc n) c place =
+    of_listing (λ d at es. of_entries excludes rules (descend excludes rules t n) (with_level d (level_at t rules (names_of at))) at es) c place (list_answer t (names_of place))
+
+-- the rules of the folders above a root, from the top down
+unfoldable pub levels_above : Tree → Rules → Names → List Level
+levels_above t rules p = map (λ a. level_at t rules a.0) (folders_above [] p)
+
+-- the context of a root's entries, before the rules of the root itself
+unfoldable pub root_context : Tree → Rules → Names → Context
+root_context t rules p = record { levels = if rules.parents then levels_above t rules p else []; names = if rules.parents then p else []; shown = p }
+
+-- a root that is a file is kept; one that is missing gives nothing
+abbrev pub of_node : List Pattern → Rules → Tree → List ℕ → Option Node → List KeptFile
+of_node excludes rules t root None = []
+of_node excludes rules t root (Some (file r h content)) = kept root
+of_node excludes rules t root (Some (folder r)) = descend excludes rules t 257 (root_context t rules (names_of root)) root
+
+unfoldable pub of_root : List Pattern → Rules → Tree → List ℕ → List KeptFile
+of_root excludes rules t root = if is_empty root then [] else of_node excludes rules t root (node_at t (names_of root))
+
+-- the context without the last name
+abbrev pub without_name : Context → Context
+without_name c = record c { names = without_last c.names; shown = without_last c.shown }
+
+-- the context of the folder that holds this one
+abbrev pub outer : Context → Context
+outer c = record { levels = without_last c.levels; names = without_last c.names; shown = without_last c.shown }
+
+-- what the folders give that are entered and not left, the innermost first
+unfoldable pub of_frames : List Pattern → Rules → Tree → Context → List Frame → List KeptFile
+of_frames excludes rules t c [] = []
+of_frames excludes rules t c (f ∷ fs) = of_entries excludes rules (descend excludes rules t (256 - length fs)) c f.place (reverse f.left) ++ of_frames excludes rules t (outer c) fs
+
+-- what the folder that is walked still gives
+abbrev pub of_top : List Pattern → Rules → Tree → Stack → List KeptFile
+of_top excludes rules t s = of_entries excludes rules (descend excludes rules t (256 - length s.below)) s.context s.place (reverse s.left)
+
+abbrev pub of_stack : List Pattern → Rules → Tree → Stack → List KeptFile
+of_stack excludes rules t s = of_top excludes rules t s ++ of_frames excludes rules t (outer s.context) (reverse s.below)

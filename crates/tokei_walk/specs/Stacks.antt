@@ -1,0 +1,81 @@
+-- How a step changes the folders that are walked.
+use Rattle.std.specs.Prelude.{◌≡◌, ◌<◌, ◌-◌, ℕ, List, [], ◌∷◌, ◌++◌, Bool, true, false, cond, Option, Some, None, Ok, reverse, length}
+use Rattle.tokei_walk.specs.declared.fs.Entry.{Entry}
+use Rattle.tokei_walk.specs.declared.stack.Item.{Item}
+use Rattle.tokei_walk.specs.declared.stack.Stack.{Stack}
+use Rattle.tokei_walk.specs.declared.stack.Frame.{Frame}
+use Rattle.tokei_walk.specs.declared.stack.Step.{Step}
+use Rattle.tokei_walk.specs.declared.stack.Step.TheVariants.{Found, Passed, Ended}
+use Rattle.tokei_walk.specs.declared.kept.KeptFile.{KeptFile}
+use Rattle.tokei_walk.specs.declared.levels.Rules.{Rules}
+use Rattle.tokei_walk.specs.declared.patterns.Pattern.{Pattern}
+use Rattle.tokei_walk.specs.Answers.{list_answer}
+use Rattle.tokei_walk.specs.Descent.{joined, outer, descend, of_top, of_stack}
+use Rattle.tokei_walk.specs.Ends.{without_last}
+use Rattle.tokei_walk.specs.Levels.{level_at, drops, under}
+use Rattle.tokei_walk.specs.Tree.{Tree, names_of}
+
+-- the next entry is taken from those that are left
+abbrev pub Pops : Stack → Stack → Option Item → Type 0
+Pops old new None = (reverse old.left ≡ []) × (new ≡ old)
+Pops old new (Some item) = (reverse old.left ≡ item.entry ∷ reverse new.left) × (item.place ≡ joined old.place item.entry.name) × (new ≡ record old { left = new.left })
+
+-- the folder that holds the walked one is walked again
+abbrev pub Leaves : Stack → Stack → Bool → Type 0
+Leaves old new false = (old.below ≡ []) × (new ≡ old)
+Leaves old new true = (old.below ≡ new.below ++ record { place = new.place; left = new.left } ∷ []) × (new.context ≡ outer old.context)
+
+-- a folder is entered: the one that was walked holds it, and its rules stand last
+pub record Enters (old new : Stack) (place : List ℕ) : Type 0 where
+  pub place_is : new.place ≡ place
+  pub below_is : new.below ≡ old.below ++ record { place = old.place; left = old.left } ∷ []
+  pub names_stay : new.context.names ≡ old.context.names
+  pub shown_stay : new.context.shown ≡ old.context.shown
+  pub levels_is : without_last new.context.levels ≡ old.context.levels
+
+-- in a told tree its entries and its rules are the tree's
+pub record EntersTold (t : Tree) (rules : Rules) (old new : Stack) (place : List ℕ) : Type 0 where
+  pub entries_are : list_answer t (names_of place) ≡ Ok (reverse new.left)
+  pub levels_are : new.context.levels ≡ old.context.levels ++ level_at t rules (names_of place) ∷ []
+
+-- what an entry that is a folder gives
+abbrev pub of_folder : List Pattern → Rules → Tree → Stack → List ℕ → List ℕ → List KeptFile
+of_folder excludes rules t s name place = cond (drops excludes rules s.context name true) [] (descend excludes rules t (256 - length s.below) (under s.context name) place)
+
+-- a file that isn't dropped is found
+abbrev pub file_kept : Bool → List ℕ → Step
+file_kept true place = Passed
+file_kept false place = Found (record { path = place; place = place })
+
+-- what a step over one entry leaves
+abbrev pub StepTells : List Pattern → Rules → Tree → Stack → Stack → Step → Type 0
+StepTells excludes rules t old new (Found k) = of_stack excludes rules t old ≡ k ∷ of_stack excludes rules t new
+StepTells excludes rules t old new Passed = of_top excludes rules t old ≡ of_top excludes rules t new
+StepTells excludes rules t old new Ended = of_top excludes rules t old ≡ []
+
+-- the walked folder stays, with what holds it
+abbrev pub Stays : Stack → Stack → Type 0
+Stays old new = (new.context ≡ old.context) × (new.place ≡ old.place) × (new.below ≡ old.below)
+
+abbrev pub StepStays : Stack → Stack → Step → Type 0
+StepStays old new (Found k) = Unit {0}
+StepStays old new Passed = Stays old new × (length new.left < length old.left)
+StepStays old new Ended = Stays old new
+
+abbrev pub NoneStays : Stack → Stack → Option KeptFile → Type 0
+NoneStays old new None = Stays old new
+NoneStays old new (Some k) = Unit {0}
+
+abbrev pub NoneIsSame : Stack → Stack → Option KeptFile → Type 0
+NoneIsSame old new None = new ≡ old
+NoneIsSame old new (Some k) = Unit {0}
+
+-- what a visit of a folder's entry leaves
+abbrev pub VisitTells : List Pattern → Rules → Tree → Stack → Stack → List ℕ → List ℕ → Option KeptFile → Type 0
+VisitTells excludes rules t old new name place None = of_folder excludes rules t old name place ≡ []
+VisitTells excludes rules t old new name place (Some k) = of_folder excludes rules t old name place ++ of_stack excludes rules t old ≡ k ∷ of_stack excludes rules t new
+
+-- what the exploring of the walked folder leaves
+abbrev pub ExploreTells : List Pattern → Rules → Tree → Stack → Stack → Option KeptFile → Type 0
+ExploreTells excludes rules t old new None = of_top excludes rules t old ≡ []
+ExploreTells excludes rules t old new (Some k) = of_stack excludes rules t old ≡ k ∷ of_stack excludes rules t new

@@ -1,0 +1,38 @@
+use crate::lists::Items;
+use crate::texts::Text;
+
+/// A file that the ignore rules keep.
+#[derive(Drop)]
+pub struct KeptFile {
+    /// The path that is shown: the root's text and the names below it.
+    pub path: Text,
+    /// The place by which folders know it.
+    pub place: Text,
+}
+
+/// What a note is about.
+#[derive(Clone, Copy, Debug, PartialEq, Eq)]
+pub enum NoteKind {
+    /// A root that is missing.
+    MissingRoot,
+    /// A folder that can't be listed.
+    Unlisted,
+    /// An ignore file that can't be read.
+    UnreadIgnore,
+    /// An ignore file with a bad line.
+    BadLine,
+    /// An exclude that is no pattern.
+    BadExclude,
+    /// A folder with a name that isn't UTF-8.
+    Unnamed,
+    /// A folder more than 256 below its root.
+    TooDeep,
+}
+
+/// What a walk met and passed over.
+#[derive(Drop)]
+pub struct Note {
+    pub kind: NoteKind,
+    /// The place; of `BadExclude` the exclude.
+    pub place: Text,
+}

@@ -1,0 +1,157 @@
+ghost use Rattle.std.specs.Prelude.{◌≡◌, ◌<◌, ◌++◌, ◌&&◌, [], ◌∷◌, OnOk, IfOk, cond, is_some, codes};
+ghost use Rattle.tokei_walk.specs.Answers.{Told, node_kind, node_content};
+ghost use Rattle.tokei_walk.specs.Tree.{names_of, node_at};
+ghost use Rattle.tokei_walk.specs.Levels.{patterns_at, level_at};
+ghost use Rattle.tokei_walk.specs.Descent.{joined as joined_places};
+
+use crate::fs::{Fault, Folders, Kind};
+use crate::ignore_files::IgnoreFile;
+use crate::kept::{Note, NoteKind};
+use crate::levels::{Level, Rules};
+use crate::lists::Items;
+use crate::patterns::Pattern;
+use crate::places::joined;
+use crate::texts::Text;
+use std::alloc::{AllocError, Global};
+
+/// Adds a note.
+pub fn note(
+    alloc: Global,
+    notes: &mut Items<Note>,
+    kind: NoteKind,
+    place: &str,
+) -> Result<(), AllocError> {
+    let place = Text::from_str(alloc, place)?;
+    notes.push(Note { kind, place })?;
+    Ok(())
+}
+
+/// What stands at a place, where anything does.
+fn kind_at<F: Folders>(folders: &mut F, place: &str) -> Result<Option<Kind>, AllocError>
+    ensures same { F.tree folders.new ≡ F.tree folders.old }
+    ensures told { Told (F.tree folders.old) (λ t. IfOk result
+        (λ k. k ≡ node_kind (node_at t (names_of place.now)))) }
+    ensures honest { OnOk result (F.memory_faults folders.old < u64.MAX
+        → F.memory_faults folders.new ≡ F.memory_faults folders.old) }
+{
+    match folders.kind(place) {
+        Ok(kind) => Ok(Some(kind)),
+        Err(Fault::Refused) => Ok(None),
+        Err(Fault::Memory) => Err(AllocError),
+    }
+}
+
+/// The content of a file, where it can be read.
+fn content<F: Folders>(folders: &mut F, place: &str) -> Result<Option<Items<u8>>, AllocError>
+    ensures same { F.tree folders.new ≡ F.tree folders.old }
+    ensures told { Told (F.tree folders.old) (λ t. IfOk result
+        (λ c. c ≡ node_content (node_at t (names_of place.now)))) }
+    ensures honest { OnOk result (F.memory_faults folders.old < u64.MAX
+        → F.memory_faults folders.new ≡ F.memory_faults folders.old) }
+{
+    match folders.read(place) {
+        Ok(bytes) => Ok(Some(bytes)),
+        Err(Fault::Refused) => Ok(None),
+        Err(Fault::Memory) => Err(AllocError),
+    }
+}
+
+/// The patterns of an ignore file, where it is there and can be read.
+fn patterns_of_file<F: Folders>(
+    alloc: Global,
+    folders: &mut F,
+    notes: &mut Items<Note>,
+    place: &str,
+) -> Result<Items<Pattern>, AllocError>
+    ensures same { F.tree folders.new ≡ F.tree folders.old }
+    ensures told { Told (F.tree folders.old) (λ t. IfOk result
+        (λ ps. ps ≡ patterns_at (node_at t (names_of place.now)))) }
+    ensures honest { OnOk result (F.memory_faults folders.old < u64.MAX
+        → F.memory_faults folders.new ≡ F.memory_faults folders.old) }
+{
+    match kind_at(folders, place)? {
+        Some(Kind::File) => {}
+        _ => return Ok(Items::new(alloc)),
+    }
+    let Some(bytes) = content(folders, place)? else {
+        note(alloc, notes, NoteKind::UnreadIgnore, place)?;
+        return Ok(Items::new(alloc));
+    };
+    let file = IgnoreFile::parse(alloc, bytes.as_slice())?;
+    for _ in 0..file.bad_lines {
+        note(alloc, notes, NoteKind::BadLine, place)?;
+    }
+    Ok(file.patterns)
+}
+
+/// The patterns of the ignore file that a path leads to from a folder; none where it is off.
+fn patterns_of_name<F: Folders>(
+    alloc: Global,
+    folders: &mut F,
+    notes: &mut Items<Note>,
+    on: bool,
+    place: &str,
+    name: &str,
+) -> Result<Items<Pattern>, AllocError>
+    ensures same { F.tree folders.new ≡ F.tree folders.old }
+    ensures told { Told (F.tree folders.old) (λ t. IfOk result
+        (λ ps. ps ≡ cond on (patterns_at (node_at t (names_of place.now ++ names_of name.now))) [])) }
+    ensures honest { OnOk result (F.memory_faults folders.old < u64.MAX
+        → F.memory_faults folders.new ≡ F.memory_faults folders.old) }
+{
+    if !on {
+        return Ok(Items::new(alloc));
+    }
+    let whole = joined(alloc, place, name)?;
+    patterns_of_file(alloc, folders, notes, whole.as_str())
+}
+
+/// Whether a folder has an entry `.git`, where git's rules are on.
+fn is_repository<F: Folders>(
+    alloc: Global,
+    folders: &mut F,
+    on: bool,
+    place: &str,
+) -> Result<bool, AllocError>
+    ensures same { F.tree folders.new ≡ F.tree folders.old }
+    ensures told { Told (F.tree folders.old) (λ t. IfOk result
+        (λ b. b ≡ (on && is_some (node_at t (names_of place.now ++ names_of (codes ".git")))))) }
+    ensures honest { OnOk result (F.memory_faults folders.old < u64.MAX
+        → F.memory_faults folders.new ≡ F.memory_faults folders.old) }
+{
+    if !on {
+        return Ok(false);
+    }
+    let whole = joined(alloc, place, ".git")?;
+    Ok(kind_at(folders, whole.as_str())?.is_some())
+}
+
+/// Reads the rules of a folder.
+pub fn read_level<F: Folders>(
+    alloc: Global,
+    folders: &mut F,
+    notes: &mut Items<Note>,
+    rules: &Rules,
+    place: &str,
+) -> Result<Level, AllocError>
+    ensures same { F.tree folders.new ≡ F.tree folders.old }
+    ensures told { Told (F.tree folders.old) (λ t. IfOk result
+        (λ l. l ≡ level_at t rules.now (names_of place.now))) }
+    ensures honest { OnOk result (F.memory_faults folders.old < u64.MAX
+        → F.memory_faults folders.new ≡ F.memory_faults folders.old) }
+{
+    let git = is_repository(alloc, folders, rules.git, place)?;
+    let tokeignore = patterns_of_name(alloc, folders, notes, rules.dot, place, ".tokeignore")?;
+    let ignore = patterns_of_name(alloc, folders, notes, rules.dot, place, ".ignore")?;
+    let gitignore = patterns_of_name(alloc, folders, notes, rules.git, place, ".gitignore")?;
+    let git_exclude = patterns_of_name(alloc, folders, notes, git, place, ".git/info/exclude")?;
+    Ok(
+        Level {
+            tokeignore,
+            ignore,
+            gitignore,
+            git_exclude,
+            git,
+        },
+    )
+}

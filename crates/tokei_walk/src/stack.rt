@@ -1,0 +1,314 @@
+ghost use Rattle.std.specs.Prelude.{◌≡◌, ◌<◌, ◌++◌, [], ◌∷◌, reverse, OnOk, IfOk, MatchOption, Ok, Err, true, false};
+ghost use Rattle.std.specs.Bool.{MatchBool};
+ghost use Rattle.tokei_walk.specs.Answers.{Told, list_answer};
+ghost use Rattle.tokei_walk.specs.declared.fs.Fault.TheVariants.{Refused as RefusedFault};
+ghost use Rattle.tokei_walk.specs.Tree.{names_of};
+ghost use Rattle.tokei_walk.specs.Levels.{drops, under};
+ghost use Rattle.tokei_walk.specs.Descent.{without_name};
+ghost use Rattle.tokei_walk.specs.Stacks.{Pops, Leaves, Enters, EntersTold, StepTells, StepStays, NoneStays, NoneIsSame, file_kept, VisitTells, ExploreTells};
+
+use crate::fs::{Entry, Fault, Folders, Kind, Listing};
+use crate::kept::{KeptFile, Note, NoteKind};
+use crate::levels::{Context, Level, Rules, is_dropped};
+use crate::lists::Items;
+use crate::patterns::Pattern;
+use crate::places::joined;
+use crate::rules_files::{note, read_level};
+use crate::texts::Text;
+use std::alloc::{AllocError, Global};
+use std::mem;
+
+/// A folder that is entered and not yet left.
+#[derive(Drop)]
+pub struct Frame {
+    pub place: Text,
+    /// Its entries that are still to be met, the last one first.
+    pub left: Items<Entry>,
+}
+
+/// The folder that is walked, and those that hold it.
+#[derive(Drop)]
+pub struct Stack {
+    /// Where the walked folder stands.
+    pub context: Context,
+    pub place: Text,
+    /// Its entries that are still to be met, the last one first.
+    pub left: Items<Entry>,
+    /// The folders that hold it, from the root down.
+    pub below: Items<Frame>,
+}
+
+/// An entry and its place.
+#[derive(Drop)]
+pub struct Item {
+    pub entry: Entry,
+    pub place: Text,
+}
+
+/// What every step of a walk goes by.
+#[derive(Drop)]
+pub struct Settings {
+    pub alloc: Global,
+    pub rules: Rules,
+    pub excludes: Items<Pattern>,
+}
+
+/// Takes the next entry of the walked folder.
+pub fn next_item(alloc: Global, stack: &mut Stack) -> Result<Option<Item>, AllocError>
+    ensures { IfOk result (λ o. Pops stack.old stack.new o) }
+{
+    let Some(entry) = stack.left.pop() else {
+        return Ok(None);
+    };
+    let place = joined(alloc, stack.place.as_str(), entry.name.as_str())?;
+    Ok(Some(Item { entry, place }))
+}
+
+/// Goes back to the folder that holds the walked one; whether there was one.
+pub fn leave(stack: &mut Stack) -> bool
+    ensures { Leaves stack.old stack.new result }
+{
+    let Some(frame) = stack.below.pop() else {
+        return false;
+    };
+    stack.place = frame.place;
+    stack.left = frame.left;
+    stack.context.levels.drop_last();
+    stack.context.names.drop_last();
+    stack.context.shown.drop_last();
+    true
+}
+
+/// Adds an entry's name to the context.
+fn push_name(alloc: Global, context: &mut Context, name: &Text) -> Result<(), AllocError>
+    ensures { OnOk result (context.new ≡ under context.old name.now) }
+{
+    context.names.push(Text::from_str(alloc, name.as_str())?)?;
+    context.shown.push(Text::from_str(alloc, name.as_str())?)?;
+    Ok(())
+}
+
+/// Adds an entry's name to the context, and says whether the entry is dropped.
+pub fn consider(
+    settings: &Settings,
+    context: &mut Context,
+    name: &Text,
+    entered: bool,
+) -> Result<bool, AllocError>
+    ensures context { OnOk result (context.new ≡ under context.old name.now) }
+    ensures dropped { IfOk result (λ b.
+        b ≡ drops settings.now.excludes settings.now.rules context.old name.now entered) }
+{
+    push_name(settings.alloc, context, name)?;
+    Ok(
+        is_dropped(
+            settings.excludes.as_slice(),
+            &settings.rules,
+            context,
+            name.as_str(),
+            entered,
+        ),
+    )
+}
+
+/// Takes an entry's name off the context.
+pub fn forget(context: &mut Context)
+    ensures { context.new ≡ without_name context.old }
+{
+    context.names.drop_last();
+    context.shown.drop_last();
+}
+
+/// What a step over one entry gives.
+#[derive(Drop)]
+pub enum Step {
+    Found(KeptFile),
+    Passed,
+    /// No entry is left.
+    Ended,
+}
+
+/// What a folder holds, where it can be listed.
+fn listing<F: Folders>(folders: &mut F, place: &str) -> Result<Option<Listing>, AllocError>
+    ensures same { F.tree folders.new ≡ F.tree folders.old }
+    ensures told { Told (F.tree folders.old) (λ t. IfOk result (λ o. MatchOption o
+        (list_answer t (names_of place.now) ≡ Err RefusedFault)
+        (λ l. list_answer t (names_of place.now) ≡ Ok l.entries))) }
+    ensures honest { OnOk result (F.memory_faults folders.old < u64.MAX
+        → F.memory_faults folders.new ≡ F.memory_faults folders.old) }
+{
+    match folders.list(place) {
+        Ok(listing) => Ok(Some(listing)),
+        Err(Fault::Refused) => Ok(None),
+        Err(Fault::Memory) => Err(AllocError),
+    }
+}
+
+/// Walks another folder; whether it can be listed.
+pub fn enter<F: Folders>(
+    settings: &Settings,
+    folders: &mut F,
+    notes: &mut Items<Note>,
+    stack: &mut Stack,
+    place: Text,
+) -> Result<bool, AllocError>
+    ensures same { F.tree folders.new ≡ F.tree folders.old }
+    ensures honest { OnOk result (F.memory_faults folders.old < u64.MAX
+        → F.memory_faults folders.new ≡ F.memory_faults folders.old) }
+    ensures refused { IfOk result (λ b. b ≡ false → stack.new ≡ stack.old) }
+    ensures entered { IfOk result (λ b. b ≡ true → Enters stack.old stack.new place) }
+    ensures told { Told (F.tree folders.old) (λ t. IfOk result (λ b. MatchBool b
+        (EntersTold t settings.now.rules stack.old stack.new place)
+        (list_answer t (names_of place) ≡ Err RefusedFault))) }
+{
+    let alloc = settings.alloc;
+    let Some(listing) = listing(folders, place.as_str())? else {
+        note(alloc, notes, NoteKind::Unlisted, place.as_str())?;
+        return Ok(false);
+    };
+    if listing.unnamed > 0 {
+        note(alloc, notes, NoteKind::Unnamed, place.as_str())?;
+    }
+    let level = read_level(alloc, folders, notes, &settings.rules, place.as_str())?;
+    push_folder(stack, place, level, listing.entries)?;
+    Ok(true)
+}
+
+/// Walks a folder with these rules and entries.
+fn push_folder(
+    stack: &mut Stack,
+    place: Text,
+    level: Level,
+    mut entries: Items<Entry>,
+) -> Result<(), AllocError>
+    ensures entered { OnOk result (Enters stack.old stack.new place) }
+    ensures entries { OnOk result (reverse stack.new.left ≡ entries) }
+    ensures levels { OnOk result (stack.new.context.levels ≡ stack.old.context.levels ++ level ∷ []) }
+{
+    stack.context.levels.push(level)?;
+    entries.reverse();
+    let left = mem::replace(&mut stack.left, entries);
+    let place = mem::replace(&mut stack.place, place);
+    stack.below.push(Frame { place, left })?;
+    Ok(())
+}
+
+/// Explores the folder of an entry, whose name and place these are, and leaves it again where it
+/// gives no file.
+#[cycle(exploring)]
+fn visit<F: Folders>(
+    settings: &Settings,
+    folders: &mut F,
+    notes: &mut Items<Note>,
+    stack: &mut Stack,
+    item: Item,
+) -> Result<Option<KeptFile>, AllocError>
+    ensures same { F.tree folders.new ≡ F.tree folders.old }
+    ensures honest { OnOk result (F.memory_faults folders.old < u64.MAX
+        → F.memory_faults folders.new ≡ F.memory_faults folders.old) }
+    ensures stays { IfOk result (λ o. NoneIsSame stack.old stack.new o) }
+    ensures told { Told (F.tree folders.old) (λ t. IfOk result (λ o.
+        VisitTells settings.now.excludes settings.now.rules t stack.old stack.new
+            item.entry.name item.place o)) }
+{
+    if consider(settings, &mut stack.context, &item.entry.name, true)? {
+        forget(&mut stack.context);
+        return Ok(None);
+    }
+    if stack.below.as_slice().len() >= 256 {
+        note(settings.alloc, notes, NoteKind::TooDeep, item.place.as_str())?;
+        forget(&mut stack.context);
+        return Ok(None);
+    }
+    if !enter(settings, folders, notes, stack, item.place)? {
+        forget(&mut stack.context);
+        return Ok(None);
+    }
+    match explore(settings, folders, notes, stack)? {
+        Some(file) => Ok(Some(file)),
+        None => {
+            leave(stack);
+            Ok(None)
+        }
+    }
+}
+
+/// Meets the next entry of the walked folder.
+#[cycle(exploring)]
+fn meet_next<F: Folders>(
+    settings: &Settings,
+    folders: &mut F,
+    notes: &mut Items<Note>,
+    stack: &mut Stack,
+) -> Result<Step, AllocError>
+    ensures same { F.tree folders.new ≡ F.tree folders.old }
+    ensures honest { OnOk result (F.memory_faults folders.old < u64.MAX
+        → F.memory_faults folders.new ≡ F.memory_faults folders.old) }
+    ensures stays { IfOk result (λ s. StepStays stack.old stack.new s) }
+    ensures told { Told (F.tree folders.old) (λ t. IfOk result (λ s.
+        StepTells settings.now.excludes settings.now.rules t stack.old stack.new s)) }
+{
+    let item = match next_item(settings.alloc, stack)? {
+        None => return Ok(Step::Ended),
+        Some(item) => item,
+    };
+    match item.entry.kind {
+        Kind::Other => Ok(Step::Passed),
+        Kind::File => file_step(settings, stack, item),
+        Kind::Folder => match visit(settings, folders, notes, stack, item)? {
+            Some(file) => Ok(Step::Found(file)),
+            None => Ok(Step::Passed),
+        },
+    }
+}
+
+/// The next file below the walked folder, which stays where there is none.
+#[cycle(exploring)]
+pub fn explore<F: Folders>(
+    settings: &Settings,
+    folders: &mut F,
+    notes: &mut Items<Note>,
+    stack: &mut Stack,
+) -> Result<Option<KeptFile>, AllocError>
+    ensures same { F.tree folders.new ≡ F.tree folders.old }
+    ensures honest { OnOk result (F.memory_faults folders.old < u64.MAX
+        → F.memory_faults folders.new ≡ F.memory_faults folders.old) }
+    ensures stays { IfOk result (λ o. NoneStays stack.old stack.new o) }
+    ensures told { Told (F.tree folders.old) (λ t. IfOk result (λ o.
+        ExploreTells settings.now.excludes settings.now.rules t stack.old stack.new o)) }
+{
+    loop {
+        match meet_next(settings, folders, notes, stack)? {
+            Step::Found(file) => return Ok(Some(file)),
+            Step::Passed => {}
+            Step::Ended => return Ok(None),
+        }
+    }
+}
+
+/// Keeps a file, unless it is dropped.
+fn file_step(settings: &Settings, stack: &mut Stack, item: Item) -> Result<Step, AllocError>
+    ensures stays { OnOk result (stack.new ≡ stack.old) }
+    ensures kept { IfOk result (λ s. s ≡ file_kept (drops settings.now.excludes
+        settings.now.rules stack.old.context item.entry.name false) item.place) }
+{
+    let dropped = consider(
+        settings,
+        &mut stack.context,
+        &item.entry.name,
+        false,
+    )?;
+    forget(&mut stack.context);
+    if dropped {
+        return Ok(Step::Passed);
+    }
+    let path = Text::from_str(settings.alloc, item.place.as_str())?;
+    Ok(
+        Step::Found(
+            KeptFile {
+                path,
+                place: item.place,
+            },
+        ),
+    )
+}
