@@ -3,6 +3,8 @@ pub mod Dots
 pub mod Finds
 pub mod FirstPlaces
 pub mod KeyOrder
+pub mod Nonempty
+pub mod OfTable
 pub mod Pairs
 pub mod RowParts
 pub mod RowSound

@@ -28,3 +28,6 @@ pub use lookups::has_extension;
 pub use opener_index::OpenerIndex;
 pub use syntax::Syntax;
 pub use table::LanguageTable;
+
+#[cfg(test)]
+mod bench_tests;

@@ -1,6 +1,6 @@
 //! Which language of a table a word, a MIME type, a file's name or a script's head stands for. Of two languages the
 //! first in the table is answered.
-ghost use Rattle.std.specs.Prelude.{◌≡◌, ◌≤◌, length, map, take, is_some, option_map, bytes_eq, IfOk};
+ghost use Rattle.std.specs.Prelude.{◌≡◌, ◌≤◌, ◌<◌, length, map, take, is_some, option_map, bytes_eq, IfOk, IfSome};
 ghost use Rattle.std.specs.Str.{is_utf8, str_to_ascii_lowercase};
 ghost use Rattle.tokei_table.specs.RowOf.{row_of, tokens_of};
 ghost use Rattle.tokei_table.specs.Lookups.{first_where, holds, has_name, has_name_in_any_case, has_mime, has_extension, has_filename, ends_with_one, has_path_suffix, extension_of, from_lowered_name, from_file_name};
@@ -261,33 +261,46 @@ fn in_head(rows: &[Syntax], head: &[u8]) -> Option<usize>
     }
 }
 
+fn language(found: Option<usize>) -> Option<LanguageType>
+    ensures { result ≡ found }
+{
+    match found {
+        Some(at) => Some(LanguageType::at(at)),
+        None => None,
+    }
+}
+
 impl LanguageType {
     /// The language with that key or name.
     pub fn from_name(table: &LanguageTable, name: &str) -> Option<LanguageType>
-        ensures { result ≡ first_where (has_name name.now) table.now }
+        ensures value { result ≡ first_where (has_name name.now) table.now }
+        ensures of_table { IfSome result (λ l. l < length table.now) }
     {
-        with_name(table.rows(), name).map(|at| LanguageType::at(at))
+        language(with_name(table.rows(), name))
     }
 
     /// The language whose name is that word in any ASCII case.
     pub fn from_str(table: &LanguageTable, word: &str) -> Option<LanguageType>
-        ensures { result ≡ first_where (has_name_in_any_case word.now) table.now }
+        ensures value { result ≡ first_where (has_name_in_any_case word.now) table.now }
+        ensures of_table { IfSome result (λ l. l < length table.now) }
     {
-        with_name_in_any_case(table.rows(), word).map(|at| LanguageType::at(at))
+        language(with_name_in_any_case(table.rows(), word))
     }
 
     /// The language with that MIME type.
     pub fn from_mime(table: &LanguageTable, mime: &str) -> Option<LanguageType>
-        ensures { result ≡ first_where (has_mime mime.now) table.now }
+        ensures value { result ≡ first_where (has_mime mime.now) table.now }
+        ensures of_table { IfSome result (λ l. l < length table.now) }
     {
-        with_mime(table.rows(), mime.as_bytes()).map(|at| LanguageType::at(at))
+        language(with_mime(table.rows(), mime.as_bytes()))
     }
 
     /// The language with that extension, without its dot and as it stands.
     pub fn from_file_extension(table: &LanguageTable, extension: &str) -> Option<LanguageType>
-        ensures { result ≡ first_where (has_extension extension.now) table.now }
+        ensures value { result ≡ first_where (has_extension extension.now) table.now }
+        ensures of_table { IfSome result (λ l. l < length table.now) }
     {
-        with_extension(table.rows(), extension.as_bytes()).map(|at| LanguageType::at(at))
+        language(with_extension(table.rows(), extension.as_bytes()))
     }
 
     /// The language of a file of that name, whatever it holds: by the whole name, else by a suffix of it, else by its
@@ -297,18 +310,20 @@ impl LanguageType {
         table: &LanguageTable,
         name: &str,
     ) -> Result<Option<LanguageType>, AllocError>
-        ensures { IfOk result (λ o. o ≡ from_file_name table.now name.now) }
+        ensures value { IfOk result (λ o. o ≡ from_file_name table.now name.now) }
+        ensures of_table { IfOk result (λ o. IfSome o (λ l. l < length table.now)) }
     {
         let mut lowered = String::from_str(alloc, name)?;
         lowered.make_ascii_lowercase();
-        Ok(in_lowered_name(table.rows(), lowered.as_bytes()).map(|at| LanguageType::at(at)))
+        Ok(language(in_lowered_name(table.rows(), lowered.as_bytes())))
     }
 
     /// The language of a script with that head, of which the first line of the first 128 bytes is looked at: its first
     /// word names the program, or the second does where the first is `#!/usr/bin/env`.
     pub fn from_shebang_bytes(table: &LanguageTable, head: &[u8]) -> Option<LanguageType>
-        ensures { result ≡ from_shebang table.now head.now }
+        ensures value { result ≡ from_shebang table.now head.now }
+        ensures of_table { IfSome result (λ l. l < length table.now) }
     {
-        in_head(table.rows(), head).map(|at| LanguageType::at(at))
+        language(in_head(table.rows(), head))
     }
 }

@@ -124,6 +124,18 @@ fn search(openers: &[String], firsts: &[u8], flags: &[bool], text: &[u8]) -> Opt
 }
 
 impl OpenerIndex {
+    /// Whether none of the texts is empty.
+    pub fn are_nonempty(texts: &[&str]) -> bool
+        ensures { result ≡ list_all is_nonempty (map (λ t. t.now) texts.now) }
+    {
+        for text in texts {
+            if text.as_bytes().is_empty() {
+                return false;
+            }
+        }
+        true
+    }
+
     /// The index of these openers, of which none is empty. It fails where memory runs out.
     pub fn new(alloc: Global, openers: &[&str]) -> Result<OpenerIndex, AllocError>
         requires { list_all is_nonempty (map (λ o. o.now) openers.now) ≡ true }

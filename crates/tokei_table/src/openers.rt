@@ -1,6 +1,8 @@
 //! The texts that a line has to hold for more than a glance at it.
-ghost use Rattle.std.specs.Prelude.{◌≡◌, ◌<◌, ◌++◌, [], ◌∷◌, length, IfOk, OnOk, string_bytes};
+ghost use Rattle.std.specs.Prelude.{◌≡◌, ◌<◌, ◌++◌, [], ◌∷◌, length, true, IfOk, OnOk, string_bytes};
 ghost use Rattle.tokei_table.specs.RowOf.{tokens_of, pairs_of, row_of};
+ghost use Rattle.std.specs.List.{list_all};
+ghost use Rattle.tokei_table.specs.FirstOpener.{is_nonempty};
 ghost use Rattle.tokei_table.specs.Lookups.{row_at};
 ghost use Rattle.tokei_table.specs.Openers.{starts_of, tag_start, tag_starts, important_syntax, child_openers, openers};
 
@@ -115,7 +117,8 @@ impl LanguageType {
     /// opens children. It fails where memory runs out.
     pub fn openers(self, alloc: Global, table: &LanguageTable) -> Result<Vec<String>, AllocError>
         requires { self < length table.now }
-        ensures { IfOk result (λ v. tokens_of v.items ≡ openers (row_at table.now self)) }
+        ensures value { IfOk result (λ v. tokens_of v.items ≡ openers (row_at table.now self)) }
+        ensures nonempty { IfOk result (λ v. list_all is_nonempty (tokens_of v.items) ≡ true) }
     {
         openers(alloc, table.syntax(self))
     }

@@ -1,0 +1,9 @@
+use Rattle.std.proofs.Common.{◌∙◌, ap, map}
+use Rattle.tokei_table.specs.Lookups.{first_where, has_name}
+use Rattle.tokei_table.specs.RowOf.{row_of}
+use Rattle.tokei_table.proofs.OfTable.{first_within, same_within}
+use Rattle.tokei_table.proofs.language_type.LanguageType.from_name.Goals as goal
+
+pub returns-clause-of_table : goal.returns-clause-of_table
+returns-clause-of_table c =
+    same_within c.args.table.now c.language.result (first_where (has_name c.args.name.now) c.args.table.now) (c.language.ensures ∙ c.with_name.ensures ∙ ap (first_where (has_name c.args.name.now)) c.rows.ensures) (first_within (has_name c.args.name.now) c.args.table.now)
