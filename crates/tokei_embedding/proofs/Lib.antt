@@ -2,6 +2,7 @@ pub mod BlockLaws
 pub mod DocLaws
 pub mod FenceBlocks
 pub mod Lines
+pub mod Marks
 pub mod Newlines
 pub mod Places
 pub mod TagPlaces

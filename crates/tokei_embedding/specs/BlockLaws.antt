@@ -1,5 +1,6 @@
 -- Laws of the blocks: how far each reaches, and that none opens at a newline.
-use Rattle.std.specs.Prelude.{◌≡◌, ℕ, ◌<◌, ◌≤◌, List, ◌∷◌, ◌++◌, length, drop, None, Some}
+use Rattle.std.specs.Prelude.{◌≡◌, ℕ, ◌<◌, ◌≤◌, true, false, ◌==◌, is_some, List, ◌∷◌, ◌++◌, length, drop, None, Some}
+use Rattle.tokei_table.specs.Bytes.{is_blank}
 use Rattle.tokei_embedding.specs.DocComments.{DocBlock, doc_block}
 use Rattle.tokei_embedding.specs.Fences.{Fence, fence_block}
 use Rattle.tokei_embedding.specs.Tags.{TagBlock, tag_block}
@@ -37,3 +38,7 @@ pub record NoneAtNewline (part t : List ℕ) (place : ℕ) : Type 0 where
 
 abbrev pub NewlinesOpenNothing : Type 0
 NewlinesOpenNothing = (part t tail : List ℕ) (place : ℕ) → 10 ∷ t ≡ drop place part ++ tail → NoneAtNewline part t place
+
+-- A block of doc comments opens at a blank of a line exactly where one opens at the byte behind it.
+abbrev pub DocsOpenBeforeBlanks : Type 0
+DocsOpenBeforeBlanks = (b : ℕ) (t : List ℕ) → is_blank b ≡ true → (b == 10) ≡ false → is_some (doc_block (b ∷ t)) ≡ is_some (doc_block t)

@@ -17,11 +17,13 @@ abbrev pub first_line : List ℕ → List ℕ
 first_line [] = []
 first_line (b ∷ t) = cond (b == 10) (b ∷ []) (b ∷ first_line t)
 
+-- The mark at the front of the text.
+abbrev pub front_mark : List ℕ → Option (List ℕ)
+front_mark t = cond (begins (codes "///") t) (Some (codes "///")) (cond (begins (codes "//!") t) (Some (codes "//!")) None)
+
 -- The mark with which the line begins behind its front blanks.
 abbrev pub mark_of : List ℕ → Option (List ℕ)
-mark_of line =
-    cond (begins (codes "///") (trim_start line)) (Some (codes "///")) (
-    cond (begins (codes "//!") (trim_start line)) (Some (codes "//!")) None)
+mark_of line = front_mark (trim_start line)
 
 -- The length of the lines before the first one that doesn't begin with the mark behind its front blanks.
 abbrev pub marked_len : List ℕ → List (List ℕ) → ℕ

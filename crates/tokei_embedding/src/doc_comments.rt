@@ -1,10 +1,10 @@
 //! Rust's doc comments.
 ghost use Rattle.std.specs.Prelude.{◌≡◌, ◌+◌, ◌-◌, ◌≤◌, ◌<◌, IfSome, IfOk, length, take, drop, option_map};
-ghost use Rattle.tokei_embedding.specs.DocComments.{first_line, mark_of, marked_len, lines_of, doc_text, doc_block};
+ghost use Rattle.tokei_embedding.specs.DocComments.{first_line, front_mark, mark_of, marked_len, lines_of, doc_text, doc_block};
 
 use memchr::memchr;
 use std::alloc::{AllocError, Global};
-use tokei_table::ext::trim_start;
+use tokei_table::ext::{is_whitespace, trim_start};
 
 /// The text through its first newline.
 fn first_line(text: &[u8]) -> &[u8]
@@ -18,16 +18,29 @@ fn first_line(text: &[u8]) -> &[u8]
     }
 }
 
-/// The mark with which the line begins behind its front blanks.
-fn mark_of(line: &[u8]) -> Option<&'static [u8]>
-    ensures { option_map (λ m. m.now) result ≡ mark_of line.now }
+/// The mark at the front.
+fn front_mark(text: &[u8]) -> Option<&'static [u8]>
+    ensures { option_map (λ m. m.now) result ≡ front_mark text.now }
 {
-    let solid = trim_start(line);
-    if solid.starts_with(b"///") {
+    if text.starts_with(b"///") {
         return Some(b"///");
     }
-    if solid.starts_with(b"//!") {
+    if text.starts_with(b"//!") {
         return Some(b"//!");
+    }
+    None
+}
+
+/// The mark with which the text's first line begins behind its front blanks.
+fn mark_here(text: &[u8]) -> Option<&'static [u8]>
+    ensures { option_map (λ m. m.now) result ≡ mark_of (first_line text.now) }
+{
+    let mut rest = text;
+    while let [first, others @ ..] = rest {
+        if *first == b'\n' || !is_whitespace(*first) {
+            return front_mark(rest);
+        }
+        rest = others;
     }
     None
 }
@@ -55,10 +68,7 @@ pub fn doc_at(text: &[u8], place: usize) -> Option<usize>
     ensures { result ≡ option_map (λ b. b.size) (doc_block (drop place text.now)) }
 {
     let rest = &text[place..];
-    if !matches!(rest, [b'/' | b' ' | b'\t'..=b'\r', ..]) {
-        return None;
-    }
-    let mark = mark_of(first_line(rest))?;
+    let mark = mark_here(rest)?;
     Some(marked_len(mark, rest))
 }
 

@@ -1,5 +1,5 @@
 //! Laws of the definitions: each function's contract is a law, and its body does nothing.
-ghost use Rattle.tokei_embedding.specs.BlockLaws.{FencesReach, TagsReach, DocsReach, TargetsReach, NewlinesOpenNothing};
+ghost use Rattle.tokei_embedding.specs.BlockLaws.{FencesReach, TagsReach, DocsReach, TargetsReach, NewlinesOpenNothing, DocsOpenBeforeBlanks};
 
 /// A fence's block takes a byte or more, ends in the text, and holds no more than it takes.
 pub fn fences_reach()
@@ -24,4 +24,9 @@ pub fn targets_reach()
 /// No block opens where a newline stands.
 pub fn newlines_open_nothing()
     ensures { NewlinesOpenNothing }
+{}
+
+/// A block of doc comments opens at a blank of a line exactly where one opens at the byte behind it.
+pub fn docs_open_before_blanks()
+    ensures { DocsOpenBeforeBlanks }
 {}
