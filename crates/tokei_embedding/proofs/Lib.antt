@@ -5,5 +5,6 @@ pub mod Lines
 pub mod Marks
 pub mod Newlines
 pub mod Places
+pub mod SolidFences
 pub mod TagPlaces
 pub mod TargetPlaces

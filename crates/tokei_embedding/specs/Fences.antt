@@ -1,5 +1,5 @@
 -- Fences: code between three backticks and three backticks.
-use Rattle.std.specs.Prelude.{ℕ, suc, ◌+◌, Bool, true, false, ◌&&◌, nat_lt, cond, List, [], ◌∷◌, length, take, drop, codes, Option, None, Some}
+use Rattle.std.specs.Prelude.{ℕ, suc, ◌+◌, Bool, true, false, ◌&&◌, ◌==◌, nat_lt, cond, List, [], ◌∷◌, length, take, drop, codes, Option, None, Some}
 use Rattle.tokei_table.specs.Bytes.{is_blank, begins}
 use Rattle.tokei_embedding.specs.Searches.{first_where, first_of, is_at}
 
@@ -19,6 +19,10 @@ begins_info t = nat_lt 0 (solid_len t) && nat_lt (solid_len t) (length t)
 -- Whether a fence opening stands at the front: a fence, its info (the bytes that aren't blank), and one blank.
 abbrev pub opens_fence : List ℕ → Bool
 opens_fence t = begins fence t && begins_info (drop 3 t)
+
+-- Whether a fence stands at the front, and no blank behind it. No fence opens in such a text.
+abbrev pub is_solid_fence : List ℕ → Bool
+is_solid_fence t = begins fence t && (solid_len (drop 3 t) == length (drop 3 t))
 
 -- The length of the info in the fence opening at the front.
 abbrev pub info_len : List ℕ → ℕ

@@ -1,6 +1,6 @@
 //! The fences of Markdown.
 ghost use Rattle.std.specs.Prelude.{◌≡◌, ◌+◌, ◌-◌, ◌≤◌, ◌<◌, IfSome, length, take, drop, option_map};
-ghost use Rattle.tokei_embedding.specs.Fences.{solid_len, opens_fence, info_len, first_fence, closing_len, fence_from, fence_block};
+ghost use Rattle.tokei_embedding.specs.Fences.{solid_len, opens_fence, is_solid_fence, info_len, first_fence, closing_len, fence_from, fence_block};
 ghost use Rattle.tokei_embedding.specs.Seen.{fence_seen};
 
 use crate::searches::{first_of, is_at};
@@ -46,6 +46,18 @@ fn opens_fence(text: &[u8]) -> bool
     0 < len && len < behind.len()
 }
 
+/// Whether a fence stands at the front, and no blank anywhere behind it. Then no fence opens further on either, and a
+/// search for one may end.
+fn is_solid_fence(text: &[u8]) -> bool
+    ensures { result ≡ is_solid_fence text.now }
+{
+    if !text.starts_with(FENCE) {
+        return false;
+    }
+    let behind = &text[3..];
+    solid_len(behind) == behind.len()
+}
+
 /// The length of the info in the fence opening at the front.
 pub(crate) fn info_len(opening: &[u8]) -> usize
     requires { 3 ≤ length opening.now }
@@ -60,8 +72,12 @@ pub(crate) fn first_fence(part: &[u8]) -> Option<usize>
     ensures within { IfSome result (λ i. i + (info_len (drop i part.now) + 4) ≤ length part.now) }
 {
     for i in 0..part.len() {
-        if opens_fence(&part[i..]) {
+        let rest = &part[i..];
+        if opens_fence(rest) {
             return Some(i);
+        }
+        if is_solid_fence(rest) {
+            return None;
         }
     }
     None
