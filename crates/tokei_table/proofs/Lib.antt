@@ -1,5 +1,6 @@
 pub mod Characters
 pub mod Dots
+pub mod ExtendedRows
 pub mod Finds
 pub mod FirstPlaces
 pub mod KeyOrder

@@ -1,6 +1,7 @@
 pub mod Bytes
 pub mod Escaped
 pub mod Escapes
+pub mod Extended
 pub mod Families
 pub mod FirstOpener
 pub mod Layout

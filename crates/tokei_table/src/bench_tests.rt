@@ -378,3 +378,36 @@ fn searches(rt: HostRuntime) -> Result<(), Fail> {
     }
     Ok(())
 }
+
+#[test]
+fn extensions(rt: HostRuntime) -> Result<(), Fail> {
+    let Some(table) = bench(rt.alloc()) else {
+        return Ok(());
+    };
+    let header = vec![in rt.alloc(); String::from_str(rt.alloc(), "h")?]?;
+    let more = vec![in rt.alloc();
+        String::from_str(rt.alloc(), "h")?,
+        String::from_str(rt.alloc(), "rs")?,
+    ]?;
+    let (nested, plain) = (named(&table, "D"), named(&table, "C"));
+    let additions = [(nested, header.as_slice()), (plain, more.as_slice())];
+    if let Ok(extended) = table.extended(rt.alloc(), &additions) {
+        assert_eq!(rt;
+            key_of(&extended, LanguageType::from_file_extension(&extended, "h")),
+            "C"
+        );
+        assert_eq!(rt;
+            key_of(
+                &extended,
+                LanguageType::from_file_extension(&extended, "rs")
+            ),
+            "Rust"
+        );
+        assert_eq!(rt;
+            key_of(&extended, LanguageType::from_file_extension(&extended, "H")),
+            "none"
+        );
+        assert_eq!(rt; extended.len(), 20);
+    }
+    Ok(())
+}

@@ -5,6 +5,7 @@ pub mod error;
 mod escaped;
 mod escapes;
 pub mod ext;
+mod extend;
 pub mod family;
 pub mod language_type;
 pub mod laws;

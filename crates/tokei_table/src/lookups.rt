@@ -13,7 +13,7 @@ use crate::table::LanguageTable;
 use memchr::memrchr;
 use std::alloc::{AllocError, Global};
 
-fn holds(texts: &[String], text: &[u8]) -> bool
+pub(crate) fn holds(texts: &[String], text: &[u8]) -> bool
     ensures { result ≡ holds (tokens_of texts.now) text.now }
 {
     for known in texts {

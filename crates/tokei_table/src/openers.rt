@@ -25,7 +25,11 @@ fn add_starts(
     Ok(())
 }
 
-fn add_texts(alloc: Global, out: &mut Vec<String>, texts: &[String]) -> Result<(), AllocError>
+pub(crate) fn add_texts(
+    alloc: Global,
+    out: &mut Vec<String>,
+    texts: &[String],
+) -> Result<(), AllocError>
     ensures { OnOk result (tokens_of out.new.items ≡ tokens_of out.old.items ++ tokens_of texts.now) }
 {
     for text in texts {

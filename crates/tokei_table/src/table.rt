@@ -1,6 +1,7 @@
 //! The table of languages.
-ghost use Rattle.std.specs.Prelude.{◌≡◌, ◌≢◌, ◌<◌, ◌==◌, Err, Some, None, length, map, MatchResult, nat_lt, true};
+ghost use Rattle.std.specs.Prelude.{◌≡◌, ◌≢◌, ◌<◌, ◌==◌, Err, Some, None, length, map, IfOk, MatchResult, nat_lt, true};
 ghost use Rattle.serde_json.specs.View.{view};
+ghost use Rattle.tokei_table.specs.Extended.{addition_of, extended};
 ghost use Rattle.tokei_table.specs.Outcome.{data_of, outcome};
 ghost use Rattle.tokei_table.specs.WellFormed.{IsWellFormed, has_tokens};
 ghost use Rattle.tokei_table.specs.Sound.{IsSound};
@@ -10,13 +11,14 @@ ghost use Rattle.tokei_table.specs.declared.error.TableError.TheVariants.{NotJso
 
 use crate::error::TableError;
 use crate::escaped::is_escaped_table;
+use crate::extend::extended_rows;
 use crate::language_type::LanguageType;
 use crate::layout::has_layout;
 use crate::rows::rows_at;
 use crate::syntax::Syntax;
 use crate::well_formed::{all_have_fallbacks, all_have_tokens, names_total, names_twice};
 use serde_json::Value;
-use std::alloc::Global;
+use std::alloc::{AllocError, Global};
 use std::marker::Model;
 
 /// The table of languages, which contracts see as its rows, in the byte order of their keys.
@@ -123,6 +125,19 @@ impl LanguageTable {
         ensures sound { IsSound (row_of result.now) }
     {
         &self.rows[language.index()]
+    }
+
+    /// The table in which, in its order, each language gains those of the extensions listed for it that no language
+    /// has yet; a language may be listed more than once. It fails where memory runs out.
+    pub fn extended(
+        &self,
+        alloc: Global,
+        additions: &[(LanguageType, &[String])],
+    ) -> Result<LanguageTable, AllocError>
+        ensures { IfOk result (λ t. t ≡ extended self.now (map addition_of additions.now)) }
+    {
+        let rows = extended_rows(alloc, &self.rows, additions)?;
+        Ok(LanguageTable { rows })
     }
 }
 

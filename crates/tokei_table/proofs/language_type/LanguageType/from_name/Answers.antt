@@ -1,6 +1,5 @@
-use Rattle.std.proofs.Common.{◌∙◌, ap, map}
+use Rattle.std.proofs.Common.{◌∙◌, ap}
 use Rattle.tokei_table.specs.Lookups.{first_where, has_name}
-use Rattle.tokei_table.specs.RowOf.{row_of}
 use Rattle.tokei_table.proofs.OfTable.{first_within, same_within}
 use Rattle.tokei_table.proofs.language_type.LanguageType.from_name.Goals as goal
 
