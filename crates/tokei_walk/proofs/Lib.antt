@@ -3,5 +3,6 @@ pub mod Cuts
 pub mod Deciding
 pub mod Joining
 pub mod LineEnds
+pub mod Roots
 pub mod Spans
-pub mod Walking
+pub mod StackSteps

@@ -64,7 +64,7 @@ abbrev pub above_view : Above → Names × List ℕ
 above_view a = (names_of a.place, a.name)
 
 abbrev pub AboveTells : Option Tree → Names → Result (List Above) Fault → Type 0
-AboveTells o p r = (t : Tree) → o ≡ Some t → r ≢ Err Memory → MatchResult r (λ found. map above_view found ≡ reverse (folders_above [] p)) (λ e. ⊥)
+AboveTells o p r = (t : Tree) → o ≡ Some t → r ≢ Err Memory → MatchResult r (λ found. map above_view (reverse found) ≡ folders_above [] p) (λ e. ⊥)
 
 -- a fact of the told tree, where one is told
 abbrev pub Told : Option Tree → (Tree → Type 0) → Type 0

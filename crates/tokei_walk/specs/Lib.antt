@@ -10,3 +10,4 @@ pub mod Reading
 pub mod Segments
 pub mod Stacks
 pub mod Tree
+pub mod Walks

@@ -17,7 +17,7 @@ use Rattle.tokei_walk.specs.Tree.{Tree, names_of}
 
 -- the next entry is taken from those that are left
 abbrev pub Pops : Stack → Stack → Option Item → Type 0
-Pops old new None = (reverse old.left ≡ []) × (new ≡ old)
+Pops old new None = (old.left ≡ []) × (new ≡ old)
 Pops old new (Some item) = (reverse old.left ≡ item.entry ∷ reverse new.left) × (item.place ≡ joined old.place item.entry.name) × (new ≡ record old { left = new.left })
 
 -- the folder that holds the walked one is walked again
@@ -60,10 +60,10 @@ Stays old new = (new.context ≡ old.context) × (new.place ≡ old.place) × (n
 abbrev pub StepStays : Stack → Stack → Step → Type 0
 StepStays old new (Found k) = Unit {0}
 StepStays old new Passed = Stays old new × (length new.left < length old.left)
-StepStays old new Ended = Stays old new
+StepStays old new Ended = Stays old new × (new.left ≡ [])
 
 abbrev pub NoneStays : Stack → Stack → Option KeptFile → Type 0
-NoneStays old new None = Stays old new
+NoneStays old new None = Stays old new × (new.left ≡ [])
 NoneStays old new (Some k) = Unit {0}
 
 abbrev pub NoneIsSame : Stack → Stack → Option KeptFile → Type 0

@@ -17,3 +17,4 @@ pub mod reading;
 pub mod rules_files;
 pub mod stack;
 pub mod texts;
+pub mod walking;

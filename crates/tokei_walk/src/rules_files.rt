@@ -27,7 +27,7 @@ pub fn note(
 }
 
 /// What stands at a place, where anything does.
-fn kind_at<F: Folders>(folders: &mut F, place: &str) -> Result<Option<Kind>, AllocError>
+pub fn kind_at<F: Folders>(folders: &mut F, place: &str) -> Result<Option<Kind>, AllocError>
     ensures same { F.tree folders.new ≡ F.tree folders.old }
     ensures told { Told (F.tree folders.old) (λ t. IfOk result
         (λ k. k ≡ node_kind (node_at t (names_of place.now)))) }

@@ -129,7 +129,7 @@ pub enum Step {
 }
 
 /// What a folder holds, where it can be listed.
-fn listing<F: Folders>(folders: &mut F, place: &str) -> Result<Option<Listing>, AllocError>
+pub fn listing<F: Folders>(folders: &mut F, place: &str) -> Result<Option<Listing>, AllocError>
     ensures same { F.tree folders.new ≡ F.tree folders.old }
     ensures told { Told (F.tree folders.old) (λ t. IfOk result (λ o. MatchOption o
         (list_answer t (names_of place.now) ≡ Err RefusedFault)

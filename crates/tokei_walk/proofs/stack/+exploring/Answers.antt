@@ -1,4 +1,4 @@
-use Rattle.std.proofs.Common.{◌≡◌, ◌++◌, ◌≤◌, ◌<◌, ℕ, List, length, Bool, Option, Some, None, Ok, Err, sym, ap, ◌∙◌, arith, subst}
+use Rattle.std.proofs.Common.{◌≡◌, ◌++◌, ◌≤◌, ◌<◌, ℕ, List, length, reverse, Bool, Option, Some, None, Ok, Err, sym, ap, ◌∙◌, arith, subst}
 use Rattle.std.specs.Bool.{MatchBool}
 use Rattle.tokei_walk.specs.declared.fs.Fault.TheVariants.{Refused}
 use Rattle.tokei_walk.specs.declared.kept.KeptFile.{KeptFile}
@@ -7,14 +7,14 @@ use Rattle.tokei_walk.specs.Answers.{list_answer}
 use Rattle.tokei_walk.specs.Descent.{of_stack}
 use Rattle.tokei_walk.specs.Stacks.{Pops, EntersTold, VisitTells, ExploreTells, NoneIsSame, NoneStays}
 use Rattle.tokei_walk.specs.Tree.{names_of}
-use Rattle.tokei_walk.proofs.Walking.{with_context, forgotten_stack, refused_stack, top_ends, tells_other, file_told, tells_folder_some, tells_folder_none, visit_deep, visit_refused, visit_entered, stack_entered, visit_left}
+use Rattle.tokei_walk.proofs.StackSteps.{with_context, forgotten_stack, refused_stack, top_ends, tells_other, file_told, tells_folder_some, tells_folder_none, visit_deep, visit_refused, visit_entered, stack_entered, visit_left}
 use Rattle.tokei_walk.proofs.stack.+exploring.Goals as goal
 
 pub meet_next-returns-in-None-clause-told : goal.meet_next-returns-in-None-clause-told
 meet_next-returns-in-None-clause-told g t c = λ t' e.
     let s = c.args.stack.now in let x = c.args.settings.now in
     let pops = subst (λ (o : Option Item). Pops s c.next_item.new.stack o) c.in-None.is c.in_ok-next_item.ensures in
-    top_ends x.excludes x.rules t' s pops.0
+    top_ends x.excludes x.rules t' s (ap reverse pops.0)
 
 pub meet_next-returns-in-Other-clause-told : goal.meet_next-returns-in-Other-clause-told
 meet_next-returns-in-Other-clause-told g t c = λ t' e.
@@ -80,7 +80,7 @@ pub visit-returns-clause-stays : goal.visit-returns-clause-stays
 visit-returns-clause-stays g t c =
     let s = c.args.stack.now in let u = c.enter.new.stack in
     let stays = subst (λ (o : Option KeptFile). NoneStays u c.explore.new.stack o) c.in-None.is c.in_ok-file.ensures.stays in
-    visit_left s u c.explore.new.stack c.leave.new.stack c.consider.new.context c.leave.result c.args.item.entry.name c.args.item.place c.in_ok-consider.ensures.context (c.in_ok-enter.ensures.entered c.if-not-branch.false) stays c.leave.ensures
+    visit_left s u c.explore.new.stack c.leave.new.stack c.consider.new.context c.leave.result c.args.item.entry.name c.args.item.place c.in_ok-consider.ensures.context (c.in_ok-enter.ensures.entered c.if-not-branch.false) stays.0 c.leave.ensures
 
 pub visit-returns-clause-told : goal.visit-returns-clause-told
 visit-returns-clause-told g t c = λ t' e.

@@ -1,4 +1,4 @@
-use Rattle.tokei_walk.proofs.Walking.{forgotten_stack}
+use Rattle.tokei_walk.proofs.StackSteps.{forgotten_stack}
 use Rattle.tokei_walk.proofs.stack.file_step.Goals as goal
 
 pub returns-then-dropped-clause-stays : goal.returns-then-dropped-clause-stays

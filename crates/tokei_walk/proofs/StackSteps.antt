@@ -1,5 +1,5 @@
 -- What a step of the walk leaves of the files to come.
-use Rattle.std.proofs.Common.{◌≡◌, ℕ, zero, suc, ◌+◌, ◌-◌, ◌<◌, ◌≤◌, List, [], ◌∷◌, ◌++◌, length, reverse, Bool, true, false, cond, Option, Some, None, Result, Ok, Err, refl, sym, ap, ap₂, ◌∙◌, arith, append_assoc, subst, IfOk, OnOk}
+use Rattle.std.proofs.Common.{◌≡◌, ℕ, zero, suc, ◌+◌, ◌-◌, ◌<◌, ◌≤◌, List, [], ◌∷◌, ◌++◌, length, reverse, Bool, true, false, cond, Option, Some, None, Result, Ok, Err, refl, sym, ap, ap₂, ◌∙◌, arith, append_assoc, append-nil, subst, IfOk, OnOk}
 use Rattle.std.specs.declared.alloc.AllocError.{AllocError}
 use Rattle.std.proofs.lemmas.List.{reverse-append, length-reverse, same_from_push, length-append}
 use Rattle.tokei_walk.specs.declared.fs.Entry.{Entry}
@@ -25,10 +25,10 @@ use Rattle.tokei_walk.specs.Stacks.{Pops, Leaves, Enters, EntersTold, of_folder,
 use Rattle.tokei_walk.specs.Tree.{Tree, names_of}
 use Rattle.tokei_walk.proofs.LineEnds.{without_last-push}
 
-abbrev context_of : List Level → List (List ℕ) → List (List ℕ) → Context
+abbrev pub context_of : List Level → List (List ℕ) → List (List ℕ) → Context
 context_of l n s = record { levels = l; names = n; shown = s }
 
-same_context : {l l' : List Level} {n n' s s' : List (List ℕ)} → l ≡ l' → n ≡ n' → s ≡ s' → context_of l n s ≡ context_of l' n' s'
+pub same_context : {l l' : List Level} {n n' s s' : List (List ℕ)} → l ≡ l' → n ≡ n' → s ≡ s' → context_of l n s ≡ context_of l' n' s'
 same_context a b c = λ i. context_of (a i) (b i) (c i)
 
 -- the stack with another context
@@ -175,3 +175,32 @@ refused_stack s u d e name same is took =
 pub file_told : (xs : List Pattern) (r : Rules) (t : Tree) (s u v : Stack) (item : Item) (q : Result Step AllocError) → Pops s u (Some item) → item.entry.kind ≡ File → OnOk q (v ≡ u) → IfOk q (λ st. st ≡ file_kept (drops xs r u.context item.entry.name false) item.place) → IfOk q (λ st. StepTells xs r t s v st)
 file_told xs r t s u v item (Ok st) h e same is = tells_file xs r t s u v item st h e same is
 file_told xs r t s u v item (Err x) h e same is = tt
+
+-- a root that is walked
+pub root_entered : (xs : List Pattern) (r : Rules) (t : Tree) (s : Stack) (c d : Context) (l : Level) (root : List ℕ) → list_answer t (names_of root) ≡ Ok (reverse s.left) → c ≡ d → l ≡ level_at t r (names_of root) → s.context ≡ with_level c l → s.place ≡ root → s.below ≡ [] → descend xs r t 257 d root ≡ of_stack xs r t s
+unfolding of_frames
+root_entered xs r t s c d l root entries is level context place below =
+    let at : with_level d (level_at t r (names_of root)) ≡ s.context = sym (context ∙ ap₂ with_level is level) in
+    let n : 256 ≡ 256 - length s.below = omega (arith, ap length below) in
+    let frames : of_frames xs r t (outer s.context) (reverse s.below) ≡ [] = ap (λ (fs : List Frame). of_frames xs r t (outer s.context) (reverse fs)) below in
+    listed xs r t 256 d root (reverse s.left) entries ∙ same_top xs r t (reverse s.left) n at (sym place) ∙ sym (ap (λ (q : List KeptFile). of_top xs r t s ++ q) frames ∙ append-nil (of_top xs r t s))
+
+-- an empty stack gives nothing
+pub empty_gives : (xs : List Pattern) (r : Rules) (t : Tree) (s : Stack) → s.left ≡ [] → s.below ≡ [] → of_stack xs r t s ≡ []
+unfolding of_frames
+empty_gives xs r t s left below =
+    ap₂ (λ (a b : List KeptFile). a ++ b) (top_ends xs r t s (ap reverse left)) (ap (λ (fs : List Frame). of_frames xs r t (outer s.context) (reverse fs)) below)
+
+-- a root that can't be listed leaves an empty stack
+pub root_unlisted : (xs : List Pattern) (r : Rules) (t : Tree) (s : Stack) (d : Context) (root : List ℕ) → list_answer t (names_of root) ≡ Err Refused → s.left ≡ [] → s.below ≡ [] → descend xs r t 257 d root ≡ of_stack xs r t s
+root_unlisted xs r t s d root refused left below = unlisted xs r t 257 d root refused ∙ sym (empty_gives xs r t s left below)
+
+-- where the walked folder gives nothing more, what holds it goes on
+pub left_gives : (xs : List Pattern) (r : Rules) (t : Tree) (s u : Stack) (b : Bool) → b ≡ true → of_top xs r t s ≡ [] → Leaves s u b → of_stack xs r t s ≡ of_stack xs r t u
+unfolding of_frames
+left_gives xs r t s u false e top h = absurd (cc)
+left_gives xs r t s u true e top h =
+    let f : Frame = record { place = u.place; left = u.left } in
+    let turned : reverse s.below ≡ f ∷ reverse u.below = ap reverse h.0 ∙ reverse-append u.below (f ∷ []) in
+    let size = ap (λ n. of_entries xs r (descend xs r t (256 - n)) u.context u.place (reverse u.left) ++ of_frames xs r t (outer u.context) (reverse u.below)) (length-reverse u.below) in
+    ap₂ (λ (a b : List KeptFile). a ++ b) top (ap₂ (λ (d : Context) (fs : List Frame). of_frames xs r t d fs) (sym h.1) turned) ∙ size

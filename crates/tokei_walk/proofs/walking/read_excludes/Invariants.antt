@@ -1,0 +1,6 @@
+use Rattle.std.proofs.Common.{◌≡◌, ◌++◌, drop}
+use Rattle.tokei_walk.specs.Walks.{excludes_of}
+use Rattle.tokei_walk.proofs.walking.read_excludes.Given as goal
+
+abbrev pub invariant-loop-text : goal.invariant-loop-text
+invariant-loop-text l = l.excludes ++ excludes_of (drop l.text-index l.texts) ≡ excludes_of l.texts

@@ -1,0 +1,64 @@
+-- The files that a walk still has to come.
+use Rattle.std.specs.Prelude.{◌≡◌, ℕ, List, [], ◌∷◌, ◌++◌, Bool, Option, Some, None, reverse, map, if◌then◌else◌, cond}
+use Rattle.std.specs.List.{flat_map}
+use Rattle.std.specs.Str.{chars}
+use Rattle.tokei_walk.specs.declared.kept.KeptFile.{KeptFile}
+use Rattle.tokei_walk.specs.declared.levels.Rules.{Rules}
+use Rattle.tokei_walk.specs.declared.levels.Level.{Level}
+use Rattle.tokei_walk.specs.declared.fs.Above.{Above}
+use Rattle.tokei_walk.specs.declared.patterns.Pattern.{Pattern}
+use Rattle.tokei_walk.specs.declared.stack.Stack.{Stack}
+use Rattle.tokei_walk.specs.declared.walking.Walk.{Walk}
+use Rattle.tokei_walk.specs.Answers.{above_view}
+use Rattle.tokei_walk.specs.Descent.{of_root, of_stack}
+use Rattle.tokei_walk.specs.IgnoreFiles.{patterns_in}
+use Rattle.tokei_walk.specs.Levels.{level_at}
+use Rattle.tokei_walk.specs.Patterns.{exclude_pattern}
+use Rattle.tokei_walk.specs.Tree.{Tree, Names}
+
+-- the files of roots, the last one first
+unfoldable pub of_roots : List Pattern → Rules → Tree → List (List ℕ) → List KeptFile
+of_roots excludes rules t roots = flat_map (of_root excludes rules t) (reverse roots)
+
+abbrev pub of_all : List Pattern → Rules → Tree → Stack → List (List ℕ) → List KeptFile
+of_all excludes rules t s roots = of_stack excludes rules t s ++ of_roots excludes rules t roots
+
+-- the list of files still to come in a tree; a walk that has failed has none
+unfoldable pub to_come : Tree → Walk → List KeptFile
+to_come t w = if w.failed then [] else of_all w.settings.excludes w.settings.rules t w.stack w.roots
+
+unfoldable pub has_failed : Walk → Bool
+has_failed w = w.failed
+
+-- the answer is the first file of those to come, and the rest is left; there is none where none is to come
+abbrev pub Advances : List KeptFile → List KeptFile → Option KeptFile → Type 0
+Advances old new None = old ≡ []
+Advances old new (Some k) = old ≡ k ∷ new
+
+-- what a descent through the roots meets, in their order
+unfoldable pub descended : List Pattern → Rules → Tree → List (List ℕ) → List KeptFile
+descended excludes rules t roots = flat_map (of_root excludes rules t) roots
+
+-- the pattern of an exclude, where it has one
+abbrev pub exclude_patterns : List ℕ → List Pattern
+exclude_patterns text = patterns_in (exclude_pattern (chars text))
+
+-- the patterns of the excludes
+unfoldable pub excludes_of : List (List ℕ) → List Pattern
+excludes_of texts = flat_map exclude_patterns texts
+
+-- in no tree is a file to come
+abbrev pub HasEnded : Walk → Type 0
+HasEnded w = (t : Tree) → to_come t w ≡ []
+
+-- the answer of a root that is begun: the first file of its own, and the rest is left
+abbrev pub RootGives : List KeptFile → List KeptFile → Option KeptFile → Type 0
+RootGives own left None = own ≡ left
+RootGives own left (Some k) = own ≡ k ∷ left
+
+-- the names of folders above from the top down, and their rules
+abbrev pub names_over : List Above → Names
+names_over found = map (λ a. a.1) (map above_view (reverse found))
+
+abbrev pub levels_over : Tree → Rules → List Above → List Level
+levels_over t rules found = map (λ a. level_at t rules a.0) (map above_view (reverse found))
