@@ -24,6 +24,7 @@ are_escaped_pairs d = true
 abbrev pub is_escaped_context : Data → Bool
 is_escaped_context d = absent_or is_escaped_value (get (codes "tag") d)
 
+-- So do those of the tag of each context in a list.
 abbrev pub are_escaped_contexts : Data → Bool
 are_escaped_contexts (array ds) = all_items is_escaped_context ds
 are_escaped_contexts d = true
@@ -55,9 +56,11 @@ has_escaped_traits d =
     && absent_or is_escaped_list (get (codes "important_syntax") d)
     && (not (is_html_kind (get (codes "kind") d)) || absent_or are_escaped_contexts (get (codes "contexts") d))
 
+-- All members of a language.
 abbrev pub is_escaped_language : Data → Bool
 is_escaped_language d = has_escaped_tokens d && has_escaped_finders d && has_escaped_traits d
 
+-- Each member of `languages`.
 abbrev pub are_escaped_languages : Members → Bool
 are_escaped_languages no_members = true
 are_escaped_languages (member k d ms) = is_escaped_language d && are_escaped_languages ms

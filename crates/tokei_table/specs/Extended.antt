@@ -31,9 +31,11 @@ extended_from place known additions (r ∷ rs) =
     with_extensions r (gained known (listed_for place additions))
     ∷ extended_from (place + 1) (known ++ gained known (listed_for place additions)) additions rs
 
+-- All extensions of a table, in its order.
 abbrev pub extensions_of : List Row → List (List ℕ)
 extensions_of [] = []
 extensions_of (r ∷ rs) = r.extensions ++ extensions_of rs
 
+-- The table in which the languages gain their additions.
 abbrev pub extended : List Row → List (ℕ × List (List ℕ)) → List Row
 extended rows additions = extended_from 0 (extensions_of rows) additions rows

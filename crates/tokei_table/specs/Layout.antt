@@ -14,12 +14,15 @@ abbrev pub stands_and : (Data → Bool) → Option Data → Bool
 stands_and test None = false
 stands_and test (Some d) = test d
 
+-- A text.
 abbrev pub is_text : Data → Bool
 is_text d = is_some (as_str d)
 
+-- `true` or `false`.
 abbrev pub is_truth_value : Data → Bool
 is_truth_value d = is_some (as_bool d)
 
+-- An object.
 abbrev pub is_object : Data → Bool
 is_object (object ms) = true
 is_object d = false
@@ -39,6 +42,7 @@ abbrev pub are_two_texts : Items → Bool
 are_two_texts (item d (item e no_items)) = is_text d && is_text e
 are_two_texts ds = false
 
+-- A list of exactly two texts.
 abbrev pub is_text_pair : Data → Bool
 is_text_pair (array ds) = are_two_texts ds
 is_text_pair d = false
@@ -96,6 +100,7 @@ abbrev pub are_languages : Members → Bool
 are_languages no_members = true
 are_languages (member k d ms) = is_language d && are_languages ms
 
+-- An object each of whose members is a language.
 abbrev pub is_object_of_languages : Data → Bool
 is_object_of_languages (object ms) = are_languages ms
 is_object_of_languages d = false

@@ -32,12 +32,15 @@ has_name word r = bytes_eq r.key word || bytes_eq r.name word
 abbrev pub has_name_in_any_case : List ℕ → Row → Bool
 has_name_in_any_case word r = bytes_eq (str_to_ascii_lowercase r.name) (str_to_ascii_lowercase word)
 
+-- The condition of `from_mime`: it is one of the MIME types.
 abbrev pub has_mime : List ℕ → Row → Bool
 has_mime mime r = holds r.mime mime
 
+-- The condition of `from_file_extension`: it is one of the extensions.
 abbrev pub has_extension : List ℕ → Row → Bool
 has_extension extension r = holds r.extensions extension
 
+-- The lowered name is one of the whole names.
 abbrev pub has_filename : List ℕ → Row → Bool
 has_filename name r = holds r.filenames name
 
@@ -45,14 +48,16 @@ has_filename name r = holds r.filenames name
 unfoldable pub ends_with_one : List (List ℕ) → List ℕ → Bool
 ends_with_one suffixes name = list_any (λ s. ends s name) suffixes
 
+-- A text of `path_suffixes` is a suffix of the lowered name.
 abbrev pub has_path_suffix : List ℕ → Row → Bool
 has_path_suffix name r = ends_with_one r.path_suffixes name
 
--- What stands behind the last dot.
+-- What stands behind the last dot, by whether the first byte is one and by what stands behind a later one.
 abbrev pub behind_dot : Bool → List ℕ → Option (List ℕ) → Option (List ℕ)
 behind_dot dot t (Some later) = Some later
 behind_dot dot t None = cond dot (Some t) None
 
+-- What stands behind the last dot of a text.
 abbrev pub behind_last_dot : List ℕ → Option (List ℕ)
 behind_last_dot [] = None
 behind_last_dot (b ∷ t) = behind_dot (b == 46) t (behind_last_dot t)
@@ -62,6 +67,7 @@ abbrev pub extension_of : List ℕ → Option (List ℕ)
 extension_of [] = None
 extension_of (b ∷ t) = behind_last_dot t
 
+-- By an extension, where there is one.
 abbrev pub from_extension : List Row → Option (List ℕ) → Option ℕ
 from_extension rows None = None
 from_extension rows (Some extension) = first_where (has_extension extension) rows

@@ -13,6 +13,7 @@ starts_of ps = map (λ p. p.opener) ps
 abbrev pub tag_start : List ℕ → List ℕ
 tag_start tag = codes "<" ++ tag
 
+-- Each tag with its bracket.
 abbrev pub tag_starts : List (List ℕ) → List (List ℕ)
 tag_starts tags = map tag_start tags
 

@@ -26,12 +26,14 @@ tested rows =
     else (if not (list_all (has_fallbacks rows) rows) then Err Fallback
     else Ok rows)))
 
+-- What becomes of a JSON value.
 unfoldable pub outcome_of_value : Data → Result (List Row) TableError
 outcome_of_value d =
     if not (has_layout d) then Err Layout
     else (if not (is_escaped_table (get (codes "languages") d)) then Err Escape
     else tested (rows_at (get (codes "languages") d)))
 
+-- What becomes of a text that may have no reading.
 abbrev pub outcome_of : Option Data → Result (List Row) TableError
 outcome_of None = Err NotJson
 outcome_of (Some d) = outcome_of_value d

@@ -7,22 +7,27 @@ use Rattle.tokei_table.specs.Escapes.{unescaped_text}
 use Rattle.tokei_table.specs.Layout.{is_html_kind}
 use Rattle.tokei_table.specs.Row.{Pair, Row}
 
+-- A text after escapes.
 abbrev pub text_of : Data → List ℕ
 text_of (string t) = unescaped_text t
 text_of d = []
 
+-- The text of a member, empty where it is left out.
 abbrev pub text_at : Option Data → List ℕ
 text_at None = []
 text_at (Some d) = text_of d
 
+-- The texts of a list, in its order.
 abbrev pub texts_of : Items → List (List ℕ)
 texts_of no_items = []
 texts_of (item d ds) = text_of d ∷ texts_of ds
 
+-- The list of texts of a member, empty where it is left out.
 abbrev pub texts_at : Option Data → List (List ℕ)
 texts_at (Some (array ds)) = texts_of ds
 texts_at d = []
 
+-- Two empty texts.
 abbrev pub no_pair : Pair
 no_pair = record { opener = []; closer = [] }
 
@@ -31,18 +36,22 @@ abbrev pub two_texts : Items → Pair
 two_texts (item d (item e no_items)) = record { opener = text_of d; closer = text_of e }
 two_texts ds = no_pair
 
+-- The two texts of a list.
 abbrev pub pair_in : Data → Pair
 pair_in (array ds) = two_texts ds
 pair_in d = no_pair
 
+-- The pairs of a list, in its order.
 abbrev pub pairs_in : Items → List Pair
 pairs_in no_items = []
 pairs_in (item d ds) = pair_in d ∷ pairs_in ds
 
+-- The list of pairs of a member, empty where it is left out.
 abbrev pub pairs_at : Option Data → List Pair
 pairs_at (Some (array ds)) = pairs_in ds
 pairs_at d = []
 
+-- The truth value of a member, false where it is left out.
 abbrev pub truth_at : Option Data → Bool
 truth_at (Some (boolean b)) = b
 truth_at d = false
@@ -87,6 +96,7 @@ row_in key d = record {
   contexts = tags_at (is_html_kind (get (codes "kind") d)) (get (codes "contexts") d);
 }
 
+-- A row for each member of `languages`, in the order of the keys.
 abbrev pub rows_in : Members → List Row
 rows_in no_members = []
 rows_in (member k d ms) = row_in k d ∷ rows_in ms

@@ -20,6 +20,7 @@ word_len (b ∷ t) = cond (is_blank b) 0 (suc (word_len t))
 abbrev pub first_word : List ℕ → List ℕ
 first_word t = take (word_len (trim_start t)) (trim_start t)
 
+-- What stands behind the first word.
 abbrev pub behind_word : List ℕ → List ℕ
 behind_word t = drop (word_len (trim_start t)) (trim_start t)
 
@@ -27,13 +28,16 @@ behind_word t = drop (word_len (trim_start t)) (trim_start t)
 unfoldable pub begins_with_one : List (List ℕ) → List ℕ → Bool
 begins_with_one beginnings program = list_any (λ e. begins e program) beginnings
 
+-- A text of `env` begins the name of the program.
 abbrev pub has_env : List ℕ → Row → Bool
 has_env program r = begins_with_one r.env program
 
+-- By the program that `#!/usr/bin/env` starts, where one is named.
 abbrev pub from_env : List Row → List ℕ → Option ℕ
 from_env rows [] = None
 from_env rows (b ∷ program) = first_where (has_env (b ∷ program)) rows
 
+-- The word is one of the shebangs.
 abbrev pub has_shebang : List ℕ → Row → Bool
 has_shebang word r = holds r.shebangs word
 
@@ -52,5 +56,6 @@ head_line head = take (line_len (take 128 head)) (take 128 head)
 abbrev pub from_line : List Row → List ℕ → Option ℕ
 from_line rows line = cond (is_utf8 line) (from_words rows (first_word line) (behind_word line)) None
 
+-- By the head of a file.
 abbrev pub from_shebang : List Row → List ℕ → Option ℕ
 from_shebang rows head = from_line rows (head_line head)

@@ -33,6 +33,7 @@ names_twice (r ∷ rs) = list_any (shares_name r) rs || names_twice rs
 abbrev pub is_total : Row → Bool
 is_total r = bytes_eq r.key (codes "Total") || bytes_eq r.name (codes "Total")
 
+-- Whether a row has that key.
 abbrev pub has_key : List Row → List ℕ → Bool
 has_key rs key = list_any (λ r. bytes_eq r.key key) rs
 
@@ -48,6 +49,8 @@ keys_of rs = map (λ r. r.key) rs
 abbrev pub IsInKeyOrder : List Row → Type 0
 IsInKeyOrder rs = IsStrictlySortedBy (slice_cmp nat_cmp) (keys_of rs)
 
+-- The keys ascend, all texts that a count looks for are tokens, no text names two languages, none is `Total`, and the
+-- languages are there on which children fall back.
 pub record IsWellFormed (rs : List Row) : Type 0 where
   pub ordered : IsInKeyOrder rs
   pub tokens : list_all has_tokens rs ≡ true

@@ -20,7 +20,7 @@ mod well_formed;
 
 pub use error::TableError;
 pub use ext::{
-    contains_slice, is_line_ending_whitespace, is_whitespace, trim,
+    contains_slice, is_blank_text, is_line_ending_whitespace, is_whitespace, trim,
     trim_first_and_last_line_of_whitespace, trim_start,
 };
 pub use family::Family;
