@@ -33,7 +33,7 @@ impl<'a> Capture<'a> {
     pub fn end(&self) -> usize
         ensures { result ≡ end_of self.now }
     {
-        self.start + self.text.len()
+        self.start + self.as_bytes().len()
     }
 
     /// The bytes: the text from `start` to `end`.
