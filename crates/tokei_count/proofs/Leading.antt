@@ -1,19 +1,21 @@
 -- How each choice leads on through a line.
-use Rattle.std.proofs.Common.{◌≡◌, ℕ, suc, zero, ◌+◌, ◌-◌, ◌<◌, ◌≤◌, ◌==◌, ◌⊎◌, inl, inr, Bool, true, false, not, ◌&&◌, cond, List, [], ◌∷◌, ◌++◌, length, take, drop, None, Some, refl, sym, ◌∙◌, ap, append_assoc, arith, take-add, length-drop}
+use Rattle.std.proofs.Common.{◌≡◌, ℕ, suc, zero, ◌+◌, ◌-◌, ◌<◌, ◌≤◌, ◌==◌, ◌⊎◌, inl, inr, Bool, true, false, not, ◌&&◌, cond, List, [], ◌∷◌, ◌++◌, length, take, drop, Option, None, Some, refl, sym, ◌∙◌, ap, append_assoc, arith, take-add, length-drop}
 use Rattle.std.proofs.lemmas.List.{append-nil, drop-drop}
 use Rattle.std.proofs.lemmas.Bool.Decides.{Decides-eqb}
+use Rattle.tokei_count.proofs.Children.{children-append, children-of_choice, children-closing}
 use Rattle.tokei_count.proofs.Cuts.{cut_choice, cut_closing, cut_newline}
 use Rattle.tokei_count.proofs.Fits.{IsLocal, FitsIn, IsClosed, choice_fits}
 use Rattle.tokei_count.proofs.Ahead.{marks_ahead-byte, marks_ahead-escape, marks_ahead-pass, marks_ahead-rest, marks_ahead-opener, marks_ahead-closer, marks_ahead-end}
 use Rattle.tokei_count.specs.Choice.{Choice, choice}
 use Rattle.tokei_count.specs.Choice.Choice.{closes, escapes, child_opens, opens, passes_over, begins_line_comment, takes_byte}
-use Rattle.tokei_count.specs.Derivation.{second, no_child}
-use Rattle.tokei_count.specs.Items.{Enclosure, enclosure, Mode}
+use Rattle.tokei_count.specs.Derivation.{second}
+use Rattle.tokei_count.specs.Items.{Block, Enclosure, enclosure, Mode}
 use Rattle.tokei_count.specs.Lines.{first_line, line_len}
 use Rattle.tokei_count.specs.Modes.{Mark, Chain, innermost, inside, of_choice, closing}
 use Rattle.tokei_count.specs.Modes.Mark.{byte_at}
 use Rattle.tokei_count.specs.Parts.{cut}
-use Rattle.tokei_count.specs.Progress.{marks_ahead, Leads}
+use Rattle.tokei_count.specs.PlainReading.{children}
+use Rattle.tokei_count.specs.Progress.{marks_ahead, Leads, OpensInLine}
 use Rattle.tokei_count.specs.declared.items.Kind.{Kind}
 use Rattle.tokei_table.specs.Row.{Row, Pair}
 use Rattle.tokei_table.specs.Sound.{no_newline, IsSound}
@@ -85,10 +87,10 @@ ends_part m e b t n true h = cc
 ends_part m e b t n false h = refl
 
 -- at a newline nothing but the byte fits
-pub newline_byte : (g : Row) (m : Mode) (u : List ℕ) → IsSound g → IsClosed m → choice g m None (10 ∷ u) ≡ takes_byte
-newline_byte g m u s t = by_choice (choice g m None (10 ∷ u)) (choice_fits g None m (10 ∷ u) s t)
+pub newline_byte : (g : Row) (o : Option Block) (m : Mode) (u : List ℕ) → IsSound g → IsClosed m → o ≡ None → choice g m o (10 ∷ u) ≡ takes_byte
+newline_byte g o m u s t e = by_choice (choice g m o (10 ∷ u)) (choice_fits g o m (10 ∷ u) s t)
   where
-    by_choice : (x : Choice) → FitsIn None m (10 ∷ u) x → x ≡ takes_byte
+    by_choice : (x : Choice) → FitsIn o m (10 ∷ u) x → x ≡ takes_byte
     by_choice closes h = absurd (omega (arith, h.some, h.fits))
     by_choice escapes h = absurd (omega arith)
     by_choice (child_opens k) h = cc
@@ -97,12 +99,12 @@ newline_byte g m u s t = by_choice (choice g m None (10 ∷ u)) (choice_fits g N
     by_choice begins_line_comment h = absurd (omega arith)
     by_choice takes_byte h = refl
 
-module _ (g : Row) (l : ℕ) where
+module _ (g : Row) (block : ℕ → List ℕ → Option Block) (l : ℕ) where
   abbrev Goes : Chain → ℕ → Chain → List ℕ → Type 0
-  Goes = Leads g no_child l
+  Goes = Leads g block l
 
   pub lead_none : (c : Chain) (t : List ℕ) → Goes c 0 c t
-  lead_none c t = record { within = omega arith; same = λ m s. ap (λ w. cut m w (innermost c) (marks_ahead g no_child l c t)) (sym (append-nil s)) }
+  lead_none c t = record { within = omega arith; same = λ m s. ap (λ w. cut m w (innermost c) (marks_ahead g block l c t)) (sym (append-nil s)); kids = refl }
 
   pub lead_on : (c d e : Chain) (n k : ℕ) (t : List ℕ) → Goes c n d t → Goes d k e (drop n t) → Goes c (n + k) e t
   lead_on c d e n k t h j =
@@ -111,40 +113,43 @@ module _ (g : Row) (l : ℕ) where
         within = omega (arith, h.within, j.within, left);
         same = λ m s.
             h.same m s ∙ j.same m (s ++ take n t)
-            ∙ ap (λ w. cut m w (innermost e) (marks_ahead g no_child l e (drop k (drop n t)))) (append_assoc s (take n t) (take k (drop n t)) ∙ ap (λ w. s ++ w) (sym (take-add n k t)))
-            ∙ ap (λ w. cut m (s ++ take (n + k) t) (innermost e) (marks_ahead g no_child l e w)) (drop-drop k n t);
+            ∙ ap (λ w. cut m w (innermost e) (marks_ahead g block l e (drop k (drop n t)))) (append_assoc s (take n t) (take k (drop n t)) ∙ ap (λ w. s ++ w) (sym (take-add n k t)))
+            ∙ ap (λ w. cut m (s ++ take (n + k) t) (innermost e) (marks_ahead g block l e w)) (drop-drop k n t);
+        kids = h.kids ∙ j.kids ∙ ap (λ w. children (marks_ahead g block l e w)) (drop-drop k n t);
       }
 
   module _ (c : Chain) (b : ℕ) (t : List ℕ) where
     abbrev Here : Choice → Type 0
-    Here x = choice g (innermost c) None (b ∷ t) ≡ x
+    Here x = choice g (innermost c) (block l (b ∷ t)) (b ∷ t) ≡ x
 
     -- what the choice takes, given what stands behind it
-    lead_local : (d : Chain) (p : List ℕ) (ms : List Mark) → IsLocal p (b ∷ t)
+    lead_local : (d : Chain) (p : List ℕ) (ms : List Mark) → IsLocal p (b ∷ t) → children ms ≡ []
         → ((m : Mode) (s : List ℕ) (w : List Mark) → cut m s (innermost c) (ms ++ w) ≡ cut m (s ++ p) (innermost d) w)
-        → marks_ahead g no_child l c (b ∷ t) ≡ ms ++ marks_ahead g no_child l d (drop (length p) (b ∷ t))
+        → marks_ahead g block l c (b ∷ t) ≡ ms ++ marks_ahead g block l d (drop (length p) (b ∷ t))
         → Goes c (length p) d (b ∷ t)
-    lead_local d p ms h f e = record {
+    lead_local d p ms h k f e = record {
       within = h.fits;
       same = λ m s.
-          ap (cut m s (innermost c)) e ∙ f m s (marks_ahead g no_child l d (drop (length p) (b ∷ t)))
-          ∙ ap (λ w. cut m (s ++ w) (innermost d) (marks_ahead g no_child l d (drop (length p) (b ∷ t)))) h.reads;
+          ap (cut m s (innermost c)) e ∙ f m s (marks_ahead g block l d (drop (length p) (b ∷ t)))
+          ∙ ap (λ w. cut m (s ++ w) (innermost d) (marks_ahead g block l d (drop (length p) (b ∷ t)))) h.reads;
+      kids = ap children e ∙ children-append ms (marks_ahead g block l d (drop (length p) (b ∷ t))) k;
     }
 
     pub lead_opener : (k : Kind) (p : Pair) → IsLocal p.opener (b ∷ t) → Here (opens k p) → Goes c (length p.opener) (enclosure k p ∷ c) (b ∷ t)
-    lead_opener k p h e = lead_local (enclosure k p ∷ c) p.opener (of_choice (enclosure k p ∷ c) p.opener) h
+    lead_opener k p h e = lead_local (enclosure k p ∷ c) p.opener (of_choice (enclosure k p ∷ c) p.opener) h (children-of_choice (enclosure k p ∷ c) p.opener)
         (λ m s w. cut_choice m s (innermost c) (enclosure k p ∷ c) p.opener w h.some h.one_line)
-        (marks_ahead-opener g no_child l c b t k p h.some e)
+        (marks_ahead-opener g block l c b t k p h.some e)
 
     pub lead_pass : (p : Pair) → IsLocal p.opener (b ∷ t) → Here (passes_over p) → Goes c (length p.opener) c (b ∷ t)
-    lead_pass p h e = lead_local c p.opener (of_choice c p.opener) h
+    lead_pass p h e = lead_local c p.opener (of_choice c p.opener) h (children-of_choice c p.opener)
         (λ m s w. cut_choice m s (innermost c) c p.opener w h.some h.one_line)
-        (marks_ahead-pass g no_child l c b t p h.some e)
+        (marks_ahead-pass g block l c b t p h.some e)
 
     pub lead_byte : 0 < line_len (b ∷ t) → Here takes_byte → Goes c 1 c (b ∷ t)
     lead_byte h e = record {
       within = h;
-      same = λ m s. ap (cut m s (innermost c)) (marks_ahead-byte g no_child l c b t e) ∙ cut_choice m s (innermost c) c (b ∷ []) (marks_ahead g no_child l c t) (omega arith) (one_line (b == 10) h);
+      same = λ m s. ap (cut m s (innermost c)) (marks_ahead-byte g block l c b t e) ∙ cut_choice m s (innermost c) c (b ∷ []) (marks_ahead g block l c t) (omega arith) (one_line (b == 10) h);
+      kids = ap children (marks_ahead-byte g block l c b t e);
     }
       where
         one_line : (x : Bool) → 0 < cond x 0 (suc (line_len t)) → (not x && true) ≡ true
@@ -152,7 +157,7 @@ module _ (g : Row) (l : ℕ) where
         one_line false h = refl
 
     pub lead_escape : 2 ≤ line_len (b ∷ t) → Here escapes → Goes c 2 c (b ∷ t)
-    lead_escape h e = two_bytes t h (marks_ahead-escape g no_child l c b t e)
+    lead_escape h e = two_bytes t h (marks_ahead-escape g block l c b t e)
       where
         two_lines : (x y : Bool) (k : ℕ) → 2 ≤ cond x 0 (suc (cond y 0 (suc k))) → (not x && (not y && true)) ≡ true
         two_lines true y k h = absurd (omega arith)
@@ -163,63 +168,84 @@ module _ (g : Row) (l : ℕ) where
         short true h = omega arith
         short false h = omega arith
 
-        two_bytes : (u : List ℕ) → 2 ≤ line_len (b ∷ u) → marks_ahead g no_child l c (b ∷ u) ≡ byte_at b true c ∷ byte_at (second u) false c ∷ marks_ahead g no_child l c (drop 1 u) → Goes c 2 c (b ∷ u)
+        two_bytes : (u : List ℕ) → 2 ≤ line_len (b ∷ u) → marks_ahead g block l c (b ∷ u) ≡ byte_at b true c ∷ byte_at (second u) false c ∷ marks_ahead g block l c (drop 1 u) → Goes c 2 c (b ∷ u)
         two_bytes [] h e = absurd (short (b == 10) h)
         two_bytes (b' ∷ u) h e = record {
           within = h;
-          same = λ m s. ap (cut m s (innermost c)) e ∙ cut_choice m s (innermost c) c (b ∷ b' ∷ []) (marks_ahead g no_child l c u) (omega arith) (two_lines (b == 10) (b' == 10) (line_len u) h);
+          same = λ m s. ap (cut m s (innermost c)) e ∙ cut_choice m s (innermost c) c (b ∷ b' ∷ []) (marks_ahead g block l c u) (omega arith) (two_lines (b == 10) (b' == 10) (line_len u) h);
+          kids = ap children e;
         }
 
   pub lead_closer : (h : Enclosure) (c : Chain) (b : ℕ) (t : List ℕ) → IsLocal h.closer (b ∷ t) → Here (h ∷ c) b t closes → Goes (h ∷ c) (length h.closer) c (b ∷ t)
-  lead_closer h c b t j e = lead_local (h ∷ c) b t c h.closer (closing (h ∷ c) c h.closer) j
+  lead_closer h c b t j e = lead_local (h ∷ c) b t c h.closer (closing (h ∷ c) c h.closer) j (children-closing (h ∷ c) c h.closer)
       (λ m s w. cut_closing m s (Some h) (h ∷ c) c h.closer w j.some j.one_line)
-      (marks_ahead-closer g no_child l h c b t e)
+      (marks_ahead-closer g block l h c b t e)
 
-  pub marks_ahead-newline : (c : Chain) (u : List ℕ) → IsSound g → IsClosed (innermost c) → marks_ahead g no_child l c (10 ∷ u) ≡ byte_at 10 true c ∷ marks_ahead g no_child l c u
-  marks_ahead-newline c u s t = marks_ahead-byte g no_child l c 10 u (newline_byte g (innermost c) u s t)
+  pub marks_ahead-newline : (c : Chain) (u : List ℕ) → IsSound g → OpensInLine block → IsClosed (innermost c) → marks_ahead g block l c (10 ∷ u) ≡ byte_at 10 true c ∷ marks_ahead g block l c u
+  marks_ahead-newline c u s o t = marks_ahead-byte g block l c 10 u (newline_byte g (block l (10 ∷ u)) (innermost c) u s t (o.none l u))
 
   -- a line comment leads to the line's end
-  pub lead_rest : (c : Chain) (b : ℕ) (t : List ℕ) → IsSound g → IsClosed (innermost c) → 0 < line_len (b ∷ t) → Here c b t begins_line_comment → Goes c (line_len (b ∷ t)) c (b ∷ t)
-  lead_rest c b t s k h e = record { within = omega arith; same = λ m w. by_end m w (line_split (b ∷ t)) }
+  pub lead_rest : (c : Chain) (b : ℕ) (t : List ℕ) → IsSound g → OpensInLine block → IsClosed (innermost c) → 0 < line_len (b ∷ t) → Here c b t begins_line_comment → Goes c (line_len (b ∷ t)) c (b ∷ t)
+  lead_rest c b t s o k h e = record { within = omega arith; same = λ m w. by_end m w (line_split (b ∷ t)); kids = kids_by (line_split (b ∷ t)) }
     where
       some_line : (x : Bool) (y : List ℕ) → 0 < length (cond x (b ∷ []) (b ∷ y))
       some_line true y = omega arith
       some_line false y = omega arith
 
-      all : marks_ahead g no_child l c (b ∷ t) ≡ of_choice c (first_line (b ∷ t)) ++ marks_ahead g no_child l c (drop (length (first_line (b ∷ t))) (b ∷ t))
-      all = marks_ahead-rest g no_child l c b t (some_line (b == 10) (first_line t)) e
+      all : marks_ahead g block l c (b ∷ t) ≡ of_choice c (first_line (b ∷ t)) ++ marks_ahead g block l c (drop (length (first_line (b ∷ t))) (b ∷ t))
+      all = marks_ahead-rest g block l c b t (some_line (b == 10) (first_line t)) e
 
       some_taken : 0 < length (take (line_len (b ∷ t)) (b ∷ t))
       some_taken = length-take_some (line_len (b ∷ t)) b t h
 
-      by_end : (m : Mode) (w : List ℕ) → Ends (b ∷ t) ⊎ Breaks (b ∷ t) → cut m w (innermost c) (marks_ahead g no_child l c (b ∷ t)) ≡ cut m (w ++ take (line_len (b ∷ t)) (b ∷ t)) (innermost c) (marks_ahead g no_child l c (drop (line_len (b ∷ t)) (b ∷ t)))
+      kids_behind : children (marks_ahead g block l c (b ∷ t)) ≡ children (marks_ahead g block l c (drop (length (first_line (b ∷ t))) (b ∷ t)))
+      kids_behind = ap children all ∙ children-append (of_choice c (first_line (b ∷ t))) (marks_ahead g block l c (drop (length (first_line (b ∷ t))) (b ∷ t))) (children-of_choice c (first_line (b ∷ t)))
+
+      by_end : (m : Mode) (w : List ℕ) → Ends (b ∷ t) ⊎ Breaks (b ∷ t) → cut m w (innermost c) (marks_ahead g block l c (b ∷ t)) ≡ cut m (w ++ take (line_len (b ∷ t)) (b ∷ t)) (innermost c) (marks_ahead g block l c (drop (line_len (b ∷ t)) (b ∷ t)))
       by_end m w (inl f) =
-          ap (cut m w (innermost c)) (all ∙ ap (λ x. of_choice c x ++ marks_ahead g no_child l c (drop (length (first_line (b ∷ t))) (b ∷ t))) f.line)
-          ∙ cut_choice m w (innermost c) c (take (line_len (b ∷ t)) (b ∷ t)) (marks_ahead g no_child l c (drop (length (first_line (b ∷ t))) (b ∷ t))) some_taken (line_is_one (b ∷ t))
-          ∙ ap (λ x. cut m (w ++ take (line_len (b ∷ t)) (b ∷ t)) (innermost c) (marks_ahead g no_child l c x)) (f.nothing ∙ sym f.left)
+          ap (cut m w (innermost c)) (all ∙ ap (λ x. of_choice c x ++ marks_ahead g block l c (drop (length (first_line (b ∷ t))) (b ∷ t))) f.line)
+          ∙ cut_choice m w (innermost c) c (take (line_len (b ∷ t)) (b ∷ t)) (marks_ahead g block l c (drop (length (first_line (b ∷ t))) (b ∷ t))) some_taken (line_is_one (b ∷ t))
+          ∙ ap (λ x. cut m (w ++ take (line_len (b ∷ t)) (b ∷ t)) (innermost c) (marks_ahead g block l c x)) (f.nothing ∙ sym f.left)
       by_end m w (inr f) =
           let n : ℕ = line_len (b ∷ t) in
           let r : List ℕ = drop (length (first_line (b ∷ t))) (b ∷ t) in
-          ap (cut m w (innermost c)) (all ∙ ap (λ x. of_choice c x ++ marks_ahead g no_child l c r) f.line
-          ∙ ap (λ x. x ++ marks_ahead g no_child l c r) (of_choice-append c (take n (b ∷ t)) (10 ∷ []) some_taken)
-          ∙ append_assoc (of_choice c (take n (b ∷ t))) (byte_at 10 false c ∷ []) (marks_ahead g no_child l c r))
-          ∙ cut_choice m w (innermost c) c (take n (b ∷ t)) (byte_at 10 false c ∷ marks_ahead g no_child l c r) some_taken (line_is_one (b ∷ t))
-          ∙ cut_newline m (w ++ take n (b ∷ t)) (innermost c) false c (marks_ahead g no_child l c r)
-          ∙ sym (cut_newline m (w ++ take n (b ∷ t)) (innermost c) true c (marks_ahead g no_child l c r))
-          ∙ ap (cut m (w ++ take n (b ∷ t)) (innermost c)) (sym (marks_ahead-newline c r s k) ∙ ap (marks_ahead g no_child l c) (sym f.left))
+          ap (cut m w (innermost c)) (all ∙ ap (λ x. of_choice c x ++ marks_ahead g block l c r) f.line
+          ∙ ap (λ x. x ++ marks_ahead g block l c r) (of_choice-append c (take n (b ∷ t)) (10 ∷ []) some_taken)
+          ∙ append_assoc (of_choice c (take n (b ∷ t))) (byte_at 10 false c ∷ []) (marks_ahead g block l c r))
+          ∙ cut_choice m w (innermost c) c (take n (b ∷ t)) (byte_at 10 false c ∷ marks_ahead g block l c r) some_taken (line_is_one (b ∷ t))
+          ∙ cut_newline m (w ++ take n (b ∷ t)) (innermost c) false c (marks_ahead g block l c r)
+          ∙ sym (cut_newline m (w ++ take n (b ∷ t)) (innermost c) true c (marks_ahead g block l c r))
+          ∙ ap (cut m (w ++ take n (b ∷ t)) (innermost c)) (sym (marks_ahead-newline c r s o k) ∙ ap (marks_ahead g block l c) (sym f.left))
+
+      kids_by : Ends (b ∷ t) ⊎ Breaks (b ∷ t) → children (marks_ahead g block l c (b ∷ t)) ≡ children (marks_ahead g block l c (drop (line_len (b ∷ t)) (b ∷ t)))
+      kids_by (inl f) = kids_behind ∙ ap (λ x. children (marks_ahead g block l c x)) (f.nothing ∙ sym f.left)
+      kids_by (inr f) =
+          let r : List ℕ = drop (length (first_line (b ∷ t))) (b ∷ t) in
+          kids_behind ∙ sym (ap children (marks_ahead-newline c r s o k)) ∙ ap (λ x. children (marks_ahead g block l c x)) (sym f.left)
 
   -- a line that is read through is a part
-  pub line_done : (c d : Chain) (b : ℕ) (t : List ℕ) → IsSound g → IsClosed (innermost d) → Goes c (line_len (b ∷ t)) d (b ∷ t)
-      → cut (innermost c) [] (innermost c) (marks_ahead g no_child l c (b ∷ t)) ≡ record { begun = innermost c; bytes = first_line (b ∷ t); ended = innermost d } ∷ cut (innermost d) [] (innermost d) (marks_ahead g no_child l d (drop (length (first_line (b ∷ t))) (b ∷ t)))
-  line_done c d b t s k h = h.same (innermost c) [] ∙ by_end (line_split (b ∷ t))
+  pub line_done : (c d : Chain) (b : ℕ) (t : List ℕ) → IsSound g → OpensInLine block → IsClosed (innermost d) → Goes c (line_len (b ∷ t)) d (b ∷ t)
+      → cut (innermost c) [] (innermost c) (marks_ahead g block l c (b ∷ t)) ≡ record { begun = innermost c; bytes = first_line (b ∷ t); ended = innermost d } ∷ cut (innermost d) [] (innermost d) (marks_ahead g block l d (drop (length (first_line (b ∷ t))) (b ∷ t)))
+  line_done c d b t s o k h = h.same (innermost c) [] ∙ by_end (line_split (b ∷ t))
     where
-      by_end : Ends (b ∷ t) ⊎ Breaks (b ∷ t) → cut (innermost c) (take (line_len (b ∷ t)) (b ∷ t)) (innermost d) (marks_ahead g no_child l d (drop (line_len (b ∷ t)) (b ∷ t))) ≡ record { begun = innermost c; bytes = first_line (b ∷ t); ended = innermost d } ∷ cut (innermost d) [] (innermost d) (marks_ahead g no_child l d (drop (length (first_line (b ∷ t))) (b ∷ t)))
+      by_end : Ends (b ∷ t) ⊎ Breaks (b ∷ t) → cut (innermost c) (take (line_len (b ∷ t)) (b ∷ t)) (innermost d) (marks_ahead g block l d (drop (line_len (b ∷ t)) (b ∷ t))) ≡ record { begun = innermost c; bytes = first_line (b ∷ t); ended = innermost d } ∷ cut (innermost d) [] (innermost d) (marks_ahead g block l d (drop (length (first_line (b ∷ t))) (b ∷ t)))
       by_end (inl f) =
-          rw (f.left, f.nothing, f.line, marks_ahead-end g no_child l d) (ends_part (innermost c) (innermost d) b t (line_len t) (b == 10) f.left)
+          rw (f.left, f.nothing, f.line, marks_ahead-end g block l d) (ends_part (innermost c) (innermost d) b t (line_len t) (b == 10) f.left)
       by_end (inr f) =
           let n : ℕ = line_len (b ∷ t) in
           let r : List ℕ = drop (length (first_line (b ∷ t))) (b ∷ t) in
-          ap (λ x. cut (innermost c) (take n (b ∷ t)) (innermost d) (marks_ahead g no_child l d x)) f.left
-          ∙ ap (cut (innermost c) (take n (b ∷ t)) (innermost d)) (marks_ahead-newline d r s k)
-          ∙ cut_newline (innermost c) (take n (b ∷ t)) (innermost d) true d (marks_ahead g no_child l d r)
-          ∙ ap (λ x. record { begun = innermost c; bytes = x; ended = innermost d } ∷ cut (innermost d) [] (innermost d) (marks_ahead g no_child l d r)) (sym f.line)
+          ap (λ x. cut (innermost c) (take n (b ∷ t)) (innermost d) (marks_ahead g block l d x)) f.left
+          ∙ ap (cut (innermost c) (take n (b ∷ t)) (innermost d)) (marks_ahead-newline d r s o k)
+          ∙ cut_newline (innermost c) (take n (b ∷ t)) (innermost d) true d (marks_ahead g block l d r)
+          ∙ ap (λ x. record { begun = innermost c; bytes = x; ended = innermost d } ∷ cut (innermost d) [] (innermost d) (marks_ahead g block l d r)) (sym f.line)
+
+  -- and its children are those behind it
+  pub line_kids : (c d : Chain) (b : ℕ) (t : List ℕ) → IsSound g → OpensInLine block → IsClosed (innermost d) → Goes c (line_len (b ∷ t)) d (b ∷ t)
+      → children (marks_ahead g block l c (b ∷ t)) ≡ children (marks_ahead g block l d (drop (length (first_line (b ∷ t))) (b ∷ t)))
+  line_kids c d b t s o k h = h.kids ∙ by_end (line_split (b ∷ t))
+    where
+      by_end : Ends (b ∷ t) ⊎ Breaks (b ∷ t) → children (marks_ahead g block l d (drop (line_len (b ∷ t)) (b ∷ t))) ≡ children (marks_ahead g block l d (drop (length (first_line (b ∷ t))) (b ∷ t)))
+      by_end (inl f) = ap (λ x. children (marks_ahead g block l d x)) (f.left ∙ sym f.nothing)
+      by_end (inr f) =
+          let r : List ℕ = drop (length (first_line (b ∷ t))) (b ∷ t) in
+          ap (λ x. children (marks_ahead g block l d x)) f.left ∙ ap children (marks_ahead-newline d r s o k)

@@ -8,3 +8,17 @@ pub mod Lines
 pub mod LineEnd
 pub mod Childless
 pub mod SpelledItems
+pub mod Children
+pub mod Cloning
+pub mod Adding
+pub mod PartFronts
+pub mod Blocks
+pub mod PartReading
+pub mod Fitting
+pub mod Utf8
+pub mod DocSizes
+pub mod PartWhole
+pub mod Pieces
+pub mod LineEnds
+pub mod TextReading
+pub mod KnownLanguages

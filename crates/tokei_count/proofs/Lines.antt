@@ -1,15 +1,15 @@
 -- A line that was walked is one part.
-use Rattle.std.proofs.Common.{◌≡◌, ℕ, suc, ◌+◌, ◌<◌, ◌≤◌, ◌==◌, Bool, true, false, cond, List, [], ◌∷◌, length, take, drop, refl, sym, ◌∙◌, ap, arith}
-use Rattle.tokei_count.proofs.Leading.{line_done}
+use Rattle.std.proofs.Common.{◌≡◌, ℕ, suc, ◌+◌, ◌<◌, ◌≤◌, ◌==◌, Bool, true, false, cond, List, [], ◌∷◌, length, take, drop, Option, refl, sym, ◌∙◌, ap, arith}
+use Rattle.tokei_count.proofs.Leading.{line_done, line_kids}
 use Rattle.tokei_count.proofs.Ahead.{marks_ahead-end}
 use Rattle.tokei_count.proofs.Stepping.{top_closed}
 use Rattle.tokei_count.specs.Class.{class_of}
-use Rattle.tokei_count.specs.Derivation.{no_child}
+use Rattle.tokei_count.specs.Items.{Block}
 use Rattle.tokei_count.specs.Lines.{first_line, line_len}
 use Rattle.tokei_count.specs.Modes.{Chain, innermost}
 use Rattle.tokei_count.specs.Parts.{cut}
-use Rattle.tokei_count.specs.PlainReading.{tally, one_of}
-use Rattle.tokei_count.specs.Progress.{marks_ahead, Leads, ReadsLine, left_of, IsClosable}
+use Rattle.tokei_count.specs.PlainReading.{tally, one_of, children}
+use Rattle.tokei_count.specs.Progress.{Leads, ReadsLine, OpensInLine, counts_left, children_left, IsClosable}
 use Rattle.tokei_count.specs.Statistics.{Counts, plus, no_lines}
 use Rattle.tokei_count.specs.declared.class.Class.{Class}
 use Rattle.tokei_table.specs.Row.{Row}
@@ -54,22 +54,27 @@ first_some b t = by_test (b == 10)
     by_test true = omega arith
     by_test false = omega arith
 
-pub line_reads : (g : Row) (docs : Bool) (c d : Chain) (u : List ℕ) (class : Class) → IsSound g → IsClosable d → 0 < length u
-    → ((l : ℕ) → Leads g no_child l c (line_len u) d u)
-    → class ≡ class_of g docs (record { begun = innermost c; bytes = first_line u; ended = innermost d })
-    → ReadsLine g docs c (length (first_line u)) class d u
-line_reads g docs c d [] class s k h f e = absurd (omega arith)
-line_reads g docs c d (b ∷ t) class s k h f e = record {
-  some = first_some b t;
-  within = first_within (b ∷ t);
-  closable = k;
-  reads = λ l. ap (tally g docs) (line_done g l c d b t s (top_closed d k) (f l)) ∙ ap (λ w. plus (one_of w) (tally g docs (cut (innermost d) [] (innermost d) (marks_ahead g no_child l d (drop (length (first_line (b ∷ t))) (b ∷ t)))))) (sym e);
-}
+module _ (g : Row) (block : ℕ → List ℕ → Option Block) (l : ℕ) (docs : Bool) where
+  pub line_reads : (c d : Chain) (u : List ℕ) (class : Class) → IsSound g → OpensInLine block → IsClosable d → 0 < length u
+      → Leads g block l c (line_len u) d u
+      → class ≡ class_of g docs (record { begun = innermost c; bytes = first_line u; ended = innermost d })
+      → ReadsLine g block l docs c (length (first_line u)) class d u
+  line_reads c d [] class s o k h f e = absurd (omega arith)
+  line_reads c d (b ∷ t) class s o k h f e = record {
+    some = first_some b t;
+    within = first_within (b ∷ t);
+    closable = k;
+    counts = ap (tally g docs) (line_done g block l c d b t s o (top_closed d k) f) ∙ ap (λ w. plus (one_of w) (counts_left g block l docs d (drop (length (first_line (b ∷ t))) (b ∷ t)))) (sym e);
+    kids = line_kids g block l c d b t s o (top_closed d k) f;
+  }
 
--- nothing is left behind the text
-pub left_none : (g : Row) (docs : Bool) (l : ℕ) (c : Chain) → left_of g docs l c [] ≡ no_lines
-unfolding cut
-left_none g docs l c = ap (λ w. tally g docs (cut (innermost c) [] (innermost c) w)) (marks_ahead-end g no_child l c)
+  -- nothing is left behind the text
+  pub counts_left-none : (c : Chain) → counts_left g block l docs c [] ≡ no_lines
+  unfolding cut
+  counts_left-none c = ap (λ w. tally g docs (cut (innermost c) [] (innermost c) w)) (marks_ahead-end g block l c)
+
+  pub children_left-none : (c : Chain) → children_left g block l c [] ≡ []
+  children_left-none c = ap children (marks_ahead-end g block l c)
 
 pub plus-no_lines : (a : Counts) → plus a no_lines ≡ a
 plus-no_lines a =

@@ -4,17 +4,12 @@ use Rattle.std.specs.Str.{bytes_eq}
 use Rattle.std.specs.Prelude.{codes}
 use Rattle.tokei_table.specs.Row.{Row}
 use Rattle.tokei_count.specs.Items.{Block}
-use Rattle.tokei_count.specs.Derivation.{no_child}
 
 -- The row of each language; and by language, whole text and how many bytes were left behind the last child, the block
 -- that opens at the front of what is left of the text.
 pub record Languages : Type 0 where
   pub row : ℕ → Row
   pub block : ℕ → List ℕ → ℕ → List ℕ → Option Block
-
--- one language alone, in which no child opens
-abbrev pub alone : Row → Languages
-alone r = record { row = λ n. r; block = λ n t. no_child }
 
 -- notebooks are read as JSON, and not as lines
 abbrev pub is_notebook : Row → Bool

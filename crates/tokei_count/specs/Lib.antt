@@ -7,7 +7,16 @@ pub mod Modes
 pub mod Parts
 pub mod Class
 pub mod Statistics
+pub mod Overflow
 pub mod PlainReading
 pub mod Languages
 pub mod Progress
 pub mod Seen
+pub mod NamedLanguages
+pub mod MarkdownChildren
+pub mod HtmlChildren
+pub mod RustChildren
+pub mod LinguaFrancaChildren
+pub mod Openings
+pub mod ReadingOf
+pub mod Walked

@@ -1,5 +1,5 @@
 -- Parts: the text outside the children, cut behind each newline and at each child.
-use Rattle.std.specs.Prelude.{ℕ, ◌==◌, cond, List, [], ◌∷◌, ◌++◌, None}
+use Rattle.std.specs.Prelude.{ℕ, ◌-◌, ◌==◌, cond, List, [], ◌∷◌, ◌++◌, length, take, drop, None}
 use Rattle.tokei_count.specs.Items.{Mode}
 use Rattle.tokei_count.specs.Modes.{Mark, innermost}
 use Rattle.tokei_count.specs.Modes.Mark.{byte_at, child_at}
@@ -20,3 +20,13 @@ cut m s e (child_at k ∷ ms) = cut None [] None ms
 -- the parts of a whole text, which begins plain
 abbrev pub parts_of : List Mark → List Part
 parts_of ms = cut None [] None ms
+
+-- the bytes of s and of the text that stand behind the text's last newline; s stands before the text
+abbrev pub behind_newline : List ℕ → List ℕ → List ℕ
+behind_newline s [] = s
+behind_newline s (b ∷ t) = cond (b == 10) (behind_newline [] t) (behind_newline (s ++ b ∷ []) t)
+
+-- The bytes of the part under way before a place of the text, of which `rest` is left there, where l bytes were left
+-- behind the last child: those behind that child and behind the last newline.
+abbrev pub part_front : List ℕ → ℕ → List ℕ → List ℕ
+part_front text l rest = behind_newline [] (drop (length text - l) (take (length text - length rest) text))

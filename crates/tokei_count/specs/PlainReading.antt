@@ -1,5 +1,5 @@
 -- The plain reading: the statistics of a text, by its derivation alone.
-use Rattle.std.specs.Prelude.{ℕ, zero, suc, Bool, List, [], ◌∷◌, cond}
+use Rattle.std.specs.Prelude.{ℕ, zero, suc, Bool, List, [], ◌∷◌, cond, Option}
 use Rattle.tokei_table.specs.Row.{Row}
 use Rattle.tokei_count.specs.Items.{Block}
 use Rattle.tokei_count.specs.Derivation.{items_of, no_child}
@@ -45,15 +45,25 @@ gathered read bs (k ∷ ks) = gathered read (put bs k.language (joined (at bs k.
 abbrev pub read_by : Row → Bool → (Block → Statistics) → List Mark → Statistics
 read_by r docs read ms = node (plus (tally r docs (parts_of ms)) (shares (children ms))) (gathered read none (children ms))
 
--- The reading of a text in a language, with so many levels left. With none left no child opens; a child has one level
--- less than its parent. A notebook counts nothing yet.
+-- the blocks that can open in a text, with so many levels left: with none left no child opens
+abbrev pub blocks : Languages → ℕ → ℕ → List ℕ → (ℕ → List ℕ → Option Block)
+blocks ls zero language t = no_child
+blocks ls (suc levels) language t = ls.block language t
+
+-- The reading of a text in a language, with so many levels left; a child has one level less than its parent. A notebook
+-- counts nothing yet.
 unfoldable pub reading : Languages → Bool → ℕ → ℕ → List ℕ → Statistics
 reading ls docs zero language t =
     cond (is_notebook (ls.row language)) empty
-    (read_by (ls.row language) docs (λ k. empty) (marks [] (items_of (ls.row language) no_child t)))
+    (read_by (ls.row language) docs (λ k. empty) (marks [] (items_of (ls.row language) (blocks ls zero language t) t)))
 reading ls docs (suc levels) language t =
     cond (is_notebook (ls.row language)) empty
-    (read_by (ls.row language) docs (λ k. reading ls docs levels k.language k.contents) (marks [] (items_of (ls.row language) (ls.block language t) t)))
+    (read_by (ls.row language) docs (λ k. reading ls docs levels k.language k.contents) (marks [] (items_of (ls.row language) (blocks ls (suc levels) language t) t)))
+
+-- the reading of a child, in a text with so many levels left
+abbrev pub child_reading : Languages → Bool → ℕ → Block → Statistics
+child_reading ls docs zero k = empty
+child_reading ls docs (suc levels) k = reading ls docs levels k.language k.contents
 
 -- the outermost text has 50 levels left
 abbrev pub outermost_levels : ℕ

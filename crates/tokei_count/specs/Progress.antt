@@ -1,14 +1,16 @@
 -- How the reading of a text goes on from a place: what is left of it, given the items that enclose the place.
-use Rattle.std.specs.Prelude.{◌≡◌, ℕ, ◌<◌, ◌≤◌, Bool, true, cond, List, [], ◌∷◌, ◌++◌, take, drop, length, Option, ⊤}
+use Rattle.std.specs.Prelude.{◌≡◌, ℕ, ◌+◌, ◌-◌, ◌<◌, ◌≤◌, Bool, true, cond, List, [], ◌∷◌, ◌++◌, take, drop, length, Option, None, Some, ⊤}
 use Rattle.tokei_table.specs.Row.{Row}
 use Rattle.tokei_table.specs.Sound.{is_token}
 use Rattle.tokei_count.specs.Lines.{line_len}
 use Rattle.tokei_count.specs.Items.{Block}
-use Rattle.tokei_count.specs.Derivation.{Body, derive, no_child}
+use Rattle.tokei_count.specs.Choice.{choice}
+use Rattle.tokei_count.specs.Choice.Choice.{child_opens}
+use Rattle.tokei_count.specs.Derivation.{Body, derive}
 use Rattle.tokei_count.specs.Modes.{Mark, Chain, innermost, marks, closing}
-use Rattle.tokei_count.specs.Parts.{cut}
+use Rattle.tokei_count.specs.Parts.{cut, part_front}
 use Rattle.tokei_count.specs.Statistics.{Counts, plus}
-use Rattle.tokei_count.specs.PlainReading.{tally, one_of}
+use Rattle.tokei_count.specs.PlainReading.{tally, one_of, children}
 use Rattle.tokei_count.specs.declared.class.Class.{Class}
 
 module _ (r : Row) (block : ℕ → List ℕ → Option Block) where
@@ -25,26 +27,64 @@ module _ (r : Row) (block : ℕ → List ℕ → Option Block) where
   pub record Leads (l : ℕ) (c : Chain) (n : ℕ) (d : Chain) (t : List ℕ) : Type 0 where
     pub within : n ≤ line_len t
     pub same : (m : _) (s : List ℕ) → cut m s (innermost c) (marks_ahead l c t) ≡ cut m (s ++ take n t) (innermost d) (marks_ahead l d (drop n t))
+    pub kids : children (marks_ahead l c t) ≡ children (marks_ahead l d (drop n t))
+
+-- no child opens at a newline
+pub record OpensInLine (block : ℕ → List ℕ → Option Block) : Type 0 where
+  pub none : (l : ℕ) (u : List ℕ) → block l (10 ∷ u) ≡ None
 
 -- each closer of the chain is a token
 abbrev pub IsClosable : Chain → Type 0
 IsClosable [] = ⊤
 IsClosable (e ∷ c) = (is_token e.closer ≡ true) × IsClosable c
 
--- one choice leads on from c to d: n bytes, at least one, all of one line
-pub record Goes (r : Row) (c : Chain) (n : ℕ) (d : Chain) (t : List ℕ) : Type 0 where
-  pub leads : (l : ℕ) → Leads r no_child l c n d t
-  pub some : 0 < n
-  pub within : n ≤ line_len t
-  pub closable : IsClosable d
+module _ (r : Row) (block : ℕ → List ℕ → Option Block) (l : ℕ) where
+  -- one choice leads on from c to d: n bytes, at least one, all of one line
+  pub record Goes (c : Chain) (n : ℕ) (d : Chain) (t : List ℕ) : Type 0 where
+    pub leads : Leads r block l c n d t
+    pub some : 0 < n
+    pub within : n ≤ line_len t
+    pub closable : IsClosable d
 
--- what is left of the text, as it is counted from these items
-abbrev pub left_of : Row → Bool → ℕ → Chain → List ℕ → Counts
-left_of r docs l c t = tally r docs (cut (innermost c) [] (innermost c) (marks_ahead r no_child l c t))
+  -- the counts of the parts that are left, given these items
+  abbrev pub counts_left : Bool → Chain → List ℕ → Counts
+  counts_left docs c t = tally r docs (cut (innermost c) [] (innermost c) (marks_ahead r block l c t))
 
--- One line: n bytes. It is one part, of this class, and the text goes on from d.
-pub record ReadsLine (r : Row) (docs : Bool) (c : Chain) (n : ℕ) (class : Class) (d : Chain) (t : List ℕ) : Type 0 where
-  pub some : 0 < n
-  pub within : n ≤ length t
-  pub closable : IsClosable d
-  pub reads : (l : ℕ) → left_of r docs l c t ≡ plus (one_of class) (left_of r docs l d (drop n t))
+  -- the children that are left, given these items
+  abbrev pub children_left : Chain → List ℕ → List Block
+  children_left c t = children (marks_ahead r block l c t)
+
+  -- One line: n bytes. It is one part, of this class, and the text goes on from d.
+  pub record ReadsLine (docs : Bool) (c : Chain) (n : ℕ) (class : Class) (d : Chain) (t : List ℕ) : Type 0 where
+    pub some : 0 < n
+    pub within : n ≤ length t
+    pub closable : IsClosable d
+    pub counts : counts_left docs c t ≡ plus (one_of class) (counts_left docs d (drop n t))
+    pub kids : children_left c t ≡ children_left d (drop n t)
+
+  -- A part that a child breaks off: the child k opens behind n bytes, in plain text, and the text goes on behind it.
+  pub record ReadsChild (docs : Bool) (c : Chain) (n : ℕ) (k : Block) (d : Chain) (t : List ℕ) : Type 0 where
+    pub some : 0 < k.size
+    pub within : n + k.size ≤ length t
+    pub plain : d ≡ []
+    pub counts : counts_left docs c t ≡ tally r docs (cut None [] None (marks_ahead r block (length t - (n + k.size)) [] (drop (n + k.size) t)))
+    pub kids : children_left c t ≡ k ∷ children (marks_ahead r block (length t - (n + k.size)) [] (drop (n + k.size) t))
+
+  -- the child k opens at the front of the text, which is plain there
+  pub record OpensChild (c : Chain) (k : Block) (d : Chain) (t : List ℕ) : Type 0 where
+    pub before : c ≡ []
+    pub after : d ≡ []
+    pub chosen : choice r None (block l t) t ≡ child_opens k
+
+-- what the blocks of a text are held to: none opens at a newline; each takes a byte at least and no more than there are
+pub record FitsBlocks (block : ℕ → List ℕ → Option Block) : Type 0 where
+  pub in_line : OpensInLine block
+  pub some : (l : ℕ) (t : List ℕ) (k : Block) → block l t ≡ Some k → 0 < k.size
+  pub within : (l : ℕ) (t : List ℕ) (k : Block) → block l t ≡ Some k → k.size ≤ length t
+
+-- a part of the text that began at `start` is under way at the place `at`, where l bytes were left behind the last child
+pub record IsPart (text : List ℕ) (l start place : ℕ) : Type 0 where
+  pub low : start ≤ place
+  pub high : place ≤ length text
+  pub behind : length text - l ≤ start
+  pub front : part_front text l (drop place text) ≡ take (place - start) (drop start text)

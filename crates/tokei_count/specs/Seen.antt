@@ -1,26 +1,39 @@
 -- The code's values as the definitions see them.
-use Rattle.std.specs.Prelude.{Bool, false, Option, option_map, unwrap_or, List, map, reverse}
+use Rattle.std.specs.Prelude.{ℕ, Bool, cond, false, [], ◌∷◌, Option, option_map, unwrap_or, List, map, reverse}
+use Rattle.tokei_table.specs.Bytes.{trim}
 use Rattle.tokei_table.specs.RowOf.{pair_of}
-use Rattle.tokei_count.specs.Items.{Enclosure, Mode}
-use Rattle.tokei_count.specs.Choice.{Choice}
-use Rattle.tokei_count.specs.Choice.Choice.{closes, escapes, opens, passes_over, begins_line_comment, takes_byte}
+use Rattle.tokei_embedding.specs.DocComments.{doc_text}
+use Rattle.tokei_count.specs.Items.{Block, Enclosure, Mode}
+use Rattle.tokei_count.specs.Choice.{Choice, or_else}
+use Rattle.tokei_count.specs.Choice.Choice.{closes, escapes, child_opens, opens, passes_over, begins_line_comment, takes_byte}
 use Rattle.tokei_count.specs.Modes.{Chain}
-use Rattle.tokei_count.specs.Statistics.{Counts, Statistics}
+use Rattle.tokei_count.specs.Statistics.{Counts, Statistics, Blobs, own}
 use Rattle.tokei_count.specs.Statistics.Statistics.{node}
-use Rattle.tokei_count.specs.Statistics.Blobs.{none}
+use Rattle.tokei_count.specs.Statistics.Blobs.{none, blob}
 use Rattle.tokei_count.specs.declared.choice.Choice as CodeChoice
-use Rattle.tokei_count.specs.declared.choice.Choice.TheVariants.{Closer, Escape, Opener, PassedOpener, LineComment, Byte}
+use Rattle.tokei_count.specs.declared.choice.Choice.TheVariants.{Closer, Escape, Child, Opener, PassedOpener, LineComment, Byte}
 use Rattle.tokei_count.specs.declared.items.Enclosure as CodeEnclosure
-use Rattle.tokei_count.specs.declared.stats.CodeStats.{CodeStats}
+use Rattle.tokei_count.specs.declared.openings.Block as CodeBlock
+use Rattle.tokei_count.specs.declared.stats.CodeStats.{CodeStats, CodeStats-F, fold-CodeStats}
+use Rattle.tokei_count.specs.declared.stats.Sums.{Sums}
 use Rattle.tokei_count.specs.declared.config.CountConfig.{CountConfig}
 
-abbrev pub choice_of : CodeChoice.Choice → Choice
-choice_of Closer = closes
-choice_of Escape = escapes
-choice_of (Opener k p) = opens k (pair_of p.now)
-choice_of (PassedOpener p) = passes_over (pair_of p.now)
-choice_of LineComment = begins_line_comment
-choice_of Byte = takes_byte
+-- the text of a child: a doc comment's lines are read without their marks, joined and trimmed
+abbrev pub contents_of : CodeBlock.Block → List ℕ
+contents_of k = cond k.is_doc (trim (doc_text k.contents.now)) k.contents.now
+
+abbrev pub block_of : CodeBlock.Block → Block
+block_of k = record { language = k.language; contents = contents_of k; size = k.size; share = record { blanks = 0; code = k.code; comments = k.comments } }
+
+-- a choice where that child can open, if any
+abbrev pub choice_of : Option Block → CodeChoice.Choice → Choice
+choice_of block Closer = closes
+choice_of block Escape = escapes
+choice_of block Child = or_else block child_opens takes_byte
+choice_of block (Opener k p) = opens k (pair_of p.now)
+choice_of block (PassedOpener p) = passes_over (pair_of p.now)
+choice_of block LineComment = begins_line_comment
+choice_of block Byte = takes_byte
 
 abbrev pub enclosure_of : CodeEnclosure.Enclosure → Enclosure
 enclosure_of e = record { kind = e.kind; closer = e.closer.now }
@@ -32,11 +45,27 @@ mode_of o = option_map enclosure_of o
 abbrev pub chain_of : List CodeEnclosure.Enclosure → Chain
 chain_of es = map enclosure_of (reverse es)
 
-abbrev pub counts_of : CodeStats → Counts
-counts_of s = record { blanks = s.blanks; code = s.code; comments = s.comments }
+abbrev pub blobs_of : List (ℕ × Statistics) → Blobs
+blobs_of [] = none
+blobs_of (e ∷ es) = blob e.0 e.1 (blobs_of es)
+
+-- the statistics of a value, where those of its blobs are known
+abbrev pub stats_step : CodeStats-F Statistics → Statistics
+stats_step s = node (record { blanks = s.blanks; code = s.code; comments = s.comments }) (blobs_of s.blobs.entries)
 
 abbrev pub stats_of : CodeStats → Statistics
-stats_of s = node (counts_of s) none
+stats_of = fold-CodeStats Statistics stats_step
+
+-- the text's own counts
+abbrev pub counts_of : CodeStats → Counts
+counts_of s = own (stats_of s)
+
+-- each blob with its statistics
+abbrev pub entries_of : List (ℕ × CodeStats) → List (ℕ × Statistics)
+entries_of es = map (λ e. (e.0, stats_of e.1)) es
+
+abbrev pub sums_of : Sums → Counts
+sums_of s = record { blanks = s.blanks; code = s.code; comments = s.comments }
 
 -- whether doc strings are treated as comments; they aren't where nothing is said
 abbrev pub docs_of : CountConfig → Bool

@@ -1,8 +1,9 @@
 //! The choice at one place.
-ghost use Rattle.std.specs.Prelude.{◌≡◌, None, option_map};
+ghost use Rattle.std.specs.Prelude.{◌≡◌, ◌≢◌, true, Option, option_map, is_some};
 ghost use Rattle.std.specs.Option.{option_copied};
 ghost use Rattle.tokei_table.specs.Bytes.{begins};
 ghost use Rattle.tokei_table.specs.RowOf.{pair_of, pairs_of, tokens_of, row_of};
+ghost use Rattle.tokei_count.specs.Items.{Block};
 ghost use Rattle.tokei_count.specs.Choice.{opened, any_begins, is_escape, has_pair, met_in_comment, choice_in_string, choice_in_comment, choice_in_plain, choice};
 ghost use Rattle.tokei_count.specs.Seen.{choice_of, mode_of};
 
@@ -11,11 +12,13 @@ use tokei_table::Syntax;
 
 /// The choice at a place.
 #[derive(Clone, Copy)]
-pub enum Choice<'a> {
+pub(crate) enum Choice<'a> {
     /// The closer of the innermost item that encloses the place.
     Closer,
     /// A backslash and the byte behind it.
     Escape,
+    /// The opening of a child.
+    Child,
     /// The opener of a string literal or a comment.
     Opener(Kind, &'a (String, String)),
     /// An opener that stands for nothing inside a comment.
@@ -81,7 +84,8 @@ fn has_pair(pairs: &[(String, String)], pair: &(String, String)) -> bool
 
 /// The choice for a multi-line opener that is met inside a comment.
 fn met_in_comment<'a>(syntax: &Syntax, pair: &'a (String, String)) -> Choice<'a>
-    ensures { choice_of result ≡ met_in_comment (row_of syntax.now) (pair_of pair.now) }
+    ensures choice { (block : Option Block) → choice_of block result ≡ met_in_comment (row_of syntax.now) (pair_of pair.now) }
+    ensures no_child { result ≢ Choice.Child }
 {
     if syntax.nested || has_pair(&syntax.nested_comments, pair) {
         Choice::Opener(Kind::MultiLineComment, pair)
@@ -91,7 +95,8 @@ fn met_in_comment<'a>(syntax: &Syntax, pair: &'a (String, String)) -> Choice<'a>
 }
 
 fn in_string<'a>(syntax: &Syntax, verbatim: bool, closer: &[u8], text: &[u8]) -> Choice<'a>
-    ensures { choice_of result ≡ choice_in_string (row_of syntax.now) verbatim closer.now text.now }
+    ensures choice { (block : Option Block) → choice_of block result ≡ choice_in_string (row_of syntax.now) verbatim closer.now text.now }
+    ensures no_child { result ≢ Choice.Child }
 {
     if text.starts_with(closer) {
         Choice::Closer
@@ -103,7 +108,8 @@ fn in_string<'a>(syntax: &Syntax, verbatim: bool, closer: &[u8], text: &[u8]) ->
 }
 
 fn in_comment<'a>(syntax: &'a Syntax, closer: &[u8], text: &[u8]) -> Choice<'a>
-    ensures { choice_of result ≡ choice_in_comment (row_of syntax.now) closer.now text.now }
+    ensures choice { (block : Option Block) → choice_of block result ≡ choice_in_comment (row_of syntax.now) closer.now text.now }
+    ensures no_child { result ≢ Choice.Child }
 {
     if is_escape(syntax, text) {
         Choice::Escape
@@ -118,11 +124,14 @@ fn in_comment<'a>(syntax: &'a Syntax, closer: &[u8], text: &[u8]) -> Choice<'a>
     }
 }
 
-fn in_plain<'a>(syntax: &'a Syntax, text: &[u8]) -> Choice<'a>
-    ensures { choice_of result ≡ choice_in_plain (row_of syntax.now) None text.now }
+fn in_plain<'a>(syntax: &'a Syntax, opens: bool, text: &[u8]) -> Choice<'a>
+    ensures choice { (block : Option Block) → is_some block ≡ opens → choice_of block result ≡ choice_in_plain (row_of syntax.now) block text.now }
+    ensures child { result ≡ Choice.Child → opens ≡ true }
 {
     if is_escape(syntax, text) {
         Choice::Escape
+    } else if opens {
+        Choice::Child
     } else if let Some(pair) = opened(&syntax.doc_quotes, text) {
         Choice::Opener(Kind::DocString, pair)
     } else if let Some(pair) = opened(&syntax.verbatim_quotes, text) {
@@ -140,13 +149,19 @@ fn in_plain<'a>(syntax: &'a Syntax, text: &[u8]) -> Choice<'a>
     }
 }
 
-/// The first choice that fits at the front of the text, where no child can open.
+/// The first choice that fits at the front of the text; `opens` says whether a child can open there.
 #[tactic(auto, unfolding(crate::specs::Choice::choice))]
-pub fn choose<'a>(syntax: &'a Syntax, mode: Option<Enclosure<'a>>, text: &[u8]) -> Choice<'a>
-    ensures { choice_of result ≡ choice (row_of syntax.now) (mode_of mode.entry) None text.now }
+pub(crate) fn choose<'a>(
+    syntax: &'a Syntax,
+    mode: Option<Enclosure<'a>>,
+    opens: bool,
+    text: &[u8],
+) -> Choice<'a>
+    ensures choice { (block : Option Block) → is_some block ≡ opens → choice_of block result ≡ choice (row_of syntax.now) (mode_of mode.entry) block text.now }
+    ensures child { result ≡ Choice.Child → opens ≡ true }
 {
     match mode {
-        None => in_plain(syntax, text),
+        None => in_plain(syntax, opens, text),
         Some(inner) => match inner.kind {
             Kind::DocString | Kind::OrdinaryString => in_string(syntax, false, inner.closer, text),
             Kind::VerbatimString => in_string(syntax, true, inner.closer, text),

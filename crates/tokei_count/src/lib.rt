@@ -7,12 +7,16 @@
 mod choice;
 mod class;
 mod config;
+mod counter;
 mod items;
 pub mod laws;
+mod openings;
 mod plain_reading;
+mod reading;
 mod stats;
 mod walk;
 
 pub use config::CountConfig;
+pub use counter::Counter;
 pub use plain_reading::count_plain;
 pub use stats::{CodeStats, CountError};

@@ -1,61 +1,30 @@
-//! The plain reading of a text: each line is walked.
-ghost use Rattle.std.specs.Prelude.{◌≡◌, ◌<◌, [], IfOk, IfErr, length};
+//! The plain reading of a text: each part is walked.
+ghost use Rattle.std.specs.Prelude.{◌≡◌, ◌+◌, ◌-◌, ◌<◌, true, Some, is_some, drop, length, cond, IfOk, IsErrOf};
 ghost use Rattle.tokei_table.specs.RowOf.{row_of};
-ghost use Rattle.tokei_table.specs.Sound.{IsSound};
-ghost use Rattle.tokei_count.specs.Languages.{alone, is_notebook};
+ghost use Rattle.tokei_embedding.specs.DocComments.{doc_text};
+ghost use Rattle.tokei_count.specs.Languages.{is_notebook};
+ghost use Rattle.tokei_count.specs.Lines.{line_len};
+ghost use Rattle.tokei_count.specs.Openings.{languages_of};
+ghost use Rattle.tokei_count.specs.Overflow.{Fits};
 ghost use Rattle.tokei_count.specs.PlainReading.{reading, outermost_levels};
-ghost use Rattle.tokei_count.specs.Progress.{ReadsLine, IsClosable, left_of};
-ghost use Rattle.tokei_count.specs.Seen.{stats_of, counts_of, docs_of, chain_of};
+ghost use Rattle.tokei_count.specs.Progress.{IsPart};
+ghost use Rattle.tokei_count.specs.ReadingOf.{blocks_of};
+ghost use Rattle.tokei_count.specs.Seen.{block_of, stats_of, docs_of};
 
-use crate::class::{Class, class_of};
 use crate::config::CountConfig;
-use crate::items::Enclosure;
-use crate::stats::{CodeStats, CountError};
-use crate::walk::{innermost, line_len, walk};
+use crate::counter::Counter;
+use crate::openings::{Block, block_at};
+use crate::reading::Reading;
+use crate::stats::{CodeStats, CountError, Sums, add_blob};
+use crate::walk::{PartEnd, line_len, read_part};
 use std::alloc::{AllocError, Global};
-use tokei_table::Syntax;
+use std::collections::BTreeMap;
+use tokei_embedding::doc_text;
+use tokei_table::ext::trim;
+use tokei_table::{LanguageTable, LanguageType, Syntax};
 
-/// Reads the first line of the text: its class, and how many bytes it has.
-fn read_line<'a>(
-    syntax: &'a Syntax,
-    docs: bool,
-    stack: &mut Vec<Enclosure<'a>>,
-    text: &[u8],
-) -> Result<(Class, usize), AllocError>
-    requires sound { IsSound (row_of syntax.now) }
-    requires closable { IsClosable (chain_of stack.old.items) }
-    requires some { 0 < length text.now }
-    ensures { IfOk result (λ r. ReadsLine (row_of syntax.now) docs (chain_of stack.old.items) r.1 r.0 (chain_of stack.new.items) text.now) }
-{
-    let begun = innermost(stack);
-    let len = line_len(text);
-    walk(syntax, stack, text, len)?;
-    let end = if len < text.len() { len + 1 } else { len };
-    let line = &text[..end];
-    let class = class_of(syntax, docs, begun, line, innermost(stack));
-    Ok((class, end))
-}
-
-/// The counts of a text that is read as lines.
-fn read_lines(
-    alloc: Global,
-    syntax: &Syntax,
-    text: &[u8],
-    docs: bool,
-) -> Result<CodeStats, AllocError>
-    requires sound { IsSound (row_of syntax.now) }
-    ensures { IfOk result (λ s. counts_of s ≡ left_of (row_of syntax.now) docs (length text.now) [] text.now) }
-{
-    let mut stack = Vec::new(alloc);
-    let mut stats = CodeStats::new();
-    let mut rest = text;
-    while !rest.is_empty() {
-        let (class, len) = read_line(syntax, docs, &mut stack, rest)?;
-        stats.add_line(class);
-        rest = &rest[len..];
-    }
-    Ok(stats)
-}
+/// How deep children of the outermost text are read.
+const OUTERMOST_LEVELS: u32 = 50;
 
 /// Whether texts of the language are notebooks.
 fn is_notebook(syntax: &Syntax) -> bool
@@ -64,24 +33,109 @@ fn is_notebook(syntax: &Syntax) -> bool
     syntax.key.as_str() == "Jupyter"
 }
 
-/// Counts a text in a language by the plain reading, in which no line is skipped.
+/// The child that opens at the place `at` of a part that began at `start`, where `left` bytes were left behind the last
+/// child.
+fn child_at<'a>(reading: &Reading<'a>, left: usize, start: usize, at: usize) -> Block<'a>
+    requires known { reading.now.language < length reading.now.table.now }
+    requires part { IsPart reading.now.text.now left start at }
+    requires opens { is_some (blocks_of reading.now left (drop at reading.now.text.now)) ≡ true }
+    requires inside { 0 < line_len (drop at reading.now.text.now) }
+    ensures { blocks_of reading.now left (drop at reading.now.text.now) ≡ Some (block_of result) }
+{
+    let end = at + line_len(&reading.text[at..]);
+    match block_at(reading, left, start, at, end) {
+        Some(block) => block,
+        None => unreachable!(),
+    }
+}
+
+/// What the lines of a doc comment say, where the child's text stands in some.
+fn said(alloc: Global, child: &Block) -> Result<Vec<u8>, AllocError>
+    ensures { IfOk result (λ v. child.now.is_doc ≡ true → v.items ≡ doc_text child.now.contents.now) }
+{
+    if child.is_doc {
+        doc_text(alloc, child.contents)
+    } else {
+        Ok(Vec::new(alloc))
+    }
+}
+
+/// The statistics of a text, part by part; `docs` says whether doc strings are treated as comments. Its children are
+/// read with one level less.
+pub(crate) fn read_text(
+    alloc: Global,
+    table: &LanguageTable,
+    language: LanguageType,
+    text: &[u8],
+    docs: bool,
+    levels: u32,
+) -> Result<CodeStats, CountError>
+    requires { language < length table.now }
+    ensures reads { IfOk result (λ s. stats_of s ≡ reading (languages_of table.now) docs levels language text.now) }
+    ensures overflow { IsErrOf result CountError.Overflow → ¬ Fits (reading (languages_of table.now) docs levels language text.now) }
+{
+    if is_notebook(table.syntax(language)) {
+        return Ok(CodeStats::new(alloc));
+    }
+    let reading = Reading {
+        table,
+        language,
+        text,
+        docs,
+        levels,
+    };
+    let mut stack = Vec::new(alloc);
+    let mut own = Sums::new();
+    let mut blobs = BTreeMap::new(alloc);
+    let mut left = text.len();
+    let mut start = 0;
+    while start < text.len() {
+        match read_part(&reading, &mut stack, left, start)? {
+            PartEnd::Line(class, end) => {
+                own = own.plus(Sums::of_line(class))?;
+                start = end;
+            }
+            PartEnd::Broken(at) => {
+                let child = child_at(&reading, left, start, at);
+                own = own.plus(child.share())?;
+                let doc = said(alloc, &child)?;
+                let inner = if child.is_doc {
+                    trim(&doc)
+                } else {
+                    child.contents
+                };
+                let stats = read_text(alloc, table, child.language, inner, docs, levels - 1)?;
+                add_blob(&mut blobs, child.language, &stats)?;
+                start = at + child.size;
+                left = text.len() - start;
+            }
+        }
+    }
+    Ok(CodeStats::assembled(alloc, own, blobs))
+}
+
+/// Counts a text in a language of the counter's table by the plain reading, in which no line is skipped.
 ///
-/// `Overflow` where a count passes the greatest `usize`, which no text in memory reaches; `Memory` where a growth was
-/// refused. A text with the key `Jupyter` is a notebook, of which nothing is counted yet.
+/// `Overflow` comes only where a count of the reading, at some depth, passes the greatest `usize`; `Memory` only where a
+/// growth was refused. Children are read 50 levels deep; a notebook counts nothing yet.
 pub fn count_plain(
     alloc: Global,
-    syntax: &Syntax,
+    counter: &Counter,
+    language: LanguageType,
     text: &[u8],
     config: &CountConfig,
 ) -> Result<CodeStats, CountError>
-    requires { IsSound (row_of syntax.now) }
-    ensures reads { IfOk result (λ s. stats_of s ≡ reading (alone (row_of syntax.now)) (docs_of config.now) outermost_levels 0 text.now) }
-    ensures memory { IfErr result (λ e. e ≡ CountError.Memory) }
+    requires { language < length counter.now }
+    ensures reads { IfOk result (λ s. stats_of s ≡ reading (languages_of counter.now) (docs_of config.now) outermost_levels language text.now) }
+    ensures overflow { IsErrOf result CountError.Overflow → ¬ Fits (reading (languages_of counter.now) (docs_of config.now) outermost_levels language text.now) }
 {
-    if is_notebook(syntax) {
-        return Ok(CodeStats::new());
-    }
     let docs = config.treat_doc_strings_as_comments.unwrap_or(false);
-    let stats = read_lines(alloc, syntax, text, docs)?;
-    Ok(stats)
+    read_text(
+        alloc,
+        counter.table(),
+        language,
+        text,
+        docs,
+        OUTERMOST_LEVELS,
+    )
 }

@@ -1,21 +1,42 @@
-//! A line is walked with a stack of the items that enclose the place.
-ghost use Rattle.std.specs.Prelude.{◌≡◌, ℕ, ◌<◌, ◌≤◌, IfOk, OnOk, length};
-ghost use Rattle.tokei_table.specs.RowOf.{row_of};
+//! A part is walked with a stack of the items that enclose the place.
+ghost use Rattle.std.specs.Prelude.{◌≡◌, ◌+◌, ◌<◌, ◌≤◌, true, is_some, IfOk, drop, length};
 ghost use Rattle.tokei_table.specs.Sound.{IsSound};
+ghost use Rattle.tokei_count.specs.Choice.{choice};
 ghost use Rattle.tokei_count.specs.Lines.{line_len};
-ghost use Rattle.tokei_count.specs.Derivation.{no_child};
 ghost use Rattle.tokei_count.specs.Modes.{innermost};
-ghost use Rattle.tokei_count.specs.Progress.{Leads, Goes, IsClosable};
-ghost use Rattle.tokei_count.specs.Seen.{mode_of, chain_of};
+ghost use Rattle.tokei_count.specs.ReadingOf.{row_in, blocks_of};
+ghost use Rattle.tokei_count.specs.Progress.{IsPart, IsClosable};
+ghost use Rattle.tokei_count.specs.Seen.{choice_of, mode_of, chain_of};
+ghost use Rattle.tokei_count.specs.Walked.{Steps, Reads};
 
 use crate::choice::{Choice, choose};
+use crate::class::{Class, class_of};
 use crate::items::Enclosure;
+use crate::openings::block_at;
+use crate::reading::Reading;
 use memchr::memchr;
 use std::alloc::AllocError;
-use tokei_table::Syntax;
+
+/// What the choice at a place does.
+#[derive(Clone, Copy)]
+pub(crate) enum Step {
+    /// It takes so many bytes of its line.
+    On(usize),
+    /// A child opens.
+    Child,
+}
+
+/// What a part comes to.
+#[derive(Clone, Copy)]
+pub(crate) enum PartEnd {
+    /// It is counted, and ends at that place, behind its newline or with the text.
+    Line(Class, usize),
+    /// A child opens at that place and breaks it off.
+    Broken(usize),
+}
 
 /// The innermost of the items, which is the last of the stack.
-pub(crate) fn innermost<'a>(stack: &[Enclosure<'a>]) -> Option<Enclosure<'a>>
+fn innermost<'a>(stack: &[Enclosure<'a>]) -> Option<Enclosure<'a>>
     ensures { mode_of result ≡ innermost (chain_of stack.now) }
 {
     stack.last().copied()
@@ -32,57 +53,106 @@ pub(crate) fn line_len(text: &[u8]) -> usize
     }
 }
 
-/// Takes the choice at the front of the text, of whose line `left` bytes are left, and answers how many bytes it takes.
-fn step<'a>(
-    syntax: &'a Syntax,
-    stack: &mut Vec<Enclosure<'a>>,
-    text: &[u8],
+/// The choice at the place `at` of a part that began at `start`, whose line goes to `end`; `left` bytes were left behind
+/// the last child.
+fn choice_at<'a>(
+    reading: &Reading<'a>,
+    stack: &[Enclosure<'a>],
     left: usize,
-) -> Result<usize, AllocError>
-    requires sound { IsSound (row_of syntax.now) }
-    requires closable { IsClosable (chain_of stack.old.items) }
-    requires line { left ≡ line_len text.now }
-    requires some { 0 < left }
-    ensures { IfOk result (λ n. Goes (row_of syntax.now) (chain_of stack.old.items) n (chain_of stack.new.items) text.now) }
+    start: usize,
+    at: usize,
+    end: usize,
+) -> Choice<'a>
+    requires known { reading.now.language < length reading.now.table.now }
+    requires part { IsPart reading.now.text.now left start at }
+    requires line { end ≡ at + line_len (drop at reading.now.text.now) }
+    requires some { at < end }
+    ensures child { result ≡ Choice.Child → is_some (blocks_of reading.now left (drop at reading.now.text.now)) ≡ true }
+    ensures choice { choice_of (blocks_of reading.now left (drop at reading.now.text.now)) result ≡ choice (row_in reading.now) (innermost (chain_of stack.now)) (blocks_of reading.now left (drop at reading.now.text.now)) (drop at reading.now.text.now) }
 {
-    match choose(syntax, innermost(stack), text) {
+    let opens = block_at(reading, left, start, at, end).is_some();
+    choose(
+        reading.syntax(),
+        innermost(stack),
+        opens,
+        &reading.text[at..],
+    )
+}
+
+/// Takes the choice at a place, which `choice_at` makes.
+fn take_choice<'a>(
+    reading: &Reading<'a>,
+    stack: &mut Vec<Enclosure<'a>>,
+    left: usize,
+    start: usize,
+    at: usize,
+    end: usize,
+) -> Result<Step, AllocError>
+    requires sound { IsSound (row_in reading.now) }
+    requires closable { IsClosable (chain_of stack.old.items) }
+    requires known { reading.now.language < length reading.now.table.now }
+    requires part { IsPart reading.now.text.now left start at }
+    requires line { end ≡ at + line_len (drop at reading.now.text.now) }
+    requires some { at < end }
+    ensures { IfOk result (λ s. Steps (row_in reading.now) (blocks_of reading.now) left (chain_of stack.old.items) (chain_of stack.new.items) reading.now.text.now at s) }
+{
+    match choice_at(reading, stack, left, start, at, end) {
         Choice::Closer => match stack.pop() {
-            Some(enclosure) => Ok(enclosure.closer.len()),
+            Some(enclosure) => Ok(Step::On(enclosure.closer.len())),
             None => unreachable!(),
         },
-        Choice::Escape => Ok(2),
+        Choice::Escape => Ok(Step::On(2)),
+        Choice::Child => Ok(Step::Child),
         Choice::Opener(kind, pair) => {
             let opener = pair.0.as_bytes();
             let closer = pair.1.as_bytes();
             stack.push(Enclosure { kind, closer })?;
-            Ok(opener.len())
+            Ok(Step::On(opener.len()))
         }
         Choice::PassedOpener(pair) => {
             let opener = pair.0.as_bytes();
-            Ok(opener.len())
+            Ok(Step::On(opener.len()))
         }
-        Choice::LineComment => Ok(left),
-        Choice::Byte => Ok(1),
+        Choice::LineComment => Ok(Step::On(end - at)),
+        Choice::Byte => Ok(Step::On(1)),
     }
 }
 
-/// Takes the choices of the first `len` bytes of the text, which are its first line without the newline.
-pub(crate) fn walk<'a>(
-    syntax: &'a Syntax,
+/// Reads the part that begins at `start`, where `left` bytes were left behind the last child.
+pub(crate) fn read_part<'a>(
+    reading: &Reading<'a>,
     stack: &mut Vec<Enclosure<'a>>,
-    text: &[u8],
-    len: usize,
-) -> Result<(), AllocError>
-    requires sound { IsSound (row_of syntax.now) }
+    left: usize,
+    start: usize,
+) -> Result<PartEnd, AllocError>
+    requires sound { IsSound (row_in reading.now) }
     requires closable { IsClosable (chain_of stack.old.items) }
-    requires line { len ≡ line_len text.now }
-    requires fits { len ≤ length text.now }
-    ensures leads { OnOk result ((l : ℕ) → Leads (row_of syntax.now) no_child l (chain_of stack.old.items) len (chain_of stack.new.items) text.now) }
-    ensures closable { OnOk result (IsClosable (chain_of stack.new.items)) }
+    requires known { reading.now.language < length reading.now.table.now }
+    requires part { IsPart reading.now.text.now left start start }
+    requires some { start < length reading.now.text.now }
+    ensures { IfOk result (λ e. Reads (row_in reading.now) (blocks_of reading.now) left reading.now.docs (chain_of stack.old.items) (chain_of stack.new.items) start reading.now.text.now e) }
 {
-    let mut at = 0;
-    while at < len {
-        at += step(syntax, stack, &text[at..], len - at)?;
+    let begun = innermost(stack);
+    let end = start + line_len(&reading.text[start..]);
+    let mut at = start;
+    while at < end {
+        match take_choice(reading, stack, left, start, at, end)? {
+            Step::On(len) => at += len,
+            Step::Child => return Ok(PartEnd::Broken(at)),
+        }
     }
-    Ok(())
+    let stop = if end < reading.text.len() {
+        end + 1
+    } else {
+        end
+    };
+    let line = &reading.text[start..stop];
+    let class = class_of(
+        reading.syntax(),
+        reading.docs,
+        begun,
+        line,
+        innermost(stack),
+    );
+    Ok(PartEnd::Line(class, stop))
 }

@@ -1,0 +1,37 @@
+-- Where a line ends in its text.
+use Rattle.std.proofs.Common.{◌≡◌, ℕ, suc, zero, ◌+◌, ◌<◌, ◌≤◌, ◌⊎◌, inl, inr, List, length, drop, arith, length-drop}
+use Rattle.tokei_count.specs.Lines.{first_line, line_len}
+use Rattle.tokei_count.proofs.Lines.{length-whole, length-broken}
+use Rattle.tokei_count.proofs.PartFronts.{line_len_within}
+
+below_or : (a b : ℕ) → (a < b) ⊎ (b ≤ a)
+below_or a zero = inr (omega arith)
+below_or zero (suc b) = inl (omega arith)
+below_or (suc a) (suc b) = later (below_or a b)
+  where
+    later : (a < b) ⊎ (b ≤ a) → (suc a < suc b) ⊎ (suc b ≤ suc a)
+    later (inl h) = inl (omega arith)
+    later (inr h) = inr (omega arith)
+
+pub end_within : (text : List ℕ) (at end : ℕ) → at ≤ length text → end ≡ at + line_len (drop at text) → end ≤ length text
+end_within text at end h e = omega (arith, line_len_within (drop at text), length-drop at text)
+
+pub end_is : (text : List ℕ) (at end to : ℕ) → at ≤ length text → end ≡ at + line_len (drop at text) → (end < length text → to ≡ end + 1) → (end ≡ length text → to ≡ end) → to ≡ at + length (first_line (drop at text))
+end_is text at end to h e more last = by_case (below_or end (length text))
+  where
+    by_case : (end < length text) ⊎ (length text ≤ end) → to ≡ at + length (first_line (drop at text))
+    by_case (inl b) = let t : to ≡ end + 1 = more b in omega (arith, t, e, length-broken (drop at text) (omega (arith, e, b, length-drop at text)))
+    by_case (inr b) =
+        let w : end ≤ length text = end_within text at end h e in
+        let t : to ≡ end = last (omega (arith, b, w)) in
+        omega (arith, t, e, length-whole (drop at text) (omega (arith, e, b, length-drop at text)))
+
+pub end_behind : (text : List ℕ) (at end to : ℕ) → at ≤ length text → end ≡ at + line_len (drop at text) → at < end → (end < length text → to ≡ end + 1) → (end ≡ length text → to ≡ end) → at < to
+end_behind text at end to h e some more last = by_case (below_or end (length text))
+  where
+    by_case : (end < length text) ⊎ (length text ≤ end) → at < to
+    by_case (inl b) = let t : to ≡ end + 1 = more b in omega arith
+    by_case (inr b) =
+        let w : end ≤ length text = end_within text at end h e in
+        let t : to ≡ end = last (omega (arith, b, w)) in
+        omega arith

@@ -1,0 +1,61 @@
+-- What the walk of a part comes to.
+use Rattle.std.proofs.Common.{◌≡◌, ℕ, ◌+◌, ◌-◌, ◌<◌, ◌≤◌, Bool, List, [], ◌∷◌, length, take, drop, Option, None, Some, refl, sym, ◌∙◌, ap, subst, arith, length-drop}
+use Rattle.std.proofs.lemmas.List.{drop-drop}
+use Rattle.tokei_table.specs.Row.{Row}
+use Rattle.tokei_table.specs.Sound.{IsSound}
+use Rattle.tokei_count.specs.Items.{Block}
+use Rattle.tokei_count.specs.Choice.{choice}
+use Rattle.tokei_count.specs.Choice.Choice.{child_opens}
+use Rattle.tokei_count.specs.Modes.{Mark, Chain, innermost}
+use Rattle.tokei_count.specs.Modes.Mark.{child_at}
+use Rattle.tokei_count.specs.Parts.{cut}
+use Rattle.tokei_count.specs.PlainReading.{tally, children}
+use Rattle.tokei_count.specs.Progress.{marks_ahead, Leads, OpensChild, FitsBlocks, IsPart, ReadsChild}
+use Rattle.tokei_count.proofs.Ahead.{marks_ahead-child}
+use Rattle.tokei_count.proofs.Fits.{choice_fits}
+
+module _ (g : Row) (block : ℕ → List ℕ → Option Block) (fit : FitsBlocks block) (s : IsSound g) (l : ℕ) (docs : Bool) where
+  -- a child that is chosen is the block that opens there
+  pub block_opens : (k : Block) (c d : Chain) (u : List ℕ) → OpensChild g block l c k d u → block l u ≡ Some k
+  block_opens k c d u o = rw o.chosen at (choice_fits g (block l u) None u s tt)
+
+  marks-opening : (k : Block) (u : List ℕ) → choice g None (block l u) u ≡ child_opens k → 0 < k.size → k.size ≤ length u
+      → marks_ahead g block l [] u ≡ child_at k ∷ marks_ahead g block (length u - k.size) [] (drop k.size u)
+  marks-opening k [] e some fits = absurd (omega arith)
+  marks-opening k (b ∷ u) e some fits = marks_ahead-child g block l b u k some e
+
+  cut_child : (c : Chain) (w : List ℕ) (k : Block) (ms : List Mark) → tally g docs (cut (innermost c) w None (child_at k ∷ ms)) ≡ tally g docs (cut None [] None ms)
+  unfolding cut
+  cut_child c w k ms = refl
+
+  -- behind n bytes of its line a child opens
+  child_read : (c d e : Chain) (n : ℕ) (k : Block) (t : List ℕ) → n ≤ length t → Leads g block l c n e t → OpensChild g block l e k d (drop n t) → ReadsChild g block l docs c n k d t
+  child_read c d e n k t within h o =
+      let is_block : block l (drop n t) ≡ Some k = block_opens k e d (drop n t) o in
+      let some : 0 < k.size = fit.some l (drop n t) k is_block in
+      let fits : k.size ≤ length (drop n t) = fit.within l (drop n t) k is_block in
+      let left : length (drop n t) ≡ length t - n = length-drop n t in
+      let rest : drop k.size (drop n t) ≡ drop (n + k.size) t = drop-drop k.size n t in
+      let len : length (drop n t) - k.size ≡ length t - (n + k.size) = omega (arith, left) in
+      let after : List Mark = marks_ahead g block (length t - (n + k.size)) [] (drop (n + k.size) t) in
+      let opened : marks_ahead g block l [] (drop n t) ≡ child_at k ∷ after =
+      marks-opening k (drop n t) o.chosen some fits
+      ∙ ap (λ m. child_at k ∷ marks_ahead g block m [] (drop k.size (drop n t))) len
+      ∙ ap (λ w. child_at k ∷ marks_ahead g block (length t - (n + k.size)) [] w) rest in
+      let lead : Leads g block l c n [] t = subst (λ (f : Chain). Leads g block l c n f t) o.before h in
+      record {
+        some = some;
+        within = omega (arith, fits, left, within);
+        plain = o.after;
+        counts = ap (tally g docs) (lead.same (innermost c) []) ∙ ap (λ ms. tally g docs (cut (innermost c) (take n t) None ms)) opened ∙ cut_child c (take n t) k after;
+        kids = lead.kids ∙ ap children opened;
+      }
+
+  -- the same by places of the text
+  pub child_read_at : (c d e : Chain) (start at : ℕ) (k : Block) (text : List ℕ) → IsPart text l start at → Leads g block l c (at - start) e (drop start text) → OpensChild g block l e k d (drop at text)
+      → ReadsChild g block l docs c (at - start) k d (drop start text)
+  child_read_at c d e start at k text p h o =
+      let left : length (drop start text) ≡ length text - start = length-drop start text in
+      let place : start + (at - start) ≡ at = omega (arith, p.low) in
+      let there : drop (at - start) (drop start text) ≡ drop at text = drop-drop (at - start) start text ∙ ap (λ m. drop m text) place in
+      child_read c d e (at - start) k (drop start text) (omega (arith, left, p.low, p.high)) h (subst (OpensChild g block l e k d) (sym there) o)

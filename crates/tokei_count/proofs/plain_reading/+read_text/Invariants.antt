@@ -1,0 +1,26 @@
+use Rattle.std.proofs.Common.{◌≡◌, ◌-◌, ◌<◌, ◌≤◌, [], length, drop}
+use Rattle.tokei_table.specs.Lookups.{row_at}
+use Rattle.tokei_count.specs.Openings.{languages_of}
+use Rattle.tokei_count.specs.PlainReading.{blocks, shares, gathered, child_reading}
+use Rattle.tokei_count.specs.Progress.{counts_left, children_left, IsClosable, IsPart}
+use Rattle.tokei_count.specs.Seen.{chain_of, sums_of, blobs_of, entries_of}
+use Rattle.tokei_count.specs.Statistics.{plus}
+use Rattle.tokei_count.specs.Statistics.Blobs.{none}
+use Rattle.tokei_count.proofs.plain_reading.+read_text.Given as goal
+
+abbrev pub invariant-loop-start : goal.invariant-loop-start
+invariant-loop-start l = record {
+  closable : IsClosable (chain_of l.stack.items);
+  within : l.start ≤ length l.text;
+  part : l.start < length l.text → IsPart l.text l.left l.start l.start;
+  counts : plus (sums_of l.own) (plus (counts_left (row_at l.table l.fn.language) (blocks (languages_of l.table) l.levels l.fn.language l.text) l.left l.docs (chain_of l.stack.items) (drop l.start l.text)) (shares (children_left (row_at l.table l.fn.language) (blocks (languages_of l.table) l.levels l.fn.language l.text) l.left (chain_of l.stack.items) (drop l.start l.text))))
+      ≡ plus (counts_left (row_at l.table l.fn.language) (blocks (languages_of l.table) l.levels l.fn.language l.text) (length l.text) l.docs [] l.text) (shares (children_left (row_at l.table l.fn.language) (blocks (languages_of l.table) l.levels l.fn.language l.text) (length l.text) [] l.text));
+  kids : gathered (child_reading (languages_of l.table) l.docs l.levels) (blobs_of (entries_of l.blobs.entries)) (children_left (row_at l.table l.fn.language) (blocks (languages_of l.table) l.levels l.fn.language l.text) l.left (chain_of l.stack.items) (drop l.start l.text))
+      ≡ gathered (child_reading (languages_of l.table) l.docs l.levels) none (children_left (row_at l.table l.fn.language) (blocks (languages_of l.table) l.levels l.fn.language l.text) (length l.text) [] l.text);
+}
+
+abbrev pub decreases-loop-start : goal.decreases-loop-start
+decreases-loop-start l = length l.text - l.start
+
+abbrev pub decreases-read_text : goal.decreases-read_text
+decreases-read_text l = l.levels

@@ -1,0 +1,85 @@
+use Rattle.std.proofs.Common.{◌≡◌, ◌<◌, ◌∙◌, ap, sym, subst, ℕ, List, [], ◌-◌, take, drop, arith}
+use Rattle.std.proofs.lemmas.List.{append-nil}
+use Rattle.tokei_table.specs.RowOf.{pair_of}
+use Rattle.tokei_count.specs.Choice.{Choice, choice, or_else}
+use Rattle.tokei_count.specs.Choice.Choice.{closes, escapes, child_opens, opens, passes_over, begins_line_comment, takes_byte}
+use Rattle.tokei_count.specs.Lines.{line_len}
+use Rattle.tokei_count.specs.Modes.{innermost}
+use Rattle.tokei_count.specs.ReadingOf.{row_in, blocks_of}
+use Rattle.tokei_count.specs.Progress.{Goes, OpensInLine}
+use Rattle.tokei_count.specs.Seen.{choice_of, chain_of}
+use Rattle.tokei_count.specs.declared.items.Enclosure as Code
+use Rattle.tokei_count.specs.declared.reading.Reading.{Reading}
+use Rattle.tokei_count.proofs.Blocks.{blocks_fit}
+use Rattle.tokei_count.proofs.Stack.{closer_pops, opener_pushes, no_pop, child_opens-plain}
+use Rattle.tokei_count.proofs.Stepping.{goes_byte, goes_escape, goes_pass, goes_rest}
+use Rattle.tokei_count.proofs.walk.take_choice.Goals as goal
+
+-- the choice at the place, for a stack
+abbrev at_stack : Reading → ℕ → List ℕ → List Code.Enclosure → Choice
+at_stack r l u es = choice (row_in r) (innermost (chain_of es)) (blocks_of r l u) u
+
+pub returns-in-Byte : goal.returns-in-Byte
+returns-in-Byte c =
+    let u : List ℕ = drop c.args.at c.args.reading.now.text.now in
+    let here : at_stack c.args.reading.now c.args.left u c.args.stack.now.items ≡ takes_byte = sym (ap (at_stack c.args.reading.now c.args.left u) c.deref.ensures.value) ∙ sym c.choice_at.ensures.choice ∙ ap (choice_of (blocks_of c.args.reading.now c.args.left u)) c.in-Byte.is in
+    let some : 0 < line_len u = omega (arith, c.requires.some, c.requires.line) in
+    let calm : OpensInLine (blocks_of c.args.reading.now) = (blocks_fit c.args.reading.now).in_line in
+    goes_byte (row_in c.args.reading.now) (blocks_of c.args.reading.now) c.args.left c.requires.sound calm (chain_of c.args.stack.now.items) u c.requires.closable some here
+
+pub returns-in-Escape : goal.returns-in-Escape
+returns-in-Escape c =
+    let u : List ℕ = drop c.args.at c.args.reading.now.text.now in
+    let here : at_stack c.args.reading.now c.args.left u c.args.stack.now.items ≡ escapes = sym (ap (at_stack c.args.reading.now c.args.left u) c.deref.ensures.value) ∙ sym c.choice_at.ensures.choice ∙ ap (choice_of (blocks_of c.args.reading.now c.args.left u)) c.in-Escape.is in
+    let some : 0 < line_len u = omega (arith, c.requires.some, c.requires.line) in
+    let calm : OpensInLine (blocks_of c.args.reading.now) = (blocks_fit c.args.reading.now).in_line in
+    goes_escape (row_in c.args.reading.now) (blocks_of c.args.reading.now) c.args.left c.requires.sound calm (chain_of c.args.stack.now.items) u c.requires.closable some here
+
+pub returns-in-LineComment : goal.returns-in-LineComment
+returns-in-LineComment c =
+    let u : List ℕ = drop c.args.at c.args.reading.now.text.now in
+    let here : at_stack c.args.reading.now c.args.left u c.args.stack.now.items ≡ begins_line_comment = sym (ap (at_stack c.args.reading.now c.args.left u) c.deref.ensures.value) ∙ sym c.choice_at.ensures.choice ∙ ap (choice_of (blocks_of c.args.reading.now c.args.left u)) c.in-LineComment.is in
+    let some : 0 < line_len u = omega (arith, c.requires.some, c.requires.line) in
+    let calm : OpensInLine (blocks_of c.args.reading.now) = (blocks_fit c.args.reading.now).in_line in
+    let n : line_len u ≡ c.args.end - c.args.at = omega (arith, c.requires.line) in
+    subst (λ n. Goes (row_in c.args.reading.now) (blocks_of c.args.reading.now) c.args.left (chain_of c.args.stack.now.items) n (chain_of c.args.stack.now.items) u) n (goes_rest (row_in c.args.reading.now) (blocks_of c.args.reading.now) c.args.left c.requires.sound calm (chain_of c.args.stack.now.items) u c.requires.closable some here)
+
+pub returns-in-PassedOpener : goal.returns-in-PassedOpener
+returns-in-PassedOpener c =
+    let u : List ℕ = drop c.args.at c.args.reading.now.text.now in
+    let here : at_stack c.args.reading.now c.args.left u c.args.stack.now.items ≡ passes_over (pair_of c.in-PassedOpener.pair.now) = sym (ap (at_stack c.args.reading.now c.args.left u) c.deref.ensures.value) ∙ sym c.choice_at.ensures.choice ∙ ap (choice_of (blocks_of c.args.reading.now c.args.left u)) c.in-PassedOpener.is in
+    let some : 0 < line_len u = omega (arith, c.requires.some, c.requires.line) in
+    let calm : OpensInLine (blocks_of c.args.reading.now) = (blocks_fit c.args.reading.now).in_line in
+    rw c.as_bytes-opener-in-PassedOpener.ensures.value (goes_pass (row_in c.args.reading.now) (blocks_of c.args.reading.now) c.args.left c.requires.sound calm (chain_of c.args.stack.now.items) u c.requires.closable some (pair_of c.in-PassedOpener.pair.now) here)
+
+pub returns-in-Child : goal.returns-in-Child
+returns-in-Child c =
+    let u : List ℕ = drop c.args.at c.args.reading.now.text.now in
+    let here : at_stack c.args.reading.now c.args.left u c.args.stack.now.items ≡ or_else (blocks_of c.args.reading.now c.args.left u) child_opens takes_byte = sym (ap (at_stack c.args.reading.now c.args.left u) c.deref.ensures.value) ∙ sym c.choice_at.ensures.choice ∙ ap (choice_of (blocks_of c.args.reading.now c.args.left u)) c.in-Child.is in
+    child_opens-plain (row_in c.args.reading.now) (blocks_of c.args.reading.now) c.args.left c.args.stack.now.items u (c.choice_at.ensures.child c.in-Child.is) here
+
+pub returns-in_ok-push-in-Opener : goal.returns-in_ok-push-in-Opener
+returns-in_ok-push-in-Opener c =
+    let u : List ℕ = drop c.args.at c.args.reading.now.text.now in
+    let here : at_stack c.args.reading.now c.args.left u c.args.stack.now.items ≡ opens c.in-Opener.kind (pair_of c.in-Opener.pair.now) = sym (ap (at_stack c.args.reading.now c.args.left u) c.deref.ensures.value) ∙ sym c.choice_at.ensures.choice ∙ ap (choice_of (blocks_of c.args.reading.now c.args.left u)) c.in-Opener.is in
+    let some : 0 < line_len u = omega (arith, c.requires.some, c.requires.line) in
+    let calm : OpensInLine (blocks_of c.args.reading.now) = (blocks_fit c.args.reading.now).in_line in
+    rw c.as_bytes-opener.ensures.value (opener_pushes (row_in c.args.reading.now) (blocks_of c.args.reading.now) c.args.left c.requires.sound calm c.args.stack.now.items c.push.new.self.items (record { kind = c.in-Opener.kind; closer = c.as_bytes-closer.result }) c.in-Opener.kind (pair_of c.in-Opener.pair.now) u
+    c.in_ok-push-in-Opener.ensures.items (ap (λ w. record { kind = c.in-Opener.kind; closer = w }) c.as_bytes-closer.ensures.value) c.requires.closable some here)
+
+pub returns-in-Some : goal.returns-in-Some
+returns-in-Some c =
+    let u : List ℕ = drop c.args.at c.args.reading.now.text.now in
+    let here : at_stack c.args.reading.now c.args.left u c.args.stack.now.items ≡ closes = sym (ap (at_stack c.args.reading.now c.args.left u) c.deref.ensures.value) ∙ sym c.choice_at.ensures.choice ∙ ap (choice_of (blocks_of c.args.reading.now c.args.left u)) c.in-Closer.is in
+    let some : 0 < line_len u = omega (arith, c.requires.some, c.requires.line) in
+    let calm : OpensInLine (blocks_of c.args.reading.now) = (blocks_fit c.args.reading.now).in_line in
+    closer_pops (row_in c.args.reading.now) (blocks_of c.args.reading.now) c.args.left c.requires.sound calm c.args.stack.now.items c.pop.new.self.items c.in-Some.enclosure u c.in-Some.ensures.items c.requires.closable some here
+
+pub unreachable-requires : goal.unreachable-requires
+unreachable-requires c =
+    let u : List ℕ = drop c.args.at c.args.reading.now.text.now in
+    let here : at_stack c.args.reading.now c.args.left u c.args.stack.now.items ≡ closes = sym (ap (at_stack c.args.reading.now c.args.left u) c.deref.ensures.value) ∙ sym c.choice_at.ensures.choice ∙ ap (choice_of (blocks_of c.args.reading.now c.args.left u)) c.in-Closer.is in
+    let some : 0 < line_len u = omega (arith, c.requires.some, c.requires.line) in
+    let calm : OpensInLine (blocks_of c.args.reading.now) = (blocks_fit c.args.reading.now).in_line in
+    let empty : c.args.stack.now.items ≡ [] = c.in-None.ensures.items ∙ append-nil _ ∙ c.in-None.ensures.rest ∙ ap (λ n. take (n - 1) c.args.stack.now.items) c.in-None.ensures.cases.0 in
+    no_pop (row_in c.args.reading.now) (blocks_of c.args.reading.now) c.args.left c.requires.sound calm c.args.stack.now.items u empty here

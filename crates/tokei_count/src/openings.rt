@@ -1,0 +1,295 @@
+//! The children that open in a text.
+ghost use Rattle.std.specs.Prelude.{◌≡◌, [], ◌+◌, ◌-◌, ◌<◌, ◌≤◌, drop, take, length, option_map, unwrap_or};
+ghost use Rattle.tokei_table.specs.Row.{Row};
+ghost use Rattle.tokei_embedding.specs.Fences.{fence_block};
+ghost use Rattle.tokei_embedding.specs.Seen.{fence_seen, tag_seen, target_seen};
+ghost use Rattle.tokei_embedding.specs.Tags.{tag_block};
+ghost use Rattle.tokei_count.specs.Lines.{line_len, first_line};
+ghost use Rattle.tokei_count.specs.NamedLanguages.{by_word, by_mime, by_name, fallback};
+ghost use Rattle.tokei_count.specs.MarkdownChildren.{known_piece, markdown_block};
+ghost use Rattle.tokei_count.specs.HtmlChildren.{by_value, usual_key, element_language, element_at, html_block};
+ghost use Rattle.tokei_count.specs.RustChildren.{rust_block};
+ghost use Rattle.tokei_count.specs.LinguaFrancaChildren.{target_language, franca_block};
+ghost use Rattle.tokei_count.specs.Progress.{IsPart};
+ghost use Rattle.tokei_count.specs.ReadingOf.{blocks_of};
+ghost use Rattle.tokei_count.specs.Seen.{block_of};
+
+use crate::reading::Reading;
+use crate::stats::Sums;
+use tokei_embedding::{Tag, doc_at, fence_at, tag_at, target_at, target_of};
+use tokei_table::ext::{trim, trim_first_and_last_line_of_whitespace};
+use tokei_table::family::Family;
+use tokei_table::{LanguageTable, LanguageType};
+
+/// A child that opens at a place of a text.
+#[derive(Clone, Copy)]
+pub(crate) struct Block<'a> {
+    pub language: LanguageType,
+    /// The child's text, or the lines of a doc comment that say it.
+    pub contents: &'a [u8],
+    /// Whether the contents are lines of a doc comment, each with its mark.
+    pub is_doc: bool,
+    /// How many bytes of the parent's text the child takes.
+    pub size: usize,
+    /// How many lines of code and of comments the child adds to its parent.
+    pub code: usize,
+    pub comments: usize,
+}
+
+impl<'a> Block<'a> {
+    ghost use Rattle.tokei_count.specs.Seen.{block_of, sums_of};
+
+    /// The lines that the child adds to its parent.
+    pub fn share(&self) -> Sums
+        ensures { sums_of result ≡ (block_of self.now).share }
+    {
+        Sums {
+            blanks: 0,
+            code: self.code,
+            comments: self.comments,
+        }
+    }
+}
+
+fn by_word(table: &LanguageTable, word: &[u8]) -> Option<LanguageType>
+    ensures { result ≡ by_word table.now word.now }
+{
+    match std::str::from_utf8(word) {
+        Ok(word) => LanguageType::from_str(table, word),
+        Err(_) => None,
+    }
+}
+
+fn by_mime(table: &LanguageTable, mime: &[u8]) -> Option<LanguageType>
+    ensures { result ≡ by_mime table.now mime.now }
+{
+    match std::str::from_utf8(mime) {
+        Ok(mime) => LanguageType::from_mime(table, mime),
+        Err(_) => None,
+    }
+}
+
+fn by_name(table: &LanguageTable, name: &[u8]) -> Option<LanguageType>
+    ensures { result ≡ by_name table.now name.now }
+{
+    match std::str::from_utf8(name) {
+        Ok(name) => LanguageType::from_name(table, name),
+        Err(_) => None,
+    }
+}
+
+/// The language that a family falls back on.
+fn fallback(table: &LanguageTable, parent: LanguageType, key: &str) -> LanguageType
+    ensures { result ≡ fallback table.now parent key.now }
+{
+    LanguageType::from_name(table, key).unwrap_or(parent)
+}
+
+/// The language of the first piece between commas that names one.
+fn known_piece(table: &LanguageTable, info: &[u8]) -> Option<LanguageType>
+    ensures { result ≡ known_piece table.now [] info.now }
+{
+    let mut begun = 0;
+    for (i, byte) in info.iter().enumerate() {
+        if *byte == b',' {
+            let known = by_word(table, &info[begun..i]);
+            if known.is_some() {
+                return known;
+            }
+            begun = i + 1;
+        }
+    }
+    by_word(table, &info[begun..])
+}
+
+/// The child that a fence of Markdown opens at the place `at` of the part `text[start..to]`.
+fn markdown_block<'a>(
+    reading: &Reading<'a>,
+    start: usize,
+    at: usize,
+    to: usize,
+) -> Option<Block<'a>>
+    requires order { start ≤ at }
+    requires inside { at < to }
+    requires ends { to ≤ length reading.now.text.now }
+    ensures { option_map block_of result ≡ markdown_block reading.now.table.now (take (to - start) (drop start reading.now.text.now)) (at - start) (drop at reading.now.text.now) }
+{
+    let fence = fence_at(reading.text, start, at, to)?;
+    let language = known_piece(reading.table, fence.info)?;
+    Some(Block {
+        language,
+        contents: trim(fence.contents),
+        is_doc: false,
+        size: fence.size,
+        code: 0,
+        comments: if fence.closed { 2 } else { 1 },
+    })
+}
+
+fn by_value(table: &LanguageTable, tag: Tag, value: &[u8]) -> Option<LanguageType>
+    ensures { result ≡ by_value table.now tag value.now }
+{
+    match tag {
+        Tag::Script => by_mime(table, trim(value)),
+        Tag::Style | Tag::Template => by_word(table, trim(value)),
+    }
+}
+
+fn usual_key(tag: Tag) -> &'static str
+    ensures { result.now ≡ usual_key tag }
+{
+    match tag {
+        Tag::Script => "JavaScript",
+        Tag::Style => "Css",
+        Tag::Template => "Html",
+    }
+}
+
+fn element_language(
+    table: &LanguageTable,
+    parent: LanguageType,
+    tag: Tag,
+    value: Option<&[u8]>,
+) -> LanguageType
+    ensures { result ≡ element_language table.now parent tag (option_map (λ v. v.now) value.entry) }
+{
+    if let Some(value) = value {
+        if let Some(language) = by_value(table, tag, value) {
+            return language;
+        }
+    }
+    fallback(table, parent, usual_key(tag))
+}
+
+/// The child that an element with the tag opens at the place `at` of the part `text[start..to]`.
+fn element_at<'a>(
+    reading: &Reading<'a>,
+    tag: Tag,
+    start: usize,
+    at: usize,
+    to: usize,
+) -> Option<Block<'a>>
+    requires order { start ≤ at }
+    requires inside { at < to }
+    requires ends { to ≤ length reading.now.text.now }
+    ensures { option_map block_of result ≡ element_at reading.now.table.now reading.now.language tag (take (to - start) (drop start reading.now.text.now)) (at - start) (drop at reading.now.text.now) }
+{
+    let element = tag_at(tag, reading.text, start, at, to)?;
+    Some(Block {
+        language: element_language(reading.table, reading.language, tag, element.value),
+        contents: trim_first_and_last_line_of_whitespace(element.contents),
+        is_doc: false,
+        size: element.size,
+        code: 1,
+        comments: 0,
+    })
+}
+
+/// The child that an element opens at the place `at` of the part `text[start..to]`.
+fn html_block<'a>(reading: &Reading<'a>, start: usize, at: usize, to: usize) -> Option<Block<'a>>
+    requires order { start ≤ at }
+    requires inside { at < to }
+    requires ends { to ≤ length reading.now.text.now }
+    ensures { option_map block_of result ≡ html_block reading.now.table.now reading.now.language (take (to - start) (drop start reading.now.text.now)) (at - start) (drop at reading.now.text.now) }
+{
+    if let Some(block) = element_at(reading, Tag::Script, start, at, to) {
+        return Some(block);
+    }
+    if let Some(block) = element_at(reading, Tag::Style, start, at, to) {
+        return Some(block);
+    }
+    element_at(reading, Tag::Template, start, at, to)
+}
+
+/// The child that a doc comment opens at the place.
+fn rust_block<'a>(reading: &Reading<'a>, at: usize) -> Option<Block<'a>>
+    requires { at < length reading.now.text.now }
+    ensures { option_map block_of result ≡ rust_block reading.now.table.now reading.now.language (drop at reading.now.text.now) }
+{
+    let size = doc_at(reading.text, at)?;
+    let rest = &reading.text[at..];
+    Some(Block {
+        language: fallback(reading.table, reading.language, "Markdown"),
+        contents: &rest[..size],
+        is_doc: true,
+        size,
+        code: 0,
+        comments: 0,
+    })
+}
+
+fn target_language(
+    table: &LanguageTable,
+    parent: LanguageType,
+    target: Option<&[u8]>,
+) -> LanguageType
+    ensures { result ≡ target_language table.now parent (option_map (λ w. w.now) target.entry) }
+{
+    match target {
+        None => parent,
+        Some(word) => {
+            let name = if word == b"CCpp".as_slice() {
+                b"C".as_slice()
+            } else {
+                word
+            };
+            by_name(table, name).unwrap_or(parent)
+        }
+    }
+}
+
+/// The child that a block of the target language opens at the place `at` of the part `text[start..to]`.
+fn franca_block<'a>(reading: &Reading<'a>, start: usize, at: usize, to: usize) -> Option<Block<'a>>
+    requires order { start ≤ at }
+    requires inside { at < to }
+    requires ends { to ≤ length reading.now.text.now }
+    ensures { option_map block_of result ≡ franca_block reading.now.table.now reading.now.language reading.now.text.now (take (to - start) (drop start reading.now.text.now)) (at - start) (drop at reading.now.text.now) }
+{
+    let block = target_at(reading.text, start, at, to)?;
+    Some(Block {
+        language: target_language(reading.table, reading.language, target_of(reading.text)),
+        contents: trim_first_and_last_line_of_whitespace(block.contents),
+        is_doc: false,
+        size: block.size,
+        code: 0,
+        comments: 0,
+    })
+}
+
+/// Where the line ends that goes to `end`: behind its newline, or with the text.
+pub(crate) fn line_end(text: &[u8], end: usize) -> usize
+    requires { end ≤ length text.now }
+    ensures within { result ≤ length text.now }
+    ensures more { end < length text.now → result ≡ end + 1 }
+    ensures last { end ≡ length text.now → result ≡ end }
+{
+    if end < text.len() { end + 1 } else { end }
+}
+
+/// The child that opens at the place `at` of a part that began at `start`, where `left` bytes were left behind the last
+/// child and the line goes to `end`, before its newline.
+pub(crate) fn block_at<'a>(
+    reading: &Reading<'a>,
+    left: usize,
+    start: usize,
+    at: usize,
+    end: usize,
+) -> Option<Block<'a>>
+    requires known { reading.now.language < length reading.now.table.now }
+    requires part { IsPart reading.now.text.now left start at }
+    requires line { end ≡ at + line_len (drop at reading.now.text.now) }
+    requires some { at < end }
+    ensures { option_map block_of result ≡ blocks_of reading.now left (drop at reading.now.text.now) }
+{
+    if reading.levels == 0 {
+        return None;
+    }
+    let to = line_end(reading.text, end);
+    match Family::of_key(reading.syntax().key.as_str()) {
+        Family::Plain | Family::Jupyter => None,
+        Family::Markdown => markdown_block(reading, start, at, to),
+        Family::HtmlLike => html_block(reading, start, at, to),
+        Family::Rust => rust_block(reading, at),
+        Family::LinguaFranca => franca_block(reading, start, at, to),
+    }
+}
