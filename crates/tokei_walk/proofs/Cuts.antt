@@ -1,5 +1,5 @@
 -- A list that is cut at an element: what stands before it, and what is cut behind it.
-use Rattle.std.proofs.Common.{◌≡◌, ℕ, ◌+◌, ◌-◌, ◌<◌, ◌==◌, List, [], ◌∷◌, ◌++◌, length, take, drop, get_or, true, false, All, refl, sym, ap, ◌∙◌, arith, eq-eqb, subst, ◌≤◌}
+use Rattle.std.proofs.Common.{◌≡◌, ℕ, ◌+◌, ◌-◌, ◌<◌, ◌==◌, List, [], ◌∷◌, ◌++◌, length, take, drop, get_or, false, All, sym, ap, ◌∙◌, eq-eqb, subst, ◌≤◌}
 use Rattle.std.specs.List.{slice_split}
 use Rattle.std.proofs.lemmas.List.{take-append-drop, drop_more, take_rest, take_all}
 use Rattle.std.proofs.lemmas.List.Splits.{slice_split_at, slice_split_none}

@@ -1,8 +1,7 @@
 -- The names of a place that is joined.
-use Rattle.std.proofs.Common.{◌≡◌, ℕ, ◌==◌, ◌&&◌, codes, List, [], ◌∷◌, ◌++◌, Bool, true, false, cond, filter, Option, Some, None, is_some, Result, refl, sym, ap, ap₂, ◌∙◌, append-nil, append_assoc, subst, arith, IfOk}
+use Rattle.std.proofs.Common.{◌≡◌, ℕ, ◌&&◌, codes, List, [], ◌∷◌, ◌++◌, Bool, true, false, cond, filter, Option, Some, None, is_some, Result, refl, sym, ap, ◌∙◌, append-nil, append_assoc, subst, arith, IfOk}
 use Rattle.std.proofs.lemmas.Bool.Decides.{nat_tests}
 use Rattle.std.specs.List.{slice_split, onto_first}
-use Rattle.std.proofs.lemmas.List.Splits.{slice_split-cons_yes, slice_split-cons_no}
 use Rattle.tokei_walk.specs.Descent.{joined}
 use Rattle.tokei_walk.specs.Ends.{ends_in, without_last}
 use Rattle.tokei_walk.specs.Answers.{node_kind}
@@ -11,7 +10,6 @@ use Rattle.tokei_walk.specs.declared.levels.Level.{Level}
 use Rattle.tokei_walk.specs.declared.levels.Rules.{Rules}
 use Rattle.tokei_walk.specs.declared.patterns.Pattern.{Pattern}
 use Rattle.tokei_walk.specs.Tree.{Names, Node, Tree, node_at, is_name, is_slash, names_of}
-
 
 -- some part comes first
 record HasFirst (parts : List (List ℕ)) : Type 0 where

@@ -1,9 +1,8 @@
 -- What the roots of a walk give.
-use Rattle.std.proofs.Common.{◌≡◌, ℕ, List, [], ◌∷◌, ◌++◌, reverse, map, Bool, true, false, cond, Option, Some, None, Result, Ok, Err, refl, sym, ap, ap₂, ◌∙◌, append_assoc, append-nil, OnOk}
+use Rattle.std.proofs.Common.{◌≡◌, ℕ, List, [], ◌∷◌, ◌++◌, reverse, map, Bool, true, false, cond, Option, Some, None, Result, Ok, Err, refl, sym, ap, ap₂, ◌∙◌, append_assoc, OnOk}
 use Rattle.std.proofs.lemmas.List.{reverse-append, reverse-reverse}
 use Rattle.std.specs.List.{flat_map}
 use Rattle.tokei_walk.specs.declared.fs.Above.{Above}
-use Rattle.tokei_walk.specs.declared.fs.Kind.{Kind}
 use Rattle.tokei_walk.specs.declared.fs.Kind.TheVariants.{File, Folder, Other}
 use Rattle.tokei_walk.specs.declared.kept.KeptFile.{KeptFile}
 use Rattle.tokei_walk.specs.declared.levels.Context.{Context}
@@ -16,10 +15,10 @@ use Rattle.tokei_walk.specs.Answers.{above_view, node_kind}
 use Rattle.tokei_walk.specs.Descent.{kept, of_root, of_node, of_top, of_stack, root_context, levels_above}
 use Rattle.tokei_walk.specs.Fits.{is_empty}
 use Rattle.tokei_walk.specs.Levels.{level_at}
-use Rattle.tokei_walk.specs.Stacks.{Stays, Leaves}
+use Rattle.tokei_walk.specs.Stacks.{Stays}
 use Rattle.tokei_walk.specs.Tree.{Names, Node, file, folder, Tree, node_at, names_of, folders_above}
-use Rattle.tokei_walk.specs.Walks.{of_roots, of_all, to_come, has_failed, descended, Advances, names_over, levels_over}
-use Rattle.tokei_walk.proofs.StackSteps.{same_stack, empty_gives, left_gives, top_ends, same_context}
+use Rattle.tokei_walk.specs.Walks.{of_roots, of_all, to_come, descended, Advances, names_over, levels_over}
+use Rattle.tokei_walk.proofs.StackSteps.{same_stack, empty_gives, top_ends, same_context}
 
 pub always_ok : {T E A : Type 0} (q : Result T E) → A → OnOk q A
 always_ok (Ok x) a = a

@@ -1,5 +1,5 @@
 -- Once the signs up to a span fit somewhere, no later place needs a look.
-use Rattle.std.proofs.Common.{◌≡◌, ℕ, List, [], ◌∷◌, Bool, true, false, ◌||◌, ◌&&◌, cond, length, ◌<◌, ◌≤◌, refl, sym, ap, ◌∙◌, arith, rules}
+use Rattle.std.proofs.Common.{◌≡◌, List, [], ◌∷◌, Bool, true, false, ◌||◌, ◌&&◌, cond, length, ◌<◌, ◌≤◌, refl, sym, ap, ◌∙◌, arith}
 use Rattle.tokei_walk.specs.Fits.{fits, at_some_end, first_and_rest, is_empty}
 use Rattle.tokei_walk.specs.Reach.{Reach, fails, done, at_span, ended, onward, reach}
 

@@ -1,5 +1,5 @@
 -- The files that one descent through a told tree meets.
-use Rattle.std.specs.Prelude.{◌≡◌, ℕ, zero, suc, ◌-◌, List, [], ◌∷◌, ◌++◌, Bool, true, false, Option, Some, None, Result, Ok, Err, map, reverse, drop, length, if◌then◌else◌, cond}
+use Rattle.std.specs.Prelude.{ℕ, zero, suc, ◌-◌, List, [], ◌∷◌, ◌++◌, Bool, true, false, Option, Some, None, Result, Ok, Err, map, reverse, length, if◌then◌else◌, cond}
 use Rattle.std.specs.List.{flat_map}
 use Rattle.tokei_walk.specs.declared.fs.Kind.{Kind}
 use Rattle.tokei_walk.specs.declared.fs.Kind.TheVariants.{File, Folder, Other}

@@ -1,5 +1,5 @@
 -- The ends of a line of characters.
-use Rattle.std.specs.Prelude.{ℕ, ◌==◌, ◌&&◌, ◌++◌, List, [], ◌∷◌, Bool, true, false, not, length, nat_lt, if◌then◌else◌, cond}
+use Rattle.std.specs.Prelude.{ℕ, ◌==◌, ◌&&◌, ◌++◌, List, [], ◌∷◌, Bool, false, not, length, nat_lt, if◌then◌else◌}
 
 -- the first character is this one
 abbrev pub begins_with : ℕ → List ℕ → Bool

@@ -1,5 +1,5 @@
 -- The rules that a folder's ignore files give, and what the rules of folders inside one another decide.
-use Rattle.std.specs.Prelude.{ℕ, ◌==◌, ◌&&◌, List, [], ◌∷◌, ◌++◌, Bool, true, false, Option, Some, None, is_some, if◌then◌else◌, cond, codes}
+use Rattle.std.specs.Prelude.{ℕ, ◌&&◌, List, [], ◌∷◌, ◌++◌, Bool, true, false, Option, Some, None, is_some, if◌then◌else◌, cond, codes}
 use Rattle.std.specs.List.{list_any}
 use Rattle.tokei_walk.specs.declared.levels.Rules.{Rules}
 use Rattle.tokei_walk.specs.declared.levels.Level.{Level}

@@ -1,5 +1,5 @@
 -- The pattern of a line, and when it fits an entry.
-use Rattle.std.specs.Prelude.{ℕ, ◌==◌, ◌&&◌, ◌||◌, ◌++◌, List, [], ◌∷◌, Bool, true, false, not, Option, Some, None, Result, Ok, Err, if◌then◌else◌, cond}
+use Rattle.std.specs.Prelude.{ℕ, ◌==◌, ◌&&◌, ◌||◌, ◌++◌, List, [], ◌∷◌, Bool, false, not, Option, Some, None, Result, Ok, if◌then◌else◌}
 use Rattle.std.specs.List.{slice_split, list_any}
 use Rattle.tokei_walk.specs.declared.pieces.Piece.TheVariants.{AnyRun}
 use Rattle.tokei_walk.specs.declared.pieces.Segment.{Segment}

@@ -1,5 +1,5 @@
 -- How far the signs before the first one that spans any number of items fit a list.
-use Rattle.std.specs.Prelude.{ℕ, List, [], ◌∷◌, Bool, true, cond}
+use Rattle.std.specs.Prelude.{ℕ, List, [], ◌∷◌, Bool, cond}
 use Rattle.std.specs.Str.{chars}
 use Rattle.tokei_walk.specs.declared.pieces.Piece.{Piece}
 use Rattle.tokei_walk.specs.declared.pieces.Segment.{Segment}

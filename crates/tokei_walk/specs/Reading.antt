@@ -1,10 +1,7 @@
 -- How a segment is read, character by character.
-use Rattle.std.specs.Prelude.{ℕ, ◌==◌, ◌&&◌, ◌||◌, ◌++◌, List, [], ◌∷◌, Bool, true, false, not, nat_lt, Result, Ok, Err, if◌then◌else◌, cond}
-use Rattle.tokei_walk.specs.declared.pieces.Range.{Range}
+use Rattle.std.specs.Prelude.{ℕ, ◌==◌, ◌&&◌, ◌||◌, ◌++◌, List, [], ◌∷◌, Bool, true, false, not, nat_lt, Result, Ok, Err, if◌then◌else◌}
 use Rattle.tokei_walk.specs.declared.pieces.Piece.{Piece}
 use Rattle.tokei_walk.specs.declared.pieces.Piece.TheVariants.{AnyRun, AnyOne, Exactly, Class}
-use Rattle.tokei_walk.specs.declared.pieces.Segment.{Segment}
-use Rattle.tokei_walk.specs.declared.pieces.Segment.TheVariants.{AnyNames, Name}
 use Rattle.tokei_walk.specs.declared.reading.Place.{Place}
 use Rattle.tokei_walk.specs.declared.reading.Place.TheVariants.{Outside, Opened, First, Inside, Behind, Dash}
 use Rattle.tokei_walk.specs.declared.reading.Reading.{Reading}

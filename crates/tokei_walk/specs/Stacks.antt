@@ -1,9 +1,7 @@
 -- How a step changes the folders that are walked.
 use Rattle.std.specs.Prelude.{◌≡◌, ◌<◌, ◌-◌, ℕ, List, [], ◌∷◌, ◌++◌, Bool, true, false, cond, Option, Some, None, Ok, reverse, length}
-use Rattle.tokei_walk.specs.declared.fs.Entry.{Entry}
 use Rattle.tokei_walk.specs.declared.stack.Item.{Item}
 use Rattle.tokei_walk.specs.declared.stack.Stack.{Stack}
-use Rattle.tokei_walk.specs.declared.stack.Frame.{Frame}
 use Rattle.tokei_walk.specs.declared.stack.Step.{Step}
 use Rattle.tokei_walk.specs.declared.stack.Step.TheVariants.{Found, Passed, Ended}
 use Rattle.tokei_walk.specs.declared.kept.KeptFile.{KeptFile}

@@ -76,7 +76,7 @@ pub fn cut_at_slash(chars: &[char]) -> (&[char], Option<&[char]>)
     ensures last { MatchOption result.1
         (slice_split (λ c. c == 47) chars.entry.now ≡ result.0.now ∷ [])
         (λ rest. slice_split (λ c. c == 47) chars.entry.now
-            ≡ result.0.now ∷ slice_split (λ c. c == 47) rest.now) }
+        ≡ result.0.now ∷ slice_split (λ c. c == 47) rest.now) }
     ensures shorter { IfSome result.1 (λ rest. length rest.now < length chars.entry.now) }
 {
     for (i, c) in chars.iter().enumerate() {

@@ -48,7 +48,7 @@ fn cut_at_newline(bytes: &[u8]) -> (&[u8], Option<&[u8]>)
     ensures last { MatchOption result.1
         (slice_split (λ b. b == 10) bytes.entry.now ≡ result.0.now ∷ [])
         (λ rest. slice_split (λ b. b == 10) bytes.entry.now
-            ≡ result.0.now ∷ slice_split (λ b. b == 10) rest.now) }
+        ≡ result.0.now ∷ slice_split (λ b. b == 10) rest.now) }
     ensures shorter { IfSome result.1 (λ rest. length rest.now < length bytes.entry.now) }
 {
     for (i, b) in bytes.iter().enumerate() {
@@ -71,11 +71,7 @@ fn outcome(alloc: Global, line: &[u8]) -> Result<Option<Pattern>, PatternError>
 
 #[tactic(auto, unfolding(crate::specs::IgnoreFiles::patterns_of_line))]
 /// Adds the pattern of a line, where it has one; whether the line is bad.
-fn push_line(
-    alloc: Global,
-    line: &[u8],
-    patterns: &mut Items<Pattern>,
-) -> Result<bool, AllocError>
+fn push_line(alloc: Global, line: &[u8], patterns: &mut Items<Pattern>) -> Result<bool, AllocError>
     ensures { OnOk result (patterns.new ≡ patterns.old ++ patterns_of_line line.now) }
 {
     match outcome(alloc, without_return(line)) {
@@ -109,7 +105,10 @@ impl IgnoreFile {
                 None => break,
             }
         }
-        Ok(IgnoreFile { patterns, bad_lines })
+        Ok(IgnoreFile {
+            patterns,
+            bad_lines,
+        })
     }
 
     /// What the file decides about an entry, by its names from the file's folder down to it, of

@@ -72,12 +72,7 @@ fn without_first(names: &[Text]) -> &[Text]
 }
 
 /// What the ignore files of one kind decide: the nearest folder's that decides.
-fn decision(
-    source: Source,
-    levels: &[Level],
-    names: &[Text],
-    entered: bool,
-) -> Option<Verdict>
+fn decision(source: Source, levels: &[Level], names: &[Text], entered: bool) -> Option<Verdict>
     ensures { result ≡ level_decision source levels.now names.now entered None }
 {
     let mut found = None;

@@ -1,6 +1,7 @@
 //! Ignore patterns, folders, and the walk over the files that the ignore rules keep.
 #![tactic(auto)]
 
+pub mod collect;
 pub mod ends;
 pub mod failing;
 pub mod fs;

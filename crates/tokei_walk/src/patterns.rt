@@ -138,11 +138,7 @@ fn holds_slash(chars: &[char]) -> bool
 
 #[tactic(auto, unfolding(crate::specs::Patterns::unanchored))]
 /// The segments in front of a pattern that no slash anchors.
-fn unanchored(
-    alloc: Global,
-    anchored: bool,
-    chars: &[char],
-) -> Result<Items<Segment>, AllocError>
+fn unanchored(alloc: Global, anchored: bool, chars: &[char]) -> Result<Items<Segment>, AllocError>
     ensures { IfOk result (λ s. s ≡ unanchored_segments anchored chars.now) }
 {
     let mut front = Items::new(alloc);
@@ -168,15 +164,11 @@ fn from_rest(
     }
     let front = unanchored(alloc, anchored, chars)?;
     let segments = closed(alloc, segments(alloc, front, chars)?)?;
-    Ok(
-        Some(
-            Pattern {
-                negated,
-                folders_only,
-                segments,
-            },
-        ),
-    )
+    Ok(Some(Pattern {
+        negated,
+        folders_only,
+        segments,
+    }))
 }
 
 #[tactic(auto, unfolding(crate::specs::Patterns::from_front))]
@@ -196,11 +188,7 @@ fn from_front(
 }
 
 #[tactic(auto, unfolding(crate::specs::Patterns::from_end))]
-fn from_end(
-    alloc: Global,
-    negated: bool,
-    chars: &[char],
-) -> Result<Option<Pattern>, PatternError>
+fn from_end(alloc: Global, negated: bool, chars: &[char]) -> Result<Option<Pattern>, PatternError>
     ensures { result ≢ Err MemoryError → result ≡ pattern_from_end negated chars.now }
 {
     match front_before(chars, '/') {

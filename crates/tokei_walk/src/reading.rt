@@ -116,12 +116,7 @@ fn inside(
     member(reading, turned, quoted, c, colon)
 }
 
-fn opened(
-    mut reading: Reading,
-    quoted: bool,
-    c: char,
-    colon: bool,
-) -> Result<Reading, PatternError>
+fn opened(mut reading: Reading, quoted: bool, c: char, colon: bool) -> Result<Reading, PatternError>
     ensures { result ≡ read_opened reading quoted c colon }
 {
     if !quoted && (c == '!' || c == '^') {

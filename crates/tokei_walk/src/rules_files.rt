@@ -145,13 +145,11 @@ pub fn read_level<F: Folders>(
     let ignore = patterns_of_name(alloc, folders, notes, rules.dot, place, ".ignore")?;
     let gitignore = patterns_of_name(alloc, folders, notes, rules.git, place, ".gitignore")?;
     let git_exclude = patterns_of_name(alloc, folders, notes, git, place, ".git/info/exclude")?;
-    Ok(
-        Level {
-            tokeignore,
-            ignore,
-            gitignore,
-            git_exclude,
-            git,
-        },
-    )
+    Ok(Level {
+        tokeignore,
+        ignore,
+        gitignore,
+        git_exclude,
+        git,
+    })
 }

@@ -100,15 +100,13 @@ pub fn consider(
         b ≡ drops settings.now.excludes settings.now.rules context.old name.now entered) }
 {
     push_name(settings.alloc, context, name)?;
-    Ok(
-        is_dropped(
-            settings.excludes.as_slice(),
-            &settings.rules,
-            context,
-            name.as_str(),
-            entered,
-        ),
-    )
+    Ok(is_dropped(
+        settings.excludes.as_slice(),
+        &settings.rules,
+        context,
+        name.as_str(),
+        entered,
+    ))
 }
 
 /// Takes an entry's name off the context.
@@ -209,14 +207,19 @@ fn visit<F: Folders>(
     ensures stays { IfOk result (λ o. NoneIsSame stack.old stack.new o) }
     ensures told { Told (F.tree folders.old) (λ t. IfOk result (λ o.
         VisitTells settings.now.excludes settings.now.rules t stack.old stack.new
-            item.entry.name item.place o)) }
+        item.entry.name item.place o)) }
 {
     if consider(settings, &mut stack.context, &item.entry.name, true)? {
         forget(&mut stack.context);
         return Ok(None);
     }
     if stack.below.as_slice().len() >= 256 {
-        note(settings.alloc, notes, NoteKind::TooDeep, item.place.as_str())?;
+        note(
+            settings.alloc,
+            notes,
+            NoteKind::TooDeep,
+            item.place.as_str(),
+        )?;
         forget(&mut stack.context);
         return Ok(None);
     }
@@ -292,23 +295,14 @@ fn file_step(settings: &Settings, stack: &mut Stack, item: Item) -> Result<Step,
     ensures kept { IfOk result (λ s. s ≡ file_kept (drops settings.now.excludes
         settings.now.rules stack.old.context item.entry.name false) item.place) }
 {
-    let dropped = consider(
-        settings,
-        &mut stack.context,
-        &item.entry.name,
-        false,
-    )?;
+    let dropped = consider(settings, &mut stack.context, &item.entry.name, false)?;
     forget(&mut stack.context);
     if dropped {
         return Ok(Step::Passed);
     }
     let path = Text::from_str(settings.alloc, item.place.as_str())?;
-    Ok(
-        Step::Found(
-            KeptFile {
-                path,
-                place: item.place,
-            },
-        ),
-    )
+    Ok(Step::Found(KeptFile {
+        path,
+        place: item.place,
+    }))
 }

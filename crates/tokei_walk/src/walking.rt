@@ -100,9 +100,9 @@ fn enter_root<F: Folders>(
     ensures below { OnOk result (length stack.new.below ≤ length stack.old.below) }
     ensures told { Told (F.tree folders.old) (λ t. OnOk result
         (stack.old.left ≡ [] → stack.old.below ≡ [] →
-            descend settings.now.excludes settings.now.rules t 257
-                (root_context t settings.now.rules (names_of root)) root
-            ≡ of_stack settings.now.excludes settings.now.rules t stack.new)) }
+        descend settings.now.excludes settings.now.rules t 257
+        (root_context t settings.now.rules (names_of root)) root
+        ≡ of_stack settings.now.excludes settings.now.rules t stack.new)) }
     ensures honest { OnOk result (F.memory_faults folders.old < u64.MAX
         → F.memory_faults folders.new ≡ F.memory_faults folders.old) }
 {
@@ -147,8 +147,8 @@ fn begin_root<F: Folders>(
     ensures below { OnOk result (length stack.new.below ≤ length stack.old.below) }
     ensures told { Told (F.tree folders.old) (λ t. IfOk result (λ o.
         stack.old.left ≡ [] → stack.old.below ≡ [] → RootGives
-            (of_root settings.now.excludes settings.now.rules t root)
-            (of_stack settings.now.excludes settings.now.rules t stack.new) o)) }
+        (of_root settings.now.excludes settings.now.rules t root)
+        (of_stack settings.now.excludes settings.now.rules t stack.new) o)) }
     ensures honest { OnOk result (F.memory_faults folders.old < u64.MAX
         → F.memory_faults folders.new ≡ F.memory_faults folders.old) }
 {
@@ -272,18 +272,16 @@ fn empty_stack(alloc: Global) -> Result<Stack, AllocError>
     ensures below { IfOk result (λ s. s.below ≡ []) }
 {
     let place = Text::from_str(alloc, "")?;
-    Ok(
-        Stack {
-            context: Context {
-                levels: Items::new(alloc),
-                names: Items::new(alloc),
-                shown: Items::new(alloc),
-            },
-            place,
-            left: Items::new(alloc),
-            below: Items::new(alloc),
+    Ok(Stack {
+        context: Context {
+            levels: Items::new(alloc),
+            names: Items::new(alloc),
+            shown: Items::new(alloc),
         },
-    )
+        place,
+        left: Items::new(alloc),
+        below: Items::new(alloc),
+    })
 }
 
 impl Walk {
@@ -304,19 +302,17 @@ impl Walk {
         let mut roots = copied(alloc, roots)?;
         roots.reverse();
         let stack = empty_stack(alloc)?;
-        Ok(
-            Walk {
-                settings: Settings {
-                    alloc,
-                    rules: *rules,
-                    excludes,
-                },
-                roots,
-                stack,
-                failed: false,
-                notes,
+        Ok(Walk {
+            settings: Settings {
+                alloc,
+                rules: *rules,
+                excludes,
             },
-        )
+            roots,
+            stack,
+            failed: false,
+            notes,
+        })
     }
 
     #[tactic(auto, unfolding(crate::specs::Walks::has_failed))]

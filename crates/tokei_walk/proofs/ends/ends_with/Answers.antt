@@ -1,4 +1,4 @@
-use Rattle.std.proofs.Common.{◌≡◌, sym, ap, ◌∙◌}
+use Rattle.std.proofs.Common.{sym, ap, ◌∙◌}
 use Rattle.tokei_walk.specs.Ends.{ends_in}
 use Rattle.tokei_walk.proofs.LineEnds.{ends_in-push}
 use Rattle.tokei_walk.proofs.ends.ends_with.Goals as goal

@@ -1,6 +1,4 @@
-use Rattle.std.proofs.Common.{sym, ap, ◌∙◌, []}
 use Rattle.std.proofs.lemmas.List.{nil_from_length}
-use Rattle.tokei_walk.specs.IgnoreFiles.{without_return}
 use Rattle.tokei_walk.proofs.LineEnds.{return_cut, return_none, return_of_nothing}
 use Rattle.tokei_walk.proofs.ignore_files.without_return.Goals as goal
 

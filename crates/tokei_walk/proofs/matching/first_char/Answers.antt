@@ -1,5 +1,4 @@
-use Rattle.std.proofs.Common.{◌≡◌, List, ◌++◌, ◌∙◌, sym, ap, ℕ}
-use Rattle.std.specs.Str.{chars}
+use Rattle.std.proofs.Common.{List, ◌++◌, ◌∙◌, sym, ap, ℕ}
 use lib.Utf8.{encode}
 use Rattle.tokei_walk.proofs.Characters.{chars_step, shorter_step}
 use Rattle.tokei_walk.proofs.matching.first_char.Goals as goal

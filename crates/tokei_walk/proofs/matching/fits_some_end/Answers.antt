@@ -1,7 +1,7 @@
-use Rattle.std.proofs.Common.{◌≡◌, ◌<◌, ◌+◌, [], ◌∷◌, length, sym, ap, ◌∙◌, arith, rules}
+use Rattle.std.proofs.Common.{◌≡◌, [], sym, ap, ◌∙◌, arith, rules}
 use Rattle.std.specs.Str.{chars}
 use Rattle.tokei_walk.specs.Fits.{at_some_end}
-use Rattle.tokei_walk.specs.Reach.{name_reach, fails}
+use Rattle.tokei_walk.specs.Reach.{name_reach}
 use Rattle.tokei_walk.specs.Segments.{fits_characters, spans_characters, fits_character}
 use Rattle.tokei_walk.proofs.Spans.{committed, search_after, search_done, search_on, search_ends}
 use Rattle.tokei_walk.proofs.matching.fits_some_end.Goals as goal

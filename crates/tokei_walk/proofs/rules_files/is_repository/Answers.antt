@@ -1,5 +1,4 @@
 use Rattle.std.proofs.Common.{◌≡◌, ◌&&◌, ◌++◌, codes, is_some, sym, ap, ◌∙◌}
-use Rattle.tokei_walk.specs.Answers.{node_kind}
 use Rattle.tokei_walk.specs.Descent.{joined}
 use Rattle.tokei_walk.specs.Tree.{Names, names_of, node_at}
 use Rattle.tokei_walk.proofs.Joining.{names_of-joined, some_kind}

@@ -1,4 +1,4 @@
-use Rattle.std.proofs.Common.{◌≡◌, List, [], ◌∙◌}
+use Rattle.std.proofs.Common.{◌≡◌, [], ◌∙◌}
 use Rattle.tokei_walk.specs.Descent.{joined}
 use Rattle.tokei_walk.specs.Levels.{patterns_at}
 use Rattle.tokei_walk.specs.Tree.{node_at}

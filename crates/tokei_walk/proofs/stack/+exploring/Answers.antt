@@ -1,4 +1,4 @@
-use Rattle.std.proofs.Common.{◌≡◌, ◌++◌, ◌≤◌, ◌<◌, ℕ, List, length, reverse, Bool, Option, Some, None, Ok, Err, sym, ap, ◌∙◌, arith, subst}
+use Rattle.std.proofs.Common.{◌≡◌, ◌++◌, ◌≤◌, ◌<◌, List, length, reverse, Bool, Option, Err, sym, ap, ◌∙◌, arith, subst}
 use Rattle.std.specs.Bool.{MatchBool}
 use Rattle.tokei_walk.specs.declared.fs.Fault.TheVariants.{Refused}
 use Rattle.tokei_walk.specs.declared.kept.KeptFile.{KeptFile}

@@ -1,4 +1,4 @@
-use Rattle.std.proofs.Common.{◌≡◌, ℕ, List, ap, ◌∙◌}
+use Rattle.std.proofs.Common.{ℕ, List, ap, ◌∙◌}
 use Rattle.tokei_walk.specs.declared.levels.Context.{Context}
 use Rattle.tokei_walk.specs.declared.patterns.Pattern.{Pattern}
 use Rattle.tokei_walk.specs.Levels.{drops_last}

@@ -1,4 +1,4 @@
-use Rattle.std.proofs.Common.{◌≡◌, ℕ, List, [], ◌∷◌, ◌++◌, Bool, Option, Some, None, false, reverse, sym, ap, ◌∙◌, subst, rules}
+use Rattle.std.proofs.Common.{List, ◌++◌, Bool, Option, reverse, ap, ◌∙◌, subst, rules}
 use Rattle.tokei_walk.specs.declared.kept.KeptFile.{KeptFile}
 use Rattle.tokei_walk.specs.declared.stack.Stack.{Stack}
 use Rattle.tokei_walk.specs.Descent.{of_root, of_stack}
@@ -15,10 +15,10 @@ loop-file-preserved-then-leave g c =
       same = c.explore.ensures.same ∙ inv.same;
       honest = search rules;
       told = λ t e.
-        let top = subst (λ (o : Option KeptFile). ExploreTells x.excludes x.rules t s v o) c.in-None.is (c.in_ok-file.ensures.told t (inv.same ∙ e)) in
-        inv.told t e
-        ∙ ap (λ (q : List KeptFile). q ++ of_roots x.excludes x.rules t c.loop-file.roots)
-        (explored_none x.excludes x.rules t s v stays.0 stays.1 top ∙ left_gives x.excludes x.rules t v c.leave.new.stack c.leave.result c.if-leave.true (top_ends x.excludes x.rules t v (ap reverse stays.1)) c.leave.ensures);
+          let top = subst (λ (o : Option KeptFile). ExploreTells x.excludes x.rules t s v o) c.in-None.is (c.in_ok-file.ensures.told t (inv.same ∙ e)) in
+          inv.told t e
+          ∙ ap (λ (q : List KeptFile). q ++ of_roots x.excludes x.rules t c.loop-file.roots)
+          (explored_none x.excludes x.rules t s v stays.0 stays.1 top ∙ left_gives x.excludes x.rules t v c.leave.new.stack c.leave.result c.if-leave.true (top_ends x.excludes x.rules t v (ap reverse stays.1)) c.leave.ensures);
     }
 
 pub returns-in-None-pop-clause-told : goal.returns-in-None-pop-clause-told
@@ -50,7 +50,7 @@ loop-file-preserved g c =
       same = c.begin_root.ensures.same ∙ c.explore.ensures.same ∙ inv.same;
       honest = search rules;
       told = λ t e.
-        let top = subst (λ (o : Option KeptFile). ExploreTells x.excludes x.rules t s v o) c.in-None.is (c.in_ok-file.ensures.told t (inv.same ∙ e)) in
-        let given = subst (λ (o : Option KeptFile). RootGives (of_root x.excludes x.rules t root) (of_stack x.excludes x.rules t w) o) c.in-None-2.is (c.in_ok-file-2.ensures.told t (c.explore.ensures.same ∙ inv.same ∙ e) (ap (λ (u : Stack). u.left) left.1 ∙ stays.1) (ap (λ (u : Stack). u.below) left.1 ∙ left.0)) in
-        inv.told t e ∙ root_begins x.excludes x.rules t s v c.loop-file.roots front root stays.0 stays.1 left.0 top c.in-Some-pop.ensures ∙ ap (λ (q : List KeptFile). q ++ of_roots x.excludes x.rules t front) given;
+          let top = subst (λ (o : Option KeptFile). ExploreTells x.excludes x.rules t s v o) c.in-None.is (c.in_ok-file.ensures.told t (inv.same ∙ e)) in
+          let given = subst (λ (o : Option KeptFile). RootGives (of_root x.excludes x.rules t root) (of_stack x.excludes x.rules t w) o) c.in-None-2.is (c.in_ok-file-2.ensures.told t (c.explore.ensures.same ∙ inv.same ∙ e) (ap (λ (u : Stack). u.left) left.1 ∙ stays.1) (ap (λ (u : Stack). u.below) left.1 ∙ left.0)) in
+          inv.told t e ∙ root_begins x.excludes x.rules t s v c.loop-file.roots front root stays.0 stays.1 left.0 top c.in-Some-pop.ensures ∙ ap (λ (q : List KeptFile). q ++ of_roots x.excludes x.rules t front) given;
     }

@@ -1,8 +1,5 @@
-use Rattle.std.proofs.Common.{◌≡◌, ℕ, List, [], ◌∷◌, Some, None, sym, ap, ap₂, ◌∙◌}
-use Rattle.tokei_walk.specs.declared.fs.Kind.TheVariants.{File, Folder, Other}
-use Rattle.tokei_walk.specs.declared.kept.KeptFile.{KeptFile}
+use Rattle.std.proofs.Common.{Some, sym, ap, ◌∙◌}
 use Rattle.tokei_walk.specs.Answers.{node_kind}
-use Rattle.tokei_walk.specs.Fits.{is_empty}
 use Rattle.tokei_walk.specs.Tree.{names_of, node_at}
 use Rattle.tokei_walk.proofs.Roots.{root_blank, root_missing, root_file, root_folder, root_other, one_file}
 use Rattle.tokei_walk.proofs.StackSteps.{empty_gives}

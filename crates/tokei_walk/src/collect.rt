@@ -1,0 +1,50 @@
+ghost use Rattle.std.specs.Prelude.{◌≡◌, ◌<◌, OnOk, IfOk};
+ghost use Rattle.tokei_walk.specs.Answers.{Told};
+ghost use Rattle.tokei_walk.specs.Walks.{descended, excludes_of};
+
+use crate::fs::Folders;
+use crate::kept::{KeptFile, Note};
+use crate::levels::Rules;
+use crate::lists::Items;
+use crate::texts::Text;
+use crate::walking::Walk;
+use std::alloc::{AllocError, Global};
+
+/// The files that the ignore rules keep, and what was passed over.
+#[derive(Drop)]
+pub struct Kept {
+    pub files: Items<KeptFile>,
+    pub notes: Items<Note>,
+}
+
+/// All files that the ignore rules keep below the roots: a walk to its end. It is refused for want
+/// of memory alone.
+pub fn kept_files<F: Folders>(
+    alloc: Global,
+    folders: &mut F,
+    roots: &[Text],
+    excludes: &[Text],
+    rules: &Rules,
+) -> Result<Kept, AllocError>
+    ensures same { F.tree folders.new ≡ F.tree folders.old }
+    ensures told { Told (F.tree folders.old) (λ t. IfOk result (λ k.
+        k.files ≡ descended (excludes_of excludes.now) rules.now t roots.now)) }
+    ensures honest { OnOk result (F.memory_faults folders.old < u64.MAX
+        → F.memory_faults folders.new ≡ F.memory_faults folders.old) }
+{
+    let mut walk = Walk::new(alloc, roots, excludes, rules)?;
+    let mut files = Items::new(alloc);
+    'files: for _ in 0..u64::MAX {
+        match walk.next(folders)? {
+            Some(file) => files.push(file)?,
+            None => {
+                return Ok(Kept {
+                    files,
+                    notes: walk.into_notes(),
+                });
+            }
+        }
+    }
+    // No memory holds so many files.
+    Err(AllocError)
+}
