@@ -1,4 +1,4 @@
 pub mod Faults
-pub mod CRow
+pub mod CTable
 pub mod CountsAsC
 pub mod CountsLine

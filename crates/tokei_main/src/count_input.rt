@@ -1,40 +1,19 @@
 //! The engine of the first program: a text is read, counted as C, and its counts are written as one line.
-ghost use Rattle.std.specs.Prelude.{◌≡◌, ◌≢◌, ◌<◌, ◌≤◌, length, IfOk, IfErr, IfSome, OnOk, OnErr, string_bytes};
+ghost use Rattle.std.specs.Prelude.{◌≡◌, ◌≢◌, ◌<◌, ◌≤◌, true, length, is_some, IfOk, IfSome, IsErrOf, OnOk, OnErr, string_bytes};
 ghost use Rattle.std.specs.Io.KnownBytes.{Appends, IsAtEnd};
-ghost use Rattle.tokei_count.specs.Seen.{counts_of};
-ghost use Rattle.tokei_main.specs.CountsAsC.{counts_as_c};
+ghost use Rattle.tokei_count.specs.Overflow.{Fits};
+ghost use Rattle.tokei_count.specs.Seen.{counts_of, stats_of};
+ghost use Rattle.tokei_main.specs.CTable.{c_place};
+ghost use Rattle.tokei_main.specs.CountsAsC.{counts_as_c, reading_as_c};
 ghost use Rattle.tokei_main.specs.CountsLine.{counts_line};
 
-use crate::c_syntax::c_syntax;
+use crate::c_table::c_table;
+use crate::input_error::InputError;
 use crate::sink::Sink;
 use crate::source::Source;
 use std::alloc::{AllocError, Global};
-use thiserror::Error;
-use tokei_count::{CodeStats, CountConfig, CountError, count_plain};
-
-/// Why an input wasn't counted.
-#[derive(Clone, Copy, Debug, PartialEq, Eq, Error)]
-pub enum InputError {
-    /// The source had a fault, or didn't end within 4,294,967,296 reads.
-    #[error("the input can't be read")]
-    Unreadable,
-    /// A growth was refused.
-    #[error("out of memory")]
-    Memory,
-    /// The sink had a fault.
-    #[error("the output can't be written")]
-    Write,
-}
-
-impl From<AllocError> for InputError {
-    ghost use Rattle.tokei_main.specs.declared.count_input.InputError.TheVariants.{Memory};
-
-    ghost from_gives = { λ _ e. e ≡ Memory };
-
-    fn from(_refused: AllocError) -> InputError {
-        InputError::Memory
-    }
-}
+use tokei_count::{CodeStats, CountConfig, CountError, Counter, count_plain};
+use tokei_table::LanguageType;
 
 /// The most reads of one input.
 const MAX_READS: u64 = 4_294_967_296;
@@ -49,6 +28,8 @@ fn read_all<S: Source>(alloc: Global, source: &mut S) -> Result<Vec<u8>, InputEr
         → S.faults source.new ≡ S.faults source.old
         → IfSome (S.remaining source.old) (λ text. MAX_READS ≤ length text) }
     ensures not_write { result ≢ Err InputError.Write }
+    ensures not_table { result ≢ Err InputError.Table }
+    ensures not_overflow { result ≢ Err InputError.Overflow }
 {
     let mut bytes = Vec::new(alloc);
     let mut buffer = [0u8; 65536];
@@ -62,19 +43,29 @@ fn read_all<S: Source>(alloc: Global, source: &mut S) -> Result<Vec<u8>, InputEr
     Err(InputError::Unreadable)
 }
 
-/// The counts of a text that is read as C.
-#[tactic(auto, unfolding(crate::specs::CountsAsC::counts_as_c))]
-fn counts_as_c(alloc: Global, text: &[u8]) -> Result<CodeStats, AllocError>
-    ensures { IfOk result (λ s. counts_of s ≡ counts_as_c text.now) }
+/// The statistics of a text that is read as C, which answers neither `Unreadable` nor `Write`.
+#[tactic(auto, unfolding(crate::specs::CountsAsC::reading_as_c))]
+fn stats_as_c(alloc: Global, text: &[u8]) -> Result<CodeStats, InputError>
+    ensures reads { IfOk result (λ s. stats_of s ≡ reading_as_c text.now) }
+    ensures has_c { OnOk result (is_some c_place ≡ true) }
+    ensures no_c { IsErrOf result InputError.Table → c_place ≡ None }
+    ensures overflow { IsErrOf result InputError.Overflow → ¬ Fits (reading_as_c text.now) }
+    ensures not_unreadable { result ≢ Err InputError.Unreadable }
+    ensures not_write { result ≢ Err InputError.Write }
 {
-    let syntax = c_syntax(alloc)?;
+    let table = c_table(alloc)?;
+    let counter = Counter::new(&table);
     let config = CountConfig {
         treat_doc_strings_as_comments: None,
     };
-    match count_plain(alloc, &syntax, text, &config) {
+    let language = match LanguageType::from_name(&table, "C") {
+        Some(language) => language,
+        None => return Err(InputError::Table),
+    };
+    match count_plain(alloc, &counter, language, text, &config) {
         Ok(stats) => Ok(stats),
-        Err(CountError::Memory) => Err(AllocError),
-        Err(CountError::Overflow) => unreachable!(),
+        Err(CountError::Memory) => Err(InputError::Memory),
+        Err(CountError::Overflow) => Err(InputError::Overflow),
     }
 }
 
@@ -88,19 +79,26 @@ fn counts_line(alloc: Global, stats: &CodeStats) -> Result<String, AllocError>
     format!(in alloc; "blanks {blanks}, code {code}, comments {comments}\n")
 }
 
-/// The line of a text that is read as C.
-fn line_as_c(alloc: Global, text: &[u8]) -> Result<String, AllocError>
-    ensures { IfOk result (λ s. string_bytes s ≡ counts_line (counts_as_c text.now)) }
+/// The line of a text that is read as C, which answers neither `Unreadable` nor `Write`.
+fn line_as_c(alloc: Global, text: &[u8]) -> Result<String, InputError>
+    ensures line { IfOk result (λ s. string_bytes s ≡ counts_line (counts_as_c text.now)) }
+    ensures has_c { OnOk result (is_some c_place ≡ true) }
+    ensures no_c { IsErrOf result InputError.Table → c_place ≡ None }
+    ensures overflow { IsErrOf result InputError.Overflow → ¬ Fits (reading_as_c text.now) }
+    ensures not_unreadable { result ≢ Err InputError.Unreadable }
+    ensures not_write { result ≢ Err InputError.Write }
 {
-    let stats = counts_as_c(alloc, text)?;
-    counts_line(alloc, &stats)
+    let stats = stats_as_c(alloc, text)?;
+    let line = counts_line(alloc, &stats)?;
+    Ok(line)
 }
 
 /// Reads all of the reader, counts it as C and writes `blanks B, code C, comments K` and a newline, in one append.
 ///
 /// `Unreadable` where the reader had a fault, or didn't end within 4,294,967,296 reads; `Memory` where a growth was
-/// refused; `Write` where the writer had a fault, and then nothing is said of what was written. After an error nothing
-/// is said of the reader's place.
+/// refused; `Table` only where the table that the program holds has no C, and then no text is counted; `Overflow` only
+/// where a count of the text passes the greatest `usize`; `Write` where the writer had a fault, and then nothing is said
+/// of what was written. After an error nothing is said of the reader's place.
 pub fn count_input<S: Source, W: Sink>(
     alloc: Global,
     reader: &mut S,
@@ -109,6 +107,12 @@ pub fn count_input<S: Source, W: Sink>(
     ensures line { OnOk result (IfSome (S.remaining reader.old) (λ text.
         Appends (W.contents writer.old) (W.contents writer.new) (counts_line (counts_as_c text)))) }
     ensures whole { OnOk result (IsAtEnd (S.remaining reader.new)) }
+
+    // `Table` says that the table has no C, and without C no text is counted.
+    ensures no_c { IsErrOf result InputError.Table → c_place ≡ None }
+    ensures has_c { OnOk result (is_some c_place ≡ true) }
+    ensures overflow { IsErrOf result InputError.Overflow
+        → IfSome (S.remaining reader.old) (λ text. ¬ Fits (reading_as_c text)) }
 
     // A fault of the reader gives `Unreadable`, and without one `Unreadable` says that the reads ran out.
     ensures read_fault { S.faults reader.old < u64.MAX → result ≢ Err InputError.Unreadable

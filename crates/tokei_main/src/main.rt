@@ -1,11 +1,14 @@
 //! Reads a text from standard input, counts it as C, and prints one line of its blank, code and comment lines.
 #![tactic(auto)]
 
-mod c_syntax;
+#[cfg(test)]
+mod bench;
+mod c_table;
 mod count_input;
 mod counted;
 #[cfg(test)]
 mod fail_once;
+mod input_error;
 #[cfg(test)]
 mod plain_rows;
 mod sink;

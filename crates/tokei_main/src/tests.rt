@@ -1,7 +1,8 @@
 //! Texts counted through `count_input`, from memory to memory, and its faults.
-use crate::count_input::{InputError, count_input};
+use crate::count_input::count_input;
 use crate::counted::Counted;
 use crate::fail_once::FailOnce;
+use crate::input_error::InputError;
 use std::alloc::Global;
 use std::test::Fail;
 
@@ -114,6 +115,8 @@ fn words_of_errors(rt: HostRuntime) -> Result<(), Fail> {
     for (error, words) in [
         (InputError::Unreadable, "the input can't be read"),
         (InputError::Memory, "out of memory"),
+        (InputError::Table, "the table of languages has no C"),
+        (InputError::Overflow, "a count passes the greatest usize"),
         (InputError::Write, "the output can't be written"),
     ] {
         let said = format!(in rt.alloc(); "{error}")?;
