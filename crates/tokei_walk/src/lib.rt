@@ -17,5 +17,7 @@ pub mod places;
 pub mod reading;
 pub mod rules_files;
 pub mod stack;
+#[cfg(test)]
+mod tests;
 pub mod texts;
 pub mod walking;
