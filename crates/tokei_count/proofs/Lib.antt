@@ -22,3 +22,7 @@ pub mod Pieces
 pub mod LineEnds
 pub mod TextReading
 pub mod KnownLanguages
+pub mod BlobsAt
+pub mod SumsOrdered
+pub mod SumLaws
+pub mod MapsOrdered

@@ -52,7 +52,7 @@ impl CodeStats {
     ghost use Rattle.tokei_count.specs.Statistics.{empty, sum, summary, lines_of, plus};
     ghost use Rattle.tokei_count.specs.Statistics.Statistics.{node};
     ghost use Rattle.tokei_count.specs.Statistics.Blobs.{none};
-    ghost use Rattle.tokei_count.specs.Overflow.{sum_fits};
+    ghost use Rattle.tokei_count.specs.Overflow.{sum_fits, CountsFit};
     ghost use Rattle.tokei_count.specs.Seen.{stats_of, counts_of, sums_of, blobs_of, entries_of};
 
     /// No lines and no blobs; takes no memory.
@@ -166,7 +166,9 @@ impl CodeStats {
 
     /// The counts of all nodes, added up.
     fn sums(&self) -> Result<Sums, CountError>
-        ensures { IfOk result (λ n. sums_of n ≡ summary (stats_of self.now)) }
+        ensures sum { IfOk result (λ n. sums_of n ≡ summary (stats_of self.now)) }
+        ensures past { OnErr result (¬ CountsFit (summary (stats_of self.now))) }
+        ensures overflow { IfErr result (λ e. e ≡ CountError.Overflow) }
     {
         let mut sums = Sums {
             blanks: self.blanks,
@@ -180,9 +182,12 @@ impl CodeStats {
         Ok(sums)
     }
 
-    /// The counts of this text and of all texts inside it, added up, with no blobs.
+    /// The counts of this text and of all texts inside it, added up, with no blobs. `Overflow` exactly where one of the
+    /// three numbers passes the greatest `usize`.
     pub fn summarise(&self) -> Result<CodeStats, CountError>
-        ensures { IfOk result (λ s. stats_of s ≡ node (summary (stats_of self.now)) none) }
+        ensures sum { IfOk result (λ s. stats_of s ≡ node (summary (stats_of self.now)) none) }
+        ensures past { OnErr result (¬ CountsFit (summary (stats_of self.now))) }
+        ensures overflow { IfErr result (λ e. e ≡ CountError.Overflow) }
     {
         let sums = self.sums()?;
         Ok(CodeStats {
