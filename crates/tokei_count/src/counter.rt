@@ -1,30 +1,40 @@
 //! What the texts of a table's languages are counted with.
-ghost use Rattle.std.specs.Prelude.{◌≡◌};
+ghost use Rattle.std.specs.Prelude.{◌≡◌, ◌<◌, length, IfOk};
+ghost use Rattle.tokei_table.specs.Lookups.{row_at};
+ghost use Rattle.tokei_table.specs.Openers.{openers};
 
+use crate::matchers::{SharedMatchers, all_matchers};
+use std::alloc::{AllocError, Global};
 use std::marker::Model;
-use tokei_table::LanguageTable;
+use tokei_table::{LanguageTable, LanguageType};
 
-/// Counts texts in the languages of a table, which it borrows; contracts see it as that table.
+/// Counts texts in the languages of a table, which it borrows, with matchers of each of them. Contracts see it as that
+/// table.
 #[derive(Drop)]
 pub struct Counter<'a> {
     table: &'a LanguageTable,
+    matchers: Vec<SharedMatchers>,
 }
 
 impl<'a> Model for Counter<'a> {
-    ghost use Rattle.std.specs.Prelude.{List};
+    ghost use Rattle.std.specs.Prelude.{◌≡◌, List, map};
+    ghost use Rattle.tokei_table.specs.Openers.{openers};
     ghost use Rattle.tokei_table.specs.Row.{Row};
 
     ghost Value = { List Row };
 
     ghost view = { λ c. c.table.now };
+
+    ghost invariant = { λ c. c.matchers.items ≡ map openers c.table.now };
 }
 
 impl<'a> Counter<'a> {
-    /// A counter of the table's languages.
-    pub fn new(table: &'a LanguageTable) -> Counter<'a>
-        ensures { result ≡ table.now }
+    /// A counter of the table's languages. It fails where memory runs out.
+    pub fn new(alloc: Global, table: &'a LanguageTable) -> Result<Counter<'a>, AllocError>
+        ensures { IfOk result (λ c. c ≡ table.now) }
     {
-        Counter { table }
+        let matchers = all_matchers(alloc, table)?;
+        Ok(Counter { table, matchers })
     }
 
     /// The table.
@@ -32,5 +42,13 @@ impl<'a> Counter<'a> {
         ensures { result.now ≡ self.now }
     {
         self.table
+    }
+
+    /// The matchers of a language of the table.
+    pub fn matchers(&self, language: LanguageType) -> &SharedMatchers
+        requires { language < length self.now }
+        ensures { result.now ≡ openers (row_at self.entry.now language) }
+    {
+        &self.matchers[language.index()]
     }
 }

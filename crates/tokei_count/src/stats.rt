@@ -37,7 +37,7 @@ impl<T: Drop> From<AllocFailed<T>> for CountError {
 }
 
 /// How many lines of a text are blank, code and comments, and the same of the texts of other languages inside it.
-#[derive(Drop)]
+#[derive(Debug, PartialEq, Drop)]
 pub struct CodeStats {
     pub blanks: usize,
     pub code: usize,
@@ -59,13 +59,7 @@ impl CodeStats {
     pub fn new(alloc: Global) -> Self
         ensures { stats_of result ≡ empty }
     {
-        CodeStats {
-            blanks: 0,
-            code: 0,
-            comments: 0,
-            blobs: BTreeMap::new(alloc),
-            alloc,
-        }
+        CodeStats::assembled(alloc, Sums::new(), BTreeMap::new(alloc))
     }
 
     /// All lines of the text itself, of whatever class; refused with `Overflow` where their number passes the greatest
@@ -190,13 +184,7 @@ impl CodeStats {
         ensures overflow { IfErr result (λ e. e ≡ CountError.Overflow) }
     {
         let sums = self.sums()?;
-        Ok(CodeStats {
-            blanks: sums.blanks,
-            code: sums.code,
-            comments: sums.comments,
-            blobs: BTreeMap::new(self.alloc),
-            alloc: self.alloc,
-        })
+        Ok(CodeStats::assembled(self.alloc, sums, BTreeMap::new(self.alloc)))
     }
 }
 

@@ -54,7 +54,7 @@ fn stats_as_c(alloc: Global, text: &[u8]) -> Result<CodeStats, InputError>
     ensures not_write { result ≢ Err InputError.Write }
 {
     let table = c_table(alloc)?;
-    let counter = Counter::new(&table);
+    let counter = Counter::new(alloc, &table)?;
     let config = CountConfig {
         treat_doc_strings_as_comments: None,
     };

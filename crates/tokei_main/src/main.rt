@@ -7,12 +7,16 @@ mod c_table;
 mod count_input;
 mod counted;
 #[cfg(test)]
+mod cut_rows;
+#[cfg(test)]
 mod fail_once;
 mod input_error;
 #[cfg(test)]
 mod plain_rows;
 mod sink;
 mod source;
+#[cfg(test)]
+mod sum_rows;
 #[cfg(test)]
 mod tests;
 

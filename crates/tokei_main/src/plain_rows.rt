@@ -6,10 +6,10 @@ use tokei_count::{CodeStats, CountConfig, CountError, Counter, count_plain};
 use tokei_table::{LanguageTable, LanguageType};
 
 /// Blank, code and comment lines.
-type Lines = (usize, usize, usize);
+pub type Lines = (usize, usize, usize);
 
 /// The statistics of a text, or `None` where the table hasn't the language.
-fn counted(
+pub fn counted(
     alloc: Global,
     table: &LanguageTable,
     key: &str,
@@ -19,7 +19,7 @@ fn counted(
     let config = CountConfig {
         treat_doc_strings_as_comments,
     };
-    let counter = Counter::new(table);
+    let counter = Counter::new(alloc, table)?;
     match LanguageType::from_name(table, key) {
         Some(language) => {
             let stats = count_plain(alloc, &counter, language, text, &config)?;
@@ -30,7 +30,7 @@ fn counted(
 }
 
 /// The text's own lines.
-fn own_of(stats: &CodeStats) -> Lines {
+pub fn own_of(stats: &CodeStats) -> Lines {
     (stats.blanks, stats.code, stats.comments)
 }
 
@@ -62,7 +62,7 @@ fn child_of(table: &LanguageTable, stats: &CodeStats, key: &str) -> Option<Lines
 }
 
 /// Whether the own lines are these, and the blobs are of these languages alone, each with these lines and no blobs.
-fn are(
+pub fn are(
     table: &LanguageTable,
     stats: &Option<CodeStats>,
     own: Lines,
@@ -286,7 +286,12 @@ fn openings(alloc: Global, count: u32) -> Result<Vec<u8>, AllocError> {
 #[test]
 fn fifty_levels(rt: HostRuntime) -> Result<(), Fail> {
     let table = bench(rt.alloc())?;
-    for (count, want) in [(50, (1, 0, 0)), (51, (0, 1, 0)), (60, (0, 10, 0))] {
+    for (count, want) in [
+        (50, (1, 0, 0)),
+        (51, (0, 1, 0)),
+        (60, (0, 10, 0)),
+        (200, (0, 150, 0)),
+    ] {
         let text = openings(rt.alloc(), count)?;
         let stats = counted(rt.alloc(), &table, "LinguaFranca", None, &text)?;
         let got = match (&stats, LanguageType::from_name(&table, "LinguaFranca")) {

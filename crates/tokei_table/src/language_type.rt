@@ -35,7 +35,7 @@ impl LanguageType {
     }
 
     /// Its place in the table, from 0.
-    pub(crate) fn index(self) -> usize
+    pub fn index(self) -> usize
         ensures { result ≡ self }
     {
         self.index
