@@ -1,0 +1,11 @@
+use Rattle.std.proofs.Common.{◌∙◌, ap, sym, ◌++◌}
+use Rattle.tokei_stats.specs.declared.stats.CodeStats.{out-CodeStats}
+use Rattle.tokei_stats.specs.Seen.{entries_of}
+use Rattle.tokei_stats.proofs.Cloning.{clone_more}
+use Rattle.tokei_stats.proofs.stats.CodeStats.+try_clone.Goals as goal
+
+pub loop-language-preserved : goal.loop-language-preserved
+loop-language-preserved t c =
+    ap (λ es. entries_of es ++ entries_of c.next.new.self) c.in_ok-put.ensures.ok
+    ∙ clone_more c.loop-language.blobs.entries c.next.new.self (out-CodeStats c.args.self.now).blobs.entries c.in-Some.language.now c.in_ok-copy.copy c.in-Some.stats.now
+    (ap (λ es. entries_of c.loop-language.blobs.entries ++ entries_of es) (sym c.in-Some.ensures.steps) ∙ c.loop-language.invariant) c.iter-language-items.ensures.ordered c.in_ok-copy.ensures.ok

@@ -1,0 +1,77 @@
+-- Statistics: a finite tree of three numbers, and of a tree for each of some languages, in the table's order.
+use Rattle.std.specs.Prelude.{ℕ, ◌+◌, Option, None, Some}
+use Rattle.std.specs.Ordering.{nat_cmp}
+use Rattle.std.specs.declared.cmp.Ordering.{Ordering}
+use Rattle.std.specs.declared.cmp.Ordering.TheVariants.{Less, Equal, Greater}
+
+-- how many lines are blank, code and comments
+pub record Counts : Type 0 where
+  pub blanks : ℕ
+  pub code : ℕ
+  pub comments : ℕ
+
+mutual
+  pub data Statistics : Type 0 where
+    node : Counts → Blobs → Statistics
+
+  pub data Blobs : Type 0 where
+    none : Blobs
+    blob : ℕ → Statistics → Blobs → Blobs
+
+abbrev pub no_lines : Counts
+no_lines = record { blanks = 0; code = 0; comments = 0 }
+
+abbrev pub empty : Statistics
+empty = node no_lines none
+
+abbrev pub own : Statistics → Counts
+own (node n bs) = n
+
+abbrev pub blobs : Statistics → Blobs
+blobs (node n bs) = bs
+
+-- all lines, of whatever class
+abbrev pub lines_of : Counts → ℕ
+lines_of n = n.blanks + n.code + n.comments
+
+abbrev pub plus : Counts → Counts → Counts
+plus a b = record { blanks = a.blanks + b.blanks; code = a.code + b.code; comments = a.comments + b.comments }
+
+-- by how the key stands to an entry's
+abbrev pub by_order : {A : Type 0} → Ordering → A → A → A → A
+by_order Less a b c = a
+by_order Equal a b c = b
+by_order Greater a b c = c
+
+-- the statistics of a language
+abbrev pub at : Blobs → ℕ → Option Statistics
+at none k = None
+at (blob j s rest) k = by_order (nat_cmp k j) (at rest k) (Some s) (at rest k)
+
+-- the blobs with these statistics for the language
+abbrev pub put : Blobs → ℕ → Statistics → Blobs
+put none k s = blob k s none
+put (blob j t rest) k s = by_order (nat_cmp k j) (blob k s (blob j t rest)) (blob j s rest) (blob j t (put rest k s))
+
+-- f of what is there, or the new statistics where nothing is
+abbrev pub joined : Option Statistics → (Statistics → Statistics) → Statistics → Statistics
+joined None f s = s
+joined (Some t) f s = f t
+
+-- the sum, by number and by language, at every depth; a language stays also where its numbers are 0
+abbrev mutual
+  pub sum : Statistics → Statistics → Statistics
+  sum s (node n bs) = node (plus (own s) n) (add_all (blobs s) bs)
+
+  pub add_all : Blobs → Blobs → Blobs
+  add_all old none = old
+  add_all old (blob k t rest) = add_all (put old k (joined (at old k) (λ s. sum s t) t)) rest
+
+-- the summary: the counts of all nodes, added up
+abbrev mutual
+  pub summary : Statistics → Counts
+  summary (node n bs) = plus n (summaries bs)
+
+  pub summaries : Blobs → Counts
+  summaries none = no_lines
+  summaries (blob k t rest) = plus (summary t) (summaries rest)

@@ -1,0 +1,197 @@
+//! The statistics of a text: a tree of counts.
+use crate::error::CountError;
+use crate::sums::{Sums, sum_of};
+use std::alloc::Global;
+use std::collections::BTreeMap;
+use tokei_table::LanguageType;
+
+/// How many lines of a text are blank, code and comments, and the same of the texts of other languages inside it.
+#[derive(Debug, PartialEq, Drop)]
+pub struct CodeStats {
+    pub blanks: usize,
+    pub code: usize,
+    pub comments: usize,
+    /// The statistics of the texts inside, added up by language; they aren't in the three numbers above.
+    pub blobs: BTreeMap<LanguageType, CodeStats>,
+    alloc: Global,
+}
+
+impl CodeStats {
+    ghost use Rattle.std.specs.Prelude.{◌≡◌, ◌<◌, IfOk, OnOk, OnErr, IfErr, IsErrOf, true, false};
+    ghost use Rattle.tokei_stats.specs.Statistics.{empty, sum, summary, lines_of, plus};
+    ghost use Rattle.tokei_stats.specs.Statistics.Statistics.{node};
+    ghost use Rattle.tokei_stats.specs.Statistics.Blobs.{none};
+    ghost use Rattle.tokei_stats.specs.Overflow.{sum_fits, CountsFit};
+    ghost use Rattle.tokei_stats.specs.Seen.{stats_of, counts_of, sums_of, blobs_of, entries_of};
+
+    /// No lines and no blobs; takes no memory.
+    pub fn new(alloc: Global) -> Self
+        ensures { stats_of result ≡ empty }
+    {
+        CodeStats::assembled(alloc, Sums::new(), BTreeMap::new(alloc))
+    }
+
+    /// All lines of the text itself, of whatever class; refused with `Overflow` where their number passes the greatest
+    /// `usize`.
+    pub fn lines(&self) -> Result<usize, CountError>
+        ensures sum { IfOk result (λ n. n ≡ lines_of (counts_of self.now)) }
+        ensures past { OnErr result (usize.MAX < lines_of (counts_of self.now)) }
+        ensures overflow { IfErr result (λ e. e ≡ CountError.Overflow) }
+    {
+        match self.blanks.checked_add(self.code) {
+            None => Err(CountError::Overflow),
+            Some(begun) => match begun.checked_add(self.comments) {
+                None => Err(CountError::Overflow),
+                Some(all) => Ok(all),
+            },
+        }
+    }
+
+    /// A copy, which differs from a clone in that it may be refused for want of memory.
+    pub fn try_clone(&self) -> Result<CodeStats, CountError>
+        ensures ok { IfOk result (λ s. stats_of s ≡ stats_of self.now) }
+        ensures memory { IfErr result (λ e. e ≡ CountError.Memory) }
+    {
+        let mut blobs = BTreeMap::new(self.alloc);
+        for (language, stats) in self.blobs.iter() {
+            let copy = stats.try_clone()?;
+            put(&mut blobs, *language, copy)?;
+        }
+        Ok(CodeStats {
+            blanks: self.blanks,
+            code: self.code,
+            comments: self.comments,
+            blobs,
+            alloc: self.alloc,
+        })
+    }
+
+    /// The statistics of a text with these own counts and these blobs.
+    pub fn assembled(
+        alloc: Global,
+        own: Sums,
+        blobs: BTreeMap<LanguageType, CodeStats>,
+    ) -> CodeStats
+        ensures { stats_of result ≡ node (sums_of own) (blobs_of (entries_of blobs.entries)) }
+    {
+        CodeStats {
+            blanks: own.blanks,
+            code: own.code,
+            comments: own.comments,
+            blobs,
+            alloc,
+        }
+    }
+
+    /// The sum of `other` and this, by number and by language.
+    fn added_to(&self, other: &CodeStats) -> Result<CodeStats, CountError>
+        ensures ok { IfOk result (λ s. stats_of s ≡ sum (stats_of other.now) (stats_of self.now)) }
+        ensures fits { OnOk result (sum_fits (stats_of other.now) (stats_of self.now) ≡ true) }
+        ensures overflow { IsErrOf result CountError.Overflow → sum_fits (stats_of other.now) (stats_of self.now) ≡ false }
+    {
+        let blanks = sum_of(other.blanks, self.blanks)?;
+        let code = sum_of(other.code, self.code)?;
+        let comments = sum_of(other.comments, self.comments)?;
+        let CodeStats {
+            blanks: _,
+            code: _,
+            comments: _,
+            mut blobs,
+            alloc,
+        } = other.try_clone()?;
+        for (language, stats) in self.blobs.iter() {
+            let both = match blobs.get(language) {
+                Some(mine) => stats.added_to(mine)?,
+                None => stats.try_clone()?,
+            };
+            put(&mut blobs, *language, both)?;
+        }
+        Ok(CodeStats {
+            blanks,
+            code,
+            comments,
+            blobs,
+            alloc,
+        })
+    }
+
+    /// Adds the other statistics, by number and by language, at every depth. `Overflow` exactly where a sum of two
+    /// numbers passes the greatest `usize`, or `Memory`; a refusal changes nothing.
+    pub fn add(&mut self, other: &CodeStats) -> Result<(), CountError>
+        ensures ok { OnOk result (stats_of self.new ≡ sum (stats_of self.old) (stats_of other.now)) }
+        ensures fits { OnOk result (sum_fits (stats_of self.old) (stats_of other.now) ≡ true) }
+        ensures overflow { IsErrOf result CountError.Overflow → sum_fits (stats_of self.old) (stats_of other.now) ≡ false }
+        ensures err { OnErr result (self.new ≡ self.old) }
+    {
+        *self = other.added_to(self)?;
+        Ok(())
+    }
+
+    /// The counts of all nodes, added up.
+    fn sums(&self) -> Result<Sums, CountError>
+        ensures sum { IfOk result (λ n. sums_of n ≡ summary (stats_of self.now)) }
+        ensures past { OnErr result (¬ CountsFit (summary (stats_of self.now))) }
+        ensures overflow { IfErr result (λ e. e ≡ CountError.Overflow) }
+    {
+        let mut sums = Sums {
+            blanks: self.blanks,
+            code: self.code,
+            comments: self.comments,
+        };
+        for (_, stats) in self.blobs.iter() {
+            let inner = stats.sums()?;
+            sums = sums.plus(inner)?;
+        }
+        Ok(sums)
+    }
+
+    /// The counts of this text and of all texts inside it, added up, with no blobs. `Overflow` exactly where one of the
+    /// three numbers passes the greatest `usize`.
+    pub fn summarise(&self) -> Result<CodeStats, CountError>
+        ensures sum { IfOk result (λ s. stats_of s ≡ node (summary (stats_of self.now)) none) }
+        ensures past { OnErr result (¬ CountsFit (summary (stats_of self.now))) }
+        ensures overflow { IfErr result (λ e. e ≡ CountError.Overflow) }
+    {
+        let sums = self.sums()?;
+        Ok(CodeStats::assembled(self.alloc, sums, BTreeMap::new(self.alloc)))
+    }
+}
+
+ghost use Rattle.std.specs.Prelude.{◌≡◌, ◌+◌, ◌≤◌, ◌^◌, false, IfOk, IfErr, OnOk, OnErr, IsErrOf};
+ghost use Rattle.std.specs.Ordering.{nat_cmp};
+ghost use Rattle.std.specs.BTreeMap.{insert_entry};
+ghost use Rattle.tokei_stats.specs.Overflow.{fit_at, sum_fits};
+ghost use Rattle.tokei_stats.specs.Seen.{blobs_of, entries_of, stats_of};
+ghost use Rattle.tokei_stats.specs.Statistics.{sum, at, put, joined};
+
+/// Puts the statistics at the language.
+fn put(
+    blobs: &mut BTreeMap<LanguageType, CodeStats>,
+    language: LanguageType,
+    stats: CodeStats,
+) -> Result<(), CountError>
+    ensures ok { OnOk result (blobs.new.entries ≡ insert_entry nat_cmp blobs.old.entries language stats) }
+    ensures memory { IfErr result (λ e. e ≡ CountError.Memory) }
+{
+    let _old = blobs.insert(language, stats)?;
+    Ok(())
+}
+
+/// Adds the statistics to those of the language.
+pub fn add_blob(
+    blobs: &mut BTreeMap<LanguageType, CodeStats>,
+    language: LanguageType,
+    stats: &CodeStats,
+) -> Result<(), CountError>
+    ensures ok { OnOk result (blobs_of (entries_of blobs.new.entries)
+        ≡ put (blobs_of (entries_of blobs.old.entries)) language
+        (joined (at (blobs_of (entries_of blobs.old.entries)) language) (λ s. sum s (stats_of stats.now)) (stats_of stats.now))) }
+    ensures overflow { IsErrOf result CountError.Overflow
+        → fit_at (at (blobs_of (entries_of blobs.old.entries)) language) (λ s. sum_fits s (stats_of stats.now)) ≡ false }
+{
+    let both = match blobs.get(&language) {
+        Some(there) => stats.added_to(there)?,
+        None => stats.try_clone()?,
+    };
+    put(blobs, language, both)
+}
