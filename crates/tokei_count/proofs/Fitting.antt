@@ -1,90 +1,10 @@
--- Where a sum fits, so does all that it was made of.
-use Rattle.std.proofs.Common.{◌≡◌, ℕ, ◌<◌, Bool, true, ◌&&◌, List, [], ◌∷◌, Option, None, Some, nat_lt, refl, ap, ◌∙◌, arith}
-use Rattle.std.specs.Ordering.{nat_cmp}
-use Rattle.std.specs.declared.cmp.Ordering.{Ordering}
-use Rattle.std.specs.declared.cmp.Ordering.TheVariants.{Less, Equal, Greater}
-use Rattle.std.proofs.lemmas.Bool.Decides.{nat_tests}
+-- Where the blobs of a reading fit, so does all that they were made of.
+use Rattle.std.proofs.Common.{ℕ, List, [], ◌∷◌}
 use Rattle.tokei_count.specs.Items.{Block}
-use Rattle.tokei_count.specs.Statistics.{Counts, Statistics, Blobs, plus, by_order, at, put, joined, sum, add_all}
-use Rattle.tokei_count.specs.Statistics.Statistics.{node}
-use Rattle.tokei_count.specs.Statistics.Blobs.{none, blob}
+use Rattle.tokei_stats.specs.Statistics.{Statistics, Blobs, at, put, joined, sum}
 use Rattle.tokei_count.specs.PlainReading.{gathered}
-use Rattle.tokei_count.specs.Overflow.{counts_fit, fit_at, sum_fits, all_fit, CountsFit, Fits, BlobsFit}
-
-pub counts-left : (a b : Counts) → CountsFit (plus a b) → CountsFit a
-counts-left a b h = record { blanks = omega (arith, h.blanks); code = omega (arith, h.code); comments = omega (arith, h.comments) }
-
-pub counts-right : (a b : Counts) → CountsFit (plus a b) → CountsFit b
-counts-right a b h = record { blanks = omega (arith, h.blanks); code = omega (arith, h.code); comments = omega (arith, h.comments) }
-
-below : (n : ℕ) → n < 18446744073709551616 → nat_lt n 18446744073709551616 ≡ true
-below n h = grind (arith, nat_tests)
-
-both : (x y : Bool) → x ≡ true → y ≡ true → (x && y) ≡ true
-both x y h k = ap (λ v. v && y) h ∙ k
-
-pub counts-test : (n : Counts) → CountsFit n → counts_fit n ≡ true
-counts-test n h = both (nat_lt n.blanks 18446744073709551616) _ (below n.blanks h.blanks) (both (nat_lt n.code 18446744073709551616) _ (below n.code h.code) (below n.comments h.comments))
-
--- what is put
-pub put-value : (bs : Blobs) (k : ℕ) (v : Statistics) → BlobsFit (put bs k v) → Fits v
-put-value none k v h = h.0
-put-value (blob j s rest) k v h = by_cmp (nat_cmp k j) h (put-value rest k v)
-  where
-    by_cmp : (o : Ordering) → BlobsFit (by_order o (blob k v (blob j s rest)) (blob j v rest) (blob j s (put rest k v))) → (BlobsFit (put rest k v) → Fits v) → Fits v
-    by_cmp Less h f = h.0
-    by_cmp Equal h f = h.0
-    by_cmp Greater h f = f h.1
-
--- what it is put into, where the value holds what was there
-pub put-others : (f : Statistics → Statistics) (t : Statistics) → ((s : Statistics) → Fits (f s) → Fits s) → (bs : Blobs) (k : ℕ) → BlobsFit (put bs k (joined (at bs k) f t)) → BlobsFit bs
-put-others f t g none k h = tt
-put-others f t g (blob j s rest) k h = by_cmp (nat_cmp k j) h (put-others f t g rest k)
-  where
-    by_cmp : (o : Ordering) → BlobsFit (by_order o (blob k (joined (by_order o (at rest k) (Some s) (at rest k)) f t) (blob j s rest)) (blob j (joined (by_order o (at rest k) (Some s) (at rest k)) f t) rest) (blob j s (put rest k (joined (by_order o (at rest k) (Some s) (at rest k)) f t))))
-        → (BlobsFit (put rest k (joined (at rest k) f t)) → BlobsFit rest) → Fits s × BlobsFit rest
-    by_cmp Less h r = h.1
-    by_cmp Equal h r = (g s h.0, h.1)
-    by_cmp Greater h r = (h.0, r h.1)
-
-joined-new : (o : Option Statistics) (f : Statistics → Statistics) (t : Statistics) → ((s : Statistics) → Fits (f s) → Fits t) → Fits (joined o f t) → Fits t
-joined-new None f t g h = h
-joined-new (Some s) f t g h = g s h
-
-mutual
-  pub sum-left : (s t : Statistics) → Fits (sum s t) → Fits s
-  sum-left (node m cs) (node n bs) h = (counts-left m n h.0, all-left cs bs h.1)
-
-  pub all-left : (old bs : Blobs) → BlobsFit (add_all old bs) → BlobsFit old
-  all-left old none h = h
-  all-left old (blob k t rest) h = put-others (λ s. sum s t) t (λ s. sum-left s t) old k (all-left (put old k (joined (at old k) (λ s. sum s t) t)) rest h)
-
-mutual
-  pub sum-right : (s t : Statistics) → Fits (sum s t) → Fits t
-  sum-right (node m cs) (node n bs) h = (counts-right m n h.0, all-right cs bs h.1)
-
-  pub all-right : (old bs : Blobs) → BlobsFit (add_all old bs) → BlobsFit bs
-  all-right old none h = tt
-  all-right old (blob k t rest) h =
-      let more : Blobs = put old k (joined (at old k) (λ s. sum s t) t) in
-      (joined-new (at old k) (λ s. sum s t) t (λ s. sum-right s t) (put-value old k (joined (at old k) (λ s. sum s t) t) (all-left more rest h)), all-right more rest h)
-
-fit_one_test : (o : Option Statistics) (t : Statistics) → ((s : Statistics) → Fits (sum s t) → sum_fits s t ≡ true) → Fits (joined o (λ s. sum s t) t) → fit_at o (λ s. sum_fits s t) ≡ true
-fit_one_test None t g h = refl
-fit_one_test (Some s) t g h = g s h
-
-mutual
-  -- where a sum fits, each addition on the way does
-  pub sum-test : (s t : Statistics) → Fits (sum s t) → sum_fits s t ≡ true
-  sum-test (node m cs) (node n bs) h = both (counts_fit (plus m n)) (all_fit cs bs) (counts-test (plus m n) h.0) (all-test cs bs h.1)
-
-  pub all-test : (old bs : Blobs) → BlobsFit (add_all old bs) → all_fit old bs ≡ true
-  all-test old none h = refl
-  all-test old (blob k t rest) h =
-      let v : Statistics = joined (at old k) (λ s. sum s t) t in
-      both (fit_at (at old k) (λ s. sum_fits s t)) (all_fit (put old k v) rest)
-      (fit_one_test (at old k) t (λ s. sum-test s t) (put-value old k v (all-left (put old k v) rest h)))
-      (all-test (put old k v) rest h)
+use Rattle.tokei_stats.specs.Overflow.{Fits, BlobsFit}
+use Rattle.tokei_stats.proofs.Fitting.{put-value, put-others, joined-new, sum-left, sum-right}
 
 -- the blobs so far, where all children's do
 pub gathered-left : (read : Block → Statistics) (bs : Blobs) (ks : List Block) → BlobsFit (gathered read bs ks) → BlobsFit bs
@@ -99,6 +19,3 @@ gathered-first read bs k ks h = put-value bs k.language _ (gathered-left read (p
 
 pub gathered-child : (read : Block → Statistics) (bs : Blobs) (k : Block) (ks : List Block) → BlobsFit (gathered read bs (k ∷ ks)) → Fits (read k)
 gathered-child read bs k ks h = joined-new (at bs k.language) (λ s. sum s (read k)) (read k) (λ s. sum-right s (read k)) (gathered-first read bs k ks h)
-
-pub joined-test : (o : Option Statistics) (t : Statistics) → Fits (joined o (λ s. sum s t) t) → fit_at o (λ s. sum_fits s t) ≡ true
-joined-test o t h = fit_one_test o t (λ s. sum-test s t) h

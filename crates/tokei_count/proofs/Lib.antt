@@ -9,8 +9,6 @@ pub mod LineEnd
 pub mod Childless
 pub mod SpelledItems
 pub mod Children
-pub mod Cloning
-pub mod Adding
 pub mod PartFronts
 pub mod Blocks
 pub mod PartReading
@@ -22,8 +20,4 @@ pub mod Pieces
 pub mod LineEnds
 pub mod TextReading
 pub mod KnownLanguages
-pub mod BlobsAt
-pub mod SumsOrdered
-pub mod SumLaws
-pub mod MapsOrdered
 pub mod ListedLanguages

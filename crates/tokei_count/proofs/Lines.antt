@@ -10,7 +10,7 @@ use Rattle.tokei_count.specs.Modes.{Chain, innermost}
 use Rattle.tokei_count.specs.Parts.{cut}
 use Rattle.tokei_count.specs.PlainReading.{tally, one_of, children}
 use Rattle.tokei_count.specs.Progress.{Leads, ReadsLine, OpensInLine, counts_left, children_left, IsClosable}
-use Rattle.tokei_count.specs.Statistics.{Counts, plus, no_lines}
+use Rattle.tokei_stats.specs.Statistics.{Counts, plus, no_lines}
 use Rattle.tokei_count.specs.declared.class.Class.{Class}
 use Rattle.tokei_table.specs.Row.{Row}
 use Rattle.tokei_table.specs.Sound.{IsSound}

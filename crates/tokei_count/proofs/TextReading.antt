@@ -9,12 +9,13 @@ use Rattle.tokei_count.specs.Languages.{is_notebook}
 use Rattle.tokei_count.specs.Openings.{languages_of}
 use Rattle.tokei_count.specs.PlainReading.{blocks, reading, read_by, child_reading, shares, gathered, one_of}
 use Rattle.tokei_count.specs.Progress.{marks_ahead, counts_left, children_left, ReadsLine, ReadsChild}
-use Rattle.tokei_count.specs.Statistics.{Counts, Statistics, Blobs, plus, no_lines, empty, at, put, joined, sum}
-use Rattle.tokei_count.specs.Statistics.Statistics.{node}
-use Rattle.tokei_count.specs.Statistics.Blobs.{none}
-use Rattle.tokei_count.specs.Overflow.{CountsFit, Fits, BlobsFit, fit_at, sum_fits}
+use Rattle.tokei_stats.specs.Statistics.{Counts, Statistics, Blobs, plus, no_lines, empty, at, put, joined, sum}
+use Rattle.tokei_stats.specs.Statistics.Statistics.{node}
+use Rattle.tokei_stats.specs.Statistics.Blobs.{none}
+use Rattle.tokei_stats.specs.Overflow.{CountsFit, Fits, BlobsFit, fit_at, sum_fits}
 use Rattle.tokei_count.specs.declared.class.Class.{Class}
-use Rattle.tokei_count.proofs.Fitting.{counts-left, gathered-child, gathered-first, joined-test}
+use Rattle.tokei_count.proofs.Fitting.{gathered-child, gathered-first}
+use Rattle.tokei_stats.proofs.Fitting.{counts-left, joined-test}
 use Rattle.tokei_count.proofs.Lines.{counts_left-none, children_left-none}
 
 counts_same : (a b : Counts) → a.blanks ≡ b.blanks → a.code ≡ b.code → a.comments ≡ b.comments → a ≡ b

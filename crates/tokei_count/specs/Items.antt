@@ -1,7 +1,7 @@
 -- A text as nested items.
 use Rattle.std.specs.Prelude.{ℕ, Bool, List, Option}
 use Rattle.tokei_table.specs.Row.{Pair}
-use Rattle.tokei_count.specs.Statistics.{Counts}
+use Rattle.tokei_stats.specs.Statistics.{Counts}
 use Rattle.tokei_count.specs.declared.items.Kind.{Kind}
 use Rattle.tokei_count.specs.declared.items.Kind.TheVariants.{DocString, VerbatimString, OrdinaryString, MultiLineComment}
 

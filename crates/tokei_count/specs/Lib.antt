@@ -6,10 +6,6 @@ pub mod Spelling
 pub mod Modes
 pub mod Parts
 pub mod Class
-pub mod Statistics
-pub mod Ordered
-pub mod SumLaws
-pub mod Overflow
 pub mod PlainReading
 pub mod Languages
 pub mod Progress

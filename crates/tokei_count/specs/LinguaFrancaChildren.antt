@@ -4,7 +4,7 @@ use Rattle.tokei_table.specs.OuterLines.{trim_outer_lines}
 use Rattle.tokei_table.specs.Row.{Row}
 use Rattle.tokei_embedding.specs.TargetBlocks.{TargetBlock, target_block, target_of}
 use Rattle.tokei_count.specs.Items.{Block}
-use Rattle.tokei_count.specs.Statistics.{no_lines}
+use Rattle.tokei_stats.specs.Statistics.{no_lines}
 use Rattle.tokei_count.specs.NamedLanguages.{by_name}
 
 -- the target `CCpp` means C

@@ -8,9 +8,9 @@ use Rattle.tokei_count.specs.Modes.Mark.{byte_at, child_at}
 use Rattle.tokei_count.specs.Parts.{Part, parts_of}
 use Rattle.tokei_count.specs.Class.{class_of}
 use Rattle.tokei_count.specs.Languages.{Languages, is_notebook}
-use Rattle.tokei_count.specs.Statistics.{Counts, Statistics, Blobs, no_lines, plus, empty, at, put, joined, sum}
-use Rattle.tokei_count.specs.Statistics.Statistics.{node}
-use Rattle.tokei_count.specs.Statistics.Blobs.{none}
+use Rattle.tokei_stats.specs.Statistics.{Counts, Statistics, Blobs, no_lines, plus, empty, at, put, joined, sum}
+use Rattle.tokei_stats.specs.Statistics.Statistics.{node}
+use Rattle.tokei_stats.specs.Statistics.Blobs.{none}
 use Rattle.tokei_count.specs.declared.class.Class.{Class}
 use Rattle.tokei_count.specs.declared.class.Class.TheVariants.{Blank, Code, Comment}
 

@@ -9,7 +9,7 @@ use Rattle.tokei_count.specs.Choice.Choice.{child_opens}
 use Rattle.tokei_count.specs.Derivation.{Body, derive}
 use Rattle.tokei_count.specs.Modes.{Mark, Chain, innermost, marks, closing}
 use Rattle.tokei_count.specs.Parts.{cut, part_front}
-use Rattle.tokei_count.specs.Statistics.{Counts, plus}
+use Rattle.tokei_stats.specs.Statistics.{Counts, plus}
 use Rattle.tokei_count.specs.PlainReading.{tally, one_of, children}
 use Rattle.tokei_count.specs.declared.class.Class.{Class}
 

@@ -5,7 +5,7 @@ use Rattle.tokei_table.specs.Lookups.{row_at}
 use Rattle.tokei_count.specs.Items.{Block}
 use Rattle.tokei_count.specs.Openings.{languages_of}
 use Rattle.tokei_count.specs.PlainReading.{blocks, reading}
-use Rattle.tokei_count.specs.Statistics.{Statistics}
+use Rattle.tokei_stats.specs.Statistics.{Statistics}
 use Rattle.tokei_count.specs.declared.reading.Reading.{Reading}
 
 -- the row of the text's language

@@ -4,7 +4,7 @@ use Rattle.tokei_table.specs.Bytes.{trim}
 use Rattle.tokei_table.specs.Row.{Row}
 use Rattle.tokei_embedding.specs.DocComments.{DocBlock, doc_block}
 use Rattle.tokei_count.specs.Items.{Block}
-use Rattle.tokei_count.specs.Statistics.{no_lines}
+use Rattle.tokei_stats.specs.Statistics.{no_lines}
 use Rattle.tokei_count.specs.NamedLanguages.{fallback}
 
 -- what the lines say is read trimmed; they add nothing to the parent

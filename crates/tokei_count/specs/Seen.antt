@@ -7,15 +7,10 @@ use Rattle.tokei_count.specs.Items.{Block, Enclosure, Mode}
 use Rattle.tokei_count.specs.Choice.{Choice, or_else}
 use Rattle.tokei_count.specs.Choice.Choice.{closes, escapes, child_opens, opens, passes_over, begins_line_comment, takes_byte}
 use Rattle.tokei_count.specs.Modes.{Chain}
-use Rattle.tokei_count.specs.Statistics.{Counts, Statistics, Blobs, own}
-use Rattle.tokei_count.specs.Statistics.Statistics.{node}
-use Rattle.tokei_count.specs.Statistics.Blobs.{none, blob}
 use Rattle.tokei_count.specs.declared.choice.Choice as CodeChoice
 use Rattle.tokei_count.specs.declared.choice.Choice.TheVariants.{Closer, Escape, Child, Opener, PassedOpener, LineComment, Byte}
 use Rattle.tokei_count.specs.declared.items.Enclosure as CodeEnclosure
 use Rattle.tokei_count.specs.declared.openings.Block as CodeBlock
-use Rattle.tokei_count.specs.declared.stats.CodeStats.{CodeStats, CodeStats-F, fold-CodeStats}
-use Rattle.tokei_count.specs.declared.stats.Sums.{Sums}
 use Rattle.tokei_count.specs.declared.config.CountConfig.{CountConfig}
 
 -- the text of a child: a doc comment's lines are read without their marks, joined and trimmed
@@ -44,28 +39,6 @@ mode_of o = option_map enclosure_of o
 -- the items that enclose a place, from the stack on which the last is the innermost
 abbrev pub chain_of : List CodeEnclosure.Enclosure → Chain
 chain_of es = map enclosure_of (reverse es)
-
-abbrev pub blobs_of : List (ℕ × Statistics) → Blobs
-blobs_of [] = none
-blobs_of (e ∷ es) = blob e.0 e.1 (blobs_of es)
-
--- the statistics of a value, where those of its blobs are known
-abbrev pub stats_step : CodeStats-F Statistics → Statistics
-stats_step s = node (record { blanks = s.blanks; code = s.code; comments = s.comments }) (blobs_of s.blobs.entries)
-
-abbrev pub stats_of : CodeStats → Statistics
-stats_of = fold-CodeStats Statistics stats_step
-
--- the text's own counts
-abbrev pub counts_of : CodeStats → Counts
-counts_of s = own (stats_of s)
-
--- each blob with its statistics
-abbrev pub entries_of : List (ℕ × CodeStats) → List (ℕ × Statistics)
-entries_of es = map (λ e. (e.0, stats_of e.1)) es
-
-abbrev pub sums_of : Sums → Counts
-sums_of s = record { blanks = s.blanks; code = s.code; comments = s.comments }
 
 -- whether doc strings are treated as comments; they aren't where nothing is said
 abbrev pub docs_of : CountConfig → Bool

@@ -1,7 +1,7 @@
 //! A text of another language that was read inside a text.
 ghost use Rattle.std.specs.Prelude.{◌≡◌};
 
-use crate::stats::CodeStats;
+use tokei_stats::CodeStats;
 use tokei_table::LanguageType;
 
 /// By which rules a text of another language opened, and in which language it is read.

@@ -1,51 +1,7 @@
 //! Laws of the definitions alone: each is the contract of a function that does nothing.
-ghost use Rattle.tokei_count.specs.Ordered.{IsOrdered};
-ghost use Rattle.tokei_count.specs.Seen.{stats_of};
 ghost use Rattle.tokei_count.specs.Spelling.{ItemsSpellText};
-ghost use Rattle.tokei_count.specs.SumLaws.{SumsStayOrdered, SumsCommute, SumsAssociate, EmptyIsNeutral, SummariesAdd, SummarisingOnceSuffices};
-
-use crate::stats::CodeStats;
 
 /// The items of a text spell it.
 pub fn items_spell_text()
     ensures { ItemsSpellText }
 {}
-
-/// The sum of statistics in the table's order is in the table's order.
-pub fn sums_stay_ordered()
-    ensures { SumsStayOrdered }
-{}
-
-/// The sum of two statistics is the same the other way round.
-pub fn sums_commute()
-    ensures { SumsCommute }
-{}
-
-/// The sum of three statistics is the same whichever two are added first.
-pub fn sums_associate()
-    ensures { SumsAssociate }
-{}
-
-/// Empty statistics change no sum.
-pub fn empty_is_neutral()
-    ensures { EmptyIsNeutral }
-{}
-
-/// The summary of a sum is the sum of the summaries.
-pub fn summaries_add()
-    ensures { SummariesAdd }
-{}
-
-/// Summarising twice is summarising once.
-pub fn summarising_once_suffices()
-    ensures { SummarisingOnceSuffices }
-{}
-
-/// The statistics of every value are in the table's order.
-pub fn statistics_are_ordered(stats: &CodeStats)
-    ensures { IsOrdered (stats_of stats.now) }
-{
-    for (_, inner) in stats.blobs.iter() {
-        statistics_are_ordered(inner);
-    }
-}

@@ -1,7 +1,7 @@
 //! Counts the blank, code and comment lines of a text in its language, and of the texts of other languages inside it.
 //!
 //! `specs/` holds the rules, one idea a file: items, the choice at a place, the derivation, the mode at a place, parts,
-//! the class of a part, where a child opens in a language of each family, statistics, the plain reading.
+//! the class of a part, where a child opens in a language of each family, the plain reading.
 #![tactic(auto)]
 
 mod choice;
@@ -16,7 +16,6 @@ mod openings;
 mod parse;
 mod plain_reading;
 mod reading;
-mod stats;
 mod walk;
 
 pub use config::CountConfig;
@@ -25,7 +24,7 @@ pub use file_context::{FileContext, LanguageContext};
 pub use matchers::SharedMatchers;
 pub use parse::{parse_from_slice, parse_from_str};
 pub use plain_reading::count_plain;
-pub use stats::{CodeStats, CountError};
+pub use tokei_stats::{CodeStats, CountError};
 pub use tokei_embedding::{
     Capture, HtmlLike, SimpleCapture, end_lf, end_markdown, end_script, end_style, end_template,
     start_lf, start_markdown, start_script, start_style, start_template,

@@ -15,7 +15,7 @@ ghost use Rattle.tokei_count.specs.ReadingOf.{blocks_of};
 ghost use Rattle.tokei_count.specs.Seen.{block_of};
 
 use crate::reading::Reading;
-use crate::stats::Sums;
+use tokei_stats::Sums;
 use tokei_embedding::{Tag, doc_at, fence_at, tag_at, target_at, target_of};
 use tokei_table::ext::{trim, trim_first_and_last_line_of_whitespace};
 use tokei_table::family::Family;
@@ -37,7 +37,8 @@ pub(crate) struct Block<'a> {
 }
 
 impl<'a> Block<'a> {
-    ghost use Rattle.tokei_count.specs.Seen.{block_of, sums_of};
+    ghost use Rattle.tokei_count.specs.Seen.{block_of};
+    ghost use Rattle.tokei_stats.specs.Seen.{sums_of};
 
     /// The lines that the child adds to its parent.
     pub fn share(&self) -> Sums

@@ -1,14 +1,15 @@
 //! The calls that count a text.
 ghost use Rattle.std.specs.Prelude.{◌≡◌, ◌<◌, length, IfOk, IsErrOf};
 ghost use Rattle.tokei_count.specs.Openings.{languages_of};
-ghost use Rattle.tokei_count.specs.Overflow.{Fits};
+ghost use Rattle.tokei_stats.specs.Overflow.{Fits};
 ghost use Rattle.tokei_count.specs.PlainReading.{reading, outermost_levels};
-ghost use Rattle.tokei_count.specs.Seen.{stats_of, docs_of};
+ghost use Rattle.tokei_count.specs.Seen.{docs_of};
+ghost use Rattle.tokei_stats.specs.Seen.{stats_of};
 
 use crate::config::CountConfig;
 use crate::counter::Counter;
 use crate::plain_reading::count_plain;
-use crate::stats::{CodeStats, CountError};
+use tokei_stats::{CodeStats, CountError};
 use std::alloc::Global;
 use tokei_table::LanguageType;
 

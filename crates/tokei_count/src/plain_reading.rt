@@ -5,17 +5,19 @@ ghost use Rattle.tokei_embedding.specs.DocComments.{doc_text};
 ghost use Rattle.tokei_count.specs.Languages.{is_notebook};
 ghost use Rattle.tokei_count.specs.Lines.{line_len};
 ghost use Rattle.tokei_count.specs.Openings.{languages_of};
-ghost use Rattle.tokei_count.specs.Overflow.{Fits};
-ghost use Rattle.tokei_count.specs.PlainReading.{reading, outermost_levels};
+ghost use Rattle.tokei_stats.specs.Overflow.{Fits};
+ghost use Rattle.tokei_count.specs.PlainReading.{reading, outermost_levels, one_of};
 ghost use Rattle.tokei_count.specs.Progress.{IsPart};
 ghost use Rattle.tokei_count.specs.ReadingOf.{blocks_of};
-ghost use Rattle.tokei_count.specs.Seen.{block_of, stats_of, docs_of};
+ghost use Rattle.tokei_count.specs.Seen.{block_of, docs_of};
+ghost use Rattle.tokei_stats.specs.Seen.{stats_of, sums_of};
 
+use crate::class::Class;
 use crate::config::CountConfig;
 use crate::counter::Counter;
 use crate::openings::{Block, block_at};
 use crate::reading::Reading;
-use crate::stats::{CodeStats, CountError, Sums, add_blob};
+use tokei_stats::{CodeStats, CountError, Sums, add_blob};
 use crate::walk::{PartEnd, line_len, read_part};
 use std::alloc::{AllocError, Global};
 use std::collections::BTreeMap;
@@ -60,6 +62,29 @@ fn said(alloc: Global, child: &Block) -> Result<Vec<u8>, AllocError>
     }
 }
 
+/// One line of the class.
+fn counted_as(class: Class) -> Sums
+    ensures { sums_of result ≡ one_of class }
+{
+    match class {
+        Class::Blank => Sums {
+            blanks: 1,
+            code: 0,
+            comments: 0,
+        },
+        Class::Code => Sums {
+            blanks: 0,
+            code: 1,
+            comments: 0,
+        },
+        Class::Comment => Sums {
+            blanks: 0,
+            code: 0,
+            comments: 1,
+        },
+    }
+}
+
 /// The statistics of a text, part by part; `docs` says whether doc strings are treated as comments. Its children are
 /// read with one level less.
 pub(crate) fn read_text(
@@ -92,7 +117,7 @@ pub(crate) fn read_text(
     while start < text.len() {
         match read_part(&reading, &mut stack, left, start)? {
             PartEnd::Line(class, end) => {
-                own = own.plus(Sums::of_line(class))?;
+                own = own.plus(counted_as(class))?;
                 start = end;
             }
             PartEnd::Broken(at) => {

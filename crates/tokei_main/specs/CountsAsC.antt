@@ -2,7 +2,7 @@
 use Rattle.std.specs.Prelude.{ℕ, false, List, unwrap_or}
 use Rattle.tokei_count.specs.Openings.{languages_of}
 use Rattle.tokei_count.specs.PlainReading.{reading, outermost_levels}
-use Rattle.tokei_count.specs.Statistics.{Counts, Statistics, own}
+use Rattle.tokei_stats.specs.Statistics.{Counts, Statistics, own}
 use Rattle.tokei_main.specs.CTable.{c_rows, c_place}
 
 -- the plain reading of the text in C, by the table that the program holds; a text is read only where it has C

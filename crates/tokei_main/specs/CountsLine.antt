@@ -1,6 +1,6 @@
 -- The line that the first program writes.
 use Rattle.std.specs.Prelude.{ℕ, List, [], ◌∷◌, ◌++◌, codes, decimal}
-use Rattle.tokei_count.specs.Statistics.{Counts}
+use Rattle.tokei_stats.specs.Statistics.{Counts}
 
 -- `blanks B, code C, comments K` and a newline, each number in decimal
 abbrev pub counts_line : Counts → List ℕ

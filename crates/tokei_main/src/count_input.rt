@@ -1,8 +1,8 @@
 //! The engine of the first program: a text is read, counted as C, and its counts are written as one line.
 ghost use Rattle.std.specs.Prelude.{◌≡◌, ◌≢◌, ◌<◌, ◌≤◌, true, length, is_some, IfOk, IfSome, IsErrOf, OnOk, OnErr, string_bytes};
 ghost use Rattle.std.specs.Io.KnownBytes.{Appends, IsAtEnd};
-ghost use Rattle.tokei_count.specs.Overflow.{Fits};
-ghost use Rattle.tokei_count.specs.Seen.{counts_of, stats_of};
+ghost use Rattle.tokei_stats.specs.Overflow.{Fits};
+ghost use Rattle.tokei_stats.specs.Seen.{counts_of, stats_of};
 ghost use Rattle.tokei_main.specs.CTable.{c_place};
 ghost use Rattle.tokei_main.specs.CountsAsC.{counts_as_c, reading_as_c};
 ghost use Rattle.tokei_main.specs.CountsLine.{counts_line};

@@ -1,10 +1,8 @@
-use Rattle.std.proofs.Common.{◌≡◌, ℕ, ◌<◌, map, length, String, List, take, sym, subst, ap, ◌∙◌, arith}
-use Rattle.std.specs.Borrow.{Bor}
-use Rattle.std.specs.Global.{Global}
+use Rattle.std.proofs.Common.{◌≡◌, map, length, take, ap, ◌∙◌, arith}
 use Rattle.std.proofs.Math.Seq.{take-length}
 use Rattle.tokei_table.specs.Listed.{listed, languages_from}
 use Rattle.tokei_table.specs.Openers.{openers}
-use Rattle.tokei_count.proofs.ListedLanguages.{IsPlaced, listed_item, listed_all, one_more}
+use Rattle.tokei_count.proofs.ListedLanguages.{listed_item, listed_all, one_more}
 use Rattle.tokei_count.proofs.matchers.all_matchers.Goals as goal
 
 pub new-requires : goal.new-requires

@@ -8,13 +8,14 @@ use Rattle.tokei_count.specs.Items.{Block}
 use Rattle.tokei_count.specs.Languages.{is_notebook}
 use Rattle.tokei_count.specs.Modes.{Chain}
 use Rattle.tokei_count.specs.Openings.{languages_of}
-use Rattle.tokei_count.specs.Overflow.{CountsFit, Fits, fit_at, sum_fits}
+use Rattle.tokei_stats.specs.Overflow.{CountsFit, Fits, fit_at, sum_fits}
 use Rattle.tokei_count.specs.PlainReading.{blocks, reading, child_reading}
 use Rattle.tokei_count.specs.Progress.{IsClosable, ReadsChild}
-use Rattle.tokei_count.specs.Seen.{chain_of, sums_of, blobs_of, entries_of, block_of, contents_of, stats_of}
-use Rattle.tokei_count.specs.Statistics.{Counts, Statistics, Blobs, plus, at, put, joined, sum}
+use Rattle.tokei_count.specs.Seen.{chain_of, block_of, contents_of}
+use Rattle.tokei_stats.specs.Seen.{sums_of, blobs_of, entries_of, stats_of}
+use Rattle.tokei_stats.specs.Statistics.{Counts, Statistics, Blobs, plus, at, put, joined, sum}
 use Rattle.tokei_count.specs.Walked.{Reads}
-use Rattle.tokei_count.specs.declared.stats.CountError.TheVariants.{Overflow}
+use Rattle.tokei_stats.specs.declared.error.CountError.TheVariants.{Overflow}
 use Rattle.tokei_count.proofs.KnownLanguages.{blocks_known}
 use Rattle.tokei_count.proofs.PartFronts.{part_behind}
 use Rattle.tokei_count.proofs.TextReading.{IsUnderWay, reading-notebook, read_whole, child_read, line_fits, share_fits, child_fits, blob_fits, levels_left, child_reading-is}
@@ -37,7 +38,7 @@ returns-in_err-own-in-Line-clause-overflow t c =
     let lines : is_notebook (row_at c.args.table.now c.args.language) ≡ false = ap is_notebook (sym c.syntax.ensures.row) ∙ sym c.is_notebook.ensures ∙ c.if-is_notebook.false in
     let way : IsUnderWay c.args.table.now c.args.docs c.args.levels c.args.language c.args.text.now (sums_of c.loop-start.own) (blobs_of (entries_of c.loop-start.blobs.entries)) c.loop-start.left (chain_of c.loop-start.stack.items) (drop c.loop-start.start c.args.text.now) = record { counts = c.loop-start.invariant.counts; kids = c.loop-start.invariant.kids } in
     let r = subst (Reads (row_at c.args.table.now c.args.language) (blocks (languages_of c.args.table.now) c.args.levels c.args.language c.args.text.now) c.loop-start.left c.args.docs (chain_of c.loop-start.stack.items) (chain_of c.read_part.new.stack.items) c.loop-start.start c.args.text.now) c.in-Line.is c.in_ok-class.ensures in
-    λ is fits. c.in_err-own-in-Line.ensures.past (subst (λ (m : Counts). CountsFit (plus (sums_of c.loop-start.own) m)) (sym c.of_line.ensures)
+    λ is fits. c.in_err-own-in-Line.ensures.past (subst (λ (m : Counts). CountsFit (plus (sums_of c.loop-start.own) m)) (sym c.counted_as.ensures)
     (line_fits c.args.table.now c.args.docs c.args.levels c.args.language c.args.text.now (sums_of c.loop-start.own) (blobs_of (entries_of c.loop-start.blobs.entries)) c.loop-start.left (chain_of c.loop-start.stack.items) (drop c.loop-start.start c.args.text.now) way (c.in-Line.end - c.loop-start.start) c.in-Line.class (chain_of c.read_part.new.stack.items) r.3 lines fits))
 
 pub returns-in_err-own-in-Broken-clause-overflow : goal.returns-in_err-own-in-Broken-clause-overflow

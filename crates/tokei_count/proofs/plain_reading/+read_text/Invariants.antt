@@ -3,9 +3,10 @@ use Rattle.tokei_table.specs.Lookups.{row_at}
 use Rattle.tokei_count.specs.Openings.{languages_of}
 use Rattle.tokei_count.specs.PlainReading.{blocks, shares, gathered, child_reading}
 use Rattle.tokei_count.specs.Progress.{counts_left, children_left, IsClosable, IsPart}
-use Rattle.tokei_count.specs.Seen.{chain_of, sums_of, blobs_of, entries_of}
-use Rattle.tokei_count.specs.Statistics.{plus}
-use Rattle.tokei_count.specs.Statistics.Blobs.{none}
+use Rattle.tokei_count.specs.Seen.{chain_of}
+use Rattle.tokei_stats.specs.Seen.{sums_of, blobs_of, entries_of}
+use Rattle.tokei_stats.specs.Statistics.{plus}
+use Rattle.tokei_stats.specs.Statistics.Blobs.{none}
 use Rattle.tokei_count.proofs.plain_reading.+read_text.Given as goal
 
 abbrev pub invariant-loop-start : goal.invariant-loop-start

@@ -1,5 +1,0 @@
-use Rattle.tokei_count.proofs.SumLaws.{commutes}
-use Rattle.tokei_count.proofs.laws.sums_commute.Goals as goal
-
-pub returns : goal.returns
-returns c = λ s t h k. commutes s t h k

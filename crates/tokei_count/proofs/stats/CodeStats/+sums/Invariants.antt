@@ -1,8 +1,0 @@
-use Rattle.std.proofs.Common.{◌≡◌}
-use Rattle.tokei_count.specs.Statistics.{summary, summaries, plus}
-use Rattle.tokei_count.specs.Seen.{stats_of, blobs_of, entries_of}
-use Rattle.tokei_count.specs.Seen.{sums_of}
-use Rattle.tokei_count.proofs.stats.CodeStats.+sums.Given as goal
-
-abbrev pub invariant-loop-stats : goal.invariant-loop-stats
-invariant-loop-stats l = plus (sums_of l.sums) (summaries (blobs_of (entries_of l.stats-iterator))) ≡ summary (stats_of l.self)

@@ -1,7 +1,0 @@
-use Rattle.std.proofs.Common.{◌≡◌, ◌++◌}
-use Rattle.tokei_count.specs.declared.stats.CodeStats.{out-CodeStats}
-use Rattle.tokei_count.specs.Seen.{entries_of}
-use Rattle.tokei_count.proofs.stats.CodeStats.+try_clone.Given as goal
-
-abbrev pub invariant-loop-language : goal.invariant-loop-language
-invariant-loop-language l = entries_of l.blobs.entries ++ entries_of l.language-iterator ≡ entries_of (out-CodeStats l.self).blobs.entries
