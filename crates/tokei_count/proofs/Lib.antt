@@ -21,3 +21,4 @@ pub mod LineEnds
 pub mod TextReading
 pub mod KnownLanguages
 pub mod ListedLanguages
+pub mod NotebookReading

@@ -7,7 +7,8 @@ use Rattle.tokei_count.specs.Derivation.{items_of}
 use Rattle.tokei_count.specs.Modes.{Chain, marks}
 use Rattle.tokei_count.specs.Languages.{is_notebook}
 use Rattle.tokei_count.specs.Openings.{languages_of}
-use Rattle.tokei_count.specs.PlainReading.{blocks, reading, read_by, child_reading, shares, gathered, one_of}
+use Rattle.tokei_count.specs.PlainReading.{blocks, reading, read_by, notebook_by, child_reading, shares, gathered, one_of}
+use Rattle.tokei_count.specs.NotebookCells.{cell_blocks}
 use Rattle.tokei_count.specs.Progress.{marks_ahead, counts_left, children_left, ReadsLine, ReadsChild}
 use Rattle.tokei_stats.specs.Statistics.{Counts, Statistics, Blobs, plus, no_lines, empty, at, put, joined, sum}
 use Rattle.tokei_stats.specs.Statistics.Statistics.{node}
@@ -68,15 +69,24 @@ module _ (rows : List Row) (docs : Bool) (levels language : ℕ) (text : List �
           → reading (languages_of rows) docs n language text ≡ node (plus (counts_left (row_at rows language) (blocks (languages_of rows) n language text) (length text) docs [] text) (shares (children_left (row_at rows language) (blocks (languages_of rows) n language text) (length text) [] text)))
           (gathered (child_reading (languages_of rows) docs n) none (children_left (row_at rows language) (blocks (languages_of rows) n language text) (length text) [] text))
       by_levels zero h = ap (λ x. cond x empty (read_by (row_at rows language) docs (λ k. empty) (marks [] (items_of (row_at rows language) (blocks (languages_of rows) zero language text) text)))) h
-      by_levels (suc n) h = ap (λ x. cond x empty (read_by (row_at rows language) docs (λ k. reading (languages_of rows) docs n k.language k.contents) (marks [] (items_of (row_at rows language) (blocks (languages_of rows) (suc n) language text) text)))) h
+      by_levels (suc n) h = ap (λ x. cond x (notebook_by (λ k. reading (languages_of rows) docs n k.language k.contents) (cell_blocks rows language text)) (read_by (row_at rows language) docs (λ k. reading (languages_of rows) docs n k.language k.contents) (marks [] (items_of (row_at rows language) (blocks (languages_of rows) (suc n) language text) text)))) h
 
-  pub reading-notebook : is_notebook g ≡ true → whole ≡ empty
+  -- a notebook, with levels left or none
+  pub reading-notebook : is_notebook g ≡ true → 0 < levels → whole ≡ notebook_by read (cell_blocks rows language text)
   unfolding reading
-  reading-notebook h = by_levels levels h
+  reading-notebook h some = by_levels levels some h
     where
-      by_levels : (n : ℕ) → is_notebook (row_at rows language) ≡ true → reading (languages_of rows) docs n language text ≡ empty
-      by_levels zero h = ap (λ x. cond x empty (read_by (row_at rows language) docs (λ k. empty) (marks [] (items_of (row_at rows language) (blocks (languages_of rows) zero language text) text)))) h
-      by_levels (suc n) h = ap (λ x. cond x empty (read_by (row_at rows language) docs (λ k. reading (languages_of rows) docs n k.language k.contents) (marks [] (items_of (row_at rows language) (blocks (languages_of rows) (suc n) language text) text)))) h
+      by_levels : (n : ℕ) → 0 < n → is_notebook (row_at rows language) ≡ true → reading (languages_of rows) docs n language text ≡ notebook_by (child_reading (languages_of rows) docs n) (cell_blocks rows language text)
+      by_levels zero some h = absurd (omega (arith, some))
+      by_levels (suc n) some h = ap (λ x. cond x (notebook_by (λ k. reading (languages_of rows) docs n k.language k.contents) (cell_blocks rows language text)) (read_by (row_at rows language) docs (λ k. reading (languages_of rows) docs n k.language k.contents) (marks [] (items_of (row_at rows language) (blocks (languages_of rows) (suc n) language text) text)))) h
+
+  pub reading-no_notebook : is_notebook g ≡ true → levels ≡ 0 → whole ≡ empty
+  unfolding reading
+  reading-no_notebook h none_left = by_levels levels none_left h
+    where
+      by_levels : (n : ℕ) → n ≡ 0 → is_notebook (row_at rows language) ≡ true → reading (languages_of rows) docs n language text ≡ empty
+      by_levels zero e h = ap (λ x. cond x empty (read_by (row_at rows language) docs (λ k. empty) (marks [] (items_of (row_at rows language) (blocks (languages_of rows) zero language text) text)))) h
+      by_levels (suc n) e h = absurd (omega (arith, e))
 
   -- at the end nothing is left
   pub read_whole : (own : Counts) (blobs : Blobs) (l : ℕ) (c : Chain) → is_notebook g ≡ false → IsUnderWay own blobs l c [] → node own blobs ≡ whole

@@ -5,11 +5,12 @@ use Rattle.std.specs.Prelude.{codes}
 use Rattle.tokei_table.specs.Row.{Row}
 use Rattle.tokei_count.specs.Items.{Block}
 
--- The row of each language; and by language, whole text and how many bytes were left behind the last child, the block
--- that opens at the front of what is left of the text.
+-- The row of each language; by language, whole text and how many bytes were left behind the last child, the block that
+-- opens at the front of what is left of the text; and by language and whole text the cells of a notebook.
 pub record Languages : Type 0 where
   pub row : ℕ → Row
   pub block : ℕ → List ℕ → ℕ → List ℕ → Option Block
+  pub cells : ℕ → List ℕ → List Block
 
 -- notebooks are read as JSON, and not as lines
 abbrev pub is_notebook : Row → Bool

@@ -15,6 +15,7 @@ pub mod MarkdownChildren
 pub mod HtmlChildren
 pub mod RustChildren
 pub mod LinguaFrancaChildren
+pub mod NotebookCells
 pub mod Openings
 pub mod ReadingOf
 pub mod Walked

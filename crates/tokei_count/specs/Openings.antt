@@ -13,6 +13,7 @@ use Rattle.tokei_count.specs.MarkdownChildren.{markdown_block}
 use Rattle.tokei_count.specs.HtmlChildren.{html_block}
 use Rattle.tokei_count.specs.RustChildren.{rust_block}
 use Rattle.tokei_count.specs.LinguaFrancaChildren.{franca_block}
+use Rattle.tokei_count.specs.NotebookCells.{cell_blocks}
 
 -- The child that opens at a place of a part, in a language of the family; `rest` is the text from the place on. Plain
 -- languages have no children, and a notebook's cells aren't found in parts.
@@ -33,4 +34,4 @@ block_in rows language text l rest =
 
 -- the languages of a table
 abbrev pub languages_of : List Row → Languages
-languages_of rows = record { row = row_at rows; block = block_in rows }
+languages_of rows = record { row = row_at rows; block = block_in rows; cells = cell_blocks rows }

@@ -50,14 +50,18 @@ abbrev pub blocks : Languages → ℕ → ℕ → List ℕ → (ℕ → List ℕ
 blocks ls zero language t = no_child
 blocks ls (suc levels) language t = ls.block language t
 
--- The reading of a text in a language, with so many levels left; a child has one level less than its parent. A notebook
--- counts nothing yet.
+-- the statistics of a notebook: those of each cell at its language, and no lines of its own
+abbrev pub notebook_by : (Block → Statistics) → List Block → Statistics
+notebook_by read cells = node no_lines (gathered read none cells)
+
+-- The reading of a text in a language, with so many levels left; a child has one level less than its parent. With none
+-- left a notebook counts nothing.
 unfoldable pub reading : Languages → Bool → ℕ → ℕ → List ℕ → Statistics
 reading ls docs zero language t =
     cond (is_notebook (ls.row language)) empty
     (read_by (ls.row language) docs (λ k. empty) (marks [] (items_of (ls.row language) (blocks ls zero language t) t)))
 reading ls docs (suc levels) language t =
-    cond (is_notebook (ls.row language)) empty
+    cond (is_notebook (ls.row language)) (notebook_by (λ k. reading ls docs levels k.language k.contents) (ls.cells language t))
     (read_by (ls.row language) docs (λ k. reading ls docs levels k.language k.contents) (marks [] (items_of (ls.row language) (blocks ls (suc levels) language t) t)))
 
 -- the reading of a child, in a text with so many levels left

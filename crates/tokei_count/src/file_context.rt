@@ -8,7 +8,9 @@ use tokei_table::LanguageType;
 #[derive(Clone, Copy, Debug, PartialEq, Eq)]
 pub enum LanguageContext {
     /// A script, style or template element.
-    Html { language: LanguageType },
+    Html {
+        language: LanguageType,
+    },
     /// A block of Lingua Franca's target language.
     LinguaFranca,
     /// A fence; `balanced` where a closing fence ends it.

@@ -24,8 +24,8 @@ pub use file_context::{FileContext, LanguageContext};
 pub use matchers::SharedMatchers;
 pub use parse::{parse_from_slice, parse_from_str};
 pub use plain_reading::count_plain;
-pub use tokei_stats::{CodeStats, CountError};
 pub use tokei_embedding::{
     Capture, HtmlLike, SimpleCapture, end_lf, end_markdown, end_script, end_style, end_template,
     start_lf, start_markdown, start_script, start_style, start_template,
 };
+pub use tokei_stats::{CodeStats, CountError};

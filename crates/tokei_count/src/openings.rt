@@ -15,8 +15,8 @@ ghost use Rattle.tokei_count.specs.ReadingOf.{blocks_of};
 ghost use Rattle.tokei_count.specs.Seen.{block_of};
 
 use crate::reading::Reading;
-use tokei_stats::Sums;
 use tokei_embedding::{Tag, doc_at, fence_at, tag_at, target_at, target_of};
+use tokei_stats::Sums;
 use tokei_table::ext::{trim, trim_first_and_last_line_of_whitespace};
 use tokei_table::family::Family;
 use tokei_table::{LanguageTable, LanguageType};

@@ -9,8 +9,8 @@ ghost use Rattle.tokei_stats.specs.Seen.{stats_of};
 use crate::config::CountConfig;
 use crate::counter::Counter;
 use crate::plain_reading::count_plain;
-use tokei_stats::{CodeStats, CountError};
 use std::alloc::Global;
+use tokei_stats::{CodeStats, CountError};
 use tokei_table::LanguageType;
 
 /// Counts a text in a language of the counter's table: the statistics of its plain reading.

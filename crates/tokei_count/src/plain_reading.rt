@@ -1,5 +1,6 @@
 //! The plain reading of a text: each part is walked.
 ghost use Rattle.std.specs.Prelude.{◌≡◌, ◌+◌, ◌-◌, ◌<◌, true, Some, is_some, drop, length, cond, IfOk, IsErrOf};
+ghost use Rattle.tokei_table.specs.Lookups.{row_at};
 ghost use Rattle.tokei_table.specs.RowOf.{row_of};
 ghost use Rattle.tokei_embedding.specs.DocComments.{doc_text};
 ghost use Rattle.tokei_count.specs.Languages.{is_notebook};
@@ -17,11 +18,12 @@ use crate::config::CountConfig;
 use crate::counter::Counter;
 use crate::openings::{Block, block_at};
 use crate::reading::Reading;
-use tokei_stats::{CodeStats, CountError, Sums, add_blob};
 use crate::walk::{PartEnd, line_len, read_part};
 use std::alloc::{AllocError, Global};
 use std::collections::BTreeMap;
 use tokei_embedding::doc_text;
+use tokei_notebook::cells;
+use tokei_stats::{CodeStats, CountError, Sums, add_blob};
 use tokei_table::ext::trim;
 use tokei_table::{LanguageTable, LanguageType, Syntax};
 
@@ -85,8 +87,36 @@ fn counted_as(class: Class) -> Sums
     }
 }
 
+/// The statistics of a notebook: those of each cell at its language. With no levels left it counts nothing.
+#[cycle(read_text)]
+fn read_notebook(
+    alloc: Global,
+    table: &LanguageTable,
+    language: LanguageType,
+    text: &[u8],
+    docs: bool,
+    levels: u32,
+) -> Result<CodeStats, CountError>
+    requires known { language < length table.now }
+    requires notebook { is_notebook (row_at table.now language) ≡ true }
+    ensures reads { IfOk result (λ s. stats_of s ≡ reading (languages_of table.now) docs levels language text.now) }
+    ensures overflow { IsErrOf result CountError.Overflow → ¬ Fits (reading (languages_of table.now) docs levels language text.now) }
+{
+    if levels == 0 {
+        return Ok(CodeStats::new(alloc));
+    }
+    let cells = cells(alloc, table, language, text)?;
+    let mut blobs = BTreeMap::new(alloc);
+    for cell in cells.as_slice() {
+        let stats = read_text(alloc, table, cell.language, &cell.source, docs, levels - 1)?;
+        add_blob(&mut blobs, cell.language, &stats)?;
+    }
+    Ok(CodeStats::assembled(alloc, Sums::new(), blobs))
+}
+
 /// The statistics of a text, part by part; `docs` says whether doc strings are treated as comments. Its children are
 /// read with one level less.
+#[cycle(read_text)]
 pub(crate) fn read_text(
     alloc: Global,
     table: &LanguageTable,
@@ -100,7 +130,7 @@ pub(crate) fn read_text(
     ensures overflow { IsErrOf result CountError.Overflow → ¬ Fits (reading (languages_of table.now) docs levels language text.now) }
 {
     if is_notebook(table.syntax(language)) {
-        return Ok(CodeStats::new(alloc));
+        return read_notebook(alloc, table, language, text, docs, levels);
     }
     let reading = Reading {
         table,
@@ -142,7 +172,7 @@ pub(crate) fn read_text(
 /// Counts a text in a language of the counter's table by the plain reading, in which no line is skipped.
 ///
 /// `Overflow` comes only where a count of the reading, at some depth, passes the greatest `usize`; `Memory` only where a
-/// growth was refused. Children are read 50 levels deep; a notebook counts nothing yet.
+/// growth was refused. Children are read 50 levels deep.
 pub fn count_plain(
     alloc: Global,
     counter: &Counter,

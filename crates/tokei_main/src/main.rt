@@ -12,6 +12,8 @@ mod cut_rows;
 mod fail_once;
 mod input_error;
 #[cfg(test)]
+mod notebook_rows;
+#[cfg(test)]
 mod plain_rows;
 mod sink;
 mod source;

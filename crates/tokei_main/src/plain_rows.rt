@@ -47,7 +47,7 @@ fn lines_alone(stats: &Option<CodeStats>) -> Option<Lines> {
 }
 
 /// The lines of the language's blob, which holds no blobs itself.
-fn child_of(table: &LanguageTable, stats: &CodeStats, key: &str) -> Option<Lines> {
+pub fn child_of(table: &LanguageTable, stats: &CodeStats, key: &str) -> Option<Lines> {
     match LanguageType::from_name(table, key) {
         Some(language) => match stats.blobs.get(&language) {
             Some(child) => if child.blobs.is_empty() {

@@ -1,5 +1,7 @@
-use Rattle.std.proofs.Common.{◌≡◌, ◌-◌, ◌<◌, ◌≤◌, [], length, drop}
+use Rattle.std.proofs.Common.{◌≡◌, ◌+◌, ◌*◌, map, ◌-◌, ◌<◌, ◌≤◌, [], length, drop}
 use Rattle.tokei_table.specs.Lookups.{row_at}
+use Rattle.tokei_notebook.specs.Cells.{cell_of}
+use Rattle.tokei_count.specs.NotebookCells.{cell_block, cell_blocks}
 use Rattle.tokei_count.specs.Openings.{languages_of}
 use Rattle.tokei_count.specs.PlainReading.{blocks, shares, gathered, child_reading}
 use Rattle.tokei_count.specs.Progress.{counts_left, children_left, IsClosable, IsPart}
@@ -9,8 +11,8 @@ use Rattle.tokei_stats.specs.Statistics.{plus}
 use Rattle.tokei_stats.specs.Statistics.Blobs.{none}
 use Rattle.tokei_count.proofs.plain_reading.+read_text.Given as goal
 
-abbrev pub invariant-loop-start : goal.invariant-loop-start
-invariant-loop-start l = record {
+abbrev pub invariant-read_text-loop-start : goal.invariant-read_text-loop-start
+invariant-read_text-loop-start l = record {
   closable : IsClosable (chain_of l.stack.items);
   within : l.start ≤ length l.text;
   part : l.start < length l.text → IsPart l.text l.left l.start l.start;
@@ -20,8 +22,18 @@ invariant-loop-start l = record {
       ≡ gathered (child_reading (languages_of l.table) l.docs l.levels) none (children_left (row_at l.table l.fn.language) (blocks (languages_of l.table) l.levels l.fn.language l.text) (length l.text) [] l.text);
 }
 
-abbrev pub decreases-loop-start : goal.decreases-loop-start
-decreases-loop-start l = length l.text - l.start
+abbrev pub decreases-read_text-loop-start : goal.decreases-read_text-loop-start
+decreases-read_text-loop-start l = length l.text - l.start
 
 abbrev pub decreases-read_text : goal.decreases-read_text
-decreases-read_text l = l.levels
+decreases-read_text l = 2 * l.levels + 1
+
+abbrev pub decreases-read_notebook : goal.decreases-read_notebook
+decreases-read_notebook l = 2 * l.levels
+
+-- the cells read so far and those that are left are all
+abbrev pub invariant-read_notebook-loop-cell : goal.invariant-read_notebook-loop-cell
+invariant-read_notebook-loop-cell l = record {
+  cells : gathered (child_reading (languages_of l.table) l.docs l.levels) (blobs_of (entries_of l.blobs.entries)) (map cell_block (map cell_of (drop l.cell-index l.cell-items)))
+      ≡ gathered (child_reading (languages_of l.table) l.docs l.levels) none (cell_blocks l.table l.fn.language l.text);
+}

@@ -1,0 +1,12 @@
+-- The cells of a notebook as its children: they take no bytes of a part, and the notebook has no lines for them.
+use Rattle.std.specs.Prelude.{ℕ, List, map}
+use Rattle.tokei_table.specs.Row.{Row}
+use Rattle.tokei_notebook.specs.Cells.{Cell, notebook_cells}
+use Rattle.tokei_stats.specs.Statistics.{no_lines}
+use Rattle.tokei_count.specs.Items.{Block}
+
+abbrev pub cell_block : Cell → Block
+cell_block c = record { language = c.language; contents = c.source; size = 0; share = no_lines }
+
+abbrev pub cell_blocks : List Row → ℕ → List ℕ → List Block
+cell_blocks rows language t = map cell_block (notebook_cells rows language t)

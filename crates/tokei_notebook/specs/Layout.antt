@@ -1,0 +1,29 @@
+-- The layout of a notebook: which JSON values are one.
+use Rattle.std.specs.Prelude.{Bool, false, ◌&&◌, ◌||◌, Option, Some, is_some, codes, bytes_eq}
+use Rattle.serde_json.specs.Data.{Data, string}
+use Rattle.serde_json.specs.Find.{get}
+use Rattle.tokei_table.specs.Layout.{stands_and, is_text, is_list}
+
+-- The text of a Markdown cell's kind.
+abbrev pub is_markdown : Data → Bool
+is_markdown (string t) = bytes_eq t (codes "markdown")
+is_markdown d = false
+
+-- The text of a code cell's kind.
+abbrev pub is_code : Data → Bool
+is_code (string t) = bytes_eq t (codes "code")
+is_code d = false
+
+-- A cell has a kind, which is one of the two, and a source, which is a list of texts.
+unfoldable pub is_cell : Data → Bool
+is_cell d =
+    stands_and (λ k. is_markdown k || is_code k) (get (codes "cell_type") d)
+    && stands_and (is_list is_text) (get (codes "source") d)
+
+-- The metadata tell the kernel and the language, each by any value.
+abbrev pub has_metadata : Data → Bool
+has_metadata d = is_some (get (codes "kernelspec") d) && is_some (get (codes "language_info") d)
+
+-- A notebook has cells and metadata; other members are passed over.
+unfoldable pub is_notebook : Data → Bool
+is_notebook d = stands_and (is_list is_cell) (get (codes "cells") d) && stands_and has_metadata (get (codes "metadata") d)

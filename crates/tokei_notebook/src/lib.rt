@@ -1,0 +1,7 @@
+//! The cells of a notebook, with the language of each.
+#![tactic(auto)]
+
+mod layout;
+pub mod notebook;
+
+pub use notebook::{Cell, cells};
