@@ -2,6 +2,7 @@
 use Rattle.std.proofs.Common.{◌≡◌, ℕ, ◌&&◌, codes, List, [], ◌∷◌, ◌++◌, Bool, true, false, cond, filter, Option, Some, None, is_some, Result, refl, sym, ap, ◌∙◌, append-nil, append_assoc, subst, arith, IfOk}
 use Rattle.std.proofs.lemmas.Bool.Decides.{nat_tests}
 use Rattle.std.specs.List.{slice_split, onto_first}
+use Rattle.tokei_walk.specs.declared.nodes.Node.{Node}
 use Rattle.tokei_walk.specs.Descent.{joined}
 use Rattle.tokei_walk.specs.Ends.{ends_in, without_last}
 use Rattle.tokei_walk.specs.Answers.{node_kind}
@@ -9,7 +10,7 @@ use Rattle.tokei_walk.specs.Levels.{level_at, ignore_file_at, has_git, patterns_
 use Rattle.tokei_walk.specs.declared.levels.Level.{Level}
 use Rattle.tokei_walk.specs.declared.levels.Rules.{Rules}
 use Rattle.tokei_walk.specs.declared.patterns.Pattern.{Pattern}
-use Rattle.tokei_walk.specs.Tree.{Names, Node, Tree, node_at, is_name, is_slash, names_of}
+use Rattle.tokei_walk.specs.Tree.{Names, Tree, node_at, is_name, is_slash, names_of}
 
 -- some part comes first
 record HasFirst (parts : List (List ℕ)) : Type 0 where

@@ -1,8 +1,14 @@
+pub mod Above
+pub mod Adding
 pub mod Characters
 pub mod Cuts
 pub mod Deciding
 pub mod Joining
 pub mod LineEnds
+pub mod Listing
+pub mod NameOrder
+pub mod Placing
+pub mod Refusing
 pub mod Roots
 pub mod Spans
 pub mod StackSteps

@@ -2,6 +2,8 @@
 use Rattle.std.proofs.Common.{◌≡◌, ℕ, List, [], ◌∷◌, ◌++◌, reverse, map, Bool, true, false, cond, Option, Some, None, Result, Ok, Err, refl, sym, ap, ap₂, ◌∙◌, append_assoc, OnOk}
 use Rattle.std.proofs.lemmas.List.{reverse-append, reverse-reverse}
 use Rattle.std.specs.List.{flat_map}
+use Rattle.tokei_walk.specs.declared.nodes.Node.{Node}
+use Rattle.tokei_walk.specs.declared.nodes.Node.TheVariants.{File as file, Folder as folder}
 use Rattle.tokei_walk.specs.declared.fs.Above.{Above}
 use Rattle.tokei_walk.specs.declared.fs.Kind.TheVariants.{File, Folder, Other}
 use Rattle.tokei_walk.specs.declared.kept.KeptFile.{KeptFile}
@@ -16,7 +18,7 @@ use Rattle.tokei_walk.specs.Descent.{kept, of_root, of_node, of_top, of_stack, r
 use Rattle.tokei_walk.specs.Fits.{is_empty}
 use Rattle.tokei_walk.specs.Levels.{level_at}
 use Rattle.tokei_walk.specs.Stacks.{Stays}
-use Rattle.tokei_walk.specs.Tree.{Names, Node, file, folder, Tree, node_at, names_of, folders_above}
+use Rattle.tokei_walk.specs.Tree.{Names, Tree, node_at, names_of, folders_above}
 use Rattle.tokei_walk.specs.Walks.{of_roots, of_all, to_come, descended, Advances, names_over, levels_over}
 use Rattle.tokei_walk.proofs.StackSteps.{same_stack, empty_gives, top_ends, same_context}
 

@@ -7,7 +7,9 @@ use Rattle.tokei_walk.specs.declared.fs.Fault.TheVariants.{Refused, Memory}
 use Rattle.tokei_walk.specs.declared.fs.Entry.{Entry}
 use Rattle.tokei_walk.specs.declared.fs.Above.{Above}
 use Rattle.tokei_walk.specs.declared.fs.Listing.{Listing}
-use Rattle.tokei_walk.specs.Tree.{Names, Node, file, folder, Tree, node_at, below, names_of, folders_above}
+use Rattle.tokei_walk.specs.declared.nodes.Node.{Node}
+use Rattle.tokei_walk.specs.declared.nodes.Node.TheVariants.{File as file, Folder as folder}
+use Rattle.tokei_walk.specs.Tree.{Names, Tree, node_at, below, names_of, folders_above}
 
 abbrev pub kind_of : Node → Kind
 kind_of (file r h c) = File
@@ -39,17 +41,22 @@ head_answer None = Err Refused
 head_answer (Some (folder r)) = Err Refused
 head_answer (Some (file r h c)) = if h then Err Refused else Ok (take 128 c)
 
+-- the name that leads down to a place, where it is one alone
+abbrev pub only_name : Option Names → Option (List ℕ)
+only_name None = None
+only_name (Some []) = None
+only_name (Some (m ∷ [])) = Some m
+only_name (Some (m ∷ l ∷ ms)) = None
+
 -- a place is an entry of a folder where one name leads down to it
-abbrev pub entry_named : Option Names → Node → List Entry → List Entry
+abbrev pub entry_named : Option (List ℕ) → Node → List Entry → List Entry
 entry_named None n es = es
-entry_named (Some []) n es = es
-entry_named (Some (m ∷ [])) n es = record { name = m; kind = kind_of n } ∷ es
-entry_named (Some (m ∷ l ∷ ms)) n es = es
+entry_named (Some m) n es = record { name = m; kind = kind_of n } ∷ es
 
 -- the entries of a folder, in the tree's order
 abbrev pub entries_in : Names → Tree → List Entry
 entries_in p [] = []
-entries_in p (e ∷ t) = entry_named (below p e.0) e.1 (entries_in p t)
+entries_in p (e ∷ t) = entry_named (only_name (below p e.names)) e.node (entries_in p t)
 
 abbrev pub can_list : Option Node → Bool
 can_list None = false

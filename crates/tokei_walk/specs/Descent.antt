@@ -1,6 +1,8 @@
 -- The files that one descent through a told tree meets.
 use Rattle.std.specs.Prelude.{ℕ, zero, suc, ◌-◌, List, [], ◌∷◌, ◌++◌, Bool, true, false, Option, Some, None, Result, Ok, Err, map, reverse, length, if◌then◌else◌, cond}
 use Rattle.std.specs.List.{flat_map}
+use Rattle.tokei_walk.specs.declared.nodes.Node.{Node}
+use Rattle.tokei_walk.specs.declared.nodes.Node.TheVariants.{File as file, Folder as folder}
 use Rattle.tokei_walk.specs.declared.fs.Kind.{Kind}
 use Rattle.tokei_walk.specs.declared.fs.Kind.TheVariants.{File, Folder, Other}
 use Rattle.tokei_walk.specs.declared.fs.Entry.{Entry}
@@ -16,7 +18,7 @@ use Rattle.tokei_walk.specs.Answers.{list_answer}
 use Rattle.tokei_walk.specs.Ends.{ends_in, without_last}
 use Rattle.tokei_walk.specs.Fits.{is_empty}
 use Rattle.tokei_walk.specs.Levels.{level_at, drops, under}
-use Rattle.tokei_walk.specs.Tree.{Names, Node, file, folder, Tree, node_at, names_of, folders_above}
+use Rattle.tokei_walk.specs.Tree.{Names, Tree, node_at, names_of, folders_above}
 
 -- the place of an entry: a slash stands between, unless the folder's place ends in one
 unfoldable pub joined : List ℕ → List ℕ → List ℕ

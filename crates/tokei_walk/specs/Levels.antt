@@ -1,6 +1,8 @@
 -- The rules that a folder's ignore files give, and what the rules of folders inside one another decide.
 use Rattle.std.specs.Prelude.{ℕ, ◌&&◌, List, [], ◌∷◌, ◌++◌, Bool, true, false, Option, Some, None, is_some, if◌then◌else◌, cond, codes}
 use Rattle.std.specs.List.{list_any}
+use Rattle.tokei_walk.specs.declared.nodes.Node.{Node}
+use Rattle.tokei_walk.specs.declared.nodes.Node.TheVariants.{File as file, Folder as folder}
 use Rattle.tokei_walk.specs.declared.levels.Rules.{Rules}
 use Rattle.tokei_walk.specs.declared.levels.Level.{Level}
 use Rattle.tokei_walk.specs.declared.levels.Source.{Source}
@@ -12,7 +14,7 @@ use Rattle.tokei_walk.specs.declared.ignore_files.Verdict.TheVariants.{Ignore, K
 use Rattle.tokei_walk.specs.Ends.{without_first, begins_with}
 use Rattle.tokei_walk.specs.IgnoreFiles.{patterns_of, last_fitting, or_else}
 use Rattle.tokei_walk.specs.Patterns.{fits_entry}
-use Rattle.tokei_walk.specs.Tree.{Names, Node, file, folder, Tree, node_at}
+use Rattle.tokei_walk.specs.Tree.{Names, Tree, node_at}
 
 -- an ignore file that is missing, is no file or can't be read gives no pattern
 abbrev pub patterns_at : Option Node → List Pattern

@@ -1,12 +1,15 @@
+pub mod Additions
 pub mod Answers
 pub mod Descent
 pub mod Ends
 pub mod Fits
 pub mod IgnoreFiles
 pub mod Levels
+pub mod Memory
 pub mod Patterns
 pub mod Reach
 pub mod Reading
+pub mod Refusals
 pub mod Segments
 pub mod Stacks
 pub mod Tree

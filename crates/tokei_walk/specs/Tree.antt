@@ -1,22 +1,19 @@
 -- A told folder tree: its places in order, and what stands at each.
 use Rattle.std.specs.Prelude.{◌≡◌, ℕ, ◌==◌, List, [], ◌∷◌, ◌++◌, Bool, true, false, not, ◌&&◌, if◌then◌else◌, Option, Some, None, filter, ⊤}
-use Rattle.std.specs.Ordering.{nat_cmp, match_ordering, is_lt, is_eq}
+use Rattle.std.specs.Ordering.{nat_cmp, is_lt, is_eq}
 use Rattle.std.specs.declared.cmp.Ordering.{Ordering}
 use Rattle.std.specs.Cmp.Lexicographic.{slice_cmp}
 use Rattle.std.specs.List.{slice_split, list_any, list_all}
+use Rattle.tokei_walk.specs.declared.nodes.Node.{Node}
+use Rattle.tokei_walk.specs.declared.nodes.PlacedNode.{PlacedNode}
 
 -- a place, as the names from the top down to it
 abbrev pub Names : Type 0
 Names = List (List ℕ)
 
--- a file with its content or a folder, and which of its calls are refused
-pub data Node : Type 0 where
-  file : (refuses_read refuses_head : Bool) → (content : List ℕ) → Node
-  folder : (refuses_list : Bool) → Node
-
 -- the places, each with what stands there
 abbrev pub Tree : Type 0
-Tree = List (Names × Node)
+Tree = List PlacedNode
 
 -- lists of names are compared name by name, in bytes
 abbrev pub names_cmp : Names → Names → Ordering
@@ -26,12 +23,12 @@ abbrev pub is_before : Names → Names → Bool
 is_before a b = is_lt (names_cmp a b)
 
 abbrev pub is_first : Names → Tree → Bool
-is_first p t = list_all (λ e. is_before p e.0) t
+is_first p t = list_all (λ e. is_before p e.names) t
 
 -- each place stands before all that follow it
 abbrev pub is_in_order : Tree → Bool
 is_in_order [] = true
-is_in_order (e ∷ t) = is_first e.0 t && is_in_order t
+is_in_order (e ∷ t) = is_first e.names t && is_in_order t
 
 -- an empty piece of a place, and `.`, is no name
 abbrev pub is_name : List ℕ → Bool
@@ -50,8 +47,8 @@ names_of place = filter is_name (slice_split is_slash place)
 abbrev pub is_whole_name : List ℕ → Bool
 is_whole_name name = is_name name && not (list_any is_slash name)
 
-abbrev pub has_names : Names × Node → Bool
-has_names e = list_all is_whole_name e.0
+abbrev pub has_names : PlacedNode → Bool
+has_names e = list_all is_whole_name e.names
 
 -- the places stand in order, and their names are names
 unfoldable pub is_sound : Tree → Bool
@@ -65,12 +62,7 @@ IsSound (Some t) = is_sound t ≡ true
 -- what stands at a place
 abbrev pub node_at : Tree → Names → Option Node
 node_at [] p = None
-node_at (e ∷ t) p = if is_eq (names_cmp e.0 p) then Some e.1 else node_at t p
-
--- the tree with one more place, where nothing stands there
-abbrev pub placed : Tree → Names → Node → Tree
-placed [] p n = (p, n) ∷ []
-placed (e ∷ t) p n = match_ordering (names_cmp p e.0) ((p, n) ∷ e ∷ t) (e ∷ t) (e ∷ placed t p n)
+node_at (e ∷ t) p = if is_eq (names_cmp e.names p) then Some e.node else node_at t p
 
 -- the folders above a place from the top down, each with the name that leads down from it
 abbrev pub folders_above : Names → Names → List (Names × List ℕ)

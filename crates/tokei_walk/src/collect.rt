@@ -34,17 +34,11 @@ pub fn kept_files<F: Folders>(
 {
     let mut walk = Walk::new(alloc, roots, excludes, rules)?;
     let mut files = Items::new(alloc);
-    'files: for _ in 0..u64::MAX {
-        match walk.next(folders)? {
-            Some(file) => files.push(file)?,
-            None => {
-                return Ok(Kept {
-                    files,
-                    notes: walk.into_notes(),
-                });
-            }
-        }
+    while let Some(file) = walk.next(folders)? {
+        files.push(file)?;
     }
-    // No memory holds so many files.
-    Err(AllocError)
+    Ok(Kept {
+        files,
+        notes: walk.into_notes(),
+    })
 }

@@ -5,6 +5,7 @@ use crate::lists::Items;
 
 /// Folders whose calls all fail for want of memory once a number of calls has passed. They tell
 /// the tree of the folders inside.
+#[derive(Drop)]
 pub struct FailingFolders<F> {
     inner: F,
     left: u64,

@@ -4,6 +4,7 @@ ghost use Rattle.tokei_walk.specs.Answers.{Tells, AboveTells, counted, kind_answ
 
 use crate::lists::Items;
 use crate::texts::Text;
+use std::alloc::{AllocError, AllocFailed};
 
 /// What stands at a place.
 #[derive(Clone, Copy, Debug, PartialEq, Eq)]
@@ -21,6 +22,28 @@ pub enum Fault {
     Refused,
     /// Memory was refused.
     Memory,
+}
+
+impl From<AllocError> for Fault {
+    ghost use Rattle.std.specs.Prelude.{◌≡◌};
+    ghost use Rattle.tokei_walk.specs.declared.fs.Fault.TheVariants.{Memory};
+
+    ghost from_gives = { λ _ e. e ≡ Memory };
+
+    fn from(_refused: AllocError) -> Fault {
+        Fault::Memory
+    }
+}
+
+impl<T: Drop> From<AllocFailed<T>> for Fault {
+    ghost use Rattle.std.specs.Prelude.{◌≡◌};
+    ghost use Rattle.tokei_walk.specs.declared.fs.Fault.TheVariants.{Memory};
+
+    ghost from_gives = { λ _ e. e ≡ Memory };
+
+    fn from(_refused: AllocFailed<T>) -> Fault {
+        Fault::Memory
+    }
 }
 
 /// An entry of a folder.

@@ -10,7 +10,9 @@ pub mod kept;
 pub mod levels;
 pub mod lists;
 pub mod matching;
+pub mod memory;
 pub mod names;
+pub mod nodes;
 pub mod patterns;
 pub mod pieces;
 pub mod places;
@@ -18,6 +20,13 @@ pub mod reading;
 pub mod rules_files;
 pub mod stack;
 #[cfg(test)]
+mod test_folders;
+#[cfg(test)]
 mod tests;
 pub mod texts;
+pub mod told;
+#[cfg(test)]
+mod told_tests;
+#[cfg(test)]
+mod walk_tests;
 pub mod walking;

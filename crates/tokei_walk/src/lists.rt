@@ -1,4 +1,4 @@
-ghost use Rattle.std.specs.Prelude.{◌≡◌, [], ◌∷◌, ◌++◌, OnOk, OnErr, MatchOption, reverse as turned};
+ghost use Rattle.std.specs.Prelude.{◌≡◌, ◌≤◌, length, [], ◌∷◌, ◌++◌, OnOk, OnErr, MatchOption, reverse as turned};
 ghost use Rattle.tokei_walk.specs.Ends.{without_last};
 
 use std::alloc::{AllocFailed, Global};
@@ -47,6 +47,7 @@ impl<T> Items<T> {
     pub fn push(&mut self, item: T) -> Result<(), AllocFailed<T>>
         ensures ok { OnOk result (self.new ≡ self.old ++ item ∷ []) }
         ensures err { OnErr result (self.new ≡ self.old) }
+        ensures fits { length self.new ≤ usize.MAX }
     {
         self.inner.push(item)
     }

@@ -46,3 +46,14 @@ pub fn compare(a: &[Text], b: &[Text]) -> Ordering
         },
     }
 }
+
+/// A copy of some names.
+pub fn copied(alloc: Global, texts: &[Text]) -> Result<Items<Text>, AllocError>
+    ensures { IfOk result (λ ts. ts ≡ texts.now) }
+{
+    let mut copies = Items::new(alloc);
+    for text in texts {
+        copies.push(Text::from_str(alloc, text.as_str())?)?;
+    }
+    Ok(copies)
+}

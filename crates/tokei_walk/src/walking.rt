@@ -9,7 +9,7 @@ use crate::fs::{Above, Fault, Folders, Kind};
 use crate::kept::{KeptFile, Note, NoteKind};
 use crate::levels::{Context, Level, Rules};
 use crate::lists::Items;
-use crate::names::names;
+use crate::names::{copied, names};
 use crate::patterns::{Pattern, PatternError};
 use crate::rules_files::{kind_at, note, read_level};
 use crate::stack::{Settings, Stack, explore, leave, listing};
@@ -255,16 +255,6 @@ fn read_excludes(
         push_exclude(alloc, notes, &mut excludes, text)?;
     }
     Ok(excludes)
-}
-
-fn copied(alloc: Global, texts: &[Text]) -> Result<Items<Text>, AllocError>
-    ensures { IfOk result (λ ts. ts ≡ texts.now) }
-{
-    let mut copies = Items::new(alloc);
-    for text in texts {
-        copies.push(Text::from_str(alloc, text.as_str())?)?;
-    }
-    Ok(copies)
 }
 
 fn empty_stack(alloc: Global) -> Result<Stack, AllocError>

@@ -4,12 +4,12 @@ use Rattle.tokei_walk.specs.Walks.{to_come, Advances}
 use Rattle.tokei_walk.proofs.Roots.{more}
 use Rattle.tokei_walk.proofs.collect.kept_files.Goals as goal
 
-pub files-preserved : goal.files-preserved
-files-preserved g c =
-    let inv = c.files.invariant in record {
+pub loop-files-preserved : goal.loop-files-preserved
+loop-files-preserved g c =
+    let inv = c.loop-files.invariant in record {
       same = c.next.ensures.same ∙ inv.same;
       honest = search rules;
       told = λ t e.
-          let given = subst (λ (o : Option KeptFile). Advances (to_come t c.files.walk) (to_come t c.next.new.self) o) c.in-Some.is (c.in_ok-file.ensures.told t (inv.same ∙ e)) in
-          more c.files.files c.push.new.self (to_come t c.files.walk) (to_come t c.next.new.self) _ c.in-Some.file c.in_ok-push-in-Some.ensures.ok given (inv.told t e);
+          let given = subst (λ (o : Option KeptFile). Advances (to_come t c.loop-files.walk) (to_come t c.next.new.self) o) c.in-Some.is (c.in_ok-file.ensures.told t (inv.same ∙ e)) in
+          more c.loop-files.files c.push.new.self (to_come t c.loop-files.walk) (to_come t c.next.new.self) _ c.in-Some.file c.in_ok-push.ensures.ok given (inv.told t e);
     }

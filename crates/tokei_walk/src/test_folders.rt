@@ -1,0 +1,139 @@
+//! Folders for tests: some that are watched, and some that stand inside one another.
+ghost use Rattle.std.specs.Prelude.{◌≡◌};
+
+use crate::fs::{Above, Entry, Fault, Folders, Kind, Listing};
+use crate::lists::Items;
+use crate::texts::Text;
+use std::alloc::{AllocError, Global};
+
+/// Folders whose calls of `read` are counted, and which may hold names that aren't UTF-8.
+#[derive(Drop)]
+pub struct Watched<F> {
+    pub inner: F,
+    pub reads: u64,
+    /// How many such names each folder has.
+    pub unnamed: usize,
+}
+
+impl<F: Folders> Watched<F> {
+    pub fn new(inner: F) -> Watched<F> {
+        Watched {
+            inner,
+            reads: 0,
+            unnamed: 0,
+        }
+    }
+}
+
+impl<F: Folders> Folders for Watched<F> {
+    ghost tree = { λ s. F.tree s.inner };
+
+    ghost memory_faults = { λ s. F.memory_faults s.inner };
+
+    ghost sound = { λ s. F.sound s.inner };
+
+    fn kind(&mut self, place: &str) -> Result<Kind, Fault> {
+        self.inner.kind(place)
+    }
+
+    fn list(&mut self, place: &str) -> Result<Listing, Fault> {
+        match self.inner.list(place) {
+            Ok(listing) => Ok(Listing {
+                entries: listing.entries,
+                unnamed: self.unnamed,
+            }),
+            Err(fault) => Err(fault),
+        }
+    }
+
+    fn read(&mut self, place: &str) -> Result<Items<u8>, Fault> {
+        self.reads = self.reads.saturating_add(1);
+        self.inner.read(place)
+    }
+
+    fn head(&mut self, place: &str) -> Result<Items<u8>, Fault> {
+        self.inner.head(place)
+    }
+
+    fn above(&mut self, place: &str) -> Result<Items<Above>, Fault> {
+        self.inner.above(place)
+    }
+}
+
+/// Folders named `d` inside one another, each with a file `a.c`. They tell no tree.
+#[derive(Drop)]
+pub struct Nested {
+    alloc: Global,
+    /// How many there are below the top.
+    levels: usize,
+    faults: u64,
+}
+
+impl Nested {
+    pub fn new(alloc: Global, levels: usize) -> Nested {
+        Nested {
+            alloc,
+            levels,
+            faults: 0,
+        }
+    }
+
+    /// Adds `/d` for each level below the top: what the folder at a place holds.
+    fn listing(&self, place: &str) -> Result<Listing, AllocError> {
+        let mut entries = Items::new(self.alloc);
+        entries.push(Entry {
+            name: Text::from_str(self.alloc, "a.c")?,
+            kind: Kind::File,
+        })?;
+        if place.matches('d').count() < self.levels {
+            entries.push(Entry {
+                name: Text::from_str(self.alloc, "d")?,
+                kind: Kind::Folder,
+            })?;
+        }
+        Ok(Listing {
+            entries,
+            unnamed: 0,
+        })
+    }
+}
+
+impl Folders for Nested {
+    ghost use Rattle.std.specs.Prelude.{None};
+
+    ghost tree = { λ _. None };
+
+    ghost memory_faults = { λ s. s.faults };
+
+    ghost sound = { λ _. tt };
+
+    fn kind(&mut self, place: &str) -> Result<Kind, Fault> {
+        if place == "." {
+            Ok(Kind::Folder)
+        } else {
+            Err(Fault::Refused)
+        }
+    }
+
+    fn list(&mut self, place: &str) -> Result<Listing, Fault> {
+        match self.listing(place) {
+            Ok(listing) => Ok(listing),
+            Err(AllocError) => {
+                self.faults = self.faults.saturating_add(1);
+                Err(Fault::Memory)
+            }
+        }
+    }
+
+    fn read(&mut self, _place: &str) -> Result<Items<u8>, Fault> {
+        Err(Fault::Refused)
+    }
+
+    fn head(&mut self, _place: &str) -> Result<Items<u8>, Fault> {
+        Err(Fault::Refused)
+    }
+
+    fn above(&mut self, _place: &str) -> Result<Items<Above>, Fault> {
+        Ok(Items::new(self.alloc))
+    }
+}
