@@ -176,7 +176,7 @@ fn refusing(
 }
 
 #[test]
-fn refused_calls_leave_notes(rt: HostRuntime) -> Result<(), Fail> {
+fn calls_that_are_refused_leave_notes(rt: HostRuntime) -> Result<(), Fail> {
     let listed: &[(&str, &str)] = &[("d/a.c", ""), ("d/e/a.c", ""), ("f.c", "")];
     let ignored: &[(&str, &str)] = &[("main.rs", ""), (".ignore", "*.rs")];
     let rows = [
