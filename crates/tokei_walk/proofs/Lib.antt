@@ -1,8 +1,12 @@
 pub mod Above
 pub mod Adding
+pub mod Chains
 pub mod Characters
 pub mod Cuts
 pub mod Deciding
+pub mod Filtering
+pub mod Groups
+pub mod Inside
 pub mod Joining
 pub mod LineEnds
 pub mod Listing

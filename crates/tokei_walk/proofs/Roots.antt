@@ -18,7 +18,7 @@ use Rattle.tokei_walk.specs.Descent.{kept, of_root, of_node, of_top, of_stack, r
 use Rattle.tokei_walk.specs.Fits.{is_empty}
 use Rattle.tokei_walk.specs.Levels.{level_at}
 use Rattle.tokei_walk.specs.Stacks.{Stays}
-use Rattle.tokei_walk.specs.Tree.{Names, Tree, node_at, names_of, folders_above}
+use Rattle.tokei_walk.specs.Tree.{Names, Tree, IsSound, is_sound, node_at, names_of, folders_above}
 use Rattle.tokei_walk.specs.Walks.{of_roots, of_all, to_come, descended, Advances, names_over, levels_over}
 use Rattle.tokei_walk.proofs.StackSteps.{same_stack, empty_gives, top_ends, same_context}
 
@@ -145,3 +145,8 @@ file_of path place = record { path = path; place = place }
 pub one_file : (path root : List ℕ) (rest : List KeptFile) → path ≡ root → rest ≡ [] → kept root ≡ record { path = path; place = root } ∷ rest
 unfolding file_of
 one_file path root rest is none = λ i. file_of (sym is i) root ∷ sym none i
+
+-- a told tree is sound
+pub sound_of : (o : Option Tree) (t : Tree) → IsSound o → o ≡ Some t → is_sound t ≡ true
+sound_of None t h e = absurd (cc)
+sound_of (Some u) t h e = let same : u ≡ t = cc in ap is_sound (sym same) ∙ h

@@ -4,6 +4,7 @@ pub mod Descent
 pub mod Ends
 pub mod Fits
 pub mod IgnoreFiles
+pub mod Kept
 pub mod Levels
 pub mod Memory
 pub mod Patterns
@@ -13,4 +14,5 @@ pub mod Refusals
 pub mod Segments
 pub mod Stacks
 pub mod Tree
+pub mod WalkLaws
 pub mod Walks

@@ -1,6 +1,7 @@
 ghost use Rattle.std.specs.Prelude.{◌≡◌, ◌<◌, OnOk, IfOk};
 ghost use Rattle.tokei_walk.specs.Answers.{Told};
-ghost use Rattle.tokei_walk.specs.Walks.{descended, excludes_of};
+ghost use Rattle.tokei_walk.specs.Kept.{kept_in};
+ghost use Rattle.tokei_walk.specs.Walks.{excludes_of};
 
 use crate::fs::Folders;
 use crate::kept::{KeptFile, Note};
@@ -17,8 +18,9 @@ pub struct Kept {
     pub notes: Items<Note>,
 }
 
-/// All files that the ignore rules keep below the roots: a walk to its end. It is refused for want
-/// of memory alone.
+/// All files that the ignore rules keep: the roots that are files, and those below a root, which a
+/// filter of all places keeps, in order of the roots and of the places. It is refused for want of
+/// memory alone.
 pub fn kept_files<F: Folders>(
     alloc: Global,
     folders: &mut F,
@@ -28,7 +30,7 @@ pub fn kept_files<F: Folders>(
 ) -> Result<Kept, AllocError>
     ensures same { F.tree folders.new ≡ F.tree folders.old }
     ensures told { Told (F.tree folders.old) (λ t. IfOk result (λ k.
-        k.files ≡ descended (excludes_of excludes.now) rules.now t roots.now)) }
+        k.files ≡ kept_in (excludes_of excludes.now) rules.now t roots.now)) }
     ensures honest { OnOk result (F.memory_faults folders.old < u64.MAX
         → F.memory_faults folders.new ≡ F.memory_faults folders.old) }
 {

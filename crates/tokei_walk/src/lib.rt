@@ -7,6 +7,7 @@ pub mod failing;
 pub mod fs;
 pub mod ignore_files;
 pub mod kept;
+pub mod laws;
 pub mod levels;
 pub mod lists;
 pub mod matching;

@@ -1,9 +1,10 @@
 ghost use Rattle.std.specs.Prelude.{◌≡◌, ◌≢◌, ◌<◌, ◌≤◌, ◌++◌, [], ◌∷◌, true, false, None, Some, Ok, length, reverse, map, OnOk, OnErr, IfOk};
 ghost use Rattle.tokei_walk.specs.Answers.{Told, above_view};
-ghost use Rattle.tokei_walk.specs.Tree.{Tree, names_of, folders_above};
+ghost use Rattle.tokei_walk.specs.Tree.{Tree, is_sound, names_of, folders_above};
 ghost use Rattle.tokei_walk.specs.Fits.{is_empty};
+ghost use Rattle.tokei_walk.specs.Kept.{kept_in};
 ghost use Rattle.tokei_walk.specs.Descent.{root_context, of_root, of_stack, descend};
-ghost use Rattle.tokei_walk.specs.Walks.{to_come, has_failed as walk_failed, of_all, Advances, HasEnded, RootGives, descended, exclude_patterns, excludes_of, names_over, levels_over};
+ghost use Rattle.tokei_walk.specs.Walks.{to_come, has_failed as walk_failed, of_all, Advances, HasEnded, RootGives, exclude_patterns, excludes_of, names_over, levels_over};
 
 use crate::fs::{Above, Fault, Folders, Kind};
 use crate::kept::{KeptFile, Note, NoteKind};
@@ -283,8 +284,8 @@ impl Walk {
         excludes: &[Text],
         rules: &Rules,
     ) -> Result<Walk, AllocError>
-        ensures comes { IfOk result (λ w. (t : Tree)
-            → to_come t w ≡ descended (excludes_of excludes.now) rules.now t roots.now) }
+        ensures comes { IfOk result (λ w. (t : Tree) → is_sound t ≡ true
+            → to_come t w ≡ kept_in (excludes_of excludes.now) rules.now t roots.now) }
         ensures failed { IfOk result (λ w. walk_failed w ≡ false) }
     {
         let mut notes = Items::new(alloc);
