@@ -2,10 +2,12 @@ pub mod Characters
 pub mod Dots
 pub mod ExtendedRows
 pub mod Finds
+pub mod FirstBytes
 pub mod FirstPlaces
 pub mod KeyOrder
 pub mod Nonempty
 pub mod OfTable
+pub mod OpenerGroups
 pub mod Pairs
 pub mod RowParts
 pub mod RowSound

@@ -1,6 +1,6 @@
 -- The first place of a text at which an opener stands.
-use Rattle.std.specs.Prelude.{◌≡◌, ℕ, suc, ◌<◌, Bool, true, false, ◌==◌, List, [], ◌∷◌, Option, None, Some, option_map, cond, length, slice_index_or}
-use Rattle.std.specs.List.{list_any, list_all}
+use Rattle.std.specs.Prelude.{ℕ, suc, Bool, true, false, ◌==◌, List, [], ◌∷◌, Option, None, Some, option_map, cond}
+use Rattle.std.specs.List.{list_any}
 use Rattle.tokei_table.specs.Shebangs.{begins_with_one}
 
 -- The first place at which some opener stands; none where the text ends before one.
@@ -26,14 +26,3 @@ is_first openers x = list_any (is_first_of x) openers
 abbrev pub has_byte : List ℕ → ℕ → Bool
 has_byte [] x = false
 has_byte (b ∷ t) x = cond (x == b) true (has_byte t x)
-
--- For each byte, a flag tells whether it is in the list.
-pub record IsFlagged (bytes : List ℕ) (flags : List Bool) : Type 0 where
-  pub all : length flags ≡ 256
-  pub each : (x : ℕ) → x < 256 → slice_index_or flags x false ≡ has_byte bytes x
-
--- No opener is empty, the first bytes of the openers are those of the list, and the flags tell of that list.
-pub record IsIndexOf (openers : List (List ℕ)) (firsts : List ℕ) (flags : List Bool) : Type 0 where
-  pub nonempty : list_all is_nonempty openers ≡ true
-  pub firsts_are : (x : ℕ) → has_byte firsts x ≡ is_first openers x
-  pub flagged : IsFlagged firsts flags

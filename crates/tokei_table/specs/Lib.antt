@@ -8,6 +8,7 @@ pub mod Layout
 pub mod Listed
 pub mod Lookups
 pub mod NewRow
+pub mod OpenerGroups
 pub mod Openers
 pub mod OuterLines
 pub mod Outcome

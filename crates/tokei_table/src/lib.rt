@@ -11,6 +11,7 @@ pub mod language_type;
 pub mod laws;
 mod layout;
 pub mod lookups;
+mod opener_group;
 pub mod opener_index;
 mod openers;
 mod rows;
@@ -29,6 +30,3 @@ pub use lookups::has_extension;
 pub use opener_index::OpenerIndex;
 pub use syntax::Syntax;
 pub use table::LanguageTable;
-
-#[cfg(test)]
-mod bench_tests;

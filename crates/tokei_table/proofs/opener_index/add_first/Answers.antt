@@ -1,6 +1,6 @@
 use Rattle.std.proofs.Common.{◌∙◌, ap, get_or, ◌||◌}
 use Rattle.tokei_table.specs.FirstOpener.{has_byte}
-use Rattle.tokei_table.proofs.FirstPlaces.{has_byte-push, first_equals}
+use Rattle.tokei_table.proofs.FirstBytes.{has_byte-push, first_equals}
 use Rattle.tokei_table.proofs.opener_index.add_first.Goals as goal
 
 pub returns-in_ok-push-in-len1-up : goal.returns-in_ok-push-in-len1-up

@@ -1,7 +1,7 @@
 use Rattle.std.proofs.Common.{◌∙◌, sym, ap, take, get_or, string_bytes, ◌||◌}
 use Rattle.tokei_table.specs.FirstOpener.{has_byte, is_first, is_first_of}
 use Rattle.tokei_table.specs.RowOf.{tokens_of}
-use Rattle.tokei_table.proofs.FirstPlaces.{is_first-none, is_first-push, tokens_more}
+use Rattle.tokei_table.proofs.FirstBytes.{is_first-none, is_first-push, tokens_more}
 use Rattle.tokei_table.proofs.opener_index.first_bytes.Goals as goal
 
 pub loop-opener-init : goal.loop-opener-init
