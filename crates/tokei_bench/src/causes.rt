@@ -215,54 +215,50 @@ fn bad_tokens(rt: HostRuntime) -> Result<(), Fail> {
 }
 
 #[test]
-fn names_and_fallbacks(rt: HostRuntime) -> Result<(), Fail> {
-    for (text, want) in [
-        (
-            r#"{"languages":{"A":{"name":"B"},"B":{}}}"#,
-            TableError::NamedTwice,
-        ),
-        (
-            r#"{"languages":{"A":{"name":"x"},"B":{"name":"x"}}}"#,
-            TableError::NamedTwice,
-        ),
-        (
-            r#"{"languages":{"A":{"name":"Total"},"Total":{}}}"#,
-            TableError::NamedTwice,
-        ),
-        (
-            r#"{"languages":{"X":{"name":"Total"}}}"#,
-            TableError::NamedTotal,
-        ),
-        (
-            r#"{"languages":{"Total":{"name":"X"},"Rust":{}}}"#,
-            TableError::NamedTotal,
-        ),
-        (r#"{"languages":{"Rust":{}}}"#, TableError::Fallback),
-        (
-            r#"{"languages":{"Rust":{},"MD":{"name":"Markdown"}}}"#,
-            TableError::Fallback,
-        ),
-        (
-            r#"{"languages":{"Html":{},"JavaScript":{}}}"#,
-            TableError::Fallback,
-        ),
-        (
-            r#"{"languages":{"Vue":{},"JavaScript":{},"Css":{}}}"#,
-            TableError::Fallback,
-        ),
-        (
-            r#"{"languages":{"Jupyter":{},"Markdown":{}}}"#,
-            TableError::Fallback,
-        ),
-        (
-            r#"{"languages":{"Jupyter":{},"Python":{}}}"#,
-            TableError::Fallback,
-        ),
-        (r#"{"languages":{"LinguaFranca":{}}}"#, TableError::Fallback),
+fn named_twice(rt: HostRuntime) -> Result<(), Fail> {
+    for text in [
+        r#"{"languages":{"A":{"name":"B"},"B":{}}}"#,
+        r#"{"languages":{"A":{"name":"x"},"B":{"name":"x"}}}"#,
+        r#"{"languages":{"A":{"name":"Total"},"Total":{}}}"#,
     ] {
         assert_eq!(rt;
             languages_in(rt.alloc(), text.as_bytes()),
-            Err(want),
+            Err(TableError::NamedTwice),
+            "at {text}"
+        );
+    }
+    Ok(())
+}
+
+#[test]
+fn named_total(rt: HostRuntime) -> Result<(), Fail> {
+    for text in [
+        r#"{"languages":{"X":{"name":"Total"}}}"#,
+        r#"{"languages":{"Total":{"name":"X"},"Rust":{}}}"#,
+    ] {
+        assert_eq!(rt;
+            languages_in(rt.alloc(), text.as_bytes()),
+            Err(TableError::NamedTotal),
+            "at {text}"
+        );
+    }
+    Ok(())
+}
+
+#[test]
+fn missing_fallbacks(rt: HostRuntime) -> Result<(), Fail> {
+    for text in [
+        r#"{"languages":{"Rust":{}}}"#,
+        r#"{"languages":{"Rust":{},"MD":{"name":"Markdown"}}}"#,
+        r#"{"languages":{"Html":{},"JavaScript":{}}}"#,
+        r#"{"languages":{"Vue":{},"JavaScript":{},"Css":{}}}"#,
+        r#"{"languages":{"Jupyter":{},"Markdown":{}}}"#,
+        r#"{"languages":{"Jupyter":{},"Python":{}}}"#,
+        r#"{"languages":{"LinguaFranca":{}}}"#,
+    ] {
+        assert_eq!(rt;
+            languages_in(rt.alloc(), text.as_bytes()),
+            Err(TableError::Fallback),
             "at {text}"
         );
     }
