@@ -1,0 +1,2 @@
+pub mod Boundaries
+pub mod Decoding

@@ -1,0 +1,10 @@
+//! Texts: the decoding of a file's contents, and the boundaries of characters.
+#![tactic(auto)]
+
+mod boundaries;
+mod decoding;
+#[cfg(test)]
+mod tests;
+
+pub use boundaries::find_char_boundary;
+pub use decoding::decode_text;
