@@ -1,1 +1,2 @@
+pub mod LeastBoundary
 pub mod Units

@@ -1,5 +1,6 @@
 -- Character boundaries: the places of a text at which a character begins, and its end.
-use Rattle.std.specs.Prelude.{ℕ, ◌≤◌, List}
+use Rattle.std.specs.Prelude.{ℕ, suc, ◌+◌, ◌≤◌, List, [], ◌∷◌, drop, if◌then◌else◌}
+use Rattle.std.specs.Fmt.{is_char_start}
 use Rattle.std.specs.Str.{IsCharBoundary}
 
 -- the least boundary of the text that is not below i
@@ -7,3 +8,12 @@ pub record IsLeastBoundary (text : List ℕ) (i found : ℕ) : Type 0 where
   pub boundary : IsCharBoundary text found
   pub not_below : i ≤ found
   pub least : (k : ℕ) → i ≤ k → IsCharBoundary text k → found ≤ k
+
+-- how many bytes stand before the first that begins a character
+abbrev pub cut_len : List ℕ → ℕ
+cut_len [] = 0
+cut_len (b ∷ text) = if is_char_start b then 0 else suc (cut_len text)
+
+-- the same boundary, computed
+abbrev pub boundary_from : List ℕ → ℕ → ℕ
+boundary_from text i = i + cut_len (drop i text)
