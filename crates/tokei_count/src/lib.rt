@@ -28,4 +28,5 @@ pub use tokei_embedding::{
     Capture, HtmlLike, SimpleCapture, end_lf, end_markdown, end_script, end_style, end_template,
     start_lf, start_markdown, start_script, start_style, start_template,
 };
-pub use tokei_stats::{CodeStats, CountError};
+pub use tokei_stats::{CodeStats, CountError, Report, ReportRow};
+pub use tokei_text::{decode_text, find_char_boundary};
