@@ -1,7 +1,7 @@
 //! Notebooks: a blob for the language of each cell, and no lines of their own.
 use crate::bench::bench;
 use crate::plain_rows::{Lines, are, child_of, counted, own_of};
-use std::alloc::Global;
+use std::alloc::{AllocError, Global};
 use std::test::Fail;
 use tokei_count::CountError;
 use tokei_table::LanguageTable;
@@ -72,6 +72,35 @@ fn damaged_notebooks(rt: HostRuntime) -> Result<(), Fail> {
     let bad =
         b"{\"cells\":[{\"cell_type\":\"code\",\"source\":[\"\xff\"]}],\"metadata\":{\"kernelspec\":{},\"language_info\":{}}}";
     let stats = counted(rt.alloc(), &table, "Jupyter", None, bad)?;
+    assert!(rt; are(&table, &stats, (0, 0, 0), &[]));
+    Ok(())
+}
+
+/// A notebook whose kernel is so many lists inside one another.
+fn nested(alloc: Global, depth: u32) -> Result<Vec<u8>, AllocError> {
+    let mut text = Vec::new(alloc);
+    text.extend_from_slice(
+        b"{\"cells\":[{\"cell_type\":\"code\",\"source\":[\"x\"]}],\"metadata\":{\"language_info\":0,\"kernelspec\":",
+    )?;
+    for _ in 0..depth {
+        text.push(b'[')?;
+    }
+    for _ in 0..depth {
+        text.push(b']')?;
+    }
+    text.extend_from_slice(b"}}")?;
+    Ok(text)
+}
+
+// The notebook and its metadata are two levels of the 127 that JSON may nest.
+#[test]
+fn deep_notebooks(rt: HostRuntime) -> Result<(), Fail> {
+    let table = bench(rt.alloc())?;
+    let text = nested(rt.alloc(), 125)?;
+    let stats = counted(rt.alloc(), &table, "Jupyter", None, &text)?;
+    assert!(rt; are(&table, &stats, (0, 0, 0), &[("Python", (0, 1, 0))]));
+    let text = nested(rt.alloc(), 126)?;
+    let stats = counted(rt.alloc(), &table, "Jupyter", None, &text)?;
     assert!(rt; are(&table, &stats, (0, 0, 0), &[]));
     Ok(())
 }
