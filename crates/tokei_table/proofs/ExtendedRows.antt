@@ -7,8 +7,9 @@ use Rattle.std.specs.Prelude.{bytes_eq}
 use Rattle.std.specs.Cmp.Lexicographic.{slice_cmp}
 use Rattle.tokei_table.specs.Extended.{gained, listed_for, extended_from, extended, extensions_of}
 use Rattle.tokei_table.specs.Families.{family_of, needed_keys}
-use Rattle.tokei_table.specs.Row.{Row}
-use Rattle.tokei_table.specs.WellFormed.{IsWellFormed, has_tokens, shares_name, names_twice, is_total, has_key, has_fallbacks, keys_of}
+use Rattle.tokei_syntax.specs.Row.{Row}
+use Rattle.tokei_table.specs.WellFormed.{IsWellFormed, has_tokens, shares_name, names_twice, is_total, has_key, has_fallbacks}
+use Rattle.tokei_rows.specs.KeyOrder.{keys_of}
 
 module _ (adds : List (ℕ × List (List ℕ))) where
   same_keys : (rs : List Row) (n : ℕ) (known : List (List ℕ)) → keys_of (extended_from n known adds rs) ≡ keys_of rs

@@ -4,10 +4,10 @@ use Rattle.std.specs.List.{list_all}
 use Rattle.std.specs.Result.{IfOk}
 use Rattle.tokei_table.proofs.RowSound.{and_left, and_right}
 use Rattle.tokei_table.specs.Families.{family_of}
-use Rattle.tokei_table.specs.FirstOpener.{is_nonempty}
+use Rattle.tokei_syntax.specs.FirstOpener.{is_nonempty}
 use Rattle.tokei_table.specs.Openers.{starts_of, tag_starts, child_openers, openers}
-use Rattle.tokei_table.specs.Row.{Pair, Row}
-use Rattle.tokei_table.specs.Sound.{is_token, is_pair}
+use Rattle.tokei_syntax.specs.Row.{Pair, Row}
+use Rattle.tokei_syntax.specs.Sound.{is_token, is_pair}
 use Rattle.tokei_table.specs.WellFormed.{has_tokens}
 use Rattle.tokei_table.specs.declared.family.Family.{Family}
 use Rattle.tokei_table.specs.declared.family.Family.TheVariants.{Plain, Markdown, HtmlLike, Rust, LinguaFranca, Jupyter}

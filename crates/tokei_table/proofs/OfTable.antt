@@ -3,7 +3,7 @@ use Rattle.std.proofs.Common.{◌≡◌, ℕ, suc, ◌<◌, Bool, true, false, c
 use Rattle.std.specs.Option.{IfSome}
 use Rattle.std.specs.Str.{is_utf8}
 use Rattle.std.specs.Prelude.{bytes_eq, codes}
-use Rattle.tokei_table.specs.Row.{Row}
+use Rattle.tokei_syntax.specs.Row.{Row}
 use Rattle.tokei_table.specs.Lookups.{first_where, or_else, from_extension, from_lowered_name, extension_of, has_filename, has_path_suffix, has_extension}
 use Rattle.tokei_table.specs.Shebangs.{from_env, has_env, has_shebang, from_words, from_line, first_word, behind_word}
 

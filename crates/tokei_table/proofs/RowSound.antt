@@ -1,8 +1,8 @@
 -- A row of a well-formed table, and what its tokens are.
 use Rattle.std.proofs.Common.{◌≡◌, ℕ, zero, suc, ◌<◌, Bool, true, false, ◌&&◌, List, [], ◌∷◌, map, length, get_or, refl, arith}
 use Rattle.std.specs.List.{list_all}
-use Rattle.tokei_table.specs.Row.{Row}
-use Rattle.tokei_table.specs.Sound.{IsSound}
+use Rattle.tokei_syntax.specs.Row.{Row}
+use Rattle.tokei_syntax.specs.Sound.{IsSound}
 use Rattle.tokei_table.specs.WellFormed.{has_tokens}
 
 pub and_left : (a b : Bool) → (a && b) ≡ true → a ≡ true

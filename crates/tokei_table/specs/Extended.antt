@@ -3,8 +3,8 @@ use Rattle.std.specs.Prelude.{ℕ, ◌+◌, ◌==◌, List, [], ◌∷◌, ◌++
 use Rattle.std.specs.Borrow.{Bor}
 use Rattle.std.specs.Global.{Global}
 use Rattle.tokei_table.specs.Lookups.{holds}
-use Rattle.tokei_table.specs.Row.{Row}
-use Rattle.tokei_table.specs.RowOf.{tokens_of}
+use Rattle.tokei_syntax.specs.Row.{Row}
+use Rattle.tokei_syntax.specs.RowOf.{tokens_of}
 
 -- Those of the listed extensions that aren't known yet, each once.
 abbrev pub gained : List (List ℕ) → List (List ℕ) → List (List ℕ)

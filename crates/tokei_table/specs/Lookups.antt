@@ -2,9 +2,9 @@
 use Rattle.std.specs.Prelude.{ℕ, suc, Bool, ◌||◌, ◌==◌, List, [], ◌∷◌, Option, Some, None, option_map, cond, bytes_eq, slice_index_or}
 use Rattle.std.specs.List.{list_any}
 use Rattle.std.specs.Str.{str_to_ascii_lowercase}
-use Rattle.tokei_table.specs.Bytes.{ends}
-use Rattle.tokei_table.specs.NewRow.{new_row}
-use Rattle.tokei_table.specs.Row.{Row}
+use Rattle.tokei_syntax.specs.Bytes.{ends}
+use Rattle.tokei_syntax.specs.NewRow.{new_row}
+use Rattle.tokei_syntax.specs.Row.{Row}
 
 -- The row at a language's place.
 abbrev pub row_at : List Row → ℕ → Row

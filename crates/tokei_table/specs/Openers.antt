@@ -1,7 +1,7 @@
 -- The texts that a line has to hold for more than a glance at it.
 use Rattle.std.specs.Prelude.{ℕ, List, [], ◌∷◌, ◌++◌, map, codes}
 use Rattle.tokei_table.specs.Families.{family_of}
-use Rattle.tokei_table.specs.Row.{Pair, Row}
+use Rattle.tokei_syntax.specs.Row.{Pair, Row}
 use Rattle.tokei_table.specs.declared.family.Family.{Family}
 use Rattle.tokei_table.specs.declared.family.Family.TheVariants.{Plain, Markdown, HtmlLike, Rust, LinguaFranca, Jupyter}
 

@@ -5,10 +5,10 @@ use Rattle.std.specs.Str.{is_utf8}
 use Rattle.serde_json.specs.Data.{Data}
 use Rattle.serde_json.specs.Find.{get}
 use Rattle.serde_json.specs.Read.{read}
-use Rattle.tokei_table.specs.Escaped.{is_escaped_table}
-use Rattle.tokei_table.specs.Layout.{has_layout}
-use Rattle.tokei_table.specs.Row.{Row}
-use Rattle.tokei_table.specs.Rows.{rows_at}
+use Rattle.tokei_rows.specs.Escaped.{is_escaped_table}
+use Rattle.tokei_rows.specs.Layout.{has_layout}
+use Rattle.tokei_syntax.specs.Row.{Row}
+use Rattle.tokei_rows.specs.Rows.{rows_at}
 use Rattle.tokei_table.specs.WellFormed.{has_tokens, names_twice, is_total, has_fallbacks}
 use Rattle.tokei_table.specs.declared.error.TableError.{TableError}
 use Rattle.tokei_table.specs.declared.error.TableError.TheVariants.{NotJson, Layout, Escape, Token, NamedTwice, NamedTotal, Fallback}

@@ -1,10 +1,9 @@
 -- Which language of a table the head of a script stands for.
 use Rattle.std.specs.Prelude.{ℕ, suc, Bool, ◌==◌, List, [], ◌∷◌, Option, None, cond, bytes_eq, codes, take, drop}
-use Rattle.std.specs.List.{list_any}
 use Rattle.std.specs.Str.{is_utf8}
-use Rattle.tokei_table.specs.Bytes.{is_blank, trim_start, begins}
+use Rattle.tokei_syntax.specs.Bytes.{is_blank, trim_start, begins_with_one}
 use Rattle.tokei_table.specs.Lookups.{first_where, or_else, holds}
-use Rattle.tokei_table.specs.Row.{Row}
+use Rattle.tokei_syntax.specs.Row.{Row}
 
 -- How many bytes stand before the first newline, or in all.
 abbrev pub line_len : List ℕ → ℕ
@@ -23,10 +22,6 @@ first_word t = take (word_len (trim_start t)) (trim_start t)
 -- What stands behind the first word.
 abbrev pub behind_word : List ℕ → List ℕ
 behind_word t = drop (word_len (trim_start t)) (trim_start t)
-
--- Whether the program's name begins with one of the texts.
-unfoldable pub begins_with_one : List (List ℕ) → List ℕ → Bool
-begins_with_one beginnings program = list_any (λ e. begins e program) beginnings
 
 -- A text of `env` begins the name of the program.
 abbrev pub has_env : List ℕ → Row → Bool

@@ -1,12 +1,10 @@
 -- When the rows of a table can be counted with.
-use Rattle.std.specs.Prelude.{◌≡◌, ℕ, Bool, true, false, ◌&&◌, ◌||◌, List, [], ◌∷◌, map, codes, bytes_eq}
-use Rattle.std.specs.Ordering.{nat_cmp}
+use Rattle.std.specs.Prelude.{◌≡◌, ℕ, Bool, true, false, ◌&&◌, ◌||◌, List, [], ◌∷◌, codes, bytes_eq}
 use Rattle.std.specs.List.{list_all, list_any}
-use Rattle.std.specs.List.Sorted.{IsStrictlySortedBy}
-use Rattle.std.specs.Cmp.Lexicographic.{slice_cmp}
 use Rattle.tokei_table.specs.Families.{family_of, needed_keys}
-use Rattle.tokei_table.specs.Row.{Row}
-use Rattle.tokei_table.specs.Sound.{is_token, is_pair}
+use Rattle.tokei_rows.specs.KeyOrder.{IsInKeyOrder}
+use Rattle.tokei_syntax.specs.Row.{Row}
+use Rattle.tokei_syntax.specs.Sound.{is_token, is_pair}
 
 -- Each text of the comments and string literals, each of `important_syntax` and each tag is a token.
 unfoldable pub has_tokens : Row → Bool
@@ -40,14 +38,6 @@ has_key rs key = list_any (λ r. bytes_eq r.key key) rs
 -- The languages are there on which the children of that one fall back.
 abbrev pub has_fallbacks : List Row → Row → Bool
 has_fallbacks rs r = list_all (has_key rs) (needed_keys (family_of r.key))
-
--- The keys of the rows.
-abbrev pub keys_of : List Row → List (List ℕ)
-keys_of rs = map (λ r. r.key) rs
-
--- The keys ascend in byte order.
-abbrev pub IsInKeyOrder : List Row → Type 0
-IsInKeyOrder rs = IsStrictlySortedBy (slice_cmp nat_cmp) (keys_of rs)
 
 -- The keys ascend, all texts that a count looks for are tokens, no text names two languages, none is `Total`, and the
 -- languages are there on which children fall back.

@@ -1,14 +1,14 @@
 //! A table in which languages gain extensions.
 ghost use Rattle.std.specs.Prelude.{◌≡◌, ◌++◌, map, IfOk, OnOk, string_bytes};
 ghost use Rattle.tokei_table.specs.Extended.{gained, addition_of, listed_for, with_extensions, extended_from, extensions_of, extended};
-ghost use Rattle.tokei_table.specs.RowOf.{pair_of, pairs_of, tokens_of, row_of};
+ghost use Rattle.tokei_syntax.specs.RowOf.{pair_of, pairs_of, tokens_of, row_of};
 ghost use Rattle.tokei_table.specs.WellFormed.{IsWellFormed};
 
 use crate::language_type::LanguageType;
 use crate::lookups::holds;
 use crate::openers::add_texts;
-use crate::syntax::Syntax;
 use std::alloc::{AllocError, Global};
+use tokei_syntax::Syntax;
 
 fn texts(alloc: Global, texts: &[String]) -> Result<Vec<String>, AllocError>
     ensures { IfOk result (λ v. tokens_of v.items ≡ tokens_of texts.now) }

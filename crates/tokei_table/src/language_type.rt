@@ -3,7 +3,7 @@ ghost use Rattle.std.specs.Prelude.{◌≡◌, ◌<◌, length, map, IfOk};
 ghost use Rattle.tokei_table.specs.Families.{family_of};
 ghost use Rattle.tokei_table.specs.Listed.{listed, languages_from};
 ghost use Rattle.tokei_table.specs.Lookups.{row_at};
-ghost use Rattle.tokei_table.specs.RowOf.{pairs_of, tokens_of};
+ghost use Rattle.tokei_syntax.specs.RowOf.{pairs_of, tokens_of};
 
 use crate::family::Family;
 use crate::table::LanguageTable;

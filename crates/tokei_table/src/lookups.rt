@@ -2,16 +2,16 @@
 //! first in the table is answered.
 ghost use Rattle.std.specs.Prelude.{◌≡◌, ◌≤◌, ◌<◌, length, map, take, is_some, option_map, bytes_eq, IfOk, IfSome};
 ghost use Rattle.std.specs.Str.{is_utf8, str_to_ascii_lowercase};
-ghost use Rattle.tokei_table.specs.RowOf.{row_of, tokens_of};
+ghost use Rattle.tokei_syntax.specs.RowOf.{row_of, tokens_of};
 ghost use Rattle.tokei_table.specs.Lookups.{first_where, holds, has_name, has_name_in_any_case, has_mime, has_extension, has_filename, ends_with_one, has_path_suffix, extension_of, from_lowered_name, from_file_name};
-ghost use Rattle.tokei_table.specs.Shebangs.{line_len, word_len, first_word, behind_word, begins_with_one, has_env, from_env, has_shebang, from_words, head_line, from_shebang};
+ghost use Rattle.tokei_table.specs.Shebangs.{line_len, word_len, first_word, behind_word, has_env, from_env, has_shebang, from_words, head_line, from_shebang};
 
-use crate::ext::{is_line_ending_whitespace, is_whitespace, trim_start};
 use crate::language_type::LanguageType;
-use crate::syntax::Syntax;
 use crate::table::LanguageTable;
 use memchr::memrchr;
 use std::alloc::{AllocError, Global};
+use tokei_syntax::Syntax;
+use tokei_syntax::ext::{begins_with_one, is_line_ending_whitespace, is_whitespace, trim_start};
 
 pub(crate) fn holds(texts: &[String], text: &[u8]) -> bool
     ensures { result ≡ holds (tokens_of texts.now) text.now }
@@ -30,18 +30,6 @@ fn ends_with_one(suffixes: &[String], name: &[u8]) -> bool
 {
     for suffix in suffixes {
         if name.ends_with(suffix.as_bytes()) {
-            return true;
-        }
-    }
-    false
-}
-
-#[tactic(auto, unfolding(crate::specs::Shebangs::begins_with_one))]
-pub(crate) fn begins_with_one(beginnings: &[String], program: &[u8]) -> bool
-    ensures { result ≡ begins_with_one (tokens_of beginnings.now) program.now }
-{
-    for beginning in beginnings {
-        if program.starts_with(beginning.as_bytes()) {
             return true;
         }
     }

@@ -1,16 +1,16 @@
 //! The texts that a line has to hold for more than a glance at it.
 ghost use Rattle.std.specs.Prelude.{◌≡◌, ◌<◌, ◌++◌, [], ◌∷◌, length, true, IfOk, OnOk, string_bytes};
-ghost use Rattle.tokei_table.specs.RowOf.{tokens_of, pairs_of, row_of};
+ghost use Rattle.tokei_syntax.specs.RowOf.{tokens_of, pairs_of, row_of};
 ghost use Rattle.std.specs.List.{list_all};
-ghost use Rattle.tokei_table.specs.FirstOpener.{is_nonempty};
+ghost use Rattle.tokei_syntax.specs.FirstOpener.{is_nonempty};
 ghost use Rattle.tokei_table.specs.Lookups.{row_at};
 ghost use Rattle.tokei_table.specs.Openers.{starts_of, tag_start, tag_starts, important_syntax, child_openers, openers};
 
 use crate::family::Family;
 use crate::language_type::LanguageType;
-use crate::syntax::Syntax;
 use crate::table::LanguageTable;
 use std::alloc::{AllocError, Global};
+use tokei_syntax::Syntax;
 
 fn add_starts(
     alloc: Global,

@@ -4,22 +4,20 @@ ghost use Rattle.serde_json.specs.View.{view};
 ghost use Rattle.tokei_table.specs.Extended.{addition_of, extended};
 ghost use Rattle.tokei_table.specs.Outcome.{data_of, outcome};
 ghost use Rattle.tokei_table.specs.WellFormed.{IsWellFormed, has_tokens};
-ghost use Rattle.tokei_table.specs.Sound.{IsSound};
-ghost use Rattle.tokei_table.specs.RowOf.{row_of};
+ghost use Rattle.tokei_syntax.specs.Sound.{IsSound};
+ghost use Rattle.tokei_syntax.specs.RowOf.{row_of};
 ghost use Rattle.tokei_table.specs.Lookups.{row_at};
 ghost use Rattle.tokei_table.specs.declared.error.TableError.TheVariants.{NotJson as NotJsonFault, Memory as MemoryFault};
 
 use crate::error::TableError;
-use crate::escaped::is_escaped_table;
 use crate::extend::extended_rows;
 use crate::language_type::LanguageType;
-use crate::layout::has_layout;
-use crate::rows::rows_at;
-use crate::syntax::Syntax;
 use crate::well_formed::{all_have_fallbacks, all_have_tokens, names_total, names_twice};
 use serde_json::Value;
 use std::alloc::{AllocError, Global};
 use std::marker::Model;
+use tokei_rows::{has_layout, is_escaped_table, rows_at};
+use tokei_syntax::Syntax;
 
 /// The table of languages, which contracts see as its rows, in the byte order of their keys.
 #[derive(Drop)]
@@ -29,8 +27,8 @@ pub struct LanguageTable {
 
 impl Model for LanguageTable {
     ghost use Rattle.std.specs.Prelude.{List, map};
-    ghost use Rattle.tokei_table.specs.Row.{Row};
-    ghost use Rattle.tokei_table.specs.RowOf.{row_of};
+    ghost use Rattle.tokei_syntax.specs.Row.{Row};
+    ghost use Rattle.tokei_syntax.specs.RowOf.{row_of};
     ghost use Rattle.tokei_table.specs.WellFormed.{IsWellFormed};
 
     ghost Value = { List Row };

@@ -1,11 +1,12 @@
 //! Whether the rows of a table can be counted with.
 ghost use Rattle.std.specs.Prelude.{◌≡◌, map};
 ghost use Rattle.std.specs.List.{list_all, list_any};
-ghost use Rattle.tokei_table.specs.RowOf.{row_of};
+ghost use Rattle.tokei_syntax.specs.RowOf.{row_of};
 ghost use Rattle.tokei_table.specs.WellFormed.{has_tokens, shares_name, names_twice, is_total, has_key, has_fallbacks};
 
 use crate::family::Family;
-use crate::syntax::{Syntax, are_pairs, are_tokens};
+use tokei_syntax::Syntax;
+use tokei_syntax::syntax::{are_pairs, are_tokens};
 
 #[tactic(auto, unfolding(crate::specs::WellFormed::has_tokens))]
 fn has_tokens(row: &Syntax) -> bool

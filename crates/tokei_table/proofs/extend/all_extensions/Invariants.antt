@@ -1,6 +1,6 @@
 use Rattle.std.proofs.Common.{◌≡◌, ◌++◌, drop, map}
 use Rattle.tokei_table.specs.Extended.{extensions_of}
-use Rattle.tokei_table.specs.RowOf.{tokens_of, row_of}
+use Rattle.tokei_syntax.specs.RowOf.{tokens_of, row_of}
 use Rattle.tokei_table.proofs.extend.all_extensions.Given as goal
 
 abbrev pub invariant-loop-row : goal.invariant-loop-row

@@ -1,6 +1,6 @@
 use Rattle.std.proofs.Common.{◌∙◌, ap, refl}
-use Rattle.tokei_table.specs.RowOf.{pairs_of, tokens_of}
-use Rattle.tokei_table.proofs.RowParts.{same_row}
+use Rattle.tokei_syntax.specs.RowOf.{pairs_of, tokens_of}
+use Rattle.tokei_rows.proofs.RowParts.{same_row}
 use Rattle.tokei_table.proofs.extend.copy.Goals as goal
 
 pub returns : goal.returns

@@ -1,6 +1,6 @@
 use Rattle.std.proofs.Common.{◌≡◌, ◌++◌, drop}
 use Rattle.tokei_table.specs.Extended.{gained}
-use Rattle.tokei_table.specs.RowOf.{tokens_of}
+use Rattle.tokei_syntax.specs.RowOf.{tokens_of}
 use Rattle.tokei_table.proofs.extend.gained.Given as goal
 
 abbrev pub invariant-loop-extension : goal.invariant-loop-extension

@@ -1,5 +1,5 @@
 use Rattle.std.proofs.Common.{◌≡◌, ◌++◌, drop}
-use Rattle.tokei_table.specs.RowOf.{pairs_of}
+use Rattle.tokei_syntax.specs.RowOf.{pairs_of}
 use Rattle.tokei_table.proofs.extend.pairs.Given as goal
 
 abbrev pub invariant-loop-pair : goal.invariant-loop-pair

@@ -1,6 +1,6 @@
 use Rattle.std.proofs.Common.{◌≡◌, drop}
 use Rattle.tokei_table.specs.Lookups.{holds}
-use Rattle.tokei_table.specs.RowOf.{tokens_of}
+use Rattle.tokei_syntax.specs.RowOf.{tokens_of}
 use Rattle.tokei_table.proofs.lookups.holds.Given as goal
 
 abbrev pub invariant-loop-known : goal.invariant-loop-known

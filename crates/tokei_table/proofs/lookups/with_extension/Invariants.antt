@@ -1,7 +1,7 @@
 use Rattle.std.proofs.Common.{◌≡◌, ◌+◌, drop, map, option_map}
 use Rattle.tokei_table.specs.Lookups.{first_where}
 use Rattle.tokei_table.specs.Lookups.{has_extension}
-use Rattle.tokei_table.specs.RowOf.{row_of}
+use Rattle.tokei_syntax.specs.RowOf.{row_of}
 use Rattle.tokei_table.proofs.lookups.with_extension.Given as goal
 
 abbrev pub invariant-loop-i : goal.invariant-loop-i

@@ -1,5 +1,5 @@
 use Rattle.std.proofs.Common.{◌≡◌, ◌++◌, drop}
-use Rattle.tokei_table.specs.RowOf.{tokens_of, pairs_of}
+use Rattle.tokei_syntax.specs.RowOf.{tokens_of, pairs_of}
 use Rattle.tokei_table.specs.Openers.{starts_of}
 use Rattle.tokei_table.proofs.openers.add_starts.Given as goal
 

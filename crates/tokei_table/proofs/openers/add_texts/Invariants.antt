@@ -1,5 +1,5 @@
 use Rattle.std.proofs.Common.{◌≡◌, ◌++◌, drop}
-use Rattle.tokei_table.specs.RowOf.{tokens_of}
+use Rattle.tokei_syntax.specs.RowOf.{tokens_of}
 use Rattle.tokei_table.proofs.openers.add_texts.Given as goal
 
 abbrev pub invariant-loop-text : goal.invariant-loop-text

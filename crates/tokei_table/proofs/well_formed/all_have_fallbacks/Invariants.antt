@@ -1,6 +1,6 @@
 use Rattle.std.proofs.Common.{◌≡◌, drop, map}
 use Rattle.std.specs.List.{list_all}
-use Rattle.tokei_table.specs.RowOf.{row_of}
+use Rattle.tokei_syntax.specs.RowOf.{row_of}
 use Rattle.tokei_table.specs.WellFormed.{has_fallbacks}
 use Rattle.tokei_table.proofs.well_formed.all_have_fallbacks.Given as goal
 

@@ -1,5 +1,5 @@
 use Rattle.std.proofs.Common.{◌≡◌, drop, map}
-use Rattle.tokei_table.specs.RowOf.{row_of}
+use Rattle.tokei_syntax.specs.RowOf.{row_of}
 use Rattle.tokei_table.specs.WellFormed.{has_key}
 use Rattle.tokei_table.proofs.well_formed.has_key.Given as goal
 

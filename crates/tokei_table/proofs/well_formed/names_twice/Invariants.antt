@@ -1,5 +1,5 @@
 use Rattle.std.proofs.Common.{◌≡◌, length, map}
-use Rattle.tokei_table.specs.RowOf.{row_of}
+use Rattle.tokei_syntax.specs.RowOf.{row_of}
 use Rattle.tokei_table.specs.WellFormed.{names_twice}
 use Rattle.tokei_table.proofs.well_formed.names_twice.Given as goal
 

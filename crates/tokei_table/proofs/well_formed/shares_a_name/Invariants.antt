@@ -1,6 +1,6 @@
 use Rattle.std.proofs.Common.{◌≡◌, drop, map}
 use Rattle.std.specs.List.{list_any}
-use Rattle.tokei_table.specs.RowOf.{row_of}
+use Rattle.tokei_syntax.specs.RowOf.{row_of}
 use Rattle.tokei_table.specs.WellFormed.{shares_name}
 use Rattle.tokei_table.proofs.well_formed.shares_a_name.Given as goal
 

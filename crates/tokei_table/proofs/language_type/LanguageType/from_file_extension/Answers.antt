@@ -1,6 +1,6 @@
 use Rattle.std.proofs.Common.{◌∙◌, ap, map}
 use Rattle.tokei_table.specs.Lookups.{first_where, has_extension}
-use Rattle.tokei_table.specs.RowOf.{row_of}
+use Rattle.tokei_syntax.specs.RowOf.{row_of}
 use Rattle.tokei_table.proofs.OfTable.{first_within, same_within}
 use Rattle.tokei_table.proofs.language_type.LanguageType.from_file_extension.Goals as goal
 

@@ -1,6 +1,6 @@
 use Rattle.std.proofs.Common.{ap, map}
 use Rattle.tokei_table.specs.Extended.{addition_of, extended}
-use Rattle.tokei_table.specs.RowOf.{row_of}
+use Rattle.tokei_syntax.specs.RowOf.{row_of}
 use Rattle.tokei_table.proofs.ExtendedRows.{extended_well_formed, same_well_formed}
 use Rattle.tokei_table.proofs.table.LanguageTable.extended.Goals as goal
 

@@ -1,6 +1,6 @@
 use Rattle.std.proofs.Common.{◌≡◌, ◌∙◌, ap, true, length, arith}
 use Rattle.std.proofs.lemmas.List.{length-map}
-use Rattle.tokei_table.specs.RowOf.{row_of}
+use Rattle.tokei_syntax.specs.RowOf.{row_of}
 use Rattle.tokei_table.specs.WellFormed.{has_tokens}
 use Rattle.tokei_table.proofs.RowSound.{all_at, sound_row}
 use Rattle.tokei_table.proofs.table.LanguageTable.syntax.Goals as goal

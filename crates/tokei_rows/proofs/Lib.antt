@@ -1,0 +1,4 @@
+pub mod Characters
+pub mod KeyOrder
+pub mod Pairs
+pub mod RowParts

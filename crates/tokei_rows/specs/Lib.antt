@@ -1,0 +1,5 @@
+pub mod Escaped
+pub mod Escapes
+pub mod KeyOrder
+pub mod Layout
+pub mod Rows

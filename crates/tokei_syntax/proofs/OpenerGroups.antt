@@ -1,0 +1,151 @@
+-- Which openers can stand at the front of a text: by its first byte those of a group, by its second one fewer.
+use Rattle.std.proofs.Common.{◌≡◌, ℕ, suc, zero, ◌+◌, ◌-◌, ◌<◌, ◌≤◌, Bool, true, false, ◌&&◌, ◌||◌, ◌==◌, cond, nat_eq, List, [], ◌∷◌, length, take, drop, get_or, None, Some, refl, sym, ◌∙◌, ap, arith, inl, inr}
+use Rattle.std.specs.List.{list_any, list_all}
+use Rattle.std.proofs.lemmas.Bool.Decides.{Decides-eqb}
+use Rattle.std.proofs.lemmas.Bool.{cases_lt}
+use Rattle.std.proofs.lemmas.List.{get_or_default, get_or-map, take_rest, drop-drop, drop_all}
+use Rattle.memchr.specs.Find.{IsFirstByte}
+use Rattle.tokei_syntax.proofs.FirstBytes.{part_reads, part_len}
+use Rattle.tokei_syntax.specs.Bytes.{begins}
+use Rattle.tokei_syntax.specs.FirstOpener.{is_nonempty, is_first_of, is_first, has_byte}
+use Rattle.tokei_syntax.specs.OpenerGroups.{with_first, goes_on_with, HasSeconds, IsIndexOf}
+use Rattle.tokei_syntax.specs.Bytes.{begins_with_one}
+
+pub not_true : (b : Bool) → (b ≡ true → ⊥) → b ≡ false
+not_true true un = absurd (un refl)
+not_true false un = refl
+
+first_equal : (x b : ℕ) (r : Bool) → (nat_eq x b && r) ≡ true → (b == x) ≡ true
+first_equal x b r h = (Decides-eqb b x).1 (sym ((Decides-eqb x b).0 (left (nat_eq x b) r h)))
+  where
+    left : (a c : Bool) → (a && c) ≡ true → a ≡ true
+    left true c e = refl
+    left false c e = e
+
+pub begins_first : (o t : List ℕ) (b : ℕ) → is_nonempty o ≡ true → begins o (b ∷ t) ≡ true → is_first_of b o ≡ true
+begins_first [] t b e h = absurd (cc)
+begins_first (x ∷ o) t b e h = first_equal x b (begins o t) h
+
+either : (a b c d : Bool) → (a ≡ true → c ≡ true) → (b ≡ true → d ≡ true) → (a || b) ≡ true → (c || d) ≡ true
+either true b c d f g h = ap (λ x. x || d) (f refl)
+either false b c d f g h = right c d (g h)
+  where
+    right : (c d : Bool) → d ≡ true → (c || d) ≡ true
+    right true d e = refl
+    right false d e = e
+
+pub and_left : (a b : Bool) → (a && b) ≡ true → a ≡ true
+and_left true b h = refl
+and_left false b h = h
+
+pub and_right : (a b : Bool) → (a && b) ≡ true → b ≡ true
+and_right true b h = h
+and_right false b h = cc
+
+pub starts_first : (os : List (List ℕ)) (b : ℕ) (t : List ℕ) → list_all is_nonempty os ≡ true → begins_with_one os (b ∷ t) ≡ true → is_first os b ≡ true
+unfolding begins_with_one is_first
+starts_first [] b t all h = h
+starts_first (o ∷ os) b t all h =
+    either (begins o (b ∷ t)) (begins_with_one os (b ∷ t)) (is_first_of b o) (is_first os b)
+    (begins_first o t b (and_left (is_nonempty o) (list_all is_nonempty os) all))
+    (starts_first os b t (and_right (is_nonempty o) (list_all is_nonempty os) all))
+    h
+
+-- where no opener goes on with the second byte, none stands at the text's front
+or_parts : (a b : Bool) → (a || b) ≡ false → (a ≡ false) × (b ≡ false)
+or_parts true b h = absurd (cc)
+or_parts false b h = (refl, h)
+
+and_false : (a b c : Bool) → b ≡ false → (a && (b && c)) ≡ false
+and_false true b c h = ap (λ x. x && c) h
+and_false false b c h = refl
+
+other_second : (o : List ℕ) (x y : ℕ) (t : List ℕ) → goes_on_with y o ≡ false → begins o (x ∷ y ∷ t) ≡ false
+other_second [] x y t h = absurd (cc)
+other_second (a ∷ []) x y t h = absurd (cc)
+other_second (a ∷ b ∷ o) x y t h = and_false (nat_eq a x) (nat_eq b y) (begins o t) h
+
+no_second : (os : List (List ℕ)) (x y : ℕ) (t : List ℕ) → list_any (goes_on_with y) os ≡ false → begins_with_one os (x ∷ y ∷ t) ≡ false
+unfolding begins_with_one
+no_second [] x y t h = refl
+no_second (o ∷ os) x y t h =
+    let p = or_parts (goes_on_with y o) (list_any (goes_on_with y) os) h in
+    ap (λ b. b || begins_with_one os (x ∷ y ∷ t)) (other_second o x y t p.0) ∙ no_second os x y t p.1
+
+pub second_apart : (os : List (List ℕ)) (flags : List Bool) → HasSeconds os flags → (t : List ℕ) (d : Bool) → 2 ≤ length t → get_or t 1 0 < 256 → get_or flags (get_or t 1 0) d ≡ false → begins_with_one os t ≡ false
+second_apart os flags s [] d l r h = absurd (omega (arith, l))
+second_apart os flags s (x ∷ []) d l r h = absurd (omega (arith, l))
+second_apart os flags s (x ∷ y ∷ t) d l r h =
+    let inside : y < length flags = omega (arith, r, s.all) in
+    no_second os x y t (sym (s.each y r) ∙ get_or_default flags y false d inside ∙ h)
+
+-- the group of the text's first byte has all openers that can stand at its front
+pub in_group : (os : List (List ℕ)) (x : ℕ) (t : List ℕ) → list_all is_nonempty os ≡ true → begins_with_one (with_first x os) (x ∷ t) ≡ begins_with_one os (x ∷ t)
+unfolding begins_with_one
+in_group [] x t all = refl
+in_group (o ∷ os) x t all =
+    by (is_first_of x o) refl (in_group os x t (and_right (is_nonempty o) (list_all is_nonempty os) all))
+  where
+    clash : is_first_of x o ≡ false → is_first_of x o ≡ true → ⊥
+    clash e f = absurd (cc)
+
+    by : (b : Bool) → is_first_of x o ≡ b → begins_with_one (with_first x os) (x ∷ t) ≡ begins_with_one os (x ∷ t) → begins_with_one (cond b (o ∷ with_first x os) (with_first x os)) (x ∷ t) ≡ (begins o (x ∷ t) || begins_with_one os (x ∷ t))
+    by true e rest = ap (λ r. begins o (x ∷ t) || r) rest
+    by false e rest = rest ∙ sym (ap (λ b. b || begins_with_one os (x ∷ t)) (not_true (begins o (x ∷ t)) (λ h. clash e (begins_first o t x (and_left (is_nonempty o) (list_all is_nonempty os) all) h))))
+
+-- what the search asks of a group
+module _ (os : List (List ℕ)) (firsts : List ℕ) (groups : List (List (List ℕ))) (x : IsIndexOf os firsts groups) where
+  pub apart : (b : ℕ) (t : List ℕ) → (has_byte firsts b ≡ true → ⊥) → begins_with_one os (b ∷ t) ≡ false
+  apart b t none = not_true (begins_with_one os (b ∷ t)) (λ h. none (x.firsts_are b ∙ starts_first os b t x.nonempty h))
+
+  pub apart_at : (t : List ℕ) (n : ℕ) → n < length t → (has_byte firsts (get_or t n 0) ≡ true → ⊥) → begins_with_one os (drop n t) ≡ false
+  apart_at [] n l none = absurd (omega (arith, l))
+  apart_at (b ∷ t) zero l none = apart b t none
+  apart_at (b ∷ t) (suc n) l none = apart_at t n (omega (arith, l)) none
+
+  pub of_group : (i : ℕ) (d : List (List ℕ)) → i < length firsts → (t : List ℕ) → begins_with_one (get_or groups i d) (get_or firsts i 0 ∷ t) ≡ begins_with_one os (get_or firsts i 0 ∷ t)
+  of_group i d l t =
+      ap (λ g. begins_with_one g (get_or firsts i 0 ∷ t)) (ap (λ gs. get_or gs i d) x.grouped ∙ get_or-map (λ y. with_first y os) firsts i 0 d l)
+      ∙ in_group os (get_or firsts i 0) t x.nonempty
+
+  -- from a place on, before which no opener stands, to the next first byte of an opener
+  module _ (t : List ℕ) (i : ℕ) (l : i ≤ length t) (none : (k : ℕ) → k < i → begins_with_one os (drop k t) ≡ false) where
+    unhit : (n k : ℕ) → i + n ≤ length t → k < i + n → ((j : ℕ) → j < n → has_byte firsts (get_or (take (length t - i) (drop i t)) j 0) ≡ true → ⊥) → begins_with_one os (drop k t) ≡ false
+    unhit n k fits h f = elim (cases_lt k i) [
+      | inl a ↦ none k a
+      | inr a ↦ apart_at t k (omega (arith, h, fits)) (λ y. f (k - i) (omega (arith, a, h)) (ap (has_byte firsts) (part_reads t i (length t - i) k a (omega (arith, h, fits))) ∙ y))
+    ]
+
+    pub hit_inside : (n : ℕ) → IsFirstByte (has_byte firsts) (take (length t - i) (drop i t)) (Some n) → i + n < length t
+    hit_inside n f = omega (arith, l, f.0.high, part_len t i (length t) (omega arith))
+
+    pub before_hit : (n : ℕ) → IsFirstByte (has_byte firsts) (take (length t - i) (drop i t)) (Some n) → (k : ℕ) → k < i + n → begins_with_one os (drop k t) ≡ false
+    before_hit n f k h = unhit n k (omega (arith, hit_inside n f)) h (λ j a. f.0.before j (omega arith) a)
+
+    pub without_hit : IsFirstByte (has_byte firsts) (take (length t - i) (drop i t)) None → (k : ℕ) → k < length t → begins_with_one os (drop k t) ≡ false
+    without_hit f k h = unhit (length t - i) k (omega (arith, l)) (omega (arith, l, h)) (λ j a. f j (omega arith) (omega (arith, a, part_len t i (length t) (omega arith))))
+
+-- behind a miss, past more of them
+pub behind_misses : (os : List (List ℕ)) (t : List ℕ) (i m : ℕ) → i < length t → ((k : ℕ) → k < i → begins_with_one os (drop k t) ≡ false) → begins_with_one os (take (length t - i) (drop i t)) ≡ false → ((k : ℕ) → k < m → begins_with_one os (drop k (take (length t - (i + 1)) (drop (i + 1) t))) ≡ false) → (k : ℕ) → k < i + 1 + m → begins_with_one os (drop k t) ≡ false
+behind_misses os t i m l before here behind k h = elim (cases_lt k i) [
+  | inl a ↦ before k a
+  | inr a ↦ elim (cases_lt i k) [
+    | inl b ↦ later b
+    | inr b ↦ let same : k ≡ i = omega (arith, a, b) in ap (λ j. begins_with_one os (drop j t)) same ∙ ap (begins_with_one os) (sym (take_rest t i)) ∙ here
+  ]
+]
+  where
+    later : i < k → begins_with_one os (drop k t) ≡ false
+    later b =
+        let at : i + 1 + (k - (i + 1)) ≡ k = omega (arith, b) in
+        ap (λ j. begins_with_one os (drop j t)) (sym at)
+        ∙ ap (begins_with_one os) (sym (drop-drop (k - (i + 1)) (i + 1) t))
+        ∙ ap (λ s. begins_with_one os (drop (k - (i + 1)) s)) (sym (take_rest t (i + 1)))
+        ∙ behind (k - (i + 1)) (omega (arith, b, h))
+
+-- a byte that was sought in a whole list
+pub no_byte : (bs : List ℕ) (i x : ℕ) → length bs ≤ i → has_byte (drop i bs) x ≡ has_byte bs x → has_byte bs x ≡ true → ⊥
+no_byte bs i x l e y = clash (sym (ap (λ s. has_byte s x) (drop_all i bs l)) ∙ e ∙ y)
+  where
+    clash : false ≡ true → ⊥
+    clash h = absurd (cc)

@@ -1,0 +1,7 @@
+use Rattle.std.proofs.Common.{◌≡◌, ℕ, take}
+use Rattle.tokei_syntax.specs.FirstOpener.{has_byte, is_first}
+use Rattle.tokei_syntax.specs.RowOf.{tokens_of}
+use Rattle.tokei_syntax.proofs.opener_index.first_bytes.Given as goal
+
+abbrev pub invariant-loop-opener : goal.invariant-loop-opener
+invariant-loop-opener l = (x : ℕ) → has_byte l.firsts.items x ≡ is_first (tokens_of (take l.opener-index l.openers)) x

@@ -1,0 +1,10 @@
+pub mod Bytes
+pub mod FirstOpener
+pub mod NewRow
+pub mod OpenerGroups
+pub mod OuterLines
+pub mod Row
+pub mod RowOf
+pub mod Slices
+pub mod Sound
+pub mod TrimLaws

@@ -1,0 +1,221 @@
+//! Blanks, trims and searches over bytes.
+ghost use Rattle.std.specs.Prelude.{◌≡◌, ◌==◌, ◌≤◌, ◌<◌, length, IfSome};
+ghost use Rattle.tokei_syntax.specs.Slices.{contains_slice};
+ghost use Rattle.tokei_syntax.specs.OuterLines.{is_stop, first_stop, last_stop, start_behind, is_return_newline, end_behind, trim_outer_lines};
+ghost use Rattle.tokei_syntax.specs.Bytes.{is_blank, all_blank, trim_start, trim_end, trim, begins_with_one};
+ghost use Rattle.tokei_syntax.specs.RowOf.{tokens_of};
+
+use memchr::memmem;
+
+/// Whether the byte is a blank: space, or one of the bytes 9 to 13.
+pub fn is_whitespace(byte: u8) -> bool
+    ensures { result ≡ is_blank byte }
+{
+    byte == b' ' || (byte >= 9 && byte <= 13)
+}
+
+/// Whether the byte ends a line: the newline, byte 10.
+pub fn is_line_ending_whitespace(byte: u8) -> bool
+    ensures { result ≡ (byte == 10) }
+{
+    byte == b'\n'
+}
+
+/// Whether each byte of the text is a blank.
+pub fn is_blank_text(text: &[u8]) -> bool
+    ensures { result ≡ all_blank text.now }
+{
+    for byte in text {
+        if !is_whitespace(*byte) {
+            return false;
+        }
+    }
+    true
+}
+
+/// The text without the blanks at its front.
+pub fn trim_start(text: &[u8]) -> &[u8]
+    ensures { result.now ≡ trim_start text.now }
+{
+    let mut rest = text;
+    while let [first, others @ ..] = rest {
+        if !is_whitespace(*first) {
+            return rest;
+        }
+        rest = others;
+    }
+    rest
+}
+
+fn trim_end(text: &[u8]) -> &[u8]
+    ensures { result.now ≡ trim_end text.now }
+{
+    let mut rest = text;
+    while let [others @ .., last] = rest {
+        if !is_whitespace(*last) {
+            return rest;
+        }
+        rest = others;
+    }
+    rest
+}
+
+/// The text without the blanks at both ends.
+pub fn trim(text: &[u8]) -> &[u8]
+    ensures { result.now ≡ trim text.now }
+{
+    trim_end(trim_start(text))
+}
+
+/// Whether the text holds the needle; none holds the empty one.
+pub fn contains_slice(text: &[u8], needle: &[u8]) -> bool
+    ensures { result ≡ contains_slice text.now needle.now }
+{
+    !needle.is_empty() && memmem::find(text, needle).is_some()
+}
+
+/// Whether one of the texts stands at the front of that one.
+#[tactic(auto, unfolding(crate::specs::Bytes::begins_with_one))]
+pub fn begins_with_one(beginnings: &[String], text: &[u8]) -> bool
+    ensures { result ≡ begins_with_one (tokens_of beginnings.now) text.now }
+{
+    for beginning in beginnings {
+        if text.starts_with(beginning.as_bytes()) {
+            return true;
+        }
+    }
+    false
+}
+
+fn is_stop(byte: u8) -> bool
+    ensures { result ≡ is_stop byte }
+{
+    is_line_ending_whitespace(byte) || !is_whitespace(byte)
+}
+
+fn first_stop(text: &[u8]) -> Option<usize>
+    ensures value { result ≡ first_stop text.now }
+    ensures within { IfSome result (λ i. i < length text.now) }
+{
+    for (i, byte) in text.iter().enumerate() {
+        if is_stop(*byte) {
+            return Some(i);
+        }
+    }
+    None
+}
+
+fn last_stop(text: &[u8]) -> Option<usize>
+    ensures value { result ≡ last_stop text.now }
+    ensures within { IfSome result (λ i. i < length text.now) }
+{
+    let mut rest = text;
+    while let [others @ .., last] = rest {
+        if is_stop(*last) {
+            return Some(others.len());
+        }
+        rest = others;
+    }
+    None
+}
+
+fn inner_start(text: &[u8]) -> usize
+    ensures value { result ≡ start_behind (length text.now) (first_stop text.now) }
+    ensures within { result ≤ length text.now }
+{
+    match first_stop(text) {
+        Some(i) => (i + 1).min(text.len() - 1),
+        None => 0,
+    }
+}
+
+fn is_return_newline(text: &[u8], i: usize) -> bool
+    requires { i < length text.now }
+    ensures { result ≡ is_return_newline text.now i }
+{
+    i > 0 && text[i - 1] == b'\r' && text[i] == b'\n'
+}
+
+fn inner_end(text: &[u8]) -> usize
+    ensures value { result ≡ end_behind text.now (last_stop text.now) }
+    ensures within { result ≤ length text.now }
+{
+    match last_stop(text) {
+        Some(i) => if is_return_newline(text, i) { i } else { i + 1 },
+        None => text.len(),
+    }
+}
+
+/// The text without the blank rest of its first line and the blank front of its last one: from behind the first
+/// stop, but no later than the last byte, through the last stop, a stop being a newline or a byte that isn't
+/// blank. A last stop that is the newline of a carriage return and a newline goes too. Without a stop the text
+/// stays.
+pub fn trim_first_and_last_line_of_whitespace(text: &[u8]) -> &[u8]
+    ensures { result.now ≡ trim_outer_lines text.now }
+{
+    let start = inner_start(text);
+    let end = inner_end(text);
+    if end <= start {
+        return &text[..0];
+    }
+    &text[start..end]
+}
+
+#[cfg(test)]
+mod tests {
+    use super::*;
+    use std::test::Fail;
+
+    #[test]
+    fn trims(rt: HostRuntime) -> Result<(), Fail> {
+        for (text, front, both) in [
+            (b"".as_slice(), b"".as_slice(), b"".as_slice()),
+            (b" \t\r\n".as_slice(), b"".as_slice(), b"".as_slice()),
+            (
+                b"  a b\x0b\x0c".as_slice(),
+                b"a b\x0b\x0c".as_slice(),
+                b"a b".as_slice(),
+            ),
+            (
+                b"\x0ea\x08 ".as_slice(),
+                b"\x0ea\x08 ".as_slice(),
+                b"\x0ea\x08".as_slice(),
+            ),
+        ] {
+            assert_eq!(rt; trim_start(text), front);
+            assert_eq!(rt; trim(text), both);
+        }
+        Ok(())
+    }
+
+    #[test]
+    fn outer_lines(rt: HostRuntime) -> Result<(), Fail> {
+        for (text, left) in [
+            (b"ab".as_slice(), b"b".as_slice()),
+            (b"\ra ".as_slice(), b"".as_slice()),
+            (b"\r\na ".as_slice(), b"a".as_slice()),
+            (b" ".as_slice(), b" ".as_slice()),
+            (b"\r\n ".as_slice(), b"".as_slice()),
+            (b"".as_slice(), b"".as_slice()),
+            (b"\n  x;\n  y;\n\t".as_slice(), b"  x;\n  y;\n".as_slice()),
+        ] {
+            assert_eq!(rt; trim_first_and_last_line_of_whitespace(text), left);
+        }
+        Ok(())
+    }
+
+    #[test]
+    fn slices(rt: HostRuntime) -> Result<(), Fail> {
+        for (text, needle, held) in [
+            (b"a.b".as_slice(), b".b".as_slice(), true),
+            (b"a.b".as_slice(), b"".as_slice(), false),
+            (b"".as_slice(), b"".as_slice(), false),
+            (b"a.b".as_slice(), b"b.".as_slice(), false),
+        ] {
+            assert_eq!(rt; contains_slice(text, needle), held);
+        }
+        assert!(rt; is_whitespace(b'\x0d') && !is_whitespace(b'\x0e') && !is_whitespace(b'\x08'));
+        assert!(rt; is_line_ending_whitespace(b'\n') && !is_line_ending_whitespace(b'\r'));
+        Ok(())
+    }
+}

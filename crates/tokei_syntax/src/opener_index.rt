@@ -1,0 +1,263 @@
+//! The openers of a language, ready for a search of a text.
+ghost use Rattle.std.specs.Prelude.{◌≡◌, ◌≤◌, ◌<◌, ℕ, List, ◌∷◌, length, map, drop, ◌||◌, true, false, IfOk, OnOk, MatchOption};
+ghost use Rattle.std.specs.List.{list_all};
+ghost use Rattle.tokei_syntax.specs.FirstOpener.{first_opener, is_first, is_first_of, has_byte, is_nonempty};
+ghost use Rattle.tokei_syntax.specs.OpenerGroups.{with_first, IsIndexOf};
+ghost use Rattle.tokei_syntax.specs.Bytes.{begins_with_one};
+ghost use Rattle.memchr.specs.Find.{IsFirstByte};
+ghost use Rattle.tokei_syntax.specs.RowOf.{tokens_of};
+
+use crate::opener_group::OpenerGroup;
+use memchr::{memchr, memchr2, memchr3};
+use std::alloc::{AllocError, Global};
+use std::marker::Model;
+
+/// How many bytes are searched at first for more than three bytes, and how many at most at a time.
+const FIRST_BLOCK: usize = 64;
+
+const LARGEST_BLOCK: usize = 4096;
+
+/// The openers of a language in groups of one first byte. Contracts see it as the list of its openers.
+#[derive(Drop)]
+pub struct OpenerIndex {
+    /// As they were given. The search goes by the groups.
+    openers: Vec<String>,
+    firsts: Vec<u8>,
+    /// For each of the first bytes the openers that begin with it.
+    groups: Vec<OpenerGroup>,
+}
+
+impl Model for OpenerIndex {
+    ghost use Rattle.std.specs.Prelude.{ℕ, List};
+
+    ghost Value = { List (List ℕ) };
+
+    ghost use Rattle.tokei_syntax.specs.OpenerGroups.{IsIndexOf};
+    ghost use Rattle.tokei_syntax.specs.RowOf.{tokens_of};
+
+    ghost view = { λ x. tokens_of x.openers.items };
+
+    ghost invariant = { λ x. IsIndexOf (tokens_of x.openers.items) x.firsts.items x.groups.items };
+}
+
+fn has_byte(bytes: &[u8], byte: u8) -> bool
+    ensures { result ≡ has_byte bytes.now byte }
+{
+    for known in bytes {
+        if byte == *known {
+            return true;
+        }
+    }
+    false
+}
+
+fn add_first(firsts: &mut Vec<u8>, opener: &[u8]) -> Result<(), AllocError>
+    ensures { OnOk result ((x : ℕ) → has_byte firsts.new.items x ≡ (has_byte firsts.old.items x || is_first_of x opener.now)) }
+{
+    match opener {
+        [] => Ok(()),
+        [first, ..] => {
+            if has_byte(firsts, *first) {
+                return Ok(());
+            }
+            firsts.push(*first)?;
+            Ok(())
+        }
+    }
+}
+
+/// The distinct first bytes of the openers.
+fn first_bytes(alloc: Global, openers: &[String]) -> Result<Vec<u8>, AllocError>
+    ensures { IfOk result (λ v. (x : ℕ) → has_byte v.items x ≡ is_first (tokens_of openers.now) x) }
+{
+    let mut firsts = Vec::new(alloc);
+    for opener in openers {
+        add_first(&mut firsts, opener.as_bytes())?;
+    }
+    Ok(firsts)
+}
+
+fn is_first_of(byte: u8, opener: &[u8]) -> bool
+    ensures { result ≡ is_first_of byte opener.now }
+{
+    match opener {
+        [] => false,
+        [first, ..] => byte == *first,
+    }
+}
+
+/// Those of the openers that begin with the byte.
+fn with_first(alloc: Global, byte: u8, openers: &[String]) -> Result<Vec<String>, AllocError>
+    ensures { IfOk result (λ v. tokens_of v.items ≡ with_first byte (tokens_of openers.now)) }
+{
+    let mut out = Vec::new(alloc);
+    for opener in openers {
+        if is_first_of(byte, opener.as_bytes()) {
+            out.push(String::from_str(alloc, opener.as_str())?)?;
+        }
+    }
+    Ok(out)
+}
+
+/// For each of the first bytes the openers that begin with it.
+fn groups_of(
+    alloc: Global,
+    firsts: &[u8],
+    openers: &[String],
+) -> Result<Vec<OpenerGroup>, AllocError>
+    ensures { IfOk result (λ v. v.items ≡ map (λ x. with_first x (tokens_of openers.now)) firsts.now) }
+{
+    let mut groups = Vec::new(alloc);
+    for byte in firsts {
+        let group = OpenerGroup::new(alloc, with_first(alloc, *byte, openers)?)?;
+        match groups.push(group) {
+            Ok(()) => {}
+            Err(_refused) => return Err(AllocError),
+        }
+    }
+    Ok(groups)
+}
+
+/// The first place of the text whose byte is in the list, by searches for three bytes at a time, each up to where the
+/// one before it ended.
+fn first_of(bytes: &[u8], text: &[u8]) -> Option<usize>
+    ensures { IsFirstByte (has_byte bytes.now) text.now result }
+{
+    match bytes {
+        [] => None,
+        [a] => memchr(*a, text),
+        [a, b] => memchr2(*a, *b, text),
+        [a, b, c] => memchr3(*a, *b, *c, text),
+        [a, b, c, others @ ..] => match memchr3(*a, *b, *c, text) {
+            Some(n) => match first_of(others, &text[..n]) {
+                Some(m) => Some(m),
+                None => Some(n),
+            },
+            None => first_of(others, text),
+        },
+    }
+}
+
+/// The same, in growing blocks, so that no search goes far past what another one finds.
+fn first_in_blocks(bytes: &[u8], text: &[u8]) -> Option<usize>
+    ensures { IsFirstByte (has_byte bytes.now) text.now result }
+{
+    let mut from = 0;
+    let mut width = FIRST_BLOCK;
+    while from < text.len() {
+        let end = from + width.min(text.len() - from);
+        if let Some(n) = first_of(bytes, &text[from..end]) {
+            return Some(from + n);
+        }
+        from = end;
+        width = (width * 2).min(LARGEST_BLOCK);
+    }
+    None
+}
+
+/// The first place of the text whose byte is in the list.
+fn first_among(bytes: &[u8], text: &[u8]) -> Option<usize>
+    ensures { IsFirstByte (has_byte bytes.now) text.now result }
+{
+    if bytes.len() <= 3 {
+        first_of(bytes, text)
+    } else {
+        first_in_blocks(bytes, text)
+    }
+}
+
+impl OpenerIndex {
+    /// Whether none of the texts is empty.
+    pub fn are_nonempty(texts: &[&str]) -> bool
+        ensures { result ≡ list_all is_nonempty (map (λ t. t.now) texts.now) }
+    {
+        for text in texts {
+            if text.as_bytes().is_empty() {
+                return false;
+            }
+        }
+        true
+    }
+
+    /// The index of these openers, of which none is empty. It fails where memory runs out.
+    pub fn new(alloc: Global, openers: &[&str]) -> Result<OpenerIndex, AllocError>
+        requires { list_all is_nonempty (map (λ o. o.now) openers.now) ≡ true }
+        ensures { IfOk result (λ x. x ≡ map (λ o. o.now) openers.now) }
+    {
+        let mut owned = Vec::new(alloc);
+        for opener in openers {
+            owned.push(String::from_str(alloc, *opener)?)?;
+        }
+        OpenerIndex::of_texts(alloc, owned)
+    }
+
+    /// The same, of owned texts.
+    pub fn of_texts(alloc: Global, openers: Vec<String>) -> Result<OpenerIndex, AllocError>
+        requires { list_all is_nonempty (tokens_of openers.items) ≡ true }
+        ensures { IfOk result (λ x. x ≡ tokens_of openers.items) }
+    {
+        let firsts = first_bytes(alloc, &openers)?;
+        let groups = groups_of(alloc, &firsts, &openers)?;
+        Ok(OpenerIndex {
+            openers,
+            firsts,
+            groups,
+        })
+    }
+
+    /// The openers that begin with the byte, where there are any.
+    fn group_of(&self, byte: u8) -> Option<&OpenerGroup>
+        ensures { MatchOption result ((t : List ℕ) → begins_with_one self.entry.now (byte ∷ t) ≡ false)
+            (λ g. (t : List ℕ) → begins_with_one g.now (byte ∷ t) ≡ begins_with_one self.entry.now (byte ∷ t)) }
+    {
+        for (i, first) in self.firsts.iter().enumerate() {
+            if byte == *first {
+                return Some(&self.groups[i]);
+            }
+        }
+        None
+    }
+
+    /// Whether an opener stands at the front of the text.
+    fn stands(&self, text: &[u8]) -> bool
+        requires { 0 < length text.now }
+        ensures { result ≡ begins_with_one self.now text.now }
+    {
+        match text {
+            [] => false,
+            [first, ..] => match self.group_of(*first) {
+                Some(group) => group.stands(text),
+                None => false,
+            },
+        }
+    }
+
+    /// How many bytes at the front of the text are first bytes of openers, up to where an opener stands.
+    fn passed(&self, text: &[u8]) -> usize
+        ensures within { result ≤ length text.now }
+        ensures none { (k : ℕ) → k < result → begins_with_one self.now (drop k text.now) ≡ false }
+    {
+        for (i, byte) in text.iter().enumerate() {
+            if !has_byte(&self.firsts, *byte) || self.stands(&text[i..]) {
+                return i;
+            }
+        }
+        text.len()
+    }
+
+    /// The least place of the text at which some opener stands, None where there is none. It takes no memory.
+    pub fn first_in(&self, text: &[u8]) -> Option<usize>
+        ensures { result ≡ first_opener self.now text.now }
+    {
+        let mut from = 0;
+        while let Some(n) = first_among(&self.firsts, &text[from..]) {
+            let at = from + n;
+            if self.stands(&text[at..]) {
+                return Some(at);
+            }
+            // bytes that can begin an opener often stand side by side, as in a line of slashes
+            from = at + 1 + self.passed(&text[at + 1..]);
+        }
+        None
+    }
+}

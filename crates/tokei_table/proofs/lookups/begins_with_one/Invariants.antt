@@ -1,7 +1,0 @@
-use Rattle.std.proofs.Common.{◌≡◌, drop}
-use Rattle.tokei_table.specs.Shebangs.{begins_with_one}
-use Rattle.tokei_table.specs.RowOf.{tokens_of}
-use Rattle.tokei_table.proofs.lookups.begins_with_one.Given as goal
-
-abbrev pub invariant-loop-beginning : goal.invariant-loop-beginning
-invariant-loop-beginning l = begins_with_one (tokens_of (drop l.beginning-index l.beginnings)) l.program ≡ begins_with_one (tokens_of l.beginnings) l.program
