@@ -12,9 +12,10 @@ use memchr::{memchr, memchr2, memchr3};
 use std::alloc::{AllocError, Global};
 use std::marker::Model;
 
-/// How many bytes are searched at first for more than three bytes, and how many at most at a time.
+/// How many bytes are searched at first for more than three bytes.
 const FIRST_BLOCK: usize = 64;
 
+/// The most bytes that are searched at a time for more than three bytes.
 const LARGEST_BLOCK: usize = 4096;
 
 /// The openers of a language in groups of one first byte. Contracts see it as the list of its openers.
