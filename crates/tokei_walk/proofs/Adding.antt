@@ -1,8 +1,7 @@
 -- When a place can be added or refuse a call, and the tree that is told then.
-use Rattle.std.proofs.Common.{◌≡◌, ℕ, List, [], ◌∷◌, ◌++◌, Bool, true, false, not, cond, ◌||◌, Option, Some, None, is_some, refl, sym, ap, ap₂, ◌∙◌}
+use Rattle.std.proofs.Common.{◌≡◌, ℕ, List, [], ◌∷◌, ◌++◌, Bool, true, false, not, cond, ◌||◌, Some, None, is_some, sym, ap, ap₂, ◌∙◌}
 use Rattle.tokei_walk.specs.declared.nodes.Call.{Call}
 use Rattle.tokei_walk.specs.declared.nodes.Call.TheVariants.{List as ListCall, Read, Head}
-use Rattle.tokei_walk.specs.declared.nodes.Node.{Node}
 use Rattle.tokei_walk.specs.declared.nodes.PlacedNode.{PlacedNode}
 use Rattle.tokei_walk.specs.Additions.{with_all, with_folder, with_file, folders_to, new_folder, new_file, is_below_file, is_file}
 use Rattle.tokei_walk.specs.Refusals.{with_refusal, with_refusals, refused_at}

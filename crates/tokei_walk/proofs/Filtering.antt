@@ -1,30 +1,23 @@
 -- A descent through a sound tree gives the files that a filter of all its places keeps, in their order.
-use Rattle.std.proofs.Common.{◌≡◌, ℕ, zero, suc, ◌&&◌, List, [], ◌∷◌, ◌++◌, Bool, true, false, not, nat_le, cond, map, filter, length, Option, Some, None, Result, Ok, Err, refl, sym, ap, ap₂, ◌∙◌, append_assoc, append-nil, arith}
+use Rattle.std.proofs.Common.{◌≡◌, ℕ, zero, suc, List, [], ◌∷◌, ◌++◌, Bool, true, false, cond, Ok, Err, refl, sym, ap, ap₂, ◌∙◌}
 use Rattle.std.specs.List.{flat_map, list_all}
-use Rattle.std.proofs.lemmas.Bool.Decides.{nat_tests}
-use Rattle.std.proofs.lemmas.List.{map-append}
 use Rattle.tokei_walk.specs.declared.fs.Kind.TheVariants.{File, Folder}
 use Rattle.tokei_walk.specs.declared.fs.Entry.{Entry}
 use Rattle.tokei_walk.specs.declared.fs.Fault.TheVariants.{Refused}
-use Rattle.tokei_walk.specs.declared.kept.KeptFile.{KeptFile}
+use Rattle.tokei_walk.specs.declared.kept_file.KeptFile.{KeptFile}
 use Rattle.tokei_walk.specs.declared.levels.Context.{Context}
-use Rattle.tokei_walk.specs.declared.levels.Level.{Level}
 use Rattle.tokei_walk.specs.declared.levels.Rules.{Rules}
 use Rattle.tokei_walk.specs.declared.nodes.Node.{Node}
 use Rattle.tokei_walk.specs.declared.nodes.Node.TheVariants.{File as file, Folder as folder}
 use Rattle.tokei_walk.specs.declared.nodes.PlacedNode.{PlacedNode}
 use Rattle.tokei_walk.specs.declared.patterns.Pattern.{Pattern}
-use Rattle.tokei_walk.specs.Additions.{is_file}
-use Rattle.tokei_walk.specs.Answers.{can_list, list_answer, entries_in, kind_of}
-use Rattle.tokei_walk.specs.Descent.{joined, kept, with_level, of_entry, of_entries, of_listing, descend, root_context, levels_above, of_root, of_node}
-use Rattle.tokei_walk.specs.Fits.{is_empty}
-use Rattle.tokei_walk.specs.Kept.{chain, context_at, last_name, is_dropped, between, is_entered, is_kept_below, names_from, names_below, is_kept, place_below, file_at, kept_file, kept_below, kept_at, kept_of, kept_in}
-use Rattle.tokei_walk.specs.Levels.{level_at, drops, drops_last, under}
-use Rattle.tokei_walk.specs.Tree.{Names, Tree, node_at, names_of, folders_above, below, is_sound, is_in_order, has_names, is_whole_name}
-use Rattle.tokei_walk.specs.Walks.{descended}
-use Rattle.tokei_walk.proofs.Above.{one_name}
-use Rattle.tokei_walk.proofs.Groups.{Gives, place_gives, all_give, entry_gives, entries_give, group, Ends, Closed, Named, entries_same, named_whole, grouped}
-use Rattle.tokei_walk.proofs.Inside.{inside, put_below, inside_order, inside_names, inside_further, node_inside, entries_inside}
+use Rattle.tokei_walk.specs.Answers.{can_list, list_answer, entries_in}
+use Rattle.tokei_walk.specs.Descent.{joined, kept, with_level, of_entry, of_entries, of_listing, descend}
+use Rattle.tokei_walk.specs.Levels.{level_at, drops, under}
+use Rattle.tokei_walk.specs.Tree.{Names, Tree, node_at, names_of, is_sound, is_in_order, has_names, is_whole_name}
+use Rattle.tokei_walk.proofs.FoldersAbove.{one_name}
+use Rattle.tokei_walk.proofs.Groups.{Gives, place_gives, all_give, entry_gives, entries_give, group, Ends, Closed, entries_same, named_whole, grouped}
+use Rattle.tokei_walk.proofs.Inside.{inside, inside_order, inside_names, inside_further, node_inside, entries_inside}
 use Rattle.tokei_walk.proofs.Joining.{names_of-joined}
 use Rattle.tokei_walk.proofs.NameOrder.{left_of_and, right_of_and}
 

@@ -1,7 +1,7 @@
 -- The part of a tree below a folder, by the names from the folder down.
-use Rattle.std.proofs.Common.{◌≡◌, ℕ, ◌&&◌, List, [], ◌∷◌, ◌++◌, Bool, true, false, cond, Option, Some, None, refl, sym, ap, ap₂, ◌∙◌}
+use Rattle.std.proofs.Common.{◌≡◌, ℕ, List, [], ◌∷◌, ◌++◌, Bool, true, false, cond, Option, Some, None, refl, sym, ap, ap₂, ◌∙◌}
 use Rattle.std.specs.Cmp.Lexicographic.{slice_cmp}
-use Rattle.std.specs.List.{flat_map, list_all}
+use Rattle.std.specs.List.{list_all}
 use Rattle.std.specs.Ordering.{is_lt, is_eq, nat_cmp, ordering_then, ordering_reverse}
 use Rattle.std.specs.declared.cmp.Ordering.{Ordering}
 use Rattle.std.specs.declared.cmp.Ordering.TheVariants.{Less, Equal, Greater}
@@ -12,7 +12,7 @@ use Rattle.tokei_walk.specs.declared.nodes.Node.{Node}
 use Rattle.tokei_walk.specs.declared.nodes.PlacedNode.{PlacedNode}
 use Rattle.tokei_walk.specs.Answers.{entries_in, entry_named, only_name}
 use Rattle.tokei_walk.specs.Tree.{Names, Tree, names_cmp, is_before, is_first, is_in_order, has_names, is_whole_name, node_at, below}
-use Rattle.tokei_walk.proofs.NameOrder.{left_of_and, right_of_and, both, is_less, names_total}
+use Rattle.tokei_walk.proofs.NameOrder.{left_of_and, right_of_and, both}
 
 abbrev pub name_cmp : List ℕ → List ℕ → Ordering
 name_cmp = slice_cmp nat_cmp

@@ -1,13 +1,11 @@
 -- The order of places by their names.
-use Rattle.std.proofs.Common.{◌≡◌, ℕ, ◌&&◌, List, [], ◌∷◌, ◌++◌, Bool, true, false, refl, sym, ap, ◌∙◌}
+use Rattle.std.proofs.Common.{◌≡◌, ◌&&◌, [], ◌∷◌, Bool, true, false, refl, ap}
 use Rattle.std.specs.Cmp.{IsTotalOrder}
-use Rattle.std.specs.Ordering.{is_lt, is_eq, ordering_reverse}
+use Rattle.std.specs.Ordering.{is_lt, ordering_reverse}
 use Rattle.std.specs.declared.cmp.Ordering.{Ordering}
 use Rattle.std.specs.declared.cmp.Ordering.TheVariants.{Less, Equal, Greater}
 use Rattle.std.proofs.lemmas.Cmp.{nat_list_cmp_total, lists_total}
-use Rattle.std.specs.List.{list_all}
-use Rattle.tokei_walk.specs.declared.nodes.PlacedNode.{PlacedNode}
-use Rattle.tokei_walk.specs.Tree.{Names, Tree, names_cmp, is_before, is_first, is_in_order}
+use Rattle.tokei_walk.specs.Tree.{Names, Tree, names_cmp, is_before, is_first}
 
 pub names_total : IsTotalOrder names_cmp
 names_total = lists_total nat_list_cmp_total

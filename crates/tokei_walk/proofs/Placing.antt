@@ -1,17 +1,15 @@
 -- Where a place goes in a tree, and that the tree stays sound.
-use Rattle.std.proofs.Common.{◌≡◌, ℕ, ◌+◌, ◌<◌, ◌≤◌, ◌&&◌, List, [], ◌∷◌, ◌++◌, length, get_or, take, drop, insert, Bool, true, false, map, Option, Some, None, Result, Ok, Err, OnOk, OnErr, reverse, ◌==◌, refl, sym, ap, ◌∙◌, append_assoc, arith}
-use Rattle.std.specs.Ordering.{match_ordering, is_lt, is_eq}
+use Rattle.std.proofs.Common.{◌≡◌, ℕ, ◌+◌, ◌<◌, ◌≤◌, List, [], ◌∷◌, ◌++◌, length, get_or, take, drop, insert, true, false, Result, Ok, Err, OnOk, OnErr, reverse, ◌==◌, refl, sym, ap, ◌∙◌, append_assoc, arith}
+use Rattle.std.specs.Ordering.{match_ordering, is_lt}
 use Rattle.std.specs.declared.cmp.Ordering.{Ordering}
 use Rattle.std.specs.declared.cmp.Ordering.TheVariants.{Less, Equal, Greater}
-use Rattle.std.specs.List.{list_all, list_any}
+use Rattle.std.specs.List.{list_all}
 use Rattle.std.proofs.lemmas.Bool.Decides.{nat_tests}
 use Rattle.std.proofs.lemmas.List.{drop_more, drop_all, take_more, take_all, take-append-drop, reverse-append, reverse-reverse}
-use Rattle.tokei_walk.specs.declared.nodes.Node.{Node}
 use Rattle.tokei_walk.specs.declared.nodes.PlacedNode.{PlacedNode}
-use Rattle.tokei_walk.specs.Additions.{placed, with_all, folders_to, new_folder}
-use Rattle.tokei_walk.specs.Refusals.{changed}
-use Rattle.tokei_walk.specs.Tree.{Names, Tree, names_cmp, is_before, is_first, is_in_order, is_sound, has_names, is_whole_name, folders_above}
-use Rattle.tokei_walk.proofs.NameOrder.{left_of_and, right_of_and, both, is_less, before_trans, first_trans, greater_after}
+use Rattle.tokei_walk.specs.Additions.{placed, with_all}
+use Rattle.tokei_walk.specs.Tree.{Names, Tree, names_cmp, is_before, is_first, is_in_order, is_sound, has_names}
+use Rattle.tokei_walk.proofs.NameOrder.{left_of_and, right_of_and, both, first_trans, greater_after}
 
 at_head : (ps : Tree) (i : ℕ) (e : PlacedNode) → i < length ps → e ≡ get_or ps i e → drop i ps ≡ e ∷ drop (i + 1) ps
 at_head ps i e h is = drop_more ps i e h ∙ ap (λ (x : PlacedNode). x ∷ drop (i + 1) ps) (sym is)

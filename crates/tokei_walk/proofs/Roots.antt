@@ -6,7 +6,7 @@ use Rattle.tokei_walk.specs.declared.nodes.Node.{Node}
 use Rattle.tokei_walk.specs.declared.nodes.Node.TheVariants.{File as file, Folder as folder}
 use Rattle.tokei_walk.specs.declared.fs.Above.{Above}
 use Rattle.tokei_walk.specs.declared.fs.Kind.TheVariants.{File, Folder, Other}
-use Rattle.tokei_walk.specs.declared.kept.KeptFile.{KeptFile}
+use Rattle.tokei_walk.specs.declared.kept_file.KeptFile.{KeptFile}
 use Rattle.tokei_walk.specs.declared.levels.Context.{Context}
 use Rattle.tokei_walk.specs.declared.levels.Level.{Level}
 use Rattle.tokei_walk.specs.declared.levels.Rules.{Rules}

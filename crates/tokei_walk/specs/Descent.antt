@@ -7,7 +7,7 @@ use Rattle.tokei_walk.specs.declared.fs.Kind.{Kind}
 use Rattle.tokei_walk.specs.declared.fs.Kind.TheVariants.{File, Folder, Other}
 use Rattle.tokei_walk.specs.declared.fs.Entry.{Entry}
 use Rattle.tokei_walk.specs.declared.fs.Fault.{Fault}
-use Rattle.tokei_walk.specs.declared.kept.KeptFile.{KeptFile}
+use Rattle.tokei_walk.specs.declared.kept_file.KeptFile.{KeptFile}
 use Rattle.tokei_walk.specs.declared.levels.Context.{Context}
 use Rattle.tokei_walk.specs.declared.levels.Rules.{Rules}
 use Rattle.tokei_walk.specs.declared.levels.Level.{Level}

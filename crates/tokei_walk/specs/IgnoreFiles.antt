@@ -1,5 +1,5 @@
 -- The patterns of an ignore file, and what they decide.
-use Rattle.std.specs.Prelude.{ℕ, ◌==◌, ◌&&◌, List, [], ◌∷◌, Bool, Option, Some, None, Result, Ok, Err, if◌then◌else◌}
+use Rattle.std.specs.Prelude.{ℕ, ◌+◌, ◌==◌, ◌&&◌, List, [], ◌∷◌, Bool, true, false, Option, Some, None, Result, Ok, Err, if◌then◌else◌}
 use Rattle.std.specs.List.{slice_split, flat_map}
 use Rattle.std.specs.Str.{chars, is_utf8}
 use Rattle.tokei_walk.specs.declared.patterns.PatternError.{PatternError}
@@ -31,6 +31,14 @@ patterns_in (Ok (Some p)) = p ∷ []
 patterns_in (Ok None) = []
 patterns_in (Err e) = []
 
+-- a line is bad where no pattern can be read from it
+abbrev pub is_bad : Result (Option Pattern) PatternError → Bool
+is_bad (Ok o) = false
+is_bad (Err e) = true
+
+unfoldable pub is_bad_line : List ℕ → Bool
+is_bad_line line = is_bad (outcome_of_line (without_return line))
+
 unfoldable pub patterns_of_line : List ℕ → List Pattern
 patterns_of_line line = patterns_in (outcome_of_line (without_return line))
 
@@ -40,6 +48,14 @@ is_newline b = b == 10
 -- the patterns of the lines, in order
 unfoldable pub patterns_of : List ℕ → List Pattern
 patterns_of bytes = flat_map patterns_of_line (slice_split is_newline (without_mark bytes))
+
+-- how many lines are bad
+abbrev pub count_bad : List (List ℕ) → ℕ
+count_bad [] = 0
+count_bad (line ∷ lines) = if is_bad_line line then count_bad lines + 1 else count_bad lines
+
+unfoldable pub bad_lines_of : List ℕ → ℕ
+bad_lines_of bytes = count_bad (slice_split is_newline (without_mark bytes))
 
 abbrev pub or_else : {X : Type 0} → Option X → Option X → Option X
 or_else (Some x) o = Some x

@@ -1,11 +1,10 @@
 -- What a told tree is after a place is to refuse calls, or is none where nothing stands there.
-use Rattle.std.specs.Prelude.{ℕ, List, [], ◌∷◌, Bool, true, if◌then◌else◌, Option, Some, None, is_some}
+use Rattle.std.specs.Prelude.{[], ◌∷◌, true, if◌then◌else◌, Option, Some, None, is_some}
 use Rattle.std.specs.Ordering.{is_eq}
 use Rattle.tokei_walk.specs.declared.nodes.Call.{Call}
 use Rattle.tokei_walk.specs.declared.nodes.Call.TheVariants.{List as ListCall, Read, Head}
 use Rattle.tokei_walk.specs.declared.nodes.Node.{Node}
 use Rattle.tokei_walk.specs.declared.nodes.Node.TheVariants.{File as file, Folder as folder}
-use Rattle.tokei_walk.specs.declared.nodes.PlacedNode.{PlacedNode}
 use Rattle.tokei_walk.specs.Tree.{Names, Tree, names_cmp, node_at}
 
 -- the call is refused; one of the wrong kind is refused anyway

@@ -4,7 +4,7 @@ ghost use Rattle.tokei_walk.specs.Kept.{kept_in};
 ghost use Rattle.tokei_walk.specs.Walks.{excludes_of};
 
 use crate::fs::Folders;
-use crate::kept::{KeptFile, Note};
+use crate::kept_file::{KeptFile, Note};
 use crate::levels::Rules;
 use crate::lists::Items;
 use crate::texts::Text;

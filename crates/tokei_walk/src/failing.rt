@@ -16,6 +16,8 @@ impl<F: Folders> FailingFolders<F> {
     /// Folders that pass `passes` calls and fail every later one.
     pub fn new(inner: F, passes: u64) -> FailingFolders<F>
         ensures tells { ⟦<FailingFolders<F> as Folders>⟧.tree result ≡ F.tree inner }
+        ensures faults { ⟦<FailingFolders<F> as Folders>⟧.memory_faults result
+            ≡ F.memory_faults inner }
     {
         FailingFolders {
             inner,

@@ -1,6 +1,6 @@
-ghost use Rattle.std.specs.Prelude.{◌≡◌, ◌<◌, ◌≢◌, ◌==◌, ◌++◌, [], ◌∷◌, Err, OnOk, IfOk, IfSome, MatchOption, length};
+ghost use Rattle.std.specs.Prelude.{◌≡◌, ◌≤◌, ◌<◌, ◌≢◌, ◌==◌, ◌++◌, [], ◌∷◌, Err, OnOk, IfOk, IfSome, MatchOption, length};
 ghost use Rattle.std.specs.List.{slice_split};
-ghost use Rattle.tokei_walk.specs.IgnoreFiles.{outcome_of_line, verdict_of, without_mark as unmarked, without_return as unreturned, patterns_of, patterns_of_line, last_fitting};
+ghost use Rattle.tokei_walk.specs.IgnoreFiles.{outcome_of_line, verdict_of, without_mark as unmarked, without_return as unreturned, patterns_of, patterns_of_line, is_bad_line, bad_lines_of, last_fitting};
 ghost use Rattle.tokei_walk.specs.declared.patterns.PatternError.TheVariants.{Memory as MemoryError};
 
 use crate::lists::Items;
@@ -69,10 +69,11 @@ fn outcome(alloc: Global, line: &[u8]) -> Result<Option<Pattern>, PatternError>
     }
 }
 
-#[tactic(auto, unfolding(crate::specs::IgnoreFiles::patterns_of_line))]
+#[tactic(auto, unfolding(crate::specs::IgnoreFiles::patterns_of_line, crate::specs::IgnoreFiles::is_bad_line))]
 /// Adds the pattern of a line, where it has one; whether the line is bad.
 fn push_line(alloc: Global, line: &[u8], patterns: &mut Items<Pattern>) -> Result<bool, AllocError>
-    ensures { OnOk result (patterns.new ≡ patterns.old ++ patterns_of_line line.now) }
+    ensures patterns { OnOk result (patterns.new ≡ patterns.old ++ patterns_of_line line.now) }
+    ensures bad { IfOk result (λ b. b ≡ is_bad_line line.now) }
 {
     match outcome(alloc, without_return(line)) {
         Ok(Some(pattern)) => {
@@ -88,9 +89,11 @@ fn push_line(alloc: Global, line: &[u8], patterns: &mut Items<Pattern>) -> Resul
 impl IgnoreFile {
     /// Reads the bytes of an ignore file: a mark EF BB BF at their front is dropped, and each line
     /// is read as a pattern. A line that isn't UTF-8 is bad.
-    #[tactic(auto, unfolding(crate::specs::IgnoreFiles::patterns_of))]
+    #[tactic(auto, unfolding(crate::specs::IgnoreFiles::patterns_of, crate::specs::IgnoreFiles::bad_lines_of))]
     pub fn parse(alloc: Global, bytes: &[u8]) -> Result<IgnoreFile, AllocError>
-        ensures { IfOk result (λ f. f.patterns ≡ patterns_of bytes.now) }
+        ensures patterns { IfOk result (λ f. f.patterns ≡ patterns_of bytes.now) }
+        ensures bad_lines { IfOk result (λ f. bad_lines_of bytes.now ≤ usize.MAX
+            → f.bad_lines ≡ bad_lines_of bytes.now) }
     {
         let mut patterns = Items::new(alloc);
         let mut bad_lines = 0usize;

@@ -1,33 +1,51 @@
 //! Ignore patterns, folders, and the walk over the files that the ignore rules keep.
+//!
+//! `specs/` holds the rules, one idea a file: the pattern of a line and when it fits, what an ignore file decides, the
+//! told tree and what is answered by it, and the kept files, a filter of all places of the tree.
 #![tactic(auto)]
 
-pub mod collect;
-pub mod ends;
-pub mod failing;
-pub mod fs;
-pub mod ignore_files;
-pub mod kept;
+mod collect;
+mod ends;
+mod failing;
+mod fs;
+mod ignore_files;
+mod kept_file;
 pub mod laws;
-pub mod levels;
-pub mod lists;
-pub mod matching;
-pub mod memory;
+mod levels;
+mod lists;
+mod matching;
+mod memory;
+#[cfg(test)]
+mod memory_tests;
 pub mod names;
-pub mod nodes;
-pub mod patterns;
-pub mod pieces;
-pub mod places;
-pub mod reading;
-pub mod rules_files;
-pub mod stack;
+mod nodes;
+mod patterns;
+mod pieces;
+mod places;
+mod reading;
+mod rules_files;
+mod stack;
 #[cfg(test)]
 mod test_folders;
 #[cfg(test)]
 mod tests;
-pub mod texts;
-pub mod told;
+mod texts;
+mod told;
 #[cfg(test)]
 mod told_tests;
 #[cfg(test)]
 mod walk_tests;
-pub mod walking;
+mod walking;
+
+pub use collect::{Kept, kept_files};
+pub use failing::FailingFolders;
+pub use fs::{Above, Entry, Fault, Folders, Kind, Listing};
+pub use ignore_files::{IgnoreFile, Verdict};
+pub use kept_file::{KeptFile, Note, NoteKind};
+pub use levels::Rules;
+pub use lists::Items;
+pub use memory::MemoryFolders;
+pub use nodes::Call;
+pub use patterns::{Pattern, PatternError};
+pub use texts::Text;
+pub use walking::Walk;

@@ -6,7 +6,7 @@ ghost use Rattle.tokei_walk.specs.Descent.{joined as joined_places};
 
 use crate::fs::{Fault, Folders, Kind};
 use crate::ignore_files::IgnoreFile;
-use crate::kept::{Note, NoteKind};
+use crate::kept_file::{Note, NoteKind};
 use crate::levels::{Level, Rules};
 use crate::lists::Items;
 use crate::patterns::Pattern;
@@ -20,7 +20,9 @@ pub fn note(
     notes: &mut Items<Note>,
     kind: NoteKind,
     place: &str,
-) -> Result<(), AllocError> {
+) -> Result<(), AllocError>
+    ensures { OnOk result (notes.new ≡ notes.old ++ record { kind = kind; place = place.now } ∷ []) }
+{
     let place = Text::from_str(alloc, place)?;
     notes.push(Note { kind, place })?;
     Ok(())

@@ -8,7 +8,7 @@ ghost use Rattle.tokei_walk.specs.Descent.{without_name};
 ghost use Rattle.tokei_walk.specs.Stacks.{Pops, Leaves, Enters, EntersTold, StepTells, StepStays, NoneStays, NoneIsSame, file_kept, VisitTells, ExploreTells};
 
 use crate::fs::{Entry, Fault, Folders, Kind, Listing};
-use crate::kept::{KeptFile, Note, NoteKind};
+use crate::kept_file::{KeptFile, Note, NoteKind};
 use crate::levels::{Context, Level, Rules, is_dropped};
 use crate::lists::Items;
 use crate::patterns::Pattern;

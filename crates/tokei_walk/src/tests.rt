@@ -3,7 +3,7 @@ use crate::lists::Items;
 use crate::names::names;
 use crate::patterns::{Pattern, PatternError};
 use crate::texts::Text;
-use std::alloc::Global;
+use std::alloc::{AllocError, Global};
 use std::test::Fail;
 
 /// Whether a line's pattern fits a path; `None` where the line is bad or has no pattern.
@@ -75,18 +75,32 @@ fn the_last_line_decides(rt: HostRuntime) -> Result<(), Fail> {
     Ok(())
 }
 
-#[test]
-fn a_hostile_pattern_ends(rt: HostRuntime) -> Result<(), Fail> {
-    let mut name = String::new(rt.alloc());
-    for _ in 0..10_000 {
+/// A name of so many `a`, alone.
+fn long_name(alloc: Global, length: usize) -> Result<Items<Text>, AllocError> {
+    let mut name = String::new(alloc);
+    for _ in 0..length {
         name.push_str("a")?;
     }
-    let mut names = Items::new(rt.alloc());
-    names.push(Text::from_str(rt.alloc(), name.as_str())?)?;
-    let pattern = Pattern::parse(rt.alloc(), "*a*a*a*a*b")?;
-    match pattern {
-        Some(pattern) => assert!(rt; !pattern.fits(names.as_slice(), false)),
-        None => assert!(rt; false),
+    let mut names = Items::new(alloc);
+    names.push(Text::from_str(alloc, name.as_str())?)?;
+    Ok(names)
+}
+
+/// A match that went back to every star would not end within a test's time.
+#[test]
+fn a_hostile_pattern_ends(rt: HostRuntime) -> Result<(), Fail> {
+    let rows = [
+        ("*a*a*a*a*b", 10_000),
+        ("*a*a*a*a*b", 1_000_000),
+        ("*aaaaaaaab*aaaaaaaab", 1_000_000),
+        ("**/*a*/**/*a*/b", 1_000_000),
+    ];
+    for (line, length) in rows {
+        let names = long_name(rt.alloc(), length)?;
+        match Pattern::parse(rt.alloc(), line) {
+            Ok(Some(pattern)) => assert!(rt; !pattern.fits(names.as_slice(), false), "{line}"),
+            Ok(None) | Err(_) => assert!(rt; false, "{line}"),
+        }
     }
     Ok(())
 }

@@ -1,7 +1,7 @@
 //! What the tests of the walk share: told trees, and the files and notes of a walk as one text.
 use crate::collect::kept_files;
 use crate::fs::{Fault, Folders};
-use crate::kept::{KeptFile, Note, NoteKind};
+use crate::kept_file::{KeptFile, Note, NoteKind};
 use crate::levels::Rules;
 use crate::lists::Items;
 use crate::memory::MemoryFolders;

@@ -4,10 +4,10 @@ ghost use Rattle.tokei_walk.specs.Tree.{Tree, is_sound, names_of, folders_above}
 ghost use Rattle.tokei_walk.specs.Fits.{is_empty};
 ghost use Rattle.tokei_walk.specs.Kept.{kept_in};
 ghost use Rattle.tokei_walk.specs.Descent.{root_context, of_root, of_stack, descend};
-ghost use Rattle.tokei_walk.specs.Walks.{to_come, has_failed as walk_failed, of_all, Advances, HasEnded, RootGives, exclude_patterns, excludes_of, names_over, levels_over};
+ghost use Rattle.tokei_walk.specs.Walks.{to_come, has_failed as walk_failed, notes_of, exclude_notes, notes_of_excludes, of_all, Advances, HasEnded, RootGives, exclude_patterns, excludes_of, names_over, levels_over};
 
 use crate::fs::{Above, Fault, Folders, Kind};
-use crate::kept::{KeptFile, Note, NoteKind};
+use crate::kept_file::{KeptFile, Note, NoteKind};
 use crate::levels::{Context, Level, Rules};
 use crate::lists::Items;
 use crate::names::{copied, names};
@@ -229,7 +229,8 @@ fn push_exclude(
     excludes: &mut Items<Pattern>,
     text: &Text,
 ) -> Result<(), AllocError>
-    ensures { OnOk result (excludes.new ≡ excludes.old ++ exclude_patterns text.now) }
+    ensures patterns { OnOk result (excludes.new ≡ excludes.old ++ exclude_patterns text.now) }
+    ensures notes { OnOk result (notes.new ≡ notes.old ++ exclude_notes text.now) }
 {
     match Pattern::parse_exclude(alloc, text.as_str()) {
         Ok(Some(pattern)) => {
@@ -242,14 +243,15 @@ fn push_exclude(
     }
 }
 
-#[tactic(auto, unfolding(crate::specs::Walks::excludes_of))]
+#[tactic(auto, unfolding(crate::specs::Walks::excludes_of, crate::specs::Walks::notes_of_excludes))]
 /// The patterns of the excludes.
 fn read_excludes(
     alloc: Global,
     notes: &mut Items<Note>,
     texts: &[Text],
 ) -> Result<Items<Pattern>, AllocError>
-    ensures { IfOk result (λ ps. ps ≡ excludes_of texts.now) }
+    ensures patterns { IfOk result (λ ps. ps ≡ excludes_of texts.now) }
+    ensures notes { OnOk result (notes.new ≡ notes.old ++ notes_of_excludes texts.now) }
 {
     let mut excludes = Items::new(alloc);
     for text in texts {
@@ -276,7 +278,7 @@ fn empty_stack(alloc: Global) -> Result<Stack, AllocError>
 }
 
 impl Walk {
-    #[tactic(auto, unfolding(crate::specs::Walks::has_failed))]
+    #[tactic(auto, unfolding(crate::specs::Walks::has_failed, crate::specs::Walks::notes_of))]
     /// A walk over roots, in their order. An exclude that is no pattern is passed over with a note.
     pub fn new(
         alloc: Global,
@@ -287,6 +289,7 @@ impl Walk {
         ensures comes { IfOk result (λ w. (t : Tree) → is_sound t ≡ true
             → to_come t w ≡ kept_in (excludes_of excludes.now) rules.now t roots.now) }
         ensures failed { IfOk result (λ w. walk_failed w ≡ false) }
+        ensures notes { IfOk result (λ w. notes_of w ≡ notes_of_excludes excludes.now) }
     {
         let mut notes = Items::new(alloc);
         let excludes = read_excludes(alloc, &mut notes, excludes)?;
@@ -343,12 +346,18 @@ impl Walk {
     }
 
     /// What the walk met and passed over so far.
-    pub fn notes(&self) -> &[Note] {
+    #[tactic(auto, unfolding(crate::specs::Walks::notes_of))]
+    pub fn notes(&self) -> &[Note]
+        ensures { result.now ≡ notes_of self.entry.now }
+    {
         self.notes.as_slice()
     }
 
     /// The same, where the walk is over.
-    pub fn into_notes(self) -> Items<Note> {
+    #[tactic(auto, unfolding(crate::specs::Walks::notes_of))]
+    pub fn into_notes(self) -> Items<Note>
+        ensures { result ≡ notes_of self }
+    {
         self.notes
     }
 }

@@ -1,5 +1,5 @@
-use Rattle.std.proofs.Common.{◌≡◌, ◌++◌, List, Option, ◌∙◌, sym, ap, append-nil, subst, rules}
-use Rattle.tokei_walk.specs.declared.kept.KeptFile.{KeptFile}
+use Rattle.std.proofs.Common.{◌++◌, List, Option, ◌∙◌, sym, ap, append-nil, subst, rules}
+use Rattle.tokei_walk.specs.declared.kept_file.KeptFile.{KeptFile}
 use Rattle.tokei_walk.specs.Walks.{to_come, Advances}
 use Rattle.tokei_walk.proofs.Roots.{more, sound_of}
 use Rattle.tokei_walk.proofs.collect.kept_files.Goals as goal

@@ -3,8 +3,8 @@ use Rattle.std.proofs.lemmas.List.{reverse-reverse}
 use Rattle.tokei_walk.specs.declared.fs.Above.{Above}
 use Rattle.tokei_walk.specs.Answers.{above_view}
 use Rattle.tokei_walk.specs.Descent.{joined}
-use Rattle.tokei_walk.specs.Tree.{Names, names_of, folders_above}
-use Rattle.tokei_walk.proofs.Above.{names_of_dot, next_place, found_more, found_end}
+use Rattle.tokei_walk.specs.Tree.{names_of, folders_above}
+use Rattle.tokei_walk.proofs.FoldersAbove.{names_of_dot, next_place, found_more, found_end}
 use Rattle.tokei_walk.proofs.memory.folders_over.Goals as goal
 
 pub loop-name-init : goal.loop-name-init

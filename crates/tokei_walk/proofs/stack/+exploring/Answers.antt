@@ -1,7 +1,7 @@
 use Rattle.std.proofs.Common.{◌≡◌, ◌++◌, ◌≤◌, ◌<◌, List, length, reverse, Bool, Option, Err, sym, ap, ◌∙◌, arith, subst}
 use Rattle.std.specs.Bool.{MatchBool}
 use Rattle.tokei_walk.specs.declared.fs.Fault.TheVariants.{Refused}
-use Rattle.tokei_walk.specs.declared.kept.KeptFile.{KeptFile}
+use Rattle.tokei_walk.specs.declared.kept_file.KeptFile.{KeptFile}
 use Rattle.tokei_walk.specs.declared.stack.Item.{Item}
 use Rattle.tokei_walk.specs.Answers.{list_answer}
 use Rattle.tokei_walk.specs.Descent.{of_stack}

@@ -1,6 +1,6 @@
-use Rattle.std.proofs.Common.{◌≡◌, ◌∙◌, sym, ap, List, ◌++◌, [], append-nil}
+use Rattle.std.proofs.Common.{◌∙◌, sym, ap, List, ◌++◌, [], append-nil}
 use Rattle.tokei_walk.specs.declared.nodes.PlacedNode.{PlacedNode}
-use Rattle.tokei_walk.proofs.Above.{folders_begin, folders_more, folders_end, folders_at}
+use Rattle.tokei_walk.proofs.FoldersAbove.{folders_begin, folders_more, folders_end, folders_at}
 use Rattle.tokei_walk.proofs.told.folders_to.Goals as goal
 
 pub loop-i-init : goal.loop-i-init

@@ -1,6 +1,6 @@
 use Rattle.std.proofs.Common.{◌≡◌, ◌++◌, take, drop}
 use Rattle.tokei_walk.specs.Additions.{folders_to}
-use Rattle.tokei_walk.proofs.Above.{folders_at}
+use Rattle.tokei_walk.proofs.FoldersAbove.{folders_at}
 use Rattle.tokei_walk.proofs.told.folders_to.Given as goal
 
 abbrev pub invariant-loop-i : goal.invariant-loop-i

@@ -1,4 +1,4 @@
-use Rattle.std.proofs.Common.{◌≡◌, ◌∙◌, ap, arith}
+use Rattle.std.proofs.Common.{◌∙◌, ap, arith}
 use Rattle.tokei_walk.specs.Tree.{names_cmp}
 use Rattle.tokei_walk.proofs.Placing.{goes_here, stands_here, goes_on, goes_last}
 use Rattle.tokei_walk.proofs.told.position.Goals as goal

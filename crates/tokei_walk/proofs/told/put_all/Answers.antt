@@ -1,4 +1,4 @@
-use Rattle.std.proofs.Common.{◌≡◌, ◌∙◌, ◌∷◌, sym, ap, length, length-append, arith}
+use Rattle.std.proofs.Common.{◌∷◌, ap, length, length-append, arith}
 use Rattle.tokei_walk.specs.declared.nodes.PlacedNode.{PlacedNode}
 use Rattle.tokei_walk.proofs.Placing.{added_next, added_all}
 use Rattle.tokei_walk.proofs.told.put_all.Goals as goal

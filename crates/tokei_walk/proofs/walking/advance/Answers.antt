@@ -1,5 +1,5 @@
 use Rattle.std.proofs.Common.{List, ◌++◌, Bool, Option, reverse, ap, ◌∙◌, subst, rules}
-use Rattle.tokei_walk.specs.declared.kept.KeptFile.{KeptFile}
+use Rattle.tokei_walk.specs.declared.kept_file.KeptFile.{KeptFile}
 use Rattle.tokei_walk.specs.declared.stack.Stack.{Stack}
 use Rattle.tokei_walk.specs.Descent.{of_root, of_stack}
 use Rattle.tokei_walk.specs.Stacks.{Leaves, NoneStays, ExploreTells}

@@ -1,6 +1,9 @@
 use Rattle.std.proofs.Common.{◌≡◌, ◌++◌, drop}
-use Rattle.tokei_walk.specs.Walks.{excludes_of}
+use Rattle.tokei_walk.specs.Walks.{excludes_of, notes_of_excludes}
 use Rattle.tokei_walk.proofs.walking.read_excludes.Given as goal
 
 abbrev pub invariant-loop-text : goal.invariant-loop-text
-invariant-loop-text l = l.excludes ++ excludes_of (drop l.text-index l.texts) ≡ excludes_of l.texts
+invariant-loop-text l = record {
+  patterns : l.excludes ++ excludes_of (drop l.text-index l.texts) ≡ excludes_of l.texts;
+  notes : l.notes ++ notes_of_excludes (drop l.text-index l.texts) ≡ l.fn.notes ++ notes_of_excludes l.texts;
+}

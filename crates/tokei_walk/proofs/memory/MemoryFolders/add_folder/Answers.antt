@@ -1,5 +1,5 @@
-use Rattle.std.proofs.Common.{◌≡◌, ◌∙◌, refl}
-use Rattle.tokei_walk.proofs.Above.{pushed_whole}
+use Rattle.std.proofs.Common.{◌∙◌, refl}
+use Rattle.tokei_walk.proofs.FoldersAbove.{pushed_whole}
 use Rattle.tokei_walk.proofs.Adding.{folder_refused, folder_added}
 use Rattle.tokei_walk.proofs.memory.MemoryFolders.add_folder.Goals as goal
 

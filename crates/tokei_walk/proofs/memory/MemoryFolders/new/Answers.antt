@@ -1,4 +1,4 @@
-use Rattle.std.proofs.Common.{◌≡◌, ap}
+use Rattle.std.proofs.Common.{ap}
 use Rattle.tokei_walk.specs.Tree.{is_sound}
 use Rattle.tokei_walk.proofs.memory.MemoryFolders.new.Goals as goal
 

@@ -1,6 +1,6 @@
 use Rattle.std.proofs.Common.{◌≡◌, ◌∙◌, sym, ap, ap₂, true}
 use Rattle.tokei_walk.specs.declared.nodes.Call.TheVariants.{List as ListCall, Read, Head}
-use Rattle.tokei_walk.specs.Refusals.{refusing, refused_at}
+use Rattle.tokei_walk.specs.Refusals.{refused_at}
 use Rattle.tokei_walk.specs.Tree.{is_sound, Names, Tree}
 use Rattle.tokei_walk.proofs.Adding.{missing_refuses_all, calls_refused}
 use Rattle.tokei_walk.proofs.Refusing.{changed_sound}
@@ -11,9 +11,9 @@ returns-then-not-has-clause-refused c = λ _. missing_refuses_all c.args.self.no
 
 pub invariant_of-self : goal.invariant_of-self
 invariant_of-self c =
-    let head : is_sound c.refuse.new.self ≡ true = ap is_sound c.refuse.ensures ∙ changed_sound (refusing Head) c.as_slice-2.result.now c.args.self.now.tree c.args.self.now.sound in
-    let read : is_sound c.refuse-2.new.self ≡ true = ap is_sound c.refuse-2.ensures ∙ changed_sound (refusing Read) c.as_slice-3.result.now c.refuse.new.self head in
-    record { sound = ap is_sound c.refuse-3.ensures ∙ changed_sound (refusing ListCall) c.as_slice-4.result.now c.refuse-2.new.self read }
+    let head : is_sound c.refuse.new.self ≡ true = ap is_sound c.refuse.ensures ∙ changed_sound _ _ _ c.args.self.now.sound in
+    let read : is_sound c.refuse-2.new.self ≡ true = ap is_sound c.refuse-2.ensures ∙ changed_sound _ _ _ head in
+    record { sound = ap is_sound c.refuse-3.ensures ∙ changed_sound _ _ _ read }
 
 pub returns-clause-marked : goal.returns-clause-marked
 returns-clause-marked c =

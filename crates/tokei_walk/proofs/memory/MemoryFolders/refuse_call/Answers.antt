@@ -1,4 +1,4 @@
-use Rattle.std.proofs.Common.{◌≡◌, ◌∙◌, sym, ap}
+use Rattle.std.proofs.Common.{◌∙◌, sym, ap}
 use Rattle.tokei_walk.specs.Refusals.{refusing, refused_at}
 use Rattle.tokei_walk.specs.Tree.{is_sound, Names}
 use Rattle.tokei_walk.proofs.Adding.{missing_refuses, call_refused}

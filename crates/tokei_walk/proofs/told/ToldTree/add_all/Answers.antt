@@ -1,4 +1,4 @@
-use Rattle.std.proofs.Common.{◌≡◌, ◌∙◌, [], ap, refl}
+use Rattle.std.proofs.Common.{◌∙◌, [], ap, refl}
 use Rattle.tokei_walk.specs.Tree.{is_sound}
 use Rattle.tokei_walk.proofs.Placing.{sound_after}
 use Rattle.tokei_walk.proofs.told.ToldTree.add_all.Goals as goal

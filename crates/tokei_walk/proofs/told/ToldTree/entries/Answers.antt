@@ -1,6 +1,6 @@
-use Rattle.std.proofs.Common.{◌≡◌, ◌∙◌, ap, sym, IfOk, subst}
+use Rattle.std.proofs.Common.{◌≡◌, ◌∙◌, ap, IfOk, subst}
 use Rattle.tokei_walk.specs.Answers.{entries_in}
-use Rattle.tokei_walk.proofs.Listing.{below_top}
+use Rattle.tokei_walk.proofs.TopEntries.{below_top}
 use Rattle.tokei_walk.proofs.told.ToldTree.entries.Goals as goal
 
 pub returns : goal.returns

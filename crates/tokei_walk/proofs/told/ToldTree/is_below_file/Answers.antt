@@ -1,5 +1,5 @@
-use Rattle.std.proofs.Common.{◌≡◌, ◌∙◌, sym, true, false}
-use Rattle.tokei_walk.proofs.Above.{file_begin, file_step, file_end}
+use Rattle.std.proofs.Common.{◌∙◌, sym, true, false}
+use Rattle.tokei_walk.proofs.FoldersAbove.{file_begin, file_step, file_end}
 use Rattle.tokei_walk.proofs.told.ToldTree.is_below_file.Goals as goal
 
 pub loop-i-init : goal.loop-i-init

@@ -1,6 +1,6 @@
 use Rattle.std.proofs.Common.{◌≡◌, take, drop}
 use Rattle.tokei_walk.specs.Additions.{is_below_file}
-use Rattle.tokei_walk.proofs.Above.{file_among}
+use Rattle.tokei_walk.proofs.FoldersAbove.{file_among}
 use Rattle.tokei_walk.proofs.told.ToldTree.is_below_file.Given as goal
 
 abbrev pub invariant-loop-i : goal.invariant-loop-i

@@ -1,7 +1,6 @@
 -- The entries of a folder.
-use Rattle.std.proofs.Common.{◌≡◌, ℕ, List, [], ◌∷◌, refl}
+use Rattle.std.proofs.Common.{◌≡◌, [], ◌∷◌, refl}
 use Rattle.tokei_walk.specs.declared.nodes.Node.{Node}
-use Rattle.tokei_walk.specs.declared.nodes.PlacedNode.{PlacedNode}
 use Rattle.tokei_walk.specs.Answers.{entries_in}
 use Rattle.tokei_walk.specs.Tree.{Names, Tree}
 

@@ -6,7 +6,7 @@ use Rattle.std.proofs.lemmas.List.Folds.{list_all-append}
 use Rattle.tokei_walk.specs.declared.fs.Above.{Above}
 use Rattle.tokei_walk.specs.declared.nodes.PlacedNode.{PlacedNode}
 use Rattle.tokei_walk.specs.Answers.{above_view}
-use Rattle.tokei_walk.specs.Additions.{folders_to, new_folder, new_file, is_file, is_below_file}
+use Rattle.tokei_walk.specs.Additions.{folders_to, new_folder, is_file, is_below_file}
 use Rattle.tokei_walk.specs.Descent.{joined}
 use Rattle.tokei_walk.specs.Tree.{Names, Tree, node_at, folders_above, names_of, is_name, is_slash, is_whole_name, has_names}
 use Rattle.tokei_walk.proofs.Joining.{names_of-joined}
