@@ -6,6 +6,7 @@ pub mod Deciding
 pub mod Filtering
 pub mod FoldersAbove
 pub mod Groups
+pub mod Growing
 pub mod Inside
 pub mod Joining
 pub mod LineEnds

@@ -2,11 +2,13 @@ pub mod Additions
 pub mod Answers
 pub mod Descent
 pub mod Ends
+pub mod Failing
 pub mod Fits
 pub mod IgnoreFiles
 pub mod Kept
 pub mod Levels
 pub mod Memory
+pub mod Notes
 pub mod Patterns
 pub mod Reach
 pub mod Reading

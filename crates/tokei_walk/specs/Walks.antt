@@ -1,11 +1,8 @@
 -- The files that a walk still has to come.
-use Rattle.std.specs.Prelude.{◌≡◌, ℕ, List, [], ◌∷◌, ◌++◌, Bool, Option, Some, None, Result, Ok, Err, reverse, map, if◌then◌else◌}
+use Rattle.std.specs.Prelude.{◌≡◌, ℕ, List, [], ◌∷◌, ◌++◌, Bool, Option, Some, None, reverse, map, if◌then◌else◌}
 use Rattle.std.specs.List.{flat_map}
 use Rattle.std.specs.Str.{chars}
 use Rattle.tokei_walk.specs.declared.kept_file.KeptFile.{KeptFile}
-use Rattle.tokei_walk.specs.declared.kept_file.Note.{Note}
-use Rattle.tokei_walk.specs.declared.kept_file.NoteKind.TheVariants.{BadExclude}
-use Rattle.tokei_walk.specs.declared.patterns.PatternError.{PatternError}
 use Rattle.tokei_walk.specs.declared.levels.Rules.{Rules}
 use Rattle.tokei_walk.specs.declared.levels.Level.{Level}
 use Rattle.tokei_walk.specs.declared.fs.Above.{Above}
@@ -33,10 +30,6 @@ to_come t w = if w.failed then [] else of_all w.settings.excludes w.settings.rul
 unfoldable pub has_failed : Walk → Bool
 has_failed w = w.failed
 
--- what it met and passed over
-unfoldable pub notes_of : Walk → List Note
-notes_of w = w.notes
-
 -- the answer is the first file of those to come, and the rest is left; there is none where none is to come
 abbrev pub Advances : List KeptFile → List KeptFile → Option KeptFile → Type 0
 Advances old new None = old ≡ []
@@ -53,18 +46,6 @@ exclude_patterns text = patterns_in (exclude_pattern (chars text))
 -- the patterns of the excludes
 unfoldable pub excludes_of : List (List ℕ) → List Pattern
 excludes_of texts = flat_map exclude_patterns texts
-
--- a bad exclude leaves a note
-abbrev pub notes_by : List ℕ → Result (Option Pattern) PatternError → List Note
-notes_by text (Ok p) = []
-notes_by text (Err e) = record { kind = BadExclude; place = text } ∷ []
-
-abbrev pub exclude_notes : List ℕ → List Note
-exclude_notes text = notes_by text (exclude_pattern (chars text))
-
--- the notes of the excludes
-unfoldable pub notes_of_excludes : List (List ℕ) → List Note
-notes_of_excludes texts = flat_map exclude_notes texts
 
 -- in no tree is a file to come
 abbrev pub HasEnded : Walk → Type 0

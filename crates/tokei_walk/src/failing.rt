@@ -1,4 +1,5 @@
-ghost use Rattle.std.specs.Prelude.{◌≡◌, ◌+◌, ◌<◌, true, false};
+ghost use Rattle.std.specs.Prelude.{◌≡◌, ◌+◌, ◌-◌, ◌<◌, nat_lt, true, false};
+ghost use Rattle.tokei_walk.specs.Failing.{calls_left};
 
 use crate::fs::{Above, Fault, Folders, Kind, Listing};
 use crate::lists::Items;
@@ -18,6 +19,7 @@ impl<F: Folders> FailingFolders<F> {
         ensures tells { ⟦<FailingFolders<F> as Folders>⟧.tree result ≡ F.tree inner }
         ensures faults { ⟦<FailingFolders<F> as Folders>⟧.memory_faults result
             ≡ F.memory_faults inner }
+        ensures left { calls_left result ≡ passes }
     {
         FailingFolders {
             inner,
@@ -32,6 +34,8 @@ impl<F: Folders> FailingFolders<F> {
         ensures passed { result ≡ true → self.new.refused ≡ self.old.refused }
         ensures refused { result ≡ false → self.old.refused < u64.MAX
             → self.new.refused ≡ self.old.refused + 1 }
+        ensures left { result ≡ nat_lt 0 (calls_left self.old) }
+        ensures counts_down { calls_left self.new ≡ calls_left self.old - 1 }
     {
         if self.left == 0 {
             self.refused = self.refused.saturating_add(1);

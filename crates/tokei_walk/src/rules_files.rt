@@ -1,4 +1,5 @@
-ghost use Rattle.std.specs.Prelude.{◌≡◌, ◌<◌, ◌++◌, ◌&&◌, [], ◌∷◌, OnOk, IfOk, cond, is_some, codes};
+ghost use Rattle.std.specs.Prelude.{◌≡◌, ◌<◌, ◌++◌, ◌&&◌, [], ◌∷◌, OnOk, OnErr, IfOk, cond, is_some, codes};
+ghost use Rattle.tokei_walk.specs.Notes.{Grows};
 ghost use Rattle.tokei_walk.specs.Answers.{Told, node_kind, node_content};
 ghost use Rattle.tokei_walk.specs.Tree.{names_of, node_at};
 ghost use Rattle.tokei_walk.specs.Levels.{patterns_at, level_at};
@@ -14,6 +15,7 @@ use crate::places::joined;
 use crate::texts::Text;
 use std::alloc::{AllocError, Global};
 
+#[tactic(auto, using(crate::proofs::Growing::grows_same, crate::proofs::Growing::grows_on))]
 /// Adds a note.
 pub fn note(
     alloc: Global,
@@ -21,7 +23,9 @@ pub fn note(
     kind: NoteKind,
     place: &str,
 ) -> Result<(), AllocError>
-    ensures { OnOk result (notes.new ≡ notes.old ++ record { kind = kind; place = place.now } ∷ []) }
+    ensures ok { OnOk result (notes.new ≡ notes.old ++ record { kind = kind; place = place.now } ∷ []) }
+    ensures err { OnErr result (notes.new ≡ notes.old) }
+    ensures grows { Grows notes.old notes.new }
 {
     let place = Text::from_str(alloc, place)?;
     notes.push(Note { kind, place })?;
@@ -58,6 +62,7 @@ fn content<F: Folders>(folders: &mut F, place: &str) -> Result<Option<Items<u8>>
     }
 }
 
+#[tactic(auto, using(crate::proofs::Growing::grows_same, crate::proofs::Growing::grows_on))]
 /// The patterns of an ignore file, where it is there and can be read.
 fn patterns_of_file<F: Folders>(
     alloc: Global,
@@ -66,6 +71,7 @@ fn patterns_of_file<F: Folders>(
     place: &str,
 ) -> Result<Items<Pattern>, AllocError>
     ensures same { F.tree folders.new ≡ F.tree folders.old }
+    ensures notes { Grows notes.old notes.new }
     ensures told { Told (F.tree folders.old) (λ t. IfOk result
         (λ ps. ps ≡ patterns_at (node_at t (names_of place.now)))) }
     ensures honest { OnOk result (F.memory_faults folders.old < u64.MAX
@@ -86,6 +92,7 @@ fn patterns_of_file<F: Folders>(
     Ok(file.patterns)
 }
 
+#[tactic(auto, using(crate::proofs::Growing::grows_same, crate::proofs::Growing::grows_on))]
 /// The patterns of the ignore file that a path leads to from a folder; none where it is off.
 fn patterns_of_name<F: Folders>(
     alloc: Global,
@@ -96,6 +103,7 @@ fn patterns_of_name<F: Folders>(
     name: &str,
 ) -> Result<Items<Pattern>, AllocError>
     ensures same { F.tree folders.new ≡ F.tree folders.old }
+    ensures notes { Grows notes.old notes.new }
     ensures told { Told (F.tree folders.old) (λ t. IfOk result
         (λ ps. ps ≡ cond on (patterns_at (node_at t (names_of place.now ++ names_of name.now))) [])) }
     ensures honest { OnOk result (F.memory_faults folders.old < u64.MAX
@@ -128,6 +136,7 @@ fn is_repository<F: Folders>(
     Ok(kind_at(folders, whole.as_str())?.is_some())
 }
 
+#[tactic(auto, using(crate::proofs::Growing::grows_same, crate::proofs::Growing::grows_on))]
 /// Reads the rules of a folder.
 pub fn read_level<F: Folders>(
     alloc: Global,
@@ -137,6 +146,7 @@ pub fn read_level<F: Folders>(
     place: &str,
 ) -> Result<Level, AllocError>
     ensures same { F.tree folders.new ≡ F.tree folders.old }
+    ensures notes { Grows notes.old notes.new }
     ensures told { Told (F.tree folders.old) (λ t. IfOk result
         (λ l. l ≡ level_at t rules.now (names_of place.now))) }
     ensures honest { OnOk result (F.memory_faults folders.old < u64.MAX

@@ -1,5 +1,6 @@
 ghost use Rattle.std.specs.Prelude.{◌≡◌, ◌<◌, ◌++◌, [], ◌∷◌, reverse, OnOk, IfOk, MatchOption, Ok, Err, true, false};
 ghost use Rattle.std.specs.Bool.{MatchBool};
+ghost use Rattle.tokei_walk.specs.Notes.{Grows};
 ghost use Rattle.tokei_walk.specs.Answers.{Told, list_answer};
 ghost use Rattle.tokei_walk.specs.declared.fs.Fault.TheVariants.{Refused as RefusedFault};
 ghost use Rattle.tokei_walk.specs.Tree.{names_of};
@@ -142,6 +143,23 @@ pub fn listing<F: Folders>(folders: &mut F, place: &str) -> Result<Option<Listin
     }
 }
 
+#[tactic(auto, using(crate::proofs::Growing::grows_same))]
+/// Leaves a note where a folder has names that aren't UTF-8.
+pub fn note_unnamed(
+    alloc: Global,
+    notes: &mut Items<Note>,
+    listing: &Listing,
+    place: &str,
+) -> Result<(), AllocError>
+    ensures { Grows notes.old notes.new }
+{
+    if listing.unnamed > 0 {
+        note(alloc, notes, NoteKind::Unnamed, place)?;
+    }
+    Ok(())
+}
+
+#[tactic(auto, using(crate::proofs::Growing::grows_same, crate::proofs::Growing::grows_on))]
 /// Walks another folder; whether it can be listed.
 pub fn enter<F: Folders>(
     settings: &Settings,
@@ -151,6 +169,7 @@ pub fn enter<F: Folders>(
     place: Text,
 ) -> Result<bool, AllocError>
     ensures same { F.tree folders.new ≡ F.tree folders.old }
+    ensures notes { Grows notes.old notes.new }
     ensures honest { OnOk result (F.memory_faults folders.old < u64.MAX
         → F.memory_faults folders.new ≡ F.memory_faults folders.old) }
     ensures refused { IfOk result (λ b. b ≡ false → stack.new ≡ stack.old) }
@@ -164,9 +183,7 @@ pub fn enter<F: Folders>(
         note(alloc, notes, NoteKind::Unlisted, place.as_str())?;
         return Ok(false);
     };
-    if listing.unnamed > 0 {
-        note(alloc, notes, NoteKind::Unnamed, place.as_str())?;
-    }
+    note_unnamed(alloc, notes, &listing, place.as_str())?;
     let level = read_level(alloc, folders, notes, &settings.rules, place.as_str())?;
     push_folder(stack, place, level, listing.entries)?;
     Ok(true)
@@ -191,6 +208,7 @@ fn push_folder(
     Ok(())
 }
 
+#[tactic(auto, using(crate::proofs::Growing::grows_same, crate::proofs::Growing::grows_on))]
 /// Explores the folder of an entry, whose name and place these are, and leaves it again where it
 /// gives no file.
 #[cycle(exploring)]
@@ -202,6 +220,7 @@ fn visit<F: Folders>(
     item: Item,
 ) -> Result<Option<KeptFile>, AllocError>
     ensures same { F.tree folders.new ≡ F.tree folders.old }
+    ensures notes { Grows notes.old notes.new }
     ensures honest { OnOk result (F.memory_faults folders.old < u64.MAX
         → F.memory_faults folders.new ≡ F.memory_faults folders.old) }
     ensures stays { IfOk result (λ o. NoneIsSame stack.old stack.new o) }
@@ -236,6 +255,7 @@ fn visit<F: Folders>(
     }
 }
 
+#[tactic(auto, using(crate::proofs::Growing::grows_same, crate::proofs::Growing::grows_on))]
 /// Meets the next entry of the walked folder.
 #[cycle(exploring)]
 fn meet_next<F: Folders>(
@@ -245,6 +265,7 @@ fn meet_next<F: Folders>(
     stack: &mut Stack,
 ) -> Result<Step, AllocError>
     ensures same { F.tree folders.new ≡ F.tree folders.old }
+    ensures notes { Grows notes.old notes.new }
     ensures honest { OnOk result (F.memory_faults folders.old < u64.MAX
         → F.memory_faults folders.new ≡ F.memory_faults folders.old) }
     ensures stays { IfOk result (λ s. StepStays stack.old stack.new s) }
@@ -265,6 +286,7 @@ fn meet_next<F: Folders>(
     }
 }
 
+#[tactic(auto, using(crate::proofs::Growing::grows_same, crate::proofs::Growing::grows_on))]
 /// The next file below the walked folder, which stays where there is none.
 #[cycle(exploring)]
 pub fn explore<F: Folders>(
@@ -274,6 +296,7 @@ pub fn explore<F: Folders>(
     stack: &mut Stack,
 ) -> Result<Option<KeptFile>, AllocError>
     ensures same { F.tree folders.new ≡ F.tree folders.old }
+    ensures notes { Grows notes.old notes.new }
     ensures honest { OnOk result (F.memory_faults folders.old < u64.MAX
         → F.memory_faults folders.new ≡ F.memory_faults folders.old) }
     ensures stays { IfOk result (λ o. NoneStays stack.old stack.new o) }

@@ -304,43 +304,49 @@ fn each_call_that_fails_is_told(rt: HostRuntime) -> Result<(), Fail> {
         let mut folders = FailingFolders::new(told(rt.alloc(), MIXED.tree)?, passes);
         let kept = collected(rt.alloc(), &mut folders, &MIXED);
         let mut folders = FailingFolders::new(told(rt.alloc(), MIXED.tree)?, passes);
-        let stopped = front_of_walk(rt.alloc(), &mut folders)?;
+        let stopped = stopped_walk(rt.alloc(), &mut folders)?;
+        assert!(rt; stopped.well, "{passes}");
         match kept {
             Ok(text) => {
                 assert_eq!(rt; text.as_str(), MIXED.want, "{passes}");
-                assert!(rt; !stopped, "{passes}");
+                assert!(rt; !stopped.by_fault, "{passes}");
                 assert!(rt; passes > 20, "{passes}");
                 return Ok(());
             }
-            Err(AllocError) => assert!(rt; stopped, "{passes}"),
+            Err(AllocError) => assert!(rt; stopped.by_fault, "{passes}"),
         }
     }
     assert!(rt; false, "no run ended without a fault");
     Ok(())
 }
 
-/// Whether a walk over the mixed tree was stopped by a fault: its files are then the first ones,
-/// it says that it failed, and it answers no more.
-fn front_of_walk<F: Folders>(alloc: Global, folders: &mut F) -> Result<bool, AllocError> {
+/// What a walk over the mixed tree does where calls fail.
+#[derive(Clone, Copy)]
+struct Stopped {
+    /// Whether a call was refused.
+    by_fault: bool,
+    /// Whether its files are the first ones, it says whether it failed, and it answers no more.
+    well: bool,
+}
+
+fn stopped_walk<F: Folders>(alloc: Global, folders: &mut F) -> Result<Stopped, AllocError> {
     let mut walk = begun(alloc, &MIXED)?;
     let mut text = String::new(alloc);
-    let mut stopped = false;
+    let mut by_fault = false;
     for _ in 0..100 {
         match walk.next(folders) {
             Ok(Some(file)) => push_file(&mut text, &file)?,
             Ok(None) => break,
             Err(AllocError) => {
-                stopped = true;
+                by_fault = true;
                 break;
             }
         }
     }
     let first = MIXED.want.starts_with(text.as_str());
     let over = matches!(walk.next(folders), Ok(None));
-    if !first || !over || walk.failed() != stopped {
-        return Err(AllocError);
-    }
-    Ok(stopped)
+    let well = first && over && walk.failed() == by_fault;
+    Ok(Stopped { by_fault, well })
 }
 
 /// The files and notes of the mixed tree, set-up included.

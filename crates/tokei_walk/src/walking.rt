@@ -4,7 +4,8 @@ ghost use Rattle.tokei_walk.specs.Tree.{Tree, is_sound, names_of, folders_above}
 ghost use Rattle.tokei_walk.specs.Fits.{is_empty};
 ghost use Rattle.tokei_walk.specs.Kept.{kept_in};
 ghost use Rattle.tokei_walk.specs.Descent.{root_context, of_root, of_stack, descend};
-ghost use Rattle.tokei_walk.specs.Walks.{to_come, has_failed as walk_failed, notes_of, exclude_notes, notes_of_excludes, of_all, Advances, HasEnded, RootGives, exclude_patterns, excludes_of, names_over, levels_over};
+ghost use Rattle.tokei_walk.specs.Notes.{Grows, notes_of, exclude_notes, notes_of_excludes};
+ghost use Rattle.tokei_walk.specs.Walks.{to_come, has_failed as walk_failed, of_all, Advances, HasEnded, RootGives, exclude_patterns, excludes_of, names_over, levels_over};
 
 use crate::fs::{Above, Fault, Folders, Kind};
 use crate::kept_file::{KeptFile, Note, NoteKind};
@@ -13,7 +14,7 @@ use crate::lists::Items;
 use crate::names::{copied, names};
 use crate::patterns::{Pattern, PatternError};
 use crate::rules_files::{kind_at, note, read_level};
-use crate::stack::{Settings, Stack, explore, leave, listing};
+use crate::stack::{Settings, Stack, explore, leave, listing, note_unnamed};
 use crate::texts::Text;
 use std::alloc::{AllocError, Global};
 
@@ -36,6 +37,7 @@ fn folders_over<F: Folders>(
     }
 }
 
+#[tactic(auto, using(crate::proofs::Growing::grows_same, crate::proofs::Growing::grows_on))]
 /// Reads the rules of the folders above, from the top down, with the names that lead down.
 fn read_over<F: Folders>(
     settings: &Settings,
@@ -45,6 +47,7 @@ fn read_over<F: Folders>(
     context: &mut Context,
 ) -> Result<(), AllocError>
     ensures same { F.tree folders.new ≡ F.tree folders.old }
+    ensures notes { Grows notes.old notes.new }
     ensures shown { OnOk result (context.new.shown ≡ context.old.shown) }
     ensures names { OnOk result (context.new.names ≡ context.old.names ++ names_over found) }
     ensures levels { Told (F.tree folders.old) (λ t. OnOk result (context.new.levels
@@ -61,6 +64,7 @@ fn read_over<F: Folders>(
     Ok(())
 }
 
+#[tactic(auto, using(crate::proofs::Growing::grows_same, crate::proofs::Growing::grows_on))]
 /// The context of a root's entries, but for the rules of the root itself.
 fn context_of_root<F: Folders>(
     settings: &Settings,
@@ -69,6 +73,7 @@ fn context_of_root<F: Folders>(
     root: &str,
 ) -> Result<Context, AllocError>
     ensures same { F.tree folders.new ≡ F.tree folders.old }
+    ensures notes { Grows notes.old notes.new }
     ensures told { Told (F.tree folders.old) (λ t. IfOk result
         (λ c. c ≡ root_context t settings.now.rules (names_of root.now))) }
     ensures honest { OnOk result (F.memory_faults folders.old < u64.MAX
@@ -89,6 +94,7 @@ fn context_of_root<F: Folders>(
     Ok(context)
 }
 
+#[tactic(auto, using(crate::proofs::Growing::grows_same, crate::proofs::Growing::grows_on))]
 /// Walks a root that is a folder.
 fn enter_root<F: Folders>(
     settings: &Settings,
@@ -98,6 +104,7 @@ fn enter_root<F: Folders>(
     root: Text,
 ) -> Result<(), AllocError>
     ensures same { F.tree folders.new ≡ F.tree folders.old }
+    ensures notes { Grows notes.old notes.new }
     ensures below { OnOk result (length stack.new.below ≤ length stack.old.below) }
     ensures told { Told (F.tree folders.old) (λ t. OnOk result
         (stack.old.left ≡ [] → stack.old.below ≡ [] →
@@ -112,9 +119,7 @@ fn enter_root<F: Folders>(
         Some(listing) => listing,
         None => return note(alloc, notes, NoteKind::Unlisted, root.as_str()),
     };
-    if listing.unnamed > 0 {
-        note(alloc, notes, NoteKind::Unnamed, root.as_str())?;
-    }
+    note_unnamed(alloc, notes, &listing, root.as_str())?;
     let mut context = context_of_root(settings, folders, notes, root.as_str())?;
     let level = read_level(alloc, folders, notes, &settings.rules, root.as_str())?;
     context.levels.push(level)?;
@@ -136,6 +141,7 @@ fn is_blank(text: &Text) -> bool
     }
 }
 
+#[tactic(auto, using(crate::proofs::Growing::grows_same, crate::proofs::Growing::grows_on))]
 /// Begins a root: a file is answered, a folder is walked.
 fn begin_root<F: Folders>(
     settings: &Settings,
@@ -145,6 +151,7 @@ fn begin_root<F: Folders>(
     root: Text,
 ) -> Result<Option<KeptFile>, AllocError>
     ensures same { F.tree folders.new ≡ F.tree folders.old }
+    ensures notes { Grows notes.old notes.new }
     ensures below { OnOk result (length stack.new.below ≤ length stack.old.below) }
     ensures told { Told (F.tree folders.old) (λ t. IfOk result (λ o.
         stack.old.left ≡ [] → stack.old.below ≡ [] → RootGives
@@ -175,6 +182,7 @@ fn begin_root<F: Folders>(
     }
 }
 
+#[tactic(auto, using(crate::proofs::Growing::grows_same, crate::proofs::Growing::grows_on))]
 /// The next file of the walk.
 fn advance<F: Folders>(
     settings: &Settings,
@@ -184,6 +192,7 @@ fn advance<F: Folders>(
     roots: &mut Items<Text>,
 ) -> Result<Option<KeptFile>, AllocError>
     ensures same { F.tree folders.new ≡ F.tree folders.old }
+    ensures notes { Grows notes.old notes.new }
     ensures ended { result ≡ Ok None
         → (stack.new.left ≡ []) × (stack.new.below ≡ []) × (roots.new ≡ []) }
     ensures told { Told (F.tree folders.old) (λ t. IfOk result (λ o. Advances
@@ -243,7 +252,7 @@ fn push_exclude(
     }
 }
 
-#[tactic(auto, unfolding(crate::specs::Walks::excludes_of, crate::specs::Walks::notes_of_excludes))]
+#[tactic(auto, unfolding(crate::specs::Walks::excludes_of, crate::specs::Notes::notes_of_excludes))]
 /// The patterns of the excludes.
 fn read_excludes(
     alloc: Global,
@@ -278,7 +287,7 @@ fn empty_stack(alloc: Global) -> Result<Stack, AllocError>
 }
 
 impl Walk {
-    #[tactic(auto, unfolding(crate::specs::Walks::has_failed, crate::specs::Walks::notes_of))]
+    #[tactic(auto, unfolding(crate::specs::Walks::has_failed, crate::specs::Notes::notes_of))]
     /// A walk over roots, in their order. An exclude that is no pattern is passed over with a note.
     pub fn new(
         alloc: Global,
@@ -317,6 +326,7 @@ impl Walk {
         ensures told { Told (F.tree folders.old) (λ t. IfOk result
             (λ o. Advances (to_come t self.old) (to_come t self.new) o)) }
         ensures ended { result ≡ Ok None → HasEnded self.new }
+        ensures notes { Grows (notes_of self.old) (notes_of self.new) }
         ensures refused { OnErr result (walk_failed self.new ≡ true) }
         ensures failed { walk_failed self.old ≡ true → result ≡ Ok None }
         ensures honest { OnOk result (F.memory_faults folders.old < u64.MAX
@@ -346,7 +356,7 @@ impl Walk {
     }
 
     /// What the walk met and passed over so far.
-    #[tactic(auto, unfolding(crate::specs::Walks::notes_of))]
+    #[tactic(auto, unfolding(crate::specs::Notes::notes_of))]
     pub fn notes(&self) -> &[Note]
         ensures { result.now ≡ notes_of self.entry.now }
     {
@@ -354,7 +364,7 @@ impl Walk {
     }
 
     /// The same, where the walk is over.
-    #[tactic(auto, unfolding(crate::specs::Walks::notes_of))]
+    #[tactic(auto, unfolding(crate::specs::Notes::notes_of))]
     pub fn into_notes(self) -> Items<Note>
         ensures { result ≡ notes_of self }
     {

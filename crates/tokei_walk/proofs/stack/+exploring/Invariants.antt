@@ -1,5 +1,6 @@
 use Rattle.std.proofs.Common.{◌≡◌, ◌+◌, ◌-◌, ◌*◌, ◌<◌, ◌^◌, length}
 use Rattle.tokei_walk.specs.Answers.{Told}
+use Rattle.tokei_walk.specs.Notes.{Grows}
 use Rattle.tokei_walk.specs.Descent.{of_top}
 use Rattle.tokei_walk.specs.Stacks.{Stays}
 use Rattle.tokei_walk.proofs.stack.+exploring.Given as goal
@@ -15,6 +16,7 @@ decreases-visit g l = 3 * (256 - length l.stack.now.below)
 
 abbrev pub invariant-explore-loop-file : goal.invariant-explore-loop-file
 invariant-explore-loop-file g l = record {
+  notes : Grows l.initial.notes l.notes;
   same : g.F.Folders.tree l.folders ≡ g.F.Folders.tree l.initial.folders;
   honest : g.F.Folders.memory_faults l.initial.folders < 2 ^ 64 - 1 → g.F.Folders.memory_faults l.folders ≡ g.F.Folders.memory_faults l.initial.folders;
   stays : Stays l.initial.stack l.stack;

@@ -4,6 +4,7 @@ use Rattle.tokei_walk.specs.declared.stack.Stack.{Stack}
 use Rattle.tokei_walk.specs.Descent.{of_root, of_stack}
 use Rattle.tokei_walk.specs.Stacks.{Leaves, NoneStays, ExploreTells}
 use Rattle.tokei_walk.specs.Walks.{of_roots, RootGives}
+use Rattle.tokei_walk.proofs.Growing.{grows_on}
 use Rattle.tokei_walk.proofs.Roots.{explored_none, all_ended, root_begins}
 use Rattle.tokei_walk.proofs.StackSteps.{left_gives, top_ends}
 use Rattle.tokei_walk.proofs.walking.advance.Goals as goal
@@ -12,6 +13,7 @@ pub loop-file-preserved-then-leave : goal.loop-file-preserved-then-leave
 loop-file-preserved-then-leave g c =
     let inv = c.loop-file.invariant in let x = c.args.settings.now in let s = c.loop-file.stack in let v = c.explore.new.stack in
     let stays = subst (λ (o : Option KeptFile). NoneStays s v o) c.in-None.is c.in_ok-file.ensures.stays in record {
+      notes = grows_on _ _ _ inv.notes c.explore.ensures.notes;
       same = c.explore.ensures.same ∙ inv.same;
       honest = search rules;
       told = λ t e.
@@ -47,6 +49,7 @@ loop-file-preserved g c =
     let stays = subst (λ (o : Option KeptFile). NoneStays s v o) c.in-None.is c.in_ok-file.ensures.stays in
     let left = subst (λ (b : Bool). Leaves v c.leave.new.stack b) c.if-leave.false c.leave.ensures in
     let root = c.in-Some-pop.root in let front = c.pop.new.self in let w = c.begin_root.new.stack in record {
+      notes = grows_on _ _ _ (grows_on _ _ _ inv.notes c.explore.ensures.notes) c.begin_root.ensures.notes;
       same = c.begin_root.ensures.same ∙ c.explore.ensures.same ∙ inv.same;
       honest = search rules;
       told = λ t e.

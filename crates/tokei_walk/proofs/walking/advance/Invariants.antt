@@ -1,10 +1,12 @@
 use Rattle.std.proofs.Common.{◌≡◌, ◌+◌, ◌<◌, ◌-◌, ◌^◌, length}
 use Rattle.tokei_walk.specs.Answers.{Told}
+use Rattle.tokei_walk.specs.Notes.{Grows}
 use Rattle.tokei_walk.specs.Walks.{of_all}
 use Rattle.tokei_walk.proofs.walking.advance.Given as goal
 
 abbrev pub invariant-loop-file : goal.invariant-loop-file
 invariant-loop-file g l = record {
+  notes : Grows l.initial.notes l.notes;
   same : g.F.Folders.tree l.folders ≡ g.F.Folders.tree l.initial.folders;
   honest : g.F.Folders.memory_faults l.initial.folders < 2 ^ 64 - 1 → g.F.Folders.memory_faults l.folders ≡ g.F.Folders.memory_faults l.initial.folders;
   told : Told (g.F.Folders.tree l.initial.folders) (λ t. of_all l.settings.excludes l.settings.rules t l.initial.stack l.initial.roots ≡ of_all l.settings.excludes l.settings.rules t l.stack l.roots);

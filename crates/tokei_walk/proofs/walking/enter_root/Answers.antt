@@ -25,8 +25,8 @@ returns-clause-told g c = λ t e left below.
     let first = c.listing.ensures.same ∙ e in let second = c.context_of_root.ensures.same ∙ first in
     let told = subst (λ (o : Option Listing). MatchOption o (list_answer t (names_of place) ≡ Err Refused) (λ l. list_answer t (names_of place) ≡ Ok l.entries)) c.in-Some.is (c.in_ok-listing.ensures.told t e) in
     let entries = ap (λ p. list_answer t (names_of p)) (sym c.as_str.ensures) ∙ told ∙ ap Ok (sym (reverse-reverse c.in-Some.listing.entries) ∙ ap reverse (sym c.reverse.ensures)) in
-    let is = c.in_ok-context.ensures.told t first ∙ ap (λ p. root_context t x.rules (names_of p)) c.as_str-2.ensures in
-    let level = c.in_ok-level.ensures.told t second ∙ ap (λ p. level_at t x.rules (names_of p)) c.as_str-3.ensures in
+    let is = c.in_ok-context.ensures.told t first ∙ ap (λ p. root_context t x.rules (names_of p)) c.as_str-3.ensures in
+    let level = c.in_ok-level.ensures.told t second ∙ ap (λ p. level_at t x.rules (names_of p)) c.as_str-4.ensures in
     let cx = c.in_ok-context.context in
     let walked : Stack = record { context = record { levels = c.push.new.self; names = cx.names; shown = cx.shown }; place = root; left = c.reverse.new.self; below = c.clear.new.self } in
     root_entered x.excludes x.rules t walked c.in_ok-context.context (root_context t x.rules (names_of root)) c.in_ok-level.level root entries is level (same_context c.in_ok-push.ensures.ok refl refl) refl c.clear.ensures

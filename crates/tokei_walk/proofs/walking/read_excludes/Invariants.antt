@@ -1,5 +1,6 @@
 use Rattle.std.proofs.Common.{◌≡◌, ◌++◌, drop}
-use Rattle.tokei_walk.specs.Walks.{excludes_of, notes_of_excludes}
+use Rattle.tokei_walk.specs.Walks.{excludes_of}
+use Rattle.tokei_walk.specs.Notes.{notes_of_excludes}
 use Rattle.tokei_walk.proofs.walking.read_excludes.Given as goal
 
 abbrev pub invariant-loop-text : goal.invariant-loop-text

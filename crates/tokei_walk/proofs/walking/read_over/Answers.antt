@@ -1,11 +1,13 @@
 use Rattle.std.proofs.Common.{◌∙◌, rules}
 use Rattle.tokei_walk.specs.Walks.{names_over, levels_over}
+use Rattle.tokei_walk.proofs.Growing.{grows_on}
 use Rattle.tokei_walk.proofs.Roots.{more, names_over_pop, levels_over_pop}
 use Rattle.tokei_walk.proofs.walking.read_over.Goals as goal
 
 pub loop-above-preserved : goal.loop-above-preserved
 loop-above-preserved g c =
     let inv = c.loop-above.invariant in let cx = c.loop-above.context in let a = c.in-Some.above in let front = c.pop.new.self in let r = c.args.settings.now.rules in record {
+      notes = grows_on _ _ _ inv.notes c.read_level.ensures.notes;
       same = c.read_level.ensures.same ∙ inv.same;
       honest = search rules;
       shown = inv.shown;

@@ -1,10 +1,12 @@
 use Rattle.std.proofs.Common.{◌≡◌, ◌++◌, ◌<◌, ◌-◌, ◌^◌, length}
 use Rattle.tokei_walk.specs.Answers.{Told}
+use Rattle.tokei_walk.specs.Notes.{Grows}
 use Rattle.tokei_walk.specs.Walks.{names_over, levels_over}
 use Rattle.tokei_walk.proofs.walking.read_over.Given as goal
 
 abbrev pub invariant-loop-above : goal.invariant-loop-above
 invariant-loop-above g l = record {
+  notes : Grows l.initial.notes l.notes;
   same : g.F.Folders.tree l.folders ≡ g.F.Folders.tree l.initial.folders;
   honest : g.F.Folders.memory_faults l.initial.folders < 2 ^ 64 - 1 → g.F.Folders.memory_faults l.folders ≡ g.F.Folders.memory_faults l.initial.folders;
   shown : l.context.shown ≡ l.initial.context.shown;

@@ -1,4 +1,5 @@
 use Rattle.std.proofs.Common.{refl, ◌∙◌}
+use Rattle.tokei_walk.specs.Notes.{notes_of}
 use Rattle.tokei_walk.proofs.Roots.{to_come_left, to_come_failed, all_ended, advances_by}
 use Rattle.tokei_walk.proofs.walking.Walk.next.Goals as goal
 
@@ -15,3 +16,11 @@ pub returns-clause-ended : goal.returns-clause-ended
 returns-clause-ended g c = λ q t.
     let ends = c.in_ok-found.ensures.ended q in
     to_come_left t _ refl ∙ all_ended _ _ t _ _ ends.0 ends.1 ends.2
+
+pub returns-in_err-found-clause-notes : goal.returns-in_err-found-clause-notes
+unfolding notes_of
+returns-in_err-found-clause-notes g c = c.in_err-found.ensures.notes
+
+pub returns-clause-notes : goal.returns-clause-notes
+unfolding notes_of
+returns-clause-notes g c = c.in_ok-found.ensures.notes
