@@ -3,10 +3,11 @@ use crate::error::CountError;
 use crate::sums::{Sums, sum_of};
 use std::alloc::Global;
 use std::collections::BTreeMap;
+use std::fmt;
 use tokei_table::LanguageType;
 
 /// How many lines of a text are blank, code and comments, and the same of the texts of other languages inside it.
-#[derive(Debug, PartialEq, Drop)]
+#[derive(PartialEq, Drop)]
 pub struct CodeStats {
     pub blanks: usize,
     pub code: usize,
@@ -14,6 +15,18 @@ pub struct CodeStats {
     /// The statistics of the texts inside, added up by language; they aren't in the three numbers above.
     pub blobs: BTreeMap<LanguageType, CodeStats>,
     alloc: Global,
+}
+
+// The allocator is no member that a reader of the text knows.
+impl fmt::Debug for CodeStats {
+    fn fmt<W: fmt::Write>(&self, f: &mut fmt::Formatter<W>) -> fmt::Result {
+        f.debug_struct("CodeStats")
+            .field("blanks", &self.blanks)
+            .field("code", &self.code)
+            .field("comments", &self.comments)
+            .field("blobs", &self.blobs)
+            .finish()
+    }
 }
 
 impl CodeStats {

@@ -149,3 +149,17 @@ fn refused_report_try_clone(rt: HostRuntime) {
         }
     }
 }
+
+#[test]
+fn debug_shows_all_members(rt: HostRuntime) -> Result<(), Fail> {
+    let language = language(rt.alloc()).ok_or("no language")?;
+    let report = report_with_blob(rt.alloc(), language, 4)?;
+    let inner = "CodeStats { blanks: 0, code: 4, comments: 0, blobs: {} }";
+    let stats = format!(in rt.alloc();
+        "CodeStats {{ blanks: 1, code: 2, comments: 3, blobs: {{{language:?}: {inner}}} }}"
+    )?;
+    let shown = format!(in rt.alloc(); "{report:?}")?;
+    let expected = format!(in rt.alloc(); "Report {{ stats: {stats}, name: \"a.md\" }}")?;
+    assert_eq!(rt; shown.as_str(), expected.as_str());
+    Ok(())
+}
