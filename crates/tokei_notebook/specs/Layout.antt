@@ -1,5 +1,5 @@
 -- The layout of a notebook: which JSON values are one.
-use Rattle.std.specs.Prelude.{Bool, false, ◌&&◌, ◌||◌, Option, Some, is_some, codes, bytes_eq}
+use Rattle.std.specs.Prelude.{Bool, false, ◌&&◌, ◌||◌, is_some, codes, bytes_eq}
 use Rattle.serde_json.specs.Data.{Data, string}
 use Rattle.serde_json.specs.Find.{get}
 use Rattle.tokei_table.specs.Layout.{stands_and, is_text, is_list}

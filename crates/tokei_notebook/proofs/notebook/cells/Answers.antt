@@ -1,6 +1,5 @@
-use Rattle.std.proofs.Common.{◌≡◌, Result, Ok, Err, IfOk, length, option_map, sym, subst, map}
-use Rattle.serde_json.specs.View.{view}
-use Rattle.tokei_notebook.specs.Cells.{cell_of, cells_at, AreKnown}
+use Rattle.std.proofs.Common.{Result, Ok, Err, IfOk, length, sym, subst}
+use Rattle.tokei_notebook.specs.Cells.{AreKnown}
 use Rattle.tokei_notebook.proofs.Known.{at_known}
 use Rattle.tokei_notebook.proofs.notebook.cells.Goals as goal
 
