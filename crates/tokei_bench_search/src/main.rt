@@ -5,11 +5,10 @@
 
 use memchr::memchr;
 use std::alloc::Global;
-use std::env;
-use std::io;
 use std::io::Read;
 use std::process::ExitCode;
 use std::time::{Duration, Instant};
+use std::{env, io};
 use tokei_bench::bench_json;
 use tokei_table::{LanguageTable, LanguageType, OpenerIndex, TableError};
 
