@@ -1,9 +1,12 @@
--- Laws of the blocks: how far each reaches, and that none opens at a newline.
-use Rattle.std.specs.Prelude.{◌≡◌, ℕ, ◌<◌, ◌≤◌, true, false, ◌==◌, is_some, List, ◌∷◌, ◌++◌, length, drop, None, Some}
-use Rattle.tokei_table.specs.Bytes.{is_blank}
-use Rattle.tokei_embedding.specs.DocComments.{DocBlock, doc_block}
-use Rattle.tokei_embedding.specs.Fences.{Fence, fence_block}
-use Rattle.tokei_embedding.specs.Tags.{TagBlock, tag_block}
+-- Laws of the blocks: how far each reaches, and where none opens.
+use Rattle.std.specs.Prelude.{◌≡◌, ℕ, ◌<◌, ◌≤◌, true, false, ◌==◌, is_some, List, ◌∷◌, ◌++◌, length, drop, codes, None, Some}
+use Rattle.tokei_table.specs.Bytes.{is_blank, begins}
+use Rattle.tokei_table.specs.FirstOpener.{first_opener}
+use Rattle.tokei_table.specs.Openers.{child_openers}
+use Rattle.tokei_table.specs.declared.family.Family.TheVariants.{Rust}
+use Rattle.tokei_embedding.specs.DocComments.{DocBlock, doc_block, first_line}
+use Rattle.tokei_embedding.specs.Fences.{Fence, fence, fence_block}
+use Rattle.tokei_embedding.specs.Tags.{TagBlock, token_of, tag_block}
 use Rattle.tokei_embedding.specs.TargetBlocks.{TargetBlock, target_block}
 use Rattle.tokei_embedding.specs.declared.tags.Tag.{Tag}
 
@@ -42,3 +45,14 @@ NewlinesOpenNothing = (part t tail : List ℕ) (place : ℕ) → 10 ∷ t ≡ dr
 -- A block of doc comments opens at a blank of a line exactly where one opens at the byte behind it.
 abbrev pub DocsOpenBeforeBlanks : Type 0
 DocsOpenBeforeBlanks = (b : ℕ) (t : List ℕ) → is_blank b ≡ true → (b == 10) ≡ false → is_some (doc_block (b ∷ t)) ≡ is_some (doc_block t)
+
+-- No block opens at a place of a part where its opener doesn't stand. Blanks may stand before the mark of a doc comment,
+-- so none of these opens where no mark stands in the rest of the line.
+pub record BeginWithOpeners (part rest : List ℕ) (place : ℕ) : Type 0 where
+  pub fences : begins fence (drop place part) ≡ false → fence_block part place rest ≡ None
+  pub tags : (g : Tag) → begins (token_of g) (drop place part) ≡ false → tag_block g part place rest ≡ None
+  pub docs : first_opener (child_openers Rust) (first_line rest) ≡ None → doc_block rest ≡ None
+  pub targets : begins (codes "{=") (drop place part) ≡ false → target_block part place rest ≡ None
+
+abbrev pub BlocksBeginWithOpeners : Type 0
+BlocksBeginWithOpeners = (part rest : List ℕ) (place : ℕ) → BeginWithOpeners part rest place

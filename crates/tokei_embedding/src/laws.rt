@@ -1,5 +1,5 @@
 //! Laws of the definitions: each function's contract is a law, and its body does nothing.
-ghost use Rattle.tokei_embedding.specs.BlockLaws.{FencesReach, TagsReach, DocsReach, TargetsReach, NewlinesOpenNothing, DocsOpenBeforeBlanks};
+ghost use Rattle.tokei_embedding.specs.BlockLaws.{FencesReach, TagsReach, DocsReach, TargetsReach, NewlinesOpenNothing, DocsOpenBeforeBlanks, BlocksBeginWithOpeners};
 
 /// A fence's block takes a byte or more, ends in the text, and holds no more than it takes.
 pub fn fences_reach()
@@ -29,4 +29,9 @@ pub fn newlines_open_nothing()
 /// A block of doc comments opens at a blank of a line exactly where one opens at the byte behind it.
 pub fn docs_open_before_blanks()
     ensures { DocsOpenBeforeBlanks }
+{}
+
+/// No block opens where its opener doesn't stand, and none of doc comments where the rest of the line holds no mark.
+pub fn blocks_begin_with_openers()
+    ensures { BlocksBeginWithOpeners }
 {}
