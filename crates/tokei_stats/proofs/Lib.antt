@@ -6,3 +6,4 @@ pub mod SumsOrdered
 pub mod SumLaws
 pub mod MapsOrdered
 pub mod Padding
+pub mod Equality

@@ -11,7 +11,7 @@ use Rattle.tokei_stats.specs.Statistics.Blobs.{none, blob}
 use Rattle.tokei_stats.proofs.BlobsAt.{OrderedAt, at_ordered, same_blobs, none_behind, behind_less, put_ordered}
 use Rattle.tokei_stats.proofs.SumsOrdered.{both, both_none, add_at, sum_ordered, add_ordered}
 
-same_counts : (a b : Counts) → a.blanks ≡ b.blanks → a.code ≡ b.code → a.comments ≡ b.comments → a ≡ b
+pub same_counts : (a b : Counts) → a.blanks ≡ b.blanks → a.code ≡ b.code → a.comments ≡ b.comments → a ≡ b
 same_counts a b e f g =
     ap (λ x. record { blanks = x; code = a.code; comments = a.comments }) e
     ∙ ap (λ x. record { blanks = b.blanks; code = x; comments = a.comments }) f
@@ -26,7 +26,7 @@ plus_associates a b c = same_counts (plus (plus a b) c) (plus a (plus b c)) (ome
 pub plus_none : (a : Counts) → plus a no_lines ≡ a
 plus_none a = same_counts (plus a no_lines) a (omega arith) (omega arith) (omega arith)
 
-same_node : (n m : Counts) (bs cs : Blobs) → n ≡ m → bs ≡ cs → node n bs ≡ node m cs
+pub same_node : (n m : Counts) (bs cs : Blobs) → n ≡ m → bs ≡ cs → node n bs ≡ node m cs
 same_node n m bs cs e f = ap (λ x. node x bs) e ∙ ap (node m) f
 
 some_commutes : (s : Statistics) (o : Option Statistics) → OrderedAt o → ((t : Statistics) → IsOrdered t → sum s t ≡ sum t s) → both (Some s) o ≡ both o (Some s)

@@ -1,8 +1,10 @@
-//! Laws of the definitions alone: each is the contract of a function that does nothing.
+//! Laws of the definitions, each the contract of a function that does nothing, and of equality.
+ghost use Rattle.std.specs.Prelude.{◌≡◌, ◌↔◌, IsTrue, string_bytes};
 ghost use Rattle.tokei_stats.specs.Ordered.{IsOrdered};
 ghost use Rattle.tokei_stats.specs.Seen.{stats_of};
 ghost use Rattle.tokei_stats.specs.SumLaws.{SumsStayOrdered, SumsCommute, SumsAssociate, EmptyIsNeutral, SummariesAdd, SummarisingOnceSuffices};
 
+use crate::report::Report;
 use crate::stats::CodeStats;
 
 /// The sum of statistics in the table's order is in the table's order.
@@ -42,4 +44,20 @@ pub fn statistics_are_ordered(stats: &CodeStats)
     for (_, inner) in stats.blobs.iter() {
         statistics_are_ordered(inner);
     }
+}
+
+/// Statistics are equal by `==` exactly where the three numbers and the blobs are, at every depth.
+pub fn equality_is_of_all_members(stats: &CodeStats, other: &CodeStats) -> bool
+    ensures { IsTrue result ↔ (stats_of stats.now ≡ stats_of other.now) }
+{
+    stats == other
+}
+
+/// Reports are equal by `==` exactly where their statistics and their names are.
+pub fn report_equality_is_of_all_members(report: &Report, other: &Report) -> bool
+    ensures { IsTrue result
+        ↔ ((stats_of report.now.stats ≡ stats_of other.now.stats)
+        × (string_bytes report.now.name ≡ string_bytes other.now.name)) }
+{
+    report == other
 }

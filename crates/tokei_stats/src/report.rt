@@ -13,7 +13,7 @@ pub struct Report {
 }
 
 impl Report {
-    ghost use Rattle.std.specs.Prelude.{◌≡◌, ◌≤◌, true, false, IfOk, IfErr, OnOk, OnErr, IsErrOf, string_bytes};
+    ghost use Rattle.std.specs.Prelude.{◌≡◌, ◌≤◌, true, false, IfOk, IfErr, OnOk, OnErr, IsErrOf, IsTrue, string_bytes};
     ghost use Rattle.tokei_stats.specs.Overflow.{sum_fits};
     ghost use Rattle.tokei_stats.specs.ReportRow.{report_row};
     ghost use Rattle.tokei_stats.specs.Seen.{stats_of, counts_of};
@@ -42,10 +42,11 @@ impl Report {
         self.stats.add(&stats)
     }
 
-    /// A copy, which differs from a clone in that it may be refused for want of memory.
+    /// A copy, equal by `==`, which differs from a clone in that it may be refused for want of memory.
     pub fn try_clone(&self) -> Result<Report, CountError>
         ensures stats { IfOk result (λ r. stats_of r.stats ≡ stats_of self.now.stats) }
         ensures name { IfOk result (λ r. string_bytes r.name ≡ string_bytes self.now.name) }
+        ensures equal { IfOk result (λ r. IsTrue (⟦<Report as PartialEq>⟧.eq r self.now)) }
         ensures memory { IfErr result (λ e. e ≡ CountError.Memory) }
     {
         Ok(Report {

@@ -30,7 +30,7 @@ impl fmt::Debug for CodeStats {
 }
 
 impl CodeStats {
-    ghost use Rattle.std.specs.Prelude.{◌≡◌, ◌<◌, IfOk, OnOk, OnErr, IfErr, IsErrOf, true, false};
+    ghost use Rattle.std.specs.Prelude.{◌≡◌, ◌<◌, IfOk, OnOk, OnErr, IfErr, IsErrOf, IsTrue, true, false};
     ghost use Rattle.tokei_stats.specs.Statistics.{empty, sum, summary, lines_of, plus};
     ghost use Rattle.tokei_stats.specs.Statistics.Statistics.{node};
     ghost use Rattle.tokei_stats.specs.Statistics.Blobs.{none};
@@ -60,9 +60,10 @@ impl CodeStats {
         }
     }
 
-    /// A copy, which differs from a clone in that it may be refused for want of memory.
+    /// A copy, equal by `==`, which differs from a clone in that it may be refused for want of memory.
     pub fn try_clone(&self) -> Result<CodeStats, CountError>
         ensures ok { IfOk result (λ s. stats_of s ≡ stats_of self.now) }
+        ensures equal { IfOk result (λ s. IsTrue (⟦<CodeStats as PartialEq>⟧.eq s self.now)) }
         ensures memory { IfErr result (λ e. e ≡ CountError.Memory) }
     {
         let mut blobs = BTreeMap::new(self.alloc);

@@ -1,7 +1,9 @@
-use Rattle.std.proofs.Common.{◌∙◌, ap, sym, ◌++◌}
+use Rattle.std.proofs.Common.{◌∙◌, ap, sym, ◌++◌, rules}
 use Rattle.tokei_stats.specs.declared.stats.CodeStats.{out-CodeStats}
+use Rattle.tokei_stats.specs.declared.stats.CodeStats.TheFolds.{fold-roll-CodeStats, fold_out-CodeStats}
 use Rattle.tokei_stats.specs.Seen.{entries_of}
 use Rattle.tokei_stats.proofs.Cloning.{clone_more}
+use Rattle.tokei_stats.proofs.Equality.{equal_if_alike}
 use Rattle.tokei_stats.proofs.stats.CodeStats.+try_clone.Goals as goal
 
 pub loop-language-preserved : goal.loop-language-preserved
@@ -9,3 +11,6 @@ loop-language-preserved t c =
     ap (λ es. entries_of es ++ entries_of c.next.new.self) c.in_ok-put.ensures.ok
     ∙ clone_more c.loop-language.blobs.entries c.next.new.self (out-CodeStats c.args.self.now).blobs.entries c.in-Some.language.now c.in_ok-copy.copy c.in-Some.stats.now
     (ap (λ es. entries_of c.loop-language.blobs.entries ++ entries_of es) (sym c.in-Some.ensures.steps) ∙ c.loop-language.invariant) c.iter-language-items.ensures.ordered c.in_ok-copy.ensures.ok
+
+pub returns-clause-equal : goal.returns-clause-equal
+returns-clause-equal t c = equal_if_alike _ _ (search (rules, fold-roll-CodeStats, fold_out-CodeStats))
