@@ -86,7 +86,7 @@ module _ (rows : List Row) (language : ℕ) (text : List ℕ) where
 line_then : (rest : List ℕ) → (tail : List ℕ) × (rest ≡ first_line rest ++ tail)
 line_then rest = (drop (length (first_line rest)) rest, sym (ap (λ w. w ++ drop (length (first_line rest)) rest) (sym (take-first rest)) ∙ take-append-drop (length (first_line rest)) rest))
 
-drop_front : (front line : List ℕ) → drop (length front) (front ++ line) ≡ line
+pub drop_front : (front line : List ℕ) → drop (length front) (front ++ line) ≡ line
 drop_front front line = drop-append_seam front line
 
 in_part : (front rest : List ℕ) → (tail : List ℕ) × (rest ≡ drop (length front) (front ++ first_line rest) ++ tail)
@@ -105,7 +105,7 @@ block_in_fits rows language text = record {
     held : (l : ℕ) (t : List ℕ) (k : Block) → block_in rows language text l t ≡ Some k → IsWithin k t
     held l t k e = let p = in_part (part_front text l t) t in by_within rows language text (family_of (row_at rows language).key) (part_front text l t ++ first_line t) p.0 (length (part_front text l t)) t k p.1 e
 
-by_levels : (rows : List Row) (language : ℕ) (text : List ℕ) (n : ℕ) → FitsBlocks (blocks (languages_of rows) n language text)
+pub by_levels : (rows : List Row) (language : ℕ) (text : List ℕ) (n : ℕ) → FitsBlocks (blocks (languages_of rows) n language text)
 by_levels rows language text zero = no_child_fits
 by_levels rows language text (suc n) = block_in_fits rows language text
 

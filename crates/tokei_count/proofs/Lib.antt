@@ -16,6 +16,14 @@ pub mod Fitting
 pub mod Utf8
 pub mod DocSizes
 pub mod PartWhole
+pub mod Walking
+pub mod TokenOpeners
+pub mod OpenersInLines
+pub mod Glancing
+pub mod QuietBlocks
+pub mod GlanceClass
+pub mod StepReading
+pub mod GlanceReading
 pub mod Pieces
 pub mod LineEnds
 pub mod TextReading

@@ -4,7 +4,7 @@ use Rattle.tokei_count.specs.Lines.{first_line, line_len}
 use Rattle.tokei_count.proofs.Lines.{length-whole, length-broken}
 use Rattle.tokei_count.proofs.PartFronts.{line_len_within}
 
-below_or : (a b : ℕ) → (a < b) ⊎ (b ≤ a)
+pub below_or : (a b : ℕ) → (a < b) ⊎ (b ≤ a)
 below_or a zero = inr (omega arith)
 below_or zero (suc b) = inl (omega arith)
 below_or (suc a) (suc b) = later (below_or a b)
@@ -35,3 +35,26 @@ end_behind text at end to h e some more last = by_case (below_or end (length tex
         let w : end ≤ length text = end_within text at end h e in
         let t : to ≡ end = last (omega (arith, b, w)) in
         omega arith
+
+-- a line has its newline's byte more, or none
+pub first_line-low : (u : List ℕ) → line_len u ≤ length (first_line u)
+first_line-low u = by_case (below_or (line_len u) (length u))
+  where
+    by_case : (line_len u < length u) ⊎ (length u ≤ line_len u) → line_len u ≤ length (first_line u)
+    by_case (inl h) = omega (arith, length-broken u h)
+    by_case (inr h) = omega (arith, length-whole u h)
+
+pub first_line-high : (u : List ℕ) → length (first_line u) ≤ line_len u + 1
+first_line-high u = by_case (below_or (line_len u) (length u))
+  where
+    by_case : (line_len u < length u) ⊎ (length u ≤ line_len u) → length (first_line u) ≤ line_len u + 1
+    by_case (inl h) = omega (arith, length-broken u h)
+    by_case (inr h) = omega (arith, length-whole u h)
+
+-- a line that doesn't end with the text ends behind its newline
+pub ends_more : (n end stop : ℕ) → end ≤ n → (end < n → stop ≡ end + 1) → (end ≡ n → stop ≡ end) → stop < n → stop ≡ end + 1
+ends_more n end stop h more last below = by_case (below_or end n)
+  where
+    by_case : (end < n) ⊎ (n ≤ end) → stop ≡ end + 1
+    by_case (inl b) = more b
+    by_case (inr b) = let e : stop ≡ end = last (omega (arith, h, b)) in absurd (omega (arith, e, b, below))

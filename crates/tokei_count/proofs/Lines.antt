@@ -1,6 +1,6 @@
 -- A line that was walked is one part.
 use Rattle.std.proofs.Common.{◌≡◌, ℕ, suc, ◌+◌, ◌<◌, ◌≤◌, ◌==◌, Bool, true, false, cond, List, [], ◌∷◌, length, take, drop, Option, refl, sym, ◌∙◌, ap, arith}
-use Rattle.tokei_count.proofs.Leading.{line_done, line_kids}
+use Rattle.tokei_count.proofs.Leading.{line_done, line_kids, line_choices}
 use Rattle.tokei_count.proofs.Ahead.{marks_ahead-end}
 use Rattle.tokei_count.proofs.Stepping.{top_closed}
 use Rattle.tokei_count.specs.Class.{class_of}
@@ -9,10 +9,13 @@ use Rattle.tokei_count.specs.Lines.{first_line, line_len}
 use Rattle.tokei_count.specs.Modes.{Chain, innermost}
 use Rattle.tokei_count.specs.Parts.{cut}
 use Rattle.tokei_count.specs.PlainReading.{tally, one_of, children}
-use Rattle.tokei_count.specs.Progress.{Leads, ReadsLine, OpensInLine, counts_left, children_left, IsClosable}
+use Rattle.tokei_count.specs.Progress.{Leads, ReadsLine, OpensInLine, counts_left, children_left, steps_left, newlines, IsClosable}
 use Rattle.tokei_stats.specs.Statistics.{Counts, plus, no_lines}
 use Rattle.tokei_count.specs.declared.class.Class.{Class}
+use Rattle.tokei_table.specs.Openers.{openers}
 use Rattle.tokei_table.specs.Row.{Row}
+use Rattle.tokei_count.specs.Glance.{is_walked}
+use Rattle.tokei_count.specs.Steps.{walked_choices}
 use Rattle.tokei_table.specs.Sound.{IsSound}
 
 first_by : (x : Bool) (n k m : ℕ) (b : ℕ) (t : List ℕ) → (n < m → length t ≡ n + 1) → (m ≤ n → length t ≡ n) → cond x 0 (suc n) < suc m → length (cond x (b ∷ []) (b ∷ t)) ≡ cond x 0 (suc n) + 1
@@ -43,7 +46,7 @@ within_by : (x : Bool) (b : ℕ) (t : List ℕ) → length (first_line t) ≤ le
 within_by true b t h = omega arith
 within_by false b t h = omega arith
 
-first_within : (u : List ℕ) → length (first_line u) ≤ length u
+pub first_within : (u : List ℕ) → length (first_line u) ≤ length u
 first_within [] = omega arith
 first_within (b ∷ t) = within_by (b == 10) b t (first_within t)
 
@@ -56,16 +59,18 @@ first_some b t = by_test (b == 10)
 
 module _ (g : Row) (block : ℕ → List ℕ → Option Block) (l : ℕ) (docs : Bool) where
   pub line_reads : (c d : Chain) (u : List ℕ) (class : Class) → IsSound g → OpensInLine block → IsClosable d → 0 < length u
-      → Leads g block l c (line_len u) d u
+      → (j : ℕ) → Leads g block l c (line_len u) j d u
       → class ≡ class_of g docs (record { begun = innermost c; bytes = first_line u; ended = innermost d })
-      → ReadsLine g block l docs c (length (first_line u)) class d u
-  line_reads c d [] class s o k h f e = absurd (omega arith)
-  line_reads c d (b ∷ t) class s o k h f e = record {
+      → ReadsLine g block l docs c (length (first_line u)) (j + newlines u) class d u
+  line_reads c d [] class s o k h j f e = absurd (omega arith)
+  line_reads c d (b ∷ t) class s o k h j f e = record {
     some = first_some b t;
     within = first_within (b ∷ t);
     closable = k;
     counts = ap (tally g docs) (line_done g block l c d b t s o (top_closed d k) f) ∙ ap (λ w. plus (one_of w) (counts_left g block l docs d (drop (length (first_line (b ∷ t))) (b ∷ t)))) (sym e);
     kids = line_kids g block l c d b t s o (top_closed d k) f;
+    steps = ap (walked_choices (openers g)) (line_choices g block l c d b t s o (top_closed d k) j f)
+        ∙ ap (λ w. cond (is_walked (openers g) (innermost c) w) (j + newlines (b ∷ t)) 0 + steps_left g block l d (drop (length (first_line (b ∷ t))) (b ∷ t))) (sym (take-first (b ∷ t)));
   }
 
   -- nothing is left behind the text

@@ -29,7 +29,7 @@ more : (i : ℕ) → suc i ≡ i + 1
 more i = omega arith
 
 -- the cells that are left, from the next one on
-cells_split : (items : List Cell) (i : ℕ) (cell : Cell) → i < length items → cell ≡ slice_index_or items i cell
+pub cells_split : (items : List Cell) (i : ℕ) (cell : Cell) → i < length items → cell ≡ slice_index_or items i cell
     → map cell_block (map cell_of (drop i items)) ≡ cell_block (cell_of cell) ∷ map cell_block (map cell_of (drop (i + 1) items))
 cells_split items i cell h e = ap (λ (cs : List Cell). map cell_block (map cell_of cs))
     (drop-cons items i cell h ∙ ap (λ (c : Cell). c ∷ drop (suc i) items) (sym e) ∙ ap (λ n. cell ∷ drop n items) (more i))
@@ -44,6 +44,9 @@ module _ (rows : List Row) (docs : Bool) (levels language : ℕ) (text : List �
   -- the cells read so far and those that are left are all
   abbrev pub AreOnTheWay : Blobs → List Cell → ℕ → Type 0
   AreOnTheWay blobs items i = gathered read blobs (map cell_block (map cell_of (drop i items))) ≡ gathered read none (cell_blocks rows language text)
+
+  pub cells_begun : (items : List Cell) → map cell_of items ≡ notebook_cells rows language text → map cell_block (map cell_of items) ≡ cell_blocks rows language text
+  cells_begun items e = ap (map cell_block) e
 
   pub begun : (items : List Cell) → map cell_of items ≡ notebook_cells rows language text → AreOnTheWay none items 0
   begun items e = ap (λ cs. gathered read none (map cell_block cs)) (from_first items ∙ e)

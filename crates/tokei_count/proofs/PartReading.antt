@@ -1,11 +1,17 @@
 -- What the walk of a part comes to.
-use Rattle.std.proofs.Common.{◌≡◌, ℕ, ◌+◌, ◌-◌, ◌<◌, ◌≤◌, Bool, List, [], ◌∷◌, length, take, drop, Option, None, Some, refl, sym, ◌∙◌, ap, subst, arith, length-drop}
+use Rattle.std.proofs.Common.{◌≡◌, ℕ, suc, zero, ◌+◌, ◌-◌, ◌<◌, ◌≤◌, ◌==◌, Bool, true, false, cond, List, [], ◌∷◌, ◌++◌, length, take, drop, Option, None, Some, refl, sym, ◌∙◌, ap, subst, arith, length-drop}
 use Rattle.std.proofs.lemmas.List.{drop-drop}
+use Rattle.tokei_table.specs.Openers.{openers}
 use Rattle.tokei_table.specs.Row.{Row}
 use Rattle.tokei_table.specs.Sound.{IsSound}
 use Rattle.tokei_count.specs.Items.{Block}
 use Rattle.tokei_count.specs.Choice.{choice}
 use Rattle.tokei_count.specs.Choice.Choice.{child_opens}
+use Rattle.tokei_count.specs.Items.{Mode}
+use Rattle.tokei_count.specs.Lines.{first_line, line_len}
+use Rattle.tokei_count.specs.Glance.{is_walked}
+use Rattle.tokei_count.specs.Steps.{walked_choices}
+use Rattle.tokei_count.specs.Stretches.{stretches}
 use Rattle.tokei_count.specs.Modes.{Mark, Chain, innermost}
 use Rattle.tokei_count.specs.Modes.Mark.{child_at}
 use Rattle.tokei_count.specs.Parts.{cut}
@@ -13,6 +19,16 @@ use Rattle.tokei_count.specs.PlainReading.{tally, children}
 use Rattle.tokei_count.specs.Progress.{marks_ahead, Leads, OpensChild, FitsBlocks, IsPart, ReadsChild}
 use Rattle.tokei_count.proofs.Ahead.{marks_ahead-child}
 use Rattle.tokei_count.proofs.Fits.{choice_fits}
+
+-- bytes of a line, and the line from there on, are the line
+line_from : (n : ℕ) (t : List ℕ) → n ≤ line_len t → take n t ++ first_line (drop n t) ≡ first_line t
+line_from zero t h = refl
+line_from (suc n) [] h = absurd (omega arith)
+line_from (suc n) (b ∷ t) h = by_test (b == 10) h (line_from n t)
+  where
+    by_test : (x : Bool) → suc n ≤ cond x 0 (suc (line_len t)) → (n ≤ line_len t → take n t ++ first_line (drop n t) ≡ first_line t) → b ∷ (take n t ++ first_line (drop n t)) ≡ cond x (b ∷ []) (b ∷ first_line t)
+    by_test true h f = absurd (omega arith)
+    by_test false h f = ap (λ w. b ∷ w) (f (omega arith))
 
 module _ (g : Row) (block : ℕ → List ℕ → Option Block) (fit : FitsBlocks block) (s : IsSound g) (l : ℕ) (docs : Bool) where
   -- a child that is chosen is the block that opens there
@@ -28,9 +44,13 @@ module _ (g : Row) (block : ℕ → List ℕ → Option Block) (fit : FitsBlocks
   unfolding cut
   cut_child c w k ms = refl
 
+  stretches_child : (m : Mode) (s : List ℕ) (n : ℕ) (t : List ℕ) (k : Block) (ms : List Mark) → stretches m s n t (child_at k ∷ ms) ≡ record { begun = m; reach = s ++ first_line t; size = length s; choices = n } ∷ stretches None [] 0 (drop k.size t) ms
+  unfolding stretches
+  stretches_child m s n t k ms = refl
+
   -- behind n bytes of its line a child opens
-  child_read : (c d e : Chain) (n : ℕ) (k : Block) (t : List ℕ) → n ≤ length t → Leads g block l c n e t → OpensChild g block l e k d (drop n t) → ReadsChild g block l docs c n k d t
-  child_read c d e n k t within h o =
+  child_read : (c d e : Chain) (n : ℕ) (k : Block) (t : List ℕ) → n ≤ length t → (j : ℕ) → Leads g block l c n j e t → OpensChild g block l e k d (drop n t) → ReadsChild g block l docs c n j k d t
+  child_read c d e n k t within j h o =
       let is_block : block l (drop n t) ≡ Some k = block_opens k e d (drop n t) o in
       let some : 0 < k.size = fit.some l (drop n t) k is_block in
       let fits : k.size ≤ length (drop n t) = fit.within l (drop n t) k is_block in
@@ -42,20 +62,24 @@ module _ (g : Row) (block : ℕ → List ℕ → Option Block) (fit : FitsBlocks
       marks-opening k (drop n t) o.chosen some fits
       ∙ ap (λ m. child_at k ∷ marks_ahead g block m [] (drop k.size (drop n t))) len
       ∙ ap (λ w. child_at k ∷ marks_ahead g block (length t - (n + k.size)) [] w) rest in
-      let lead : Leads g block l c n [] t = subst (λ (f : Chain). Leads g block l c n f t) o.before h in
+      let none : 0 + j ≡ j = omega arith in
+      let lead : Leads g block l c n j [] t = subst (λ (f : Chain). Leads g block l c n j f t) o.before h in
       record {
         some = some;
         within = omega (arith, fits, left, within);
         plain = o.after;
         counts = ap (tally g docs) (lead.same (innermost c) []) ∙ ap (λ ms. tally g docs (cut (innermost c) (take n t) None ms)) opened ∙ cut_child c (take n t) k after;
         kids = lead.kids ∙ ap children opened;
+        steps = ap (walked_choices (openers g)) (lead.choices (innermost c) [] 0 ∙ ap (λ x. stretches (innermost c) (take n t) x (drop n t) (marks_ahead g block l [] (drop n t))) none ∙ ap (stretches (innermost c) (take n t) j (drop n t)) opened ∙ stretches_child (innermost c) (take n t) j (drop n t) k after)
+            ∙ ap (λ w. cond (is_walked (openers g) (innermost c) w) j 0 + walked_choices (openers g) (stretches None [] 0 (drop k.size (drop n t)) after)) (line_from n t lead.within)
+            ∙ ap (λ w. cond (is_walked (openers g) (innermost c) (first_line t)) j 0 + walked_choices (openers g) (stretches None [] 0 w after)) rest;
       }
 
   -- the same by places of the text
-  pub child_read_at : (c d e : Chain) (start at : ℕ) (k : Block) (text : List ℕ) → IsPart text l start at → Leads g block l c (at - start) e (drop start text) → OpensChild g block l e k d (drop at text)
-      → ReadsChild g block l docs c (at - start) k d (drop start text)
-  child_read_at c d e start at k text p h o =
+  pub child_read_at : (c d e : Chain) (start at : ℕ) (k : Block) (text : List ℕ) → IsPart text l start at → (j : ℕ) → Leads g block l c (at - start) j e (drop start text) → OpensChild g block l e k d (drop at text)
+      → ReadsChild g block l docs c (at - start) j k d (drop start text)
+  child_read_at c d e start at k text p j h o =
       let left : length (drop start text) ≡ length text - start = length-drop start text in
       let place : start + (at - start) ≡ at = omega (arith, p.low) in
       let there : drop (at - start) (drop start text) ≡ drop at text = drop-drop (at - start) start text ∙ ap (λ m. drop m text) place in
-      child_read c d e (at - start) k (drop start text) (omega (arith, left, p.low, p.high)) h (subst (OpensChild g block l e k d) (sym there) o)
+      child_read c d e (at - start) k (drop start text) (omega (arith, left, p.low, p.high)) j h (subst (OpensChild g block l e k d) (sym there) o)

@@ -24,18 +24,18 @@ module _ (g : Row) (block : ℕ → List ℕ → Option Block) (l : ℕ) (s : Is
 
   -- what a pop leaves
   pub closer_pops : (xs new : List Code.Enclosure) (x : Code.Enclosure) (u : List ℕ) → xs ≡ new ++ x ∷ [] → IsClosable (chain_of xs) → 0 < line_len u
-      → at_stack xs u ≡ closes → Goes g block l (chain_of xs) (length x.closer.now) (chain_of new) u
+      → at_stack xs u ≡ closes → Goes g block l (chain_of xs) (length x.closer.now) 1 (chain_of new) u
   closer_pops xs new x u is k some e =
       let chain_is : chain_of xs ≡ enclosure_of x ∷ chain_of new = ap chain_of is ∙ chain_of-push new x in
-      subst (λ (c : Chain). Goes g block l c (length x.closer.now) (chain_of new) u) (sym chain_is)
+      subst (λ (c : Chain). Goes g block l c (length x.closer.now) 1 (chain_of new) u) (sym chain_is)
       (goes_closer g block l s o (enclosure_of x) (chain_of new) u (subst IsClosable chain_is k) some (subst (λ (c : Chain). choice g (innermost c) (block l u) u ≡ closes) chain_is e))
 
   -- what a push leaves
   pub opener_pushes : (xs new : List Code.Enclosure) (x : Code.Enclosure) (q : Kind) (p : Pair) (u : List ℕ) → new ≡ xs ++ x ∷ [] → enclosure_of x ≡ enclosure q p → IsClosable (chain_of xs) → 0 < line_len u
-      → at_stack xs u ≡ opens q p → Goes g block l (chain_of xs) (length p.opener) (chain_of new) u
+      → at_stack xs u ≡ opens q p → Goes g block l (chain_of xs) (length p.opener) 1 (chain_of new) u
   opener_pushes xs new x q p u is same k some e =
       let chain_is : chain_of new ≡ enclosure q p ∷ chain_of xs = ap chain_of is ∙ chain_of-push xs x ∙ ap (λ h. h ∷ chain_of xs) same in
-      subst (λ (c : Chain). Goes g block l (chain_of xs) (length p.opener) c u) (sym chain_is) (goes_opener g block l s o (chain_of xs) u k some q p e)
+      subst (λ (c : Chain). Goes g block l (chain_of xs) (length p.opener) 1 c u) (sym chain_is) (goes_opener g block l s o (chain_of xs) u k some q p e)
 
   pub no_pop : (xs : List Code.Enclosure) (u : List ℕ) → xs ≡ [] → at_stack xs u ≡ closes → ⊥
   no_pop xs u is e = no_closer g block l s o u (subst (λ (w : List Code.Enclosure). at_stack w u ≡ closes) is e)

@@ -101,7 +101,7 @@ module _ (rows : List Row) (docs : Bool) (levels language : ℕ) (text : List �
 
   module _ (own : Counts) (blobs : Blobs) (l : ℕ) (c : Chain) (rest : List ℕ) (u : IsUnderWay own blobs l c rest) where
     -- a line
-    pub line_read : (n : ℕ) (class : Class) (d : Chain) → ReadsLine g block l docs c n class d rest → IsUnderWay (plus own (one_of class)) blobs l d (drop n rest)
+    pub line_read : (n : ℕ) (class : Class) (d : Chain) → {j : ℕ} → ReadsLine g block l docs c n j class d rest → IsUnderWay (plus own (one_of class)) blobs l d (drop n rest)
     line_read n class d r =
         let left : Counts = counts_left g block l docs d (drop n rest) in
         let kids : List Block = children_left g block l d (drop n rest) in
@@ -114,7 +114,7 @@ module _ (rows : List Row) (docs : Bool) (levels language : ℕ) (text : List �
         }
 
     -- a child
-    module _ (n : ℕ) (k : Block) (d : Chain) (r : ReadsChild g block l docs c n k d rest) where
+    module _ (n j : ℕ) (k : Block) (d : Chain) (r : ReadsChild g block l docs c n j k d rest) where
       abbrev l' : ℕ
       l' = length rest - (n + k.size)
 
@@ -154,7 +154,7 @@ module _ (rows : List Row) (docs : Bool) (levels language : ℕ) (text : List �
           let same : plus (plus own k.share) (plus (counts_left g block l' docs [] behind) (shares (children_left g block l' [] behind))) ≡ all_counts = child_read.counts in
           first_fits (plus own k.share) (plus (counts_left g block l' docs [] behind) (shares (children_left g block l' [] behind))) (subst CountsFit (sym same) h.0)
 
-    pub line_fits : (n : ℕ) (class : Class) (d : Chain) → ReadsLine g block l docs c n class d rest → is_notebook g ≡ false → Fits whole → CountsFit (plus own (one_of class))
+    pub line_fits : (n : ℕ) (class : Class) (d : Chain) → {j : ℕ} → ReadsLine g block l docs c n j class d rest → is_notebook g ≡ false → Fits whole → CountsFit (plus own (one_of class))
     line_fits n class d r i f =
         let h : Fits (node all_counts (gathered read none all_kids)) = subst Fits (reading-lines i) f in
         let v = line_read n class d r in

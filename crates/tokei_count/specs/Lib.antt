@@ -19,3 +19,8 @@ pub mod NotebookCells
 pub mod Openings
 pub mod ReadingOf
 pub mod Walked
+pub mod Glance
+pub mod Stretches
+pub mod Steps
+pub mod GlanceLaw
+pub mod Glanced

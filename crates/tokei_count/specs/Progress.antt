@@ -1,14 +1,18 @@
 -- How the reading of a text goes on from a place: what is left of it, given the items that enclose the place.
 use Rattle.std.specs.Prelude.{◌≡◌, ℕ, ◌+◌, ◌-◌, ◌<◌, ◌≤◌, Bool, true, cond, List, [], ◌∷◌, ◌++◌, take, drop, length, Option, None, Some, ⊤}
+use Rattle.tokei_table.specs.Openers.{openers}
 use Rattle.tokei_table.specs.Row.{Row}
 use Rattle.tokei_table.specs.Sound.{is_token}
-use Rattle.tokei_count.specs.Lines.{line_len}
+use Rattle.tokei_count.specs.Lines.{first_line, line_len}
 use Rattle.tokei_count.specs.Items.{Block}
 use Rattle.tokei_count.specs.Choice.{choice}
 use Rattle.tokei_count.specs.Choice.Choice.{child_opens}
 use Rattle.tokei_count.specs.Derivation.{Body, derive}
 use Rattle.tokei_count.specs.Modes.{Mark, Chain, innermost, marks, closing}
 use Rattle.tokei_count.specs.Parts.{cut, part_front}
+use Rattle.tokei_count.specs.Glance.{is_walked}
+use Rattle.tokei_count.specs.Stretches.{stretches}
+use Rattle.tokei_count.specs.Steps.{walked_choices}
 use Rattle.tokei_stats.specs.Statistics.{Counts, plus}
 use Rattle.tokei_count.specs.PlainReading.{tally, one_of, children}
 use Rattle.tokei_count.specs.declared.class.Class.{Class}
@@ -23,11 +27,17 @@ module _ (r : Row) (block : ℕ → List ℕ → Option Block) where
   marks_ahead l [] t = marks [] (body l [] t).items
   marks_ahead l (e ∷ c) t = marks (e ∷ c) (body l (e ∷ c) t).items ++ cond (body l (e ∷ c) t).closed (closing (e ∷ c) c e.closer ++ marks_ahead l c (drop (body l (e ∷ c) t).taken t)) []
 
-  -- through n bytes of its line the text leads from the items of c to those of d
-  pub record Leads (l : ℕ) (c : Chain) (n : ℕ) (d : Chain) (t : List ℕ) : Type 0 where
+  -- Through n bytes of its line the text leads from the items of c to those of d. Among the n bytes and a newline behind
+  -- them that no choice of its own takes, j choices begin more than where one takes it.
+  pub record Leads (l : ℕ) (c : Chain) (n j : ℕ) (d : Chain) (t : List ℕ) : Type 0 where
     pub within : n ≤ line_len t
     pub same : (m : _) (s : List ℕ) → cut m s (innermost c) (marks_ahead l c t) ≡ cut m (s ++ take n t) (innermost d) (marks_ahead l d (drop n t))
     pub kids : children (marks_ahead l c t) ≡ children (marks_ahead l d (drop n t))
+    pub choices : (m : _) (s : List ℕ) (k : ℕ) → stretches m s k t (marks_ahead l c t) ≡ stretches m (s ++ take n t) (k + j) (drop n t) (marks_ahead l d (drop n t))
+
+-- how many newlines end the first line: one, or none where the text ends it
+abbrev pub newlines : List ℕ → ℕ
+newlines t = length (first_line t) - line_len t
 
 -- no child opens at a newline
 pub record OpensInLine (block : ℕ → List ℕ → Option Block) : Type 0 where
@@ -39,9 +49,10 @@ IsClosable [] = ⊤
 IsClosable (e ∷ c) = (is_token e.closer ≡ true) × IsClosable c
 
 module _ (r : Row) (block : ℕ → List ℕ → Option Block) (l : ℕ) where
-  -- one choice leads on from c to d: n bytes, at least one, all of one line
-  pub record Goes (c : Chain) (n : ℕ) (d : Chain) (t : List ℕ) : Type 0 where
-    pub leads : Leads r block l c n d t
+  -- one choice leads on from c to d: n bytes, at least one, all of one line; j is 1, or for a choice that takes the
+  -- newline behind them too 0
+  pub record Goes (c : Chain) (n j : ℕ) (d : Chain) (t : List ℕ) : Type 0 where
+    pub leads : Leads r block l c n j d t
     pub some : 0 < n
     pub within : n ≤ line_len t
     pub closable : IsClosable d
@@ -54,21 +65,28 @@ module _ (r : Row) (block : ℕ → List ℕ → Option Block) (l : ℕ) where
   abbrev pub children_left : Chain → List ℕ → List Block
   children_left c t = children (marks_ahead r block l c t)
 
-  -- One line: n bytes. It is one part, of this class, and the text goes on from d.
-  pub record ReadsLine (docs : Bool) (c : Chain) (n : ℕ) (class : Class) (d : Chain) (t : List ℕ) : Type 0 where
+  -- the choices that are left in walked parts, given these items
+  abbrev pub steps_left : Chain → List ℕ → ℕ
+  steps_left c t = walked_choices (openers r) (stretches (innermost c) [] 0 t (marks_ahead r block l c t))
+
+  -- One line: n bytes. It is one part, of this class, in which j choices begin, and the text goes on from d.
+  pub record ReadsLine (docs : Bool) (c : Chain) (n j : ℕ) (class : Class) (d : Chain) (t : List ℕ) : Type 0 where
     pub some : 0 < n
     pub within : n ≤ length t
     pub closable : IsClosable d
     pub counts : counts_left docs c t ≡ plus (one_of class) (counts_left docs d (drop n t))
     pub kids : children_left c t ≡ children_left d (drop n t)
+    pub steps : steps_left c t ≡ cond (is_walked (openers r) (innermost c) (take n t)) j 0 + steps_left d (drop n t)
 
-  -- A part that a child breaks off: the child k opens behind n bytes, in plain text, and the text goes on behind it.
-  pub record ReadsChild (docs : Bool) (c : Chain) (n : ℕ) (k : Block) (d : Chain) (t : List ℕ) : Type 0 where
+  -- A part that a child breaks off: the child k opens behind n bytes, at which j choices begin, in plain text, and the
+  -- text goes on behind it.
+  pub record ReadsChild (docs : Bool) (c : Chain) (n j : ℕ) (k : Block) (d : Chain) (t : List ℕ) : Type 0 where
     pub some : 0 < k.size
     pub within : n + k.size ≤ length t
     pub plain : d ≡ []
     pub counts : counts_left docs c t ≡ tally r docs (cut None [] None (marks_ahead r block (length t - (n + k.size)) [] (drop (n + k.size) t)))
     pub kids : children_left c t ≡ k ∷ children (marks_ahead r block (length t - (n + k.size)) [] (drop (n + k.size) t))
+    pub steps : steps_left c t ≡ cond (is_walked (openers r) (innermost c) (first_line t)) j 0 + walked_choices (openers r) (stretches None [] 0 (drop (n + k.size) t) (marks_ahead r block (length t - (n + k.size)) [] (drop (n + k.size) t)))
 
   -- the child k opens at the front of the text, which is plain there
   pub record OpensChild (c : Chain) (k : Block) (d : Chain) (t : List ℕ) : Type 0 where

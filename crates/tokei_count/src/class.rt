@@ -1,7 +1,10 @@
 //! What a part counts as.
-ghost use Rattle.std.specs.Prelude.{◌≡◌};
+ghost use Rattle.std.specs.Prelude.{◌≡◌, Bool, None, false};
+ghost use Rattle.tokei_table.specs.Openers.{openers};
+ghost use Rattle.tokei_table.specs.Sound.{IsSound};
 ghost use Rattle.tokei_table.specs.RowOf.{pairs_of, row_of};
 ghost use Rattle.tokei_count.specs.Class.{encloses, opens_with, class_of, head_of, in_comment, in_string, in_doc_string, ends_opened};
+ghost use Rattle.tokei_count.specs.Glance.{holds};
 ghost use Rattle.tokei_count.specs.Seen.{mode_of};
 
 use crate::choice::{any_begins, begins};
@@ -127,6 +130,22 @@ pub fn class_of(
         || encloses(&syntax.nested_comments, trimmed)
         || ends_opened(syntax, head, ended)
     {
+        return Class::Comment;
+    }
+    Class::Code
+}
+
+/// The class of a part that begins and ends plain and holds no opener.
+pub(crate) fn glance_class(syntax: &Syntax, bytes: &[u8]) -> Class
+    requires sound { IsSound (row_of syntax.now) }
+    requires quiet { holds (openers (row_of syntax.now)) bytes.now ≡ false }
+    ensures { (docs : Bool) → result ≡ class_of (row_of syntax.now) docs
+        (record { begun = None; bytes = bytes.now; ended = None }) }
+{
+    if is_blank_text(bytes) {
+        return Class::Blank;
+    }
+    if syntax.literate || any_begins(&syntax.line_comment, head_of(syntax, bytes)) {
         return Class::Comment;
     }
     Class::Code

@@ -1,5 +1,5 @@
 //! What the texts of a table's languages are counted with.
-ghost use Rattle.std.specs.Prelude.{◌≡◌, ◌<◌, length, IfOk};
+ghost use Rattle.std.specs.Prelude.{◌≡◌, ◌<◌, length, map, IfOk};
 ghost use Rattle.tokei_table.specs.Lookups.{row_at};
 ghost use Rattle.tokei_table.specs.Openers.{openers};
 
@@ -50,5 +50,12 @@ impl<'a> Counter<'a> {
         ensures { result.now ≡ openers (row_at self.entry.now language) }
     {
         &self.matchers[language.index()]
+    }
+
+    /// The matchers of each language of the table, in its order.
+    pub(crate) fn matchers_by_language(&self) -> &[SharedMatchers]
+        ensures { result.now ≡ map openers self.entry.now }
+    {
+        &self.matchers
     }
 }

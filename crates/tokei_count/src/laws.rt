@@ -1,7 +1,13 @@
 //! Laws of the definitions alone: each is the contract of a function that does nothing.
+ghost use Rattle.tokei_count.specs.GlanceLaw.{PlainPartsStayPlain};
 ghost use Rattle.tokei_count.specs.Spelling.{ItemsSpellText};
 
 /// The items of a text spell it.
 pub fn items_spell_text()
     ensures { ItemsSpellText }
+{}
+
+/// A part that begins plain and holds no opener ends plain, and no child opens in it.
+pub fn plain_parts_stay_plain()
+    ensures { PlainPartsStayPlain }
 {}

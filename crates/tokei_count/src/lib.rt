@@ -9,6 +9,7 @@ mod class;
 mod config;
 mod counter;
 mod file_context;
+mod glance;
 mod items;
 pub mod laws;
 mod matchers;
@@ -22,7 +23,7 @@ pub use config::CountConfig;
 pub use counter::Counter;
 pub use file_context::{FileContext, LanguageContext};
 pub use matchers::SharedMatchers;
-pub use parse::{parse_from_slice, parse_from_str};
+pub use parse::{parse_counted, parse_from_slice, parse_from_str};
 pub use plain_reading::count_plain;
 pub use tokei_embedding::{
     Capture, HtmlLike, SimpleCapture, end_lf, end_markdown, end_script, end_style, end_template,

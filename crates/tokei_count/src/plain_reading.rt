@@ -1,6 +1,8 @@
 //! The plain reading of a text: each part is walked.
-ghost use Rattle.std.specs.Prelude.{◌≡◌, ◌+◌, ◌-◌, ◌<◌, true, Some, is_some, drop, length, cond, IfOk, IsErrOf};
+ghost use Rattle.std.specs.Prelude.{◌≡◌, ◌+◌, ◌-◌, ◌<◌, true, false, None, Some, is_some, drop, length, map, cond, IfOk, IsErrOf, IsOk};
+ghost use Rattle.tokei_table.specs.FirstOpener.{first_opener};
 ghost use Rattle.tokei_table.specs.Lookups.{row_at};
+ghost use Rattle.tokei_table.specs.Openers.{openers};
 ghost use Rattle.tokei_table.specs.RowOf.{row_of};
 ghost use Rattle.tokei_embedding.specs.DocComments.{doc_text};
 ghost use Rattle.tokei_count.specs.Languages.{is_notebook};
@@ -11,11 +13,14 @@ ghost use Rattle.tokei_count.specs.PlainReading.{reading, outermost_levels, one_
 ghost use Rattle.tokei_count.specs.Progress.{IsPart};
 ghost use Rattle.tokei_count.specs.ReadingOf.{blocks_of};
 ghost use Rattle.tokei_count.specs.Seen.{block_of, docs_of};
+ghost use Rattle.tokei_count.specs.Steps.{steps, capped};
 ghost use Rattle.tokei_stats.specs.Seen.{stats_of, sums_of};
 
-use crate::class::Class;
+use crate::class::{Class, glance_class};
 use crate::config::CountConfig;
 use crate::counter::Counter;
+use crate::glance::glance;
+use crate::matchers::SharedMatchers;
 use crate::openings::{Block, block_at};
 use crate::reading::Reading;
 use crate::walk::{PartEnd, line_len, read_part};
@@ -28,7 +33,22 @@ use tokei_table::ext::trim;
 use tokei_table::{LanguageTable, LanguageType, Syntax};
 
 /// How deep children of the outermost text are read.
-const OUTERMOST_LEVELS: u32 = 50;
+pub(crate) const OUTERMOST_LEVELS: u32 = 50;
+
+/// A text that was read.
+#[derive(Drop)]
+pub(crate) struct TextRead {
+    pub stats: CodeStats,
+    /// How many choices were made in it and in its children, or the greatest number where they were more.
+    pub steps: u128,
+}
+
+/// The sum, or the greatest number where that is less.
+fn capped_sum(a: u128, b: u128) -> u128
+    ensures { result ≡ capped (a + b) }
+{
+    a.saturating_add(b)
+}
 
 /// Whether texts of the language are notebooks.
 fn is_notebook(syntax: &Syntax) -> bool
@@ -92,46 +112,71 @@ fn counted_as(class: Class) -> Sums
 fn read_notebook(
     alloc: Global,
     table: &LanguageTable,
+    matchers: &[SharedMatchers],
     language: LanguageType,
     text: &[u8],
     docs: bool,
     levels: u32,
-) -> Result<CodeStats, CountError>
+    skips: bool,
+) -> Result<TextRead, CountError>
     requires known { language < length table.now }
+    requires indexed { matchers.now ≡ map openers table.now }
     requires notebook { is_notebook (row_at table.now language) ≡ true }
-    ensures reads { IfOk result (λ s. stats_of s ≡ reading (languages_of table.now) docs levels language text.now) }
+    ensures reads { IfOk result (λ r. stats_of r.stats ≡ reading (languages_of table.now) docs levels language text.now) }
+    ensures steps { skips ≡ true → IfOk result (λ r. r.steps ≡ capped (steps (languages_of table.now) levels language text.now)) }
     ensures overflow { IsErrOf result CountError.Overflow → ¬ Fits (reading (languages_of table.now) docs levels language text.now) }
 {
     if levels == 0 {
-        return Ok(CodeStats::new(alloc));
+        let stats = CodeStats::new(alloc);
+        return Ok(TextRead { stats, steps: 0 });
     }
     let cells = cells(alloc, table, language, text)?;
     let mut blobs = BTreeMap::new(alloc);
+    let mut steps = 0;
     for cell in cells.as_slice() {
-        let stats = read_text(alloc, table, cell.language, &cell.source, docs, levels - 1)?;
-        add_blob(&mut blobs, cell.language, &stats)?;
+        let read = read_text(
+            alloc,
+            table,
+            matchers,
+            cell.language,
+            &cell.source,
+            docs,
+            levels - 1,
+            skips,
+        )?;
+        add_blob(&mut blobs, cell.language, &read.stats)?;
+        steps = capped_sum(steps, read.steps);
     }
-    Ok(CodeStats::assembled(alloc, Sums::new(), blobs))
+    let stats = CodeStats::assembled(alloc, Sums::new(), blobs);
+    Ok(TextRead { stats, steps })
 }
 
-/// The statistics of a text, part by part; `docs` says whether doc strings are treated as comments. Its children are
-/// read with one level less.
+/// The statistics of a text, part by part; `docs` says whether doc strings are treated as comments, `skips` whether parts
+/// that begin plain and hold no opener are decided at a glance, by the matchers of the table's languages, or walked as
+/// the others are. Its children are read with one level less.
 #[cycle(read_text)]
 pub(crate) fn read_text(
     alloc: Global,
     table: &LanguageTable,
+    matchers: &[SharedMatchers],
     language: LanguageType,
     text: &[u8],
     docs: bool,
     levels: u32,
-) -> Result<CodeStats, CountError>
-    requires { language < length table.now }
-    ensures reads { IfOk result (λ s. stats_of s ≡ reading (languages_of table.now) docs levels language text.now) }
+    skips: bool,
+) -> Result<TextRead, CountError>
+    requires known { language < length table.now }
+    requires indexed { matchers.now ≡ map openers table.now }
+    ensures reads { IfOk result (λ r. stats_of r.stats ≡ reading (languages_of table.now) docs levels language text.now) }
+    ensures steps { skips ≡ true → IfOk result (λ r. r.steps ≡ capped (steps (languages_of table.now) levels language text.now)) }
+    ensures quiet { skips ≡ true → is_notebook (row_at table.now language) ≡ false → first_opener (openers (row_at table.now language)) text.now ≡ None → IsOk result }
     ensures overflow { IsErrOf result CountError.Overflow → ¬ Fits (reading (languages_of table.now) docs levels language text.now) }
 {
-    if is_notebook(table.syntax(language)) {
-        return read_notebook(alloc, table, language, text, docs, levels);
+    let syntax = table.syntax(language);
+    if is_notebook(syntax) {
+        return read_notebook(alloc, table, matchers, language, text, docs, levels, skips);
     }
+    let openers = &matchers[language.index()];
     let reading = Reading {
         table,
         language,
@@ -142,10 +187,20 @@ pub(crate) fn read_text(
     let mut stack = Vec::new(alloc);
     let mut own = Sums::new();
     let mut blobs = BTreeMap::new(alloc);
+    let mut own_steps = 0;
+    let mut inner_steps = 0;
     let mut left = text.len();
+    let mut next = 0;
     let mut start = 0;
     while start < text.len() {
-        match read_part(&reading, &mut stack, left, start)? {
+        if let Some(stop) = glance(skips, openers, &stack, text, start, &mut next) {
+            own = own.plus(counted_as(glance_class(syntax, &text[start..stop])))?;
+            start = stop;
+            continue;
+        }
+        let part = read_part(&reading, &mut stack, left, start)?;
+        own_steps += part.steps;
+        match part.end {
             PartEnd::Line(class, end) => {
                 own = own.plus(counted_as(class))?;
                 start = end;
@@ -159,14 +214,26 @@ pub(crate) fn read_text(
                 } else {
                     child.contents
                 };
-                let stats = read_text(alloc, table, child.language, inner, docs, levels - 1)?;
-                add_blob(&mut blobs, child.language, &stats)?;
+                let read = read_text(
+                    alloc,
+                    table,
+                    matchers,
+                    child.language,
+                    inner,
+                    docs,
+                    levels - 1,
+                    skips,
+                )?;
+                add_blob(&mut blobs, child.language, &read.stats)?;
+                inner_steps = capped_sum(inner_steps, read.steps);
                 start = at + child.size;
                 left = text.len() - start;
             }
         }
     }
-    Ok(CodeStats::assembled(alloc, own, blobs))
+    let stats = CodeStats::assembled(alloc, own, blobs);
+    let steps = capped_sum(inner_steps, own_steps as u128);
+    Ok(TextRead { stats, steps })
 }
 
 /// Counts a text in a language of the counter's table by the plain reading, in which no line is skipped.
@@ -185,12 +252,15 @@ pub fn count_plain(
     ensures overflow { IsErrOf result CountError.Overflow → ¬ Fits (reading (languages_of counter.now) (docs_of config.now) outermost_levels language text.now) }
 {
     let docs = config.treat_doc_strings_as_comments.unwrap_or(false);
-    read_text(
+    let read = read_text(
         alloc,
         counter.table(),
+        counter.matchers_by_language(),
         language,
         text,
         docs,
         OUTERMOST_LEVELS,
-    )
+        false,
+    )?;
+    Ok(read.stats)
 }

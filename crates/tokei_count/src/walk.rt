@@ -12,7 +12,7 @@ ghost use Rattle.tokei_count.specs.Walked.{Steps, Reads};
 use crate::choice::{Choice, choose};
 use crate::class::{Class, class_of};
 use crate::items::Enclosure;
-use crate::openings::block_at;
+use crate::openings::{block_at, line_end};
 use crate::reading::Reading;
 use memchr::memchr;
 use std::alloc::AllocError;
@@ -22,6 +22,8 @@ use std::alloc::AllocError;
 pub(crate) enum Step {
     /// It takes so many bytes of its line.
     On(usize),
+    /// It takes the rest of its line, and the newline there.
+    Rest,
     /// A child opens.
     Child,
 }
@@ -33,6 +35,14 @@ pub(crate) enum PartEnd {
     Line(Class, usize),
     /// A child opens at that place and breaks it off.
     Broken(usize),
+}
+
+/// A part that was walked.
+#[derive(Clone, Copy)]
+pub(crate) struct PartRead {
+    pub end: PartEnd,
+    /// How many choices were made in it, that of the child that breaks it off too.
+    pub steps: usize,
 }
 
 /// The innermost of the items, which is the last of the stack.
@@ -53,8 +63,20 @@ pub(crate) fn line_len(text: &[u8]) -> usize
     }
 }
 
-/// The choice at the place `at` of a part that began at `start`, whose line goes to `end`; `left` bytes were left behind
-/// the last child.
+/// Whether a child can open at the place `at` of a part that began at `start`, whose line goes to `end`, before its
+/// newline; `left` bytes were left behind the last child.
+fn opens_at(reading: &Reading, left: usize, start: usize, at: usize, end: usize) -> bool
+    requires known { reading.now.language < length reading.now.table.now }
+    requires part { IsPart reading.now.text.now left start at }
+    requires line { end ≡ at + line_len (drop at reading.now.text.now) }
+    requires some { at < length reading.now.text.now }
+    ensures { result ≡ is_some (blocks_of reading.now left (drop at reading.now.text.now)) }
+{
+    at < end && block_at(reading, left, start, at, end).is_some()
+}
+
+/// The choice at the place `at` of a part that began at `start`, whose line goes to `end`, before its newline; `left`
+/// bytes were left behind the last child. It is one step.
 fn choice_at<'a>(
     reading: &Reading<'a>,
     stack: &[Enclosure<'a>],
@@ -62,15 +84,19 @@ fn choice_at<'a>(
     start: usize,
     at: usize,
     end: usize,
+    steps: &mut usize,
 ) -> Choice<'a>
     requires known { reading.now.language < length reading.now.table.now }
     requires part { IsPart reading.now.text.now left start at }
     requires line { end ≡ at + line_len (drop at reading.now.text.now) }
-    requires some { at < end }
+    requires some { at < length reading.now.text.now }
+    requires room { steps.old < length reading.now.text.now }
+    ensures counted { steps.new ≡ steps.old + 1 }
     ensures child { result ≡ Choice.Child → is_some (blocks_of reading.now left (drop at reading.now.text.now)) ≡ true }
     ensures choice { choice_of (blocks_of reading.now left (drop at reading.now.text.now)) result ≡ choice (row_in reading.now) (innermost (chain_of stack.now)) (blocks_of reading.now left (drop at reading.now.text.now)) (drop at reading.now.text.now) }
 {
-    let opens = block_at(reading, left, start, at, end).is_some();
+    *steps += 1;
+    let opens = opens_at(reading, left, start, at, end);
     choose(
         reading.syntax(),
         innermost(stack),
@@ -87,6 +113,7 @@ fn take_choice<'a>(
     start: usize,
     at: usize,
     end: usize,
+    steps: &mut usize,
 ) -> Result<Step, AllocError>
     requires sound { IsSound (row_in reading.now) }
     requires closable { IsClosable (chain_of stack.old.items) }
@@ -94,9 +121,11 @@ fn take_choice<'a>(
     requires part { IsPart reading.now.text.now left start at }
     requires line { end ≡ at + line_len (drop at reading.now.text.now) }
     requires some { at < end }
-    ensures { IfOk result (λ s. Steps (row_in reading.now) (blocks_of reading.now) left (chain_of stack.old.items) (chain_of stack.new.items) reading.now.text.now at s) }
+    requires room { steps.old < length reading.now.text.now }
+    ensures counted { steps.new ≡ steps.old + 1 }
+    ensures takes { IfOk result (λ s. Steps (row_in reading.now) (blocks_of reading.now) left (chain_of stack.old.items) (chain_of stack.new.items) reading.now.text.now at s) }
 {
-    match choice_at(reading, stack, left, start, at, end) {
+    match choice_at(reading, stack, left, start, at, end, steps) {
         Choice::Closer => match stack.pop() {
             Some(enclosure) => Ok(Step::On(enclosure.closer.len())),
             None => unreachable!(),
@@ -113,7 +142,7 @@ fn take_choice<'a>(
             let opener = pair.0.as_bytes();
             Ok(Step::On(opener.len()))
         }
-        Choice::LineComment => Ok(Step::On(end - at)),
+        Choice::LineComment => Ok(Step::Rest),
         Choice::Byte => Ok(Step::On(1)),
     }
 }
@@ -124,7 +153,7 @@ pub(crate) fn read_part<'a>(
     stack: &mut Vec<Enclosure<'a>>,
     left: usize,
     start: usize,
-) -> Result<PartEnd, AllocError>
+) -> Result<PartRead, AllocError>
     requires sound { IsSound (row_in reading.now) }
     requires closable { IsClosable (chain_of stack.old.items) }
     requires known { reading.now.language < length reading.now.table.now }
@@ -134,18 +163,22 @@ pub(crate) fn read_part<'a>(
 {
     let begun = innermost(stack);
     let end = start + line_len(&reading.text[start..]);
+    let stop = line_end(reading.text, end);
+    let mut steps = 0;
     let mut at = start;
     while at < end {
-        match take_choice(reading, stack, left, start, at, end)? {
+        match take_choice(reading, stack, left, start, at, end, &mut steps)? {
             Step::On(len) => at += len,
-            Step::Child => return Ok(PartEnd::Broken(at)),
+            Step::Rest => at = stop,
+            Step::Child => {
+                let end = PartEnd::Broken(at);
+                return Ok(PartRead { end, steps });
+            }
         }
     }
-    let stop = if end < reading.text.len() {
-        end + 1
-    } else {
-        end
-    };
+    if at < stop {
+        let _newline = choice_at(reading, stack, left, start, at, end, &mut steps);
+    }
     let line = &reading.text[start..stop];
     let class = class_of(
         reading.syntax(),
@@ -154,5 +187,6 @@ pub(crate) fn read_part<'a>(
         line,
         innermost(stack),
     );
-    Ok(PartEnd::Line(class, stop))
+    let end = PartEnd::Line(class, stop);
+    Ok(PartRead { end, steps })
 }

@@ -4,49 +4,128 @@ use Rattle.tokei_count.specs.Class.{class_of}
 use Rattle.tokei_count.specs.Lines.{first_line, line_len}
 use Rattle.tokei_count.specs.Modes.{innermost}
 use Rattle.tokei_count.specs.ReadingOf.{row_in, blocks_of}
-use Rattle.tokei_count.specs.Progress.{Leads, Goes, IsPart, ReadsLine}
+use Rattle.tokei_count.specs.Progress.{Leads, Goes, IsPart, IsClosable, ReadsLine, newlines}
 use Rattle.tokei_count.specs.Seen.{chain_of, mode_of}
 use Rattle.tokei_count.specs.Walked.{Steps}
-use Rattle.tokei_count.specs.declared.walk.Step.TheVariants.{Child}
+use Rattle.tokei_count.specs.declared.walk.Step.TheVariants.{Rest, Child}
 use Rattle.tokei_count.proofs.Blocks.{blocks_fit}
-use Rattle.tokei_count.proofs.Leading.{lead_on, line_len-drop, rest_is}
-use Rattle.tokei_count.proofs.Lines.{line_reads, length-whole, length-broken, take-first}
+use Rattle.tokei_count.proofs.Leading.{lead_none, lead_on, line_len-drop, rest_is}
+use Rattle.tokei_count.proofs.LineEnds.{end_is, ends_more, first_line-low, first_line-high}
+use Rattle.tokei_count.proofs.Lines.{line_reads, take-first}
 use Rattle.tokei_count.proofs.PartFronts.{part_on, part_anew}
 use Rattle.tokei_count.proofs.PartReading.{block_opens, child_read_at}
+use Rattle.tokei_count.proofs.Walking.{led_on}
+use Rattle.tokei_count.proofs.walk.read_part.Invariants.{reached}
 use Rattle.tokei_count.proofs.walk.read_part.Goals as goal
-use Rattle.tokei_count.proofs.walk.read_part.Goals.{then-end-reading, else-end-reading}
+use Rattle.tokei_count.proofs.walk.read_part.Goals.{then-at-stop, else-at-stop}
+
+pub loop-at-init : goal.loop-at-init
+loop-at-init c =
+    let text : List ℕ = c.args.reading.now.text.now in
+    let u : List ℕ = drop c.args.start text in
+    let end : ℕ = c.args.start + c.line_len.result in
+    let at_end : c.line_len.result ≡ line_len (drop c.args.start text) = c.line_len.ensures.value ∙ ap line_len (rest_is c.args.start text) in
+    let stop_is : c.line_end-stop.result ≡ c.args.start + length (first_line (drop c.args.start text)) = end_is text c.args.start end c.line_end-stop.result c.requires.part.high (ap (λ n. c.args.start + n) at_end) c.line_end-stop.ensures.more c.line_end-stop.ensures.last in
+    let here : c.args.start ≡ reached c.args.start end = omega arith in
+    let none : 0 ≡ reached c.args.start end - c.args.start = omega arith in
+    let no_steps : 0 ≡ 0 - (c.args.start - end) = omega arith in
+    record {
+      leads = subst (λ n. Leads (row_in c.args.reading.now) (blocks_of c.args.reading.now) c.args.left (chain_of c.args.stack.now.items) n (0 - (c.args.start - end)) (chain_of c.args.stack.now.items) u) none
+          (subst (λ j. Leads (row_in c.args.reading.now) (blocks_of c.args.reading.now) c.args.left (chain_of c.args.stack.now.items) 0 j (chain_of c.args.stack.now.items) u) no_steps
+          (lead_none (row_in c.args.reading.now) (blocks_of c.args.reading.now) c.args.left (chain_of c.args.stack.now.items) u));
+      closable = c.requires.closable;
+      part = subst (IsPart text c.args.left c.args.start) here c.requires.part;
+      line = ap (λ n. c.args.start + n) at_end ∙ ap (λ m. m + line_len (drop m text)) here;
+      few = omega arith;
+      begun = omega arith;
+      high = omega (arith, stop_is);
+    }
+
+pub loop-at-preserved-in-On : goal.loop-at-preserved-in-On
+loop-at-preserved-in-On c =
+    let text : List ℕ = c.args.reading.now.text.now in
+    let end : ℕ = c.args.start + c.line_len.result in
+    let at : ℕ = c.loop-at.at in
+    let next : ℕ = at + c.in-On.len in
+    let here : reached at end ≡ at = omega (arith, c.loop-at-test.true) in
+    let at_end : c.line_len.result ≡ line_len (drop c.args.start text) = c.line_len.ensures.value ∙ ap line_len (rest_is c.args.start text) in
+    let stop_is : c.line_end-stop.result ≡ c.args.start + length (first_line (drop c.args.start text)) = end_is text c.args.start end c.line_end-stop.result c.requires.part.high (ap (λ n. c.args.start + n) at_end) c.line_end-stop.ensures.more c.line_end-stop.ensures.last in
+    let goes : Goes (row_in c.args.reading.now) (blocks_of c.args.reading.now) c.args.left (chain_of c.loop-at.stack.items) c.in-On.len 1 (chain_of c.take_choice.new.stack.items) (drop at text) =
+    subst (Steps (row_in c.args.reading.now) (blocks_of c.args.reading.now) c.args.left (chain_of c.loop-at.stack.items) (chain_of c.take_choice.new.stack.items) text at) c.in-On.is c.in_ok-len.ensures.takes in
+    let part : IsPart text c.args.left c.args.start at = subst (IsPart text c.args.left c.args.start) here c.loop-at.invariant.part in
+    let line : end ≡ at + line_len (drop at text) = c.loop-at.invariant.line ∙ ap (λ m. m + line_len (drop m text)) here in
+    let behind : next ≤ end = omega (arith, line, goes.within) in
+    let there : reached next end ≡ next = omega (arith, behind) in
+    let line_is : line_len (drop c.in-On.len (drop at text)) ≡ line_len (drop at text) - c.in-On.len = line_len-drop c.in-On.len (drop at text) goes.within in
+    let rest_is : drop c.in-On.len (drop at text) ≡ drop next text = drop-drop c.in-On.len at text in
+    let line_next : end ≡ next + line_len (drop next text) = omega (arith, line, goes.within, line_is, ap line_len rest_is) in
+    record {
+      leads = led_on (row_in c.args.reading.now) (blocks_of c.args.reading.now) c.args.left text c.args.start at (chain_of c.args.stack.now.items) (chain_of c.loop-at.stack.items) (chain_of c.take_choice.new.stack.items)
+          (reached next end - c.args.start) (c.loop-at.steps - (at - end)) c.in-On.len 1 (c.take_choice.new.steps - (next - end)) part.low
+          (subst (λ m. Leads (row_in c.args.reading.now) (blocks_of c.args.reading.now) c.args.left (chain_of c.args.stack.now.items) (m - c.args.start) (c.loop-at.steps - (at - end)) (chain_of c.loop-at.stack.items) (drop c.args.start text)) here c.loop-at.invariant.leads)
+          goes.leads (omega (arith, there)) (omega (arith, behind, c.loop-at-test.true, c.in_ok-len.ensures.counted));
+      closable = goes.closable;
+      part = subst (IsPart text c.args.left c.args.start) (sym there) (part_on text c.args.left c.args.start at c.in-On.len part goes.within);
+      line = line_next ∙ ap (λ m. m + line_len (drop m text)) (sym there);
+      few = omega (arith, c.loop-at.invariant.few, goes.some, part.low, c.in_ok-len.ensures.counted);
+      begun = omega (arith, behind);
+      high = omega (arith, behind, stop_is, at_end, first_line-low (drop c.args.start text));
+    }
 
 pub loop-at-preserved : goal.loop-at-preserved
 loop-at-preserved c =
     let text : List ℕ = c.args.reading.now.text.now in
-    let goes : Goes (row_in c.args.reading.now) (blocks_of c.args.reading.now) c.args.left (chain_of c.loop-at.stack.items) c.in-On.len (chain_of c.take_choice.new.stack.items) (drop c.loop-at.at text) =
-    subst (Steps (row_in c.args.reading.now) (blocks_of c.args.reading.now) c.args.left (chain_of c.loop-at.stack.items) (chain_of c.take_choice.new.stack.items) text c.loop-at.at) c.in-On.is c.in_ok-len.ensures in
-    let n : ℕ = c.loop-at.at - c.args.start in
-    let at_is : c.args.start + n ≡ c.loop-at.at = omega (arith, c.loop-at.invariant.part.low) in
-    let there : drop c.loop-at.at text ≡ drop n (drop c.args.start text) = sym (drop-drop n c.args.start text ∙ ap (λ m. drop m text) at_is) in
-    let sum_is : n + c.in-On.len ≡ c.loop-at.at + c.in-On.len - c.args.start = omega (arith, c.loop-at.invariant.part.low) in
-    let line_is : line_len (drop c.in-On.len (drop c.loop-at.at text)) ≡ line_len (drop c.loop-at.at text) - c.in-On.len = line_len-drop c.in-On.len (drop c.loop-at.at text) goes.within in
-    let rest_is : drop c.in-On.len (drop c.loop-at.at text) ≡ drop (c.loop-at.at + c.in-On.len) text = drop-drop c.in-On.len c.loop-at.at text in
+    let end : ℕ = c.args.start + c.line_len.result in
+    let stop : ℕ = c.line_end-stop.result in
+    let at : ℕ = c.loop-at.at in
+    let here : reached at end ≡ at = omega (arith, c.loop-at-test.true) in
+    let at_end : c.line_len.result ≡ line_len (drop c.args.start text) = c.line_len.ensures.value ∙ ap line_len (rest_is c.args.start text) in
+    let stop_is : c.line_end-stop.result ≡ c.args.start + length (first_line (drop c.args.start text)) = end_is text c.args.start end c.line_end-stop.result c.requires.part.high (ap (λ n. c.args.start + n) at_end) c.line_end-stop.ensures.more c.line_end-stop.ensures.last in
+    let goes : Goes (row_in c.args.reading.now) (blocks_of c.args.reading.now) c.args.left (chain_of c.loop-at.stack.items) (line_len (drop at text)) (1 - newlines (drop at text)) (chain_of c.take_choice.new.stack.items) (drop at text) =
+    subst (Steps (row_in c.args.reading.now) (blocks_of c.args.reading.now) c.args.left (chain_of c.loop-at.stack.items) (chain_of c.take_choice.new.stack.items) text at) c.in-Rest.is c.in_ok-len.ensures.takes in
+    let part : IsPart text c.args.left c.args.start at = subst (IsPart text c.args.left c.args.start) here c.loop-at.invariant.part in
+    let line : end ≡ at + line_len (drop at text) = c.loop-at.invariant.line ∙ ap (λ m. m + line_len (drop m text)) here in
+    let stop_here : stop ≡ at + length (first_line (drop at text)) = end_is text at end stop part.high line c.line_end-stop.ensures.more c.line_end-stop.ensures.last in
+    let low : line_len (drop at text) ≤ length (first_line (drop at text)) = first_line-low (drop at text) in
+    let high : length (first_line (drop at text)) ≤ line_len (drop at text) + 1 = first_line-high (drop at text) in
+    let there : reached stop end ≡ at + line_len (drop at text) = omega (arith, line, stop_here, low) in
+    let line_next : line_len (drop (at + line_len (drop at text)) text) ≡ 0 = ap line_len (sym (drop-drop (line_len (drop at text)) at text)) ∙ line_len-drop (line_len (drop at text)) (drop at text) (omega arith) ∙ omega arith in
     record {
-      leads = subst (λ m. Leads (row_in c.args.reading.now) (blocks_of c.args.reading.now) c.args.left (chain_of c.args.stack.now.items) m (chain_of c.take_choice.new.stack.items) (drop c.args.start text)) sum_is
-          (lead_on (row_in c.args.reading.now) (blocks_of c.args.reading.now) c.args.left (chain_of c.args.stack.now.items) (chain_of c.loop-at.stack.items) (chain_of c.take_choice.new.stack.items) n c.in-On.len (drop c.args.start text) c.loop-at.invariant.leads
-          (subst (λ u. Leads (row_in c.args.reading.now) (blocks_of c.args.reading.now) c.args.left (chain_of c.loop-at.stack.items) c.in-On.len (chain_of c.take_choice.new.stack.items) u) there goes.leads));
+      leads = led_on (row_in c.args.reading.now) (blocks_of c.args.reading.now) c.args.left text c.args.start at (chain_of c.args.stack.now.items) (chain_of c.loop-at.stack.items) (chain_of c.take_choice.new.stack.items)
+          (reached stop end - c.args.start) (c.loop-at.steps - (at - end)) (line_len (drop at text)) (1 - newlines (drop at text)) (c.take_choice.new.steps - (stop - end)) part.low
+          (subst (λ m. Leads (row_in c.args.reading.now) (blocks_of c.args.reading.now) c.args.left (chain_of c.args.stack.now.items) (m - c.args.start) (c.loop-at.steps - (at - end)) (chain_of c.loop-at.stack.items) (drop c.args.start text)) here c.loop-at.invariant.leads)
+          goes.leads (omega (arith, there)) (omega (arith, line, stop_here, low, high, c.loop-at-test.true, c.in_ok-len.ensures.counted));
       closable = goes.closable;
-      part = part_on text c.args.left c.args.start c.loop-at.at c.in-On.len c.loop-at.invariant.part goes.within;
-      line = rw (sym rest_is, line_is) (omega (arith, c.loop-at.invariant.line, goes.within));
+      part = subst (IsPart text c.args.left c.args.start) (sym there) (part_on text c.args.left c.args.start at (line_len (drop at text)) part goes.within);
+      line = line ∙ omega (arith, line_next) ∙ ap (λ m. m + line_len (drop m text)) (sym there);
+      few = omega (arith, c.loop-at.invariant.few, goes.some, part.low, c.in_ok-len.ensures.counted, stop_here, low);
+      begun = omega (arith, line, stop_here, high, c.in_ok-len.ensures.counted);
+      high = omega arith;
     }
 
 pub returns-in-Child : goal.returns-in-Child
 returns-in-Child c =
     let text : List ℕ = c.args.reading.now.text.now in
-    let opens : Steps (row_in c.args.reading.now) (blocks_of c.args.reading.now) c.args.left (chain_of c.loop-at.stack.items) (chain_of c.take_choice.new.stack.items) text c.loop-at.at Child = subst (Steps (row_in c.args.reading.now) (blocks_of c.args.reading.now) c.args.left (chain_of c.loop-at.stack.items) (chain_of c.take_choice.new.stack.items) text c.loop-at.at) c.in-Child.is c.in_ok-len.ensures in (
+    let end : ℕ = c.args.start + c.line_len.result in
+    let at : ℕ = c.loop-at.at in
+    let here : reached at end ≡ at = omega (arith, c.loop-at-test.true) in
+    let part : IsPart text c.args.left c.args.start at = subst (IsPart text c.args.left c.args.start) here c.loop-at.invariant.part in
+    let line : end ≡ at + line_len (drop at text) = c.loop-at.invariant.line ∙ ap (λ m. m + line_len (drop m text)) here in
+    let steps_are : c.loop-at.steps - (at - end) ≡ c.loop-at.steps = omega (arith, c.loop-at-test.true) in
+    let leads : Leads (row_in c.args.reading.now) (blocks_of c.args.reading.now) c.args.left (chain_of c.args.stack.now.items) (at - c.args.start) c.loop-at.steps (chain_of c.loop-at.stack.items) (drop c.args.start text) =
+    subst (λ j. Leads (row_in c.args.reading.now) (blocks_of c.args.reading.now) c.args.left (chain_of c.args.stack.now.items) (at - c.args.start) j (chain_of c.loop-at.stack.items) (drop c.args.start text)) steps_are
+    (subst (λ m. Leads (row_in c.args.reading.now) (blocks_of c.args.reading.now) c.args.left (chain_of c.args.stack.now.items) (m - c.args.start) (c.loop-at.steps - (at - end)) (chain_of c.loop-at.stack.items) (drop c.args.start text)) here c.loop-at.invariant.leads) in
+    let opens : Steps (row_in c.args.reading.now) (blocks_of c.args.reading.now) c.args.left (chain_of c.loop-at.stack.items) (chain_of c.take_choice.new.stack.items) text at Child = subst (Steps (row_in c.args.reading.now) (blocks_of c.args.reading.now) c.args.left (chain_of c.loop-at.stack.items) (chain_of c.take_choice.new.stack.items) text at) c.in-Child.is c.in_ok-len.ensures.takes in (
       opens.0,
+      c.loop-at.steps,
+      c.in_ok-len.ensures.counted,
       record {
-        part = c.loop-at.invariant.part;
-        opens = block_opens (row_in c.args.reading.now) (blocks_of c.args.reading.now) (blocks_fit c.args.reading.now) c.requires.sound c.args.left c.args.reading.now.docs opens.0 (chain_of c.loop-at.stack.items) (chain_of c.take_choice.new.stack.items) (drop c.loop-at.at text) opens.1;
+        part = part;
+        few = c.loop-at.invariant.few;
+        opens = block_opens (row_in c.args.reading.now) (blocks_of c.args.reading.now) (blocks_fit c.args.reading.now) c.requires.sound c.args.left c.args.reading.now.docs opens.0 (chain_of c.loop-at.stack.items) (chain_of c.take_choice.new.stack.items) (drop at text) opens.1;
         reads = child_read_at (row_in c.args.reading.now) (blocks_of c.args.reading.now) (blocks_fit c.args.reading.now) c.requires.sound c.args.left c.args.reading.now.docs
-            (chain_of c.args.stack.now.items) (chain_of c.take_choice.new.stack.items) (chain_of c.loop-at.stack.items) c.args.start c.loop-at.at opens.0 text c.loop-at.invariant.part c.loop-at.invariant.leads opens.1;
-        inside = omega (arith, c.loop-at.invariant.line, c.loop-at-test.true);
+            (chain_of c.args.stack.now.items) (chain_of c.take_choice.new.stack.items) (chain_of c.loop-at.stack.items) c.args.start at opens.0 text part c.loop-at.steps leads opens.1;
+        inside = omega (arith, line, c.loop-at-test.true);
       },
     )
 
@@ -54,36 +133,47 @@ pub returns : goal.returns
 returns c =
     let text : List ℕ = c.args.reading.now.text.now in
     let u : List ℕ = drop c.args.start text in
+    let end : ℕ = c.args.start + c.line_len.result in
+    let stop : ℕ = c.line_end-stop.result in
+    let at : ℕ = c.loop-at.at in
     let len_is : length u ≡ length text - c.args.start = length-drop c.args.start text in
-    let at_end : c.line_len.result ≡ line_len u = c.line_len.ensures.value ∙ ap line_len (rest_is c.args.start text) in
-    let done : c.loop-at.at ≡ c.args.start + c.line_len.result = omega (arith, c.loop-at.invariant.line, c.loop-at-test.false) in
-    let none_left : line_len (drop c.loop-at.at text) ≡ 0 = omega (arith, c.loop-at.invariant.line, done) in
-    let stop_is : c.if-end-reading.stop ≡ c.args.start + length (first_line u) = elim c.if-end-reading.branch [
-      | then-end-reading w ↦ w.stop-is ∙ omega (arith, length-broken u (omega (arith, at_end, w.if-end-reading.true, len_is)), at_end)
-      | else-end-reading w ↦ w.stop-is ∙ omega (arith, length-whole u (omega (arith, at_end, w.if-end-reading.false, len_is)), at_end)
-    ] in
-    let behind : c.if-end-reading.stop < length text → c.loop-at.at + 1 ≡ c.if-end-reading.stop = elim c.if-end-reading.branch [
-      | then-end-reading w ↦ λ more. omega (arith, w.stop-is, done)
-      | else-end-reading w ↦ λ more. absurd (omega (arith, w.stop-is, w.if-end-reading.false, more))
-    ] in
-    let first_is : c.if-end-reading.stop - c.args.start ≡ length (first_line u) = omega (arith, stop_is) in
-    let bytes_is : take (c.if-end-reading.stop - c.args.start) u ≡ first_line u = ap (λ n. take n u) first_is ∙ take-first u in
+    let at_end : c.line_len.result ≡ line_len (drop c.args.start text) = c.line_len.ensures.value ∙ ap line_len (rest_is c.args.start text) in
+    let stop_is : c.line_end-stop.result ≡ c.args.start + length (first_line (drop c.args.start text)) = end_is text c.args.start end c.line_end-stop.result c.requires.part.high (ap (λ n. c.args.start + n) at_end) c.line_end-stop.ensures.more c.line_end-stop.ensures.last in
+    let low : line_len u ≤ length (first_line u) = first_line-low u in
+    let high : length (first_line u) ≤ line_len u + 1 = first_line-high u in
+    let here : reached at end ≡ end = omega (arith, c.loop-at-test.false) in
+    let part : IsPart text c.args.left c.args.start end = subst (IsPart text c.args.left c.args.start) here c.loop-at.invariant.part in
+    let line : end ≡ end + line_len (drop end text) = c.loop-at.invariant.line ∙ ap (λ m. m + line_len (drop m text)) here in
+    let none_left : line_len (drop end text) ≡ 0 = omega (arith, line) in
+    let first_is : stop - c.args.start ≡ length (first_line u) = omega (arith, stop_is) in
+    let bytes_is : take (stop - c.args.start) u ≡ first_line u = ap (λ n. take n u) first_is ∙ take-first u in
     let begun_is = c.innermost-begun.ensures ∙ ap (λ w. innermost (chain_of w)) c.deref.ensures.value in
     let ended_is = c.innermost.ensures ∙ ap (λ w. innermost (chain_of w)) c.deref-2.ensures.value in
     let class_is : c.class_of-class.result ≡ class_of (row_in c.args.reading.now) c.args.reading.now.docs (record { begun = innermost (chain_of c.args.stack.now.items); bytes = first_line u; ended = innermost (chain_of c.loop-at.stack.items) }) =
-    c.class_of-class.ensures ∙ ap (λ g. class_of g c.args.reading.now.docs (record { begun = mode_of c.innermost-begun.result; bytes = take (c.if-end-reading.stop - c.args.start) u; ended = mode_of c.innermost.result })) c.syntax.ensures.row
-    ∙ ap (λ b. class_of (row_in c.args.reading.now) c.args.reading.now.docs (record { begun = b; bytes = take (c.if-end-reading.stop - c.args.start) u; ended = mode_of c.innermost.result })) begun_is
+    c.class_of-class.ensures ∙ ap (λ g. class_of g c.args.reading.now.docs (record { begun = mode_of c.innermost-begun.result; bytes = take (stop - c.args.start) u; ended = mode_of c.innermost.result })) c.syntax.ensures.row
+    ∙ ap (λ b. class_of (row_in c.args.reading.now) c.args.reading.now.docs (record { begun = b; bytes = take (stop - c.args.start) u; ended = mode_of c.innermost.result })) begun_is
     ∙ ap (λ b. class_of (row_in c.args.reading.now) c.args.reading.now.docs (record { begun = innermost (chain_of c.args.stack.now.items); bytes = b; ended = mode_of c.innermost.result })) bytes_is
     ∙ ap (λ b. class_of (row_in c.args.reading.now) c.args.reading.now.docs (record { begun = innermost (chain_of c.args.stack.now.items); bytes = first_line u; ended = b })) ended_is in
-    let whole : c.loop-at.at - c.args.start ≡ line_len u = omega (arith, done, at_end) in
-    let leads : Leads (row_in c.args.reading.now) (blocks_of c.args.reading.now) c.args.left (chain_of c.args.stack.now.items) (line_len u) (chain_of c.loop-at.stack.items) u =
-    subst (λ n. Leads (row_in c.args.reading.now) (blocks_of c.args.reading.now) c.args.left (chain_of c.args.stack.now.items) n (chain_of c.loop-at.stack.items) u) whole c.loop-at.invariant.leads in
-    let line : ReadsLine (row_in c.args.reading.now) (blocks_of c.args.reading.now) c.args.left c.args.reading.now.docs (chain_of c.args.stack.now.items) (length (first_line u)) c.class_of-class.result (chain_of c.loop-at.stack.items) u =
+    let whole : reached at end - c.args.start ≡ line_len u = omega (arith, here, at_end) in
+    let steps_are : c.if-at-stop.steps ≡ c.loop-at.steps - (at - end) + newlines u = elim c.if-at-stop.branch [
+      | then-at-stop w ↦ w.steps-is ∙ w.choice_at-newline.ensures.counted ∙ omega (arith, w.if-at-stop.true, c.loop-at-test.false, stop_is, at_end, low, high)
+      | else-at-stop w ↦ w.steps-is ∙ omega (arith, w.if-at-stop.false, c.loop-at-test.false, stop_is, at_end, low, high, c.loop-at.invariant.begun, c.loop-at.invariant.high)
+    ] in
+    let few : c.if-at-stop.steps ≤ stop - c.args.start = elim c.if-at-stop.branch [
+      | then-at-stop w ↦ omega (arith, w.steps-is, w.choice_at-newline.ensures.counted, w.if-at-stop.true, c.loop-at.invariant.few, c.loop-at-test.false)
+      | else-at-stop w ↦ omega (arith, w.steps-is, c.loop-at.invariant.few, c.loop-at.invariant.high)
+    ] in
+    let leads : Leads (row_in c.args.reading.now) (blocks_of c.args.reading.now) c.args.left (chain_of c.args.stack.now.items) (line_len u) (c.loop-at.steps - (at - end)) (chain_of c.loop-at.stack.items) u =
+    subst (λ n. Leads (row_in c.args.reading.now) (blocks_of c.args.reading.now) c.args.left (chain_of c.args.stack.now.items) n (c.loop-at.steps - (at - end)) (chain_of c.loop-at.stack.items) u) whole c.loop-at.invariant.leads in
+    let line_read : ReadsLine (row_in c.args.reading.now) (blocks_of c.args.reading.now) c.args.left c.args.reading.now.docs (chain_of c.args.stack.now.items) (length (first_line u)) (c.loop-at.steps - (at - end) + newlines u) c.class_of-class.result (chain_of c.loop-at.stack.items) u =
     line_reads (row_in c.args.reading.now) (blocks_of c.args.reading.now) c.args.left c.args.reading.now.docs (chain_of c.args.stack.now.items) (chain_of c.loop-at.stack.items) u c.class_of-class.result
-    c.requires.sound (blocks_fit c.args.reading.now).in_line c.loop-at.invariant.closable (omega (arith, len_is, c.requires.some)) leads class_is in
-    let ends : c.if-end-reading.stop ≤ length text = omega (arith, stop_is, line.within, len_is, c.requires.some) in (
-      omega (arith, stop_is, line.some),
-      ends,
-      λ more. subst (λ m. IsPart text c.args.left m m) (omega (arith, behind more)) (part_anew text c.args.left c.args.start c.loop-at.at c.loop-at.invariant.part none_left (omega (arith, c.loop-at.invariant.part.high, behind more, more))),
-      subst (λ n. ReadsLine (row_in c.args.reading.now) (blocks_of c.args.reading.now) c.args.left c.args.reading.now.docs (chain_of c.args.stack.now.items) n c.class_of-class.result (chain_of c.loop-at.stack.items) u) (sym first_is) line,
+    c.requires.sound (blocks_fit c.args.reading.now).in_line c.loop-at.invariant.closable (omega (arith, len_is, c.requires.some)) (c.loop-at.steps - (at - end)) leads class_is in
+    let more_is : stop < length text → stop ≡ end + 1 = λ more. ends_more (length text) end stop part.high c.line_end-stop.ensures.more c.line_end-stop.ensures.last more in (
+      omega (arith, stop_is, line_read.some),
+      c.line_end-stop.ensures.within,
+      λ more. subst (λ m. IsPart text c.args.left m m) (sym (more_is more)) (part_anew text c.args.left c.args.start end part none_left (omega (arith, part.high, more_is more, more))),
+      few,
+      stop_is,
+      subst (λ j. ReadsLine (row_in c.args.reading.now) (blocks_of c.args.reading.now) c.args.left c.args.reading.now.docs (chain_of c.args.stack.now.items) (stop - c.args.start) j c.class_of-class.result (chain_of c.loop-at.stack.items) u) (sym steps_are)
+          (subst (λ n. ReadsLine (row_in c.args.reading.now) (blocks_of c.args.reading.now) c.args.left c.args.reading.now.docs (chain_of c.args.stack.now.items) n (c.loop-at.steps - (at - end) + newlines u) c.class_of-class.result (chain_of c.loop-at.stack.items) u) (sym first_is) line_read),
     )

@@ -19,47 +19,46 @@ use Rattle.tokei_count.proofs.walk.take_choice.Goals as goal
 abbrev at_stack : Reading → ℕ → List ℕ → List Code.Enclosure → Choice
 at_stack r l u es = choice (row_in r) (innermost (chain_of es)) (blocks_of r l u) u
 
-pub returns-in-Byte : goal.returns-in-Byte
-returns-in-Byte c =
+pub returns-in-Byte-clause-takes : goal.returns-in-Byte-clause-takes
+returns-in-Byte-clause-takes c =
     let u : List ℕ = drop c.args.at c.args.reading.now.text.now in
     let here : at_stack c.args.reading.now c.args.left u c.args.stack.now.items ≡ takes_byte = sym (ap (at_stack c.args.reading.now c.args.left u) c.deref.ensures.value) ∙ sym c.choice_at.ensures.choice ∙ ap (choice_of (blocks_of c.args.reading.now c.args.left u)) c.in-Byte.is in
     let some : 0 < line_len u = omega (arith, c.requires.some, c.requires.line) in
     let calm : OpensInLine (blocks_of c.args.reading.now) = (blocks_fit c.args.reading.now).in_line in
     goes_byte (row_in c.args.reading.now) (blocks_of c.args.reading.now) c.args.left c.requires.sound calm (chain_of c.args.stack.now.items) u c.requires.closable some here
 
-pub returns-in-Escape : goal.returns-in-Escape
-returns-in-Escape c =
+pub returns-in-Escape-clause-takes : goal.returns-in-Escape-clause-takes
+returns-in-Escape-clause-takes c =
     let u : List ℕ = drop c.args.at c.args.reading.now.text.now in
     let here : at_stack c.args.reading.now c.args.left u c.args.stack.now.items ≡ escapes = sym (ap (at_stack c.args.reading.now c.args.left u) c.deref.ensures.value) ∙ sym c.choice_at.ensures.choice ∙ ap (choice_of (blocks_of c.args.reading.now c.args.left u)) c.in-Escape.is in
     let some : 0 < line_len u = omega (arith, c.requires.some, c.requires.line) in
     let calm : OpensInLine (blocks_of c.args.reading.now) = (blocks_fit c.args.reading.now).in_line in
     goes_escape (row_in c.args.reading.now) (blocks_of c.args.reading.now) c.args.left c.requires.sound calm (chain_of c.args.stack.now.items) u c.requires.closable some here
 
-pub returns-in-LineComment : goal.returns-in-LineComment
-returns-in-LineComment c =
+pub returns-in-LineComment-clause-takes : goal.returns-in-LineComment-clause-takes
+returns-in-LineComment-clause-takes c =
     let u : List ℕ = drop c.args.at c.args.reading.now.text.now in
     let here : at_stack c.args.reading.now c.args.left u c.args.stack.now.items ≡ begins_line_comment = sym (ap (at_stack c.args.reading.now c.args.left u) c.deref.ensures.value) ∙ sym c.choice_at.ensures.choice ∙ ap (choice_of (blocks_of c.args.reading.now c.args.left u)) c.in-LineComment.is in
     let some : 0 < line_len u = omega (arith, c.requires.some, c.requires.line) in
     let calm : OpensInLine (blocks_of c.args.reading.now) = (blocks_fit c.args.reading.now).in_line in
-    let n : line_len u ≡ c.args.end - c.args.at = omega (arith, c.requires.line) in
-    subst (λ n. Goes (row_in c.args.reading.now) (blocks_of c.args.reading.now) c.args.left (chain_of c.args.stack.now.items) n (chain_of c.args.stack.now.items) u) n (goes_rest (row_in c.args.reading.now) (blocks_of c.args.reading.now) c.args.left c.requires.sound calm (chain_of c.args.stack.now.items) u c.requires.closable some here)
+    goes_rest (row_in c.args.reading.now) (blocks_of c.args.reading.now) c.args.left c.requires.sound calm (chain_of c.args.stack.now.items) u c.requires.closable some here
 
-pub returns-in-PassedOpener : goal.returns-in-PassedOpener
-returns-in-PassedOpener c =
+pub returns-in-PassedOpener-clause-takes : goal.returns-in-PassedOpener-clause-takes
+returns-in-PassedOpener-clause-takes c =
     let u : List ℕ = drop c.args.at c.args.reading.now.text.now in
     let here : at_stack c.args.reading.now c.args.left u c.args.stack.now.items ≡ passes_over (pair_of c.in-PassedOpener.pair.now) = sym (ap (at_stack c.args.reading.now c.args.left u) c.deref.ensures.value) ∙ sym c.choice_at.ensures.choice ∙ ap (choice_of (blocks_of c.args.reading.now c.args.left u)) c.in-PassedOpener.is in
     let some : 0 < line_len u = omega (arith, c.requires.some, c.requires.line) in
     let calm : OpensInLine (blocks_of c.args.reading.now) = (blocks_fit c.args.reading.now).in_line in
     rw c.as_bytes-opener-in-PassedOpener.ensures.value (goes_pass (row_in c.args.reading.now) (blocks_of c.args.reading.now) c.args.left c.requires.sound calm (chain_of c.args.stack.now.items) u c.requires.closable some (pair_of c.in-PassedOpener.pair.now) here)
 
-pub returns-in-Child : goal.returns-in-Child
-returns-in-Child c =
+pub returns-in-Child-clause-takes : goal.returns-in-Child-clause-takes
+returns-in-Child-clause-takes c =
     let u : List ℕ = drop c.args.at c.args.reading.now.text.now in
     let here : at_stack c.args.reading.now c.args.left u c.args.stack.now.items ≡ or_else (blocks_of c.args.reading.now c.args.left u) child_opens takes_byte = sym (ap (at_stack c.args.reading.now c.args.left u) c.deref.ensures.value) ∙ sym c.choice_at.ensures.choice ∙ ap (choice_of (blocks_of c.args.reading.now c.args.left u)) c.in-Child.is in
     child_opens-plain (row_in c.args.reading.now) (blocks_of c.args.reading.now) c.args.left c.args.stack.now.items u (c.choice_at.ensures.child c.in-Child.is) here
 
-pub returns-in_ok-push-in-Opener : goal.returns-in_ok-push-in-Opener
-returns-in_ok-push-in-Opener c =
+pub returns-in_ok-push-in-Opener-clause-takes : goal.returns-in_ok-push-in-Opener-clause-takes
+returns-in_ok-push-in-Opener-clause-takes c =
     let u : List ℕ = drop c.args.at c.args.reading.now.text.now in
     let here : at_stack c.args.reading.now c.args.left u c.args.stack.now.items ≡ opens c.in-Opener.kind (pair_of c.in-Opener.pair.now) = sym (ap (at_stack c.args.reading.now c.args.left u) c.deref.ensures.value) ∙ sym c.choice_at.ensures.choice ∙ ap (choice_of (blocks_of c.args.reading.now c.args.left u)) c.in-Opener.is in
     let some : 0 < line_len u = omega (arith, c.requires.some, c.requires.line) in
@@ -67,8 +66,8 @@ returns-in_ok-push-in-Opener c =
     rw c.as_bytes-opener.ensures.value (opener_pushes (row_in c.args.reading.now) (blocks_of c.args.reading.now) c.args.left c.requires.sound calm c.args.stack.now.items c.push.new.self.items (record { kind = c.in-Opener.kind; closer = c.as_bytes-closer.result }) c.in-Opener.kind (pair_of c.in-Opener.pair.now) u
     c.in_ok-push-in-Opener.ensures.items (ap (λ w. record { kind = c.in-Opener.kind; closer = w }) c.as_bytes-closer.ensures.value) c.requires.closable some here)
 
-pub returns-in-Some : goal.returns-in-Some
-returns-in-Some c =
+pub returns-in-Some-clause-takes : goal.returns-in-Some-clause-takes
+returns-in-Some-clause-takes c =
     let u : List ℕ = drop c.args.at c.args.reading.now.text.now in
     let here : at_stack c.args.reading.now c.args.left u c.args.stack.now.items ≡ closes = sym (ap (at_stack c.args.reading.now c.args.left u) c.deref.ensures.value) ∙ sym c.choice_at.ensures.choice ∙ ap (choice_of (blocks_of c.args.reading.now c.args.left u)) c.in-Closer.is in
     let some : 0 < line_len u = omega (arith, c.requires.some, c.requires.line) in

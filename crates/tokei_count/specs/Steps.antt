@@ -1,0 +1,70 @@
+-- The steps of a text: how many choices a reading has to make that looks at a part only where it must.
+use Rattle.std.specs.Prelude.{ℕ, zero, suc, ◌+◌, Bool, cond, List, [], ◌∷◌, length, Option, None, nat_le}
+use Rattle.tokei_table.specs.Openers.{openers}
+use Rattle.tokei_table.specs.Row.{Row}
+use Rattle.tokei_count.specs.Derivation.{items_of}
+use Rattle.tokei_count.specs.Glance.{is_walked}
+use Rattle.tokei_count.specs.Items.{Block, Items}
+use Rattle.tokei_count.specs.Languages.{Languages, is_notebook}
+use Rattle.tokei_count.specs.Modes.{marks}
+use Rattle.tokei_count.specs.PlainReading.{blocks, children}
+use Rattle.tokei_count.specs.Stretches.{Stretch, stretches}
+
+-- the choices of those stretches that are walked
+abbrev pub walked_choices : List (List ℕ) → List Stretch → ℕ
+walked_choices os [] = 0
+walked_choices os (s ∷ ss) = cond (is_walked os s.begun s.reach) s.choices 0 + walked_choices os ss
+
+-- the bytes of those stretches that are walked
+abbrev pub walked_bytes : List (List ℕ) → List Stretch → ℕ
+walked_bytes os [] = 0
+walked_bytes os (s ∷ ss) = cond (is_walked os s.begun s.reach) s.size 0 + walked_bytes os ss
+
+-- what each of the blocks is worth, added up
+abbrev pub sum_over : (Block → ℕ) → List Block → ℕ
+sum_over f [] = 0
+sum_over f (k ∷ ks) = f k + sum_over f ks
+
+-- the items of a text, with so many levels left
+abbrev pub items_in : Languages → ℕ → ℕ → List ℕ → Items
+items_in ls levels language t = items_of (ls.row language) (blocks ls levels language t) t
+
+-- the children among them
+abbrev pub children_in : Languages → ℕ → ℕ → List ℕ → List Block
+children_in ls levels language t = children (marks [] (items_in ls levels language t))
+
+-- A number of each text, with those of its children or cells: for a text that is read in lines it is `own`, and one for
+-- each child; a notebook has nothing but its cells, and with no levels left nothing at all.
+unfoldable pub with_children : (Row → List ℕ → Items → ℕ) → Languages → ℕ → ℕ → List ℕ → ℕ
+with_children own ls zero language t =
+    cond (is_notebook (ls.row language)) 0
+    (own (ls.row language) t (items_in ls zero language t) + length (children_in ls zero language t))
+with_children own ls (suc levels) language t =
+    cond (is_notebook (ls.row language)) (sum_over (λ k. with_children own ls levels k.language k.contents) (ls.cells language t))
+    (own (ls.row language) t (items_in ls (suc levels) language t) + length (children_in ls (suc levels) language t)
+    + sum_over (λ k. with_children own ls levels k.language k.contents) (children_in ls (suc levels) language t))
+
+-- the choices in the walked parts of a text, its children apart
+abbrev pub own_steps : Row → List ℕ → Items → ℕ
+own_steps r t is = walked_choices (openers r) (stretches None [] 0 t (marks [] is))
+
+-- the bytes of the walked parts of a text, its children apart
+abbrev pub own_work : Row → List ℕ → Items → ℕ
+own_work r t is = walked_bytes (openers r) (stretches None [] 0 t (marks [] is))
+
+-- The steps of a text, with those of its children: the choices in its walked parts, and one for each child.
+abbrev pub steps : Languages → ℕ → ℕ → List ℕ → ℕ
+steps = with_children own_steps
+
+-- Its work: the lengths of its walked parts, and one for each child.
+abbrev pub work : Languages → ℕ → ℕ → List ℕ → ℕ
+work = with_children own_work
+
+-- the steps of a child, or of a notebook's cell, in a text with so many levels left
+abbrev pub child_steps : Languages → ℕ → Block → ℕ
+child_steps ls zero k = 0
+child_steps ls (suc levels) k = steps ls levels k.language k.contents
+
+-- the number, or the greatest `u128` where that is less
+abbrev pub capped : ℕ → ℕ
+capped n = cond (nat_le n 340282366920938463463374607431768211455) n 340282366920938463463374607431768211455

@@ -1,0 +1,56 @@
+//! Which parts are decided at a glance.
+ghost use Rattle.std.specs.Prelude.{◌≡◌, ◌≢◌, ◌+◌, ◌<◌, ◌≤◌, true, false, [], None, drop, length};
+ghost use Rattle.std.specs.Option.{IfSome};
+ghost use Rattle.tokei_count.specs.Glance.{holds, is_walked, opener_place};
+ghost use Rattle.tokei_count.specs.Lines.{first_line};
+ghost use Rattle.tokei_count.specs.Modes.{innermost};
+ghost use Rattle.tokei_count.specs.Seen.{chain_of};
+ghost use Rattle.tokei_count.specs.Glanced.{AreInLine, Knows};
+
+use crate::items::Enclosure;
+use crate::matchers::SharedMatchers;
+use crate::openings::line_end;
+use crate::walk::line_len;
+
+/// The place of the first opener at `start` or behind it, or the text's end. It is `next`, where that is behind `start`:
+/// the place that an earlier search came to.
+fn next_opener(openers: &SharedMatchers, text: &[u8], start: usize, next: usize) -> usize
+    requires start { start ≤ length text.now }
+    requires known { Knows openers.now text.now start next }
+    ensures { result ≡ start + opener_place openers.now (drop start text.now) }
+{
+    if start < next {
+        return next;
+    }
+    match openers.first_in(&text[start..]) {
+        Some(at) => start + at,
+        None => text.len(),
+    }
+}
+
+/// Where the part that begins at `start` ends, if it begins plain and its reach holds no opener; None where nothing is to
+/// be decided at a glance. `next` is where an earlier search came to, and becomes where this one does.
+pub(crate) fn glance(
+    skips: bool,
+    openers: &SharedMatchers,
+    stack: &[Enclosure],
+    text: &[u8],
+    start: usize,
+    next: &mut usize,
+) -> Option<usize>
+    requires lines { AreInLine openers.now }
+    requires start { start < length text.now }
+    requires known { Knows openers.now text.now start next.old }
+    ensures known { Knows openers.now text.now start next.new }
+    ensures plain { IfSome result (λ stop. chain_of stack.now ≡ []) }
+    ensures quiet { IfSome result (λ stop. holds openers.now (first_line (drop start text.now)) ≡ false) }
+    ensures stop { IfSome result (λ stop. stop ≡ start + length (first_line (drop start text.now))) }
+    ensures walked { skips ≡ true → result ≡ None → is_walked openers.now (innermost (chain_of stack.now)) (first_line (drop start text.now)) ≡ true }
+{
+    if !skips || !stack.is_empty() {
+        return None;
+    }
+    *next = next_opener(openers, text, start, *next);
+    let stop = line_end(text, start + line_len(&text[start..]));
+    if stop <= *next { Some(stop) } else { None }
+}
