@@ -1,5 +1,5 @@
 ghost use Rattle.std.specs.Prelude.{◌≡◌, ◌+◌, ◌-◌, ◌<◌, nat_lt, true, false};
-ghost use Rattle.tokei_walk.specs.Failing.{calls_left};
+ghost use Rattle.tokei_walk.specs.Failing.{calls_left, inside};
 
 use crate::fs::{Above, Fault, Folders, Kind, Listing};
 use crate::lists::Items;
@@ -19,6 +19,7 @@ impl<F: Folders> FailingFolders<F> {
         ensures tells { ⟦<FailingFolders<F> as Folders>⟧.tree result ≡ F.tree inner }
         ensures faults { ⟦<FailingFolders<F> as Folders>⟧.memory_faults result
             ≡ F.memory_faults inner }
+        ensures inner { inside result ≡ inner }
         ensures left { calls_left result ≡ passes }
     {
         FailingFolders {
@@ -47,41 +48,73 @@ impl<F: Folders> FailingFolders<F> {
 }
 
 impl<F: Folders> Folders for FailingFolders<F> {
+    ghost use Rattle.tokei_walk.specs.Answers.{Tells, AboveTells, ListTells, kind_answer, read_answer, head_answer};
+    ghost use Rattle.tokei_walk.specs.Failing.{Counts, PassesOrFails, all_faults};
+    ghost use Rattle.tokei_walk.specs.Tree.{node_at, names_of};
+
     ghost tree = { λ s. F.tree s.inner };
 
-    ghost memory_faults = { λ s. F.memory_faults s.inner + s.refused };
+    ghost memory_faults = { all_faults F.memory_faults };
 
     ghost sound = { λ s. F.sound s.inner };
 
-    fn kind(&mut self, place: &str) -> Result<Kind, Fault> {
+    fn kind(&mut self, place: &str) -> Result<Kind, Fault>
+        ensures passes { PassesOrFails F.memory_faults self.old self.new result }
+        ensures told { Tells (F.tree (inside self.old))
+            (λ t. kind_answer (node_at t (names_of place.now))) result }
+        ensures same { F.tree (inside self.new) ≡ F.tree (inside self.old) }
+        ensures counts { Counts (all_faults F.memory_faults) self.old self.new result }
+    {
         if !self.passes() {
             return Err(Fault::Memory);
         }
         self.inner.kind(place)
     }
 
-    fn list(&mut self, place: &str) -> Result<Listing, Fault> {
+    fn list(&mut self, place: &str) -> Result<Listing, Fault>
+        ensures passes { PassesOrFails F.memory_faults self.old self.new result }
+        ensures told { ListTells (F.tree (inside self.old)) (names_of place.now) result }
+        ensures same { F.tree (inside self.new) ≡ F.tree (inside self.old) }
+        ensures counts { Counts (all_faults F.memory_faults) self.old self.new result }
+    {
         if !self.passes() {
             return Err(Fault::Memory);
         }
         self.inner.list(place)
     }
 
-    fn read(&mut self, place: &str) -> Result<Items<u8>, Fault> {
+    fn read(&mut self, place: &str) -> Result<Items<u8>, Fault>
+        ensures passes { PassesOrFails F.memory_faults self.old self.new result }
+        ensures told { Tells (F.tree (inside self.old))
+            (λ t. read_answer (node_at t (names_of place.now))) result }
+        ensures same { F.tree (inside self.new) ≡ F.tree (inside self.old) }
+        ensures counts { Counts (all_faults F.memory_faults) self.old self.new result }
+    {
         if !self.passes() {
             return Err(Fault::Memory);
         }
         self.inner.read(place)
     }
 
-    fn head(&mut self, place: &str) -> Result<Items<u8>, Fault> {
+    fn head(&mut self, place: &str) -> Result<Items<u8>, Fault>
+        ensures passes { PassesOrFails F.memory_faults self.old self.new result }
+        ensures told { Tells (F.tree (inside self.old))
+            (λ t. head_answer (node_at t (names_of place.now))) result }
+        ensures same { F.tree (inside self.new) ≡ F.tree (inside self.old) }
+        ensures counts { Counts (all_faults F.memory_faults) self.old self.new result }
+    {
         if !self.passes() {
             return Err(Fault::Memory);
         }
         self.inner.head(place)
     }
 
-    fn above(&mut self, place: &str) -> Result<Items<Above>, Fault> {
+    fn above(&mut self, place: &str) -> Result<Items<Above>, Fault>
+        ensures passes { PassesOrFails F.memory_faults self.old self.new result }
+        ensures told { AboveTells (F.tree (inside self.old)) (names_of place.now) result }
+        ensures same { F.tree (inside self.new) ≡ F.tree (inside self.old) }
+        ensures counts { Counts (all_faults F.memory_faults) self.old self.new result }
+    {
         if !self.passes() {
             return Err(Fault::Memory);
         }
