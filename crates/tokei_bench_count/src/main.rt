@@ -61,7 +61,7 @@ fn compare(
 {
     let parsed = Measured::new(alloc, Way::ParseFromSlice, input)?;
     let mut all = Vec::new(alloc);
-    for way in [Way::Newlines, Way::NewlinesInTurn, Way::FirstHalf] {
+    for way in [Way::Newlines, Way::NewlinesInTurn] {
         all.push(Measured::new(alloc, way, input)?)?;
     }
     if !request.without_plain {
@@ -71,6 +71,8 @@ fn compare(
         }
         all.push(plain)?;
     }
+    // the half is timed beside the whole
+    all.push(Measured::new(alloc, Way::FirstHalf, input)?)?;
     all.push(parsed)?;
     if request.timed {
         time(rt, alloc, &mut all, input)?;
