@@ -1,8 +1,9 @@
 //! The ways to count a text.
-ghost use Rattle.std.specs.Prelude.{◌≡◌, ◌/◌, ◌<◌, false, length, take, IfOk};
+ghost use Rattle.std.specs.Prelude.{◌≡◌, ◌/◌, ◌<◌, false, length, take, IfOk, IsErrOf};
 ghost use Rattle.memchr.specs.Find.{is_byte, places};
 ghost use Rattle.tokei_count.specs.Openings.{languages_of};
 ghost use Rattle.tokei_count.specs.PlainReading.{reading, outermost_levels};
+ghost use Rattle.tokei_stats.specs.Overflow.{Fits};
 ghost use Rattle.tokei_stats.specs.Seen.{stats_of};
 
 use memchr::memchr_iter;
@@ -77,7 +78,8 @@ const CONFIG: CountConfig = CountConfig {
 /// The statistics of the text, by the plain reading.
 fn read_plainly(alloc: Global, input: &Input) -> Result<CodeStats, CountError>
     requires { input.now.language < length input.now.counter.now }
-    ensures { IfOk result (λ s. stats_of s ≡ reading (languages_of input.now.counter.now) false outermost_levels input.now.language input.now.text.now) }
+    ensures reads { IfOk result (λ s. stats_of s ≡ reading (languages_of input.now.counter.now) false outermost_levels input.now.language input.now.text.now) }
+    ensures overflow { IsErrOf result CountError.Overflow → ¬ Fits (reading (languages_of input.now.counter.now) false outermost_levels input.now.language input.now.text.now) }
 {
     count_plain(alloc, input.counter, input.language, input.text, &CONFIG)
 }
@@ -85,7 +87,8 @@ fn read_plainly(alloc: Global, input: &Input) -> Result<CodeStats, CountError>
 /// The statistics of the text, as callers count.
 fn parsed(alloc: Global, input: &Input) -> Result<CodeStats, CountError>
     requires { input.now.language < length input.now.counter.now }
-    ensures { IfOk result (λ s. stats_of s ≡ reading (languages_of input.now.counter.now) false outermost_levels input.now.language input.now.text.now) }
+    ensures reads { IfOk result (λ s. stats_of s ≡ reading (languages_of input.now.counter.now) false outermost_levels input.now.language input.now.text.now) }
+    ensures overflow { IsErrOf result CountError.Overflow → ¬ Fits (reading (languages_of input.now.counter.now) false outermost_levels input.now.language input.now.text.now) }
 {
     parse_from_slice(alloc, input.counter, input.language, input.text, &CONFIG)
 }
