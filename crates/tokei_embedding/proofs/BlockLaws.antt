@@ -32,7 +32,7 @@ unfolding Holds
 first_holds test [] = tt
 first_holds test (b ∷ t) = holds_step test b t (test (b ∷ t)) refl (first_holds test t)
 
-begins-fits : (token t : List ℕ) → begins token t ≡ true → length token ≤ length t
+pub begins-fits : (token t : List ℕ) → begins token t ≡ true → length token ≤ length t
 begins-fits token t h = omega (arith, (begins-occurs token t h).fits)
 
 -- the end of a token that was found
@@ -68,7 +68,7 @@ closing_fits (b ∷ t) = by (is_blank b)
     by true = omega arith
     by false = omega arith
 
-fence_reaches : (info : List ℕ) (n : ℕ) (rest : List ℕ) (o : Option ℕ) → 0 < n → n ≤ length rest → Holds (begins fence) (drop n rest) o → Reaches (fence_to info n rest (drop n rest) o).size (fence_to info n rest (drop n rest) o).contents rest
+fence_reaches : (info : List ℕ) (n : ℕ) (rest : List ℕ) (o : Option ℕ) → 2 ≤ n → n ≤ length rest → Holds (begins fence) (drop n rest) o → Reaches (fence_to info n rest (drop n rest) o).size (fence_to info n rest (drop n rest) o).contents rest
 unfolding Holds
 fence_reaches info n rest None l m h = record { some = omega arith; within = omega arith; holds = omega (arith, length-drop n rest) }
 fence_reaches info n rest (Some i) l m h =
@@ -104,7 +104,7 @@ fence_reach part rest tail k f e h =
     Within None rest = Unit {0}
     Within (Some f) rest = Reaches f.size f.contents rest
 
-element_reaches : (value : Option (List ℕ)) (n : ℕ) (rest : List ℕ) (o : Option ℕ) (closer : List ℕ) (b : TagBlock) → 0 < n → Holds (begins closer) (drop n rest) o → element_to value n (drop n rest) o ≡ Some b → Reaches b.size b.contents rest
+element_reaches : (value : Option (List ℕ)) (n : ℕ) (rest : List ℕ) (o : Option ℕ) (closer : List ℕ) (b : TagBlock) → 2 ≤ n → Holds (begins closer) (drop n rest) o → element_to value n (drop n rest) o ≡ Some b → Reaches b.size b.contents rest
 unfolding Holds
 element_reaches value n rest None closer b l h e = absurd (cc)
 element_reaches value n rest (Some i) closer b l h e = by (all_blank (take i (drop n rest))) e
@@ -120,10 +120,10 @@ element_reaches value n rest (Some i) closer b l h e = by (all_blank (take i (dr
     by true e = absurd (cc)
     by false e = subst Within e built
 
--- an opening ends behind its token
+-- an opening ends two bytes or more behind its place
 Past : ℕ → Option Opening → Type 0
 Past p None = Unit {0}
-Past p (Some o) = p < o.whole.stop
+Past p (Some o) = p + 2 ≤ o.whole.stop
 
 past_value : (p n : ℕ) (inside : List ℕ) (value : Option Span) (o : Option ℕ) → p < n → Past p (option_map (λ k. record { whole = record { start = p; stop = n + (value_end value + k + 1) }; value = option_map (shifted n) value }) o)
 unfolding Past

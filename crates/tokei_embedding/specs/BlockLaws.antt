@@ -1,5 +1,5 @@
 -- Laws of the blocks: how far each reaches, and where none opens.
-use Rattle.std.specs.Prelude.{◌≡◌, ℕ, ◌<◌, ◌≤◌, true, false, ◌==◌, is_some, List, ◌∷◌, ◌++◌, length, drop, codes, None, Some}
+use Rattle.std.specs.Prelude.{◌≡◌, ℕ, ◌+◌, ◌<◌, ◌≤◌, true, false, ◌==◌, is_some, List, ◌∷◌, ◌++◌, length, drop, codes, None, Some}
 use Rattle.tokei_table.specs.Bytes.{is_blank, begins}
 use Rattle.tokei_table.specs.FirstOpener.{first_opener}
 use Rattle.tokei_table.specs.Openers.{child_openers}
@@ -10,11 +10,11 @@ use Rattle.tokei_embedding.specs.Tags.{TagBlock, token_of, tag_block}
 use Rattle.tokei_embedding.specs.TargetBlocks.{TargetBlock, target_block}
 use Rattle.tokei_embedding.specs.declared.tags.Tag.{Tag}
 
--- A block takes a byte or more, ends in the text, and holds no more than it takes.
+-- A block takes a byte or more, ends in the text, and takes two bytes at least beside what it holds.
 pub record Reaches (size : ℕ) (contents rest : List ℕ) : Type 0 where
   pub some : 0 < size
   pub within : size ≤ length rest
-  pub holds : length contents ≤ size
+  pub holds : length contents + 2 ≤ size
 
 -- A fence's block reaches so far, where the text goes on as the part does from the place on.
 abbrev pub FencesReach : Type 0

@@ -1,7 +1,7 @@
 //! Laws of the definitions: each function's contract is a law, and its body does nothing.
 ghost use Rattle.tokei_embedding.specs.BlockLaws.{FencesReach, TagsReach, DocsReach, TargetsReach, NewlinesOpenNothing, DocsOpenBeforeBlanks, BlocksBeginWithOpeners};
 
-/// A fence's block takes a byte or more, ends in the text, and holds no more than it takes.
+/// A fence's block takes a byte or more, ends in the text, and takes two bytes at least beside what it holds.
 pub fn fences_reach()
     ensures { FencesReach }
 {}
