@@ -4,6 +4,7 @@ pub mod FenceBlocks
 pub mod Lines
 pub mod Marks
 pub mod Newlines
+pub mod NextDocs
 pub mod Openers
 pub mod Places
 pub mod SolidFences

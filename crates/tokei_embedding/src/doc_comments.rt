@@ -7,7 +7,7 @@ use std::alloc::{AllocError, Global};
 use tokei_table::ext::{is_whitespace, trim_start};
 
 /// The text through its first newline.
-fn first_line(text: &[u8]) -> &[u8]
+pub(crate) fn first_line(text: &[u8]) -> &[u8]
     ensures value { result.now ≡ first_line text.now }
     ensures within { length result.now ≤ length text.now }
     ensures some { 0 < length text.now → 0 < length result.now }
@@ -19,7 +19,7 @@ fn first_line(text: &[u8]) -> &[u8]
 }
 
 /// The mark at the front.
-fn front_mark(text: &[u8]) -> Option<&'static [u8]>
+pub(crate) fn front_mark(text: &[u8]) -> Option<&'static [u8]>
     ensures { option_map (λ m. m.now) result ≡ front_mark text.now }
 {
     if text.starts_with(b"///") {

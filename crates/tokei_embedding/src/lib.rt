@@ -8,6 +8,7 @@ mod doc_comments;
 mod fences;
 mod html_like;
 pub mod laws;
+mod next_openings;
 mod openings;
 mod searches;
 mod spans;
@@ -18,6 +19,7 @@ pub use captures::{Capture, SimpleCapture};
 pub use doc_comments::{doc_at, doc_text};
 pub use fences::{FenceAt, fence_at};
 pub use html_like::HtmlLike;
+pub use next_openings::{next_doc, next_fence, next_tag, next_target};
 pub use openings::{
     end_lf, end_markdown, end_script, end_style, end_template, start_lf, start_markdown,
     start_script, start_style, start_template,

@@ -1,3 +1,4 @@
 //! Rows from outside: openings, contents and places.
 mod blocks;
+mod next_openings;
 mod places;

@@ -1,0 +1,98 @@
+//! The next place at which a block can open, so that a walk of a part looks for its children once.
+ghost use Rattle.std.specs.Prelude.{◌≡◌, ℕ, ◌+◌, ◌-◌, ◌≤◌, ◌<◌, true, false, is_some, IfSome, None, length, take, drop, codes};
+ghost use Rattle.tokei_embedding.specs.DocComments.{first_line, front_mark, doc_block};
+ghost use Rattle.tokei_embedding.specs.Fences.{first_fence, fence_block};
+ghost use Rattle.tokei_embedding.specs.Searches.{first_of, is_at};
+ghost use Rattle.tokei_embedding.specs.Tags.{token_of, tag_block};
+ghost use Rattle.tokei_embedding.specs.TargetBlocks.{target_block};
+
+use crate::doc_comments::front_mark;
+use crate::fences::first_fence;
+use crate::searches::first_of;
+use crate::tags::{Tag, token_of};
+use crate::target_blocks::OPENER;
+use tokei_table::ext::is_whitespace;
+
+/// The place in the text of what was found in the part that begins at `start`, where it stands at `at` or behind it;
+/// else `to`.
+fn next_of(found: Option<usize>, start: usize, at: usize, to: usize) -> usize
+    requires order { start ≤ at }
+    requires inside { at ≤ to }
+    requires within { IfSome found (λ i. start + i < to) }
+    ensures low { at ≤ result }
+    ensures high { result ≤ to }
+    ensures none { (p : ℕ) → at ≤ p → p < result → is_at (p - start) found ≡ false }
+    ensures exact { result < to → is_at (result - start) found ≡ true }
+{
+    match found {
+        Some(i) if at <= start + i => start + i,
+        _ => to,
+    }
+}
+
+/// The first place from `at` on at which a fence can open in the part `text[start..to]`: its first fence opening. `to`
+/// where there is none, or where that one stands before `at`.
+pub fn next_fence(text: &[u8], start: usize, at: usize, to: usize) -> usize
+    requires order { start ≤ at }
+    requires inside { at ≤ to }
+    requires ends { to ≤ length text.now }
+    ensures low { at ≤ result }
+    ensures high { result ≤ to }
+    ensures none { (p : ℕ) → at ≤ p → p < result → fence_block (take (to - start) (drop start text.now)) (p - start) (drop p text.now) ≡ None }
+    ensures exact { result < to → is_at (result - start) (first_fence (take (to - start) (drop start text.now))) ≡ true }
+{
+    next_of(first_fence(&text[start..to]), start, at, to)
+}
+
+/// The first place from `at` on at which an element with the tag can open in the part `text[start..to]`: the tag's first
+/// token. `to` where there is none, or where that one stands before `at`.
+pub fn next_tag(tag: Tag, text: &[u8], start: usize, at: usize, to: usize) -> usize
+    requires order { start ≤ at }
+    requires inside { at ≤ to }
+    requires ends { to ≤ length text.now }
+    ensures low { at ≤ result }
+    ensures high { result ≤ to }
+    ensures none { (p : ℕ) → at ≤ p → p < result → tag_block tag (take (to - start) (drop start text.now)) (p - start) (drop p text.now) ≡ None }
+    ensures exact { result < to → is_at (result - start) (first_of (token_of tag) (take (to - start) (drop start text.now))) ≡ true }
+{
+    next_of(first_of(&text[start..to], token_of(tag)), start, at, to)
+}
+
+/// The first place from `at` on at which a block of the target language can open in the part `text[start..to]`: its
+/// first `{=`. `to` where there is none, or where that one stands before `at`.
+pub fn next_target(text: &[u8], start: usize, at: usize, to: usize) -> usize
+    requires order { start ≤ at }
+    requires inside { at ≤ to }
+    requires ends { to ≤ length text.now }
+    ensures low { at ≤ result }
+    ensures high { result ≤ to }
+    ensures none { (p : ℕ) → at ≤ p → p < result → target_block (take (to - start) (drop start text.now)) (p - start) (drop p text.now) ≡ None }
+    ensures exact { result < to → is_at (result - start) (first_of (codes "{=") (take (to - start) (drop start text.now))) ≡ true }
+{
+    next_of(first_of(&text[start..to], OPENER), start, at, to)
+}
+
+/// The first place from `at` on at which a block of doc comments opens in the rest of a line `text[at..to]`: the first
+/// mark, or the first of the blanks right before it. `to` where no mark stands there.
+pub fn next_doc(text: &[u8], at: usize, to: usize) -> usize
+    requires inside { at ≤ to }
+    requires ends { to ≤ length text.now }
+    requires line { at < to → to ≡ at + length (first_line (drop at text.now)) }
+    ensures low { at ≤ result }
+    ensures high { result ≤ to }
+    ensures none { (p : ℕ) → at ≤ p → p < result → doc_block (drop p text.now) ≡ None }
+    ensures exact { result < to → is_some (doc_block (drop result text.now)) ≡ true }
+{
+    let line = &text[at..to];
+    let mut front = 0;
+    for (i, byte) in line.iter().enumerate() {
+        if is_whitespace(*byte) {
+            continue;
+        }
+        if front_mark(&line[i..]).is_some() {
+            return at + front;
+        }
+        front = i + 1;
+    }
+    to
+}
