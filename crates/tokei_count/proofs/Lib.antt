@@ -24,6 +24,7 @@ pub mod QuietBlocks
 pub mod GlanceClass
 pub mod StepReading
 pub mod GlanceReading
+pub mod PlainBytes
 pub mod Pieces
 pub mod LineEnds
 pub mod TextReading

@@ -10,7 +10,7 @@ use Rattle.tokei_table.specs.Row.{Row}
 use Rattle.tokei_table.specs.NewRow.{new_row}
 use Rattle.tokei_table.specs.Lookups.{row_at}
 use Rattle.tokei_table.specs.Listed.{listed, languages_from}
-use Rattle.tokei_table.specs.Openers.{openers}
+use Rattle.tokei_count.specs.Matchers.{Matchers, matchers_of}
 
 -- the language at a place of the list
 pub record IsPlaced (k i n : ℕ) : Type 0 where
@@ -51,10 +51,10 @@ more : (i : ℕ) → suc i ≡ i + 1
 more i = omega arith
 
 -- the matchers of one language more
-pub one_more : (rows : List Row) (all : List (List (List ℕ))) (k i : ℕ) (m : List (List ℕ)) → all ≡ map openers (take i rows) → IsPlaced k i (length rows) → m ≡ openers (row_at rows k)
-    → all ++ m ∷ [] ≡ map openers (take (i + 1) rows)
-one_more rows all k i m a p e = ap (λ ms. ms ++ m ∷ []) a ∙ ap (λ x. map openers (take i rows) ++ x ∷ []) (e ∙ ap (λ n. openers (row_at rows n)) p.place) ∙ sym (map-append openers (take i rows) (row_at rows i ∷ []))
-    ∙ ap (map openers) (sym (take-suc rows i (new_row []) p.known) ∙ ap (λ n. take n rows) (more i))
+pub one_more : (rows : List Row) (all : List Matchers) (k i : ℕ) (m : Matchers) → all ≡ map matchers_of (take i rows) → IsPlaced k i (length rows) → m ≡ matchers_of (row_at rows k)
+    → all ++ m ∷ [] ≡ map matchers_of (take (i + 1) rows)
+one_more rows all k i m a p e = ap (λ ms. ms ++ m ∷ []) a ∙ ap (λ x. map matchers_of (take i rows) ++ x ∷ []) (e ∙ ap (λ n. matchers_of (row_at rows n)) p.place) ∙ sym (map-append matchers_of (take i rows) (row_at rows i ∷ []))
+    ∙ ap (map matchers_of) (sym (take-suc rows i (new_row []) p.known) ∙ ap (λ n. take n rows) (more i))
 
 pub listed_all : (rows : List Row) (items : List (ℕ × Bor (List (String Global)))) → map listed items ≡ languages_from 0 rows → length items ≡ length rows
 listed_all rows items e = same_length rows items e ∙ counted 0 rows

@@ -21,7 +21,7 @@ use Rattle.tokei_count.proofs.Ahead.{marks_ahead-child}
 use Rattle.tokei_count.proofs.Fits.{choice_fits}
 
 -- bytes of a line, and the line from there on, are the line
-line_from : (n : ℕ) (t : List ℕ) → n ≤ line_len t → take n t ++ first_line (drop n t) ≡ first_line t
+pub line_from : (n : ℕ) (t : List ℕ) → n ≤ line_len t → take n t ++ first_line (drop n t) ≡ first_line t
 line_from zero t h = refl
 line_from (suc n) [] h = absurd (omega arith)
 line_from (suc n) (b ∷ t) h = by_test (b == 10) h (line_from n t)

@@ -1,16 +1,22 @@
 -- The part of a place, in the text.
-use Rattle.std.proofs.Common.{◌≡◌, ℕ, suc, zero, ◌+◌, ◌-◌, List, ◌++◌, length, take, drop, refl, sym, ◌∙◌, ap, arith, take-add, length-drop, length-take}
+use Rattle.std.proofs.Common.{◌≡◌, ℕ, suc, zero, ◌+◌, ◌-◌, ◌<◌, ◌≤◌, List, ◌++◌, length, take, drop, None, option_map, refl, sym, ◌∙◌, ap, subst, arith, take-add, length-drop, length-take, length-append}
 use Rattle.std.proofs.lemmas.List.{drop-drop}
 use Rattle.tokei_table.specs.Row.{Row}
 use Rattle.tokei_table.specs.Lookups.{row_at}
 use Rattle.tokei_table.specs.Families.{family_of}
 use Rattle.tokei_table.specs.declared.family.Family.{Family}
-use Rattle.tokei_count.specs.Lines.{first_line}
+use Rattle.tokei_count.specs.Lines.{first_line, line_len}
 use Rattle.tokei_count.specs.Openings.{block_by, languages_of}
 use Rattle.tokei_count.specs.Parts.{part_front}
 use Rattle.tokei_count.specs.PlainReading.{blocks}
 use Rattle.tokei_count.specs.Progress.{IsPart}
-use Rattle.tokei_count.proofs.Lines.{take-first}
+use Rattle.tokei_embedding.specs.Tags.{tag_block}
+use Rattle.tokei_embedding.specs.declared.tags.Tag.TheVariants.{Script, Style, Template}
+use Rattle.tokei_count.specs.HtmlChildren.{element_child, element_at, first_block, html_block}
+use Rattle.tokei_count.proofs.LineEnds.{first_line-high}
+use Rattle.tokei_count.proofs.Lines.{take-first, first_within}
+use Rattle.tokei_count.proofs.PartFronts.{part_on}
+use Rattle.tokei_count.proofs.PartReading.{line_from}
 
 module _ (text : List ℕ) (l start at to : ℕ) (p : IsPart text l start at) (line : to ≡ at + length (first_line (drop at text))) where
   place_is : drop (at - start) (drop start text) ≡ drop at text
@@ -37,3 +43,23 @@ module _ (text : List ℕ) (l start at to : ℕ) (p : IsPart text l start at) (l
       ap (λ w. block_by f rows language text w (at - start) (drop at text)) part_whole
       ∙ ap (λ k. block_by f rows language text (part_front text l (drop at text) ++ first_line (drop at text)) k (drop at text)) part_len
       ∙ ap (λ g. block_by g rows language text (part_front text l (drop at text) ++ first_line (drop at text)) (length (part_front text l (drop at text))) (drop at text)) (sym e)
+
+-- the same of a later place of the part
+pub block_later : (text : List ℕ) (l start at to place : ℕ) → IsPart text l start at → to ≡ at + length (first_line (drop at text)) → at ≤ place → place < to → (rows : List Row) (language levels : ℕ) (f : Family) → family_of (row_at rows language).key ≡ f → (levels ≡ 0 → ⊥)
+    → block_by f rows language text (take (to - start) (drop start text)) (place - start) (drop place text) ≡ blocks (languages_of rows) levels language text l (drop place text)
+block_later text l start at to place p line low high rows language levels f e z =
+    let n : ℕ = place - at in
+    let there : at + n ≡ place = omega (arith, low) in
+    let inside : n ≤ line_len (drop at text) = omega (arith, line, high, low, first_line-high (drop at text)) in
+    let part : IsPart text l start place = subst (IsPart text l start) there (part_on text l start at n p inside) in
+    let rest : drop n (drop at text) ≡ drop place text = drop-drop n at text ∙ ap (λ m. drop m text) there in
+    let len : length (take n (drop at text)) + length (first_line (drop n (drop at text))) ≡ length (first_line (drop at text)) = sym (length-append (take n (drop at text)) (first_line (drop n (drop at text)))) ∙ ap length (line_from n (drop at text) inside) in
+    let whole : to ≡ place + length (first_line (drop place text)) = omega (arith, line, len, ap (λ w. length (first_line w)) rest, length-take n (drop at text), first_within (drop at text), high, low) in
+    block_is text l start place to part whole rows language levels f e z
+
+-- where none of the three tags opens no element does
+pub none_of_three : (rows : List Row) (parent : ℕ) (part : List ℕ) (place : ℕ) (rest : List ℕ) → tag_block Script part place rest ≡ None → tag_block Style part place rest ≡ None → tag_block Template part place rest ≡ None → html_block rows parent part place rest ≡ None
+none_of_three rows parent part place rest e f h =
+    ap (λ o. first_block (option_map (element_child rows parent Script) o) (first_block (element_at rows parent Style part place rest) (element_at rows parent Template part place rest))) e
+    ∙ ap (λ o. first_block (option_map (element_child rows parent Style) o) (element_at rows parent Template part place rest)) f
+    ∙ ap (option_map (element_child rows parent Template)) h

@@ -13,6 +13,7 @@ use Rattle.tokei_count.specs.Glanced.{AreInLine, Knows}
 use Rattle.tokei_count.specs.Items.{Block, Mode}
 use Rattle.tokei_count.specs.Languages.{is_notebook}
 use Rattle.tokei_count.specs.Lines.{first_line, line_len}
+use Rattle.tokei_count.specs.Matchers.{Matchers, matchers_of}
 use Rattle.tokei_count.specs.Modes.{Chain, innermost}
 use Rattle.tokei_count.specs.NotebookCells.{cell_blocks}
 use Rattle.tokei_count.specs.Openings.{languages_of}
@@ -214,10 +215,10 @@ child_steps-is rows zero k h = absurd (omega arith)
 child_steps-is rows (suc n) k h = let e : n ≡ suc n - 1 = omega arith in ap (λ m. steps (languages_of rows) m k.language k.contents) e
 
 -- the matchers of a language of the table
-pub openers_at : (rows : List Row) (language i : ℕ) (d : List (List ℕ)) → i ≡ language → language < length rows → get_or (map openers rows) i d ≡ openers (row_at rows language)
-openers_at rows language i d e h = ap (λ n. get_or (map openers rows) n d) e ∙ there rows language h
+pub matchers_at : (rows : List Row) (language i : ℕ) (d : Matchers) → i ≡ language → language < length rows → get_or (map matchers_of rows) i d ≡ matchers_of (row_at rows language)
+matchers_at rows language i d e h = ap (λ n. get_or (map matchers_of rows) n d) e ∙ there rows language h
   where
-    there : (rs : List Row) (n : ℕ) → n < length rs → get_or (map openers rs) n d ≡ openers (row_at rs n)
+    there : (rs : List Row) (n : ℕ) → n < length rs → get_or (map matchers_of rs) n d ≡ matchers_of (row_at rs n)
     there [] n h = absurd (omega (arith, h))
     there (r ∷ rs) zero h = refl
     there (r ∷ rs) (suc n) h = there rs n (omega (arith, h))

@@ -23,4 +23,6 @@ pub mod Glance
 pub mod Stretches
 pub mod Steps
 pub mod GlanceLaw
+pub mod Matchers
+pub mod PlainBytes
 pub mod Glanced

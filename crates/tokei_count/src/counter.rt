@@ -1,7 +1,7 @@
 //! What the texts of a table's languages are counted with.
 ghost use Rattle.std.specs.Prelude.{◌≡◌, ◌<◌, length, map, IfOk};
 ghost use Rattle.tokei_table.specs.Lookups.{row_at};
-ghost use Rattle.tokei_table.specs.Openers.{openers};
+ghost use Rattle.tokei_count.specs.Matchers.{matchers_of};
 
 use crate::matchers::{SharedMatchers, all_matchers};
 use std::alloc::{AllocError, Global};
@@ -18,14 +18,14 @@ pub struct Counter<'a> {
 
 impl<'a> Model for Counter<'a> {
     ghost use Rattle.std.specs.Prelude.{◌≡◌, List, map};
-    ghost use Rattle.tokei_table.specs.Openers.{openers};
+    ghost use Rattle.tokei_count.specs.Matchers.{matchers_of};
     ghost use Rattle.tokei_table.specs.Row.{Row};
 
     ghost Value = { List Row };
 
     ghost view = { λ c. c.table.now };
 
-    ghost invariant = { λ c. c.matchers.items ≡ map openers c.table.now };
+    ghost invariant = { λ c. c.matchers.items ≡ map matchers_of c.table.now };
 }
 
 impl<'a> Counter<'a> {
@@ -47,14 +47,14 @@ impl<'a> Counter<'a> {
     /// The matchers of a language of the table.
     pub fn matchers(&self, language: LanguageType) -> &SharedMatchers
         requires { language < length self.now }
-        ensures { result.now ≡ openers (row_at self.entry.now language) }
+        ensures { result.now ≡ matchers_of (row_at self.entry.now language) }
     {
         &self.matchers[language.index()]
     }
 
     /// The matchers of each language of the table, in its order.
     pub(crate) fn matchers_by_language(&self) -> &[SharedMatchers]
-        ensures { result.now ≡ map openers self.entry.now }
+        ensures { result.now ≡ map matchers_of self.entry.now }
     {
         &self.matchers
     }

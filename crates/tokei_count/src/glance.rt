@@ -14,15 +14,15 @@ use crate::walk::line_len;
 
 /// The place of the first opener at `start` or behind it, or the text's end. It is `next`, where that is behind `start`:
 /// the place that an earlier search came to.
-fn next_opener(openers: &SharedMatchers, text: &[u8], start: usize, next: usize) -> usize
+fn next_opener(matchers: &SharedMatchers, text: &[u8], start: usize, next: usize) -> usize
     requires start { start ≤ length text.now }
-    requires known { Knows openers.now text.now start next }
-    ensures { result ≡ start + opener_place openers.now (drop start text.now) }
+    requires known { Knows matchers.now.openers text.now start next }
+    ensures { result ≡ start + opener_place matchers.now.openers (drop start text.now) }
 {
     if start < next {
         return next;
     }
-    match openers.first_in(&text[start..]) {
+    match matchers.first_in(&text[start..]) {
         Some(at) => start + at,
         None => text.len(),
     }
@@ -32,25 +32,25 @@ fn next_opener(openers: &SharedMatchers, text: &[u8], start: usize, next: usize)
 /// be decided at a glance. `next` is where an earlier search came to, and becomes where this one does.
 pub(crate) fn glance(
     skips: bool,
-    openers: &SharedMatchers,
+    matchers: &SharedMatchers,
     stack: &[Enclosure],
     text: &[u8],
     start: usize,
     next: &mut usize,
 ) -> Option<usize>
-    requires lines { AreInLine openers.now }
+    requires lines { AreInLine matchers.now.openers }
     requires start { start < length text.now }
-    requires known { Knows openers.now text.now start next.old }
-    ensures known { Knows openers.now text.now start next.new }
+    requires known { Knows matchers.now.openers text.now start next.old }
+    ensures known { Knows matchers.now.openers text.now start next.new }
     ensures plain { IfSome result (λ stop. chain_of stack.now ≡ []) }
-    ensures quiet { IfSome result (λ stop. holds openers.now (first_line (drop start text.now)) ≡ false) }
+    ensures quiet { IfSome result (λ stop. holds matchers.now.openers (first_line (drop start text.now)) ≡ false) }
     ensures stop { IfSome result (λ stop. stop ≡ start + length (first_line (drop start text.now))) }
-    ensures walked { skips ≡ true → result ≡ None → is_walked openers.now (innermost (chain_of stack.now)) (first_line (drop start text.now)) ≡ true }
+    ensures walked { skips ≡ true → result ≡ None → is_walked matchers.now.openers (innermost (chain_of stack.now)) (first_line (drop start text.now)) ≡ true }
 {
     if !skips || !stack.is_empty() {
         return None;
     }
-    *next = next_opener(openers, text, start, *next);
+    *next = next_opener(matchers, text, start, *next);
     let stop = line_end(text, start + line_len(&text[start..]));
     if stop <= *next { Some(stop) } else { None }
 }

@@ -1,5 +1,5 @@
 //! The children that open in a text.
-ghost use Rattle.std.specs.Prelude.{◌≡◌, [], ◌+◌, ◌-◌, ◌<◌, ◌≤◌, drop, take, length, option_map, unwrap_or};
+ghost use Rattle.std.specs.Prelude.{◌≡◌, ℕ, None, [], ◌+◌, ◌-◌, ◌<◌, ◌≤◌, drop, take, length, option_map, unwrap_or};
 ghost use Rattle.tokei_table.specs.Row.{Row};
 ghost use Rattle.tokei_embedding.specs.Fences.{fence_block};
 ghost use Rattle.tokei_embedding.specs.Seen.{fence_seen, tag_seen, target_seen};
@@ -15,7 +15,10 @@ ghost use Rattle.tokei_count.specs.ReadingOf.{blocks_of};
 ghost use Rattle.tokei_count.specs.Seen.{block_of};
 
 use crate::reading::Reading;
-use tokei_embedding::{Tag, doc_at, fence_at, tag_at, target_at, target_of};
+use tokei_embedding::{
+    Tag, doc_at, fence_at, next_doc, next_fence, next_tag, next_target, tag_at, target_at,
+    target_of,
+};
 use tokei_stats::Sums;
 use tokei_table::ext::{trim, trim_first_and_last_line_of_whitespace};
 use tokei_table::family::Family;
@@ -265,6 +268,54 @@ pub(crate) fn line_end(text: &[u8], end: usize) -> usize
     ensures last { end ≡ length text.now → result ≡ end }
 {
     if end < text.len() { end + 1 } else { end }
+}
+
+/// Where the next element can open at the place `at` or behind it, in the part `text[start..to]`, or the part's end.
+fn next_element(text: &[u8], start: usize, at: usize, to: usize) -> usize
+    requires order { start ≤ at }
+    requires inside { at ≤ to }
+    requires ends { to ≤ length text.now }
+    ensures high { result ≤ to }
+    ensures none { (tag : Tag) → (p : ℕ) → at ≤ p → p < result → tag_block tag (take (to - start) (drop start text.now)) (p - start) (drop p text.now) ≡ None }
+{
+    let script = next_tag(Tag::Script, text, start, at, to);
+    let style = next_tag(Tag::Style, text, start, at, to);
+    let template = next_tag(Tag::Template, text, start, at, to);
+    script.min(style).min(template)
+}
+
+/// From the place `at` to before the answer no child opens in the part `text[start..to]`, where `left` bytes were left
+/// behind the last child. `child` is such an answer for an earlier place of the part, or that place: while it lies ahead,
+/// or where nothing is to be skipped, nothing is searched anew.
+pub(crate) fn next_child(
+    reading: &Reading,
+    skips: bool,
+    left: usize,
+    start: usize,
+    at: usize,
+    to: usize,
+    child: usize,
+) -> usize
+    requires known { reading.now.language < length reading.now.table.now }
+    requires part { IsPart reading.now.text.now left start at }
+    requires inside { at < to }
+    requires line { to ≡ at + length (first_line (drop at reading.now.text.now)) }
+    requires childless { (p : ℕ) → at ≤ p → p < child → blocks_of reading.now left (drop p reading.now.text.now) ≡ None }
+    ensures { (p : ℕ) → at ≤ p → p < result → blocks_of reading.now left (drop p reading.now.text.now) ≡ None }
+{
+    if at < child || !skips {
+        return child;
+    }
+    if reading.levels < 1 {
+        return to;
+    }
+    match Family::of_key(reading.syntax().key.as_str()) {
+        Family::Plain | Family::Jupyter => to,
+        Family::Markdown => next_fence(reading.text, start, at, to),
+        Family::HtmlLike => next_element(reading.text, start, at, to),
+        Family::Rust => next_doc(reading.text, at, to),
+        Family::LinguaFranca => next_target(reading.text, start, at, to),
+    }
 }
 
 /// The child that opens at the place `at` of a part that began at `start`, where `left` bytes were left behind the last

@@ -6,6 +6,7 @@ ghost use Rattle.tokei_table.specs.Openers.{openers};
 ghost use Rattle.tokei_table.specs.RowOf.{row_of};
 ghost use Rattle.tokei_embedding.specs.DocComments.{doc_text};
 ghost use Rattle.tokei_count.specs.Languages.{is_notebook};
+ghost use Rattle.tokei_count.specs.Matchers.{matchers_of};
 ghost use Rattle.tokei_count.specs.Lines.{line_len};
 ghost use Rattle.tokei_count.specs.Openings.{languages_of};
 ghost use Rattle.tokei_stats.specs.Overflow.{Fits};
@@ -120,7 +121,7 @@ fn read_notebook(
     skips: bool,
 ) -> Result<TextRead, CountError>
     requires known { language < length table.now }
-    requires indexed { matchers.now ≡ map openers table.now }
+    requires indexed { matchers.now ≡ map matchers_of table.now }
     requires notebook { is_notebook (row_at table.now language) ≡ true }
     ensures reads { IfOk result (λ r. stats_of r.stats ≡ reading (languages_of table.now) docs levels language text.now) }
     ensures steps { skips ≡ true → IfOk result (λ r. r.steps ≡ capped (steps (languages_of table.now) levels language text.now)) }
@@ -166,7 +167,7 @@ pub(crate) fn read_text(
     skips: bool,
 ) -> Result<TextRead, CountError>
     requires known { language < length table.now }
-    requires indexed { matchers.now ≡ map openers table.now }
+    requires indexed { matchers.now ≡ map matchers_of table.now }
     ensures reads { IfOk result (λ r. stats_of r.stats ≡ reading (languages_of table.now) docs levels language text.now) }
     ensures steps { skips ≡ true → IfOk result (λ r. r.steps ≡ capped (steps (languages_of table.now) levels language text.now)) }
     ensures quiet { skips ≡ true → is_notebook (row_at table.now language) ≡ false → first_opener (openers (row_at table.now language)) text.now ≡ None → IsOk result }
@@ -176,7 +177,7 @@ pub(crate) fn read_text(
     if is_notebook(syntax) {
         return read_notebook(alloc, table, matchers, language, text, docs, levels, skips);
     }
-    let openers = &matchers[language.index()];
+    let own_matchers = &matchers[language.index()];
     let reading = Reading {
         table,
         language,
@@ -193,12 +194,12 @@ pub(crate) fn read_text(
     let mut next = 0;
     let mut start = 0;
     while start < text.len() {
-        if let Some(stop) = glance(skips, openers, &stack, text, start, &mut next) {
+        if let Some(stop) = glance(skips, own_matchers, &stack, text, start, &mut next) {
             own = own.plus(counted_as(glance_class(syntax, &text[start..stop])))?;
             start = stop;
             continue;
         }
-        let part = read_part(&reading, &mut stack, left, start)?;
+        let part = read_part(&reading, own_matchers, skips, &mut stack, left, start)?;
         own_steps += part.steps;
         match part.end {
             PartEnd::Line(class, end) => {

@@ -1,9 +1,11 @@
 //! A part is walked with a stack of the items that enclose the place.
-ghost use Rattle.std.specs.Prelude.{◌≡◌, ◌+◌, ◌<◌, ◌≤◌, true, is_some, IfOk, drop, length};
+ghost use Rattle.std.specs.Prelude.{◌≡◌, ◌+◌, ◌<◌, ◌≤◌, true, None, is_some, IfOk, drop, length};
 ghost use Rattle.tokei_table.specs.Sound.{IsSound};
 ghost use Rattle.tokei_count.specs.Choice.{choice};
 ghost use Rattle.tokei_count.specs.Lines.{line_len};
+ghost use Rattle.tokei_count.specs.Matchers.{matchers_of};
 ghost use Rattle.tokei_count.specs.Modes.{innermost};
+ghost use Rattle.tokei_count.specs.PlainBytes.{IsPlainByte};
 ghost use Rattle.tokei_count.specs.ReadingOf.{row_in, blocks_of};
 ghost use Rattle.tokei_count.specs.Progress.{IsPart, IsClosable};
 ghost use Rattle.tokei_count.specs.Seen.{choice_of, mode_of, chain_of};
@@ -12,7 +14,8 @@ ghost use Rattle.tokei_count.specs.Walked.{Steps, Reads};
 use crate::choice::{Choice, choose};
 use crate::class::{Class, class_of};
 use crate::items::Enclosure;
-use crate::openings::{block_at, line_end};
+use crate::matchers::SharedMatchers;
+use crate::openings::{block_at, line_end, next_child};
 use crate::reading::Reading;
 use memchr::memchr;
 use std::alloc::AllocError;
@@ -75,44 +78,64 @@ fn opens_at(reading: &Reading, left: usize, start: usize, at: usize, end: usize)
     at < end && block_at(reading, left, start, at, end).is_some()
 }
 
+/// Whether no choice but the byte itself and a child can begin at the byte, in that mode.
+fn is_plain_byte(matchers: &SharedMatchers, mode: Option<Enclosure>, byte: u8) -> bool
+    ensures { result ≡ true → IsPlainByte matchers.now (mode_of mode.entry) byte }
+{
+    !matchers.begins(byte)
+        && match mode {
+            None => true,
+            Some(inner) => match inner.closer {
+                [] => false,
+                [first, ..] => *first != byte,
+            },
+        }
+}
+
 /// The choice at the place `at` of a part that began at `start`, whose line goes to `end`, before its newline; `left`
-/// bytes were left behind the last child. It is one step.
+/// bytes were left behind the last child, and no child opens from the place to before `child`. It is one step.
 fn choice_at<'a>(
     reading: &Reading<'a>,
+    matchers: &SharedMatchers,
     stack: &[Enclosure<'a>],
     left: usize,
     start: usize,
     at: usize,
     end: usize,
+    child: usize,
     steps: &mut usize,
 ) -> Choice<'a>
+    requires sound { IsSound (row_in reading.now) }
     requires known { reading.now.language < length reading.now.table.now }
     requires part { IsPart reading.now.text.now left start at }
     requires line { end ≡ at + line_len (drop at reading.now.text.now) }
     requires some { at < length reading.now.text.now }
     requires room { steps.old < length reading.now.text.now }
+    requires matched { matchers.now ≡ matchers_of (row_in reading.now) }
+    requires childless { at < child → blocks_of reading.now left (drop at reading.now.text.now) ≡ None }
     ensures counted { steps.new ≡ steps.old + 1 }
     ensures child { result ≡ Choice.Child → is_some (blocks_of reading.now left (drop at reading.now.text.now)) ≡ true }
     ensures choice { choice_of (blocks_of reading.now left (drop at reading.now.text.now)) result ≡ choice (row_in reading.now) (innermost (chain_of stack.now)) (blocks_of reading.now left (drop at reading.now.text.now)) (drop at reading.now.text.now) }
 {
     *steps += 1;
-    let opens = opens_at(reading, left, start, at, end);
-    choose(
-        reading.syntax(),
-        innermost(stack),
-        opens,
-        &reading.text[at..],
-    )
+    let mode = innermost(stack);
+    if at < child && is_plain_byte(matchers, mode, reading.text[at]) {
+        return Choice::Byte;
+    }
+    let opens = child <= at && opens_at(reading, left, start, at, end);
+    choose(reading.syntax(), mode, opens, &reading.text[at..])
 }
 
 /// Takes the choice at a place, which `choice_at` makes.
 fn take_choice<'a>(
     reading: &Reading<'a>,
+    matchers: &SharedMatchers,
     stack: &mut Vec<Enclosure<'a>>,
     left: usize,
     start: usize,
     at: usize,
     end: usize,
+    child: usize,
     steps: &mut usize,
 ) -> Result<Step, AllocError>
     requires sound { IsSound (row_in reading.now) }
@@ -122,10 +145,12 @@ fn take_choice<'a>(
     requires line { end ≡ at + line_len (drop at reading.now.text.now) }
     requires some { at < end }
     requires room { steps.old < length reading.now.text.now }
+    requires matched { matchers.now ≡ matchers_of (row_in reading.now) }
+    requires childless { at < child → blocks_of reading.now left (drop at reading.now.text.now) ≡ None }
     ensures counted { steps.new ≡ steps.old + 1 }
     ensures takes { IfOk result (λ s. Steps (row_in reading.now) (blocks_of reading.now) left (chain_of stack.old.items) (chain_of stack.new.items) reading.now.text.now at s) }
 {
-    match choice_at(reading, stack, left, start, at, end, steps) {
+    match choice_at(reading, matchers, stack, left, start, at, end, child, steps) {
         Choice::Closer => match stack.pop() {
             Some(enclosure) => Ok(Step::On(enclosure.closer.len())),
             None => unreachable!(),
@@ -147,9 +172,12 @@ fn take_choice<'a>(
     }
 }
 
-/// Reads the part that begins at `start`, where `left` bytes were left behind the last child.
+/// Reads the part that begins at `start`, where `left` bytes were left behind the last child. Where it `skips`, it looks for
+/// the part's children ahead, and at a byte at which no choice can begin it looks no further.
 pub(crate) fn read_part<'a>(
     reading: &Reading<'a>,
+    matchers: &SharedMatchers,
+    skips: bool,
     stack: &mut Vec<Enclosure<'a>>,
     left: usize,
     start: usize,
@@ -159,15 +187,20 @@ pub(crate) fn read_part<'a>(
     requires known { reading.now.language < length reading.now.table.now }
     requires part { IsPart reading.now.text.now left start start }
     requires some { start < length reading.now.text.now }
+    requires matched { matchers.now ≡ matchers_of (row_in reading.now) }
     ensures { IfOk result (λ e. Reads (row_in reading.now) (blocks_of reading.now) left reading.now.docs (chain_of stack.old.items) (chain_of stack.new.items) start reading.now.text.now e) }
 {
     let begun = innermost(stack);
     let end = start + line_len(&reading.text[start..]);
     let stop = line_end(reading.text, end);
     let mut steps = 0;
+    let mut child = start;
     let mut at = start;
     while at < end {
-        match take_choice(reading, stack, left, start, at, end, &mut steps)? {
+        child = next_child(reading, skips, left, start, at, stop, child);
+        match take_choice(
+            reading, matchers, stack, left, start, at, end, child, &mut steps,
+        )? {
             Step::On(len) => at += len,
             Step::Rest => at = stop,
             Step::Child => {
@@ -177,7 +210,9 @@ pub(crate) fn read_part<'a>(
         }
     }
     if at < stop {
-        let _newline = choice_at(reading, stack, left, start, at, end, &mut steps);
+        let _newline = choice_at(
+            reading, matchers, stack, left, start, at, end, at, &mut steps,
+        );
     }
     let line = &reading.text[start..stop];
     let class = class_of(

@@ -22,10 +22,10 @@ pub returns-then-stop-next-clause-quiet : goal.returns-then-stop-next-clause-qui
 returns-then-stop-next-clause-quiet c =
     let u : List ℕ = drop c.args.start c.args.text.now in
     let stop_is : c.line_end-stop.result ≡ c.args.start + length (first_line u) = end_is c.args.text.now c.args.start (c.args.start + c.line_len.result) c.line_end-stop.result (omega (arith, c.requires.start)) (ap (λ n. c.args.start + n) (c.line_len.ensures.value ∙ ap line_len (rest_is c.args.start c.args.text.now))) c.line_end-stop.ensures.more c.line_end-stop.ensures.last in
-    holds-line c.args.openers.now c.requires.lines u ∙ place-behind c.args.openers.now u (length (first_line u)) (omega (arith, stop_is, c.if-stop-next.true, c.next_opener.ensures))
+    holds-line c.args.matchers.now.openers c.requires.lines u ∙ place-behind c.args.matchers.now.openers u (length (first_line u)) (omega (arith, stop_is, c.if-stop-next.true, c.next_opener.ensures))
 
 pub returns-else-stop-next-clause-walked : goal.returns-else-stop-next-clause-walked
 returns-else-stop-next-clause-walked c = λ skipped none.
     let u : List ℕ = drop c.args.start c.args.text.now in
     let stop_is : c.line_end-stop.result ≡ c.args.start + length (first_line u) = end_is c.args.text.now c.args.start (c.args.start + c.line_len.result) c.line_end-stop.result (omega (arith, c.requires.start)) (ap (λ n. c.args.start + n) (c.line_len.ensures.value ∙ ap line_len (rest_is c.args.start c.args.text.now))) c.line_end-stop.ensures.more c.line_end-stop.ensures.last in
-    or_last _ (holds c.args.openers.now (first_line u)) (holds-line c.args.openers.now c.requires.lines u ∙ place-below c.args.openers.now u (length (first_line u)) (first_within u) (omega (arith, stop_is, c.if-stop-next.false, c.next_opener.ensures)))
+    or_last _ (holds c.args.matchers.now.openers (first_line u)) (holds-line c.args.matchers.now.openers c.requires.lines u ∙ place-below c.args.matchers.now.openers u (length (first_line u)) (first_within u) (omega (arith, stop_is, c.if-stop-next.false, c.next_opener.ensures)))

@@ -6,5 +6,5 @@ use Rattle.tokei_count.proofs.glance.next_opener.Goals as goal
 
 pub overflow_add-result : goal.overflow_add-result
 overflow_add-result c =
-    let below : c.in-Some.at < length (drop c.args.start c.args.text.now) = first-below c.args.openers.now (drop c.args.start c.args.text.now) c.in-Some.at (sym c.in-Some.is ∙ c.first_in.ensures ∙ ap (first_opener c.args.openers.now) (rest_is c.args.start c.args.text.now)) in
+    let below : c.in-Some.at < length (drop c.args.start c.args.text.now) = first-below c.args.matchers.now.openers (drop c.args.start c.args.text.now) c.in-Some.at (sym c.in-Some.is ∙ c.first_in.ensures ∙ ap (first_opener c.args.matchers.now.openers) (rest_is c.args.start c.args.text.now)) in
     omega (arith, below, length-drop c.args.start c.args.text.now, c.requires.start)

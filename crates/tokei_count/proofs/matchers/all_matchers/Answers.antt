@@ -1,7 +1,7 @@
 use Rattle.std.proofs.Common.{◌≡◌, map, length, take, ap, ◌∙◌, arith}
 use Rattle.std.proofs.Math.Seq.{take-length}
 use Rattle.tokei_table.specs.Listed.{listed, languages_from}
-use Rattle.tokei_table.specs.Openers.{openers}
+use Rattle.tokei_count.specs.Matchers.{matchers_of}
 use Rattle.tokei_count.proofs.ListedLanguages.{listed_item, listed_all, one_more}
 use Rattle.tokei_count.proofs.matchers.all_matchers.Goals as goal
 
@@ -21,4 +21,4 @@ pub returns : goal.returns
 returns t =
     let e : map listed t.as_slice-language-items.result.now ≡ languages_from 0 t.args.table.now = ap (map listed) t.as_slice-language-items.ensures.value ∙ t.in_ok-languages.ensures in
     let all : t.loop-language.language-index ≡ length t.args.table.now = omega (arith, t.loop-language-test.false, t.loop-language.auto.language-index-end, listed_all t.args.table.now t.as_slice-language-items.result.now e) in
-    t.loop-language.invariant ∙ ap (λ n. map openers (take n t.args.table.now)) all ∙ ap (map openers) (take-length t.args.table.now)
+    t.loop-language.invariant ∙ ap (λ n. map matchers_of (take n t.args.table.now)) all ∙ ap (map matchers_of) (take-length t.args.table.now)

@@ -33,7 +33,7 @@ use Rattle.tokei_count.specs.Lines.{first_line}
 use Rattle.tokei_count.specs.Steps.{steps, child_steps, capped, sum_over}
 use Rattle.tokei_count.proofs.GlanceReading.{glance_reads, glance_walked}
 use Rattle.tokei_count.proofs.Lines.{first_within, take-first}
-use Rattle.tokei_count.proofs.StepReading.{AreUnderWay, knows_later, not_walked, lines_of-one, steps_whole, line_steps, line_skipped, broken_steps, child_steps-is, steps-notebook, steps-no_notebook, capped-left, capped_middle, capped-twice, openers_at, glance_part, line_some}
+use Rattle.tokei_count.proofs.StepReading.{AreUnderWay, knows_later, not_walked, lines_of-one, steps_whole, line_steps, line_skipped, broken_steps, child_steps-is, steps-notebook, steps-no_notebook, capped-left, capped_middle, capped-twice, matchers_at, glance_part, line_some}
 use Rattle.tokei_count.proofs.TokenOpeners.{openers_in_line}
 use Rattle.tokei_count.proofs.plain_reading.+read_text.Goals as goal
 use Rattle.tokei_count.proofs.plain_reading.+read_text.Goals.{read_text-then-child, read_text-else-child}
@@ -153,7 +153,7 @@ read_text-loop-start-preserved t c =
     let now5 : IsUnderWay c.args.table.now c.args.docs c.args.levels c.args.language c.args.text.now (sums_of c.in_ok-own-in-Broken.own) (blobs_of (entries_of c.add_blob.new.blobs.entries)) (length c.args.text.now - (c.in-Broken.at + k.size)) (chain_of c.read_part.new.stack.items) (drop (c.in-Broken.at + k.size) c.args.text.now) =
     subst (λ (d : Chain). IsUnderWay c.args.table.now c.args.docs c.args.levels c.args.language c.args.text.now (sums_of c.in_ok-own-in-Broken.own) (blobs_of (entries_of c.add_blob.new.blobs.entries)) (length c.args.text.now - (c.in-Broken.at + k.size)) d (drop (c.in-Broken.at + k.size) c.args.text.now)) (sym reads.plain) now4 in
     let os : List (List ℕ) = openers (row_at c.args.table.now c.args.language) in
-    let os_is : c.index-matchers-index.result ≡ os = c.index-matchers-index.is ∙ ap (λ ms. get_or ms c.index.result c.index-matchers-index.result) c.requires.indexed ∙ openers_at c.args.table.now c.args.language c.index.result c.index-matchers-index.result c.index.ensures c.requires.known in
+    let os_is : c.index-matchers-index.result.openers ≡ os = ap (λ m. m.openers) (c.index-matchers-index.is ∙ ap (λ ms. get_or ms c.index.result c.index-matchers-index.result) c.requires.indexed ∙ matchers_at c.args.table.now c.args.language c.index.result c.index-matchers-index.result c.index.ensures c.requires.known) in
     let tokens : has_tokens (row_at c.args.table.now c.args.language) ≡ true = ap has_tokens (sym c.syntax-syntax.ensures.row) ∙ c.syntax-syntax.ensures.tokens in
     let in_line : AreInLine os = openers_in_line (row_at c.args.table.now c.args.language) tokens in
     let walked : c.args.skips ≡ true → is_walked os (innermost (chain_of c.loop-start.stack.items)) (first_line (drop c.loop-start.start c.args.text.now)) ≡ true = λ skipped.
@@ -271,7 +271,7 @@ read_notebook-returns-clause-reads t c =
 pub read_text-glance-requires-clause-lines : goal.read_text-glance-requires-clause-lines
 read_text-glance-requires-clause-lines t c =
     let os : List (List ℕ) = openers (row_at c.args.table.now c.args.language) in
-    let os_is : c.index-matchers-index.result ≡ os = c.index-matchers-index.is ∙ ap (λ ms. get_or ms c.index.result c.index-matchers-index.result) c.requires.indexed ∙ openers_at c.args.table.now c.args.language c.index.result c.index-matchers-index.result c.index.ensures c.requires.known in
+    let os_is : c.index-matchers-index.result.openers ≡ os = ap (λ m. m.openers) (c.index-matchers-index.is ∙ ap (λ ms. get_or ms c.index.result c.index-matchers-index.result) c.requires.indexed ∙ matchers_at c.args.table.now c.args.language c.index.result c.index-matchers-index.result c.index.ensures c.requires.known) in
     let tokens : has_tokens (row_at c.args.table.now c.args.language) ≡ true = ap has_tokens (sym c.syntax-syntax.ensures.row) ∙ c.syntax-syntax.ensures.tokens in
     subst AreInLine (sym os_is) (openers_in_line (row_at c.args.table.now c.args.language) tokens)
 
@@ -283,7 +283,7 @@ read_text-glance_class-requires-clause-quiet t c =
     let n : ℕ = c.in-Some.stop - c.loop-start.start in
     let size : n ≡ length (first_line (drop c.loop-start.start c.args.text.now)) = omega (arith, c.in-Some.ensures.stop) in
     let os : List (List ℕ) = openers (row_at c.args.table.now c.args.language) in
-    let os_is : c.index-matchers-index.result ≡ os = c.index-matchers-index.is ∙ ap (λ ms. get_or ms c.index.result c.index-matchers-index.result) c.requires.indexed ∙ openers_at c.args.table.now c.args.language c.index.result c.index-matchers-index.result c.index.ensures c.requires.known in
+    let os_is : c.index-matchers-index.result.openers ≡ os = ap (λ m. m.openers) (c.index-matchers-index.is ∙ ap (λ ms. get_or ms c.index.result c.index-matchers-index.result) c.requires.indexed ∙ matchers_at c.args.table.now c.args.language c.index.result c.index-matchers-index.result c.index.ensures c.requires.known) in
     ap (λ g. holds (openers g) (take n (drop c.loop-start.start c.args.text.now))) c.syntax-syntax.ensures.row ∙ ap (holds os) (ap (λ m. take m (drop c.loop-start.start c.args.text.now)) size ∙ take-first (drop c.loop-start.start c.args.text.now)) ∙ ap (λ o. holds o (first_line (drop c.loop-start.start c.args.text.now))) (sym os_is) ∙ c.in-Some.ensures.quiet
 
 pub read_text-returns-in_err-own-clause-overflow : goal.read_text-returns-in_err-own-clause-overflow
@@ -291,7 +291,7 @@ read_text-returns-in_err-own-clause-overflow t c =
     let lines : is_notebook (row_at c.args.table.now c.args.language) ≡ false = ap is_notebook (sym c.syntax-syntax.ensures.row) ∙ sym c.is_notebook.ensures ∙ c.if-is_notebook.false in
     let way : IsUnderWay c.args.table.now c.args.docs c.args.levels c.args.language c.args.text.now (sums_of c.loop-start.own) (blobs_of (entries_of c.loop-start.blobs.entries)) c.loop-start.left (chain_of c.loop-start.stack.items) (drop c.loop-start.start c.args.text.now) = record { counts = c.loop-start.invariant.counts; kids = c.loop-start.invariant.kids } in
     let os : List (List ℕ) = openers (row_at c.args.table.now c.args.language) in
-    let os_is : c.index-matchers-index.result ≡ os = c.index-matchers-index.is ∙ ap (λ ms. get_or ms c.index.result c.index-matchers-index.result) c.requires.indexed ∙ openers_at c.args.table.now c.args.language c.index.result c.index-matchers-index.result c.index.ensures c.requires.known in
+    let os_is : c.index-matchers-index.result.openers ≡ os = ap (λ m. m.openers) (c.index-matchers-index.is ∙ ap (λ ms. get_or ms c.index.result c.index-matchers-index.result) c.requires.indexed ∙ matchers_at c.args.table.now c.args.language c.index.result c.index-matchers-index.result c.index.ensures c.requires.known) in
     let tokens : has_tokens (row_at c.args.table.now c.args.language) ≡ true = ap has_tokens (sym c.syntax-syntax.ensures.row) ∙ c.syntax-syntax.ensures.tokens in
     let stack_is : chain_of c.deref.result.now ≡ (chain_of c.loop-start.stack.items) = ap chain_of c.deref.ensures.value in
     let plain : (chain_of c.loop-start.stack.items) ≡ [] = sym stack_is ∙ c.in-Some.ensures.plain in
@@ -309,7 +309,7 @@ read_text-loop-start-smaller-in-Some t c = omega (arith, c.in-Some.ensures.stop,
 pub read_text-loop-start-preserved-in-Some : goal.read_text-loop-start-preserved-in-Some
 read_text-loop-start-preserved-in-Some t c =
     let os : List (List ℕ) = openers (row_at c.args.table.now c.args.language) in
-    let os_is : c.index-matchers-index.result ≡ os = c.index-matchers-index.is ∙ ap (λ ms. get_or ms c.index.result c.index-matchers-index.result) c.requires.indexed ∙ openers_at c.args.table.now c.args.language c.index.result c.index-matchers-index.result c.index.ensures c.requires.known in
+    let os_is : c.index-matchers-index.result.openers ≡ os = ap (λ m. m.openers) (c.index-matchers-index.is ∙ ap (λ ms. get_or ms c.index.result c.index-matchers-index.result) c.requires.indexed ∙ matchers_at c.args.table.now c.args.language c.index.result c.index-matchers-index.result c.index.ensures c.requires.known) in
     let tokens : has_tokens (row_at c.args.table.now c.args.language) ≡ true = ap has_tokens (sym c.syntax-syntax.ensures.row) ∙ c.syntax-syntax.ensures.tokens in
     let stack_is : chain_of c.deref.result.now ≡ (chain_of c.loop-start.stack.items) = ap chain_of c.deref.ensures.value in
     let plain : (chain_of c.loop-start.stack.items) ≡ [] = sym stack_is ∙ c.in-Some.ensures.plain in
@@ -350,7 +350,7 @@ read_text-loop-start-preserved-in-Some t c =
 pub read_text-returns-in_err-part-clause-quiet : goal.read_text-returns-in_err-part-clause-quiet
 read_text-returns-in_err-part-clause-quiet t c = λ skipped lines none.
     let os : List (List ℕ) = openers (row_at c.args.table.now c.args.language) in
-    let os_is : c.index-matchers-index.result ≡ os = c.index-matchers-index.is ∙ ap (λ ms. get_or ms c.index.result c.index-matchers-index.result) c.requires.indexed ∙ openers_at c.args.table.now c.args.language c.index.result c.index-matchers-index.result c.index.ensures c.requires.known in
+    let os_is : c.index-matchers-index.result.openers ≡ os = ap (λ m. m.openers) (c.index-matchers-index.is ∙ ap (λ ms. get_or ms c.index.result c.index-matchers-index.result) c.requires.indexed ∙ matchers_at c.args.table.now c.args.language c.index.result c.index-matchers-index.result c.index.ensures c.requires.known) in
     let tokens : has_tokens (row_at c.args.table.now c.args.language) ≡ true = ap has_tokens (sym c.syntax-syntax.ensures.row) ∙ c.syntax-syntax.ensures.tokens in
     let in_line : AreInLine os = openers_in_line (row_at c.args.table.now c.args.language) tokens in
     let walked : is_walked os (innermost (chain_of c.loop-start.stack.items)) (first_line (drop c.loop-start.start c.args.text.now)) ≡ true =
@@ -360,7 +360,7 @@ read_text-returns-in_err-part-clause-quiet t c = λ skipped lines none.
 pub read_text-returns-in_err-own-in-Broken-clause-quiet : goal.read_text-returns-in_err-own-in-Broken-clause-quiet
 read_text-returns-in_err-own-in-Broken-clause-quiet t c = λ skipped lines none.
     let os : List (List ℕ) = openers (row_at c.args.table.now c.args.language) in
-    let os_is : c.index-matchers-index.result ≡ os = c.index-matchers-index.is ∙ ap (λ ms. get_or ms c.index.result c.index-matchers-index.result) c.requires.indexed ∙ openers_at c.args.table.now c.args.language c.index.result c.index-matchers-index.result c.index.ensures c.requires.known in
+    let os_is : c.index-matchers-index.result.openers ≡ os = ap (λ m. m.openers) (c.index-matchers-index.is ∙ ap (λ ms. get_or ms c.index.result c.index-matchers-index.result) c.requires.indexed ∙ matchers_at c.args.table.now c.args.language c.index.result c.index-matchers-index.result c.index.ensures c.requires.known) in
     let tokens : has_tokens (row_at c.args.table.now c.args.language) ≡ true = ap has_tokens (sym c.syntax-syntax.ensures.row) ∙ c.syntax-syntax.ensures.tokens in
     let in_line : AreInLine os = openers_in_line (row_at c.args.table.now c.args.language) tokens in
     let walked : is_walked os (innermost (chain_of c.loop-start.stack.items)) (first_line (drop c.loop-start.start c.args.text.now)) ≡ true =
@@ -370,7 +370,7 @@ read_text-returns-in_err-own-in-Broken-clause-quiet t c = λ skipped lines none.
 pub read_text-returns-in_err-doc-in-Broken-clause-quiet : goal.read_text-returns-in_err-doc-in-Broken-clause-quiet
 read_text-returns-in_err-doc-in-Broken-clause-quiet t c = λ skipped lines none.
     let os : List (List ℕ) = openers (row_at c.args.table.now c.args.language) in
-    let os_is : c.index-matchers-index.result ≡ os = c.index-matchers-index.is ∙ ap (λ ms. get_or ms c.index.result c.index-matchers-index.result) c.requires.indexed ∙ openers_at c.args.table.now c.args.language c.index.result c.index-matchers-index.result c.index.ensures c.requires.known in
+    let os_is : c.index-matchers-index.result.openers ≡ os = ap (λ m. m.openers) (c.index-matchers-index.is ∙ ap (λ ms. get_or ms c.index.result c.index-matchers-index.result) c.requires.indexed ∙ matchers_at c.args.table.now c.args.language c.index.result c.index-matchers-index.result c.index.ensures c.requires.known) in
     let tokens : has_tokens (row_at c.args.table.now c.args.language) ≡ true = ap has_tokens (sym c.syntax-syntax.ensures.row) ∙ c.syntax-syntax.ensures.tokens in
     let in_line : AreInLine os = openers_in_line (row_at c.args.table.now c.args.language) tokens in
     let walked : is_walked os (innermost (chain_of c.loop-start.stack.items)) (first_line (drop c.loop-start.start c.args.text.now)) ≡ true =
@@ -380,7 +380,7 @@ read_text-returns-in_err-doc-in-Broken-clause-quiet t c = λ skipped lines none.
 pub read_text-returns-in_err-read-in-Broken-clause-quiet : goal.read_text-returns-in_err-read-in-Broken-clause-quiet
 read_text-returns-in_err-read-in-Broken-clause-quiet t c = λ skipped lines none.
     let os : List (List ℕ) = openers (row_at c.args.table.now c.args.language) in
-    let os_is : c.index-matchers-index.result ≡ os = c.index-matchers-index.is ∙ ap (λ ms. get_or ms c.index.result c.index-matchers-index.result) c.requires.indexed ∙ openers_at c.args.table.now c.args.language c.index.result c.index-matchers-index.result c.index.ensures c.requires.known in
+    let os_is : c.index-matchers-index.result.openers ≡ os = ap (λ m. m.openers) (c.index-matchers-index.is ∙ ap (λ ms. get_or ms c.index.result c.index-matchers-index.result) c.requires.indexed ∙ matchers_at c.args.table.now c.args.language c.index.result c.index-matchers-index.result c.index.ensures c.requires.known) in
     let tokens : has_tokens (row_at c.args.table.now c.args.language) ≡ true = ap has_tokens (sym c.syntax-syntax.ensures.row) ∙ c.syntax-syntax.ensures.tokens in
     let in_line : AreInLine os = openers_in_line (row_at c.args.table.now c.args.language) tokens in
     let walked : is_walked os (innermost (chain_of c.loop-start.stack.items)) (first_line (drop c.loop-start.start c.args.text.now)) ≡ true =
@@ -390,7 +390,7 @@ read_text-returns-in_err-read-in-Broken-clause-quiet t c = λ skipped lines none
 pub read_text-returns-in_err-add_blob-in-Broken-clause-quiet : goal.read_text-returns-in_err-add_blob-in-Broken-clause-quiet
 read_text-returns-in_err-add_blob-in-Broken-clause-quiet t c = λ skipped lines none.
     let os : List (List ℕ) = openers (row_at c.args.table.now c.args.language) in
-    let os_is : c.index-matchers-index.result ≡ os = c.index-matchers-index.is ∙ ap (λ ms. get_or ms c.index.result c.index-matchers-index.result) c.requires.indexed ∙ openers_at c.args.table.now c.args.language c.index.result c.index-matchers-index.result c.index.ensures c.requires.known in
+    let os_is : c.index-matchers-index.result.openers ≡ os = ap (λ m. m.openers) (c.index-matchers-index.is ∙ ap (λ ms. get_or ms c.index.result c.index-matchers-index.result) c.requires.indexed ∙ matchers_at c.args.table.now c.args.language c.index.result c.index-matchers-index.result c.index.ensures c.requires.known) in
     let tokens : has_tokens (row_at c.args.table.now c.args.language) ≡ true = ap has_tokens (sym c.syntax-syntax.ensures.row) ∙ c.syntax-syntax.ensures.tokens in
     let in_line : AreInLine os = openers_in_line (row_at c.args.table.now c.args.language) tokens in
     let walked : is_walked os (innermost (chain_of c.loop-start.stack.items)) (first_line (drop c.loop-start.start c.args.text.now)) ≡ true =
@@ -400,7 +400,7 @@ read_text-returns-in_err-add_blob-in-Broken-clause-quiet t c = λ skipped lines 
 pub read_text-loop-start-preserved-in-Line : goal.read_text-loop-start-preserved-in-Line
 read_text-loop-start-preserved-in-Line t c =
     let os : List (List ℕ) = openers (row_at c.args.table.now c.args.language) in
-    let os_is : c.index-matchers-index.result ≡ os = c.index-matchers-index.is ∙ ap (λ ms. get_or ms c.index.result c.index-matchers-index.result) c.requires.indexed ∙ openers_at c.args.table.now c.args.language c.index.result c.index-matchers-index.result c.index.ensures c.requires.known in
+    let os_is : c.index-matchers-index.result.openers ≡ os = ap (λ m. m.openers) (c.index-matchers-index.is ∙ ap (λ ms. get_or ms c.index.result c.index-matchers-index.result) c.requires.indexed ∙ matchers_at c.args.table.now c.args.language c.index.result c.index-matchers-index.result c.index.ensures c.requires.known) in
     let tokens : has_tokens (row_at c.args.table.now c.args.language) ≡ true = ap has_tokens (sym c.syntax-syntax.ensures.row) ∙ c.syntax-syntax.ensures.tokens in
     let in_line : AreInLine os = openers_in_line (row_at c.args.table.now c.args.language) tokens in
     let walked : c.args.skips ≡ true → is_walked os (innermost (chain_of c.loop-start.stack.items)) (first_line (drop c.loop-start.start c.args.text.now)) ≡ true = λ skipped.
@@ -452,3 +452,6 @@ read_notebook-returns-clause-steps t c = λ skipped.
     c.loop-cell.invariant.small
     ∙ ap capped bare ∙ ap (λ ks. capped (c.loop-cell.steps + sum_over (child_steps (languages_of c.args.table.now) c.args.levels) ks)) (sym none_left) ∙ c.loop-cell.invariant.inner skipped
     ∙ sym (ap capped (steps-notebook c.args.table.now c.args.levels c.args.language c.args.text.now c.requires.notebook some))
+
+pub read_text-read_part-requires-clause-matched : goal.read_text-read_part-requires-clause-matched
+read_text-read_part-requires-clause-matched t c = c.index-matchers-index.is ∙ ap (λ ms. get_or ms c.index.result c.index-matchers-index.result) c.requires.indexed ∙ matchers_at c.args.table.now c.args.language c.index.result c.index-matchers-index.result c.index.ensures c.requires.known

@@ -39,6 +39,7 @@ loop-at-init c =
       few = omega arith;
       begun = omega arith;
       high = omega (arith, stop_is);
+      childless = λ p low high. absurd (omega (arith, low, high));
     }
 
 pub loop-at-preserved-in-On : goal.loop-at-preserved-in-On
@@ -70,6 +71,7 @@ loop-at-preserved-in-On c =
       few = omega (arith, c.loop-at.invariant.few, goes.some, part.low, c.in_ok-len.ensures.counted);
       begun = omega (arith, behind);
       high = omega (arith, behind, stop_is, at_end, first_line-low (drop c.args.start text));
+      childless = λ p low high. c.next_child-child.ensures p (omega (arith, low)) high;
     }
 
 pub loop-at-preserved : goal.loop-at-preserved
@@ -101,6 +103,7 @@ loop-at-preserved c =
       few = omega (arith, c.loop-at.invariant.few, goes.some, part.low, c.in_ok-len.ensures.counted, stop_here, low);
       begun = omega (arith, line, stop_here, high, c.in_ok-len.ensures.counted);
       high = omega arith;
+      childless = λ p low high. c.next_child-child.ensures p (omega (arith, low, stop_here)) high;
     }
 
 pub returns-in-Child : goal.returns-in-Child
@@ -177,3 +180,66 @@ returns c =
       subst (λ j. ReadsLine (row_in c.args.reading.now) (blocks_of c.args.reading.now) c.args.left c.args.reading.now.docs (chain_of c.args.stack.now.items) (stop - c.args.start) j c.class_of-class.result (chain_of c.loop-at.stack.items) u) (sym steps_are)
           (subst (λ n. ReadsLine (row_in c.args.reading.now) (blocks_of c.args.reading.now) c.args.left c.args.reading.now.docs (chain_of c.args.stack.now.items) n (c.loop-at.steps - (at - end) + newlines u) c.class_of-class.result (chain_of c.loop-at.stack.items) u) (sym first_is) line_read),
     )
+
+pub next_child-child-requires-clause-line : goal.next_child-child-requires-clause-line
+next_child-child-requires-clause-line c =
+    let text : List ℕ = c.args.reading.now.text.now in
+    let end : ℕ = c.args.start + c.line_len.result in
+    let at : ℕ = c.loop-at.at in
+    let here : reached at end ≡ at = omega (arith, c.loop-at-test.true) in
+    let part : IsPart text c.args.left c.args.start at = subst (IsPart text c.args.left c.args.start) here c.loop-at.invariant.part in
+    let line : end ≡ at + line_len (drop at text) = c.loop-at.invariant.line ∙ ap (λ m. m + line_len (drop m text)) here in
+    end_is text at end c.line_end-stop.result part.high line c.line_end-stop.ensures.more c.line_end-stop.ensures.last
+
+pub take_choice-requires-clause-part : goal.take_choice-requires-clause-part
+take_choice-requires-clause-part c =
+    let text : List ℕ = c.args.reading.now.text.now in
+    let end : ℕ = c.args.start + c.line_len.result in
+    let at : ℕ = c.loop-at.at in
+    let here : reached at end ≡ at = omega (arith, c.loop-at-test.true) in
+    let part : IsPart text c.args.left c.args.start at = subst (IsPart text c.args.left c.args.start) here c.loop-at.invariant.part in
+    let line : end ≡ at + line_len (drop at text) = c.loop-at.invariant.line ∙ ap (λ m. m + line_len (drop m text)) here in
+    part
+
+pub take_choice-requires-clause-line : goal.take_choice-requires-clause-line
+take_choice-requires-clause-line c =
+    let text : List ℕ = c.args.reading.now.text.now in
+    let end : ℕ = c.args.start + c.line_len.result in
+    let at : ℕ = c.loop-at.at in
+    let here : reached at end ≡ at = omega (arith, c.loop-at-test.true) in
+    let part : IsPart text c.args.left c.args.start at = subst (IsPart text c.args.left c.args.start) here c.loop-at.invariant.part in
+    let line : end ≡ at + line_len (drop at text) = c.loop-at.invariant.line ∙ ap (λ m. m + line_len (drop m text)) here in
+    line
+
+pub overflow_add-at : goal.overflow_add-at
+overflow_add-at c =
+    let text : List ℕ = c.args.reading.now.text.now in
+    let end : ℕ = c.args.start + c.line_len.result in
+    let at : ℕ = c.loop-at.at in
+    let at_end : c.line_len.result ≡ line_len (drop c.args.start text) = c.line_len.ensures.value ∙ ap line_len (rest_is c.args.start text) in
+    let stop_is : c.line_end-stop.result ≡ c.args.start + length (first_line (drop c.args.start text)) = end_is text c.args.start end c.line_end-stop.result c.requires.part.high (ap (λ n. c.args.start + n) at_end) c.line_end-stop.ensures.more c.line_end-stop.ensures.last in
+    let here : reached at end ≡ at = omega (arith, c.loop-at-test.true) in
+    let line : end ≡ at + line_len (drop at text) = c.loop-at.invariant.line ∙ ap (λ m. m + line_len (drop m text)) here in
+    let goes : Goes (row_in c.args.reading.now) (blocks_of c.args.reading.now) c.args.left (chain_of c.loop-at.stack.items) c.in-On.len 1 (chain_of c.take_choice.new.stack.items) (drop at text) =
+    subst (Steps (row_in c.args.reading.now) (blocks_of c.args.reading.now) c.args.left (chain_of c.loop-at.stack.items) (chain_of c.take_choice.new.stack.items) text at) c.in-On.is c.in_ok-len.ensures.takes in
+    omega (arith, line, goes.within, stop_is, at_end, first_line-low (drop c.args.start text), c.line_end-stop.type_inv)
+
+pub choice_at-newline-requires-clause-part : goal.choice_at-newline-requires-clause-part
+choice_at-newline-requires-clause-part c =
+    let text : List ℕ = c.args.reading.now.text.now in
+    let end : ℕ = c.args.start + c.line_len.result in
+    let at : ℕ = c.loop-at.at in
+    let at_end : c.line_len.result ≡ line_len (drop c.args.start text) = c.line_len.ensures.value ∙ ap line_len (rest_is c.args.start text) in
+    let stop_is : c.line_end-stop.result ≡ c.args.start + length (first_line (drop c.args.start text)) = end_is text c.args.start end c.line_end-stop.result c.requires.part.high (ap (λ n. c.args.start + n) at_end) c.line_end-stop.ensures.more c.line_end-stop.ensures.last in
+    let here : reached at end ≡ at = omega (arith, c.loop-at-test.false, c.if-at-stop.true, stop_is, at_end, first_line-high (drop c.args.start text)) in
+    subst (IsPart text c.args.left c.args.start) here c.loop-at.invariant.part
+
+pub choice_at-newline-requires-clause-line : goal.choice_at-newline-requires-clause-line
+choice_at-newline-requires-clause-line c =
+    let text : List ℕ = c.args.reading.now.text.now in
+    let end : ℕ = c.args.start + c.line_len.result in
+    let at : ℕ = c.loop-at.at in
+    let at_end : c.line_len.result ≡ line_len (drop c.args.start text) = c.line_len.ensures.value ∙ ap line_len (rest_is c.args.start text) in
+    let stop_is : c.line_end-stop.result ≡ c.args.start + length (first_line (drop c.args.start text)) = end_is text c.args.start end c.line_end-stop.result c.requires.part.high (ap (λ n. c.args.start + n) at_end) c.line_end-stop.ensures.more c.line_end-stop.ensures.last in
+    let here : reached at end ≡ at = omega (arith, c.loop-at-test.false, c.if-at-stop.true, stop_is, at_end, first_line-high (drop c.args.start text)) in
+    c.loop-at.invariant.line ∙ ap (λ m. m + line_len (drop m text)) here

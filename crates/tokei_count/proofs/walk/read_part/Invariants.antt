@@ -1,4 +1,4 @@
-use Rattle.std.proofs.Common.{ℕ, ◌-◌, ◌≡◌, ◌+◌, ◌≤◌, drop}
+use Rattle.std.proofs.Common.{ℕ, ◌-◌, ◌≡◌, ◌+◌, ◌≤◌, ◌<◌, None, drop}
 use Rattle.tokei_count.specs.Lines.{line_len}
 use Rattle.tokei_count.specs.ReadingOf.{row_in, blocks_of}
 use Rattle.tokei_count.specs.Progress.{Leads, IsClosable, IsPart}
@@ -18,6 +18,7 @@ invariant-loop-at l = record {
   few : l.steps ≤ l.at - l.start;
   begun : l.at - l.end ≤ l.steps;
   high : l.at ≤ l.stop;
+  childless : (p : ℕ) → l.at ≤ p → p < l.child → blocks_of l.reading l.left (drop p l.reading.text.now) ≡ None;
 }
 
 abbrev pub decreases-loop-at : goal.decreases-loop-at

@@ -1,0 +1,150 @@
+-- At a byte at which no choice can begin none but the byte is made.
+use Rattle.std.proofs.Common.{◌≡◌, ℕ, zero, suc, ◌+◌, ◌<◌, ◌≤◌, ◌⊎◌, inl, inr, ◌==◌, nat_eq, Bool, true, false, ◌&&◌, ◌||◌, cond, List, [], ◌∷◌, ◌++◌, length, drop, length-append, Option, None, Some, is_some, find, slice_index_or, refl, sym, ◌∙◌, ap, arith}
+use Rattle.std.specs.List.{list_all, list_any}
+use Rattle.std.proofs.lemmas.Bool.Decides.{Decides-eqb}
+use Rattle.tokei_table.specs.Bytes.{begins}
+use Rattle.tokei_table.specs.FirstOpener.{is_first_of}
+use Rattle.tokei_table.specs.Row.{Pair, Row}
+use Rattle.tokei_table.specs.Sound.{is_token, is_pair, IsSound}
+use Rattle.tokei_count.specs.Choice.{choice, choice_in_plain, choice_within, choice_in_string, choice_in_comment, opened, any_begins, is_escape, or_else, met_in_comment}
+use Rattle.tokei_count.specs.Choice.Choice.{closes, escapes, child_opens, opens, takes_byte, begins_line_comment}
+use Rattle.tokei_count.specs.Items.{Block, Enclosure, Mode}
+use Rattle.tokei_count.specs.Matchers.{begins_opener, begins_choice, flags, Matchers, matchers_of}
+use Rattle.tokei_count.specs.PlainBytes.{NoCloser, IsPlainByte}
+use Rattle.tokei_count.specs.declared.items.Kind.{Kind}
+use Rattle.tokei_count.specs.declared.items.Kind.TheVariants.{DocString, VerbatimString, OrdinaryString, MultiLineComment}
+use Rattle.tokei_count.proofs.Fits.{and_left, and_right}
+
+-- the flag of a byte below n
+length-flags : (f : ℕ → Bool) (n : ℕ) → length (flags f n) ≡ n
+length-flags f zero = refl
+length-flags f (suc n) = length-append (flags f n) (f n ∷ []) ∙ omega (arith, length-flags f n)
+
+index-front : (xs : List Bool) (ys : List Bool) (i : ℕ) → i < length xs → slice_index_or (xs ++ ys) i false ≡ slice_index_or xs i false
+index-front [] ys i h = absurd (omega (arith, h))
+index-front (x ∷ xs) ys zero h = refl
+index-front (x ∷ xs) ys (suc i) h = index-front xs ys i (omega (arith, h))
+
+index-last : (xs : List Bool) (y : Bool) → slice_index_or (xs ++ y ∷ []) (length xs) false ≡ y
+index-last [] y = refl
+index-last (x ∷ xs) y = index-last xs y
+
+pub flag_at : (f : ℕ → Bool) (n i : ℕ) → i < n → slice_index_or (flags f n) i false ≡ f i
+flag_at f zero i h = absurd (omega (arith, h))
+flag_at f (suc n) i h = by_case (last_or i n (omega (arith, h))) (flag_at f n i)
+  where
+    last_or : (i n : ℕ) → i ≤ n → (i < n) ⊎ (i ≡ n)
+    last_or zero zero h = inr refl
+    last_or zero (suc n) h = inl (omega arith)
+    last_or (suc i) zero h = absurd (omega (arith, h))
+    last_or (suc i) (suc n) h = later (last_or i n (omega (arith, h)))
+      where
+        later : (i < n) ⊎ (i ≡ n) → (suc i < suc n) ⊎ (suc i ≡ suc n)
+        later (inl k) = inl (omega (arith, k))
+        later (inr k) = inr (ap suc k)
+
+    by_case : (i < n) ⊎ (i ≡ n) → (i < n → slice_index_or (flags f n) i false ≡ f i) → slice_index_or (flags f n ++ f n ∷ []) i false ≡ f i
+    by_case (inl k) rec = index-front (flags f n) (f n ∷ []) i (omega (arith, k, length-flags f n)) ∙ rec k
+    by_case (inr k) rec = ap (λ m. slice_index_or (flags f n ++ f n ∷ []) m false) (k ∙ sym (length-flags f n)) ∙ index-last (flags f n) (f n) ∙ ap f (sym k)
+
+or_left : (a b : Bool) → (a || b) ≡ false → a ≡ false
+or_left true b h = cc
+or_left false b h = refl
+
+or_right : (a b : Bool) → (a || b) ≡ false → b ≡ false
+or_right true b h = cc
+or_right false b h = h
+
+-- a token that begins with another byte doesn't begin the text
+not_begun : (p : List ℕ) (b : ℕ) (t : List ℕ) → (p ≡ [] → ⊥) → is_first_of b p ≡ false → begins p (b ∷ t) ≡ false
+not_begun [] b t some h = absurd (some refl)
+not_begun (x ∷ p) b t some h = ap (λ y. y && begins p t) (turned b x h)
+  where
+    turned : (b x : ℕ) → (b == x) ≡ false → nat_eq x b ≡ false
+    turned b x h = by_test (nat_eq x b) refl
+      where
+        by_test : (y : Bool) → nat_eq x b ≡ y → y ≡ false
+        by_test true e = let same : x ≡ b = (Decides-eqb x b).0 e in let back : (b == x) ≡ true = (Decides-eqb b x).1 (sym same) in cc
+        by_test false e = refl
+
+token_some : (p : List ℕ) → is_token p ≡ true → p ≡ [] → ⊥
+token_some [] h e = cc
+token_some (x ∷ p) h e = cc
+
+none_opened : (ps : List Pair) (b : ℕ) (t : List ℕ) → list_all is_pair ps ≡ true → begins_opener ps b ≡ false → opened ps (b ∷ t) ≡ None
+none_opened [] b t s h = refl
+none_opened (p ∷ ps) b t s h =
+    let opener = and_left (is_token p.opener) (is_token p.closer) (and_left (is_pair p) (list_all is_pair ps) s) in
+    ap (λ y. cond y (Some p) (opened ps (b ∷ t))) (not_begun p.opener b t (token_some p.opener opener) (or_left (is_first_of b p.opener) (begins_opener ps b) h))
+    ∙ none_opened ps b t (and_right (is_pair p) (list_all is_pair ps) s) (or_right (is_first_of b p.opener) (begins_opener ps b) h)
+
+none_begins : (ts : List (List ℕ)) (b : ℕ) (t : List ℕ) → list_all is_token ts ≡ true → list_any (is_first_of b) ts ≡ false → any_begins ts (b ∷ t) ≡ false
+none_begins [] b t s h = refl
+none_begins (p ∷ ts) b t s h =
+    ap (λ y. y || any_begins ts (b ∷ t)) (not_begun p b t (token_some p (and_left (is_token p) (list_all is_token ts) s)) (or_left (is_first_of b p) (list_any (is_first_of b) ts) h))
+    ∙ none_begins ts b t (and_right (is_token p) (list_all is_token ts) s) (or_right (is_first_of b p) (list_any (is_first_of b) ts) h)
+
+module _ (r : Row) (s : IsSound r) (b : ℕ) (t : List ℕ) (h : begins_choice r b ≡ false) where
+  slash : (b == 92) ≡ false
+  slash = or_left (b == 92) _ h
+
+  h1 : (begins_opener r.quotes b || (begins_opener r.verbatim_quotes b || (begins_opener r.doc_quotes b || (begins_opener r.multi_line_comments b || (begins_opener r.nested_comments b || list_any (is_first_of b) r.line_comment))))) ≡ false
+  h1 = or_right (b == 92) _ h
+
+  no_escape : is_escape r (b ∷ t) ≡ false
+  no_escape = ap (λ y. y && (begins (92 ∷ []) t || is_some (opened r.quotes t))) slash
+
+  no_quote : opened r.quotes (b ∷ t) ≡ None
+  no_quote = none_opened r.quotes b t s.quotes (or_left (begins_opener r.quotes b) _ h1)
+
+  h2 : (begins_opener r.verbatim_quotes b || (begins_opener r.doc_quotes b || (begins_opener r.multi_line_comments b || (begins_opener r.nested_comments b || list_any (is_first_of b) r.line_comment)))) ≡ false
+  h2 = or_right (begins_opener r.quotes b) _ h1
+
+  h3 : (begins_opener r.doc_quotes b || (begins_opener r.multi_line_comments b || (begins_opener r.nested_comments b || list_any (is_first_of b) r.line_comment))) ≡ false
+  h3 = or_right (begins_opener r.verbatim_quotes b) _ h2
+
+  h4 : (begins_opener r.multi_line_comments b || (begins_opener r.nested_comments b || list_any (is_first_of b) r.line_comment)) ≡ false
+  h4 = or_right (begins_opener r.doc_quotes b) _ h3
+
+  h5 : (begins_opener r.nested_comments b || list_any (is_first_of b) r.line_comment) ≡ false
+  h5 = or_right (begins_opener r.multi_line_comments b) _ h4
+
+  no_multi_line : opened r.multi_line_comments (b ∷ t) ≡ None
+  no_multi_line = none_opened r.multi_line_comments b t s.multi_line_comments (or_left (begins_opener r.multi_line_comments b) _ h4)
+
+  no_nested : opened r.nested_comments (b ∷ t) ≡ None
+  no_nested = none_opened r.nested_comments b t s.nested_comments (or_left (begins_opener r.nested_comments b) _ h5)
+
+  in_string : (verbatim : Bool) (closer : List ℕ) → begins closer (b ∷ t) ≡ false → choice_in_string r verbatim closer (b ∷ t) ≡ takes_byte
+  in_string true closer e = ap (λ y. cond y closes (cond false escapes takes_byte)) e
+  in_string false closer e = ap (λ y. cond y closes (cond (is_escape r (b ∷ t)) escapes takes_byte)) e ∙ ap (λ y. cond y escapes takes_byte) no_escape
+
+  in_comment : (closer : List ℕ) → begins closer (b ∷ t) ≡ false → choice_in_comment r closer (b ∷ t) ≡ takes_byte
+  in_comment closer e =
+      ap (λ y. cond y escapes (cond (begins closer (b ∷ t)) closes (or_else (opened r.multi_line_comments (b ∷ t)) (met_in_comment r) (or_else (opened r.nested_comments (b ∷ t)) (opens MultiLineComment) takes_byte)))) no_escape
+      ∙ ap (λ y. cond y closes (or_else (opened r.multi_line_comments (b ∷ t)) (met_in_comment r) (or_else (opened r.nested_comments (b ∷ t)) (opens MultiLineComment) takes_byte))) e
+      ∙ ap (λ o. or_else o (met_in_comment r) (or_else (opened r.nested_comments (b ∷ t)) (opens MultiLineComment) takes_byte)) no_multi_line
+      ∙ ap (λ o. or_else o (opens MultiLineComment) takes_byte) no_nested
+
+  in_plain : (o : Option Block) → o ≡ None → choice_in_plain r o (b ∷ t) ≡ takes_byte
+  in_plain o e =
+      let doc : opened r.doc_quotes (b ∷ t) ≡ None = none_opened r.doc_quotes b t s.doc_quotes (or_left (begins_opener r.doc_quotes b) _ h3) in
+      let verbatim : opened r.verbatim_quotes (b ∷ t) ≡ None = none_opened r.verbatim_quotes b t s.verbatim_quotes (or_left (begins_opener r.verbatim_quotes b) _ h2) in
+      let line : any_begins r.line_comment (b ∷ t) ≡ false = none_begins r.line_comment b t s.line_comment (or_right (begins_opener r.nested_comments b) _ h5) in
+      rw (no_escape, e, doc, verbatim, no_quote, no_multi_line, no_nested, line) refl
+
+  by_kind : (k : Kind) (closer : List ℕ) → begins closer (b ∷ t) ≡ false → choice_within r k closer (b ∷ t) ≡ takes_byte
+  by_kind DocString closer e = in_string false closer e
+  by_kind VerbatimString closer e = in_string true closer e
+  by_kind OrdinaryString closer e = in_string false closer e
+  by_kind MultiLineComment closer e = in_comment closer e
+
+  takes : (mode : Mode) (o : Option Block) → NoCloser mode b → o ≡ None → choice r mode o (b ∷ t) ≡ takes_byte
+  unfolding choice
+  takes None o k e = in_plain o e
+  takes (Some m) o k e = by_kind m.kind m.closer (not_begun m.closer b t k.1 k.0)
+
+pub plain_byte : (r : Row) (s : IsSound r) (mode : Mode) (o : Option Block) (b : ℕ) (u : List ℕ) (m : Matchers) → u ≡ b ∷ drop 1 u → m ≡ matchers_of r → IsPlainByte m mode b → o ≡ None → choice r mode o u ≡ takes_byte
+plain_byte r s mode o b u m e is h none =
+    let no : begins_choice r b ≡ false = sym (flag_at (begins_choice r) 256 b h.small) ∙ ap (λ (n : Matchers). slice_index_or n.begins b false) (sym is) ∙ h.begins in
+    ap (choice r mode o) e ∙ takes r s b (drop 1 u) no mode o h.closer none

@@ -1,0 +1,29 @@
+-- What the texts of a language are searched and walked with.
+use Rattle.std.specs.Prelude.{ℕ, zero, suc, Bool, ◌||◌, ◌==◌, List, [], ◌∷◌, ◌++◌}
+use Rattle.std.specs.List.{list_any}
+use Rattle.tokei_table.specs.FirstOpener.{is_first_of}
+use Rattle.tokei_table.specs.Openers.{openers}
+use Rattle.tokei_table.specs.Row.{Pair, Row}
+
+-- the byte is the first of an opener
+abbrev pub begins_opener : List Pair → ℕ → Bool
+begins_opener ps b = list_any (λ p. is_first_of b p.opener) ps
+
+-- At the byte a choice other than a byte, a closer and a child can begin: it is a backslash, or the first byte of an
+-- opener or a line comment.
+abbrev pub begins_choice : Row → ℕ → Bool
+begins_choice r b =
+    (b == 92) || (begins_opener r.quotes b || (begins_opener r.verbatim_quotes b || (begins_opener r.doc_quotes b || (begins_opener r.multi_line_comments b || (begins_opener r.nested_comments b || list_any (is_first_of b) r.line_comment)))))
+
+-- the test's answers for the bytes below n
+abbrev pub flags : (ℕ → Bool) → ℕ → List Bool
+flags f zero = []
+flags f (suc n) = flags f n ++ f n ∷ []
+
+-- the openers that a part is searched for, and for each byte whether a choice can begin at it
+pub record Matchers : Type 0 where
+  pub openers : List (List ℕ)
+  pub begins : List Bool
+
+abbrev pub matchers_of : Row → Matchers
+matchers_of r = record { openers = openers r; begins = flags (begins_choice r) 256 }
