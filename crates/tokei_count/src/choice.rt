@@ -151,6 +151,7 @@ fn in_plain<'a>(syntax: &'a Syntax, opens: bool, text: &[u8]) -> Choice<'a>
 
 /// The first choice that fits at the front of the text; `opens` says whether a child can open there.
 #[tactic(auto, unfolding(crate::specs::Choice::choice))]
+#[inline(never)]
 pub(crate) fn choose<'a>(
     syntax: &'a Syntax,
     mode: Option<Enclosure<'a>>,

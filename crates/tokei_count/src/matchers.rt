@@ -120,6 +120,7 @@ impl SharedMatchers {
     }
 
     /// Whether a choice other than the byte itself, a closer and a child can begin at the byte.
+    #[inline(always)]
     pub(crate) fn begins(&self, byte: u8) -> bool
         ensures { result ≡ slice_index_or self.now.begins byte false }
     {

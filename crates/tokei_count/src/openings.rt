@@ -287,6 +287,7 @@ fn next_element(text: &[u8], start: usize, at: usize, to: usize) -> usize
 /// From the place `at` to before the answer no child opens in the part `text[start..to]`, where `left` bytes were left
 /// behind the last child. `child` is such an answer for an earlier place of the part, or that place: while it lies ahead,
 /// or where nothing is to be skipped, nothing is searched anew.
+#[inline(always)]
 pub(crate) fn next_child(
     reading: &Reading,
     skips: bool,

@@ -49,6 +49,7 @@ pub(crate) struct PartRead {
 }
 
 /// The innermost of the items, which is the last of the stack.
+#[inline(always)]
 fn innermost<'a>(stack: &[Enclosure<'a>]) -> Option<Enclosure<'a>>
     ensures { mode_of result ≡ innermost (chain_of stack.now) }
 {
@@ -79,6 +80,7 @@ fn opens_at(reading: &Reading, left: usize, start: usize, at: usize, end: usize)
 }
 
 /// Whether no choice but the byte itself and a child can begin at the byte, in that mode.
+#[inline(always)]
 fn is_plain_byte(matchers: &SharedMatchers, mode: Option<Enclosure>, byte: u8) -> bool
     ensures { result ≡ true → IsPlainByte matchers.now (mode_of mode.entry) byte }
 {
@@ -94,6 +96,7 @@ fn is_plain_byte(matchers: &SharedMatchers, mode: Option<Enclosure>, byte: u8) -
 
 /// The choice at the place `at` of a part that began at `start`, whose line goes to `end`, before its newline; `left`
 /// bytes were left behind the last child, and no child opens from the place to before `child`. It is one step.
+#[inline(always)]
 fn choice_at<'a>(
     reading: &Reading<'a>,
     matchers: &SharedMatchers,
@@ -127,6 +130,7 @@ fn choice_at<'a>(
 }
 
 /// Takes the choice at a place, which `choice_at` makes.
+#[inline(always)]
 fn take_choice<'a>(
     reading: &Reading<'a>,
     matchers: &SharedMatchers,
