@@ -23,6 +23,7 @@ pub mod Glancing
 pub mod QuietBlocks
 pub mod GlanceClass
 pub mod StepReading
+pub mod Weights
 pub mod GlanceReading
 pub mod PlainBytes
 pub mod Pieces

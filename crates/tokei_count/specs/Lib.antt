@@ -22,6 +22,8 @@ pub mod Walked
 pub mod Glance
 pub mod Stretches
 pub mod Steps
+pub mod Weight
+pub mod WeightLaws
 pub mod GlanceLaw
 pub mod Matchers
 pub mod PlainBytes

@@ -1,6 +1,7 @@
 //! Laws of the definitions alone: each is the contract of a function that does nothing.
 ghost use Rattle.tokei_count.specs.GlanceLaw.{PlainPartsStayPlain};
 ghost use Rattle.tokei_count.specs.Spelling.{ItemsSpellText};
+ghost use Rattle.tokei_count.specs.WeightLaws.{WeightIsLength};
 
 /// The items of a text spell it.
 pub fn items_spell_text()
@@ -10,4 +11,9 @@ pub fn items_spell_text()
 /// A part that begins plain and holds no opener ends plain, and no child opens in it.
 pub fn plain_parts_stay_plain()
     ensures { PlainPartsStayPlain }
+{}
+
+/// Without notebooks a text weighs its bytes.
+pub fn weight_is_length()
+    ensures { WeightIsLength }
 {}
