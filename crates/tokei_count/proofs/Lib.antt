@@ -24,6 +24,10 @@ pub mod QuietBlocks
 pub mod GlanceClass
 pub mod StepReading
 pub mod Weights
+pub mod HeavyBlocks
+pub mod Loads
+pub mod LoadedMarks
+pub mod StepWeight
 pub mod GlanceReading
 pub mod PlainBytes
 pub mod Pieces

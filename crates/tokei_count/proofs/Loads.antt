@@ -1,0 +1,92 @@
+-- How many bytes marks have, and what that bounds.
+use Rattle.std.proofs.Common.{◌≡◌, ℕ, suc, ◌+◌, ◌≤◌, ◌==◌, Bool, true, false, cond, List, [], ◌∷◌, ◌++◌, length, drop, None, refl, ap, arith, length-append}
+use Rattle.tokei_table.specs.Row.{Row}
+use Rattle.tokei_count.specs.Class.{class_of}
+use Rattle.tokei_count.specs.Glance.{is_walked}
+use Rattle.tokei_count.specs.Items.{Block, Mode}
+use Rattle.tokei_count.specs.Lines.{first_line}
+use Rattle.tokei_count.specs.Modes.{Mark, Chain, innermost, inside, of_choice, closing, closing_from}
+use Rattle.tokei_count.specs.Modes.Mark.{byte_at, child_at}
+use Rattle.tokei_count.specs.Parts.{Part, cut}
+use Rattle.tokei_count.specs.PlainReading.{children, one_of, tally}
+use Rattle.tokei_count.specs.Steps.{sum_over, walked_choices}
+use Rattle.tokei_count.specs.Stretches.{stretches, one_if}
+use Rattle.tokei_count.specs.declared.class.Class.{Class}
+use Rattle.tokei_count.specs.declared.class.Class.TheVariants.{Blank, Code, Comment}
+use Rattle.tokei_stats.specs.Statistics.{Counts, lines_of, plus}
+
+-- a child has the bytes that it takes
+abbrev pub load : List Mark → ℕ
+load [] = 0
+load (byte_at b x c ∷ ms) = suc (load ms)
+load (child_at k ∷ ms) = k.size + load ms
+
+abbrev pub sizes : List Block → ℕ
+sizes ks = sum_over (λ k. k.size) ks
+
+pub load-append : (a b : List Mark) → load (a ++ b) ≡ load a + load b
+load-append [] b = omega arith
+load-append (byte_at y x c ∷ a) b = omega (arith, load-append a b)
+load-append (child_at k ∷ a) b = omega (arith, load-append a b)
+
+load-inside : (c : Chain) (p : List ℕ) → load (inside c p) ≡ length p
+load-inside c [] = refl
+load-inside c (b ∷ p) = ap suc (load-inside c p)
+
+pub load-of_choice : (c : Chain) (p : List ℕ) → load (of_choice c p) ≡ length p
+load-of_choice c [] = refl
+load-of_choice c (b ∷ p) = ap suc (load-inside c p)
+
+load-closing_from : (x : Bool) (c d : Chain) (p : List ℕ) → load (closing_from x c d p) ≡ length p
+load-closing_from x c d [] = refl
+load-closing_from x c d (b ∷ []) = refl
+load-closing_from x c d (b ∷ b' ∷ p) = ap suc (load-closing_from false c d (b' ∷ p))
+
+pub load-closing : (c d : Chain) (p : List ℕ) → load (closing c d p) ≡ length p
+load-closing c d p = load-closing_from true c d p
+
+some_or_none : (x : Bool) (n : ℕ) → cond x n 0 ≤ n
+some_or_none true n = omega arith
+some_or_none false n = omega arith
+
+one_or_none : (x : Bool) → one_if x ≤ 1
+one_or_none true = omega arith
+one_or_none false = omega arith
+
+-- no more choices begin than there are bytes outside the children
+pub choices_within : (os : List (List ℕ)) (m : Mode) (s : List ℕ) (n : ℕ) (t : List ℕ) (ms : List Mark) → walked_choices os (stretches m s n t ms) + sizes (children ms) ≤ n + load ms
+unfolding stretches
+choices_within os m [] n t [] = omega arith
+choices_within os m (a ∷ s) n t [] = omega (arith, some_or_none (is_walked os m (a ∷ s)) n)
+choices_within os m s n t (byte_at b x c ∷ ms) = by_test (b == 10) (choices_within os (innermost c) [] 0 (drop 1 t) ms) (choices_within os m (s ++ b ∷ []) (n + one_if x) (drop 1 t) ms)
+  where
+    by_test : (y : Bool) → walked_choices os (stretches (innermost c) [] 0 (drop 1 t) ms) + sizes (children ms) ≤ 0 + load ms → walked_choices os (stretches m (s ++ b ∷ []) (n + one_if x) (drop 1 t) ms) + sizes (children ms) ≤ n + one_if x + load ms
+        → walked_choices os (cond y (record { begun = m; reach = s ++ b ∷ []; size = length (s ++ b ∷ []); choices = n + one_if x } ∷ stretches (innermost c) [] 0 (drop 1 t) ms) (stretches m (s ++ b ∷ []) (n + one_if x) (drop 1 t) ms)) + sizes (children ms) ≤ n + suc (load ms)
+    by_test true h k = omega (arith, some_or_none (is_walked os m (s ++ b ∷ [])) (n + one_if x), one_or_none x)
+    by_test false h k = omega (arith, one_or_none x)
+choices_within os m s n t (child_at k ∷ ms) = omega (arith, choices_within os None [] 0 (drop k.size t) ms, some_or_none (is_walked os m (s ++ first_line t)) n)
+
+one_line : (class : Class) → lines_of (one_of class) ≡ 1
+one_line Blank = refl
+one_line Code = refl
+one_line Comment = refl
+
+lines-plus : (a b : Counts) → lines_of (plus a b) ≡ lines_of a + lines_of b
+lines-plus a b = omega arith
+
+-- a part more is a line more
+one_more : (r : Row) (docs : Bool) (p : Part) (ps : List Part) → lines_of (tally r docs (p ∷ ps)) ≡ suc (lines_of (tally r docs ps))
+one_more r docs p ps = omega (arith, lines-plus (one_of (class_of r docs p)) (tally r docs ps), one_line (class_of r docs p))
+
+-- no more lines are counted than there are bytes outside the children
+pub lines_within : (r : Row) (docs : Bool) (m : Mode) (s : List ℕ) (e : Mode) (ms : List Mark) → lines_of (tally r docs (cut m s e ms)) + sizes (children ms) ≤ length s + load ms
+unfolding cut
+lines_within r docs m [] e [] = omega arith
+lines_within r docs m (a ∷ s) e [] = omega (arith, one_more r docs (record { begun = m; bytes = a ∷ s; ended = e }) [])
+lines_within r docs m s e (byte_at b x c ∷ ms) = by_test (b == 10) (lines_within r docs (innermost c) [] (innermost c) ms) (lines_within r docs m (s ++ b ∷ []) (innermost c) ms)
+  where
+    by_test : (y : Bool) → lines_of (tally r docs (cut (innermost c) [] (innermost c) ms)) + sizes (children ms) ≤ 0 + load ms → lines_of (tally r docs (cut m (s ++ b ∷ []) (innermost c) ms)) + sizes (children ms) ≤ length (s ++ b ∷ []) + load ms
+        → lines_of (tally r docs (cond y (record { begun = m; bytes = s ++ b ∷ []; ended = innermost c } ∷ cut (innermost c) [] (innermost c) ms) (cut m (s ++ b ∷ []) (innermost c) ms))) + sizes (children ms) ≤ length s + suc (load ms)
+    by_test true h k = omega (arith, one_more r docs (record { begun = m; bytes = s ++ b ∷ []; ended = innermost c }) (cut (innermost c) [] (innermost c) ms))
+    by_test false h k = omega (arith, length-append s (b ∷ []))
+lines_within r docs m s e (child_at k ∷ ms) = omega (arith, lines_within r docs None [] None ms)
