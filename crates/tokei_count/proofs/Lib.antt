@@ -28,6 +28,8 @@ pub mod HeavyBlocks
 pub mod Loads
 pub mod LoadedMarks
 pub mod StepWeight
+pub mod Summaries
+pub mod LineWeight
 pub mod GlanceReading
 pub mod PlainBytes
 pub mod Pieces

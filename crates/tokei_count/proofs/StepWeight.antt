@@ -24,7 +24,7 @@ pub sum_less : (a b : Block → ℕ) → ((k : Block) → a k ≤ b k) → (ks :
 sum_less a b h [] = omega arith
 sum_less a b h (k ∷ ks) = omega (arith, h k, sum_less a b h ks)
 
-own_less : (x : Bool) (n : ℕ) → cond x 0 n ≤ n
+pub own_less : (x : Bool) (n : ℕ) → cond x 0 n ≤ n
 own_less true n = omega arith
 own_less false n = omega arith
 
@@ -34,7 +34,7 @@ kids_within ls a e h [] f = omega arith
 kids_within ls a e h (k ∷ ks) f = omega (arith, h k, f.0.holds, own_less (is_notebook (ls.row k.language)) (length k.contents), kids_within ls a e h ks f.1)
 
 module _ (rows : List Row) (tokens : HaveTokens rows) where
-  loaded : (levels language : ℕ) (t : List ℕ) → IsLoaded IsHeavy t (marks [] (items_in (languages_of rows) levels language t))
+  pub loaded : (levels language : ℕ) (t : List ℕ) → IsLoaded IsHeavy t (marks [] (items_in (languages_of rows) levels language t))
   loaded levels language t = text_loaded (row_at rows language) (blocks (languages_of rows) levels language t) (sound_row (row_at rows language) (every_token rows tokens language)) (by_levels rows language t levels) IsHeavy (blocks_heavy rows language t levels) t
 
   own_within : (levels language : ℕ) (t : List ℕ) → own_steps (row_at rows language) t (items_in (languages_of rows) levels language t) + sizes (children_in (languages_of rows) levels language t) ≤ length t

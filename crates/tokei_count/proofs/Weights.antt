@@ -24,7 +24,7 @@ every_token rows h = every_row has_tokens true rows (λ n. refl) h
 pub every_line : (rows : List Row) → HaveNoNotebook rows → (i : ℕ) → is_notebook (row_at rows i) ≡ false
 every_line rows h = every_row is_notebook false rows (λ n. refl) h
 
-sum_none : (f : Block → ℕ) → ((k : Block) → f k ≡ 0) → (ks : List Block) → sum_over f ks ≡ 0
+pub sum_none : (f : Block → ℕ) → ((k : Block) → f k ≡ 0) → (ks : List Block) → sum_over f ks ≡ 0
 sum_none f h [] = refl
 sum_none f h (k ∷ ks) = omega (arith, h k, sum_none f h ks)
 

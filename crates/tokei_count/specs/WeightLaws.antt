@@ -34,3 +34,7 @@ WeightIsLength = (rows : List Row) → HaveNoNotebook rows → (levels language 
 -- a reading fits the code's numbers wherever the weight of its text does
 abbrev pub LightReadingsFit : Type 0
 LightReadingsFit = (rows : List Row) → HaveTokens rows → (docs : Bool) (levels language : ℕ) (t : List ℕ) → weight (languages_of rows) levels language t < 18446744073709551616 → Fits (reading (languages_of rows) docs levels language t)
+
+-- so without notebooks every reading does whose text the code can hold
+abbrev pub ShortReadingsFit : Type 0
+ShortReadingsFit = (rows : List Row) → HaveTokens rows → HaveNoNotebook rows → (docs : Bool) (levels language : ℕ) (t : List ℕ) → length t < 18446744073709551616 → Fits (reading (languages_of rows) docs levels language t)

@@ -1,7 +1,7 @@
 //! Laws of the definitions alone: each is the contract of a function that does nothing.
 ghost use Rattle.tokei_count.specs.GlanceLaw.{PlainPartsStayPlain};
 ghost use Rattle.tokei_count.specs.Spelling.{ItemsSpellText};
-ghost use Rattle.tokei_count.specs.WeightLaws.{StepsWithinWeight, WeightIsLength};
+ghost use Rattle.tokei_count.specs.WeightLaws.{LightReadingsFit, LinesWithinWeight, ShortReadingsFit, StepsWithinWeight, WeightIsLength};
 
 /// The items of a text spell it.
 pub fn items_spell_text()
@@ -18,7 +18,22 @@ pub fn steps_within_weight()
     ensures { StepsWithinWeight }
 {}
 
+/// A text and its children have no more lines than it weighs.
+pub fn lines_within_weight()
+    ensures { LinesWithinWeight }
+{}
+
+/// A reading fits the code's numbers wherever the weight of its text does.
+pub fn light_readings_fit()
+    ensures { LightReadingsFit }
+{}
+
 /// Without notebooks a text weighs its bytes.
 pub fn weight_is_length()
     ensures { WeightIsLength }
+{}
+
+/// Without notebooks a reading fits the code's numbers wherever the length of its text does.
+pub fn short_readings_fit()
+    ensures { ShortReadingsFit }
 {}

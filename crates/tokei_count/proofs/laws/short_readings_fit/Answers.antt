@@ -1,0 +1,5 @@
+use Rattle.tokei_count.proofs.LineWeight.{reading-fits_by_length}
+use Rattle.tokei_count.proofs.laws.short_readings_fit.Goals as goal
+
+pub returns : goal.returns
+returns c = λ rows tokens none docs levels language t. reading-fits_by_length rows tokens docs none levels language t
