@@ -31,6 +31,7 @@ use Rattle.tokei_count.specs.PlainReading.{blocks}
 use Rattle.tokei_count.proofs.Lines.{take-first}
 use Rattle.tokei_count.proofs.Blocks.{drop_front}
 
+-- what a block takes beside its contents, and how many lines it adds
 pub record IsHeavy (k : Block) : Type 0 where
   pub holds : length k.contents + 2 ≤ k.size
   pub few : lines_of k.share ≤ 2

@@ -26,6 +26,7 @@ abbrev pub EachOf : (Block → Type 0) → List Block → Type 0
 EachOf P [] = ⊤
 EachOf P (k ∷ ks) = P k × EachOf P ks
 
+-- the marks have no more bytes than the text, and P holds of their children
 pub record IsLoaded (P : Block → Type 0) (t : List ℕ) (ms : List Mark) : Type 0 where
   pub within : load ms ≤ length t
   pub kids : EachOf P (children ms)

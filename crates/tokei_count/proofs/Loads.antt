@@ -15,12 +15,13 @@ use Rattle.tokei_count.specs.declared.class.Class.{Class}
 use Rattle.tokei_count.specs.declared.class.Class.TheVariants.{Blank, Code, Comment}
 use Rattle.tokei_stats.specs.Statistics.{Counts, lines_of, plus}
 
--- a child has the bytes that it takes
+-- the bytes of the marks; a child has those that it takes
 abbrev pub load : List Mark → ℕ
 load [] = 0
 load (byte_at b x c ∷ ms) = suc (load ms)
 load (child_at k ∷ ms) = k.size + load ms
 
+-- the bytes that the children take
 abbrev pub sizes : List Block → ℕ
 sizes ks = sum_over (λ k. k.size) ks
 

@@ -34,9 +34,11 @@ kids_within ls a e h [] f = omega arith
 kids_within ls a e h (k ∷ ks) f = omega (arith, h k, f.0.holds, own_less (is_notebook (ls.row k.language)) (length k.contents), kids_within ls a e h ks f.1)
 
 module _ (rows : List Row) (tokens : HaveTokens rows) where
+  -- the marks of a text have no more bytes than it, and its children are heavy
   pub loaded : (levels language : ℕ) (t : List ℕ) → IsLoaded IsHeavy t (marks [] (items_in (languages_of rows) levels language t))
   loaded levels language t = text_loaded (row_at rows language) (blocks (languages_of rows) levels language t) (sound_row (row_at rows language) (every_token rows tokens language)) (by_levels rows language t levels) IsHeavy (blocks_heavy rows language t levels) t
 
+  -- its own steps and the bytes of its children are no more than its bytes
   own_within : (levels language : ℕ) (t : List ℕ) → own_steps (row_at rows language) t (items_in (languages_of rows) levels language t) + sizes (children_in (languages_of rows) levels language t) ≤ length t
   own_within levels language t =
       let ms : List Mark = marks [] (items_in (languages_of rows) levels language t) in
