@@ -31,15 +31,14 @@ use Rattle.tokei_count.proofs.Ahead.{marks_ahead-end}
 use Rattle.tokei_count.proofs.Lines.{children_left-none, length-whole, length-broken, first_some}
 use Rattle.tokei_count.proofs.OpenersInLines.{below, holds-line, none_next, place-later}
 
-most : ℕ
+abbrev pub most : ℕ
 most = 340282366920938463463374607431768211455
 
 capped-by : (n : ℕ) (x : Bool) → nat_le n most ≡ x → ((n ≤ most) × (cond x n most ≡ n)) ⊎ ((most ≤ n) × (cond x n most ≡ most))
 capped-by n true e = let h : n ≤ most = grind (arith, nat_tests, e) in inl (h, refl)
 capped-by n false e = let h : most ≤ n = grind (arith, nat_tests, e) in inr (h, refl)
 
-capped-is : (n : ℕ) → ((n ≤ most) × (capped n ≡ n)) ⊎ ((most ≤ n) × (capped n ≡ most))
-unfolding most
+pub capped-is : (n : ℕ) → ((n ≤ most) × (capped n ≡ n)) ⊎ ((most ≤ n) × (capped n ≡ most))
 capped-is n = capped-by n (nat_le n most) refl
 
 -- a sum that is capped late is what it is where a summand is capped first

@@ -1,6 +1,7 @@
 //! What the texts of a table's languages are counted with.
 ghost use Rattle.std.specs.Prelude.{◌≡◌, ◌<◌, length, map, IfOk};
 ghost use Rattle.tokei_table.specs.Lookups.{row_at};
+ghost use Rattle.tokei_table.specs.WellFormed.{IsWellFormed};
 ghost use Rattle.tokei_count.specs.Matchers.{matchers_of};
 
 use crate::matchers::{SharedMatchers, all_matchers};
@@ -20,12 +21,13 @@ impl<'a> Model for Counter<'a> {
     ghost use Rattle.std.specs.Prelude.{◌≡◌, List, map};
     ghost use Rattle.tokei_count.specs.Matchers.{matchers_of};
     ghost use Rattle.tokei_table.specs.Row.{Row};
+    ghost use Rattle.tokei_table.specs.WellFormed.{IsWellFormed};
 
     ghost Value = { List Row };
 
     ghost view = { λ c. c.table.now };
 
-    ghost invariant = { λ c. c.matchers.items ≡ map matchers_of c.table.now };
+    ghost invariant = { λ c. (c.matchers.items ≡ map matchers_of c.table.now) × IsWellFormed c.table.now };
 }
 
 impl<'a> Counter<'a> {
@@ -39,7 +41,8 @@ impl<'a> Counter<'a> {
 
     /// The table.
     pub fn table(&self) -> &'a LanguageTable
-        ensures { result.now ≡ self.now }
+        ensures table { result.now ≡ self.now }
+        ensures well_formed { IsWellFormed self.now }
     {
         self.table
     }

@@ -1,4 +1,5 @@
 //! Laws of the definitions alone: each is the contract of a function that does nothing.
+ghost use Rattle.std.specs.Prelude.{◌<◌, ◌^◌, length};
 ghost use Rattle.tokei_count.specs.GlanceLaw.{PlainPartsStayPlain};
 ghost use Rattle.tokei_count.specs.Spelling.{ItemsSpellText};
 ghost use Rattle.tokei_count.specs.WeightLaws.{LightReadingsFit, LinesWithinWeight, ShortReadingsFit, StepsWithinWeight, WeightIsLength};
@@ -37,3 +38,10 @@ pub fn weight_is_length()
 pub fn short_readings_fit()
     ensures { ShortReadingsFit }
 {}
+
+/// A text has fewer than 2^64 bytes.
+pub fn lengths_fit(text: &[u8])
+    ensures { length text.now < 2 ^ 64 }
+{
+    let _length = text.len();
+}

@@ -3,6 +3,7 @@ ghost use Rattle.std.specs.Prelude.{◌≡◌, ◌<◌, false, length, map, IfOk
 ghost use Rattle.std.specs.List.{list_any};
 ghost use Rattle.tokei_table.specs.FirstOpener.{first_opener, is_first_of};
 ghost use Rattle.tokei_table.specs.Lookups.{row_at};
+ghost use Rattle.tokei_table.specs.WellFormed.{IsWellFormed};
 ghost use Rattle.tokei_table.specs.RowOf.{row_of, pairs_of, tokens_of};
 ghost use Rattle.tokei_count.specs.Matchers.{begins_opener, begins_choice, flags, matchers_of};
 
@@ -133,10 +134,11 @@ pub(crate) fn all_matchers(
     alloc: Global,
     table: &LanguageTable,
 ) -> Result<Vec<SharedMatchers>, AllocError>
-    ensures { IfOk result (λ v. v.items ≡ map matchers_of table.now) }
+    ensures matchers { IfOk result (λ v. v.items ≡ map matchers_of table.now) }
+    ensures well_formed { IfOk result (λ v. IsWellFormed table.now) }
 {
     let languages = LanguageType::list(alloc, table)?;
-    let mut all = Vec::new(alloc);
+    let mut all = Vec::with_capacity(alloc, table.len())?;
     for (language, _) in languages.as_slice() {
         all.push(SharedMatchers::new(alloc, table, *language)?)?;
     }

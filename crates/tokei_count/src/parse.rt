@@ -1,5 +1,5 @@
 //! The calls that count a text, and look at no more of it than they must.
-ghost use Rattle.std.specs.Prelude.{◌≡◌, ◌<◌, false, None, length, IfOk, IsErrOf, IsOk};
+ghost use Rattle.std.specs.Prelude.{◌≡◌, ◌<◌, ◌≤◌, false, None, length, IfOk, IsErrOf, IsOk};
 ghost use Rattle.tokei_table.specs.FirstOpener.{first_opener};
 ghost use Rattle.tokei_table.specs.Lookups.{row_at};
 ghost use Rattle.tokei_table.specs.Openers.{openers};
@@ -9,10 +9,14 @@ ghost use Rattle.tokei_stats.specs.Overflow.{Fits};
 ghost use Rattle.tokei_count.specs.PlainReading.{reading, outermost_levels};
 ghost use Rattle.tokei_count.specs.Seen.{docs_of};
 ghost use Rattle.tokei_count.specs.Steps.{steps, capped};
+ghost use Rattle.tokei_count.specs.Weight.{weight};
+ghost use Rattle.tokei_count.specs.WeightLaws.{HaveNoNotebook};
 ghost use Rattle.tokei_stats.specs.Seen.{stats_of};
+ghost use Rattle.tokei_stats.specs.Statistics.{lines_of, summary};
 
 use crate::config::CountConfig;
 use crate::counter::Counter;
+use crate::laws::lengths_fit;
 use crate::plain_reading::{OUTERMOST_LEVELS, read_text};
 use std::alloc::Global;
 use tokei_stats::{CodeStats, CountError};
@@ -33,10 +37,16 @@ pub fn parse_counted(
     requires { language < length counter.now }
     ensures reads { IfOk result (λ r. stats_of r.0 ≡ reading (languages_of counter.now) (docs_of config.now) outermost_levels language text.now) }
     ensures steps { IfOk result (λ r. r.1 ≡ capped (steps (languages_of counter.now) outermost_levels language text.now)) }
+    ensures most { IfOk result (λ r. r.1 ≤ weight (languages_of counter.now) outermost_levels language text.now) }
+    ensures few { HaveNoNotebook counter.now → IfOk result (λ r. r.1 ≤ length text.now) }
+    ensures weight { IfOk result (λ r. lines_of (summary (stats_of r.0)) ≤ weight (languages_of counter.now) outermost_levels language text.now) }
+    ensures short { HaveNoNotebook counter.now → IfOk result (λ r. lines_of (summary (stats_of r.0)) ≤ length text.now) }
+    ensures fits { HaveNoNotebook counter.now → ¬ IsErrOf result CountError.Overflow }
     ensures quiet { is_notebook (row_at counter.now language) ≡ false → first_opener (openers (row_at counter.now language)) text.now ≡ None → IsOk result }
     ensures overflow { IsErrOf result CountError.Overflow → ¬ Fits (reading (languages_of counter.now) (docs_of config.now) outermost_levels language text.now) }
 {
     let docs = config.treat_doc_strings_as_comments.unwrap_or(false);
+    lengths_fit(text);
     let read = read_text(
         alloc,
         counter.table(),
@@ -63,6 +73,9 @@ pub fn parse_from_slice(
 ) -> Result<CodeStats, CountError>
     requires { language < length counter.now }
     ensures reads { IfOk result (λ s. stats_of s ≡ reading (languages_of counter.now) (docs_of config.now) outermost_levels language text.now) }
+    ensures weight { IfOk result (λ r. lines_of (summary (stats_of r)) ≤ weight (languages_of counter.now) outermost_levels language text.now) }
+    ensures short { HaveNoNotebook counter.now → IfOk result (λ r. lines_of (summary (stats_of r)) ≤ length text.now) }
+    ensures fits { HaveNoNotebook counter.now → ¬ IsErrOf result CountError.Overflow }
     ensures quiet { is_notebook (row_at counter.now language) ≡ false → first_opener (openers (row_at counter.now language)) text.now ≡ None → IsOk result }
     ensures overflow { IsErrOf result CountError.Overflow → ¬ Fits (reading (languages_of counter.now) (docs_of config.now) outermost_levels language text.now) }
 {
@@ -80,6 +93,9 @@ pub fn parse_from_str(
 ) -> Result<CodeStats, CountError>
     requires { language < length counter.now }
     ensures reads { IfOk result (λ s. stats_of s ≡ reading (languages_of counter.now) (docs_of config.now) outermost_levels language text.now) }
+    ensures weight { IfOk result (λ r. lines_of (summary (stats_of r)) ≤ weight (languages_of counter.now) outermost_levels language text.now) }
+    ensures short { HaveNoNotebook counter.now → IfOk result (λ r. lines_of (summary (stats_of r)) ≤ length text.now) }
+    ensures fits { HaveNoNotebook counter.now → ¬ IsErrOf result CountError.Overflow }
     ensures quiet { is_notebook (row_at counter.now language) ≡ false → first_opener (openers (row_at counter.now language)) text.now ≡ None → IsOk result }
     ensures overflow { IsErrOf result CountError.Overflow → ¬ Fits (reading (languages_of counter.now) (docs_of config.now) outermost_levels language text.now) }
 {

@@ -1,0 +1,26 @@
+-- What a well-formed table bounds the counts and the steps by.
+use Rattle.std.proofs.Common.{◌≡◌, ℕ, suc, zero, ◌<◌, ◌≤◌, ◌⊎◌, inl, inr, Bool, true, ◌&&◌, List, [], ◌∷◌, length, sym, arith}
+use Rattle.std.specs.List.{list_all}
+use Rattle.tokei_table.specs.Lookups.{row_at}
+use Rattle.tokei_table.specs.Row.{Row}
+use Rattle.tokei_table.specs.WellFormed.{IsWellFormed, has_tokens}
+use Rattle.tokei_count.specs.Steps.{capped}
+use Rattle.tokei_count.specs.WeightLaws.{HaveTokens}
+use Rattle.tokei_count.proofs.Fits.{and_left, and_right}
+use Rattle.tokei_count.proofs.StepReading.{capped-is}
+
+pub have_tokens : (rows : List Row) → IsWellFormed rows → HaveTokens rows
+have_tokens rows w = each rows w.tokens
+  where
+    each : (rs : List Row) → list_all has_tokens rs ≡ true → HaveTokens rs
+    each [] h i l = absurd (omega (arith, l))
+    each (r ∷ rs) h zero l = and_left (has_tokens r) (list_all has_tokens rs) h
+    each (r ∷ rs) h (suc i) l = each rs (and_right (has_tokens r) (list_all has_tokens rs) h) i (omega (arith, l))
+
+-- a capped number is no more than the number
+pub capped-low : (n : ℕ) → capped n ≤ n
+capped-low n = by_case (capped-is n)
+  where
+    by_case : ((n ≤ 340282366920938463463374607431768211455) × (capped n ≡ n)) ⊎ ((340282366920938463463374607431768211455 ≤ n) × (capped n ≡ 340282366920938463463374607431768211455)) → capped n ≤ n
+    by_case (inl h) = omega (arith, h.1)
+    by_case (inr h) = omega (arith, h.0, h.1)
