@@ -39,3 +39,5 @@ pub mod TextReading
 pub mod KnownLanguages
 pub mod ListedLanguages
 pub mod NotebookReading
+pub mod ChildSums
+pub mod WalkedBytes

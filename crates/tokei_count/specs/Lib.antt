@@ -28,3 +28,4 @@ pub mod GlanceLaw
 pub mod Matchers
 pub mod PlainBytes
 pub mod Glanced
+pub mod OpeningItems
