@@ -41,3 +41,4 @@ pub mod ListedLanguages
 pub mod NotebookReading
 pub mod ChildSums
 pub mod WalkedBytes
+pub mod OpeningsAhead
