@@ -42,3 +42,4 @@ pub mod NotebookReading
 pub mod ChildSums
 pub mod WalkedBytes
 pub mod OpeningsAhead
+pub mod CalmChoices
