@@ -43,3 +43,4 @@ pub mod ChildSums
 pub mod WalkedBytes
 pub mod OpeningsAhead
 pub mod CalmChoices
+pub mod ByChoices
