@@ -44,3 +44,4 @@ pub mod WalkedBytes
 pub mod OpeningsAhead
 pub mod CalmChoices
 pub mod ByChoices
+pub mod WalkedOpenings
