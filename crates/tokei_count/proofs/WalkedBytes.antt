@@ -1,16 +1,14 @@
 -- At most one choice begins at a byte.
-use Rattle.std.proofs.Common.{◌≡◌, ℕ, suc, zero, ◌+◌, ◌≤◌, ◌==◌, Bool, true, false, cond, List, [], ◌∷◌, ◌++◌, length, drop, None, arith, length-append}
-use Rattle.std.specs.Prelude.{⊤}
-use Rattle.tokei_table.specs.Row.{Row}
+use Rattle.std.proofs.Common.{ℕ, ◌+◌, ◌≤◌, ◌==◌, Bool, true, false, cond, List, [], ◌∷◌, ◌++◌, length, drop, None, arith, length-append}
 use Rattle.tokei_count.specs.Glance.{is_walked}
-use Rattle.tokei_count.specs.Items.{Block, Items, Mode}
+use Rattle.tokei_count.specs.Items.{Mode}
 use Rattle.tokei_count.specs.Languages.{Languages}
 use Rattle.tokei_count.specs.Lines.{first_line}
 use Rattle.tokei_count.specs.Modes.{Mark, innermost}
 use Rattle.tokei_count.specs.Modes.Mark.{byte_at, child_at}
 use Rattle.tokei_count.specs.Steps.{walked_choices, walked_bytes, own_steps, own_work, steps, work}
 use Rattle.tokei_count.specs.Stretches.{Stretch, one_if, stretches}
-use Rattle.tokei_count.proofs.ChildSums.{AreIn, IsMost, cond-most, with_children-most}
+use Rattle.tokei_count.proofs.ChildSums.{cond-most, with_children-most}
 
 one_if-most : (x : Bool) → one_if x ≤ 1
 one_if-most true = omega arith
@@ -38,17 +36,6 @@ choices-most os (byte_at b x c ∷ ms) m s n t h =
 choices-most os (child_at k ∷ ms) m s n t h =
     stretch-most os m (s ++ first_line t) (length s) n (stretches None [] 0 (drop k.size t) ms) h (choices-most os ms None [] 0 (drop k.size t) (omega arith))
 
-all_in : (ks : List Block) → AreIn (λ n. ⊤) ks
-all_in [] = tt
-all_in (k ∷ ks) = (tt, all_in ks)
-
 -- the steps of a text are at most its work
 pub steps-most : (ls : Languages) (levels language : ℕ) (t : List ℕ) → steps ls levels language t ≤ work ls levels language t
-steps-most ls levels language t = with_children-most ls (λ n. ⊤) own_steps own_work most levels language t tt
-  where
-    most : IsMost ls (λ n. ⊤) own_steps own_work
-    most = record {
-      texts = λ levels language t k. choices-most _ _ _ [] 0 t (omega arith);
-      kids = λ levels language t k. all_in _;
-      cells = λ language t k. all_in _;
-    }
+steps-most ls = with_children-most ls own_steps own_work (λ levels language t. choices-most _ _ _ [] 0 t (omega arith))

@@ -29,3 +29,4 @@ pub mod Matchers
 pub mod PlainBytes
 pub mod Glanced
 pub mod OpeningItems
+pub mod StepLaw

@@ -2,6 +2,7 @@
 ghost use Rattle.std.specs.Prelude.{◌<◌, ◌^◌, length};
 ghost use Rattle.tokei_count.specs.GlanceLaw.{PlainPartsStayPlain};
 ghost use Rattle.tokei_count.specs.Spelling.{ItemsSpellText};
+ghost use Rattle.tokei_count.specs.StepLaw.{OpeningsStepsWork};
 ghost use Rattle.tokei_count.specs.WeightLaws.{LightReadingsFit, LinesWithinWeight, ShortReadingsFit, StepsWithinWeight, WeightIsLength};
 
 /// The items of a text spell it.
@@ -12,6 +13,11 @@ pub fn items_spell_text()
 /// A part that begins plain and holds no opener ends plain, and no child opens in it.
 pub fn plain_parts_stay_plain()
     ensures { PlainPartsStayPlain }
+{}
+
+/// The steps of a text are at least its openings and at most its work, through all children.
+pub fn steps_lie_between()
+    ensures { OpeningsStepsWork }
 {}
 
 /// A text takes no more steps than it weighs.
