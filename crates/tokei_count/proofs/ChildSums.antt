@@ -1,17 +1,14 @@
 -- Numbers of texts with those of their children.
-use Rattle.std.proofs.Common.{ℕ, zero, suc, ◌≤◌, Bool, true, false, cond, List, [], ◌∷◌, arith}
+use Rattle.std.proofs.Common.{ℕ, zero, suc, ◌≤◌, Bool, true, false, cond, List, arith}
 use Rattle.tokei_table.specs.Row.{Row}
-use Rattle.tokei_count.specs.Items.{Block, Items}
+use Rattle.tokei_count.specs.Items.{Items}
 use Rattle.tokei_count.specs.Languages.{Languages, is_notebook}
-use Rattle.tokei_count.specs.Steps.{sum_over, items_in, children_in, with_children}
+use Rattle.tokei_count.specs.Steps.{items_in, children_in, with_children}
+use Rattle.tokei_count.proofs.StepWeight.{sum_less}
 
 pub cond-most : (x : Bool) (a b a' b' : ℕ) → a ≤ a' → b ≤ b' → cond x a b ≤ cond x a' b'
 cond-most true a b a' b' h k = h
 cond-most false a b a' b' h k = k
-
-sum_over-most : (f f' : Block → ℕ) → ((k : Block) → f k ≤ f' k) → (ks : List Block) → sum_over f ks ≤ sum_over f' ks
-sum_over-most f f' h [] = omega arith
-sum_over-most f f' h (k ∷ ks) = omega (arith, h k, sum_over-most f f' h ks)
 
 module _ (ls : Languages) (own own' : Row → List ℕ → Items → ℕ) where
   -- one number of each text is at most another, its children apart
@@ -23,5 +20,5 @@ module _ (ls : Languages) (own own' : Row → List ℕ → Items → ℕ) where
   unfolding with_children
   with_children-most most zero language t = cond-most (is_notebook (ls.row language)) 0 _ 0 _ (omega arith) (omega (arith, most zero language t))
   with_children-most most (suc levels) language t =
-      let sums = sum_over-most (λ k. with_children own ls levels k.language k.contents) (λ k. with_children own' ls levels k.language k.contents) (λ k. with_children-most most levels k.language k.contents) in
+      let sums = sum_less (λ k. with_children own ls levels k.language k.contents) (λ k. with_children own' ls levels k.language k.contents) (λ k. with_children-most most levels k.language k.contents) in
       cond-most (is_notebook (ls.row language)) _ _ _ _ (sums (ls.cells language t)) (omega (arith, most (suc levels) language t, sums (children_in ls (suc levels) language t)))

@@ -1,5 +1,5 @@
 -- Each opening is a choice in a walked part.
-use Rattle.std.proofs.Common.{◌≡◌, ℕ, suc, zero, ◌+◌, ◌<◌, ◌≤◌, ◌==◌, Bool, true, false, not, ◌||◌, cond, List, [], ◌∷◌, ◌++◌, length, take, drop, Option, None, refl, sym, ◌∙◌, ap, append_assoc, arith, length-append}
+use Rattle.std.proofs.Common.{◌≡◌, ℕ, ◌+◌, ◌<◌, ◌≤◌, Bool, true, false, not, ◌||◌, cond, List, [], ◌∷◌, ◌++◌, length, take, drop, Option, None, refl, sym, ◌∙◌, ap, append_assoc, arith, length-append}
 use Rattle.std.proofs.lemmas.List.{append-nil, length-take-le}
 use Rattle.tokei_table.specs.Openers.{openers}
 use Rattle.tokei_table.specs.Row.{Row}
@@ -20,16 +20,7 @@ use Rattle.tokei_count.proofs.CalmChoices.{holds-behind}
 use Rattle.tokei_count.proofs.Cuts.{stretches_newline}
 use Rattle.tokei_count.proofs.OpeningsAhead.{openings_ahead, openings_ahead-end}
 use Rattle.tokei_count.proofs.PartFronts.{line_len_within}
-
--- bytes of a line, and the line behind them
-line_on : (n : ℕ) (t : List ℕ) → n ≤ line_len t → take n t ++ first_line (drop n t) ≡ first_line t
-line_on zero t h = refl
-line_on (suc n) [] h = refl
-line_on (suc n) (b ∷ t) h = by_test (b == 10) h (line_on n t)
-  where
-    by_test : (x : Bool) → suc n ≤ cond x 0 (suc (line_len t)) → (n ≤ line_len t → take n t ++ first_line (drop n t) ≡ first_line t) → b ∷ (take n t ++ first_line (drop n t)) ≡ cond x (b ∷ []) (b ∷ first_line t)
-    by_test true h f = absurd (omega (arith, h))
-    by_test false h f = ap (λ w. b ∷ w) (f (omega arith))
+use Rattle.tokei_count.proofs.PartReading.{line_from}
 
 -- a part that isn't walked holds no opener
 walked-holds : (os : List (List ℕ)) (m : Mode) (reach : List ℕ) → is_walked os m reach ≡ false → holds os reach ≡ false
@@ -88,7 +79,7 @@ module _ (g : Row) (block : ℕ → List ℕ → Option Block) where
       let s' : List ℕ = s ++ take n t in
       let some : 0 < n = h.goes.some in
       let within : n ≤ line_len t = h.goes.within in
-      let reach : s' ++ first_line (drop n t) ≡ s ++ first_line t = append_assoc s (take n t) (first_line (drop n t)) ∙ ap (λ r. s ++ r) (line_on n t within) in
+      let reach : s' ++ first_line (drop n t) ≡ s ++ first_line t = append_assoc s (take n t) (first_line (drop n t)) ∙ ap (λ r. s ++ r) (line_from n t within) in
       let len : length (take n t) ≡ n = length-take-le n t (omega (arith, within, line_len_within t)) in
       let calm : is_walked (openers g) m (s' ++ first_line (drop n t)) ≡ false → (d ≡ []) × (o + x ≡ 0) = λ e.
       let e' : is_walked (openers g) m (s ++ first_line t) ≡ false = ap (is_walked (openers g) m) (sym reach) ∙ e in
