@@ -33,6 +33,7 @@ pub mod LineWeight
 pub mod GlanceReading
 pub mod PlainBytes
 pub mod TableBounds
+pub mod StepsBetween
 pub mod Pieces
 pub mod LineEnds
 pub mod TextReading

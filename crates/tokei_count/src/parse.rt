@@ -8,7 +8,8 @@ ghost use Rattle.tokei_count.specs.Openings.{languages_of};
 ghost use Rattle.tokei_stats.specs.Overflow.{Fits};
 ghost use Rattle.tokei_count.specs.PlainReading.{reading, outermost_levels};
 ghost use Rattle.tokei_count.specs.Seen.{docs_of};
-ghost use Rattle.tokei_count.specs.Steps.{steps, capped};
+ghost use Rattle.tokei_count.specs.Steps.{steps, work, capped};
+ghost use Rattle.tokei_count.specs.OpeningItems.{openings};
 ghost use Rattle.tokei_count.specs.Weight.{weight};
 ghost use Rattle.tokei_count.specs.WeightLaws.{HaveNoNotebook};
 ghost use Rattle.tokei_stats.specs.Seen.{stats_of};
@@ -37,6 +38,8 @@ pub fn parse_counted(
     requires { language < length counter.now }
     ensures reads { IfOk result (λ r. stats_of r.0 ≡ reading (languages_of counter.now) (docs_of config.now) outermost_levels language text.now) }
     ensures steps { IfOk result (λ r. r.1 ≡ capped (steps (languages_of counter.now) outermost_levels language text.now)) }
+    ensures least { IfOk result (λ r. capped (openings (languages_of counter.now) outermost_levels language text.now) ≤ r.1) }
+    ensures worked { IfOk result (λ r. r.1 ≤ work (languages_of counter.now) outermost_levels language text.now) }
     ensures most { IfOk result (λ r. r.1 ≤ weight (languages_of counter.now) outermost_levels language text.now) }
     ensures few { HaveNoNotebook counter.now → IfOk result (λ r. r.1 ≤ length text.now) }
     ensures weight { IfOk result (λ r. lines_of (summary (stats_of r.0)) ≤ weight (languages_of counter.now) outermost_levels language text.now) }

@@ -1,20 +1,5 @@
-use Rattle.tokei_table.specs.Lookups.{row_at}
-use Rattle.tokei_count.specs.Openings.{languages_of}
-use Rattle.tokei_count.specs.OpeningItems.{own_openings}
-use Rattle.tokei_count.specs.PlainReading.{blocks}
-use Rattle.tokei_count.specs.Steps.{own_steps}
-use Rattle.tokei_count.proofs.Blocks.{by_levels}
-use Rattle.tokei_count.proofs.ChildSums.{with_children-most}
-use Rattle.tokei_count.proofs.QuietBlocks.{quiet_blocks}
-use Rattle.tokei_count.proofs.WalkedBytes.{steps-most}
-use Rattle.tokei_count.proofs.WalkedOpenings.{own_openings-most}
-use Rattle.tokei_count.proofs.Weights.{every_token}
+use Rattle.tokei_count.proofs.StepsBetween.{steps-between}
 use Rattle.tokei_count.proofs.laws.steps_lie_between.Goals as goal
 
 pub returns : goal.returns
-returns c = λ rows tokens levels language t. record {
-  low = with_children-most (languages_of rows) own_openings own_steps
-      (λ levels language t. own_openings-most (row_at rows language) (blocks (languages_of rows) levels language t) (quiet_blocks rows levels language t) (every_token rows tokens language) (by_levels rows language t levels) t)
-      levels language t;
-  high = steps-most (languages_of rows) levels language t;
-}
+returns c = steps-between

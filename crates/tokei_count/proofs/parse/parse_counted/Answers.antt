@@ -1,6 +1,7 @@
 use Rattle.std.proofs.Common.{◌≡◌, ℕ, ◌≤◌, ◌<◌, List, length, Err, refl, sym, ap, subst, ◌∙◌, arith}
 use Rattle.std.proofs.lemmas.Result.{err_from_is_err_and}
 use Rattle.tokei_table.specs.Row.{Row}
+use Rattle.tokei_count.specs.OpeningItems.{openings}
 use Rattle.tokei_count.specs.Openings.{languages_of}
 use Rattle.tokei_count.specs.PlainReading.{reading, outermost_levels}
 use Rattle.tokei_count.specs.Steps.{steps, capped}
@@ -11,7 +12,8 @@ use Rattle.tokei_stats.specs.Statistics.{lines_of, summary}
 use Rattle.tokei_stats.specs.declared.error.CountError.TheVariants.{Overflow}
 use Rattle.tokei_count.proofs.LineWeight.{lines-weight, reading-fits_by_length}
 use Rattle.tokei_count.proofs.StepWeight.{steps-weight}
-use Rattle.tokei_count.proofs.TableBounds.{have_tokens, capped-low}
+use Rattle.tokei_count.proofs.StepsBetween.{steps-between}
+use Rattle.tokei_count.proofs.TableBounds.{have_tokens, capped-low, capped-more}
 use Rattle.tokei_count.proofs.Weights.{weight-length}
 use Rattle.tokei_count.proofs.parse.parse_counted.Goals as goal
 
@@ -44,3 +46,17 @@ returns-in_err-read-clause-fits c = λ none.
     subst (λ (rows : List Row). Fits (reading (languages_of rows) c.unwrap_or-docs.result outermost_levels c.args.language c.args.text.now)) (sym c.table.ensures.table) fits in
     let p = err_from_is_err_and c.from_residual.result c.from_residual.ensures.1 in
     rw (p.1, p.2) (λ is. let same_err : c.in_err-read.field-0.0 ≡ Overflow = cc in c.in_err-read.ensures.overflow (ap Err same_err) here)
+
+pub returns-clause-least : goal.returns-clause-least
+returns-clause-least c =
+    let all : ℕ = steps (languages_of c.args.counter.now) outermost_levels c.args.language c.args.text.now in
+    let low = (steps-between c.args.counter.now (have_tokens c.args.counter.now c.table.ensures.well_formed) outermost_levels c.args.language c.args.text.now).low in
+    let steps_are : c.in_ok-read.read.steps ≡ capped all = c.in_ok-read.ensures.steps refl ∙ ap (λ (rows : List Row). capped (steps (languages_of rows) outermost_levels c.args.language c.args.text.now)) c.table.ensures.table in
+    omega (arith, steps_are, capped-more (openings (languages_of c.args.counter.now) outermost_levels c.args.language c.args.text.now) all low)
+
+pub returns-clause-worked : goal.returns-clause-worked
+returns-clause-worked c =
+    let all : ℕ = steps (languages_of c.args.counter.now) outermost_levels c.args.language c.args.text.now in
+    let high = (steps-between c.args.counter.now (have_tokens c.args.counter.now c.table.ensures.well_formed) outermost_levels c.args.language c.args.text.now).high in
+    let steps_are : c.in_ok-read.read.steps ≡ capped all = c.in_ok-read.ensures.steps refl ∙ ap (λ (rows : List Row). capped (steps (languages_of rows) outermost_levels c.args.language c.args.text.now)) c.table.ensures.table in
+    omega (arith, steps_are, high, capped-low all)
