@@ -31,3 +31,6 @@ pub use tokei_embedding::{
 };
 pub use tokei_stats::{CodeStats, CountError, Report, ReportRow};
 pub use tokei_text::{decode_text, find_char_boundary};
+
+#[cfg(test)]
+mod tests;
