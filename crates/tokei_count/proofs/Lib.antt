@@ -45,4 +45,5 @@ pub mod WalkedBytes
 pub mod OpeningsAhead
 pub mod CalmChoices
 pub mod ByChoices
+pub mod UnwalkedParts
 pub mod WalkedOpenings

@@ -1,10 +1,9 @@
 -- Each opening is a choice in a walked part.
-use Rattle.std.proofs.Common.{◌≡◌, ℕ, ◌+◌, ◌<◌, ◌≤◌, Bool, true, false, not, ◌||◌, cond, List, [], ◌∷◌, ◌++◌, length, take, drop, Option, None, refl, sym, ◌∙◌, ap, append_assoc, arith, length-append}
+use Rattle.std.proofs.Common.{◌≡◌, ℕ, ◌+◌, ◌<◌, ◌≤◌, Bool, true, false, cond, List, [], ◌∷◌, ◌++◌, length, take, drop, Option, None, refl, ◌∙◌, ap, arith, length-append}
 use Rattle.std.proofs.lemmas.List.{append-nil, length-take-le}
 use Rattle.tokei_table.specs.Openers.{openers}
 use Rattle.tokei_table.specs.Row.{Row}
 use Rattle.tokei_table.specs.WellFormed.{has_tokens}
-use Rattle.tokei_count.specs.Class.{is_plain}
 use Rattle.tokei_count.specs.Derivation.{items_of}
 use Rattle.tokei_count.specs.Glance.{holds, is_walked}
 use Rattle.tokei_count.specs.Items.{Block, Mode}
@@ -16,19 +15,10 @@ use Rattle.tokei_count.specs.Steps.{walked_choices, own_steps}
 use Rattle.tokei_count.specs.Stretches.{Stretch, stretches}
 use Rattle.tokei_count.proofs.Ahead.{marks_ahead-end}
 use Rattle.tokei_count.proofs.ByChoices.{Takes, IsNewline, IsChild, IsCarried, by_choices}
-use Rattle.tokei_count.proofs.CalmChoices.{holds-behind}
 use Rattle.tokei_count.proofs.Cuts.{stretches_newline}
 use Rattle.tokei_count.proofs.OpeningsAhead.{openings_ahead, openings_ahead-end}
 use Rattle.tokei_count.proofs.PartFronts.{line_len_within}
-use Rattle.tokei_count.proofs.PartReading.{line_from}
-
--- a part that isn't walked holds no opener
-walked-holds : (os : List (List ℕ)) (m : Mode) (reach : List ℕ) → is_walked os m reach ≡ false → holds os reach ≡ false
-walked-holds os m reach h = by_test (is_plain m) h
-  where
-    by_test : (x : Bool) → (not x || holds os reach) ≡ false → holds os reach ≡ false
-    by_test true h = h
-    by_test false h = cc
+use Rattle.tokei_count.proofs.UnwalkedParts.{IsPlainSoFar, plain_first, unwalked_on, calm_on}
 
 -- the openings o of a part are choices of it where it is walked, and else there are none
 in_front : (os : List (List ℕ)) (m : Mode) (reach : List ℕ) (size n o x : ℕ) (ss : List Stretch) → o ≤ n → (is_walked os m reach ≡ false → o ≡ 0) → x ≤ walked_choices os ss
@@ -45,7 +35,8 @@ module _ (g : Row) (block : ℕ → List ℕ → Option Block) where
   record IsUnderWay (m : Mode) (s : List ℕ) (n o : ℕ) (c : Chain) (t : List ℕ) : Type 0 where
     few : o ≤ n
     within : n ≤ length s
-    calm : is_walked (openers g) m (s ++ first_line t) ≡ false → (c ≡ []) × (o ≡ 0)
+    plain : IsPlainSoFar (openers g) m s c t
+    none : is_walked (openers g) m (s ++ first_line t) ≡ false → o ≡ 0
 
   -- the openings of the part under way and those that are left are choices in walked parts
   abbrev AreWalked : ℕ → Chain → List ℕ → Type 0
@@ -53,14 +44,13 @@ module _ (g : Row) (block : ℕ → List ℕ → Option Block) where
 
   -- where a part begins
   begun : (c : Chain) (t : List ℕ) → IsUnderWay (innermost c) [] 0 0 c t
-  begun [] t = record { few = omega arith; within = omega arith; calm = λ h. (refl, refl) }
-  begun (e ∷ c) t = record { few = omega arith; within = omega arith; calm = λ h. cc }
+  begun c t = record { few = omega arith; within = omega arith; plain = plain_first (openers g) c t; none = λ h. refl }
 
   at_end : (l : ℕ) (c : Chain) → AreWalked l c []
   unfolding stretches
   at_end l c m [] n o w = omega (arith, w.few, w.within, openings_ahead-end g block l c)
   at_end l c m (a ∷ s) n o w =
-      let none : is_walked (openers g) m (a ∷ s) ≡ false → o ≡ 0 = λ h. (w.calm (ap (is_walked (openers g) m) (append-nil (a ∷ s)) ∙ h)).1 in
+      let none : is_walked (openers g) m (a ∷ s) ≡ false → o ≡ 0 = λ h. w.none (ap (is_walked (openers g) m) (append-nil (a ∷ s)) ∙ h) in
       let here : walked_choices (openers g) (stretches m (a ∷ s) n [] (marks_ahead g block l c [])) ≡ walked_choices (openers g) (stretches m (a ∷ s) n [] []) = ap (λ ms. walked_choices (openers g) (stretches m (a ∷ s) n [] ms)) (marks_ahead-end g block l c) in
       let all : o + 0 ≤ walked_choices (openers g) (stretches m (a ∷ s) n [] []) = in_front (openers g) m (a ∷ s) (length (a ∷ s)) n o 0 [] w.few none (omega arith) in
       omega (arith, all, here, openings_ahead-end g block l c)
@@ -71,35 +61,33 @@ module _ (g : Row) (block : ℕ → List ℕ → Option Block) where
       let rest : List Stretch = stretches (innermost c) [] 0 u (marks_ahead g block l c u) in
       let here : stretches m s n (10 ∷ u) (marks_ahead g block l c (10 ∷ u)) ≡ record { begun = m; reach = line; size = length line; choices = n + 1 } ∷ rest = ap (stretches m s n (10 ∷ u)) h.marks ∙ stretches_newline m s n (10 ∷ u) true c (marks_ahead g block l c u) in
       let left : openings_ahead g block l c u ≤ walked_choices (openers g) rest = omega (arith, ih (innermost c) [] 0 0 (begun c u)) in
-      let all = in_front (openers g) m line (length line) (n + 1) o (openings_ahead g block l c u) rest (omega (arith, w.few)) (λ e. (w.calm e).1) left in
+      let all = in_front (openers g) m line (length line) (n + 1) o (openings_ahead g block l c u) rest (omega (arith, w.few)) w.none left in
       omega (arith, all, ap (walked_choices (openers g)) here, h.openings)
 
   by_bytes : (l : ℕ) (c : Chain) (n j x : ℕ) (d : Chain) (t : List ℕ) → Takes g block l c n j x d t → AreWalked l d (drop n t) → AreWalked l c t
   by_bytes l c n j x d t h ih m s k o w =
       let s' : List ℕ = s ++ take n t in
       let some : 0 < n = h.goes.some in
-      let within : n ≤ line_len t = h.goes.within in
-      let reach : s' ++ first_line (drop n t) ≡ s ++ first_line t = append_assoc s (take n t) (first_line (drop n t)) ∙ ap (λ r. s ++ r) (line_from n t within) in
-      let len : length (take n t) ≡ n = length-take-le n t (omega (arith, within, line_len_within t)) in
-      let calm : is_walked (openers g) m (s' ++ first_line (drop n t)) ≡ false → (d ≡ []) × (o + x ≡ 0) = λ e.
-      let e' : is_walked (openers g) m (s ++ first_line t) ≡ false = ap (is_walked (openers g) m) (sym reach) ∙ e in
-      let before : (c ≡ []) × (o ≡ 0) = w.calm e' in
-      let after : (d ≡ []) × (x ≡ 0) = h.calm before.0 (holds-behind (openers g) s (first_line t) (walked-holds (openers g) m (s ++ first_line t) e')) in
-      (after.0, omega (arith, before.1, after.1)) in
-      let next : IsUnderWay m s' (k + j) (o + x) d (drop n t) = record { few = omega (arith, w.few, h.few); within = omega (arith, w.within, h.one, length-append s (take n t), len, some); calm = calm } in
+      let len : length (take n t) ≡ n = length-take-le n t (omega (arith, h.goes.within, line_len_within t)) in
+      let next : IsUnderWay m s' (k + j) (o + x) d (drop n t) = record {
+        few = omega (arith, w.few, h.few);
+        within = omega (arith, w.within, h.one, length-append s (take n t), len, some);
+        plain = λ e. (calm_on g block l c n j x d t h m s w.plain e).0;
+        none = λ e. omega (arith, w.none (unwalked_on g block l c n j x d t h m s e), (calm_on g block l c n j x d t h m s w.plain e).1);
+      } in
       omega (arith, ih m s' (k + j) (o + x) next, ap (walked_choices (openers g)) (h.goes.leads.choices m s k), h.openings)
 
-  module _ (quiet : (l : ℕ) (u : List ℕ) → holds (openers g) (first_line u) ≡ false → (n : ℕ) → n < line_len u → block l (drop n u) ≡ None) where
-    by_child : (l l' : ℕ) (k : Block) (t : List ℕ) → IsChild g block l l' k t → AreWalked l' [] (drop k.size t) → AreWalked l [] t
-    unfolding stretches
-    by_child l l' k t h ih m s n o w =
-        let reach : List ℕ = s ++ first_line t in
-        let rest : List Stretch = stretches None [] 0 (drop k.size t) (marks_ahead g block l' [] (drop k.size t)) in
-        let here : stretches m s n t (marks_ahead g block l [] t) ≡ record { begun = m; reach = reach; size = length s; choices = n } ∷ rest = ap (stretches m s n t) h.marks in
-        let left : openings_ahead g block l' [] (drop k.size t) ≤ walked_choices (openers g) rest = omega (arith, ih None [] 0 0 (begun [] (drop k.size t))) in
-        let all = in_front (openers g) m reach (length s) n o (openings_ahead g block l' [] (drop k.size t)) rest w.few (λ e. (w.calm e).1) left in
-        omega (arith, all, ap (walked_choices (openers g)) here, h.openings)
+  by_child : (l l' : ℕ) (k : Block) (t : List ℕ) → IsChild g block l l' k t → AreWalked l' [] (drop k.size t) → AreWalked l [] t
+  unfolding stretches
+  by_child l l' k t h ih m s n o w =
+      let reach : List ℕ = s ++ first_line t in
+      let rest : List Stretch = stretches None [] 0 (drop k.size t) (marks_ahead g block l' [] (drop k.size t)) in
+      let here : stretches m s n t (marks_ahead g block l [] t) ≡ record { begun = m; reach = reach; size = length s; choices = n } ∷ rest = ap (stretches m s n t) h.marks in
+      let left : openings_ahead g block l' [] (drop k.size t) ≤ walked_choices (openers g) rest = omega (arith, ih None [] 0 0 (begun [] (drop k.size t))) in
+      let all = in_front (openers g) m reach (length s) n o (openings_ahead g block l' [] (drop k.size t)) rest w.few w.none left in
+      omega (arith, all, ap (walked_choices (openers g)) here, h.openings)
 
+  module _ (quiet : (l : ℕ) (u : List ℕ) → holds (openers g) (first_line u) ≡ false → (n : ℕ) → n < line_len u → block l (drop n u) ≡ None) where
     -- the openings of a text are at most its steps, its children apart
     pub own_openings-most : has_tokens g ≡ true → FitsBlocks block → (t : List ℕ) → own_openings g t (items_of g block t) ≤ own_steps g t (items_of g block t)
     unfolding openings_ahead marks_ahead

@@ -30,3 +30,4 @@ pub mod PlainBytes
 pub mod Glanced
 pub mod OpeningItems
 pub mod StepLaw
+pub mod PartLaw

@@ -1,6 +1,7 @@
 //! Laws of the definitions alone: each is the contract of a function that does nothing.
 ghost use Rattle.std.specs.Prelude.{◌<◌, ◌^◌, length};
 ghost use Rattle.tokei_count.specs.GlanceLaw.{PlainPartsStayPlain};
+ghost use Rattle.tokei_count.specs.PartLaw.{UnwalkedPartsStayPlain};
 ghost use Rattle.tokei_count.specs.Spelling.{ItemsSpellText};
 ghost use Rattle.tokei_count.specs.StepLaw.{OpeningsStepsWork};
 ghost use Rattle.tokei_count.specs.WeightLaws.{LightReadingsFit, LinesWithinWeight, ShortReadingsFit, StepsWithinWeight, WeightIsLength};
@@ -13,6 +14,11 @@ pub fn items_spell_text()
 /// A part that begins plain and holds no opener ends plain, and no child opens in it.
 pub fn plain_parts_stay_plain()
     ensures { PlainPartsStayPlain }
+{}
+
+/// A part of a text that isn't walked begins and ends in plain text, and no child breaks it off.
+pub fn unwalked_parts_stay_plain()
+    ensures { UnwalkedPartsStayPlain }
 {}
 
 /// The steps of a text are at least its openings and at most its work, through all children.

@@ -1,0 +1,31 @@
+-- The law behind the glance, by the parts of a text alone: a part that isn't walked begins and ends in plain text, and no
+-- child breaks it off.
+use Rattle.std.specs.Prelude.{◌≡◌, ℕ, false, List, [], length, None}
+use Rattle.std.specs.List.{AllByRecursion}
+use Rattle.tokei_table.specs.Lookups.{row_at}
+use Rattle.tokei_table.specs.Openers.{openers}
+use Rattle.tokei_table.specs.Row.{Row}
+use Rattle.tokei_count.specs.Glance.{is_walked}
+use Rattle.tokei_count.specs.Modes.{Mark, marks}
+use Rattle.tokei_count.specs.Openings.{languages_of}
+use Rattle.tokei_count.specs.Parts.{Part, parts_of}
+use Rattle.tokei_count.specs.Steps.{items_in}
+use Rattle.tokei_count.specs.Stretches.{Stretch, stretches}
+use Rattle.tokei_count.specs.WeightLaws.{HaveTokens}
+
+-- where it isn't walked it begins and ends in plain text
+abbrev pub IsInPlainText : List (List ℕ) → Part → Type 0
+IsInPlainText os p = is_walked os p.begun p.bytes ≡ false → (p.begun ≡ None) × (p.ended ≡ None)
+
+-- where it isn't walked it has all of its reach
+abbrev pub IsUnbroken : List (List ℕ) → Stretch → Type 0
+IsUnbroken os s = is_walked os s.begun s.reach ≡ false → s.size ≡ length s.reach
+
+-- so it is with the parts of the text t, whose marks these are
+pub record UnwalkedStayPlain (os : List (List ℕ)) (t : List ℕ) (ms : List Mark) : Type 0 where
+  pub parts : AllByRecursion (IsInPlainText os) (parts_of ms)
+  pub unbroken : AllByRecursion (IsUnbroken os) (stretches None [] 0 t ms)
+
+-- and so with those of each text, by a table of which all texts that a count looks for are tokens
+abbrev pub UnwalkedPartsStayPlain : Type 0
+UnwalkedPartsStayPlain = (rows : List Row) → HaveTokens rows → (levels language : ℕ) (t : List ℕ) → UnwalkedStayPlain (openers (row_at rows language)) t (marks [] (items_in (languages_of rows) levels language t))
