@@ -21,7 +21,6 @@ pub mod TokenOpeners
 pub mod OpenersInLines
 pub mod Glancing
 pub mod QuietBlocks
-pub mod GlanceClass
 pub mod StepReading
 pub mod Weights
 pub mod HeavyBlocks
@@ -32,6 +31,7 @@ pub mod Summaries
 pub mod LineWeight
 pub mod GlanceReading
 pub mod PlainBytes
+pub mod CodeHeads
 pub mod TableBounds
 pub mod StepsBetween
 pub mod Pieces

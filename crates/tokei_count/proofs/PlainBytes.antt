@@ -47,16 +47,16 @@ flag_at f (suc n) i h = by_case (last_or i n (omega (arith, h))) (flag_at f n i)
     by_case (inl k) rec = index-front (flags f n) (f n ∷ []) i (omega (arith, k, length-flags f n)) ∙ rec k
     by_case (inr k) rec = ap (λ m. slice_index_or (flags f n ++ f n ∷ []) m false) (k ∙ sym (length-flags f n)) ∙ index-last (flags f n) (f n) ∙ ap f (sym k)
 
-or_left : (a b : Bool) → (a || b) ≡ false → a ≡ false
+pub or_left : (a b : Bool) → (a || b) ≡ false → a ≡ false
 or_left true b h = cc
 or_left false b h = refl
 
-or_right : (a b : Bool) → (a || b) ≡ false → b ≡ false
+pub or_right : (a b : Bool) → (a || b) ≡ false → b ≡ false
 or_right true b h = cc
 or_right false b h = h
 
 -- a token that begins with another byte doesn't begin the text
-not_begun : (p : List ℕ) (b : ℕ) (t : List ℕ) → (p ≡ [] → ⊥) → is_first_of b p ≡ false → begins p (b ∷ t) ≡ false
+pub not_begun : (p : List ℕ) (b : ℕ) (t : List ℕ) → (p ≡ [] → ⊥) → is_first_of b p ≡ false → begins p (b ∷ t) ≡ false
 not_begun [] b t some h = absurd (some refl)
 not_begun (x ∷ p) b t some h = ap (λ y. y && begins p t) (turned b x h)
   where
@@ -67,7 +67,7 @@ not_begun (x ∷ p) b t some h = ap (λ y. y && begins p t) (turned b x h)
         by_test true e = let same : x ≡ b = (Decides-eqb x b).0 e in let back : (b == x) ≡ true = (Decides-eqb b x).1 (sym same) in cc
         by_test false e = refl
 
-token_some : (p : List ℕ) → is_token p ≡ true → p ≡ [] → ⊥
+pub token_some : (p : List ℕ) → is_token p ≡ true → p ≡ [] → ⊥
 token_some [] h e = cc
 token_some (x ∷ p) h e = cc
 
@@ -78,7 +78,7 @@ none_opened (p ∷ ps) b t s h =
     ap (λ y. cond y (Some p) (opened ps (b ∷ t))) (not_begun p.opener b t (token_some p.opener opener) (or_left (is_first_of b p.opener) (begins_opener ps b) h))
     ∙ none_opened ps b t (and_right (is_pair p) (list_all is_pair ps) s) (or_right (is_first_of b p.opener) (begins_opener ps b) h)
 
-none_begins : (ts : List (List ℕ)) (b : ℕ) (t : List ℕ) → list_all is_token ts ≡ true → list_any (is_first_of b) ts ≡ false → any_begins ts (b ∷ t) ≡ false
+pub none_begins : (ts : List (List ℕ)) (b : ℕ) (t : List ℕ) → list_all is_token ts ≡ true → list_any (is_first_of b) ts ≡ false → any_begins ts (b ∷ t) ≡ false
 none_begins [] b t s h = refl
 none_begins (p ∷ ts) b t s h =
     ap (λ y. y || any_begins ts (b ∷ t)) (not_begun p b t (token_some p (and_left (is_token p) (list_all is_token ts) s)) (or_left (is_first_of b p) (list_any (is_first_of b) ts) h))

@@ -27,6 +27,7 @@ pub mod WeightLaws
 pub mod GlanceLaw
 pub mod Matchers
 pub mod PlainBytes
+pub mod CodeHeads
 pub mod Glanced
 pub mod OpeningItems
 pub mod StepLaw

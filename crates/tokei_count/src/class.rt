@@ -1,16 +1,17 @@
 //! What a part counts as.
-ghost use Rattle.std.specs.Prelude.{◌≡◌, Bool, None, false};
-ghost use Rattle.tokei_table.specs.Openers.{openers};
+ghost use Rattle.std.specs.Prelude.{◌≡◌, true};
 ghost use Rattle.tokei_table.specs.Sound.{IsSound};
 ghost use Rattle.tokei_table.specs.RowOf.{pairs_of, row_of};
 ghost use Rattle.tokei_count.specs.Class.{encloses, opens_with, class_of, head_of, in_comment, in_string, in_doc_string, ends_opened};
-ghost use Rattle.tokei_count.specs.Glance.{holds};
+ghost use Rattle.tokei_count.specs.CodeHeads.{HasCodeHead};
+ghost use Rattle.tokei_count.specs.Matchers.{matchers_of};
 ghost use Rattle.tokei_count.specs.Seen.{mode_of};
 
 use crate::choice::{any_begins, begins};
 use crate::items::{Enclosure, Kind};
+use crate::matchers::SharedMatchers;
 use tokei_table::Syntax;
-use tokei_table::ext::{is_blank_text, trim};
+use tokei_table::ext::{is_blank_text, trim, trim_start};
 
 /// What a line counts as.
 #[derive(Clone, Copy, Debug, PartialEq, Eq)]
@@ -135,18 +136,41 @@ pub fn class_of(
     Class::Code
 }
 
-/// The class of a part that begins and ends plain and holds no opener.
-pub(crate) fn glance_class(syntax: &Syntax, bytes: &[u8]) -> Class
-    requires sound { IsSound (row_of syntax.now) }
-    requires quiet { holds (openers (row_of syntax.now)) bytes.now ≡ false }
-    ensures { (docs : Bool) → result ≡ class_of (row_of syntax.now) docs
-        (record { begun = None; bytes = bytes.now; ended = None }) }
+/// Whether neither a comment nor an opener can begin the part or stand behind its front blanks, and some byte isn't blank.
+fn has_code_head(matchers: &SharedMatchers, bytes: &[u8]) -> bool
+    ensures { result ≡ true → HasCodeHead matchers.now bytes.now }
 {
-    if is_blank_text(bytes) {
-        return Class::Blank;
+    match bytes {
+        [] => false,
+        [first, ..] => !matchers.begins(*first)
+            && match trim_start(bytes) {
+                [] => false,
+                [head, ..] => !matchers.begins(*head),
+            },
     }
-    if syntax.literate || any_begins(&syntax.line_comment, head_of(syntax, bytes)) {
-        return Class::Comment;
+}
+
+/// The class of a part that began and ended in these modes, as `class_of` has it, which is asked only where the part's head
+/// may begin a comment.
+pub(crate) fn class_by(
+    matchers: &SharedMatchers,
+    syntax: &Syntax,
+    docs: bool,
+    begun: Option<Enclosure>,
+    bytes: &[u8],
+    ended: Option<Enclosure>,
+) -> Class
+    requires sound { IsSound (row_of syntax.now) }
+    requires matched { matchers.now ≡ matchers_of (row_of syntax.now) }
+    ensures { result ≡ class_of (row_of syntax.now) docs
+        (record { begun = mode_of begun.entry; bytes = bytes.now; ended = mode_of ended.entry }) }
+{
+    if begun.is_none()
+        && !syntax.literate
+        && !in_doc_string(ended)
+        && has_code_head(matchers, bytes)
+    {
+        return Class::Code;
     }
-    Class::Code
+    class_of(syntax, docs, begun, bytes, ended)
 }

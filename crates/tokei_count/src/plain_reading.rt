@@ -17,7 +17,7 @@ ghost use Rattle.tokei_count.specs.Seen.{block_of, docs_of};
 ghost use Rattle.tokei_count.specs.Steps.{steps, capped};
 ghost use Rattle.tokei_stats.specs.Seen.{stats_of, sums_of};
 
-use crate::class::{Class, glance_class};
+use crate::class::{Class, class_by};
 use crate::config::CountConfig;
 use crate::counter::Counter;
 use crate::glance::glance;
@@ -195,7 +195,8 @@ pub(crate) fn read_text(
     let mut start = 0;
     while start < text.len() {
         if let Some(stop) = glance(skips, own_matchers, &stack, text, start, &mut next) {
-            own = own.plus(counted_as(glance_class(syntax, &text[start..stop])))?;
+            let glanced = class_by(own_matchers, syntax, docs, None, &text[start..stop], None);
+            own = own.plus(counted_as(glanced))?;
             start = stop;
             continue;
         }

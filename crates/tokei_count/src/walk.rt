@@ -12,7 +12,7 @@ ghost use Rattle.tokei_count.specs.Seen.{choice_of, mode_of, chain_of};
 ghost use Rattle.tokei_count.specs.Walked.{Steps, Reads};
 
 use crate::choice::{Choice, choose};
-use crate::class::{Class, class_of};
+use crate::class::{Class, class_by};
 use crate::items::Enclosure;
 use crate::matchers::SharedMatchers;
 use crate::openings::{block_at, line_end, next_child};
@@ -219,7 +219,8 @@ pub(crate) fn read_part<'a>(
         );
     }
     let line = &reading.text[start..stop];
-    let class = class_of(
+    let class = class_by(
+        matchers,
         reading.syntax(),
         reading.docs,
         begun,

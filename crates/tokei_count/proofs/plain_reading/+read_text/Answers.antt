@@ -30,6 +30,7 @@ use Rattle.tokei_count.specs.Class.{class_of}
 use Rattle.tokei_count.specs.Glance.{holds, is_walked}
 use Rattle.tokei_count.specs.Glanced.{AreInLine, Knows}
 use Rattle.tokei_count.specs.Lines.{first_line}
+use Rattle.tokei_count.specs.Matchers.{matchers_of}
 use Rattle.tokei_count.specs.Steps.{steps, child_steps, capped, sum_over}
 use Rattle.tokei_count.proofs.GlanceReading.{glance_reads, glance_walked}
 use Rattle.tokei_count.proofs.Lines.{first_within, take-first}
@@ -275,16 +276,11 @@ read_text-glance-requires-clause-lines t c =
     let tokens : has_tokens (row_at c.args.table.now c.args.language) ≡ true = ap has_tokens (sym c.syntax-syntax.ensures.row) ∙ c.syntax-syntax.ensures.tokens in
     subst AreInLine (sym os_is) (openers_in_line (row_at c.args.table.now c.args.language) tokens)
 
-pub read_text-slice_bounds-glance_class-end : goal.read_text-slice_bounds-glance_class-end
-read_text-slice_bounds-glance_class-end t c = omega (arith, c.in-Some.ensures.stop, first_within (drop c.loop-start.start c.args.text.now), length-drop c.loop-start.start c.args.text.now, c.loop-start-test.true)
+pub read_text-slice_bounds-class_by-end : goal.read_text-slice_bounds-class_by-end
+read_text-slice_bounds-class_by-end t c = omega (arith, c.in-Some.ensures.stop, first_within (drop c.loop-start.start c.args.text.now), length-drop c.loop-start.start c.args.text.now, c.loop-start-test.true)
 
-pub read_text-glance_class-requires-clause-quiet : goal.read_text-glance_class-requires-clause-quiet
-read_text-glance_class-requires-clause-quiet t c =
-    let n : ℕ = c.in-Some.stop - c.loop-start.start in
-    let size : n ≡ length (first_line (drop c.loop-start.start c.args.text.now)) = omega (arith, c.in-Some.ensures.stop) in
-    let os : List (List ℕ) = openers (row_at c.args.table.now c.args.language) in
-    let os_is : c.index-matchers-index.result.openers ≡ os = ap (λ m. m.openers) (c.index-matchers-index.is ∙ ap (λ ms. get_or ms c.index.result c.index-matchers-index.result) c.requires.indexed ∙ matchers_at c.args.table.now c.args.language c.index.result c.index-matchers-index.result c.index.ensures c.requires.known) in
-    ap (λ g. holds (openers g) (take n (drop c.loop-start.start c.args.text.now))) c.syntax-syntax.ensures.row ∙ ap (holds os) (ap (λ m. take m (drop c.loop-start.start c.args.text.now)) size ∙ take-first (drop c.loop-start.start c.args.text.now)) ∙ ap (λ o. holds o (first_line (drop c.loop-start.start c.args.text.now))) (sym os_is) ∙ c.in-Some.ensures.quiet
+pub read_text-class_by-glanced-requires-clause-matched : goal.read_text-class_by-glanced-requires-clause-matched
+read_text-class_by-glanced-requires-clause-matched t c = c.index-matchers-index.is ∙ ap (λ ms. get_or ms c.index.result c.index-matchers-index.result) c.requires.indexed ∙ matchers_at c.args.table.now c.args.language c.index.result c.index-matchers-index.result c.index.ensures c.requires.known ∙ ap matchers_of (sym c.syntax-syntax.ensures.row)
 
 pub read_text-returns-in_err-own-clause-overflow : goal.read_text-returns-in_err-own-clause-overflow
 read_text-returns-in_err-own-clause-overflow t c =
@@ -299,9 +295,9 @@ read_text-returns-in_err-own-clause-overflow t c =
     let n : ℕ = c.in-Some.stop - c.loop-start.start in
     let size : n ≡ length (first_line (drop c.loop-start.start c.args.text.now)) = omega (arith, c.in-Some.ensures.stop) in
     let some : 0 < length (drop c.loop-start.start c.args.text.now) = omega (arith, length-drop c.loop-start.start c.args.text.now, c.loop-start-test.true) in
-    let class_is : c.glance_class.result ≡ class_of (row_at c.args.table.now c.args.language) c.args.docs (record { begun = None; bytes = take n (drop c.loop-start.start c.args.text.now); ended = None }) = c.glance_class.ensures c.args.docs ∙ ap (λ g. class_of g c.args.docs (record { begun = None; bytes = take n (drop c.loop-start.start c.args.text.now); ended = None })) c.syntax-syntax.ensures.row in
-    let r = glance_reads c.args.table.now c.args.docs c.args.levels c.args.language c.args.text.now c.loop-start.left (drop c.loop-start.start c.args.text.now) c.glance_class.result (chain_of c.loop-start.stack.items) n plain size tokens some quiet class_is in
-    λ is fits. c.in_err-own.ensures.past (subst (λ (m : Counts). CountsFit (plus (sums_of c.loop-start.own) m)) (sym c.counted_as.ensures) (line_fits c.args.table.now c.args.docs c.args.levels c.args.language c.args.text.now (sums_of c.loop-start.own) (blobs_of (entries_of c.loop-start.blobs.entries)) c.loop-start.left (chain_of c.loop-start.stack.items) (drop c.loop-start.start c.args.text.now) way n c.glance_class.result (chain_of c.loop-start.stack.items) r.1 lines fits))
+    let class_is : c.class_by-glanced.result ≡ class_of (row_at c.args.table.now c.args.language) c.args.docs (record { begun = None; bytes = take n (drop c.loop-start.start c.args.text.now); ended = None }) = c.class_by-glanced.ensures ∙ ap (λ g. class_of g c.args.docs (record { begun = None; bytes = take n (drop c.loop-start.start c.args.text.now); ended = None })) c.syntax-syntax.ensures.row in
+    let r = glance_reads c.args.table.now c.args.docs c.args.levels c.args.language c.args.text.now c.loop-start.left (drop c.loop-start.start c.args.text.now) c.class_by-glanced.result (chain_of c.loop-start.stack.items) n plain size tokens some quiet class_is in
+    λ is fits. c.in_err-own.ensures.past (subst (λ (m : Counts). CountsFit (plus (sums_of c.loop-start.own) m)) (sym c.counted_as.ensures) (line_fits c.args.table.now c.args.docs c.args.levels c.args.language c.args.text.now (sums_of c.loop-start.own) (blobs_of (entries_of c.loop-start.blobs.entries)) c.loop-start.left (chain_of c.loop-start.stack.items) (drop c.loop-start.start c.args.text.now) way n c.class_by-glanced.result (chain_of c.loop-start.stack.items) r.1 lines fits))
 
 pub read_text-loop-start-smaller-in-Some : goal.read_text-loop-start-smaller-in-Some
 read_text-loop-start-smaller-in-Some t c = omega (arith, c.in-Some.ensures.stop, line_some c.args.text.now c.loop-start.start c.loop-start-test.true, c.loop-start-test.true)
@@ -317,21 +313,21 @@ read_text-loop-start-preserved-in-Some t c =
     let n : ℕ = c.in-Some.stop - c.loop-start.start in
     let size : n ≡ length (first_line (drop c.loop-start.start c.args.text.now)) = omega (arith, c.in-Some.ensures.stop) in
     let some : 0 < length (drop c.loop-start.start c.args.text.now) = omega (arith, length-drop c.loop-start.start c.args.text.now, c.loop-start-test.true) in
-    let class_is : c.glance_class.result ≡ class_of (row_at c.args.table.now c.args.language) c.args.docs (record { begun = None; bytes = take n (drop c.loop-start.start c.args.text.now); ended = None }) = c.glance_class.ensures c.args.docs ∙ ap (λ g. class_of g c.args.docs (record { begun = None; bytes = take n (drop c.loop-start.start c.args.text.now); ended = None })) c.syntax-syntax.ensures.row in
-    let r = glance_reads c.args.table.now c.args.docs c.args.levels c.args.language c.args.text.now c.loop-start.left (drop c.loop-start.start c.args.text.now) c.glance_class.result (chain_of c.loop-start.stack.items) n plain size tokens some quiet class_is in
+    let class_is : c.class_by-glanced.result ≡ class_of (row_at c.args.table.now c.args.language) c.args.docs (record { begun = None; bytes = take n (drop c.loop-start.start c.args.text.now); ended = None }) = c.class_by-glanced.ensures ∙ ap (λ g. class_of g c.args.docs (record { begun = None; bytes = take n (drop c.loop-start.start c.args.text.now); ended = None })) c.syntax-syntax.ensures.row in
+    let r = glance_reads c.args.table.now c.args.docs c.args.levels c.args.language c.args.text.now c.loop-start.left (drop c.loop-start.start c.args.text.now) c.class_by-glanced.result (chain_of c.loop-start.stack.items) n plain size tokens some quiet class_is in
     let way : IsUnderWay c.args.table.now c.args.docs c.args.levels c.args.language c.args.text.now (sums_of c.loop-start.own) (blobs_of (entries_of c.loop-start.blobs.entries)) c.loop-start.left (chain_of c.loop-start.stack.items) (drop c.loop-start.start c.args.text.now) = record { counts = c.loop-start.invariant.counts; kids = c.loop-start.invariant.kids } in
     let walked : is_walked os (innermost (chain_of c.loop-start.stack.items)) (take n (drop c.loop-start.start c.args.text.now)) ≡ false = glance_walked os (chain_of c.loop-start.stack.items) n (drop c.loop-start.start c.args.text.now) plain size quiet in
     let place : c.loop-start.start + n ≡ c.in-Some.stop = omega (arith, size, c.in-Some.ensures.stop) in
     let there : drop n (drop c.loop-start.start c.args.text.now) ≡ drop c.in-Some.stop c.args.text.now = drop-drop n c.loop-start.start c.args.text.now ∙ ap (λ m. drop m c.args.text.now) place in
     let len : length (drop c.loop-start.start c.args.text.now) ≡ length c.args.text.now - c.loop-start.start = length-drop c.loop-start.start c.args.text.now in
     let within : c.in-Some.stop ≤ length c.args.text.now = omega (arith, r.1.within, len, place, c.loop-start-test.true) in
-    let own_is : plus (sums_of c.loop-start.own) (one_of c.glance_class.result) ≡ sums_of c.in_ok-own.own = sym (c.in_ok-own.ensures.ok ∙ ap (plus (sums_of c.loop-start.own)) c.counted_as.ensures) in
+    let own_is : plus (sums_of c.loop-start.own) (one_of c.class_by-glanced.result) ≡ sums_of c.in_ok-own.own = sym (c.in_ok-own.ensures.ok ∙ ap (plus (sums_of c.loop-start.own)) c.counted_as.ensures) in
     let went : IsUnderWay c.args.table.now c.args.docs c.args.levels c.args.language c.args.text.now (sums_of c.in_ok-own.own) (blobs_of (entries_of c.loop-start.blobs.entries)) c.loop-start.left (chain_of c.loop-start.stack.items) (drop c.in-Some.stop c.args.text.now) =
     subst (IsUnderWay c.args.table.now c.args.docs c.args.levels c.args.language c.args.text.now (sums_of c.in_ok-own.own) (blobs_of (entries_of c.loop-start.blobs.entries)) c.loop-start.left (chain_of c.loop-start.stack.items)) there
-    (subst (λ (m : Counts). IsUnderWay c.args.table.now c.args.docs c.args.levels c.args.language c.args.text.now m (blobs_of (entries_of c.loop-start.blobs.entries)) c.loop-start.left (chain_of c.loop-start.stack.items) (drop n (drop c.loop-start.start c.args.text.now))) own_is (line_read c.args.table.now c.args.docs c.args.levels c.args.language c.args.text.now (sums_of c.loop-start.own) (blobs_of (entries_of c.loop-start.blobs.entries)) c.loop-start.left (chain_of c.loop-start.stack.items) (drop c.loop-start.start c.args.text.now) way n c.glance_class.result (chain_of c.loop-start.stack.items) r.1)) in
+    (subst (λ (m : Counts). IsUnderWay c.args.table.now c.args.docs c.args.levels c.args.language c.args.text.now m (blobs_of (entries_of c.loop-start.blobs.entries)) c.loop-start.left (chain_of c.loop-start.stack.items) (drop n (drop c.loop-start.start c.args.text.now))) own_is (line_read c.args.table.now c.args.docs c.args.levels c.args.language c.args.text.now (sums_of c.loop-start.own) (blobs_of (entries_of c.loop-start.blobs.entries)) c.loop-start.left (chain_of c.loop-start.stack.items) (drop c.loop-start.start c.args.text.now) way n c.class_by-glanced.result (chain_of c.loop-start.stack.items) r.1)) in
     let taken = λ (skipped : c.args.skips ≡ true).
     subst (AreUnderWay c.args.table.now c.args.levels c.args.language c.args.text.now c.loop-start.own_steps c.loop-start.inner_steps c.loop-start.left (chain_of c.loop-start.stack.items)) there
-    (line_skipped c.args.table.now c.args.levels c.args.language c.args.text.now c.loop-start.own_steps c.loop-start.inner_steps c.loop-start.left (chain_of c.loop-start.stack.items) (drop c.loop-start.start c.args.text.now) (record { own = c.loop-start.invariant.steps skipped; inner = c.loop-start.invariant.inner skipped }) c.args.docs n r.0 c.glance_class.result (chain_of c.loop-start.stack.items) r.1 walked) in
+    (line_skipped c.args.table.now c.args.levels c.args.language c.args.text.now c.loop-start.own_steps c.loop-start.inner_steps c.loop-start.left (chain_of c.loop-start.stack.items) (drop c.loop-start.start c.args.text.now) (record { own = c.loop-start.invariant.steps skipped; inner = c.loop-start.invariant.inner skipped }) c.args.docs n r.0 c.class_by-glanced.result (chain_of c.loop-start.stack.items) r.1 walked) in
     record {
       closable = c.loop-start.invariant.closable;
       within = within;
@@ -344,7 +340,7 @@ read_text-loop-start-preserved-in-Some t c =
       inner = λ skipped. (taken skipped).inner;
       quiet = λ skipped none.
           let before = c.loop-start.invariant.quiet skipped none in
-          (before.0, omega (arith, before.1, ap lines_of (sym own_is), lines_of-one (sums_of c.loop-start.own) c.glance_class.result, r.1.some, place));
+          (before.0, omega (arith, before.1, ap lines_of (sym own_is), lines_of-one (sums_of c.loop-start.own) c.class_by-glanced.result, r.1.some, place));
     }
 
 pub read_text-returns-in_err-part-clause-quiet : goal.read_text-returns-in_err-part-clause-quiet

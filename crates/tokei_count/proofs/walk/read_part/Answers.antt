@@ -2,6 +2,7 @@ use Rattle.std.proofs.Common.{◌≡◌, ◌∙◌, ℕ, ◌+◌, ◌-◌, ◌<�
 use Rattle.std.proofs.lemmas.List.{drop-drop}
 use Rattle.tokei_count.specs.Class.{class_of}
 use Rattle.tokei_count.specs.Lines.{first_line, line_len}
+use Rattle.tokei_count.specs.Matchers.{matchers_of}
 use Rattle.tokei_count.specs.Modes.{innermost}
 use Rattle.tokei_count.specs.ReadingOf.{row_in, blocks_of}
 use Rattle.tokei_count.specs.Progress.{Leads, Goes, IsPart, IsClosable, ReadsLine, newlines}
@@ -152,8 +153,8 @@ returns c =
     let bytes_is : take (stop - c.args.start) u ≡ first_line u = ap (λ n. take n u) first_is ∙ take-first u in
     let begun_is = c.innermost-begun.ensures ∙ ap (λ w. innermost (chain_of w)) c.deref.ensures.value in
     let ended_is = c.innermost.ensures ∙ ap (λ w. innermost (chain_of w)) c.deref-2.ensures.value in
-    let class_is : c.class_of-class.result ≡ class_of (row_in c.args.reading.now) c.args.reading.now.docs (record { begun = innermost (chain_of c.args.stack.now.items); bytes = first_line u; ended = innermost (chain_of c.loop-at.stack.items) }) =
-    c.class_of-class.ensures ∙ ap (λ g. class_of g c.args.reading.now.docs (record { begun = mode_of c.innermost-begun.result; bytes = take (stop - c.args.start) u; ended = mode_of c.innermost.result })) c.syntax.ensures.row
+    let class_is : c.class_by-class.result ≡ class_of (row_in c.args.reading.now) c.args.reading.now.docs (record { begun = innermost (chain_of c.args.stack.now.items); bytes = first_line u; ended = innermost (chain_of c.loop-at.stack.items) }) =
+    c.class_by-class.ensures ∙ ap (λ g. class_of g c.args.reading.now.docs (record { begun = mode_of c.innermost-begun.result; bytes = take (stop - c.args.start) u; ended = mode_of c.innermost.result })) c.syntax.ensures.row
     ∙ ap (λ b. class_of (row_in c.args.reading.now) c.args.reading.now.docs (record { begun = b; bytes = take (stop - c.args.start) u; ended = mode_of c.innermost.result })) begun_is
     ∙ ap (λ b. class_of (row_in c.args.reading.now) c.args.reading.now.docs (record { begun = innermost (chain_of c.args.stack.now.items); bytes = b; ended = mode_of c.innermost.result })) bytes_is
     ∙ ap (λ b. class_of (row_in c.args.reading.now) c.args.reading.now.docs (record { begun = innermost (chain_of c.args.stack.now.items); bytes = first_line u; ended = b })) ended_is in
@@ -168,8 +169,8 @@ returns c =
     ] in
     let leads : Leads (row_in c.args.reading.now) (blocks_of c.args.reading.now) c.args.left (chain_of c.args.stack.now.items) (line_len u) (c.loop-at.steps - (at - end)) (chain_of c.loop-at.stack.items) u =
     subst (λ n. Leads (row_in c.args.reading.now) (blocks_of c.args.reading.now) c.args.left (chain_of c.args.stack.now.items) n (c.loop-at.steps - (at - end)) (chain_of c.loop-at.stack.items) u) whole c.loop-at.invariant.leads in
-    let line_read : ReadsLine (row_in c.args.reading.now) (blocks_of c.args.reading.now) c.args.left c.args.reading.now.docs (chain_of c.args.stack.now.items) (length (first_line u)) (c.loop-at.steps - (at - end) + newlines u) c.class_of-class.result (chain_of c.loop-at.stack.items) u =
-    line_reads (row_in c.args.reading.now) (blocks_of c.args.reading.now) c.args.left c.args.reading.now.docs (chain_of c.args.stack.now.items) (chain_of c.loop-at.stack.items) u c.class_of-class.result
+    let line_read : ReadsLine (row_in c.args.reading.now) (blocks_of c.args.reading.now) c.args.left c.args.reading.now.docs (chain_of c.args.stack.now.items) (length (first_line u)) (c.loop-at.steps - (at - end) + newlines u) c.class_by-class.result (chain_of c.loop-at.stack.items) u =
+    line_reads (row_in c.args.reading.now) (blocks_of c.args.reading.now) c.args.left c.args.reading.now.docs (chain_of c.args.stack.now.items) (chain_of c.loop-at.stack.items) u c.class_by-class.result
     c.requires.sound (blocks_fit c.args.reading.now).in_line c.loop-at.invariant.closable (omega (arith, len_is, c.requires.some)) (c.loop-at.steps - (at - end)) leads class_is in
     let more_is : stop < length text → stop ≡ end + 1 = λ more. ends_more (length text) end stop part.high c.line_end-stop.ensures.more c.line_end-stop.ensures.last more in (
       omega (arith, stop_is, line_read.some),
@@ -177,8 +178,8 @@ returns c =
       λ more. subst (λ m. IsPart text c.args.left m m) (sym (more_is more)) (part_anew text c.args.left c.args.start end part none_left (omega (arith, part.high, more_is more, more))),
       few,
       stop_is,
-      subst (λ j. ReadsLine (row_in c.args.reading.now) (blocks_of c.args.reading.now) c.args.left c.args.reading.now.docs (chain_of c.args.stack.now.items) (stop - c.args.start) j c.class_of-class.result (chain_of c.loop-at.stack.items) u) (sym steps_are)
-          (subst (λ n. ReadsLine (row_in c.args.reading.now) (blocks_of c.args.reading.now) c.args.left c.args.reading.now.docs (chain_of c.args.stack.now.items) n (c.loop-at.steps - (at - end) + newlines u) c.class_of-class.result (chain_of c.loop-at.stack.items) u) (sym first_is) line_read),
+      subst (λ j. ReadsLine (row_in c.args.reading.now) (blocks_of c.args.reading.now) c.args.left c.args.reading.now.docs (chain_of c.args.stack.now.items) (stop - c.args.start) j c.class_by-class.result (chain_of c.loop-at.stack.items) u) (sym steps_are)
+          (subst (λ n. ReadsLine (row_in c.args.reading.now) (blocks_of c.args.reading.now) c.args.left c.args.reading.now.docs (chain_of c.args.stack.now.items) n (c.loop-at.steps - (at - end) + newlines u) c.class_by-class.result (chain_of c.loop-at.stack.items) u) (sym first_is) line_read),
     )
 
 pub next_child-child-requires-clause-line : goal.next_child-child-requires-clause-line
@@ -243,3 +244,6 @@ choice_at-newline-requires-clause-line c =
     let stop_is : c.line_end-stop.result ≡ c.args.start + length (first_line (drop c.args.start text)) = end_is text c.args.start end c.line_end-stop.result c.requires.part.high (ap (λ n. c.args.start + n) at_end) c.line_end-stop.ensures.more c.line_end-stop.ensures.last in
     let here : reached at end ≡ at = omega (arith, c.loop-at-test.false, c.if-at-stop.true, stop_is, at_end, first_line-high (drop c.args.start text)) in
     c.loop-at.invariant.line ∙ ap (λ m. m + line_len (drop m text)) here
+
+pub class_by-class-requires-clause-matched : goal.class_by-class-requires-clause-matched
+class_by-class-requires-clause-matched c = c.requires.matched ∙ ap matchers_of (sym c.syntax.ensures.row)

@@ -1,0 +1,125 @@
+-- A part at whose head nothing but code can begin is code.
+use Rattle.std.proofs.Common.{◌≡◌, ℕ, ◌<◌, ◌==◌, Bool, true, false, ◌&&◌, ◌||◌, cond, List, [], ◌∷◌, None, slice_index_or, refl, sym, ◌∙◌, ap}
+use Rattle.std.specs.List.{list_all, list_any}
+use Rattle.std.specs.Str.{bytes_eq}
+use Rattle.tokei_table.specs.Bytes.{begins, ends, is_blank, all_blank, trim, trim_start, trim_end}
+use Rattle.tokei_table.specs.FirstOpener.{is_first_of}
+use Rattle.tokei_table.specs.Row.{Pair, Row}
+use Rattle.tokei_table.specs.Sound.{is_token, is_pair, IsSound}
+use Rattle.tokei_count.specs.Choice.{any_begins}
+use Rattle.tokei_count.specs.Class.{class_of, encloses, opens_with, head_of, keeps_columns, in_string, in_doc_string, in_comment, ends_opened}
+use Rattle.tokei_count.specs.CodeHeads.{BeginsNone, FrontBeginsNone, HasCodeHead}
+use Rattle.tokei_count.specs.Derivation.{closer_of}
+use Rattle.tokei_count.specs.Items.{Mode}
+use Rattle.tokei_count.specs.Matchers.{Matchers, matchers_of, begins_opener, begins_choice}
+use Rattle.tokei_count.specs.declared.class.Class.TheVariants.{Blank, Code, Comment}
+use Rattle.tokei_count.proofs.Fits.{and_left, and_right}
+use Rattle.tokei_count.proofs.PlainBytes.{flag_at, not_begun, token_some, none_begins, or_left, or_right}
+
+not_enclosed : (ps : List Pair) (b : ℕ) (t : List ℕ) → list_all is_pair ps ≡ true → begins_opener ps b ≡ false → encloses ps (b ∷ t) ≡ false
+not_enclosed [] b t s h = refl
+not_enclosed (p ∷ ps) b t s h =
+    let opener = and_left (is_token p.opener) (is_token p.closer) (and_left (is_pair p) (list_all is_pair ps) s) in
+    ap (λ y. (y && ends p.closer (b ∷ t)) || encloses ps (b ∷ t)) (not_begun p.opener b t (token_some p.opener opener) (or_left (is_first_of b p.opener) (begins_opener ps b) h))
+    ∙ not_enclosed ps b t (and_right (is_pair p) (list_all is_pair ps) s) (or_right (is_first_of b p.opener) (begins_opener ps b) h)
+
+not_opened : (ps : List Pair) (c : List ℕ) (b : ℕ) (t : List ℕ) → list_all is_pair ps ≡ true → begins_opener ps b ≡ false → opens_with ps (b ∷ t) c ≡ false
+not_opened [] c b t s h = refl
+not_opened (p ∷ ps) c b t s h =
+    let opener = and_left (is_token p.opener) (is_token p.closer) (and_left (is_pair p) (list_all is_pair ps) s) in
+    ap (λ y. (y && bytes_eq p.closer c) || opens_with ps (b ∷ t) c) (not_begun p.opener b t (token_some p.opener opener) (or_left (is_first_of b p.opener) (begins_opener ps b) h))
+    ∙ not_opened ps c b t (and_right (is_pair p) (list_all is_pair ps) s) (or_right (is_first_of b p.opener) (begins_opener ps b) h)
+
+-- what a byte at which no choice begins can't begin
+record StartsNothing (g : Row) (b : ℕ) (t : List ℕ) : Type 0 where
+  line : any_begins g.line_comment (b ∷ t) ≡ false
+  multi_line : encloses g.multi_line_comments (b ∷ t) ≡ false
+  nested : encloses g.nested_comments (b ∷ t) ≡ false
+  opens_multi_line : (c : List ℕ) → opens_with g.multi_line_comments (b ∷ t) c ≡ false
+  opens_nested : (c : List ℕ) → opens_with g.nested_comments (b ∷ t) c ≡ false
+
+starts_nothing : (g : Row) (s : IsSound g) (m : Matchers) (b : ℕ) (t : List ℕ) → m ≡ matchers_of g → BeginsNone m b → StartsNothing g b t
+starts_nothing g s m b t is h =
+    let none : begins_choice g b ≡ false = sym (flag_at (begins_choice g) 256 b h.small) ∙ ap (λ (n : Matchers). slice_index_or n.begins b false) (sym is) ∙ h.begins in
+    let h1 = or_right (b == 92) _ none in
+    let h2 = or_right (begins_opener g.quotes b) _ h1 in
+    let h3 = or_right (begins_opener g.verbatim_quotes b) _ h2 in
+    let h4 = or_right (begins_opener g.doc_quotes b) _ h3 in
+    let h5 = or_right (begins_opener g.multi_line_comments b) _ h4 in
+    let multi : begins_opener g.multi_line_comments b ≡ false = or_left (begins_opener g.multi_line_comments b) _ h4 in
+    let nested : begins_opener g.nested_comments b ≡ false = or_left (begins_opener g.nested_comments b) _ h5 in
+    record {
+      line = none_begins g.line_comment b t s.line_comment (or_right (begins_opener g.nested_comments b) _ h5);
+      multi_line = not_enclosed g.multi_line_comments b t s.multi_line_comments multi;
+      nested = not_enclosed g.nested_comments b t s.nested_comments nested;
+      opens_multi_line = λ c. not_opened g.multi_line_comments c b t s.multi_line_comments multi;
+      opens_nested = λ c. not_opened g.nested_comments c b t s.nested_comments nested;
+    }
+
+-- the first byte that isn't blank stays where the blanks at the end go
+trimmed_by : (x y : Bool) (b : ℕ) (t : List ℕ) → x ≡ false → cond (x && y) [] (b ∷ trim_end t) ≡ b ∷ trim_end t
+trimmed_by x y b t h = ap (λ z. cond (z && y) [] (b ∷ trim_end t)) h
+
+front_solid : (t : List ℕ) (b : ℕ) (w : List ℕ) → trim_start t ≡ b ∷ w → is_blank b ≡ false
+front_solid [] b w e = cc
+front_solid (a ∷ t) b w e = by_test (is_blank a) refl e (front_solid t b w)
+  where
+    by_test : (x : Bool) → is_blank a ≡ x → cond x (trim_start t) (a ∷ t) ≡ b ∷ w → (trim_start t ≡ b ∷ w → is_blank b ≡ false) → is_blank b ≡ false
+    by_test true f e ih = ih e
+    by_test false f e ih = let same : a ≡ b = cc in ap is_blank (sym same) ∙ f
+
+front_not_blank : (t : List ℕ) (b : ℕ) (w : List ℕ) → trim_start t ≡ b ∷ w → all_blank t ≡ false
+front_not_blank [] b w e = cc
+front_not_blank (a ∷ t) b w e = by_test (is_blank a) e (front_not_blank t b w)
+  where
+    by_test : (x : Bool) → cond x (trim_start t) (a ∷ t) ≡ b ∷ w → (trim_start t ≡ b ∷ w → all_blank t ≡ false) → (x && all_blank t) ≡ false
+    by_test true e ih = ih e
+    by_test false e ih = refl
+
+module _ (g : Row) (s : IsSound g) (m : Matchers) (is : m ≡ matchers_of g) (docs : Bool) (ended : Mode) (plain : g.literate ≡ false) (no_doc : in_doc_string ended ≡ false) where
+  by_rules : (t : List ℕ) (a : ℕ) (t' : List ℕ) (b : ℕ) (w : List ℕ) → t ≡ a ∷ t' → trim t ≡ b ∷ w → all_blank t ≡ false → StartsNothing g a t' → StartsNothing g b w
+      → class_of g docs (record { begun = None; bytes = t; ended = ended }) ≡ Code
+  unfolding class_of
+  by_rules t a t' b w e f blank h k =
+      let no_line : any_begins g.line_comment (head_of g t) ≡ false = by_columns (keeps_columns g.key) in
+      let no_enclosed : (encloses g.multi_line_comments (trim t) || encloses g.nested_comments (trim t)) ≡ false = ap (λ u. encloses g.multi_line_comments u || encloses g.nested_comments u) f ∙ ap (λ x. x || encloses g.nested_comments (b ∷ w)) k.multi_line ∙ k.nested in
+      let no_ended : ends_opened g (head_of g t) ended ≡ false = by_mode (in_comment ended) ∙ by_opened (keeps_columns g.key) in
+      ap (λ x. cond x Blank (cond g.literate Comment (cond (in_doc_string ended && docs) Comment (cond (in_string ended) Code (cond (any_begins g.line_comment (head_of g t)) Comment (cond (encloses g.multi_line_comments (trim t) || encloses g.nested_comments (trim t)) Comment (cond (ends_opened g (head_of g t) ended) Comment Code))))))) blank
+      ∙ ap (λ x. cond x Comment (cond (in_doc_string ended && docs) Comment (cond (in_string ended) Code (cond (any_begins g.line_comment (head_of g t)) Comment (cond (encloses g.multi_line_comments (trim t) || encloses g.nested_comments (trim t)) Comment (cond (ends_opened g (head_of g t) ended) Comment Code)))))) plain
+      ∙ ap (λ x. cond (x && docs) Comment (cond (in_string ended) Code (cond (any_begins g.line_comment (head_of g t)) Comment (cond (encloses g.multi_line_comments (trim t) || encloses g.nested_comments (trim t)) Comment (cond (ends_opened g (head_of g t) ended) Comment Code))))) no_doc
+      ∙ ap (λ x. cond (in_string ended) Code (cond x Comment (cond (encloses g.multi_line_comments (trim t) || encloses g.nested_comments (trim t)) Comment (cond (ends_opened g (head_of g t) ended) Comment Code)))) no_line
+      ∙ ap (λ x. cond (in_string ended) Code (cond x Comment (cond (ends_opened g (head_of g t) ended) Comment Code))) no_enclosed
+      ∙ ap (λ x. cond (in_string ended) Code (cond x Comment Code)) no_ended
+      ∙ both (in_string ended)
+    where
+      both : (x : Bool) → cond x Code Code ≡ Code
+      both true = refl
+      both false = refl
+
+      by_columns : (x : Bool) → any_begins g.line_comment (cond x t (trim t)) ≡ false
+      by_columns true = ap (any_begins g.line_comment) e ∙ h.line
+      by_columns false = ap (any_begins g.line_comment) f ∙ k.line
+
+      none_opens : (x : Bool) (c : List ℕ) → (opens_with g.multi_line_comments (cond x t (trim t)) c || opens_with g.nested_comments (cond x t (trim t)) c) ≡ false
+      none_opens true c = ap (λ u. opens_with g.multi_line_comments u c || opens_with g.nested_comments u c) e ∙ ap (λ y. y || opens_with g.nested_comments (a ∷ t') c) (h.opens_multi_line c) ∙ h.opens_nested c
+      none_opens false c = ap (λ u. opens_with g.multi_line_comments u c || opens_with g.nested_comments u c) f ∙ ap (λ y. y || opens_with g.nested_comments (b ∷ w) c) (k.opens_multi_line c) ∙ k.opens_nested c
+
+      by_mode : (y : Bool) → (y && (opens_with g.multi_line_comments (head_of g t) (closer_of ended) || opens_with g.nested_comments (head_of g t) (closer_of ended))) ≡ (y && false)
+      by_mode y = ap (λ z. y && z) (none_opens (keeps_columns g.key) (closer_of ended))
+
+      by_opened : (x : Bool) → (in_comment ended && false) ≡ false
+      by_opened x = and_false (in_comment ended)
+        where
+          and_false : (y : Bool) → (y && false) ≡ false
+          and_false true = refl
+          and_false false = refl
+
+  pub code_head : (t : List ℕ) → HasCodeHead m t → class_of g docs (record { begun = None; bytes = t; ended = ended }) ≡ Code
+  code_head t h = by_front t refl (trim_start t) refl h.first h.head
+    where
+      by_front : (u : List ℕ) → t ≡ u → (v : List ℕ) → trim_start t ≡ v → FrontBeginsNone m u → FrontBeginsNone m v → class_of g docs (record { begun = None; bytes = t; ended = ended }) ≡ Code
+      by_front [] e v f i k = absurd i
+      by_front (a ∷ u) e [] f i k = absurd k
+      by_front (a ∷ u) e (b ∷ w) f i k =
+          let trimmed : trim t ≡ b ∷ trim_end w = ap trim_end f ∙ trimmed_by (is_blank b) (all_blank w) b w (front_solid t b w f) in
+          by_rules t a u b (trim_end w) e trimmed (front_not_blank t b w f) (starts_nothing g s m a u is i) (starts_nothing g s m b (trim_end w) is k)

@@ -1,0 +1,19 @@
+-- Parts at whose head nothing but code can begin.
+use Rattle.std.specs.Prelude.{◌≡◌, ℕ, ◌<◌, false, List, [], ◌∷◌, slice_index_or}
+use Rattle.tokei_table.specs.Bytes.{trim_start}
+use Rattle.tokei_count.specs.Matchers.{Matchers}
+
+-- no choice can begin at the byte
+pub record BeginsNone (m : Matchers) (b : ℕ) : Type 0 where
+  pub small : b < 256
+  pub begins : slice_index_or m.begins b false ≡ false
+
+-- so it is of the first byte, and there is one
+abbrev pub FrontBeginsNone : Matchers → List ℕ → Type 0
+FrontBeginsNone m [] = ⊥
+FrontBeginsNone m (b ∷ t) = BeginsNone m b
+
+-- so it is of the part's first byte and of the first one that isn't blank
+pub record HasCodeHead (m : Matchers) (t : List ℕ) : Type 0 where
+  pub first : FrontBeginsNone m t
+  pub head : FrontBeginsNone m (trim_start t)
