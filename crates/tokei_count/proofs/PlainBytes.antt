@@ -11,6 +11,9 @@ use Rattle.tokei_count.specs.Choice.Choice.{closes, escapes, child_opens, opens,
 use Rattle.tokei_count.specs.Items.{Block, Enclosure, Mode}
 use Rattle.tokei_count.specs.Matchers.{begins_opener, begins_choice, flags, Matchers, matchers_of}
 use Rattle.tokei_count.specs.PlainBytes.{NoCloser, IsPlainByte}
+use Rattle.tokei_count.specs.Seen.{choice_of}
+use Rattle.tokei_count.specs.declared.choice.Choice as CodeChoice
+use Rattle.tokei_count.specs.declared.choice.Choice.TheVariants.{Closer, Escape, Child, Opener, PassedOpener, LineComment, Byte}
 use Rattle.tokei_count.specs.declared.items.Kind.{Kind}
 use Rattle.tokei_count.specs.declared.items.Kind.TheVariants.{DocString, VerbatimString, OrdinaryString, MultiLineComment}
 use Rattle.tokei_count.proofs.Fits.{and_left, and_right}
@@ -139,12 +142,30 @@ module _ (r : Row) (s : IsSound r) (b : ℕ) (t : List ℕ) (h : begins_choice r
   by_kind OrdinaryString closer e = in_string false closer e
   by_kind MultiLineComment closer e = in_comment closer e
 
-  takes : (mode : Mode) (o : Option Block) → NoCloser mode b → o ≡ None → choice r mode o (b ∷ t) ≡ takes_byte
+  takes : (mode : Mode) (o : Option Block) → NoCloser mode b → (mode ≡ None → o ≡ None) → choice r mode o (b ∷ t) ≡ takes_byte
   unfolding choice
-  takes None o k e = in_plain o e
+  takes None o k e = in_plain o (e refl)
   takes (Some m) o k e = by_kind m.kind m.closer (not_begun m.closer b t k.1 k.0)
 
-pub plain_byte : (r : Row) (s : IsSound r) (mode : Mode) (o : Option Block) (b : ℕ) (u : List ℕ) (m : Matchers) → u ≡ b ∷ drop 1 u → m ≡ matchers_of r → IsPlainByte m mode b → o ≡ None → choice r mode o u ≡ takes_byte
+pub plain_byte : (r : Row) (s : IsSound r) (mode : Mode) (o : Option Block) (b : ℕ) (u : List ℕ) (m : Matchers) → u ≡ b ∷ drop 1 u → m ≡ matchers_of r → IsPlainByte m mode b → (mode ≡ None → o ≡ None) → choice r mode o u ≡ takes_byte
 plain_byte r s mode o b u m e is h none =
     let no : begins_choice r b ≡ false = sym (flag_at (begins_choice r) 256 b h.small) ∙ ap (λ (n : Matchers). slice_index_or n.begins b false) (sym is) ∙ h.begins in
     ap (choice r mode o) e ∙ takes r s b (drop 1 u) no mode o h.closer none
+
+-- a choice that is no child, in an item or where no child can open, is the same whatever can open there
+pub same_choice : (r : Row) (mode : Mode) (o : Option Block) (u : List ℕ) (x : CodeChoice.Choice) → (mode ≡ None → o ≡ None) → (x ≡ Child → false ≡ true) → choice_of None x ≡ choice r mode None u → choice_of o x ≡ choice r mode o u
+unfolding choice
+same_choice r None o u x e n h = let none : o ≡ None = e refl in ap (λ p. choice_of p x) none ∙ h ∙ ap (λ p. choice_in_plain r p u) (sym none)
+same_choice r (Some m) o u x e n h = by_choice x n ∙ h
+  where
+    by_choice : (y : CodeChoice.Choice) → (y ≡ Child → false ≡ true) → choice_of o y ≡ choice_of None y
+    by_choice Closer n = refl
+    by_choice Escape n = refl
+    by_choice Child n = absurd (not_both (n refl))
+      where
+        not_both : false ≡ true → ⊥
+        not_both h = cc
+    by_choice (Opener k p) n = refl
+    by_choice (PassedOpener p) n = refl
+    by_choice LineComment n = refl
+    by_choice Byte n = refl

@@ -1,5 +1,5 @@
 //! The calls that count a text, and look at no more of it than they must.
-ghost use Rattle.std.specs.Prelude.{◌≡◌, ◌<◌, ◌≤◌, false, None, length, IfOk, IsErrOf, IsOk};
+ghost use Rattle.std.specs.Prelude.{◌≡◌, ◌<◌, ◌≤◌, ◌^◌, false, None, length, IfOk, IsErrOf, IsOk};
 ghost use Rattle.tokei_table.specs.FirstOpener.{first_opener};
 ghost use Rattle.tokei_table.specs.Lookups.{row_at};
 ghost use Rattle.tokei_table.specs.Openers.{openers};
@@ -44,6 +44,7 @@ pub fn parse_counted(
     ensures few { HaveNoNotebook counter.now → IfOk result (λ r. r.1 ≤ length text.now) }
     ensures weight { IfOk result (λ r. lines_of (summary (stats_of r.0)) ≤ weight (languages_of counter.now) outermost_levels language text.now) }
     ensures short { HaveNoNotebook counter.now → IfOk result (λ r. lines_of (summary (stats_of r.0)) ≤ length text.now) }
+    ensures light { weight (languages_of counter.now) outermost_levels language text.now < 2 ^ 64 → ¬ IsErrOf result CountError.Overflow }
     ensures fits { HaveNoNotebook counter.now → ¬ IsErrOf result CountError.Overflow }
     ensures quiet { is_notebook (row_at counter.now language) ≡ false → first_opener (openers (row_at counter.now language)) text.now ≡ None → IsOk result }
     ensures overflow { IsErrOf result CountError.Overflow → ¬ Fits (reading (languages_of counter.now) (docs_of config.now) outermost_levels language text.now) }
@@ -78,6 +79,7 @@ pub fn parse_from_slice(
     ensures reads { IfOk result (λ s. stats_of s ≡ reading (languages_of counter.now) (docs_of config.now) outermost_levels language text.now) }
     ensures weight { IfOk result (λ r. lines_of (summary (stats_of r)) ≤ weight (languages_of counter.now) outermost_levels language text.now) }
     ensures short { HaveNoNotebook counter.now → IfOk result (λ r. lines_of (summary (stats_of r)) ≤ length text.now) }
+    ensures light { weight (languages_of counter.now) outermost_levels language text.now < 2 ^ 64 → ¬ IsErrOf result CountError.Overflow }
     ensures fits { HaveNoNotebook counter.now → ¬ IsErrOf result CountError.Overflow }
     ensures quiet { is_notebook (row_at counter.now language) ≡ false → first_opener (openers (row_at counter.now language)) text.now ≡ None → IsOk result }
     ensures overflow { IsErrOf result CountError.Overflow → ¬ Fits (reading (languages_of counter.now) (docs_of config.now) outermost_levels language text.now) }
@@ -98,6 +100,7 @@ pub fn parse_from_str(
     ensures reads { IfOk result (λ s. stats_of s ≡ reading (languages_of counter.now) (docs_of config.now) outermost_levels language text.now) }
     ensures weight { IfOk result (λ r. lines_of (summary (stats_of r)) ≤ weight (languages_of counter.now) outermost_levels language text.now) }
     ensures short { HaveNoNotebook counter.now → IfOk result (λ r. lines_of (summary (stats_of r)) ≤ length text.now) }
+    ensures light { weight (languages_of counter.now) outermost_levels language text.now < 2 ^ 64 → ¬ IsErrOf result CountError.Overflow }
     ensures fits { HaveNoNotebook counter.now → ¬ IsErrOf result CountError.Overflow }
     ensures quiet { is_notebook (row_at counter.now language) ≡ false → first_opener (openers (row_at counter.now language)) text.now ≡ None → IsOk result }
     ensures overflow { IsErrOf result CountError.Overflow → ¬ Fits (reading (languages_of counter.now) (docs_of config.now) outermost_levels language text.now) }

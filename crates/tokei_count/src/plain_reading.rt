@@ -1,4 +1,4 @@
-//! The plain reading of a text: each part is walked.
+//! Texts are read part by part: each is walked, or decided at a glance where lines are skipped.
 ghost use Rattle.std.specs.Prelude.{◌≡◌, ◌+◌, ◌-◌, ◌<◌, true, false, None, Some, is_some, drop, length, map, cond, IfOk, IsErrOf, IsOk};
 ghost use Rattle.tokei_table.specs.FirstOpener.{first_opener};
 ghost use Rattle.tokei_table.specs.Lookups.{row_at};

@@ -1,8 +1,8 @@
 //! A part is walked with a stack of the items that enclose the place.
-ghost use Rattle.std.specs.Prelude.{◌≡◌, ◌+◌, ◌<◌, ◌≤◌, true, None, is_some, IfOk, drop, length};
+ghost use Rattle.std.specs.Prelude.{◌≡◌, ℕ, ◌+◌, ◌<◌, ◌≤◌, true, None, is_some, IfOk, drop, length};
 ghost use Rattle.tokei_table.specs.Sound.{IsSound};
 ghost use Rattle.tokei_count.specs.Choice.{choice};
-ghost use Rattle.tokei_count.specs.Lines.{line_len};
+ghost use Rattle.tokei_count.specs.Lines.{first_line, line_len};
 ghost use Rattle.tokei_count.specs.Matchers.{matchers_of};
 ghost use Rattle.tokei_count.specs.Modes.{innermost};
 ghost use Rattle.tokei_count.specs.PlainBytes.{IsPlainByte};
@@ -95,7 +95,8 @@ fn is_plain_byte(matchers: &SharedMatchers, mode: Option<Enclosure>, byte: u8) -
 }
 
 /// The choice at the place `at` of a part that began at `start`, whose line goes to `end`, before its newline; `left`
-/// bytes were left behind the last child, and no child opens from the place to before `child`. It is one step.
+/// bytes were left behind the last child, and no child opens in plain text from the place to before `child`. It is one
+/// step.
 #[inline(always)]
 fn choice_at<'a>(
     reading: &Reading<'a>,
@@ -115,7 +116,7 @@ fn choice_at<'a>(
     requires some { at < length reading.now.text.now }
     requires room { steps.old < length reading.now.text.now }
     requires matched { matchers.now ≡ matchers_of (row_in reading.now) }
-    requires childless { at < child → blocks_of reading.now left (drop at reading.now.text.now) ≡ None }
+    requires childless { at < child → innermost (chain_of stack.now) ≡ None → blocks_of reading.now left (drop at reading.now.text.now) ≡ None }
     ensures counted { steps.new ≡ steps.old + 1 }
     ensures child { result ≡ Choice.Child → is_some (blocks_of reading.now left (drop at reading.now.text.now)) ≡ true }
     ensures choice { choice_of (blocks_of reading.now left (drop at reading.now.text.now)) result ≡ choice (row_in reading.now) (innermost (chain_of stack.now)) (blocks_of reading.now left (drop at reading.now.text.now)) (drop at reading.now.text.now) }
@@ -150,7 +151,7 @@ fn take_choice<'a>(
     requires some { at < end }
     requires room { steps.old < length reading.now.text.now }
     requires matched { matchers.now ≡ matchers_of (row_in reading.now) }
-    requires childless { at < child → blocks_of reading.now left (drop at reading.now.text.now) ≡ None }
+    requires childless { at < child → innermost (chain_of stack.old.items) ≡ None → blocks_of reading.now left (drop at reading.now.text.now) ≡ None }
     ensures counted { steps.new ≡ steps.old + 1 }
     ensures takes { IfOk result (λ s. Steps (row_in reading.now) (blocks_of reading.now) left (chain_of stack.old.items) (chain_of stack.new.items) reading.now.text.now at s) }
 {
@@ -174,6 +175,34 @@ fn take_choice<'a>(
         Choice::LineComment => Ok(Step::Rest),
         Choice::Byte => Ok(Step::On(1)),
     }
+}
+
+/// From the place `at` to before the answer no child opens in plain text. In an item that is the rest of the part, and
+/// nothing is searched; else `child` becomes the part's next child, or stays where nothing is to be skipped.
+#[inline(always)]
+fn look_ahead(
+    reading: &Reading,
+    skips: bool,
+    stack: &[Enclosure],
+    left: usize,
+    start: usize,
+    at: usize,
+    to: usize,
+    child: &mut usize,
+) -> usize
+    requires known { reading.now.language < length reading.now.table.now }
+    requires part { IsPart reading.now.text.now left start at }
+    requires inside { at < to }
+    requires line { to ≡ at + length (first_line (drop at reading.now.text.now)) }
+    requires childless { (p : ℕ) → at ≤ p → p < child.old → blocks_of reading.now left (drop p reading.now.text.now) ≡ None }
+    ensures childless { (p : ℕ) → at ≤ p → p < child.new → blocks_of reading.now left (drop p reading.now.text.now) ≡ None }
+    ensures ahead { at < result → innermost (chain_of stack.now) ≡ None → blocks_of reading.now left (drop at reading.now.text.now) ≡ None }
+{
+    if skips && !stack.is_empty() {
+        return to;
+    }
+    *child = next_child(reading, skips, left, start, at, to, *child);
+    *child
 }
 
 /// Reads the part that begins at `start`, where `left` bytes were left behind the last child. Where it `skips`, it looks for
@@ -201,9 +230,11 @@ pub(crate) fn read_part<'a>(
     let mut child = start;
     let mut at = start;
     while at < end {
-        child = next_child(reading, skips, left, start, at, stop, child);
+        let ahead = look_ahead(
+            reading, skips, stack, left, start, at, stop, &mut child,
+        );
         match take_choice(
-            reading, matchers, stack, left, start, at, end, child, &mut steps,
+            reading, matchers, stack, left, start, at, end, ahead, &mut steps,
         )? {
             Step::On(len) => at += len,
             Step::Rest => at = stop,

@@ -1,12 +1,17 @@
-use Rattle.std.proofs.Common.{◌≡◌, ℕ, suc, ◌+◌, ◌<◌, List, ◌∷◌, drop, length, get_or, sym, ap, subst, ◌∙◌, arith, drop-cons}
+use Rattle.std.proofs.Common.{◌≡◌, ℕ, suc, ◌+◌, ◌-◌, ◌<◌, nat_le, false, Option, None, List, ◌∷◌, take, drop, length, get_or, sym, ap, subst, ◌∙◌, arith, drop-cons}
+use Rattle.std.proofs.lemmas.Bool.Decides.{nat_tests}
 use Rattle.std.proofs.lemmas.List.{drop-drop}
 use Rattle.tokei_count.specs.Choice.{choice}
 use Rattle.tokei_count.specs.Modes.{innermost}
 use Rattle.tokei_count.specs.ReadingOf.{row_in, blocks_of}
 use Rattle.tokei_count.specs.PlainBytes.{IsPlainByte}
-use Rattle.tokei_count.specs.Seen.{chain_of}
-use Rattle.tokei_count.proofs.PlainBytes.{plain_byte}
+use Rattle.tokei_count.specs.Items.{Block}
+use Rattle.tokei_count.specs.Seen.{chain_of, mode_of}
+use Rattle.tokei_table.specs.RowOf.{row_of}
+use Rattle.tokei_count.proofs.PlainBytes.{plain_byte, same_choice}
+use Rattle.tokei_count.proofs.Leading.{rest_is}
 use Rattle.tokei_count.proofs.walk.choice_at.Goals as goal
+use Rattle.tokei_count.proofs.walk.choice_at.Goals.{then-child-at, else-child-at}
 
 pub returns-then-is_plain_byte-clause-choice : goal.returns-then-is_plain_byte-clause-choice
 returns-then-is_plain_byte-clause-choice c =
@@ -16,3 +21,17 @@ returns-then-is_plain_byte-clause-choice c =
     let here : u ≡ get_or text c.args.at 0 ∷ drop 1 u = drop-cons text c.args.at 0 c.requires.some ∙ ap (λ n. get_or text c.args.at 0 ∷ drop n text) one ∙ ap (λ w. get_or text c.args.at 0 ∷ w) (sym (drop-drop 1 c.args.at text)) in
     let byte = subst (λ m. IsPlainByte c.args.matchers.now m (get_or text c.args.at 0)) c.innermost-mode.ensures (c.is_plain_byte.ensures c.if-is_plain_byte.true) in
     sym (plain_byte (row_in c.args.reading.now) c.requires.sound (innermost (chain_of c.args.stack.now)) (blocks_of c.args.reading.now c.args.left u) (get_or text c.args.at 0) u c.args.matchers.now here c.requires.matched byte (c.requires.childless c.if-at-child.true))
+
+pub returns-clause-choice : goal.returns-clause-choice
+returns-clause-choice c =
+    let text : List ℕ = c.args.reading.now.text.now in
+    let u : List ℕ = drop c.args.at text in
+    let here : (o : Option Block) → choice (row_of c.syntax.result.now) (mode_of c.innermost-mode.result) o (take (length text - c.args.at) u) ≡ choice (row_in c.args.reading.now) (innermost (chain_of c.args.stack.now)) o u = λ o.
+    ap (λ r. choice r (mode_of c.innermost-mode.result) o (take (length text - c.args.at) u)) c.syntax.ensures.row
+    ∙ ap (λ m. choice (row_in c.args.reading.now) m o (take (length text - c.args.at) u)) c.innermost-mode.ensures
+    ∙ ap (choice (row_in c.args.reading.now) (innermost (chain_of c.args.stack.now)) o) (rest_is c.args.at text) in
+    elim c.if-child-at.branch [
+      | then-child-at w ↦ c.choose.ensures.choice (blocks_of c.args.reading.now c.args.left u) (sym (w.opens-is ∙ w.opens_at-opens.ensures)) ∙ here (blocks_of c.args.reading.now c.args.left u)
+      | else-child-at w ↦ let off : nat_le c.args.child c.args.at ≡ false = grind (arith, nat_tests, w.if-child-at.false) in same_choice (row_in c.args.reading.now) (innermost (chain_of c.args.stack.now)) (blocks_of c.args.reading.now c.args.left u) u c.choose.result (c.requires.childless w.if-child-at.false) (λ e. sym off ∙ sym w.opens-is ∙ c.choose.ensures.child e)
+          (c.choose.ensures.choice None (sym off ∙ sym w.opens-is) ∙ here None)
+    ]

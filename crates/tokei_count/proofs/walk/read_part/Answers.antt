@@ -72,7 +72,7 @@ loop-at-preserved-in-On c =
       few = omega (arith, c.loop-at.invariant.few, goes.some, part.low, c.in_ok-len.ensures.counted);
       begun = omega (arith, behind);
       high = omega (arith, behind, stop_is, at_end, first_line-low (drop c.args.start text));
-      childless = λ p low high. c.next_child-child.ensures p (omega (arith, low)) high;
+      childless = λ p low high. c.look_ahead-ahead.ensures.childless p (omega (arith, low)) high;
     }
 
 pub loop-at-preserved : goal.loop-at-preserved
@@ -104,7 +104,7 @@ loop-at-preserved c =
       few = omega (arith, c.loop-at.invariant.few, goes.some, part.low, c.in_ok-len.ensures.counted, stop_here, low);
       begun = omega (arith, line, stop_here, high, c.in_ok-len.ensures.counted);
       high = omega arith;
-      childless = λ p low high. c.next_child-child.ensures p (omega (arith, low, stop_here)) high;
+      childless = λ p low high. c.look_ahead-ahead.ensures.childless p (omega (arith, low, stop_here)) high;
     }
 
 pub returns-in-Child : goal.returns-in-Child
@@ -182,8 +182,8 @@ returns c =
           (subst (λ n. ReadsLine (row_in c.args.reading.now) (blocks_of c.args.reading.now) c.args.left c.args.reading.now.docs (chain_of c.args.stack.now.items) n (c.loop-at.steps - (at - end) + newlines u) c.class_by-class.result (chain_of c.loop-at.stack.items) u) (sym first_is) line_read),
     )
 
-pub next_child-child-requires-clause-line : goal.next_child-child-requires-clause-line
-next_child-child-requires-clause-line c =
+pub look_ahead-ahead-requires-clause-line : goal.look_ahead-ahead-requires-clause-line
+look_ahead-ahead-requires-clause-line c =
     let text : List ℕ = c.args.reading.now.text.now in
     let end : ℕ = c.args.start + c.line_len.result in
     let at : ℕ = c.loop-at.at in
