@@ -1,8 +1,8 @@
 -- A part at whose head nothing but code can begin is code.
-use Rattle.std.proofs.Common.{◌≡◌, ℕ, ◌<◌, ◌==◌, Bool, true, false, ◌&&◌, ◌||◌, cond, List, [], ◌∷◌, None, slice_index_or, refl, sym, ◌∙◌, ap}
-use Rattle.std.specs.List.{list_all, list_any}
+use Rattle.std.proofs.Common.{◌≡◌, ℕ, ◌==◌, Bool, true, false, ◌&&◌, ◌||◌, cond, List, [], ◌∷◌, None, slice_index_or, refl, sym, ◌∙◌, ap}
+use Rattle.std.specs.List.{list_all}
 use Rattle.std.specs.Str.{bytes_eq}
-use Rattle.tokei_table.specs.Bytes.{begins, ends, is_blank, all_blank, trim, trim_start, trim_end}
+use Rattle.tokei_table.specs.Bytes.{ends, is_blank, all_blank, trim, trim_start, trim_end}
 use Rattle.tokei_table.specs.FirstOpener.{is_first_of}
 use Rattle.tokei_table.specs.Row.{Pair, Row}
 use Rattle.tokei_table.specs.Sound.{is_token, is_pair, IsSound}

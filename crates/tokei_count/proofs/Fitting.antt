@@ -1,5 +1,5 @@
 -- Where the blobs of a reading fit, so does all that they were made of.
-use Rattle.std.proofs.Common.{ℕ, List, [], ◌∷◌}
+use Rattle.std.proofs.Common.{List, [], ◌∷◌}
 use Rattle.tokei_count.specs.Items.{Block}
 use Rattle.tokei_stats.specs.Statistics.{Statistics, Blobs, at, put, joined, sum}
 use Rattle.tokei_count.specs.PlainReading.{gathered}

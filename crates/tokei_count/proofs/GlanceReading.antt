@@ -1,5 +1,5 @@
 -- A line that is decided at a glance is read so.
-use Rattle.std.proofs.Common.{◌≡◌, ℕ, ◌+◌, ◌<◌, true, false, Bool, ◌||◌, List, [], length, take, drop, None, ap, sym, ◌∙◌, subst}
+use Rattle.std.proofs.Common.{◌≡◌, ℕ, ◌+◌, ◌<◌, true, false, Bool, List, [], length, take, None, ap, sym, ◌∙◌, subst}
 use Rattle.tokei_table.proofs.RowSound.{sound_row}
 use Rattle.tokei_table.specs.Lookups.{row_at}
 use Rattle.tokei_table.specs.Openers.{openers}
@@ -7,7 +7,7 @@ use Rattle.tokei_table.specs.Row.{Row}
 use Rattle.tokei_table.specs.WellFormed.{has_tokens}
 use Rattle.tokei_count.specs.Class.{class_of}
 use Rattle.tokei_count.specs.Glance.{holds, is_walked}
-use Rattle.tokei_count.specs.Lines.{first_line, line_len}
+use Rattle.tokei_count.specs.Lines.{first_line}
 use Rattle.tokei_count.specs.Modes.{Chain, innermost}
 use Rattle.tokei_count.specs.Openings.{languages_of}
 use Rattle.tokei_count.specs.PlainReading.{blocks}

@@ -1,13 +1,12 @@
 -- A part that begins plain and holds no opener ends plain, and no child opens in it.
-use Rattle.std.proofs.Common.{◌≡◌, ℕ, suc, zero, ◌+◌, ◌-◌, ◌<◌, ◌≤◌, ◌==◌, Bool, true, false, ◌||◌, cond, List, [], ◌∷◌, ◌++◌, length, drop, codes, Option, None, Some, refl, sym, ◌∙◌, ap, subst, arith, length-drop}
+use Rattle.std.proofs.Common.{◌≡◌, ℕ, suc, zero, ◌+◌, ◌-◌, ◌<◌, ◌≤◌, ◌==◌, Bool, true, false, ◌||◌, cond, List, [], ◌∷◌, ◌++◌, drop, Option, None, Some, refl, sym, ◌∙◌, ap, subst, arith}
 use Rattle.std.specs.Prelude.{⊤}
-use Rattle.std.specs.List.{list_all, list_any}
 use Rattle.std.proofs.lemmas.List.{drop-drop}
 use Rattle.tokei_table.specs.Bytes.{begins, begins_with_one}
 use Rattle.tokei_table.specs.Families.{family_of}
 use Rattle.tokei_table.specs.Openers.{starts_of, tag_starts, child_openers, openers}
 use Rattle.tokei_table.specs.Row.{Pair, Row}
-use Rattle.tokei_table.specs.Sound.{no_newline, IsSound}
+use Rattle.tokei_table.specs.Sound.{IsSound}
 use Rattle.tokei_table.specs.WellFormed.{has_tokens}
 use Rattle.tokei_count.specs.Choice.{Choice, choice, opened, any_begins, is_escape, or_else, choice_in_plain}
 use Rattle.tokei_count.specs.Choice.Choice.{closes, escapes, child_opens, opens, passes_over, begins_line_comment, takes_byte}

@@ -16,7 +16,7 @@ use Rattle.tokei_count.specs.Modes.Mark.{byte_at}
 use Rattle.tokei_count.specs.Parts.{cut}
 use Rattle.tokei_count.specs.PlainReading.{children}
 use Rattle.tokei_count.specs.Progress.{marks_ahead, Leads, OpensInLine, newlines}
-use Rattle.tokei_count.specs.Stretches.{Stretch, stretches}
+use Rattle.tokei_count.specs.Stretches.{stretches}
 use Rattle.tokei_count.specs.declared.items.Kind.{Kind}
 use Rattle.tokei_table.specs.Row.{Row, Pair}
 use Rattle.tokei_table.specs.Sound.{no_newline, IsSound}

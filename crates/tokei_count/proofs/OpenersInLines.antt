@@ -1,6 +1,6 @@
 -- Openers in the first line of a text.
-use Rattle.std.proofs.Common.{◌≡◌, ℕ, suc, zero, ◌-◌, ◌<◌, ◌≤◌, ◌==◌, nat_eq, nat_lt, Bool, true, false, not, ◌&&◌, ◌||◌, cond, List, [], ◌∷◌, ◌++◌, length, drop, Option, None, Some, option_map, is_some, unwrap_or, refl, sym, ◌∙◌, ap, arith}
-use Rattle.std.specs.List.{list_all, list_any}
+use Rattle.std.proofs.Common.{◌≡◌, ℕ, suc, zero, ◌-◌, ◌<◌, ◌≤◌, ◌==◌, nat_eq, nat_lt, Bool, true, false, ◌&&◌, ◌||◌, cond, List, [], ◌∷◌, ◌++◌, length, drop, Option, None, Some, option_map, is_some, unwrap_or, refl, sym, ◌∙◌, ap, arith}
+use Rattle.std.specs.List.{list_all}
 use Rattle.std.proofs.lemmas.Bool.Decides.{Decides-eqb, nat_tests}
 use Rattle.tokei_table.specs.Bytes.{begins, begins_with_one}
 use Rattle.tokei_table.specs.FirstOpener.{first_opener}

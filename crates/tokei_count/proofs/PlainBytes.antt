@@ -1,5 +1,5 @@
 -- At a byte at which no choice can begin none but the byte is made.
-use Rattle.std.proofs.Common.{◌≡◌, ℕ, zero, suc, ◌+◌, ◌<◌, ◌≤◌, ◌⊎◌, inl, inr, ◌==◌, nat_eq, Bool, true, false, ◌&&◌, ◌||◌, cond, List, [], ◌∷◌, ◌++◌, length, drop, length-append, Option, None, Some, is_some, find, slice_index_or, refl, sym, ◌∙◌, ap, arith}
+use Rattle.std.proofs.Common.{◌≡◌, ℕ, zero, suc, ◌<◌, ◌≤◌, ◌⊎◌, inl, inr, ◌==◌, nat_eq, Bool, true, false, ◌&&◌, ◌||◌, cond, List, [], ◌∷◌, ◌++◌, length, drop, length-append, Option, None, Some, is_some, slice_index_or, refl, sym, ◌∙◌, ap, arith}
 use Rattle.std.specs.List.{list_all, list_any}
 use Rattle.std.proofs.lemmas.Bool.Decides.{Decides-eqb}
 use Rattle.tokei_table.specs.Bytes.{begins}
@@ -7,8 +7,8 @@ use Rattle.tokei_table.specs.FirstOpener.{is_first_of}
 use Rattle.tokei_table.specs.Row.{Pair, Row}
 use Rattle.tokei_table.specs.Sound.{is_token, is_pair, IsSound}
 use Rattle.tokei_count.specs.Choice.{choice, choice_in_plain, choice_within, choice_in_string, choice_in_comment, opened, any_begins, is_escape, or_else, met_in_comment}
-use Rattle.tokei_count.specs.Choice.Choice.{closes, escapes, child_opens, opens, takes_byte, begins_line_comment}
-use Rattle.tokei_count.specs.Items.{Block, Enclosure, Mode}
+use Rattle.tokei_count.specs.Choice.Choice.{closes, escapes, opens, takes_byte}
+use Rattle.tokei_count.specs.Items.{Block, Mode}
 use Rattle.tokei_count.specs.Matchers.{begins_opener, begins_choice, flags, Matchers, matchers_of}
 use Rattle.tokei_count.specs.PlainBytes.{NoCloser, IsPlainByte}
 use Rattle.tokei_count.specs.Seen.{choice_of}

@@ -1,5 +1,5 @@
 -- No child opens at a place whose line holds no opener.
-use Rattle.std.proofs.Common.{◌≡◌, ℕ, zero, suc, ◌<◌, ◌≤◌, Bool, true, false, ◌||◌, cond, List, [], ◌∷◌, ◌++◌, length, drop, codes, Option, None, Some, option_map, is_some, refl, sym, ◌∙◌, ap, arith}
+use Rattle.std.proofs.Common.{◌≡◌, ℕ, zero, suc, ◌<◌, Bool, true, false, ◌||◌, List, [], ◌∷◌, ◌++◌, length, drop, codes, None, option_map, is_some, refl, sym, ◌∙◌, ap, arith}
 use Rattle.std.specs.Prelude.{option_and_then}
 use Rattle.tokei_table.specs.Bytes.{begins, begins_with_one}
 use Rattle.tokei_table.specs.Families.{family_of}

@@ -1,23 +1,21 @@
 -- The steps of a text, part by part.
-use Rattle.std.proofs.Common.{◌≡◌, ℕ, suc, zero, ◌+◌, ◌-◌, ◌<◌, ◌≤◌, ◌⊎◌, inl, inr, nat_le, Bool, true, false, not, ◌||◌, cond, List, [], ◌∷◌, length, take, drop, Option, None, Some, is_some, map, get_or, refl, sym, ◌∙◌, ap, subst, arith, length-drop}
-use Rattle.std.specs.List.{list_all}
+use Rattle.std.proofs.Common.{◌≡◌, ℕ, suc, zero, ◌+◌, ◌-◌, ◌<◌, ◌≤◌, ◌⊎◌, inl, inr, nat_le, Bool, true, false, cond, List, [], ◌∷◌, length, take, drop, Option, None, Some, is_some, map, get_or, refl, sym, ◌∙◌, ap, subst, arith, length-drop}
 use Rattle.std.proofs.lemmas.Bool.Decides.{nat_tests}
 use Rattle.std.proofs.lemmas.List.{drop-drop}
 use Rattle.tokei_table.specs.FirstOpener.{first_opener}
 use Rattle.tokei_table.specs.Lookups.{row_at}
 use Rattle.tokei_table.specs.Openers.{openers}
 use Rattle.tokei_table.specs.Row.{Row}
-use Rattle.tokei_table.specs.Sound.{no_newline}
 use Rattle.tokei_count.specs.Glance.{holds, is_walked, opener_place}
 use Rattle.tokei_count.specs.Glanced.{AreInLine, Knows}
-use Rattle.tokei_count.specs.Items.{Block, Mode}
+use Rattle.tokei_count.specs.Items.{Block}
 use Rattle.tokei_count.specs.Languages.{is_notebook}
 use Rattle.tokei_count.specs.Lines.{first_line, line_len}
 use Rattle.tokei_count.specs.Matchers.{Matchers, matchers_of}
 use Rattle.tokei_count.specs.Modes.{Chain, innermost}
 use Rattle.tokei_count.specs.NotebookCells.{cell_blocks}
 use Rattle.tokei_count.specs.Openings.{languages_of}
-use Rattle.tokei_count.specs.PlainReading.{blocks, children, one_of}
+use Rattle.tokei_count.specs.PlainReading.{blocks, one_of}
 use Rattle.tokei_count.specs.Progress.{marks_ahead, children_left, steps_left, IsPart, ReadsLine, ReadsChild}
 use Rattle.tokei_count.proofs.Leading.{line_len-drop}
 use Rattle.tokei_count.proofs.LineEnds.{below_or}

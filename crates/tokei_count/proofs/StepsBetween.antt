@@ -1,5 +1,5 @@
 -- The steps of a text are at least its openings and at most its work.
-use Rattle.std.proofs.Common.{ℕ, ◌≤◌, List}
+use Rattle.std.proofs.Common.{ℕ, List}
 use Rattle.tokei_table.specs.Lookups.{row_at}
 use Rattle.tokei_table.specs.Row.{Row}
 use Rattle.tokei_count.specs.Openings.{languages_of}

@@ -1,7 +1,6 @@
 -- What a well-formed table bounds the counts and the steps by.
-use Rattle.std.proofs.Common.{◌≡◌, ℕ, suc, zero, ◌<◌, ◌≤◌, ◌⊎◌, inl, inr, Bool, true, ◌&&◌, List, [], ◌∷◌, length, sym, arith}
+use Rattle.std.proofs.Common.{◌≡◌, ℕ, suc, zero, ◌≤◌, ◌⊎◌, inl, inr, true, List, [], ◌∷◌, arith}
 use Rattle.std.specs.List.{list_all}
-use Rattle.tokei_table.specs.Lookups.{row_at}
 use Rattle.tokei_table.specs.Row.{Row}
 use Rattle.tokei_table.specs.WellFormed.{IsWellFormed, has_tokens}
 use Rattle.tokei_count.specs.Steps.{capped}

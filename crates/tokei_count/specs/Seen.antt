@@ -1,5 +1,5 @@
 -- The code's values as the definitions see them.
-use Rattle.std.specs.Prelude.{ℕ, Bool, cond, false, [], ◌∷◌, Option, option_map, unwrap_or, List, map, reverse}
+use Rattle.std.specs.Prelude.{ℕ, Bool, cond, false, Option, option_map, unwrap_or, List, map, reverse}
 use Rattle.tokei_table.specs.Bytes.{trim}
 use Rattle.tokei_table.specs.RowOf.{pair_of}
 use Rattle.tokei_embedding.specs.DocComments.{doc_text}

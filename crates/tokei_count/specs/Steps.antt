@@ -1,5 +1,5 @@
 -- The steps of a text: how many choices a reading has to make that looks at a part only where it must.
-use Rattle.std.specs.Prelude.{ℕ, zero, suc, ◌+◌, Bool, cond, List, [], ◌∷◌, length, Option, None, nat_le}
+use Rattle.std.specs.Prelude.{ℕ, zero, suc, ◌+◌, cond, List, [], ◌∷◌, length, None, nat_le}
 use Rattle.tokei_table.specs.Openers.{openers}
 use Rattle.tokei_table.specs.Row.{Row}
 use Rattle.tokei_count.specs.Derivation.{items_of}

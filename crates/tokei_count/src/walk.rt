@@ -230,9 +230,7 @@ pub(crate) fn read_part<'a>(
     let mut child = start;
     let mut at = start;
     while at < end {
-        let ahead = look_ahead(
-            reading, skips, stack, left, start, at, stop, &mut child,
-        );
+        let ahead = look_ahead(reading, skips, stack, left, start, at, stop, &mut child);
         match take_choice(
             reading, matchers, stack, left, start, at, end, ahead, &mut steps,
         )? {

@@ -1,13 +1,10 @@
-use Rattle.std.proofs.Common.{◌≡◌, ℕ, ◌+◌, ◌<◌, ◌≤◌, true, false, Bool, ◌||◌, List, length, drop, ◌∙◌, sym, ap, arith, length-drop}
-use Rattle.tokei_count.specs.Class.{is_plain}
-use Rattle.tokei_count.specs.Glance.{holds, opener_place}
+use Rattle.std.proofs.Common.{◌≡◌, ℕ, ◌+◌, true, false, Bool, ◌||◌, List, length, drop, ◌∙◌, ap, arith}
+use Rattle.tokei_count.specs.Glance.{holds}
 use Rattle.tokei_count.specs.Lines.{first_line, line_len}
-use Rattle.tokei_count.specs.Modes.{innermost}
-use Rattle.tokei_count.specs.Seen.{chain_of}
 use Rattle.tokei_count.proofs.Leading.{rest_is}
 use Rattle.tokei_count.proofs.LineEnds.{end_is}
 use Rattle.tokei_count.proofs.Lines.{first_within}
-use Rattle.tokei_count.proofs.OpenersInLines.{below, holds-line, place-below, place-behind}
+use Rattle.tokei_count.proofs.OpenersInLines.{holds-line, place-below, place-behind}
 use Rattle.tokei_count.proofs.glance.glance.Goals as goal
 
 or_last : (x y : Bool) → y ≡ true → (x || y) ≡ true

@@ -1,4 +1,4 @@
-use Rattle.std.proofs.Common.{◌≡◌, ◌<◌, List, length, drop, sym, ◌∙◌, ap, arith, length-drop}
+use Rattle.std.proofs.Common.{◌<◌, length, drop, sym, ◌∙◌, ap, arith, length-drop}
 use Rattle.tokei_table.specs.FirstOpener.{first_opener}
 use Rattle.tokei_count.proofs.Leading.{rest_is}
 use Rattle.tokei_count.proofs.OpenersInLines.{first-below}

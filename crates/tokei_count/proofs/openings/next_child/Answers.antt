@@ -1,12 +1,10 @@
-use Rattle.std.proofs.Common.{◌≡◌, ℕ, ◌-◌, ◌<◌, take, ◌≤◌, None, List, length, drop, sym, ap, ◌∙◌, arith, length-drop, option_map}
+use Rattle.std.proofs.Common.{◌≡◌, ◌-◌, ◌<◌, take, drop, sym, ap, ◌∙◌, arith, length-drop, option_map}
 use Rattle.std.specs.Prelude.{option_and_then}
 use Rattle.tokei_table.specs.Families.{family_of}
 use Rattle.tokei_table.specs.Row.{Row}
 use Rattle.tokei_table.specs.declared.family.Family.TheVariants.{Markdown, HtmlLike, LinguaFranca}
 use Rattle.tokei_embedding.specs.declared.tags.Tag.TheVariants.{Script, Style, Template}
-use Rattle.tokei_count.specs.HtmlChildren.{element_child, element_at, first_block}
 use Rattle.tokei_count.specs.LinguaFrancaChildren.{target_child}
-use Rattle.tokei_count.specs.Lines.{first_line}
 use Rattle.tokei_count.specs.MarkdownChildren.{fence_child}
 use Rattle.tokei_count.specs.ReadingOf.{row_in}
 use Rattle.tokei_count.proofs.Lines.{first_within}

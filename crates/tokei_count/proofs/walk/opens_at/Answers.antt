@@ -1,6 +1,5 @@
-use Rattle.std.proofs.Common.{◌≡◌, ℕ, ◌+◌, ◌<◌, false, is_some, None, List, ◌∷◌, length, drop, nat_lt, ◌∙◌, sym, ap, arith, length-drop}
+use Rattle.std.proofs.Common.{◌≡◌, ℕ, false, is_some, None, List, ◌∷◌, drop, nat_lt, ◌∙◌, sym, ap, arith, length-drop}
 use Rattle.std.proofs.lemmas.Bool.Decides.{nat_tests}
-use Rattle.tokei_count.specs.Lines.{line_len}
 use Rattle.tokei_count.specs.ReadingOf.{blocks_of}
 use Rattle.tokei_count.proofs.Blocks.{blocks_fit}
 use Rattle.tokei_count.proofs.Leading.{at_newline}

@@ -5,12 +5,12 @@ use Rattle.tokei_count.specs.Lines.{first_line, line_len}
 use Rattle.tokei_count.specs.Matchers.{matchers_of}
 use Rattle.tokei_count.specs.Modes.{innermost}
 use Rattle.tokei_count.specs.ReadingOf.{row_in, blocks_of}
-use Rattle.tokei_count.specs.Progress.{Leads, Goes, IsPart, IsClosable, ReadsLine, newlines}
+use Rattle.tokei_count.specs.Progress.{Leads, Goes, IsPart, ReadsLine, newlines}
 use Rattle.tokei_count.specs.Seen.{chain_of, mode_of}
 use Rattle.tokei_count.specs.Walked.{Steps}
-use Rattle.tokei_count.specs.declared.walk.Step.TheVariants.{Rest, Child}
+use Rattle.tokei_count.specs.declared.walk.Step.TheVariants.{Child}
 use Rattle.tokei_count.proofs.Blocks.{blocks_fit}
-use Rattle.tokei_count.proofs.Leading.{lead_none, lead_on, line_len-drop, rest_is}
+use Rattle.tokei_count.proofs.Leading.{lead_none, line_len-drop, rest_is}
 use Rattle.tokei_count.proofs.LineEnds.{end_is, ends_more, first_line-low, first_line-high}
 use Rattle.tokei_count.proofs.Lines.{line_reads, take-first}
 use Rattle.tokei_count.proofs.PartFronts.{part_on, part_anew}

@@ -1,4 +1,4 @@
-use Rattle.std.proofs.Common.{◌≡◌, ◌<◌, ◌∙◌, ap, sym, subst, ℕ, List, [], ◌-◌, take, drop, arith}
+use Rattle.std.proofs.Common.{◌≡◌, ◌<◌, ◌∙◌, ap, sym, ℕ, List, [], ◌-◌, take, drop, arith}
 use Rattle.std.proofs.lemmas.List.{append-nil}
 use Rattle.tokei_table.specs.RowOf.{pair_of}
 use Rattle.tokei_count.specs.Choice.{Choice, choice, or_else}
@@ -6,7 +6,7 @@ use Rattle.tokei_count.specs.Choice.Choice.{closes, escapes, child_opens, opens,
 use Rattle.tokei_count.specs.Lines.{line_len}
 use Rattle.tokei_count.specs.Modes.{innermost}
 use Rattle.tokei_count.specs.ReadingOf.{row_in, blocks_of}
-use Rattle.tokei_count.specs.Progress.{Goes, OpensInLine}
+use Rattle.tokei_count.specs.Progress.{OpensInLine}
 use Rattle.tokei_count.specs.Seen.{choice_of, chain_of}
 use Rattle.tokei_count.specs.declared.items.Enclosure as Code
 use Rattle.tokei_count.specs.declared.reading.Reading.{Reading}

@@ -1,6 +1,4 @@
-use Rattle.std.proofs.Common.{◌≡◌, ◌<◌, List, map, get_or, length, ◌∙◌, sym, ap, subst}
-use Rattle.tokei_table.specs.Lookups.{row_at}
-use Rattle.tokei_table.specs.Row.{Row}
+use Rattle.std.proofs.Common.{List, map, get_or, ◌∙◌, ap}
 use Rattle.tokei_count.specs.Matchers.{Matchers, matchers_of}
 use Rattle.tokei_count.proofs.StepReading.{matchers_at}
 use Rattle.tokei_count.proofs.counter.Counter.matchers.Goals as goal

@@ -1,8 +1,8 @@
-use Rattle.std.proofs.Common.{◌≡◌, ◌∙◌, ap}
+use Rattle.std.proofs.Common.{◌∙◌, ap}
 use Rattle.tokei_table.specs.Lookups.{row_at}
 use Rattle.tokei_table.specs.Openers.{openers}
 use Rattle.tokei_table.specs.Row.{Row}
-use Rattle.tokei_count.specs.Matchers.{begins_choice, flags, Matchers}
+use Rattle.tokei_count.specs.Matchers.{begins_choice, flags}
 use Rattle.tokei_count.proofs.matchers.SharedMatchers.init.Goals as goal
 
 pub returns : goal.returns
