@@ -1,57 +1,71 @@
-//! Worked rows cut after each byte: each piece is counted, and has no more lines than bytes.
+//! Worked rows cut after each byte: of each piece every call tells the same, and neither its lines nor its steps are
+//! more than its bytes.
 use crate::bench::bench;
-use crate::plain_rows::counted;
+use crate::every_call::told;
 use std::alloc::Global;
 use std::test::Fail;
 use tokei_count::CountError;
 use tokei_table::LanguageTable;
 
-/// All lines of a text, those of its children with them, or `None` where the table hasn't the language.
-fn lines_of(
+/// Whether every call tells the same of a text, and neither all its lines, those of its children with them, nor its
+/// steps are more than its bytes.
+fn few(
     alloc: Global,
     table: &LanguageTable,
     key: &str,
+    docs: Option<bool>,
     text: &[u8],
-) -> Result<Option<usize>, CountError> {
-    match counted(alloc, table, key, None, text)? {
-        Some(stats) => {
+) -> Result<bool, CountError> {
+    match told(alloc, table, key, docs, text)? {
+        Some((stats, steps)) => {
             let lines = stats.summarise()?.lines()?;
-            Ok(Some(lines))
+            Ok(lines <= text.len() && steps <= text.len() as u128)
         }
-        None => Ok(None),
+        None => Ok(false),
     }
 }
 
 #[test]
-fn pieces_have_no_more_lines_than_bytes(rt: HostRuntime) -> Result<(), Fail> {
+fn pieces_have_few_lines_and_steps(rt: HostRuntime) -> Result<(), Fail> {
     let table = bench(rt.alloc())?;
-    for (key, text) in [
-        ("Rust", "/* a\n\nb */\n"),
-        ("Rust", "let s = \"// no\";\n"),
-        ("C", "/* a /*/ b\nc */\nd\n"),
-        ("D", "/+ /+ +/\n+/\nx\n"),
-        ("C", "let s = \"a\n// b\";\n"),
-        ("FortranLegacy", "c x\n c x\n"),
-        ("Markdown", "```rust\nfn a() {}\n```\n"),
-        ("Markdown", "```rust\r\nfn a() {}\r\n```\r\n"),
-        ("Html", "<script>\nlet x = 1;\n</script>\n"),
-        ("Html", "<script>ab</script>\n"),
-        ("Html", "<style>\na {}\n"),
-        ("Rust", "let s = \"q\";\n/// d\n"),
-        ("Rust", "x /// d\n"),
-        ("LinguaFranca", "target C;\nreaction(a) {=\n  x();\n=}\n"),
-        ("Python", "\"\"\"d\ne\"\"\"\nx = 1\n"),
-        ("Python", "\"\"\"d\"\"\"\n"),
-        ("CSharp", "s = @\"\\\";\n// c\n"),
+    for (key, docs, text) in [
+        ("Rust", None, "/* a\n\nb */\n"),
+        ("Rust", None, "let s = \"// no\";\n"),
+        ("C", None, "/* a /*/ b\nc */\nd\n"),
+        ("D", None, "/+ /+ +/\n+/\nx\n"),
+        ("C", None, "let s = \"a\n// b\";\n"),
+        ("FortranLegacy", None, "c x\n c x\n"),
+        ("Markdown", None, "```rust\nfn a() {}\n```\n"),
+        ("Markdown", None, "```rust\r\nfn a() {}\r\n```\r\n"),
+        ("Html", None, "<script>\nlet x = 1;\n</script>\n"),
+        ("Html", None, "<script>ab</script>\n"),
+        ("Html", None, "<style>\na {}\n"),
+        ("Rust", None, "let s = \"q\";\n/// d\n"),
+        ("Rust", None, "x /// d\n"),
+        (
+            "LinguaFranca",
+            None,
+            "target C;\nreaction(a) {=\n  x();\n=}\n",
+        ),
+        ("Python", None, "\"\"\"d\ne\"\"\"\nx = 1\n"),
+        ("Python", Some(true), "\"\"\"d\ne\"\"\"\nx = 1\n"),
+        ("Python", Some(true), "\"\"\"d\"\"\"\n"),
+        ("CSharp", None, "s = @\"\\\";\n// c\n"),
+        (
+            "Jupyter",
+            None,
+            "{\"cells\":[{\"cell_type\":\"code\",\"source\":[\"x = 1\\n\",\"y = 2\"]}],\"metadata\":{\"kernelspec\":{},\"language_info\":{}}}",
+        ),
+        (
+            "Jupyter",
+            None,
+            "{\"cells\":[{\"cell_type\":\"markdown\",\"source\":[\"```rust\\n\",\"x\\n\",\"```\\n\"]}],\"metadata\":{\"kernelspec\":{},\"language_info\":{}}}",
+        ),
     ] {
         let bytes = text.as_bytes();
         for end in 0..=bytes.len() {
-            let lines = lines_of(rt.alloc(), &table, key, &bytes[..end])?;
-            let few = match lines {
-                Some(lines) => lines <= end,
-                None => false,
-            };
-            assert!(rt; few, "{key} {text:?} to {end}");
+            let right = few(rt.alloc(), &table, key, docs, &bytes[..end])?;
+            assert!(rt; right, "{key} {text:?} to {end}");
         }
     }
     Ok(())

@@ -9,12 +9,20 @@ mod counted;
 #[cfg(test)]
 mod cut_rows;
 #[cfg(test)]
+mod every_call;
+#[cfg(test)]
 mod fail_once;
+#[cfg(test)]
+mod hostile_rows;
 mod input_error;
 #[cfg(test)]
 mod notebook_rows;
 #[cfg(test)]
 mod plain_rows;
+#[cfg(test)]
+mod refused_calls;
+#[cfg(test)]
+mod short_texts;
 mod sink;
 mod source;
 #[cfg(test)]

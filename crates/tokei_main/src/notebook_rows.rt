@@ -1,6 +1,7 @@
 //! Notebooks: a blob for the language of each cell, and no lines of their own.
 use crate::bench::bench;
-use crate::plain_rows::{Lines, are, child_of, counted, own_of};
+use crate::every_call::{counted, steps_of};
+use crate::plain_rows::{Lines, are, child_of, own_of};
 use std::alloc::{AllocError, Global};
 use std::test::Fail;
 use tokei_count::CountError;
@@ -121,6 +122,8 @@ fn cells_have_children(rt: HostRuntime) -> Result<(), Fail> {
             assert_eq!(rt; child_of(&table, markdown, "Rust"), Some((0, 1, 0)));
         }
     }
+    let taken = steps_of(rt.alloc(), &table, "Jupyter", None, text)?;
+    assert_eq!(rt; taken, Some(1));
     Ok(())
 }
 

@@ -1,33 +1,12 @@
-//! Worked rows of `count_plain`, by the bench table.
+//! Worked rows of the calls that count a text, by the bench table: its lines and its steps.
 use crate::bench::bench;
-use std::alloc::{AllocError, Global};
+use crate::every_call::{counted, steps_of};
 use std::test::Fail;
-use tokei_count::{CodeStats, CountConfig, CountError, Counter, count_plain};
+use tokei_count::CodeStats;
 use tokei_table::{LanguageTable, LanguageType};
 
 /// Blank, code and comment lines.
 pub type Lines = (usize, usize, usize);
-
-/// The statistics of a text, or `None` where the table hasn't the language.
-pub fn counted(
-    alloc: Global,
-    table: &LanguageTable,
-    key: &str,
-    treat_doc_strings_as_comments: Option<bool>,
-    text: &[u8],
-) -> Result<Option<CodeStats>, CountError> {
-    let config = CountConfig {
-        treat_doc_strings_as_comments,
-    };
-    let counter = Counter::new(alloc, table)?;
-    match LanguageType::from_name(table, key) {
-        Some(language) => {
-            let stats = count_plain(alloc, &counter, language, text, &config)?;
-            Ok(Some(stats))
-        }
-        None => Ok(None),
-    }
-}
 
 /// The text's own lines.
 pub fn own_of(stats: &CodeStats) -> Lines {
@@ -35,7 +14,7 @@ pub fn own_of(stats: &CodeStats) -> Lines {
 }
 
 /// The own lines of a text that has no blobs.
-fn lines_alone(stats: &Option<CodeStats>) -> Option<Lines> {
+pub fn lines_alone(stats: &Option<CodeStats>) -> Option<Lines> {
     match stats {
         Some(stats) => if stats.blobs.is_empty() {
             Some(own_of(stats))
@@ -80,76 +59,89 @@ pub fn are(
     own_of(stats) == own && stats.blobs.len() == children.len()
 }
 
-/// The lines of the blob of the language that lies 50 deep and holds no blobs, where each text above it has no lines
-/// and one blob.
-fn deepest(stats: &CodeStats, language: LanguageType) -> Option<Lines> {
-    let mut here = stats;
-    for _ in 0..50 {
-        if own_of(here) != (0, 0, 0) || here.blobs.len() != 1 {
-            return None;
-        }
-        match here.blobs.get(&language) {
-            Some(inner) => here = inner,
-            None => return None,
-        }
-    }
-    if here.blobs.is_empty() {
-        Some(own_of(here))
-    } else {
-        None
-    }
-}
-
 #[test]
 fn worked_rows(rt: HostRuntime) -> Result<(), Fail> {
     let table = bench(rt.alloc())?;
-    for (key, text, want) in [
-        ("Rust", b"/* a\n\nb */\n".as_slice(), (0, 0, 3)),
-        ("Rust", b"let s = \"// no\";\n".as_slice(), (0, 1, 0)),
-        ("C", b"/* a /*/ b\nc */\nd\n".as_slice(), (0, 1, 2)),
-        ("D", b"/+ /+ +/\n+/\nx\n".as_slice(), (0, 1, 2)),
-        ("C", b"let s = \"a\n// b\";\n".as_slice(), (0, 2, 0)),
-        ("FortranLegacy", b"c x\n c x\n".as_slice(), (0, 1, 1)),
-        ("CSharp", b"s = @\"\\\";\n// c\n".as_slice(), (0, 1, 1)),
-        ("C", b"".as_slice(), (0, 0, 0)),
-        ("C", b"/* a */ x /* b */\n".as_slice(), (0, 0, 1)),
-        ("C", b"\"a\n\nb".as_slice(), (0, 3, 0)),
-        ("C", b"/*\n\n".as_slice(), (0, 0, 2)),
-        ("C", b"\xff\n".as_slice(), (0, 1, 0)),
-        ("Batch", b"rem x\nrem \n".as_slice(), (0, 1, 1)),
-        ("CSharp", b"@\"a\" \\\"\n// x\n".as_slice(), (0, 1, 1)),
-        ("CSharp", b"@\"a\" \"\\\"\"\n// x\n".as_slice(), (0, 1, 1)),
-        ("C", b"// \"a\nb\n".as_slice(), (0, 1, 1)),
-        ("C", b"x\n\n// y\n".as_slice(), (1, 1, 1)),
+    for (key, text, want, steps) in [
+        ("Rust", "/* a\n\nb */\n", (0, 0, 3), 9),
+        ("Rust", "let s = \"// no\";\n", (0, 1, 0), 17),
+        ("C", "/* a /*/ b\nc */\nd\n", (0, 1, 2), 13),
+        ("D", "/+ /+ +/\n+/\nx\n", (0, 1, 2), 8),
+        ("C", "let s = \"a\n// b\";\n", (0, 2, 0), 18),
+        ("FortranLegacy", "c x\n c x\n", (0, 1, 1), 0),
+        ("CSharp", "s = @\"\\\";\n// c\n", (0, 1, 1), 9),
+        ("C", "", (0, 0, 0), 0),
+        ("C", "/* a */ x /* b */\n", (0, 0, 1), 14),
+        ("C", "\"a\n\nb", (0, 3, 0), 5),
+        ("C", "/*\n\n", (0, 0, 2), 3),
+        ("Batch", "rem x\nrem \n", (0, 1, 1), 0),
+        ("CSharp", "@\"a\" \\\"\n// x\n", (0, 1, 1), 6),
+        ("CSharp", "@\"a\" \"\\\"\"\n// x\n", (0, 1, 1), 8),
+        ("C", "// \"a\nb\n", (0, 1, 1), 1),
+        ("C", "x\n\n// y\n", (1, 1, 1), 0),
     ] {
-        let stats = counted(rt.alloc(), &table, key, None, text)?;
+        let stats = counted(rt.alloc(), &table, key, None, text.as_bytes())?;
         assert_eq!(rt; lines_alone(&stats), Some(want), "{key} at {text:?}");
+        let taken = steps_of(rt.alloc(), &table, key, None, text.as_bytes())?;
+        assert_eq!(rt; taken, Some(steps), "{key} at {text:?}");
     }
     Ok(())
 }
 
-/// The text in a table of one language, whose comment's opener ends in a blank.
-const SPACED: &str = r#"{"languages":{"Spaced":{"multi_line_comments":[["c ","e"]]}}}"#;
-
 #[test]
-fn opener_that_ends_in_a_blank(rt: HostRuntime) -> Result<(), Fail> {
-    let table = LanguageTable::from_json(rt.alloc(), SPACED.as_bytes())?;
-    let stats = counted(rt.alloc(), &table, "Spaced", None, b"c \nx e\n")?;
-    assert_eq!(rt; lines_alone(&stats), Some((0, 1, 1)));
+fn plain_lines_take_no_steps(rt: HostRuntime) -> Result<(), Fail> {
+    let table = bench(rt.alloc())?;
+    let mut text = Vec::new(rt.alloc());
+    for _ in 0..1_000 {
+        text.extend_from_slice(b"x\n")?;
+    }
+    text.extend_from_slice(b"/* a /*/ b\nc */\nd\n")?;
+    let stats = counted(rt.alloc(), &table, "C", None, &text)?;
+    assert_eq!(rt; lines_alone(&stats), Some((0, 1_001, 2)));
+    let taken = steps_of(rt.alloc(), &table, "C", None, &text)?;
+    assert_eq!(rt; taken, Some(13));
+    Ok(())
+}
+
+/// Tables of the language `X` alone: a comment whose opener ends in a blank; verbatim strings and no other.
+#[test]
+fn tables_of_one_language(rt: HostRuntime) -> Result<(), Fail> {
+    for (languages, text, want, steps) in [
+        (
+            r#"{"languages":{"X":{"multi_line_comments":[["c ","e"]]}}}"#,
+            "c \nx e\n",
+            (0, 1, 1),
+            6,
+        ),
+        (
+            r##"{"languages":{"X":{"line_comment":["#"],"verbatim_quotes":[["<",">"]]}}}"##,
+            "<\n# a>\n# b\n",
+            (0, 2, 1),
+            7,
+        ),
+    ] {
+        let table = LanguageTable::from_json(rt.alloc(), languages.as_bytes())?;
+        let stats = counted(rt.alloc(), &table, "X", None, text.as_bytes())?;
+        assert_eq!(rt; lines_alone(&stats), Some(want), "at {text:?}");
+        let taken = steps_of(rt.alloc(), &table, "X", None, text.as_bytes())?;
+        assert_eq!(rt; taken, Some(steps), "at {text:?}");
+    }
     Ok(())
 }
 
 #[test]
 fn doc_strings(rt: HostRuntime) -> Result<(), Fail> {
     let table = bench(rt.alloc())?;
-    for (docs, text, want) in [
-        (None, "\"\"\"d\ne\"\"\"\nx = 1\n", (0, 3, 0)),
-        (Some(true), "\"\"\"d\ne\"\"\"\nx = 1\n", (0, 1, 2)),
-        (Some(false), "\"\"\"d\ne\"\"\"\nx = 1\n", (0, 3, 0)),
-        (Some(true), "\"\"\"d\"\"\"\n", (0, 1, 0)),
+    for (docs, text, want, steps) in [
+        (None, "\"\"\"d\ne\"\"\"\nx = 1\n", (0, 3, 0), 6),
+        (Some(true), "\"\"\"d\ne\"\"\"\nx = 1\n", (0, 1, 2), 6),
+        (Some(false), "\"\"\"d\ne\"\"\"\nx = 1\n", (0, 3, 0), 6),
+        (Some(true), "\"\"\"d\"\"\"\n", (0, 1, 0), 4),
     ] {
         let stats = counted(rt.alloc(), &table, "Python", docs, text.as_bytes())?;
         assert_eq!(rt; lines_alone(&stats), Some(want), "at {text}");
+        let taken = steps_of(rt.alloc(), &table, "Python", docs, text.as_bytes())?;
+        assert_eq!(rt; taken, Some(steps), "at {text}");
     }
     Ok(())
 }
@@ -158,15 +150,15 @@ fn doc_strings(rt: HostRuntime) -> Result<(), Fail> {
 #[test]
 fn no_child_opens(rt: HostRuntime) -> Result<(), Fail> {
     let table = bench(rt.alloc())?;
-    for (key, text, want) in [
-        ("Html", b"<style>\na {}\n".as_slice(), (0, 2, 0)),
-        ("Html", b"<script>\r\n \r\n</script>".as_slice(), (1, 2, 0)),
-        ("Markdown", b"```nope ```rust x\n".as_slice(), (0, 0, 1)),
-        ("Markdown", b"```\xff\nx\n".as_slice(), (0, 0, 2)),
-        ("Rust", b"// x /// y\n".as_slice(), (0, 0, 1)),
+    for (key, text, want, steps) in [
+        ("Html", "<style>\na {}\n", (0, 2, 0), 8),
+        ("Markdown", "```nope ```rust x\n", (0, 0, 1), 18),
+        ("Rust", "// x /// y\n", (0, 0, 1), 1),
     ] {
-        let stats = counted(rt.alloc(), &table, key, None, text)?;
+        let stats = counted(rt.alloc(), &table, key, None, text.as_bytes())?;
         assert_eq!(rt; lines_alone(&stats), Some(want), "{key} at {text:?}");
+        let taken = steps_of(rt.alloc(), &table, key, None, text.as_bytes())?;
+        assert_eq!(rt; taken, Some(steps), "{key} at {text:?}");
     }
     Ok(())
 }
@@ -175,13 +167,14 @@ fn no_child_opens(rt: HostRuntime) -> Result<(), Fail> {
 #[test]
 fn children(rt: HostRuntime) -> Result<(), Fail> {
     let table = bench(rt.alloc())?;
-    for (key, text, own, child, lines) in [
+    for (key, text, own, child, lines, steps) in [
         (
             "Markdown",
             "```rust\nfn a() {}\n```\n",
             (0, 0, 2),
             "Rust",
             (0, 1, 0),
+            1,
         ),
         (
             "Markdown",
@@ -189,6 +182,7 @@ fn children(rt: HostRuntime) -> Result<(), Fail> {
             (1, 0, 2),
             "Rust",
             (0, 1, 0),
+            1,
         ),
         (
             "Markdown",
@@ -196,6 +190,7 @@ fn children(rt: HostRuntime) -> Result<(), Fail> {
             (0, 0, 1),
             "Rust",
             (0, 1, 0),
+            1,
         ),
         (
             "Html",
@@ -203,6 +198,7 @@ fn children(rt: HostRuntime) -> Result<(), Fail> {
             (0, 2, 0),
             "JavaScript",
             (0, 1, 0),
+            1,
         ),
         (
             "Html",
@@ -210,6 +206,7 @@ fn children(rt: HostRuntime) -> Result<(), Fail> {
             (0, 2, 0),
             "JavaScript",
             (0, 1, 0),
+            1,
         ),
         (
             "Rust",
@@ -217,14 +214,16 @@ fn children(rt: HostRuntime) -> Result<(), Fail> {
             (0, 1, 0),
             "Markdown",
             (0, 0, 1),
+            14,
         ),
-        ("Rust", "x /// d\n", (0, 0, 0), "Markdown", (0, 0, 1)),
+        ("Rust", "x /// d\n", (0, 0, 0), "Markdown", (0, 0, 1), 2),
         (
             "LinguaFranca",
             "target C;\nreaction(a) {=\n  x();\n=}\n",
             (0, 2, 0),
             "C",
             (0, 1, 0),
+            13,
         ),
         (
             "Rust",
@@ -232,14 +231,23 @@ fn children(rt: HostRuntime) -> Result<(), Fail> {
             (0, 1, 0),
             "Markdown",
             (0, 0, 2),
+            1,
         ),
-        ("Rust", "//! a\n/// b\n", (0, 0, 0), "Markdown", (0, 0, 2)),
+        (
+            "Rust",
+            "//! a\n/// b\n",
+            (0, 0, 0),
+            "Markdown",
+            (0, 0, 2),
+            2,
+        ),
         (
             "LinguaFranca",
             "{=\nx\n",
             (0, 0, 0),
             "LinguaFranca",
             (0, 1, 0),
+            1,
         ),
         (
             "LinguaFranca",
@@ -247,6 +255,15 @@ fn children(rt: HostRuntime) -> Result<(), Fail> {
             (0, 1, 0),
             "LinguaFranca",
             (0, 0, 0),
+            1,
+        ),
+        (
+            "Html",
+            "<template>\nx\n</template>\n",
+            (0, 2, 0),
+            "Html",
+            (0, 1, 0),
+            1,
         ),
     ] {
         let stats = counted(rt.alloc(), &table, key, None, text.as_bytes())?;
@@ -254,6 +271,8 @@ fn children(rt: HostRuntime) -> Result<(), Fail> {
             are(&table, &stats, own, &[(child, lines)]),
             "{key} at {text}"
         );
+        let taken = steps_of(rt.alloc(), &table, key, None, text.as_bytes())?;
+        assert_eq!(rt; taken, Some(steps), "{key} at {text}");
     }
     Ok(())
 }
@@ -271,46 +290,7 @@ fn children_of_two_languages(rt: HostRuntime) -> Result<(), Fail> {
             &[("JavaScript", (0, 1, 0)), ("Css", (0, 1, 0))]
         )
     );
-    Ok(())
-}
-
-/// So many lines of `{=`.
-fn openings(alloc: Global, count: u32) -> Result<Vec<u8>, AllocError> {
-    let mut text = Vec::new(alloc);
-    for _ in 0..count {
-        text.extend_from_slice(b"{=\n")?;
-    }
-    Ok(text)
-}
-
-#[test]
-fn fifty_levels(rt: HostRuntime) -> Result<(), Fail> {
-    let table = bench(rt.alloc())?;
-    for (count, want) in [
-        (50, (1, 0, 0)),
-        (51, (0, 1, 0)),
-        (60, (0, 10, 0)),
-        (200, (0, 150, 0)),
-    ] {
-        let text = openings(rt.alloc(), count)?;
-        let stats = counted(rt.alloc(), &table, "LinguaFranca", None, &text)?;
-        let got = match (&stats, LanguageType::from_name(&table, "LinguaFranca")) {
-            (Some(stats), Some(language)) => deepest(stats, language),
-            _ => None,
-        };
-        assert_eq!(rt; got, Some(want), "{count} openings");
-    }
-    Ok(())
-}
-
-// Under `rt try --test --fail-alloc N` memory may be wanting; no other answer may change.
-#[test]
-fn refused_count_plain(rt: HostRuntime) -> Result<(), Fail> {
-    if let Ok(table) = bench(rt.alloc()) {
-        match counted(rt.alloc(), &table, "Rust", None, b"//! a\n/// b\n") {
-            Err(refused) => assert_eq!(rt; refused, CountError::Memory),
-            Ok(stats) => assert!(rt; are(&table, &stats, (0, 0, 0), &[("Markdown", (0, 0, 2))])),
-        }
-    }
+    let taken = steps_of(rt.alloc(), &table, "Html", None, text)?;
+    assert_eq!(rt; taken, Some(11));
     Ok(())
 }

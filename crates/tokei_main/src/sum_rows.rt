@@ -1,6 +1,7 @@
 //! Sums of statistics, and what stands after a refused one.
 use crate::bench::bench;
-use crate::plain_rows::{are, counted, own_of};
+use crate::every_call::counted;
+use crate::plain_rows::{are, own_of};
 use std::alloc::Global;
 use std::test::Fail;
 use tokei_count::{CodeStats, CountError};
