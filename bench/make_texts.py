@@ -10,21 +10,22 @@ import sys
 SHARE = 1_000_000  # bytes of a mixed text that are repeated
 DEPTH = 1_000_000
 
-C = [
+STATEMENTS = [
     "int total_{n} = {n} * factor;\n",
-    "    if (count > {n} && list->next != NULL) {{\n        return lookup(table, key, {n});\n    }}\n",
+    "if (count > {n} && list->next != NULL) {{\n",
+    "}}\n",
+    "return lookup(table, key, {n});\n",
     "    buffer[{n} % size] = value_{n} + offset;\n",
     "        for (size_t i = 0; i < {n}; i++) sum += data[i] / 2;\n",
     "static const struct entry entries_{n}[] = {{ {{ {n}, 0 }}, {{ 0, 0 }} }};\n",
     "    printf(\"%d items in \\\"%s\\\"\\n\", total_{n}, name);\n",
     "    const char *path = \"http://example.org/{n}\"; // where it comes from\n",
     "    result = a_{n} * b /* scaled */ + c;\n",
-    "// the next {n} entries are sorted\n",
-    "    // {n}: see below\n",
-    "/*\n * Returns the entry {n}, or NULL.\n *\n * The caller keeps the table.\n */\n",
-    "\n",
-    "\n",
 ]
+COMMENTS = ["// the next {n} entries are sorted\n", "    // {n}: see below\n", "//////////////////////// {n}\n"]
+BLOCK = "/*\n * Returns the entry {n}, or NULL.\n *\n * The caller keeps the table.\n */\n"
+# of 100 snippets 12 are blank lines, 8 line comments, 3 blocks of comments and the others statements
+C = STATEMENTS * 23 + COMMENTS * 8 + [BLOCK] * 9 + ["\n"] * 36
 RUST = [
     "/// Returns the entry {n}, where there is one.\n///\n/// It is found by its key.\n",
     "/// # Example\n///\n/// ```rust\n/// let entry = entry_{n}(\"key\")?;\n/// ```\n",
