@@ -12,7 +12,7 @@ use crate::input_error::InputError;
 use crate::sink::Sink;
 use crate::source::Source;
 use std::alloc::{AllocError, Global};
-use tokei_count::{CodeStats, CountConfig, CountError, Counter, count_plain};
+use tokei_count::{CodeStats, CountConfig, CountError, Counter, parse_from_slice};
 use tokei_table::LanguageType;
 
 /// The most reads of one input.
@@ -62,7 +62,7 @@ fn stats_as_c(alloc: Global, text: &[u8]) -> Result<CodeStats, InputError>
         Some(language) => language,
         None => return Err(InputError::Table),
     };
-    match count_plain(alloc, &counter, language, text, &config) {
+    match parse_from_slice(alloc, &counter, language, text, &config) {
         Ok(stats) => Ok(stats),
         Err(CountError::Memory) => Err(InputError::Memory),
         Err(CountError::Overflow) => Err(InputError::Overflow),
