@@ -1,6 +1,8 @@
 -- Where a line ends in its text.
-use Rattle.std.proofs.Common.{◌≡◌, ℕ, suc, zero, ◌+◌, ◌<◌, ◌≤◌, ◌⊎◌, inl, inr, List, length, drop, arith, length-drop}
+use Rattle.std.proofs.Common.{◌≡◌, ◌∙◌, ap, ℕ, suc, zero, ◌+◌, ◌-◌, ◌<◌, ◌≤◌, ◌⊎◌, inl, inr, List, length, drop, arith, length-drop}
+use Rattle.std.proofs.lemmas.List.{drop-drop}
 use Rattle.tokei_count.specs.Lines.{first_line, line_len}
+use Rattle.tokei_count.proofs.Leading.{line_len-drop}
 use Rattle.tokei_count.proofs.Lines.{length-whole, length-broken}
 use Rattle.tokei_count.proofs.PartFronts.{line_len_within}
 
@@ -58,3 +60,11 @@ ends_more n end stop h more last below = by_case (below_or end n)
     by_case : (end < n) ⊎ (n ≤ end) → stop ≡ end + 1
     by_case (inl b) = more b
     by_case (inr b) = let e : stop ≡ end = last (omega (arith, h, b)) in absurd (omega (arith, e, b, below))
+
+-- a later place of the line has the line's end
+pub end_later : (text : List ℕ) (start next end : ℕ) → start ≤ next → end ≡ start + line_len (drop start text) → next ≤ end → end ≡ next + line_len (drop next text)
+end_later text start next end low e high =
+    let n : ℕ = next - start in
+    let place : start + n ≡ next = omega (arith, low) in
+    let there : drop n (drop start text) ≡ drop next text = drop-drop n start text ∙ ap (λ m. drop m text) place in
+    omega (arith, e, low, high, line_len-drop n (drop start text) (omega (arith, e, low, high)), ap line_len there)

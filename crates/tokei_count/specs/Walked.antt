@@ -23,7 +23,7 @@ pub record Breaks (r : Row) (block : ℕ → List ℕ → Option Block) (l : ℕ
   pub few : j ≤ at - start
   pub opens : block l (drop at text) ≡ Some k
   pub reads : ReadsChild r block l docs c (at - start) j k d (drop start text)
-  pub inside : 0 < line_len (drop at text)
+  pub inside : at < start + line_len (drop start text)
 
 abbrev pub ReadsTo : Row → (ℕ → List ℕ → Option Block) → ℕ → Bool → Chain → Chain → ℕ → List ℕ → ℕ → PartEnd → Type 0
 ReadsTo r block l docs c d start text steps (Line class end) = (start < end) × (end ≤ length text) × (end < length text → IsPart text l end end) × (steps ≤ end - start) × (end ≡ start + length (first_line (drop start text))) × ReadsLine r block l docs c (end - start) steps class d (drop start text)

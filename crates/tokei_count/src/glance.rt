@@ -1,6 +1,5 @@
 //! Which parts are decided at a glance.
 ghost use Rattle.std.specs.Prelude.{◌≡◌, ◌≢◌, ◌+◌, ◌<◌, ◌≤◌, true, false, [], None, drop, length};
-ghost use Rattle.std.specs.Option.{IfSome};
 ghost use Rattle.tokei_count.specs.Glance.{holds, is_walked, opener_place};
 ghost use Rattle.tokei_count.specs.Lines.{first_line};
 ghost use Rattle.tokei_count.specs.Modes.{innermost};
@@ -9,8 +8,6 @@ ghost use Rattle.tokei_count.specs.Glanced.{AreInLine, Knows};
 
 use crate::items::Enclosure;
 use crate::matchers::SharedMatchers;
-use crate::openings::line_end;
-use crate::walk::line_len;
 
 /// The place of the first opener at `start` or behind it, or the text's end. It is `next`, where that is behind `start`:
 /// the place that an earlier search came to.
@@ -28,29 +25,29 @@ fn next_opener(matchers: &SharedMatchers, text: &[u8], start: usize, next: usize
     }
 }
 
-/// Where the part that begins at `start` ends, if it begins plain and its reach holds no opener; None where nothing is to
-/// be decided at a glance. `next` is where an earlier search came to, and becomes where this one does.
-pub(crate) fn glance(
+/// Whether the part that begins at `start`, and whose line goes through `stop`, is decided at a glance: it begins plain, and
+/// its reach holds no opener. `next` is where an earlier search came to, and becomes where this one does.
+pub(crate) fn is_glanced(
     skips: bool,
     matchers: &SharedMatchers,
     stack: &[Enclosure],
     text: &[u8],
     start: usize,
+    stop: usize,
     next: &mut usize,
-) -> Option<usize>
+) -> bool
     requires lines { AreInLine matchers.now.openers }
     requires start { start < length text.now }
+    requires stop { stop ≡ start + length (first_line (drop start text.now)) }
     requires known { Knows matchers.now.openers text.now start next.old }
     ensures known { Knows matchers.now.openers text.now start next.new }
-    ensures plain { IfSome result (λ stop. chain_of stack.now ≡ []) }
-    ensures quiet { IfSome result (λ stop. holds matchers.now.openers (first_line (drop start text.now)) ≡ false) }
-    ensures stop { IfSome result (λ stop. stop ≡ start + length (first_line (drop start text.now))) }
-    ensures walked { skips ≡ true → result ≡ None → is_walked matchers.now.openers (innermost (chain_of stack.now)) (first_line (drop start text.now)) ≡ true }
+    ensures plain { result ≡ true → chain_of stack.now ≡ [] }
+    ensures quiet { result ≡ true → holds matchers.now.openers (first_line (drop start text.now)) ≡ false }
+    ensures walked { skips ≡ true → result ≡ false → is_walked matchers.now.openers (innermost (chain_of stack.now)) (first_line (drop start text.now)) ≡ true }
 {
     if !skips || !stack.is_empty() {
-        return None;
+        return false;
     }
     *next = next_opener(matchers, text, start, *next);
-    let stop = line_end(text, start + line_len(&text[start..]));
-    if stop <= *next { Some(stop) } else { None }
+    stop <= *next
 }

@@ -12,6 +12,7 @@ mod file_context;
 mod glance;
 mod items;
 pub mod laws;
+mod line_ends;
 mod matchers;
 mod openings;
 mod parse;

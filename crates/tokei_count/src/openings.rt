@@ -14,6 +14,7 @@ ghost use Rattle.tokei_count.specs.Progress.{IsPart};
 ghost use Rattle.tokei_count.specs.ReadingOf.{blocks_of};
 ghost use Rattle.tokei_count.specs.Seen.{block_of};
 
+use crate::line_ends::line_stop;
 use crate::reading::Reading;
 use tokei_embedding::{
     Tag, doc_at, fence_at, next_doc, next_fence, next_tag, next_target, tag_at, target_at,
@@ -260,16 +261,6 @@ fn franca_block<'a>(reading: &Reading<'a>, start: usize, at: usize, to: usize) -
     })
 }
 
-/// Where the line ends that goes to `end`: behind its newline, or with the text.
-pub(crate) fn line_end(text: &[u8], end: usize) -> usize
-    requires { end ≤ length text.now }
-    ensures within { result ≤ length text.now }
-    ensures more { end < length text.now → result ≡ end + 1 }
-    ensures last { end ≡ length text.now → result ≡ end }
-{
-    if end < text.len() { end + 1 } else { end }
-}
-
 /// Where the next element can open at the place `at` or behind it, in the part `text[start..to]`, or the part's end.
 fn next_element(text: &[u8], start: usize, at: usize, to: usize) -> usize
     requires order { start ≤ at }
@@ -337,7 +328,7 @@ pub(crate) fn block_at<'a>(
     if reading.levels == 0 {
         return None;
     }
-    let to = line_end(reading.text, end);
+    let to = line_stop(reading.text, end);
     match Family::of_key(reading.syntax().key.as_str()) {
         Family::Plain | Family::Jupyter => None,
         Family::Markdown => markdown_block(reading, start, at, to),

@@ -20,11 +20,12 @@ ghost use Rattle.tokei_stats.specs.Seen.{stats_of, sums_of};
 use crate::class::{Class, class_by};
 use crate::config::CountConfig;
 use crate::counter::Counter;
-use crate::glance::glance;
+use crate::glance::is_glanced;
+use crate::line_ends::{line_end, line_len, line_stop};
 use crate::matchers::SharedMatchers;
 use crate::openings::{Block, block_at};
 use crate::reading::Reading;
-use crate::walk::{PartEnd, line_len, read_part};
+use crate::walk::{PartEnd, read_part};
 use std::alloc::{AllocError, Global};
 use std::collections::BTreeMap;
 use tokei_embedding::doc_text;
@@ -58,16 +59,22 @@ fn is_notebook(syntax: &Syntax) -> bool
     syntax.key.as_str() == "Jupyter"
 }
 
-/// The child that opens at the place `at` of a part that began at `start`, where `left` bytes were left behind the last
-/// child.
-fn child_at<'a>(reading: &Reading<'a>, left: usize, start: usize, at: usize) -> Block<'a>
+/// The child that opens at the place `at` of a part that began at `start` and whose line goes to `end`, before its newline,
+/// where `left` bytes were left behind the last child.
+fn child_at<'a>(
+    reading: &Reading<'a>,
+    left: usize,
+    start: usize,
+    at: usize,
+    end: usize,
+) -> Block<'a>
     requires known { reading.now.language < length reading.now.table.now }
     requires part { IsPart reading.now.text.now left start at }
     requires opens { is_some (blocks_of reading.now left (drop at reading.now.text.now)) ≡ true }
-    requires inside { 0 < line_len (drop at reading.now.text.now) }
+    requires line { end ≡ at + line_len (drop at reading.now.text.now) }
+    requires inside { at < end }
     ensures { blocks_of reading.now left (drop at reading.now.text.now) ≡ Some (block_of result) }
 {
-    let end = at + line_len(&reading.text[at..]);
     match block_at(reading, left, start, at, end) {
         Some(block) => block,
         None => unreachable!(),
@@ -193,22 +200,25 @@ pub(crate) fn read_text(
     let mut left = text.len();
     let mut next = 0;
     let mut start = 0;
+    let mut end = line_len(text);
     while start < text.len() {
-        if let Some(stop) = glance(skips, own_matchers, &stack, text, start, &mut next) {
+        end = line_end(text, start, end);
+        let stop = line_stop(text, end);
+        if is_glanced(skips, own_matchers, &stack, text, start, stop, &mut next) {
             let glanced = class_by(own_matchers, syntax, docs, None, &text[start..stop], None);
             own = own.plus(counted_as(glanced))?;
             start = stop;
             continue;
         }
-        let part = read_part(&reading, own_matchers, skips, &mut stack, left, start)?;
+        let part = read_part(&reading, own_matchers, skips, &mut stack, left, start, end)?;
         own_steps += part.steps;
         match part.end {
-            PartEnd::Line(class, end) => {
+            PartEnd::Line(class, behind) => {
                 own = own.plus(counted_as(class))?;
-                start = end;
+                start = behind;
             }
             PartEnd::Broken(at) => {
-                let child = child_at(&reading, left, start, at);
+                let child = child_at(&reading, left, start, at, end);
                 own = own.plus(child.share())?;
                 let doc = said(alloc, &child)?;
                 let inner = if child.is_doc {

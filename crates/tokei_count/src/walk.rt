@@ -14,10 +14,10 @@ ghost use Rattle.tokei_count.specs.Walked.{Steps, Reads};
 use crate::choice::{Choice, choose};
 use crate::class::{Class, class_by};
 use crate::items::Enclosure;
+use crate::line_ends::line_stop;
 use crate::matchers::SharedMatchers;
-use crate::openings::{block_at, line_end, next_child};
+use crate::openings::{block_at, next_child};
 use crate::reading::Reading;
-use memchr::memchr;
 use std::alloc::AllocError;
 
 /// What the choice at a place does.
@@ -54,17 +54,6 @@ fn innermost<'a>(stack: &[Enclosure<'a>]) -> Option<Enclosure<'a>>
     ensures { mode_of result ≡ innermost (chain_of stack.now) }
 {
     stack.last().copied()
-}
-
-/// How many bytes stand before the first newline, or in all.
-pub(crate) fn line_len(text: &[u8]) -> usize
-    ensures value { result ≡ line_len text.now }
-    ensures within { result ≤ length text.now }
-{
-    match memchr(b'\n', text) {
-        Some(at) => at,
-        None => text.len(),
-    }
 }
 
 /// Whether a child can open at the place `at` of a part that began at `start`, whose line goes to `end`, before its
@@ -205,8 +194,9 @@ fn look_ahead(
     *child
 }
 
-/// Reads the part that begins at `start`, where `left` bytes were left behind the last child. Where it `skips`, it looks for
-/// the part's children ahead, and at a byte at which no choice can begin it looks no further.
+/// Reads the part that begins at `start` and whose line goes to `end`, before its newline, where `left` bytes were left
+/// behind the last child. Where it `skips`, it looks for the part's children ahead, and at a byte at which no choice can
+/// begin it looks no further.
 pub(crate) fn read_part<'a>(
     reading: &Reading<'a>,
     matchers: &SharedMatchers,
@@ -214,18 +204,19 @@ pub(crate) fn read_part<'a>(
     stack: &mut Vec<Enclosure<'a>>,
     left: usize,
     start: usize,
+    end: usize,
 ) -> Result<PartRead, AllocError>
     requires sound { IsSound (row_in reading.now) }
     requires closable { IsClosable (chain_of stack.old.items) }
     requires known { reading.now.language < length reading.now.table.now }
     requires part { IsPart reading.now.text.now left start start }
+    requires line { end ≡ start + line_len (drop start reading.now.text.now) }
     requires some { start < length reading.now.text.now }
     requires matched { matchers.now ≡ matchers_of (row_in reading.now) }
     ensures { IfOk result (λ e. Reads (row_in reading.now) (blocks_of reading.now) left reading.now.docs (chain_of stack.old.items) (chain_of stack.new.items) start reading.now.text.now e) }
 {
     let begun = innermost(stack);
-    let end = start + line_len(&reading.text[start..]);
-    let stop = line_end(reading.text, end);
+    let stop = line_stop(reading.text, end);
     let mut steps = 0;
     let mut child = start;
     let mut at = start;

@@ -33,6 +33,7 @@ use Rattle.tokei_count.specs.Lines.{first_line}
 use Rattle.tokei_count.specs.Matchers.{matchers_of}
 use Rattle.tokei_count.specs.Steps.{steps, child_steps, capped, sum_over}
 use Rattle.tokei_count.proofs.GlanceReading.{glance_reads, glance_walked}
+use Rattle.tokei_count.proofs.LineEnds.{end_is, end_within, end_later}
 use Rattle.tokei_count.proofs.Lines.{first_within, take-first}
 use Rattle.tokei_count.proofs.StepReading.{AreUnderWay, knows_later, not_walked, lines_of-one, steps_whole, line_steps, line_skipped, broken_steps, child_steps-is, steps-notebook, steps-no_notebook, capped-left, capped_middle, capped-twice, matchers_at, glance_part, line_some}
 use Rattle.tokei_count.proofs.TokenOpeners.{openers_in_line}
@@ -51,7 +52,7 @@ read_text-returns-in_err-own-in-Line-clause-overflow t c =
     let way : IsUnderWay c.args.table.now c.args.docs c.args.levels c.args.language c.args.text.now (sums_of c.loop-start.own) (blobs_of (entries_of c.loop-start.blobs.entries)) c.loop-start.left (chain_of c.loop-start.stack.items) (drop c.loop-start.start c.args.text.now) = record { counts = c.loop-start.invariant.counts; kids = c.loop-start.invariant.kids } in
     let r = subst (ReadsTo (row_at c.args.table.now c.args.language) (blocks (languages_of c.args.table.now) c.args.levels c.args.language c.args.text.now) c.loop-start.left c.args.docs (chain_of c.loop-start.stack.items) (chain_of c.read_part.new.stack.items) c.loop-start.start c.args.text.now c.in_ok-part.part.steps) c.in-Line.is c.in_ok-part.ensures in
     λ is fits. c.in_err-own-in-Line.ensures.past (subst (λ (m : Counts). CountsFit (plus (sums_of c.loop-start.own) m)) (sym c.counted_as-in-Line.ensures)
-    (line_fits c.args.table.now c.args.docs c.args.levels c.args.language c.args.text.now (sums_of c.loop-start.own) (blobs_of (entries_of c.loop-start.blobs.entries)) c.loop-start.left (chain_of c.loop-start.stack.items) (drop c.loop-start.start c.args.text.now) way (c.in-Line.end - c.loop-start.start) c.in-Line.class (chain_of c.read_part.new.stack.items) r.5 lines fits))
+    (line_fits c.args.table.now c.args.docs c.args.levels c.args.language c.args.text.now (sums_of c.loop-start.own) (blobs_of (entries_of c.loop-start.blobs.entries)) c.loop-start.left (chain_of c.loop-start.stack.items) (drop c.loop-start.start c.args.text.now) way (c.in-Line.behind - c.loop-start.start) c.in-Line.class (chain_of c.read_part.new.stack.items) r.5 lines fits))
 
 pub read_text-returns-in_err-own-in-Broken-clause-overflow : goal.read_text-returns-in_err-own-in-Broken-clause-overflow
 read_text-returns-in_err-own-in-Broken-clause-overflow t c =
@@ -158,8 +159,8 @@ read_text-loop-start-preserved t c =
     let tokens : has_tokens (row_at c.args.table.now c.args.language) ≡ true = ap has_tokens (sym c.syntax-syntax.ensures.row) ∙ c.syntax-syntax.ensures.tokens in
     let in_line : AreInLine os = openers_in_line (row_at c.args.table.now c.args.language) tokens in
     let walked : c.args.skips ≡ true → is_walked os (innermost (chain_of c.loop-start.stack.items)) (first_line (drop c.loop-start.start c.args.text.now)) ≡ true = λ skipped.
-    ap (λ (d : Chain). is_walked os (innermost d) (first_line (drop c.loop-start.start c.args.text.now))) (sym (ap chain_of c.deref.ensures.value)) ∙ ap (λ o. is_walked o (innermost (chain_of c.deref.result.now)) (first_line (drop c.loop-start.start c.args.text.now))) (sym os_is) ∙ c.in_default.ensures.walked skipped refl in
-    let known : Knows os c.args.text.now c.loop-start.start c.glance.new.next = subst (λ o. Knows o c.args.text.now c.loop-start.start c.glance.new.next) os_is c.glance.ensures.known in
+    ap (λ (d : Chain). is_walked os (innermost d) (first_line (drop c.loop-start.start c.args.text.now))) (sym (ap chain_of c.deref.ensures.value)) ∙ ap (λ o. is_walked o (innermost (chain_of c.deref.result.now)) (first_line (drop c.loop-start.start c.args.text.now))) (sym os_is) ∙ c.is_glanced.ensures.walked skipped c.if-is_glanced.false in
+    let known : Knows os c.args.text.now c.loop-start.start c.is_glanced.new.next = subst (λ o. Knows o c.args.text.now c.loop-start.start c.is_glanced.new.next) os_is c.is_glanced.ensures.known in
     let steps_are : c.args.skips ≡ true → c.in_ok-read-in-Broken.read.steps ≡ capped (child_steps (languages_of c.args.table.now) c.args.levels k) = λ skipped. c.in_ok-read-in-Broken.ensures.steps skipped
     ∙ ap (λ w. capped (steps (languages_of c.args.table.now) (c.args.levels - 1) c.child_at-child.result.language w)) inner_is ∙ ap capped (sym (child_steps-is c.args.table.now c.args.levels k some)) in
     let own_steps_are : c.loop-start.own_steps + c.in_ok-part.part.steps ≡ c.loop-start.own_steps + (r.1 + 1) = ap (λ m. c.loop-start.own_steps + m) r.2 in
@@ -177,7 +178,8 @@ read_text-loop-start-preserved t c =
       part = λ more. part_behind c.args.text.now (c.in-Broken.at + k.size) within;
       counts = now5.counts;
       kids = now5.kids;
-      known = knows_later os c.args.text.now c.loop-start.start (c.in-Broken.at + k.size) c.glance.new.next (omega (arith, r.3.part.low)) known;
+      line = λ high. end_later c.args.text.now c.loop-start.start (c.in-Broken.at + k.size) c.line_end-end.result (omega (arith, r.3.part.low)) c.line_end-end.ensures high;
+      known = knows_later os c.args.text.now c.loop-start.start (c.in-Broken.at + k.size) c.is_glanced.new.next (omega (arith, r.3.part.low)) known;
       few = omega (arith, c.loop-start.invariant.few, r.2, r.3.few, reads.some, r.3.part.low);
       steps = λ skipped. (taken skipped).own;
       inner = λ skipped. (taken skipped).inner;
@@ -269,15 +271,37 @@ read_notebook-returns-clause-reads t c =
     let at_end : c.loop-cell.cell-index ≡ length c.as_slice-cell-items.result.now = omega (arith, c.loop-cell-test.false, c.loop-cell.auto.cell-index-end) in
     c.assembled-stats.ensures ∙ ap (λ n. node n (blobs_of (entries_of c.loop-cell.blobs.entries))) c.new.ensures ∙ cells_whole c.args.table.now c.args.docs c.args.levels c.args.language c.args.text.now (blobs_of (entries_of c.loop-cell.blobs.entries)) c.as_slice-cell-items.result.now c.loop-cell.cell-index at_end c.requires.notebook some c.loop-cell.invariant.cells
 
-pub read_text-glance-requires-clause-lines : goal.read_text-glance-requires-clause-lines
-read_text-glance-requires-clause-lines t c =
+pub read_text-is_glanced-requires-clause-lines : goal.read_text-is_glanced-requires-clause-lines
+read_text-is_glanced-requires-clause-lines t c =
     let os : List (List ℕ) = openers (row_at c.args.table.now c.args.language) in
     let os_is : c.index-matchers-index.result.openers ≡ os = ap (λ m. m.openers) (c.index-matchers-index.is ∙ ap (λ ms. get_or ms c.index.result c.index-matchers-index.result) c.requires.indexed ∙ matchers_at c.args.table.now c.args.language c.index.result c.index-matchers-index.result c.index.ensures c.requires.known) in
     let tokens : has_tokens (row_at c.args.table.now c.args.language) ≡ true = ap has_tokens (sym c.syntax-syntax.ensures.row) ∙ c.syntax-syntax.ensures.tokens in
     subst AreInLine (sym os_is) (openers_in_line (row_at c.args.table.now c.args.language) tokens)
 
+pub read_text-line_stop-stop-requires : goal.read_text-line_stop-stop-requires
+read_text-line_stop-stop-requires t c = end_within c.args.text.now c.loop-start.start c.line_end-end.result (omega (arith, c.loop-start-test.true)) c.line_end-end.ensures
+
+pub read_text-is_glanced-requires-clause-stop : goal.read_text-is_glanced-requires-clause-stop
+read_text-is_glanced-requires-clause-stop t c = end_is c.args.text.now c.loop-start.start c.line_end-end.result c.line_stop-stop.result (omega (arith, c.loop-start-test.true)) c.line_end-end.ensures c.line_stop-stop.ensures.more c.line_stop-stop.ensures.last
+
+pub read_text-slice_bounds-class_by-count : goal.read_text-slice_bounds-class_by-count
+read_text-slice_bounds-class_by-count t c = omega (arith, (end_is c.args.text.now c.loop-start.start c.line_end-end.result c.line_stop-stop.result (omega (arith, c.loop-start-test.true)) c.line_end-end.ensures c.line_stop-stop.ensures.more c.line_stop-stop.ensures.last))
+
+pub read_text-slice_bounds-class_by-start : goal.read_text-slice_bounds-class_by-start
+read_text-slice_bounds-class_by-start t c = omega (arith, (end_is c.args.text.now c.loop-start.start c.line_end-end.result c.line_stop-stop.result (omega (arith, c.loop-start-test.true)) c.line_end-end.ensures c.line_stop-stop.ensures.more c.line_stop-stop.ensures.last))
+
+pub read_text-child_at-child-requires-clause-line : goal.read_text-child_at-child-requires-clause-line
+read_text-child_at-child-requires-clause-line t c =
+    let r = subst (ReadsTo (row_at c.args.table.now c.args.language) (blocks (languages_of c.args.table.now) c.args.levels c.args.language c.args.text.now) c.loop-start.left c.args.docs (chain_of c.loop-start.stack.items) (chain_of c.read_part.new.stack.items) c.loop-start.start c.args.text.now c.in_ok-part.part.steps) c.in-Broken.is c.in_ok-part.ensures in
+    end_later c.args.text.now c.loop-start.start c.in-Broken.at c.line_end-end.result r.3.part.low c.line_end-end.ensures (omega (arith, r.3.inside, c.line_end-end.ensures))
+
+pub read_text-child_at-child-requires-clause-inside : goal.read_text-child_at-child-requires-clause-inside
+read_text-child_at-child-requires-clause-inside t c =
+    let r = subst (ReadsTo (row_at c.args.table.now c.args.language) (blocks (languages_of c.args.table.now) c.args.levels c.args.language c.args.text.now) c.loop-start.left c.args.docs (chain_of c.loop-start.stack.items) (chain_of c.read_part.new.stack.items) c.loop-start.start c.args.text.now c.in_ok-part.part.steps) c.in-Broken.is c.in_ok-part.ensures in
+    omega (arith, r.3.inside, c.line_end-end.ensures)
+
 pub read_text-slice_bounds-class_by-end : goal.read_text-slice_bounds-class_by-end
-read_text-slice_bounds-class_by-end t c = omega (arith, c.in-Some.ensures.stop, first_within (drop c.loop-start.start c.args.text.now), length-drop c.loop-start.start c.args.text.now, c.loop-start-test.true)
+read_text-slice_bounds-class_by-end t c = omega (arith, (end_is c.args.text.now c.loop-start.start c.line_end-end.result c.line_stop-stop.result (omega (arith, c.loop-start-test.true)) c.line_end-end.ensures c.line_stop-stop.ensures.more c.line_stop-stop.ensures.last), first_within (drop c.loop-start.start c.args.text.now), length-drop c.loop-start.start c.args.text.now, c.loop-start-test.true)
 
 pub read_text-class_by-glanced-requires-clause-matched : goal.read_text-class_by-glanced-requires-clause-matched
 read_text-class_by-glanced-requires-clause-matched t c = c.index-matchers-index.is ∙ ap (λ ms. get_or ms c.index.result c.index-matchers-index.result) c.requires.indexed ∙ matchers_at c.args.table.now c.args.language c.index.result c.index-matchers-index.result c.index.ensures c.requires.known ∙ ap matchers_of (sym c.syntax-syntax.ensures.row)
@@ -290,39 +314,39 @@ read_text-returns-in_err-own-clause-overflow t c =
     let os_is : c.index-matchers-index.result.openers ≡ os = ap (λ m. m.openers) (c.index-matchers-index.is ∙ ap (λ ms. get_or ms c.index.result c.index-matchers-index.result) c.requires.indexed ∙ matchers_at c.args.table.now c.args.language c.index.result c.index-matchers-index.result c.index.ensures c.requires.known) in
     let tokens : has_tokens (row_at c.args.table.now c.args.language) ≡ true = ap has_tokens (sym c.syntax-syntax.ensures.row) ∙ c.syntax-syntax.ensures.tokens in
     let stack_is : chain_of c.deref.result.now ≡ (chain_of c.loop-start.stack.items) = ap chain_of c.deref.ensures.value in
-    let plain : (chain_of c.loop-start.stack.items) ≡ [] = sym stack_is ∙ c.in-Some.ensures.plain in
-    let quiet : holds os (first_line (drop c.loop-start.start c.args.text.now)) ≡ false = ap (λ o. holds o (first_line (drop c.loop-start.start c.args.text.now))) (sym os_is) ∙ c.in-Some.ensures.quiet in
-    let n : ℕ = c.in-Some.stop - c.loop-start.start in
-    let size : n ≡ length (first_line (drop c.loop-start.start c.args.text.now)) = omega (arith, c.in-Some.ensures.stop) in
+    let plain : (chain_of c.loop-start.stack.items) ≡ [] = sym stack_is ∙ c.is_glanced.ensures.plain c.if-is_glanced.true in
+    let quiet : holds os (first_line (drop c.loop-start.start c.args.text.now)) ≡ false = ap (λ o. holds o (first_line (drop c.loop-start.start c.args.text.now))) (sym os_is) ∙ c.is_glanced.ensures.quiet c.if-is_glanced.true in
+    let n : ℕ = c.line_stop-stop.result - c.loop-start.start in
+    let size : n ≡ length (first_line (drop c.loop-start.start c.args.text.now)) = omega (arith, (end_is c.args.text.now c.loop-start.start c.line_end-end.result c.line_stop-stop.result (omega (arith, c.loop-start-test.true)) c.line_end-end.ensures c.line_stop-stop.ensures.more c.line_stop-stop.ensures.last)) in
     let some : 0 < length (drop c.loop-start.start c.args.text.now) = omega (arith, length-drop c.loop-start.start c.args.text.now, c.loop-start-test.true) in
     let class_is : c.class_by-glanced.result ≡ class_of (row_at c.args.table.now c.args.language) c.args.docs (record { begun = None; bytes = take n (drop c.loop-start.start c.args.text.now); ended = None }) = c.class_by-glanced.ensures ∙ ap (λ g. class_of g c.args.docs (record { begun = None; bytes = take n (drop c.loop-start.start c.args.text.now); ended = None })) c.syntax-syntax.ensures.row in
     let r = glance_reads c.args.table.now c.args.docs c.args.levels c.args.language c.args.text.now c.loop-start.left (drop c.loop-start.start c.args.text.now) c.class_by-glanced.result (chain_of c.loop-start.stack.items) n plain size tokens some quiet class_is in
     λ is fits. c.in_err-own.ensures.past (subst (λ (m : Counts). CountsFit (plus (sums_of c.loop-start.own) m)) (sym c.counted_as.ensures) (line_fits c.args.table.now c.args.docs c.args.levels c.args.language c.args.text.now (sums_of c.loop-start.own) (blobs_of (entries_of c.loop-start.blobs.entries)) c.loop-start.left (chain_of c.loop-start.stack.items) (drop c.loop-start.start c.args.text.now) way n c.class_by-glanced.result (chain_of c.loop-start.stack.items) r.1 lines fits))
 
-pub read_text-loop-start-smaller-in-Some : goal.read_text-loop-start-smaller-in-Some
-read_text-loop-start-smaller-in-Some t c = omega (arith, c.in-Some.ensures.stop, line_some c.args.text.now c.loop-start.start c.loop-start-test.true, c.loop-start-test.true)
+pub read_text-loop-start-smaller-then-is_glanced : goal.read_text-loop-start-smaller-then-is_glanced
+read_text-loop-start-smaller-then-is_glanced t c = omega (arith, (end_is c.args.text.now c.loop-start.start c.line_end-end.result c.line_stop-stop.result (omega (arith, c.loop-start-test.true)) c.line_end-end.ensures c.line_stop-stop.ensures.more c.line_stop-stop.ensures.last), line_some c.args.text.now c.loop-start.start c.loop-start-test.true, c.loop-start-test.true)
 
-pub read_text-loop-start-preserved-in-Some : goal.read_text-loop-start-preserved-in-Some
-read_text-loop-start-preserved-in-Some t c =
+pub read_text-loop-start-preserved-then-is_glanced : goal.read_text-loop-start-preserved-then-is_glanced
+read_text-loop-start-preserved-then-is_glanced t c =
     let os : List (List ℕ) = openers (row_at c.args.table.now c.args.language) in
     let os_is : c.index-matchers-index.result.openers ≡ os = ap (λ m. m.openers) (c.index-matchers-index.is ∙ ap (λ ms. get_or ms c.index.result c.index-matchers-index.result) c.requires.indexed ∙ matchers_at c.args.table.now c.args.language c.index.result c.index-matchers-index.result c.index.ensures c.requires.known) in
     let tokens : has_tokens (row_at c.args.table.now c.args.language) ≡ true = ap has_tokens (sym c.syntax-syntax.ensures.row) ∙ c.syntax-syntax.ensures.tokens in
     let stack_is : chain_of c.deref.result.now ≡ (chain_of c.loop-start.stack.items) = ap chain_of c.deref.ensures.value in
-    let plain : (chain_of c.loop-start.stack.items) ≡ [] = sym stack_is ∙ c.in-Some.ensures.plain in
-    let quiet : holds os (first_line (drop c.loop-start.start c.args.text.now)) ≡ false = ap (λ o. holds o (first_line (drop c.loop-start.start c.args.text.now))) (sym os_is) ∙ c.in-Some.ensures.quiet in
-    let n : ℕ = c.in-Some.stop - c.loop-start.start in
-    let size : n ≡ length (first_line (drop c.loop-start.start c.args.text.now)) = omega (arith, c.in-Some.ensures.stop) in
+    let plain : (chain_of c.loop-start.stack.items) ≡ [] = sym stack_is ∙ c.is_glanced.ensures.plain c.if-is_glanced.true in
+    let quiet : holds os (first_line (drop c.loop-start.start c.args.text.now)) ≡ false = ap (λ o. holds o (first_line (drop c.loop-start.start c.args.text.now))) (sym os_is) ∙ c.is_glanced.ensures.quiet c.if-is_glanced.true in
+    let n : ℕ = c.line_stop-stop.result - c.loop-start.start in
+    let size : n ≡ length (first_line (drop c.loop-start.start c.args.text.now)) = omega (arith, (end_is c.args.text.now c.loop-start.start c.line_end-end.result c.line_stop-stop.result (omega (arith, c.loop-start-test.true)) c.line_end-end.ensures c.line_stop-stop.ensures.more c.line_stop-stop.ensures.last)) in
     let some : 0 < length (drop c.loop-start.start c.args.text.now) = omega (arith, length-drop c.loop-start.start c.args.text.now, c.loop-start-test.true) in
     let class_is : c.class_by-glanced.result ≡ class_of (row_at c.args.table.now c.args.language) c.args.docs (record { begun = None; bytes = take n (drop c.loop-start.start c.args.text.now); ended = None }) = c.class_by-glanced.ensures ∙ ap (λ g. class_of g c.args.docs (record { begun = None; bytes = take n (drop c.loop-start.start c.args.text.now); ended = None })) c.syntax-syntax.ensures.row in
     let r = glance_reads c.args.table.now c.args.docs c.args.levels c.args.language c.args.text.now c.loop-start.left (drop c.loop-start.start c.args.text.now) c.class_by-glanced.result (chain_of c.loop-start.stack.items) n plain size tokens some quiet class_is in
     let way : IsUnderWay c.args.table.now c.args.docs c.args.levels c.args.language c.args.text.now (sums_of c.loop-start.own) (blobs_of (entries_of c.loop-start.blobs.entries)) c.loop-start.left (chain_of c.loop-start.stack.items) (drop c.loop-start.start c.args.text.now) = record { counts = c.loop-start.invariant.counts; kids = c.loop-start.invariant.kids } in
     let walked : is_walked os (innermost (chain_of c.loop-start.stack.items)) (take n (drop c.loop-start.start c.args.text.now)) ≡ false = glance_walked os (chain_of c.loop-start.stack.items) n (drop c.loop-start.start c.args.text.now) plain size quiet in
-    let place : c.loop-start.start + n ≡ c.in-Some.stop = omega (arith, size, c.in-Some.ensures.stop) in
-    let there : drop n (drop c.loop-start.start c.args.text.now) ≡ drop c.in-Some.stop c.args.text.now = drop-drop n c.loop-start.start c.args.text.now ∙ ap (λ m. drop m c.args.text.now) place in
+    let place : c.loop-start.start + n ≡ c.line_stop-stop.result = omega (arith, size, (end_is c.args.text.now c.loop-start.start c.line_end-end.result c.line_stop-stop.result (omega (arith, c.loop-start-test.true)) c.line_end-end.ensures c.line_stop-stop.ensures.more c.line_stop-stop.ensures.last)) in
+    let there : drop n (drop c.loop-start.start c.args.text.now) ≡ drop c.line_stop-stop.result c.args.text.now = drop-drop n c.loop-start.start c.args.text.now ∙ ap (λ m. drop m c.args.text.now) place in
     let len : length (drop c.loop-start.start c.args.text.now) ≡ length c.args.text.now - c.loop-start.start = length-drop c.loop-start.start c.args.text.now in
-    let within : c.in-Some.stop ≤ length c.args.text.now = omega (arith, r.1.within, len, place, c.loop-start-test.true) in
+    let within : c.line_stop-stop.result ≤ length c.args.text.now = omega (arith, r.1.within, len, place, c.loop-start-test.true) in
     let own_is : plus (sums_of c.loop-start.own) (one_of c.class_by-glanced.result) ≡ sums_of c.in_ok-own.own = sym (c.in_ok-own.ensures.ok ∙ ap (plus (sums_of c.loop-start.own)) c.counted_as.ensures) in
-    let went : IsUnderWay c.args.table.now c.args.docs c.args.levels c.args.language c.args.text.now (sums_of c.in_ok-own.own) (blobs_of (entries_of c.loop-start.blobs.entries)) c.loop-start.left (chain_of c.loop-start.stack.items) (drop c.in-Some.stop c.args.text.now) =
+    let went : IsUnderWay c.args.table.now c.args.docs c.args.levels c.args.language c.args.text.now (sums_of c.in_ok-own.own) (blobs_of (entries_of c.loop-start.blobs.entries)) c.loop-start.left (chain_of c.loop-start.stack.items) (drop c.line_stop-stop.result c.args.text.now) =
     subst (IsUnderWay c.args.table.now c.args.docs c.args.levels c.args.language c.args.text.now (sums_of c.in_ok-own.own) (blobs_of (entries_of c.loop-start.blobs.entries)) c.loop-start.left (chain_of c.loop-start.stack.items)) there
     (subst (λ (m : Counts). IsUnderWay c.args.table.now c.args.docs c.args.levels c.args.language c.args.text.now m (blobs_of (entries_of c.loop-start.blobs.entries)) c.loop-start.left (chain_of c.loop-start.stack.items) (drop n (drop c.loop-start.start c.args.text.now))) own_is (line_read c.args.table.now c.args.docs c.args.levels c.args.language c.args.text.now (sums_of c.loop-start.own) (blobs_of (entries_of c.loop-start.blobs.entries)) c.loop-start.left (chain_of c.loop-start.stack.items) (drop c.loop-start.start c.args.text.now) way n c.class_by-glanced.result (chain_of c.loop-start.stack.items) r.1)) in
     let taken = λ (skipped : c.args.skips ≡ true).
@@ -331,10 +355,11 @@ read_text-loop-start-preserved-in-Some t c =
     record {
       closable = c.loop-start.invariant.closable;
       within = within;
-      part = λ more. glance_part c.args.text.now c.loop-start.left c.loop-start.start c.in-Some.stop (c.loop-start.invariant.part c.loop-start-test.true) c.in-Some.ensures.stop c.loop-start-test.true more;
+      part = λ more. glance_part c.args.text.now c.loop-start.left c.loop-start.start c.line_stop-stop.result (c.loop-start.invariant.part c.loop-start-test.true) (end_is c.args.text.now c.loop-start.start c.line_end-end.result c.line_stop-stop.result (omega (arith, c.loop-start-test.true)) c.line_end-end.ensures c.line_stop-stop.ensures.more c.line_stop-stop.ensures.last) c.loop-start-test.true more;
       counts = went.counts;
       kids = went.kids;
-      known = knows_later os c.args.text.now c.loop-start.start c.in-Some.stop c.glance.new.next (omega (arith, place)) (subst (λ o. Knows o c.args.text.now c.loop-start.start c.glance.new.next) os_is c.glance.ensures.known);
+      line = λ high. end_later c.args.text.now c.loop-start.start c.line_stop-stop.result c.line_end-end.result (omega (arith, place)) c.line_end-end.ensures high;
+      known = knows_later os c.args.text.now c.loop-start.start c.line_stop-stop.result c.is_glanced.new.next (omega (arith, place)) (subst (λ o. Knows o c.args.text.now c.loop-start.start c.is_glanced.new.next) os_is c.is_glanced.ensures.known);
       few = omega (arith, c.loop-start.invariant.few, place);
       steps = λ skipped. (taken skipped).own;
       inner = λ skipped. (taken skipped).inner;
@@ -350,7 +375,7 @@ read_text-returns-in_err-part-clause-quiet t c = λ skipped lines none.
     let tokens : has_tokens (row_at c.args.table.now c.args.language) ≡ true = ap has_tokens (sym c.syntax-syntax.ensures.row) ∙ c.syntax-syntax.ensures.tokens in
     let in_line : AreInLine os = openers_in_line (row_at c.args.table.now c.args.language) tokens in
     let walked : is_walked os (innermost (chain_of c.loop-start.stack.items)) (first_line (drop c.loop-start.start c.args.text.now)) ≡ true =
-    ap (λ (d : Chain). is_walked os (innermost d) (first_line (drop c.loop-start.start c.args.text.now))) (sym (ap chain_of c.deref.ensures.value)) ∙ ap (λ o. is_walked o (innermost (chain_of c.deref.result.now)) (first_line (drop c.loop-start.start c.args.text.now))) (sym os_is) ∙ c.in_default.ensures.walked skipped refl in
+    ap (λ (d : Chain). is_walked os (innermost d) (first_line (drop c.loop-start.start c.args.text.now))) (sym (ap chain_of c.deref.ensures.value)) ∙ ap (λ o. is_walked o (innermost (chain_of c.deref.result.now)) (first_line (drop c.loop-start.start c.args.text.now))) (sym os_is) ∙ c.is_glanced.ensures.walked skipped c.if-is_glanced.false in
     absurd (not_walked os c.args.text.now c.loop-start.start (chain_of c.loop-start.stack.items) in_line none (c.loop-start.invariant.quiet skipped none).0 walked)
 
 pub read_text-returns-in_err-own-in-Broken-clause-quiet : goal.read_text-returns-in_err-own-in-Broken-clause-quiet
@@ -360,7 +385,7 @@ read_text-returns-in_err-own-in-Broken-clause-quiet t c = λ skipped lines none.
     let tokens : has_tokens (row_at c.args.table.now c.args.language) ≡ true = ap has_tokens (sym c.syntax-syntax.ensures.row) ∙ c.syntax-syntax.ensures.tokens in
     let in_line : AreInLine os = openers_in_line (row_at c.args.table.now c.args.language) tokens in
     let walked : is_walked os (innermost (chain_of c.loop-start.stack.items)) (first_line (drop c.loop-start.start c.args.text.now)) ≡ true =
-    ap (λ (d : Chain). is_walked os (innermost d) (first_line (drop c.loop-start.start c.args.text.now))) (sym (ap chain_of c.deref.ensures.value)) ∙ ap (λ o. is_walked o (innermost (chain_of c.deref.result.now)) (first_line (drop c.loop-start.start c.args.text.now))) (sym os_is) ∙ c.in_default.ensures.walked skipped refl in
+    ap (λ (d : Chain). is_walked os (innermost d) (first_line (drop c.loop-start.start c.args.text.now))) (sym (ap chain_of c.deref.ensures.value)) ∙ ap (λ o. is_walked o (innermost (chain_of c.deref.result.now)) (first_line (drop c.loop-start.start c.args.text.now))) (sym os_is) ∙ c.is_glanced.ensures.walked skipped c.if-is_glanced.false in
     absurd (not_walked os c.args.text.now c.loop-start.start (chain_of c.loop-start.stack.items) in_line none (c.loop-start.invariant.quiet skipped none).0 walked)
 
 pub read_text-returns-in_err-doc-in-Broken-clause-quiet : goal.read_text-returns-in_err-doc-in-Broken-clause-quiet
@@ -370,7 +395,7 @@ read_text-returns-in_err-doc-in-Broken-clause-quiet t c = λ skipped lines none.
     let tokens : has_tokens (row_at c.args.table.now c.args.language) ≡ true = ap has_tokens (sym c.syntax-syntax.ensures.row) ∙ c.syntax-syntax.ensures.tokens in
     let in_line : AreInLine os = openers_in_line (row_at c.args.table.now c.args.language) tokens in
     let walked : is_walked os (innermost (chain_of c.loop-start.stack.items)) (first_line (drop c.loop-start.start c.args.text.now)) ≡ true =
-    ap (λ (d : Chain). is_walked os (innermost d) (first_line (drop c.loop-start.start c.args.text.now))) (sym (ap chain_of c.deref.ensures.value)) ∙ ap (λ o. is_walked o (innermost (chain_of c.deref.result.now)) (first_line (drop c.loop-start.start c.args.text.now))) (sym os_is) ∙ c.in_default.ensures.walked skipped refl in
+    ap (λ (d : Chain). is_walked os (innermost d) (first_line (drop c.loop-start.start c.args.text.now))) (sym (ap chain_of c.deref.ensures.value)) ∙ ap (λ o. is_walked o (innermost (chain_of c.deref.result.now)) (first_line (drop c.loop-start.start c.args.text.now))) (sym os_is) ∙ c.is_glanced.ensures.walked skipped c.if-is_glanced.false in
     absurd (not_walked os c.args.text.now c.loop-start.start (chain_of c.loop-start.stack.items) in_line none (c.loop-start.invariant.quiet skipped none).0 walked)
 
 pub read_text-returns-in_err-read-in-Broken-clause-quiet : goal.read_text-returns-in_err-read-in-Broken-clause-quiet
@@ -380,7 +405,7 @@ read_text-returns-in_err-read-in-Broken-clause-quiet t c = λ skipped lines none
     let tokens : has_tokens (row_at c.args.table.now c.args.language) ≡ true = ap has_tokens (sym c.syntax-syntax.ensures.row) ∙ c.syntax-syntax.ensures.tokens in
     let in_line : AreInLine os = openers_in_line (row_at c.args.table.now c.args.language) tokens in
     let walked : is_walked os (innermost (chain_of c.loop-start.stack.items)) (first_line (drop c.loop-start.start c.args.text.now)) ≡ true =
-    ap (λ (d : Chain). is_walked os (innermost d) (first_line (drop c.loop-start.start c.args.text.now))) (sym (ap chain_of c.deref.ensures.value)) ∙ ap (λ o. is_walked o (innermost (chain_of c.deref.result.now)) (first_line (drop c.loop-start.start c.args.text.now))) (sym os_is) ∙ c.in_default.ensures.walked skipped refl in
+    ap (λ (d : Chain). is_walked os (innermost d) (first_line (drop c.loop-start.start c.args.text.now))) (sym (ap chain_of c.deref.ensures.value)) ∙ ap (λ o. is_walked o (innermost (chain_of c.deref.result.now)) (first_line (drop c.loop-start.start c.args.text.now))) (sym os_is) ∙ c.is_glanced.ensures.walked skipped c.if-is_glanced.false in
     absurd (not_walked os c.args.text.now c.loop-start.start (chain_of c.loop-start.stack.items) in_line none (c.loop-start.invariant.quiet skipped none).0 walked)
 
 pub read_text-returns-in_err-add_blob-in-Broken-clause-quiet : goal.read_text-returns-in_err-add_blob-in-Broken-clause-quiet
@@ -390,7 +415,7 @@ read_text-returns-in_err-add_blob-in-Broken-clause-quiet t c = λ skipped lines 
     let tokens : has_tokens (row_at c.args.table.now c.args.language) ≡ true = ap has_tokens (sym c.syntax-syntax.ensures.row) ∙ c.syntax-syntax.ensures.tokens in
     let in_line : AreInLine os = openers_in_line (row_at c.args.table.now c.args.language) tokens in
     let walked : is_walked os (innermost (chain_of c.loop-start.stack.items)) (first_line (drop c.loop-start.start c.args.text.now)) ≡ true =
-    ap (λ (d : Chain). is_walked os (innermost d) (first_line (drop c.loop-start.start c.args.text.now))) (sym (ap chain_of c.deref.ensures.value)) ∙ ap (λ o. is_walked o (innermost (chain_of c.deref.result.now)) (first_line (drop c.loop-start.start c.args.text.now))) (sym os_is) ∙ c.in_default.ensures.walked skipped refl in
+    ap (λ (d : Chain). is_walked os (innermost d) (first_line (drop c.loop-start.start c.args.text.now))) (sym (ap chain_of c.deref.ensures.value)) ∙ ap (λ o. is_walked o (innermost (chain_of c.deref.result.now)) (first_line (drop c.loop-start.start c.args.text.now))) (sym os_is) ∙ c.is_glanced.ensures.walked skipped c.if-is_glanced.false in
     absurd (not_walked os c.args.text.now c.loop-start.start (chain_of c.loop-start.stack.items) in_line none (c.loop-start.invariant.quiet skipped none).0 walked)
 
 pub read_text-loop-start-preserved-in-Line : goal.read_text-loop-start-preserved-in-Line
@@ -400,15 +425,15 @@ read_text-loop-start-preserved-in-Line t c =
     let tokens : has_tokens (row_at c.args.table.now c.args.language) ≡ true = ap has_tokens (sym c.syntax-syntax.ensures.row) ∙ c.syntax-syntax.ensures.tokens in
     let in_line : AreInLine os = openers_in_line (row_at c.args.table.now c.args.language) tokens in
     let walked : c.args.skips ≡ true → is_walked os (innermost (chain_of c.loop-start.stack.items)) (first_line (drop c.loop-start.start c.args.text.now)) ≡ true = λ skipped.
-    ap (λ (d : Chain). is_walked os (innermost d) (first_line (drop c.loop-start.start c.args.text.now))) (sym (ap chain_of c.deref.ensures.value)) ∙ ap (λ o. is_walked o (innermost (chain_of c.deref.result.now)) (first_line (drop c.loop-start.start c.args.text.now))) (sym os_is) ∙ c.in_default.ensures.walked skipped refl in
-    let known : Knows os c.args.text.now c.loop-start.start c.glance.new.next = subst (λ o. Knows o c.args.text.now c.loop-start.start c.glance.new.next) os_is c.glance.ensures.known in
+    ap (λ (d : Chain). is_walked os (innermost d) (first_line (drop c.loop-start.start c.args.text.now))) (sym (ap chain_of c.deref.ensures.value)) ∙ ap (λ o. is_walked o (innermost (chain_of c.deref.result.now)) (first_line (drop c.loop-start.start c.args.text.now))) (sym os_is) ∙ c.is_glanced.ensures.walked skipped c.if-is_glanced.false in
+    let known : Knows os c.args.text.now c.loop-start.start c.is_glanced.new.next = subst (λ o. Knows o c.args.text.now c.loop-start.start c.is_glanced.new.next) os_is c.is_glanced.ensures.known in
     let way : IsUnderWay c.args.table.now c.args.docs c.args.levels c.args.language c.args.text.now (sums_of c.loop-start.own) (blobs_of (entries_of c.loop-start.blobs.entries)) c.loop-start.left (chain_of c.loop-start.stack.items) (drop c.loop-start.start c.args.text.now) = record { counts = c.loop-start.invariant.counts; kids = c.loop-start.invariant.kids } in
     let r = subst (ReadsTo (row_at c.args.table.now c.args.language) (blocks (languages_of c.args.table.now) c.args.levels c.args.language c.args.text.now) c.loop-start.left c.args.docs (chain_of c.loop-start.stack.items) (chain_of c.read_part.new.stack.items) c.loop-start.start c.args.text.now c.in_ok-part.part.steps) c.in-Line.is c.in_ok-part.ensures in
-    let n : ℕ = c.in-Line.end - c.loop-start.start in
-    let place : c.loop-start.start + n ≡ c.in-Line.end = omega (arith, r.0) in
-    let there : drop n (drop c.loop-start.start c.args.text.now) ≡ drop c.in-Line.end c.args.text.now = drop-drop n c.loop-start.start c.args.text.now ∙ ap (λ m. drop m c.args.text.now) place in
+    let n : ℕ = c.in-Line.behind - c.loop-start.start in
+    let place : c.loop-start.start + n ≡ c.in-Line.behind = omega (arith, r.0) in
+    let there : drop n (drop c.loop-start.start c.args.text.now) ≡ drop c.in-Line.behind c.args.text.now = drop-drop n c.loop-start.start c.args.text.now ∙ ap (λ m. drop m c.args.text.now) place in
     let own_is : plus (sums_of c.loop-start.own) (one_of c.in-Line.class) ≡ sums_of c.in_ok-own-in-Line.own = sym (c.in_ok-own-in-Line.ensures.ok ∙ ap (plus (sums_of c.loop-start.own)) c.counted_as-in-Line.ensures) in
-    let went : IsUnderWay c.args.table.now c.args.docs c.args.levels c.args.language c.args.text.now (sums_of c.in_ok-own-in-Line.own) (blobs_of (entries_of c.loop-start.blobs.entries)) c.loop-start.left (chain_of c.read_part.new.stack.items) (drop c.in-Line.end c.args.text.now) =
+    let went : IsUnderWay c.args.table.now c.args.docs c.args.levels c.args.language c.args.text.now (sums_of c.in_ok-own-in-Line.own) (blobs_of (entries_of c.loop-start.blobs.entries)) c.loop-start.left (chain_of c.read_part.new.stack.items) (drop c.in-Line.behind c.args.text.now) =
     subst (IsUnderWay c.args.table.now c.args.docs c.args.levels c.args.language c.args.text.now (sums_of c.in_ok-own-in-Line.own) (blobs_of (entries_of c.loop-start.blobs.entries)) c.loop-start.left (chain_of c.read_part.new.stack.items)) there
     (subst (λ (m : Counts). IsUnderWay c.args.table.now c.args.docs c.args.levels c.args.language c.args.text.now m (blobs_of (entries_of c.loop-start.blobs.entries)) c.loop-start.left (chain_of c.read_part.new.stack.items) (drop n (drop c.loop-start.start c.args.text.now))) own_is (line_read c.args.table.now c.args.docs c.args.levels c.args.language c.args.text.now (sums_of c.loop-start.own) (blobs_of (entries_of c.loop-start.blobs.entries)) c.loop-start.left (chain_of c.loop-start.stack.items) (drop c.loop-start.start c.args.text.now) way n c.in-Line.class (chain_of c.read_part.new.stack.items) r.5)) in
     let reach : take n (drop c.loop-start.start c.args.text.now) ≡ first_line (drop c.loop-start.start c.args.text.now) = let size : n ≡ length (first_line (drop c.loop-start.start c.args.text.now)) = omega (arith, r.4) in ap (λ m. take m (drop c.loop-start.start c.args.text.now)) size ∙ take-first (drop c.loop-start.start c.args.text.now) in
@@ -422,7 +447,8 @@ read_text-loop-start-preserved-in-Line t c =
       part = r.2;
       counts = went.counts;
       kids = went.kids;
-      known = knows_later os c.args.text.now c.loop-start.start c.in-Line.end c.glance.new.next (omega (arith, place)) known;
+      line = λ high. end_later c.args.text.now c.loop-start.start (c.in-Line.behind) c.line_end-end.result (omega (arith, place)) c.line_end-end.ensures high;
+      known = knows_later os c.args.text.now c.loop-start.start c.in-Line.behind c.is_glanced.new.next (omega (arith, place)) known;
       few = omega (arith, c.loop-start.invariant.few, place, r.3);
       steps = λ skipped. (taken skipped).own;
       inner = λ skipped. (taken skipped).inner;

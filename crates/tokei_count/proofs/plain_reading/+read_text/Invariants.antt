@@ -4,6 +4,7 @@ use Rattle.tokei_table.specs.Lookups.{row_at}
 use Rattle.tokei_table.specs.Openers.{openers}
 use Rattle.tokei_notebook.specs.Cells.{cell_of}
 use Rattle.tokei_count.specs.NotebookCells.{cell_block, cell_blocks}
+use Rattle.tokei_count.specs.Lines.{line_len}
 use Rattle.tokei_count.specs.Openings.{languages_of}
 use Rattle.tokei_count.specs.PlainReading.{blocks, shares, gathered, child_reading}
 use Rattle.tokei_count.specs.Glanced.{Knows}
@@ -24,6 +25,7 @@ invariant-read_text-loop-start l = record {
       ≡ plus (counts_left (row_at l.table l.fn.language) (blocks (languages_of l.table) l.levels l.fn.language l.text) (length l.text) l.docs [] l.text) (shares (children_left (row_at l.table l.fn.language) (blocks (languages_of l.table) l.levels l.fn.language l.text) (length l.text) [] l.text));
   kids : gathered (child_reading (languages_of l.table) l.docs l.levels) (blobs_of (entries_of l.blobs.entries)) (children_left (row_at l.table l.fn.language) (blocks (languages_of l.table) l.levels l.fn.language l.text) l.left (chain_of l.stack.items) (drop l.start l.text))
       ≡ gathered (child_reading (languages_of l.table) l.docs l.levels) none (children_left (row_at l.table l.fn.language) (blocks (languages_of l.table) l.levels l.fn.language l.text) (length l.text) [] l.text);
+  line : l.start ≤ l.end → l.end ≡ l.start + line_len (drop l.start l.text);
   known : Knows (openers (row_at l.table l.fn.language)) l.text l.start l.next;
   few : l.own_steps ≤ l.start;
   steps : l.skips ≡ true → l.own_steps + (steps_left (row_at l.table l.fn.language) (blocks (languages_of l.table) l.levels l.fn.language l.text) l.left (chain_of l.stack.items) (drop l.start l.text) + length (children_left (row_at l.table l.fn.language) (blocks (languages_of l.table) l.levels l.fn.language l.text) l.left (chain_of l.stack.items) (drop l.start l.text))) ≡ steps_left (row_at l.table l.fn.language) (blocks (languages_of l.table) l.levels l.fn.language l.text) (length l.text) [] l.text + length (children_left (row_at l.table l.fn.language) (blocks (languages_of l.table) l.levels l.fn.language l.text) (length l.text) [] l.text);

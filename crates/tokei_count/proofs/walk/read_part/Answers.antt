@@ -11,7 +11,7 @@ use Rattle.tokei_count.specs.Walked.{Steps}
 use Rattle.tokei_count.specs.declared.walk.Step.TheVariants.{Child}
 use Rattle.tokei_count.proofs.Blocks.{blocks_fit}
 use Rattle.tokei_count.proofs.Leading.{lead_none, line_len-drop, rest_is}
-use Rattle.tokei_count.proofs.LineEnds.{end_is, ends_more, first_line-low, first_line-high}
+use Rattle.tokei_count.proofs.LineEnds.{end_is, end_within, end_behind, ends_more, first_line-low, first_line-high}
 use Rattle.tokei_count.proofs.Lines.{line_reads, take-first}
 use Rattle.tokei_count.proofs.PartFronts.{part_on, part_anew}
 use Rattle.tokei_count.proofs.PartReading.{block_opens, child_read_at}
@@ -24,9 +24,8 @@ pub loop-at-init : goal.loop-at-init
 loop-at-init c =
     let text : List ℕ = c.args.reading.now.text.now in
     let u : List ℕ = drop c.args.start text in
-    let end : ℕ = c.args.start + c.line_len.result in
-    let at_end : c.line_len.result ≡ line_len (drop c.args.start text) = c.line_len.ensures.value ∙ ap line_len (rest_is c.args.start text) in
-    let stop_is : c.line_end-stop.result ≡ c.args.start + length (first_line (drop c.args.start text)) = end_is text c.args.start end c.line_end-stop.result c.requires.part.high (ap (λ n. c.args.start + n) at_end) c.line_end-stop.ensures.more c.line_end-stop.ensures.last in
+    let end : ℕ = c.args.end in
+    let stop_is : c.line_stop-stop.result ≡ c.args.start + length (first_line (drop c.args.start text)) = end_is text c.args.start end c.line_stop-stop.result c.requires.part.high c.requires.line c.line_stop-stop.ensures.more c.line_stop-stop.ensures.last in
     let here : c.args.start ≡ reached c.args.start end = omega arith in
     let none : 0 ≡ reached c.args.start end - c.args.start = omega arith in
     let no_steps : 0 ≡ 0 - (c.args.start - end) = omega arith in
@@ -36,7 +35,7 @@ loop-at-init c =
           (lead_none (row_in c.args.reading.now) (blocks_of c.args.reading.now) c.args.left (chain_of c.args.stack.now.items) u));
       closable = c.requires.closable;
       part = subst (IsPart text c.args.left c.args.start) here c.requires.part;
-      line = ap (λ n. c.args.start + n) at_end ∙ ap (λ m. m + line_len (drop m text)) here;
+      line = c.requires.line ∙ ap (λ m. m + line_len (drop m text)) here;
       few = omega arith;
       begun = omega arith;
       high = omega (arith, stop_is);
@@ -46,12 +45,11 @@ loop-at-init c =
 pub loop-at-preserved-in-On : goal.loop-at-preserved-in-On
 loop-at-preserved-in-On c =
     let text : List ℕ = c.args.reading.now.text.now in
-    let end : ℕ = c.args.start + c.line_len.result in
+    let end : ℕ = c.args.end in
     let at : ℕ = c.loop-at.at in
     let next : ℕ = at + c.in-On.len in
     let here : reached at end ≡ at = omega (arith, c.loop-at-test.true) in
-    let at_end : c.line_len.result ≡ line_len (drop c.args.start text) = c.line_len.ensures.value ∙ ap line_len (rest_is c.args.start text) in
-    let stop_is : c.line_end-stop.result ≡ c.args.start + length (first_line (drop c.args.start text)) = end_is text c.args.start end c.line_end-stop.result c.requires.part.high (ap (λ n. c.args.start + n) at_end) c.line_end-stop.ensures.more c.line_end-stop.ensures.last in
+    let stop_is : c.line_stop-stop.result ≡ c.args.start + length (first_line (drop c.args.start text)) = end_is text c.args.start end c.line_stop-stop.result c.requires.part.high c.requires.line c.line_stop-stop.ensures.more c.line_stop-stop.ensures.last in
     let goes : Goes (row_in c.args.reading.now) (blocks_of c.args.reading.now) c.args.left (chain_of c.loop-at.stack.items) c.in-On.len 1 (chain_of c.take_choice.new.stack.items) (drop at text) =
     subst (Steps (row_in c.args.reading.now) (blocks_of c.args.reading.now) c.args.left (chain_of c.loop-at.stack.items) (chain_of c.take_choice.new.stack.items) text at) c.in-On.is c.in_ok-len.ensures.takes in
     let part : IsPart text c.args.left c.args.start at = subst (IsPart text c.args.left c.args.start) here c.loop-at.invariant.part in
@@ -71,24 +69,23 @@ loop-at-preserved-in-On c =
       line = line_next ∙ ap (λ m. m + line_len (drop m text)) (sym there);
       few = omega (arith, c.loop-at.invariant.few, goes.some, part.low, c.in_ok-len.ensures.counted);
       begun = omega (arith, behind);
-      high = omega (arith, behind, stop_is, at_end, first_line-low (drop c.args.start text));
+      high = omega (arith, behind, stop_is, c.requires.line, first_line-low (drop c.args.start text));
       childless = λ p low high. c.look_ahead-ahead.ensures.childless p (omega (arith, low)) high;
     }
 
 pub loop-at-preserved : goal.loop-at-preserved
 loop-at-preserved c =
     let text : List ℕ = c.args.reading.now.text.now in
-    let end : ℕ = c.args.start + c.line_len.result in
-    let stop : ℕ = c.line_end-stop.result in
+    let end : ℕ = c.args.end in
+    let stop : ℕ = c.line_stop-stop.result in
     let at : ℕ = c.loop-at.at in
     let here : reached at end ≡ at = omega (arith, c.loop-at-test.true) in
-    let at_end : c.line_len.result ≡ line_len (drop c.args.start text) = c.line_len.ensures.value ∙ ap line_len (rest_is c.args.start text) in
-    let stop_is : c.line_end-stop.result ≡ c.args.start + length (first_line (drop c.args.start text)) = end_is text c.args.start end c.line_end-stop.result c.requires.part.high (ap (λ n. c.args.start + n) at_end) c.line_end-stop.ensures.more c.line_end-stop.ensures.last in
+    let stop_is : c.line_stop-stop.result ≡ c.args.start + length (first_line (drop c.args.start text)) = end_is text c.args.start end c.line_stop-stop.result c.requires.part.high c.requires.line c.line_stop-stop.ensures.more c.line_stop-stop.ensures.last in
     let goes : Goes (row_in c.args.reading.now) (blocks_of c.args.reading.now) c.args.left (chain_of c.loop-at.stack.items) (line_len (drop at text)) (1 - newlines (drop at text)) (chain_of c.take_choice.new.stack.items) (drop at text) =
     subst (Steps (row_in c.args.reading.now) (blocks_of c.args.reading.now) c.args.left (chain_of c.loop-at.stack.items) (chain_of c.take_choice.new.stack.items) text at) c.in-Rest.is c.in_ok-len.ensures.takes in
     let part : IsPart text c.args.left c.args.start at = subst (IsPart text c.args.left c.args.start) here c.loop-at.invariant.part in
     let line : end ≡ at + line_len (drop at text) = c.loop-at.invariant.line ∙ ap (λ m. m + line_len (drop m text)) here in
-    let stop_here : stop ≡ at + length (first_line (drop at text)) = end_is text at end stop part.high line c.line_end-stop.ensures.more c.line_end-stop.ensures.last in
+    let stop_here : stop ≡ at + length (first_line (drop at text)) = end_is text at end stop part.high line c.line_stop-stop.ensures.more c.line_stop-stop.ensures.last in
     let low : line_len (drop at text) ≤ length (first_line (drop at text)) = first_line-low (drop at text) in
     let high : length (first_line (drop at text)) ≤ line_len (drop at text) + 1 = first_line-high (drop at text) in
     let there : reached stop end ≡ at + line_len (drop at text) = omega (arith, line, stop_here, low) in
@@ -110,7 +107,7 @@ loop-at-preserved c =
 pub returns-in-Child : goal.returns-in-Child
 returns-in-Child c =
     let text : List ℕ = c.args.reading.now.text.now in
-    let end : ℕ = c.args.start + c.line_len.result in
+    let end : ℕ = c.args.end in
     let at : ℕ = c.loop-at.at in
     let here : reached at end ≡ at = omega (arith, c.loop-at-test.true) in
     let part : IsPart text c.args.left c.args.start at = subst (IsPart text c.args.left c.args.start) here c.loop-at.invariant.part in
@@ -129,7 +126,7 @@ returns-in-Child c =
         opens = block_opens (row_in c.args.reading.now) (blocks_of c.args.reading.now) (blocks_fit c.args.reading.now) c.requires.sound c.args.left c.args.reading.now.docs opens.0 (chain_of c.loop-at.stack.items) (chain_of c.take_choice.new.stack.items) (drop at text) opens.1;
         reads = child_read_at (row_in c.args.reading.now) (blocks_of c.args.reading.now) (blocks_fit c.args.reading.now) c.requires.sound c.args.left c.args.reading.now.docs
             (chain_of c.args.stack.now.items) (chain_of c.take_choice.new.stack.items) (chain_of c.loop-at.stack.items) c.args.start at opens.0 text part c.loop-at.steps leads opens.1;
-        inside = omega (arith, line, c.loop-at-test.true);
+        inside = omega (arith, c.requires.line, c.loop-at-test.true);
       },
     )
 
@@ -137,12 +134,11 @@ pub returns : goal.returns
 returns c =
     let text : List ℕ = c.args.reading.now.text.now in
     let u : List ℕ = drop c.args.start text in
-    let end : ℕ = c.args.start + c.line_len.result in
-    let stop : ℕ = c.line_end-stop.result in
+    let end : ℕ = c.args.end in
+    let stop : ℕ = c.line_stop-stop.result in
     let at : ℕ = c.loop-at.at in
     let len_is : length u ≡ length text - c.args.start = length-drop c.args.start text in
-    let at_end : c.line_len.result ≡ line_len (drop c.args.start text) = c.line_len.ensures.value ∙ ap line_len (rest_is c.args.start text) in
-    let stop_is : c.line_end-stop.result ≡ c.args.start + length (first_line (drop c.args.start text)) = end_is text c.args.start end c.line_end-stop.result c.requires.part.high (ap (λ n. c.args.start + n) at_end) c.line_end-stop.ensures.more c.line_end-stop.ensures.last in
+    let stop_is : c.line_stop-stop.result ≡ c.args.start + length (first_line (drop c.args.start text)) = end_is text c.args.start end c.line_stop-stop.result c.requires.part.high c.requires.line c.line_stop-stop.ensures.more c.line_stop-stop.ensures.last in
     let low : line_len u ≤ length (first_line u) = first_line-low u in
     let high : length (first_line u) ≤ line_len u + 1 = first_line-high u in
     let here : reached at end ≡ end = omega (arith, c.loop-at-test.false) in
@@ -158,10 +154,10 @@ returns c =
     ∙ ap (λ b. class_of (row_in c.args.reading.now) c.args.reading.now.docs (record { begun = b; bytes = take (stop - c.args.start) u; ended = mode_of c.innermost.result })) begun_is
     ∙ ap (λ b. class_of (row_in c.args.reading.now) c.args.reading.now.docs (record { begun = innermost (chain_of c.args.stack.now.items); bytes = b; ended = mode_of c.innermost.result })) bytes_is
     ∙ ap (λ b. class_of (row_in c.args.reading.now) c.args.reading.now.docs (record { begun = innermost (chain_of c.args.stack.now.items); bytes = first_line u; ended = b })) ended_is in
-    let whole : reached at end - c.args.start ≡ line_len u = omega (arith, here, at_end) in
+    let whole : reached at end - c.args.start ≡ line_len u = omega (arith, here, c.requires.line) in
     let steps_are : c.if-at-stop.steps ≡ c.loop-at.steps - (at - end) + newlines u = elim c.if-at-stop.branch [
-      | then-at-stop w ↦ w.steps-is ∙ w.choice_at-newline.ensures.counted ∙ omega (arith, w.if-at-stop.true, c.loop-at-test.false, stop_is, at_end, low, high)
-      | else-at-stop w ↦ w.steps-is ∙ omega (arith, w.if-at-stop.false, c.loop-at-test.false, stop_is, at_end, low, high, c.loop-at.invariant.begun, c.loop-at.invariant.high)
+      | then-at-stop w ↦ w.steps-is ∙ w.choice_at-newline.ensures.counted ∙ omega (arith, w.if-at-stop.true, c.loop-at-test.false, stop_is, c.requires.line, low, high)
+      | else-at-stop w ↦ w.steps-is ∙ omega (arith, w.if-at-stop.false, c.loop-at-test.false, stop_is, c.requires.line, low, high, c.loop-at.invariant.begun, c.loop-at.invariant.high)
     ] in
     let few : c.if-at-stop.steps ≤ stop - c.args.start = elim c.if-at-stop.branch [
       | then-at-stop w ↦ omega (arith, w.steps-is, w.choice_at-newline.ensures.counted, w.if-at-stop.true, c.loop-at.invariant.few, c.loop-at-test.false)
@@ -172,9 +168,9 @@ returns c =
     let line_read : ReadsLine (row_in c.args.reading.now) (blocks_of c.args.reading.now) c.args.left c.args.reading.now.docs (chain_of c.args.stack.now.items) (length (first_line u)) (c.loop-at.steps - (at - end) + newlines u) c.class_by-class.result (chain_of c.loop-at.stack.items) u =
     line_reads (row_in c.args.reading.now) (blocks_of c.args.reading.now) c.args.left c.args.reading.now.docs (chain_of c.args.stack.now.items) (chain_of c.loop-at.stack.items) u c.class_by-class.result
     c.requires.sound (blocks_fit c.args.reading.now).in_line c.loop-at.invariant.closable (omega (arith, len_is, c.requires.some)) (c.loop-at.steps - (at - end)) leads class_is in
-    let more_is : stop < length text → stop ≡ end + 1 = λ more. ends_more (length text) end stop part.high c.line_end-stop.ensures.more c.line_end-stop.ensures.last more in (
+    let more_is : stop < length text → stop ≡ end + 1 = λ more. ends_more (length text) end stop part.high c.line_stop-stop.ensures.more c.line_stop-stop.ensures.last more in (
       omega (arith, stop_is, line_read.some),
-      c.line_end-stop.ensures.within,
+      c.line_stop-stop.ensures.within,
       λ more. subst (λ m. IsPart text c.args.left m m) (sym (more_is more)) (part_anew text c.args.left c.args.start end part none_left (omega (arith, part.high, more_is more, more))),
       few,
       stop_is,
@@ -182,20 +178,44 @@ returns c =
           (subst (λ n. ReadsLine (row_in c.args.reading.now) (blocks_of c.args.reading.now) c.args.left c.args.reading.now.docs (chain_of c.args.stack.now.items) n (c.loop-at.steps - (at - end) + newlines u) c.class_by-class.result (chain_of c.loop-at.stack.items) u) (sym first_is) line_read),
     )
 
-pub look_ahead-ahead-requires-clause-line : goal.look_ahead-ahead-requires-clause-line
-look_ahead-ahead-requires-clause-line c =
+pub line_stop-stop-requires : goal.line_stop-stop-requires
+line_stop-stop-requires c = end_within c.args.reading.now.text.now c.args.start c.args.end c.requires.part.high c.requires.line
+
+pub look_ahead-ahead-requires-clause-part : goal.look_ahead-ahead-requires-clause-part
+look_ahead-ahead-requires-clause-part c =
+    let here : reached c.loop-at.at c.args.end ≡ c.loop-at.at = omega (arith, c.loop-at-test.true) in
+    subst (IsPart c.args.reading.now.text.now c.args.left c.args.start) here c.loop-at.invariant.part
+
+pub look_ahead-ahead-requires-clause-inside : goal.look_ahead-ahead-requires-clause-inside
+look_ahead-ahead-requires-clause-inside c =
     let text : List ℕ = c.args.reading.now.text.now in
-    let end : ℕ = c.args.start + c.line_len.result in
+    let end : ℕ = c.args.end in
     let at : ℕ = c.loop-at.at in
     let here : reached at end ≡ at = omega (arith, c.loop-at-test.true) in
     let part : IsPart text c.args.left c.args.start at = subst (IsPart text c.args.left c.args.start) here c.loop-at.invariant.part in
     let line : end ≡ at + line_len (drop at text) = c.loop-at.invariant.line ∙ ap (λ m. m + line_len (drop m text)) here in
-    end_is text at end c.line_end-stop.result part.high line c.line_end-stop.ensures.more c.line_end-stop.ensures.last
+    end_behind text at end c.line_stop-stop.result part.high line c.loop-at-test.true c.line_stop-stop.ensures.more c.line_stop-stop.ensures.last
+
+pub loop-at-smaller : goal.loop-at-smaller
+loop-at-smaller c =
+    let text : List ℕ = c.args.reading.now.text.now in
+    let stop_is : c.line_stop-stop.result ≡ c.args.start + length (first_line (drop c.args.start text)) = end_is text c.args.start c.args.end c.line_stop-stop.result c.requires.part.high c.requires.line c.line_stop-stop.ensures.more c.line_stop-stop.ensures.last in
+    omega (arith, c.loop-at-test.true, stop_is, c.requires.line, first_line-low (drop c.args.start text))
+
+pub look_ahead-ahead-requires-clause-line : goal.look_ahead-ahead-requires-clause-line
+look_ahead-ahead-requires-clause-line c =
+    let text : List ℕ = c.args.reading.now.text.now in
+    let end : ℕ = c.args.end in
+    let at : ℕ = c.loop-at.at in
+    let here : reached at end ≡ at = omega (arith, c.loop-at-test.true) in
+    let part : IsPart text c.args.left c.args.start at = subst (IsPart text c.args.left c.args.start) here c.loop-at.invariant.part in
+    let line : end ≡ at + line_len (drop at text) = c.loop-at.invariant.line ∙ ap (λ m. m + line_len (drop m text)) here in
+    end_is text at end c.line_stop-stop.result part.high line c.line_stop-stop.ensures.more c.line_stop-stop.ensures.last
 
 pub take_choice-requires-clause-part : goal.take_choice-requires-clause-part
 take_choice-requires-clause-part c =
     let text : List ℕ = c.args.reading.now.text.now in
-    let end : ℕ = c.args.start + c.line_len.result in
+    let end : ℕ = c.args.end in
     let at : ℕ = c.loop-at.at in
     let here : reached at end ≡ at = omega (arith, c.loop-at-test.true) in
     let part : IsPart text c.args.left c.args.start at = subst (IsPart text c.args.left c.args.start) here c.loop-at.invariant.part in
@@ -205,7 +225,7 @@ take_choice-requires-clause-part c =
 pub take_choice-requires-clause-line : goal.take_choice-requires-clause-line
 take_choice-requires-clause-line c =
     let text : List ℕ = c.args.reading.now.text.now in
-    let end : ℕ = c.args.start + c.line_len.result in
+    let end : ℕ = c.args.end in
     let at : ℕ = c.loop-at.at in
     let here : reached at end ≡ at = omega (arith, c.loop-at-test.true) in
     let part : IsPart text c.args.left c.args.start at = subst (IsPart text c.args.left c.args.start) here c.loop-at.invariant.part in
@@ -215,34 +235,31 @@ take_choice-requires-clause-line c =
 pub overflow_add-at : goal.overflow_add-at
 overflow_add-at c =
     let text : List ℕ = c.args.reading.now.text.now in
-    let end : ℕ = c.args.start + c.line_len.result in
+    let end : ℕ = c.args.end in
     let at : ℕ = c.loop-at.at in
-    let at_end : c.line_len.result ≡ line_len (drop c.args.start text) = c.line_len.ensures.value ∙ ap line_len (rest_is c.args.start text) in
-    let stop_is : c.line_end-stop.result ≡ c.args.start + length (first_line (drop c.args.start text)) = end_is text c.args.start end c.line_end-stop.result c.requires.part.high (ap (λ n. c.args.start + n) at_end) c.line_end-stop.ensures.more c.line_end-stop.ensures.last in
+    let stop_is : c.line_stop-stop.result ≡ c.args.start + length (first_line (drop c.args.start text)) = end_is text c.args.start end c.line_stop-stop.result c.requires.part.high c.requires.line c.line_stop-stop.ensures.more c.line_stop-stop.ensures.last in
     let here : reached at end ≡ at = omega (arith, c.loop-at-test.true) in
     let line : end ≡ at + line_len (drop at text) = c.loop-at.invariant.line ∙ ap (λ m. m + line_len (drop m text)) here in
     let goes : Goes (row_in c.args.reading.now) (blocks_of c.args.reading.now) c.args.left (chain_of c.loop-at.stack.items) c.in-On.len 1 (chain_of c.take_choice.new.stack.items) (drop at text) =
     subst (Steps (row_in c.args.reading.now) (blocks_of c.args.reading.now) c.args.left (chain_of c.loop-at.stack.items) (chain_of c.take_choice.new.stack.items) text at) c.in-On.is c.in_ok-len.ensures.takes in
-    omega (arith, line, goes.within, stop_is, at_end, first_line-low (drop c.args.start text), c.line_end-stop.type_inv)
+    omega (arith, line, goes.within, stop_is, c.requires.line, first_line-low (drop c.args.start text), c.line_stop-stop.type_inv)
 
 pub choice_at-newline-requires-clause-part : goal.choice_at-newline-requires-clause-part
 choice_at-newline-requires-clause-part c =
     let text : List ℕ = c.args.reading.now.text.now in
-    let end : ℕ = c.args.start + c.line_len.result in
+    let end : ℕ = c.args.end in
     let at : ℕ = c.loop-at.at in
-    let at_end : c.line_len.result ≡ line_len (drop c.args.start text) = c.line_len.ensures.value ∙ ap line_len (rest_is c.args.start text) in
-    let stop_is : c.line_end-stop.result ≡ c.args.start + length (first_line (drop c.args.start text)) = end_is text c.args.start end c.line_end-stop.result c.requires.part.high (ap (λ n. c.args.start + n) at_end) c.line_end-stop.ensures.more c.line_end-stop.ensures.last in
-    let here : reached at end ≡ at = omega (arith, c.loop-at-test.false, c.if-at-stop.true, stop_is, at_end, first_line-high (drop c.args.start text)) in
+    let stop_is : c.line_stop-stop.result ≡ c.args.start + length (first_line (drop c.args.start text)) = end_is text c.args.start end c.line_stop-stop.result c.requires.part.high c.requires.line c.line_stop-stop.ensures.more c.line_stop-stop.ensures.last in
+    let here : reached at end ≡ at = omega (arith, c.loop-at-test.false, c.if-at-stop.true, stop_is, c.requires.line, first_line-high (drop c.args.start text)) in
     subst (IsPart text c.args.left c.args.start) here c.loop-at.invariant.part
 
 pub choice_at-newline-requires-clause-line : goal.choice_at-newline-requires-clause-line
 choice_at-newline-requires-clause-line c =
     let text : List ℕ = c.args.reading.now.text.now in
-    let end : ℕ = c.args.start + c.line_len.result in
+    let end : ℕ = c.args.end in
     let at : ℕ = c.loop-at.at in
-    let at_end : c.line_len.result ≡ line_len (drop c.args.start text) = c.line_len.ensures.value ∙ ap line_len (rest_is c.args.start text) in
-    let stop_is : c.line_end-stop.result ≡ c.args.start + length (first_line (drop c.args.start text)) = end_is text c.args.start end c.line_end-stop.result c.requires.part.high (ap (λ n. c.args.start + n) at_end) c.line_end-stop.ensures.more c.line_end-stop.ensures.last in
-    let here : reached at end ≡ at = omega (arith, c.loop-at-test.false, c.if-at-stop.true, stop_is, at_end, first_line-high (drop c.args.start text)) in
+    let stop_is : c.line_stop-stop.result ≡ c.args.start + length (first_line (drop c.args.start text)) = end_is text c.args.start end c.line_stop-stop.result c.requires.part.high c.requires.line c.line_stop-stop.ensures.more c.line_stop-stop.ensures.last in
+    let here : reached at end ≡ at = omega (arith, c.loop-at-test.false, c.if-at-stop.true, stop_is, c.requires.line, first_line-high (drop c.args.start text)) in
     c.loop-at.invariant.line ∙ ap (λ m. m + line_len (drop m text)) here
 
 pub class_by-class-requires-clause-matched : goal.class_by-class-requires-clause-matched

@@ -1,6 +1,6 @@
 use Rattle.std.proofs.Common.{◌==◌, get_or, arith}
 use Rattle.tokei_count.proofs.LineEnd.{line_len-at, line_len-all, not_true}
-use Rattle.tokei_count.proofs.walk.line_len.Goals as goal
+use Rattle.tokei_count.proofs.line_ends.line_len.Goals as goal
 
 pub returns-in-Some-clause-value : goal.returns-in-Some-clause-value
 returns-in-Some-clause-value c =
