@@ -1,5 +1,5 @@
 //! A part is walked with a stack of the items that enclose the place.
-ghost use Rattle.std.specs.Prelude.{◌≡◌, ℕ, ◌+◌, ◌<◌, ◌≤◌, true, None, is_some, IfOk, drop, length};
+ghost use Rattle.std.specs.Prelude.{◌≡◌, ℕ, ◌+◌, ◌-◌, ◌<◌, ◌≤◌, true, None, is_some, IfOk, drop, length};
 ghost use Rattle.tokei_table.specs.Sound.{IsSound};
 ghost use Rattle.tokei_count.specs.Choice.{choice};
 ghost use Rattle.tokei_count.specs.Lines.{first_line, line_len};
@@ -7,7 +7,7 @@ ghost use Rattle.tokei_count.specs.Matchers.{matchers_of};
 ghost use Rattle.tokei_count.specs.Modes.{innermost};
 ghost use Rattle.tokei_count.specs.PlainBytes.{IsPlainByte};
 ghost use Rattle.tokei_count.specs.ReadingOf.{row_in, blocks_of};
-ghost use Rattle.tokei_count.specs.Progress.{IsPart, IsClosable};
+ghost use Rattle.tokei_count.specs.Progress.{IsPart, IsClosable, Leads};
 ghost use Rattle.tokei_count.specs.Seen.{choice_of, mode_of, chain_of};
 ghost use Rattle.tokei_count.specs.Walked.{Steps, Reads};
 
@@ -119,6 +119,44 @@ fn choice_at<'a>(
     choose(reading.syntax(), mode, opens, &reading.text[at..])
 }
 
+/// Takes the bytes from the place `at` on, in a line that goes to `end`, at which nothing but the byte itself can begin, and
+/// answers the place behind them. Each is a choice, which `choice_at` makes. No child opens in plain text from the place to
+/// before `child`.
+#[inline(always)]
+fn take_bytes<'a>(
+    reading: &Reading<'a>,
+    matchers: &SharedMatchers,
+    stack: &[Enclosure<'a>],
+    left: usize,
+    start: usize,
+    at: usize,
+    end: usize,
+    child: usize,
+    steps: &mut usize,
+) -> usize
+    requires sound { IsSound (row_in reading.now) }
+    requires closable { IsClosable (chain_of stack.now) }
+    requires known { reading.now.language < length reading.now.table.now }
+    requires part { IsPart reading.now.text.now left start at }
+    requires line { end ≡ at + line_len (drop at reading.now.text.now) }
+    requires few { steps.old ≤ at - start }
+    requires matched { matchers.now ≡ matchers_of (row_in reading.now) }
+    requires childless { (p : ℕ) → at ≤ p → p < child → innermost (chain_of stack.now) ≡ None → blocks_of reading.now left (drop p reading.now.text.now) ≡ None }
+    ensures low { at ≤ result }
+    ensures high { result ≤ end }
+    ensures counted { steps.new ≡ steps.old + (result - at) }
+    ensures leads { Leads (row_in reading.now) (blocks_of reading.now) left (chain_of stack.now) (result - at) (result - at) (chain_of stack.now) (drop at reading.now.text.now) }
+{
+    let mode = innermost(stack);
+    let last = end.min(child);
+    let mut next = at;
+    while next < last && is_plain_byte(matchers, mode, reading.text[next]) {
+        let _byte = choice_at(reading, matchers, stack, left, start, next, end, child, steps);
+        next += 1;
+    }
+    next
+}
+
 /// Takes the choice at a place, which `choice_at` makes.
 #[inline(always)]
 fn take_choice<'a>(
@@ -185,7 +223,7 @@ fn look_ahead(
     requires line { to ≡ at + length (first_line (drop at reading.now.text.now)) }
     requires childless { (p : ℕ) → at ≤ p → p < child.old → blocks_of reading.now left (drop p reading.now.text.now) ≡ None }
     ensures childless { (p : ℕ) → at ≤ p → p < child.new → blocks_of reading.now left (drop p reading.now.text.now) ≡ None }
-    ensures ahead { at < result → innermost (chain_of stack.now) ≡ None → blocks_of reading.now left (drop at reading.now.text.now) ≡ None }
+    ensures ahead { (p : ℕ) → at ≤ p → p < result → innermost (chain_of stack.now) ≡ None → blocks_of reading.now left (drop p reading.now.text.now) ≡ None }
 {
     if skips && !stack.is_empty() {
         return to;
@@ -222,6 +260,13 @@ pub(crate) fn read_part<'a>(
     let mut at = start;
     while at < end {
         let ahead = look_ahead(reading, skips, stack, left, start, at, stop, &mut child);
+        let behind = take_bytes(
+            reading, matchers, stack, left, start, at, end, ahead, &mut steps,
+        );
+        if at < behind {
+            at = behind;
+            continue;
+        }
         match take_choice(
             reading, matchers, stack, left, start, at, end, ahead, &mut steps,
         )? {

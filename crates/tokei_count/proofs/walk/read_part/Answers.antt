@@ -11,7 +11,7 @@ use Rattle.tokei_count.specs.Walked.{Steps}
 use Rattle.tokei_count.specs.declared.walk.Step.TheVariants.{Child}
 use Rattle.tokei_count.proofs.Blocks.{blocks_fit}
 use Rattle.tokei_count.proofs.Leading.{lead_none, line_len-drop, rest_is}
-use Rattle.tokei_count.proofs.LineEnds.{end_is, end_within, end_behind, ends_more, first_line-low, first_line-high}
+use Rattle.tokei_count.proofs.LineEnds.{end_is, end_within, end_behind, end_later, ends_more, first_line-low, first_line-high}
 use Rattle.tokei_count.proofs.Lines.{line_reads, take-first}
 use Rattle.tokei_count.proofs.PartFronts.{part_on, part_anew}
 use Rattle.tokei_count.proofs.PartReading.{block_opens, child_read_at}
@@ -40,6 +40,36 @@ loop-at-init c =
       begun = omega arith;
       high = omega (arith, stop_is);
       childless = λ p low high. absurd (omega (arith, low, high));
+    }
+
+-- bytes at which nothing else can begin lead on within the line
+pub loop-at-preserved-then-at-behind : goal.loop-at-preserved-then-at-behind
+loop-at-preserved-then-at-behind c =
+    let text : List ℕ = c.args.reading.now.text.now in
+    let end : ℕ = c.args.end in
+    let at : ℕ = c.loop-at.at in
+    let next : ℕ = c.take_bytes-behind.result in
+    let n : ℕ = next - at in
+    let here : reached at end ≡ at = omega (arith, c.loop-at-test.true) in
+    let there : reached next end ≡ next = omega (arith, c.take_bytes-behind.ensures.high) in
+    let stop_is : c.line_stop-stop.result ≡ c.args.start + length (first_line (drop c.args.start text)) = end_is text c.args.start end c.line_stop-stop.result c.requires.part.high c.requires.line c.line_stop-stop.ensures.more c.line_stop-stop.ensures.last in
+    let part : IsPart text c.args.left c.args.start at = subst (IsPart text c.args.left c.args.start) here c.loop-at.invariant.part in
+    let line : end ≡ at + line_len (drop at text) = c.loop-at.invariant.line ∙ ap (λ m. m + line_len (drop m text)) here in
+    let place : at + n ≡ next = omega (arith, c.take_bytes-behind.ensures.low) in
+    let went : Leads (row_in c.args.reading.now) (blocks_of c.args.reading.now) c.args.left (chain_of c.loop-at.stack.items) n n (chain_of c.loop-at.stack.items) (drop at text) =
+    subst (λ es. Leads (row_in c.args.reading.now) (blocks_of c.args.reading.now) c.args.left (chain_of es) n n (chain_of es) (drop at text)) c.deref-in-loop-at-2.ensures.value c.take_bytes-behind.ensures.leads in
+    record {
+      leads = led_on (row_in c.args.reading.now) (blocks_of c.args.reading.now) c.args.left text c.args.start at (chain_of c.args.stack.now.items) (chain_of c.loop-at.stack.items) (chain_of c.loop-at.stack.items)
+          (reached next end - c.args.start) (c.loop-at.steps - (at - end)) n n (c.take_bytes-behind.new.steps - (next - end)) part.low
+          (subst (λ m. Leads (row_in c.args.reading.now) (blocks_of c.args.reading.now) c.args.left (chain_of c.args.stack.now.items) (m - c.args.start) (c.loop-at.steps - (at - end)) (chain_of c.loop-at.stack.items) (drop c.args.start text)) here c.loop-at.invariant.leads)
+          went (omega (arith, there, place)) (omega (arith, c.take_bytes-behind.ensures.high, c.take_bytes-behind.ensures.counted, c.loop-at-test.true));
+      closable = c.loop-at.invariant.closable;
+      part = subst (IsPart text c.args.left c.args.start) (place ∙ sym there) (part_on text c.args.left c.args.start at n part (omega (arith, line, place, c.take_bytes-behind.ensures.high)));
+      line = end_later text at next end c.take_bytes-behind.ensures.low line c.take_bytes-behind.ensures.high ∙ ap (λ m. m + line_len (drop m text)) (sym there);
+      few = omega (arith, c.loop-at.invariant.few, part.low, place, c.take_bytes-behind.ensures.counted);
+      begun = omega (arith, c.take_bytes-behind.ensures.high);
+      high = omega (arith, c.take_bytes-behind.ensures.high, stop_is, c.requires.line, first_line-low (drop c.args.start text));
+      childless = λ p low high. c.look_ahead-ahead.ensures.childless p (omega (arith, low, place)) high;
     }
 
 pub loop-at-preserved-in-On : goal.loop-at-preserved-in-On
@@ -119,7 +149,7 @@ returns-in-Child c =
     let opens : Steps (row_in c.args.reading.now) (blocks_of c.args.reading.now) c.args.left (chain_of c.loop-at.stack.items) (chain_of c.take_choice.new.stack.items) text at Child = subst (Steps (row_in c.args.reading.now) (blocks_of c.args.reading.now) c.args.left (chain_of c.loop-at.stack.items) (chain_of c.take_choice.new.stack.items) text at) c.in-Child.is c.in_ok-len.ensures.takes in (
       opens.0,
       c.loop-at.steps,
-      c.in_ok-len.ensures.counted,
+      omega (arith, c.in_ok-len.ensures.counted, c.take_bytes-behind.ensures.counted, c.take_bytes-behind.ensures.low, c.if-at-behind.false),
       record {
         part = part;
         few = c.loop-at.invariant.few;

@@ -1,0 +1,99 @@
+use Rattle.std.proofs.Common.{◌≡◌, ◌∙◌, ℕ, suc, ◌+◌, ◌-◌, ◌<◌, ◌≤◌, List, ◌∷◌, length, drop, get_or, sym, ap, subst, arith, length-drop, drop-cons}
+use Rattle.std.proofs.lemmas.List.{drop-drop}
+use Rattle.tokei_count.specs.Lines.{line_len}
+use Rattle.tokei_count.specs.Modes.{innermost}
+use Rattle.tokei_count.specs.PlainBytes.{IsPlainByte}
+use Rattle.tokei_count.specs.ReadingOf.{row_in, blocks_of}
+use Rattle.tokei_count.specs.Progress.{Leads, Goes, IsPart}
+use Rattle.tokei_count.specs.Seen.{chain_of}
+use Rattle.tokei_count.proofs.Blocks.{blocks_fit}
+use Rattle.tokei_count.proofs.Leading.{lead_none, line_len-drop}
+use Rattle.tokei_count.proofs.LineEnds.{end_within, end_later}
+use Rattle.tokei_count.proofs.PartFronts.{part_on}
+use Rattle.tokei_count.proofs.PlainBytes.{plain_byte}
+use Rattle.tokei_count.proofs.Stepping.{goes_byte}
+use Rattle.tokei_count.proofs.Walking.{led_on}
+use Rattle.tokei_count.proofs.walk.take_bytes.Goals as goal
+
+pub loop-next-init : goal.loop-next-init
+loop-next-init c =
+    let none : 0 ≡ c.args.at - c.args.at = omega arith in
+    record {
+      low = omega arith;
+      high = omega (arith, c.requires.line);
+      counted = omega arith;
+      part = c.requires.part;
+      line = c.requires.line;
+      leads = subst (λ n. Leads (row_in c.args.reading.now) (blocks_of c.args.reading.now) c.args.left (chain_of c.args.stack.now) n n (chain_of c.args.stack.now) (drop c.args.at c.args.reading.now.text.now)) none
+          (lead_none (row_in c.args.reading.now) (blocks_of c.args.reading.now) c.args.left (chain_of c.args.stack.now) (drop c.args.at c.args.reading.now.text.now));
+    }
+
+pub bounds-reading-next : goal.bounds-reading-next
+bounds-reading-next c =
+    let within : c.args.end ≤ length c.args.reading.now.text.now = end_within c.args.reading.now.text.now c.args.at c.args.end c.requires.part.high c.requires.line in
+    omega (arith, within, c.loop-next-test.true, c.min-last.ensures)
+
+pub choice_at-byte-requires-clause-part : goal.choice_at-byte-requires-clause-part
+choice_at-byte-requires-clause-part c = c.loop-next.invariant.part
+
+pub choice_at-byte-requires-clause-line : goal.choice_at-byte-requires-clause-line
+choice_at-byte-requires-clause-line c = c.loop-next.invariant.line
+
+pub choice_at-byte-requires-clause-some : goal.choice_at-byte-requires-clause-some
+choice_at-byte-requires-clause-some c =
+    let within : c.args.end ≤ length c.args.reading.now.text.now = end_within c.args.reading.now.text.now c.args.at c.args.end c.requires.part.high c.requires.line in
+    omega (arith, within, c.loop-next-test.true, c.min-last.ensures)
+
+pub choice_at-byte-requires-clause-room : goal.choice_at-byte-requires-clause-room
+choice_at-byte-requires-clause-room c =
+    let within : c.args.end ≤ length c.args.reading.now.text.now = end_within c.args.reading.now.text.now c.args.at c.args.end c.requires.part.high c.requires.line in
+    omega (arith, within, c.loop-next-test.true, c.min-last.ensures, c.loop-next.invariant.counted, c.loop-next.invariant.low, c.requires.few)
+
+pub choice_at-byte-requires-clause-childless : goal.choice_at-byte-requires-clause-childless
+choice_at-byte-requires-clause-childless c = c.requires.childless c.loop-next.next c.loop-next.invariant.low
+
+pub loop-next-preserved : goal.loop-next-preserved
+loop-next-preserved c =
+    let text : List ℕ = c.args.reading.now.text.now in
+    let next : ℕ = c.loop-next.next in
+    let u : List ℕ = drop next text in
+    let within : c.args.end ≤ length text = end_within text c.args.at c.args.end c.requires.part.high c.requires.line in
+    let more : next < c.args.end = omega (arith, c.loop-next-test.true, c.min-last.ensures) in
+    let ahead : next < c.args.child = omega (arith, c.loop-next-test.true, c.min-last.ensures) in
+    let some : 0 < line_len u = omega (arith, more, c.loop-next.invariant.line) in
+    let one : suc next ≡ next + 1 = omega arith in
+    let here : u ≡ get_or text next 0 ∷ drop 1 u = drop-cons text next 0 (omega (arith, more, within)) ∙ ap (λ n. get_or text next 0 ∷ drop n text) one ∙ ap (λ w. get_or text next 0 ∷ w) (sym (drop-drop 1 next text)) in
+    let byte = subst (λ m. IsPlainByte c.args.matchers.now m (get_or text next 0)) c.innermost-mode.ensures (c.is_plain_byte.ensures c.if-is_plain_byte.true) in
+    let goes : Goes (row_in c.args.reading.now) (blocks_of c.args.reading.now) c.args.left (chain_of c.args.stack.now) 1 1 (chain_of c.args.stack.now) u =
+    goes_byte (row_in c.args.reading.now) (blocks_of c.args.reading.now) c.args.left c.requires.sound (blocks_fit c.args.reading.now).in_line (chain_of c.args.stack.now) u c.requires.closable some
+    (plain_byte (row_in c.args.reading.now) c.requires.sound (innermost (chain_of c.args.stack.now)) (blocks_of c.args.reading.now c.args.left u) (get_or text next 0) u c.args.matchers.now here c.requires.matched byte (c.requires.childless next c.loop-next.invariant.low ahead)) in
+    record {
+      low = omega (arith, c.loop-next.invariant.low);
+      high = omega (arith, more);
+      counted = omega (arith, c.loop-next.invariant.counted, c.loop-next.invariant.low, c.choice_at-byte.ensures.counted);
+      part = part_on text c.args.left c.args.start next 1 c.loop-next.invariant.part goes.within;
+      line = end_later text next (next + 1) c.args.end (omega arith) c.loop-next.invariant.line (omega (arith, more));
+      leads = led_on (row_in c.args.reading.now) (blocks_of c.args.reading.now) c.args.left text c.args.at next (chain_of c.args.stack.now) (chain_of c.args.stack.now) (chain_of c.args.stack.now)
+          (next + 1 - c.args.at) (next - c.args.at) 1 1 (next + 1 - c.args.at) c.loop-next.invariant.low c.loop-next.invariant.leads goes.leads (omega (arith, c.loop-next.invariant.low)) (omega (arith, c.loop-next.invariant.low));
+    }
+
+pub returns-else-is_plain_byte-clause-low : goal.returns-else-is_plain_byte-clause-low
+returns-else-is_plain_byte-clause-low c = c.loop-next.invariant.low
+
+pub returns-else-is_plain_byte-clause-counted : goal.returns-else-is_plain_byte-clause-counted
+returns-else-is_plain_byte-clause-counted c = c.loop-next.invariant.counted
+
+pub returns-else-is_plain_byte-clause-leads : goal.returns-else-is_plain_byte-clause-leads
+returns-else-is_plain_byte-clause-leads c = c.loop-next.invariant.leads
+
+pub returns-after-loop-next-clause-low : goal.returns-after-loop-next-clause-low
+returns-after-loop-next-clause-low c = c.loop-next.invariant.low
+
+pub returns-after-loop-next-clause-high : goal.returns-after-loop-next-clause-high
+returns-after-loop-next-clause-high c = c.loop-next.invariant.high
+
+pub returns-after-loop-next-clause-counted : goal.returns-after-loop-next-clause-counted
+returns-after-loop-next-clause-counted c = c.loop-next.invariant.counted
+
+pub returns-after-loop-next-clause-leads : goal.returns-after-loop-next-clause-leads
+returns-after-loop-next-clause-leads c = c.loop-next.invariant.leads
