@@ -90,7 +90,7 @@ fn is_plain_byte(matchers: &SharedMatchers, mode: Option<Enclosure>, byte: u8) -
 fn choice_at<'a>(
     reading: &Reading<'a>,
     matchers: &SharedMatchers,
-    stack: &[Enclosure<'a>],
+    mode: Option<Enclosure<'a>>,
     left: usize,
     start: usize,
     at: usize,
@@ -105,13 +105,12 @@ fn choice_at<'a>(
     requires some { at < length reading.now.text.now }
     requires room { steps.old < length reading.now.text.now }
     requires matched { matchers.now ≡ matchers_of (row_in reading.now) }
-    requires childless { at < child → innermost (chain_of stack.now) ≡ None → blocks_of reading.now left (drop at reading.now.text.now) ≡ None }
+    requires childless { at < child → mode_of mode ≡ None → blocks_of reading.now left (drop at reading.now.text.now) ≡ None }
     ensures counted { steps.new ≡ steps.old + 1 }
     ensures child { result ≡ Choice.Child → is_some (blocks_of reading.now left (drop at reading.now.text.now)) ≡ true }
-    ensures choice { choice_of (blocks_of reading.now left (drop at reading.now.text.now)) result ≡ choice (row_in reading.now) (innermost (chain_of stack.now)) (blocks_of reading.now left (drop at reading.now.text.now)) (drop at reading.now.text.now) }
+    ensures choice { choice_of (blocks_of reading.now left (drop at reading.now.text.now)) result ≡ choice (row_in reading.now) (mode_of mode.entry) (blocks_of reading.now left (drop at reading.now.text.now)) (drop at reading.now.text.now) }
 {
     *steps += 1;
-    let mode = innermost(stack);
     if at < child && is_plain_byte(matchers, mode, reading.text[at]) {
         return Choice::Byte;
     }
@@ -151,7 +150,7 @@ fn take_bytes<'a>(
     let last = end.min(child);
     let mut next = at;
     while next < last && is_plain_byte(matchers, mode, reading.text[next]) {
-        let _byte = choice_at(reading, matchers, stack, left, start, next, end, child, steps);
+        let _byte = choice_at(reading, matchers, mode, left, start, next, end, child, steps);
         next += 1;
     }
     next
@@ -182,7 +181,8 @@ fn take_choice<'a>(
     ensures counted { steps.new ≡ steps.old + 1 }
     ensures takes { IfOk result (λ s. Steps (row_in reading.now) (blocks_of reading.now) left (chain_of stack.old.items) (chain_of stack.new.items) reading.now.text.now at s) }
 {
-    match choice_at(reading, matchers, stack, left, start, at, end, child, steps) {
+    let mode = innermost(stack);
+    match choice_at(reading, matchers, mode, left, start, at, end, child, steps) {
         Choice::Closer => match stack.pop() {
             Some(enclosure) => Ok(Step::On(enclosure.closer.len())),
             None => unreachable!(),
@@ -279,8 +279,9 @@ pub(crate) fn read_part<'a>(
         }
     }
     if at < stop {
+        let mode = innermost(stack);
         let _newline = choice_at(
-            reading, matchers, stack, left, start, at, end, at, &mut steps,
+            reading, matchers, mode, left, start, at, end, at, &mut steps,
         );
     }
     let line = &reading.text[start..stop];

@@ -19,19 +19,18 @@ returns-then-is_plain_byte-clause-choice c =
     let u : List ℕ = drop c.args.at text in
     let one : suc c.args.at ≡ c.args.at + 1 = omega arith in
     let here : u ≡ get_or text c.args.at 0 ∷ drop 1 u = drop-cons text c.args.at 0 c.requires.some ∙ ap (λ n. get_or text c.args.at 0 ∷ drop n text) one ∙ ap (λ w. get_or text c.args.at 0 ∷ w) (sym (drop-drop 1 c.args.at text)) in
-    let byte = subst (λ m. IsPlainByte c.args.matchers.now m (get_or text c.args.at 0)) c.innermost-mode.ensures (c.is_plain_byte.ensures c.if-is_plain_byte.true) in
-    sym (plain_byte (row_in c.args.reading.now) c.requires.sound (innermost (chain_of c.args.stack.now)) (blocks_of c.args.reading.now c.args.left u) (get_or text c.args.at 0) u c.args.matchers.now here c.requires.matched byte (c.requires.childless c.if-at-child.true))
+    let byte : IsPlainByte c.args.matchers.now (mode_of c.args.mode) (get_or text c.args.at 0) = c.is_plain_byte.ensures c.if-is_plain_byte.true in
+    sym (plain_byte (row_in c.args.reading.now) c.requires.sound (mode_of c.args.mode) (blocks_of c.args.reading.now c.args.left u) (get_or text c.args.at 0) u c.args.matchers.now here c.requires.matched byte (c.requires.childless c.if-at-child.true))
 
 pub returns-clause-choice : goal.returns-clause-choice
 returns-clause-choice c =
     let text : List ℕ = c.args.reading.now.text.now in
     let u : List ℕ = drop c.args.at text in
-    let here : (o : Option Block) → choice (row_of c.syntax.result.now) (mode_of c.innermost-mode.result) o (take (length text - c.args.at) u) ≡ choice (row_in c.args.reading.now) (innermost (chain_of c.args.stack.now)) o u = λ o.
-    ap (λ r. choice r (mode_of c.innermost-mode.result) o (take (length text - c.args.at) u)) c.syntax.ensures.row
-    ∙ ap (λ m. choice (row_in c.args.reading.now) m o (take (length text - c.args.at) u)) c.innermost-mode.ensures
-    ∙ ap (choice (row_in c.args.reading.now) (innermost (chain_of c.args.stack.now)) o) (rest_is c.args.at text) in
+    let here : (o : Option Block) → choice (row_of c.syntax.result.now) (mode_of c.args.mode) o (take (length text - c.args.at) u) ≡ choice (row_in c.args.reading.now) (mode_of c.args.mode) o u = λ o.
+    ap (λ r. choice r (mode_of c.args.mode) o (take (length text - c.args.at) u)) c.syntax.ensures.row
+    ∙ ap (choice (row_in c.args.reading.now) (mode_of c.args.mode) o) (rest_is c.args.at text) in
     elim c.if-child-at.branch [
       | then-child-at w ↦ c.choose.ensures.choice (blocks_of c.args.reading.now c.args.left u) (sym (w.opens-is ∙ w.opens_at-opens.ensures)) ∙ here (blocks_of c.args.reading.now c.args.left u)
-      | else-child-at w ↦ let off : nat_le c.args.child c.args.at ≡ false = grind (arith, nat_tests, w.if-child-at.false) in same_choice (row_in c.args.reading.now) (innermost (chain_of c.args.stack.now)) (blocks_of c.args.reading.now c.args.left u) u c.choose.result (c.requires.childless w.if-child-at.false) (λ e. sym off ∙ sym w.opens-is ∙ c.choose.ensures.child e)
+      | else-child-at w ↦ let off : nat_le c.args.child c.args.at ≡ false = grind (arith, nat_tests, w.if-child-at.false) in same_choice (row_in c.args.reading.now) (mode_of c.args.mode) (blocks_of c.args.reading.now c.args.left u) u c.choose.result (c.requires.childless w.if-child-at.false) (λ e. sym off ∙ sym w.opens-is ∙ c.choose.ensures.child e)
           (c.choose.ensures.choice None (sym off ∙ sym w.opens-is) ∙ here None)
     ]

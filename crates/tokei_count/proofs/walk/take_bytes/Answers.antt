@@ -50,7 +50,7 @@ choice_at-byte-requires-clause-room c =
     omega (arith, within, c.loop-next-test.true, c.min-last.ensures, c.loop-next.invariant.counted, c.loop-next.invariant.low, c.requires.few)
 
 pub choice_at-byte-requires-clause-childless : goal.choice_at-byte-requires-clause-childless
-choice_at-byte-requires-clause-childless c = c.requires.childless c.loop-next.next c.loop-next.invariant.low
+choice_at-byte-requires-clause-childless c = λ ahead plain. c.requires.childless c.loop-next.next c.loop-next.invariant.low ahead (sym c.innermost-mode.ensures ∙ plain)
 
 pub loop-next-preserved : goal.loop-next-preserved
 loop-next-preserved c =

@@ -1,4 +1,4 @@
-use Rattle.std.proofs.Common.{◌≡◌, ◌<◌, ◌∙◌, ap, sym, ℕ, List, [], ◌-◌, take, drop, arith}
+use Rattle.std.proofs.Common.{◌≡◌, ◌<◌, ◌∙◌, ap, sym, ℕ, Option, List, [], ◌-◌, take, drop, arith}
 use Rattle.std.proofs.lemmas.List.{append-nil}
 use Rattle.tokei_table.specs.RowOf.{pair_of}
 use Rattle.tokei_count.specs.Choice.{Choice, choice, or_else}
@@ -7,7 +7,7 @@ use Rattle.tokei_count.specs.Lines.{line_len}
 use Rattle.tokei_count.specs.Modes.{innermost}
 use Rattle.tokei_count.specs.ReadingOf.{row_in, blocks_of}
 use Rattle.tokei_count.specs.Progress.{OpensInLine}
-use Rattle.tokei_count.specs.Seen.{choice_of, chain_of}
+use Rattle.tokei_count.specs.Seen.{choice_of, mode_of, chain_of}
 use Rattle.tokei_count.specs.declared.items.Enclosure as Code
 use Rattle.tokei_count.specs.declared.reading.Reading.{Reading}
 use Rattle.tokei_count.proofs.Blocks.{blocks_fit}
@@ -19,10 +19,14 @@ use Rattle.tokei_count.proofs.walk.take_choice.Goals as goal
 abbrev at_stack : Reading → ℕ → List ℕ → List Code.Enclosure → Choice
 at_stack r l u es = choice (row_in r) (innermost (chain_of es)) (blocks_of r l u) u
 
+-- the same by the mode that was asked of it
+by_mode : (r : Reading) (l : ℕ) (u : List ℕ) (seen es : List Code.Enclosure) (mode : Option Code.Enclosure) → seen ≡ es → mode_of mode ≡ innermost (chain_of seen) → choice (row_in r) (mode_of mode) (blocks_of r l u) u ≡ at_stack r l u es
+by_mode r l u seen es mode e is = ap (λ m. choice (row_in r) m (blocks_of r l u) u) is ∙ ap (at_stack r l u) e
+
 pub returns-in-Byte-clause-takes : goal.returns-in-Byte-clause-takes
 returns-in-Byte-clause-takes c =
     let u : List ℕ = drop c.args.at c.args.reading.now.text.now in
-    let here : at_stack c.args.reading.now c.args.left u c.args.stack.now.items ≡ takes_byte = sym (ap (at_stack c.args.reading.now c.args.left u) c.deref.ensures.value) ∙ sym c.choice_at.ensures.choice ∙ ap (choice_of (blocks_of c.args.reading.now c.args.left u)) c.in-Byte.is in
+    let here : at_stack c.args.reading.now c.args.left u c.args.stack.now.items ≡ takes_byte = sym (by_mode c.args.reading.now c.args.left u c.deref.result.now c.args.stack.now.items c.innermost-mode.result c.deref.ensures.value c.innermost-mode.ensures) ∙ sym c.choice_at.ensures.choice ∙ ap (choice_of (blocks_of c.args.reading.now c.args.left u)) c.in-Byte.is in
     let some : 0 < line_len u = omega (arith, c.requires.some, c.requires.line) in
     let calm : OpensInLine (blocks_of c.args.reading.now) = (blocks_fit c.args.reading.now).in_line in
     goes_byte (row_in c.args.reading.now) (blocks_of c.args.reading.now) c.args.left c.requires.sound calm (chain_of c.args.stack.now.items) u c.requires.closable some here
@@ -30,7 +34,7 @@ returns-in-Byte-clause-takes c =
 pub returns-in-Escape-clause-takes : goal.returns-in-Escape-clause-takes
 returns-in-Escape-clause-takes c =
     let u : List ℕ = drop c.args.at c.args.reading.now.text.now in
-    let here : at_stack c.args.reading.now c.args.left u c.args.stack.now.items ≡ escapes = sym (ap (at_stack c.args.reading.now c.args.left u) c.deref.ensures.value) ∙ sym c.choice_at.ensures.choice ∙ ap (choice_of (blocks_of c.args.reading.now c.args.left u)) c.in-Escape.is in
+    let here : at_stack c.args.reading.now c.args.left u c.args.stack.now.items ≡ escapes = sym (by_mode c.args.reading.now c.args.left u c.deref.result.now c.args.stack.now.items c.innermost-mode.result c.deref.ensures.value c.innermost-mode.ensures) ∙ sym c.choice_at.ensures.choice ∙ ap (choice_of (blocks_of c.args.reading.now c.args.left u)) c.in-Escape.is in
     let some : 0 < line_len u = omega (arith, c.requires.some, c.requires.line) in
     let calm : OpensInLine (blocks_of c.args.reading.now) = (blocks_fit c.args.reading.now).in_line in
     goes_escape (row_in c.args.reading.now) (blocks_of c.args.reading.now) c.args.left c.requires.sound calm (chain_of c.args.stack.now.items) u c.requires.closable some here
@@ -38,7 +42,7 @@ returns-in-Escape-clause-takes c =
 pub returns-in-LineComment-clause-takes : goal.returns-in-LineComment-clause-takes
 returns-in-LineComment-clause-takes c =
     let u : List ℕ = drop c.args.at c.args.reading.now.text.now in
-    let here : at_stack c.args.reading.now c.args.left u c.args.stack.now.items ≡ begins_line_comment = sym (ap (at_stack c.args.reading.now c.args.left u) c.deref.ensures.value) ∙ sym c.choice_at.ensures.choice ∙ ap (choice_of (blocks_of c.args.reading.now c.args.left u)) c.in-LineComment.is in
+    let here : at_stack c.args.reading.now c.args.left u c.args.stack.now.items ≡ begins_line_comment = sym (by_mode c.args.reading.now c.args.left u c.deref.result.now c.args.stack.now.items c.innermost-mode.result c.deref.ensures.value c.innermost-mode.ensures) ∙ sym c.choice_at.ensures.choice ∙ ap (choice_of (blocks_of c.args.reading.now c.args.left u)) c.in-LineComment.is in
     let some : 0 < line_len u = omega (arith, c.requires.some, c.requires.line) in
     let calm : OpensInLine (blocks_of c.args.reading.now) = (blocks_fit c.args.reading.now).in_line in
     goes_rest (row_in c.args.reading.now) (blocks_of c.args.reading.now) c.args.left c.requires.sound calm (chain_of c.args.stack.now.items) u c.requires.closable some here
@@ -46,7 +50,7 @@ returns-in-LineComment-clause-takes c =
 pub returns-in-PassedOpener-clause-takes : goal.returns-in-PassedOpener-clause-takes
 returns-in-PassedOpener-clause-takes c =
     let u : List ℕ = drop c.args.at c.args.reading.now.text.now in
-    let here : at_stack c.args.reading.now c.args.left u c.args.stack.now.items ≡ passes_over (pair_of c.in-PassedOpener.pair.now) = sym (ap (at_stack c.args.reading.now c.args.left u) c.deref.ensures.value) ∙ sym c.choice_at.ensures.choice ∙ ap (choice_of (blocks_of c.args.reading.now c.args.left u)) c.in-PassedOpener.is in
+    let here : at_stack c.args.reading.now c.args.left u c.args.stack.now.items ≡ passes_over (pair_of c.in-PassedOpener.pair.now) = sym (by_mode c.args.reading.now c.args.left u c.deref.result.now c.args.stack.now.items c.innermost-mode.result c.deref.ensures.value c.innermost-mode.ensures) ∙ sym c.choice_at.ensures.choice ∙ ap (choice_of (blocks_of c.args.reading.now c.args.left u)) c.in-PassedOpener.is in
     let some : 0 < line_len u = omega (arith, c.requires.some, c.requires.line) in
     let calm : OpensInLine (blocks_of c.args.reading.now) = (blocks_fit c.args.reading.now).in_line in
     rw c.as_bytes-opener-in-PassedOpener.ensures.value (goes_pass (row_in c.args.reading.now) (blocks_of c.args.reading.now) c.args.left c.requires.sound calm (chain_of c.args.stack.now.items) u c.requires.closable some (pair_of c.in-PassedOpener.pair.now) here)
@@ -54,13 +58,13 @@ returns-in-PassedOpener-clause-takes c =
 pub returns-in-Child-clause-takes : goal.returns-in-Child-clause-takes
 returns-in-Child-clause-takes c =
     let u : List ℕ = drop c.args.at c.args.reading.now.text.now in
-    let here : at_stack c.args.reading.now c.args.left u c.args.stack.now.items ≡ or_else (blocks_of c.args.reading.now c.args.left u) child_opens takes_byte = sym (ap (at_stack c.args.reading.now c.args.left u) c.deref.ensures.value) ∙ sym c.choice_at.ensures.choice ∙ ap (choice_of (blocks_of c.args.reading.now c.args.left u)) c.in-Child.is in
+    let here : at_stack c.args.reading.now c.args.left u c.args.stack.now.items ≡ or_else (blocks_of c.args.reading.now c.args.left u) child_opens takes_byte = sym (by_mode c.args.reading.now c.args.left u c.deref.result.now c.args.stack.now.items c.innermost-mode.result c.deref.ensures.value c.innermost-mode.ensures) ∙ sym c.choice_at.ensures.choice ∙ ap (choice_of (blocks_of c.args.reading.now c.args.left u)) c.in-Child.is in
     child_opens-plain (row_in c.args.reading.now) (blocks_of c.args.reading.now) c.args.left c.args.stack.now.items u (c.choice_at.ensures.child c.in-Child.is) here
 
 pub returns-in_ok-push-in-Opener-clause-takes : goal.returns-in_ok-push-in-Opener-clause-takes
 returns-in_ok-push-in-Opener-clause-takes c =
     let u : List ℕ = drop c.args.at c.args.reading.now.text.now in
-    let here : at_stack c.args.reading.now c.args.left u c.args.stack.now.items ≡ opens c.in-Opener.kind (pair_of c.in-Opener.pair.now) = sym (ap (at_stack c.args.reading.now c.args.left u) c.deref.ensures.value) ∙ sym c.choice_at.ensures.choice ∙ ap (choice_of (blocks_of c.args.reading.now c.args.left u)) c.in-Opener.is in
+    let here : at_stack c.args.reading.now c.args.left u c.args.stack.now.items ≡ opens c.in-Opener.kind (pair_of c.in-Opener.pair.now) = sym (by_mode c.args.reading.now c.args.left u c.deref.result.now c.args.stack.now.items c.innermost-mode.result c.deref.ensures.value c.innermost-mode.ensures) ∙ sym c.choice_at.ensures.choice ∙ ap (choice_of (blocks_of c.args.reading.now c.args.left u)) c.in-Opener.is in
     let some : 0 < line_len u = omega (arith, c.requires.some, c.requires.line) in
     let calm : OpensInLine (blocks_of c.args.reading.now) = (blocks_fit c.args.reading.now).in_line in
     rw c.as_bytes-opener.ensures.value (opener_pushes (row_in c.args.reading.now) (blocks_of c.args.reading.now) c.args.left c.requires.sound calm c.args.stack.now.items c.push.new.self.items (record { kind = c.in-Opener.kind; closer = c.as_bytes-closer.result }) c.in-Opener.kind (pair_of c.in-Opener.pair.now) u
@@ -69,7 +73,7 @@ returns-in_ok-push-in-Opener-clause-takes c =
 pub returns-in-Some-clause-takes : goal.returns-in-Some-clause-takes
 returns-in-Some-clause-takes c =
     let u : List ℕ = drop c.args.at c.args.reading.now.text.now in
-    let here : at_stack c.args.reading.now c.args.left u c.args.stack.now.items ≡ closes = sym (ap (at_stack c.args.reading.now c.args.left u) c.deref.ensures.value) ∙ sym c.choice_at.ensures.choice ∙ ap (choice_of (blocks_of c.args.reading.now c.args.left u)) c.in-Closer.is in
+    let here : at_stack c.args.reading.now c.args.left u c.args.stack.now.items ≡ closes = sym (by_mode c.args.reading.now c.args.left u c.deref.result.now c.args.stack.now.items c.innermost-mode.result c.deref.ensures.value c.innermost-mode.ensures) ∙ sym c.choice_at.ensures.choice ∙ ap (choice_of (blocks_of c.args.reading.now c.args.left u)) c.in-Closer.is in
     let some : 0 < line_len u = omega (arith, c.requires.some, c.requires.line) in
     let calm : OpensInLine (blocks_of c.args.reading.now) = (blocks_fit c.args.reading.now).in_line in
     closer_pops (row_in c.args.reading.now) (blocks_of c.args.reading.now) c.args.left c.requires.sound calm c.args.stack.now.items c.pop.new.self.items c.in-Some.enclosure u c.in-Some.ensures.items c.requires.closable some here
@@ -77,7 +81,7 @@ returns-in-Some-clause-takes c =
 pub unreachable-requires : goal.unreachable-requires
 unreachable-requires c =
     let u : List ℕ = drop c.args.at c.args.reading.now.text.now in
-    let here : at_stack c.args.reading.now c.args.left u c.args.stack.now.items ≡ closes = sym (ap (at_stack c.args.reading.now c.args.left u) c.deref.ensures.value) ∙ sym c.choice_at.ensures.choice ∙ ap (choice_of (blocks_of c.args.reading.now c.args.left u)) c.in-Closer.is in
+    let here : at_stack c.args.reading.now c.args.left u c.args.stack.now.items ≡ closes = sym (by_mode c.args.reading.now c.args.left u c.deref.result.now c.args.stack.now.items c.innermost-mode.result c.deref.ensures.value c.innermost-mode.ensures) ∙ sym c.choice_at.ensures.choice ∙ ap (choice_of (blocks_of c.args.reading.now c.args.left u)) c.in-Closer.is in
     let some : 0 < line_len u = omega (arith, c.requires.some, c.requires.line) in
     let calm : OpensInLine (blocks_of c.args.reading.now) = (blocks_fit c.args.reading.now).in_line in
     let empty : c.args.stack.now.items ≡ [] = c.in-None.ensures.items ∙ append-nil _ ∙ c.in-None.ensures.rest ∙ ap (λ n. take (n - 1) c.args.stack.now.items) c.in-None.ensures.cases.0 in
