@@ -3,6 +3,7 @@
 //! A part is a range of a text's bytes, and every place counts bytes.
 #![tactic(auto)]
 
+mod block_search;
 mod captures;
 mod doc_comments;
 mod fences;
@@ -15,6 +16,7 @@ mod spans;
 mod tags;
 mod target_blocks;
 
+pub use block_search::BlockSearch;
 pub use captures::{Capture, SimpleCapture};
 pub use doc_comments::{doc_at, doc_text};
 pub use fences::{FenceAt, fence_at};
