@@ -7,12 +7,14 @@ mod block_search;
 mod captures;
 mod doc_comments;
 mod fences;
+mod first_search;
 mod html_like;
 pub mod laws;
 mod next_openings;
 mod openings;
 mod searches;
 mod spans;
+mod tag_search;
 mod tags;
 mod target_blocks;
 

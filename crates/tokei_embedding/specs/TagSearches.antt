@@ -1,0 +1,26 @@
+-- What the searches for the elements of a text remember.
+use Rattle.std.specs.Prelude.{◌≡◌, ℕ, List}
+use Rattle.tokei_embedding.specs.Remembered.{Sought}
+use Rattle.tokei_embedding.specs.Tags.{token_of, closer_of}
+use Rattle.tokei_embedding.specs.declared.tags.Tag.{Tag}
+use Rattle.tokei_embedding.specs.declared.tags.Tag.TheVariants.{Script, Style, Template}
+
+-- A text, and the tag whose elements are sought in it.
+pub record TagSought : Type 0 where
+  pub tag : Tag
+  pub text : List ℕ
+
+-- The token is sought in the text.
+abbrev pub sought : List ℕ → List ℕ → Sought
+sought text token = record { text = text; token = token }
+
+-- The parts of the tag's elements are sought in the same text.
+pub record SeeksElements (s : TagSought) (tokens closers : Sought) : Type 0 where
+  pub opens : tokens ≡ sought s.text (token_of s.tag)
+  pub closes : closers ≡ sought s.text (closer_of s.tag)
+
+-- The elements of each tag are sought in the text.
+pub record SeeksTags (text : List ℕ) (script style template : TagSought) : Type 0 where
+  pub scripts : script ≡ record { tag = Script; text = text }
+  pub styles : style ≡ record { tag = Style; text = text }
+  pub templates : template ≡ record { tag = Template; text = text }

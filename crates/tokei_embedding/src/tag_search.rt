@@ -1,0 +1,110 @@
+//! The elements of one tag in a text.
+ghost use Rattle.std.specs.Prelude.{◌≡◌, ℕ, ◌+◌, ◌-◌, ◌≤◌, ◌<◌, ◌^◌, true, None, IfSome, length, take, drop, option_map};
+ghost use Rattle.tokei_embedding.specs.Remembered.{Sought};
+ghost use Rattle.tokei_embedding.specs.Searches.{first_of, is_at};
+ghost use Rattle.tokei_embedding.specs.Seen.{tag_seen};
+ghost use Rattle.tokei_embedding.specs.TagSearches.{TagSought, SeeksElements, sought};
+ghost use Rattle.tokei_embedding.specs.Tags.{token_of, closer_of, element_to, tag_block};
+
+use crate::first_search::FirstSearch;
+use crate::next_openings::next_of;
+use crate::searches::is_at;
+use crate::spans::bytes_of;
+use crate::tags::{Tag, TagAt, closer_of, opening_at, token_of};
+use std::marker::Model;
+use tokei_table::ext::is_blank_text;
+
+/// Finds the elements of one tag in one text, and remembers what each of its searches came to.
+#[derive(Drop)]
+pub(crate) struct TagSearch<'a> {
+    tag: Tag,
+    text: &'a [u8],
+    tokens: FirstSearch<'a>,
+    closers: FirstSearch<'a>,
+}
+
+impl<'a> Model for TagSearch<'a> {
+    ghost Value = { TagSought };
+
+    ghost view = { λ s. record { tag = s.tag; text = s.text.now } };
+
+    ghost invariant = { λ s. SeeksElements (record { tag = s.tag; text = s.text.now }) s.tokens s.closers };
+}
+
+/// The element with an opening of `len` bytes that ends before `start`.
+fn element_to<'a>(
+    text: &'a [u8],
+    closers: &mut FirstSearch<'a>,
+    value: Option<&'a [u8]>,
+    len: usize,
+    start: usize,
+) -> Option<TagAt<'a>>
+    requires inside { start ≤ length text.now }
+    requires within { len ≤ start }
+    requires seeks { closers.old.text ≡ text.now }
+    ensures element { option_map tag_seen result ≡ element_to (option_map (λ w. w.now) value.entry) len (drop start text.now) (first_of closers.old.token (drop start text.now)) }
+    ensures same { closers.new ≡ closers.old }
+{
+    let at = closers.first_in(start, text.len())?;
+    let contents = &text[start..start + at];
+    if is_blank_text(contents) {
+        return None;
+    }
+    Some(TagAt {
+        value,
+        contents,
+        size: len + at,
+    })
+}
+
+impl<'a> TagSearch<'a> {
+    /// Has searched nothing yet.
+    pub(crate) fn new(tag: Tag, text: &'a [u8]) -> TagSearch<'a>
+        ensures { result ≡ record { tag = tag; text = text.now } }
+    {
+        TagSearch {
+            tag,
+            text,
+            tokens: FirstSearch::new(text, token_of(tag)),
+            closers: FirstSearch::new(text, closer_of(tag)),
+        }
+    }
+
+    /// The element that opens at `place`, where the first token of the tag in the part `text[from..to]` stands there
+    /// and its opening ends in the part. None where no closing tag follows in the text, or nothing but blanks before
+    /// it.
+    pub(crate) fn tag_at(&mut self, from: usize, place: usize, to: usize) -> Option<TagAt<'a>>
+        requires order { from ≤ place }
+        requires inside { place < to }
+        requires ends { to ≤ length self.old.text }
+        ensures block { option_map tag_seen result ≡ tag_block self.old.tag (take (to - from) (drop from self.old.text)) (place - from) (drop place self.old.text) }
+        ensures same { self.new ≡ self.old }
+    {
+        if !self.text[place..to].starts_with(token_of(self.tag)) {
+            return None;
+        }
+        if !is_at(self.tokens.first_in(from, to), place - from) {
+            return None;
+        }
+        let part = &self.text[from..to];
+        let opening = opening_at(self.tag, part, place - from)?;
+        let value = bytes_of(part, opening.value);
+        let len = opening.whole.stop - (place - from);
+        element_to(self.text, &mut self.closers, value, len, place + len)
+    }
+
+    /// The first place from `at` on at which an element with the tag can open in the part `text[start..to]`: the tag's
+    /// first token. `to` where there is none, or where that one stands before `at`.
+    pub(crate) fn next_tag(&mut self, start: usize, at: usize, to: usize) -> usize
+        requires order { start ≤ at }
+        requires inside { at ≤ to }
+        requires ends { to ≤ length self.old.text }
+        ensures low { at ≤ result }
+        ensures high { result ≤ to }
+        ensures none { (p : ℕ) → at ≤ p → p < result → tag_block self.old.tag (take (to - start) (drop start self.old.text)) (p - start) (drop p self.old.text) ≡ None }
+        ensures exact { result < to → is_at (result - start) (first_of (token_of self.old.tag) (take (to - start) (drop start self.old.text))) ≡ true }
+        ensures same { self.new ≡ self.old }
+    {
+        next_of(self.tokens.first_in(start, to), start, at, to)
+    }
+}
