@@ -24,7 +24,7 @@ pub occurs_in : (t token : List ℕ) (p m j : ℕ) → OccursAt t token (p + j) 
 occurs_in t token p m j o l n =
     record { fits = omega (arith, l, part_length t p m n); reads = λ i h. get_or-take m (drop p t) (j + i) 0 (omega (arith, h, l)) ∙ get_or-drop p t (j + i) 0 ∙ ap (λ k. get_or t k 0) (sum_assoc p j i) ∙ o.reads i h }
 
-place_at : (t token : List ℕ) (k p : ℕ) → p ≤ k → OccursAt t token k → OccursAt t token (p + (k - p))
+pub place_at : (t token : List ℕ) (k p : ℕ) → p ≤ k → OccursAt t token k → OccursAt t token (p + (k - p))
 place_at t token k p l o = let e : k ≡ p + (k - p) = omega arith in subst (OccursAt t token) e o
 
 -- the remembered place is the first one in a part that begins up to it and in which it ends

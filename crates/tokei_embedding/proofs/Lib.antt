@@ -2,6 +2,7 @@ pub mod BlockLaws
 pub mod DocLaws
 pub mod FenceBlocks
 pub mod FirstPlaces
+pub mod LastPlaces
 pub mod Lines
 pub mod Marks
 pub mod Newlines

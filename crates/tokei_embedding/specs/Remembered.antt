@@ -1,5 +1,5 @@
 -- What the searches for a token remember of a text.
-use Rattle.std.specs.Prelude.{ℕ, ◌+◌, ◌-◌, ◌<◌, ◌≤◌, List, length}
+use Rattle.std.specs.Prelude.{ℕ, ◌+◌, ◌-◌, ◌<◌, ◌≤◌, List, length, Option, None, Some}
 use Rattle.memchr.specs.Find.{OccursAt}
 
 -- A text, and the token that is sought in it.
@@ -16,3 +16,19 @@ pub record IsFirstPlace (s : Sought) (from place : ℕ) : Type 0 where
   pub some : 0 < length s.token
   pub none : StandsNowhere s from place
   pub stands : from ≤ place → place < length s.text → OccursAt s.text s.token place
+
+-- The token stands in the text at no place from the first one on at which it would end by the other.
+abbrev pub EndsNowhere : Sought → ℕ → ℕ → Type 0
+EndsNowhere s from to = (k : ℕ) → from ≤ k → k + length s.token ≤ to → ¬ OccursAt s.text s.token k
+
+-- The token stands at the place, ends by another, and does so at no later place.
+pub record StandsLast (s : Sought) (from to place : ℕ) : Type 0 where
+  pub order : from ≤ place
+  pub ends : place + length s.token ≤ to
+  pub stands : OccursAt s.text s.token place
+  pub none : EndsNowhere s (place + 1) to
+
+-- The token's last place in the text from one place to another.
+abbrev pub IsLastPlace : Sought → ℕ → ℕ → Option ℕ → Type 0
+IsLastPlace s from to None = EndsNowhere s from to
+IsLastPlace s from to (Some place) = StandsLast s from to place

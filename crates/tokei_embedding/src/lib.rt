@@ -10,6 +10,7 @@ mod fences;
 mod first_search;
 mod html_like;
 pub mod laws;
+mod last_search;
 mod next_openings;
 mod openings;
 mod searches;
