@@ -10,5 +10,6 @@ pub mod NextDocs
 pub mod Openers
 pub mod Places
 pub mod SolidFences
+pub mod TagOpenings
 pub mod TagPlaces
 pub mod TargetPlaces

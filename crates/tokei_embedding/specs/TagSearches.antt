@@ -1,7 +1,7 @@
 -- What the searches for the elements of a text remember.
-use Rattle.std.specs.Prelude.{◌≡◌, ℕ, List}
+use Rattle.std.specs.Prelude.{◌≡◌, ℕ, List, codes}
 use Rattle.tokei_embedding.specs.Remembered.{Sought}
-use Rattle.tokei_embedding.specs.Tags.{token_of, closer_of}
+use Rattle.tokei_embedding.specs.Tags.{token_of, closer_of, attribute_of}
 use Rattle.tokei_embedding.specs.declared.tags.Tag.{Tag}
 use Rattle.tokei_embedding.specs.declared.tags.Tag.TheVariants.{Script, Style, Template}
 
@@ -14,10 +14,18 @@ pub record TagSought : Type 0 where
 abbrev pub sought : List ℕ → List ℕ → Sought
 sought text token = record { text = text; token = token }
 
--- The parts of the tag's elements are sought in the same text.
-pub record SeeksElements (s : TagSought) (tokens closers : Sought) : Type 0 where
-  pub opens : tokens ≡ sought s.text (token_of s.tag)
-  pub closes : closers ≡ sought s.text (closer_of s.tag)
+-- The last `>` and quote marks, the tag's attributes and the first `>` are sought in the same text.
+pub record SeeksOpenings (s : TagSought) (last_ends quotes attributes ends : Sought) : Type 0 where
+  pub last : last_ends ≡ sought s.text (codes ">")
+  pub quoted : quotes ≡ sought s.text (codes "\"")
+  pub valued : attributes ≡ sought s.text (attribute_of s.tag)
+  pub first : ends ≡ sought s.text (codes ">")
+
+-- So are the tag's tokens, openings and closing tags.
+pub record SeeksElements (s : TagSought) (tokens : Sought) (openings : TagSought) (closers : Sought) : Type 0 where
+  pub begun : tokens ≡ sought s.text (token_of s.tag)
+  pub opened : openings ≡ s
+  pub closed : closers ≡ sought s.text (closer_of s.tag)
 
 -- The elements of each tag are sought in the text.
 pub record SeeksTags (text : List ℕ) (script style template : TagSought) : Type 0 where

@@ -12,6 +12,7 @@ mod html_like;
 pub mod laws;
 mod last_search;
 mod next_openings;
+mod opening_search;
 mod openings;
 mod searches;
 mod spans;

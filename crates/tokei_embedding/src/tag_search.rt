@@ -8,9 +8,10 @@ ghost use Rattle.tokei_embedding.specs.Tags.{token_of, closer_of, element_to, ta
 
 use crate::first_search::FirstSearch;
 use crate::next_openings::next_of;
+use crate::opening_search::OpeningSearch;
 use crate::searches::is_at;
 use crate::spans::bytes_of;
-use crate::tags::{Tag, TagAt, closer_of, opening_at, token_of};
+use crate::tags::{Tag, TagAt, closer_of, token_of};
 use std::marker::Model;
 use tokei_table::ext::is_blank_text;
 
@@ -20,6 +21,7 @@ pub(crate) struct TagSearch<'a> {
     tag: Tag,
     text: &'a [u8],
     tokens: FirstSearch<'a>,
+    openings: OpeningSearch<'a>,
     closers: FirstSearch<'a>,
 }
 
@@ -28,7 +30,7 @@ impl<'a> Model for TagSearch<'a> {
 
     ghost view = { λ s. record { tag = s.tag; text = s.text.now } };
 
-    ghost invariant = { λ s. SeeksElements (record { tag = s.tag; text = s.text.now }) s.tokens s.closers };
+    ghost invariant = { λ s. SeeksElements (record { tag = s.tag; text = s.text.now }) s.tokens s.openings s.closers };
 }
 
 /// The element with an opening of `len` bytes that ends before `start`.
@@ -66,6 +68,7 @@ impl<'a> TagSearch<'a> {
             tag,
             text,
             tokens: FirstSearch::new(text, token_of(tag)),
+            openings: OpeningSearch::new(tag, text),
             closers: FirstSearch::new(text, closer_of(tag)),
         }
     }
@@ -83,13 +86,13 @@ impl<'a> TagSearch<'a> {
         if !self.text[place..to].starts_with(token_of(self.tag)) {
             return None;
         }
-        if !is_at(self.tokens.first_in(from, to), place - from) {
+        let at = place - from;
+        if !is_at(self.tokens.first_in(from, to), at) {
             return None;
         }
-        let part = &self.text[from..to];
-        let opening = opening_at(self.tag, part, place - from)?;
-        let value = bytes_of(part, opening.value);
-        let len = opening.whole.stop - (place - from);
+        let opening = self.openings.opening_at(from, at, to)?;
+        let value = bytes_of(&self.text[from..to], opening.value);
+        let len = opening.whole.stop - at;
         element_to(self.text, &mut self.closers, value, len, place + len)
     }
 
