@@ -1,3 +1,4 @@
+pub mod BlankParts
 pub mod BlockLaws
 pub mod DocLaws
 pub mod FenceBlocks

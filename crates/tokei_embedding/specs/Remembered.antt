@@ -1,5 +1,6 @@
--- What the searches for a token remember of a text.
-use Rattle.std.specs.Prelude.{ℕ, ◌+◌, ◌-◌, ◌<◌, ◌≤◌, List, length, Option, None, Some}
+-- What searches remember of a text.
+use Rattle.std.specs.Prelude.{◌≡◌, ℕ, ◌+◌, ◌<◌, ◌≤◌, true, false, List, length, slice_index, Option, None, Some}
+use Rattle.tokei_table.specs.Bytes.{is_blank}
 use Rattle.memchr.specs.Find.{OccursAt}
 
 -- A text, and the token that is sought in it.
@@ -32,3 +33,9 @@ pub record StandsLast (s : Sought) (from to place : ℕ) : Type 0 where
 abbrev pub IsLastPlace : Sought → ℕ → ℕ → Option ℕ → Type 0
 IsLastPlace s from to None = EndsNowhere s from to
 IsLastPlace s from to (Some place) = StandsLast s from to place
+
+-- The first place from a place on of a byte that isn't blank, or the text's length. Of a place before that one nothing is
+-- said.
+pub record IsFirstSolid (text : List ℕ) (from place : ℕ) : Type 0 where
+  pub blank : (k : ℕ) → from ≤ k → k < place → is_blank (slice_index text k) ≡ true
+  pub solid : from ≤ place → place < length text → is_blank (slice_index text place) ≡ false

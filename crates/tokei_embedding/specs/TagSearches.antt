@@ -21,11 +21,12 @@ pub record SeeksOpenings (s : TagSought) (last_ends quotes attributes ends : Sou
   pub valued : attributes ≡ sought s.text (attribute_of s.tag)
   pub first : ends ≡ sought s.text (codes ">")
 
--- So are the tag's tokens, openings and closing tags.
-pub record SeeksElements (s : TagSought) (tokens : Sought) (openings : TagSought) (closers : Sought) : Type 0 where
+-- So are the tag's tokens, openings and closing tags, and blanks.
+pub record SeeksElements (s : TagSought) (tokens : Sought) (openings : TagSought) (closers : Sought) (blanks : List ℕ) : Type 0 where
   pub begun : tokens ≡ sought s.text (token_of s.tag)
   pub opened : openings ≡ s
   pub closed : closers ≡ sought s.text (closer_of s.tag)
+  pub blank : blanks ≡ s.text
 
 -- The elements of each tag are sought in the text.
 pub record SeeksTags (text : List ℕ) (script style template : TagSought) : Type 0 where

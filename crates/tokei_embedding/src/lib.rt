@@ -3,6 +3,7 @@
 //! A part is a range of a text's bytes, and every place counts bytes.
 #![tactic(auto)]
 
+mod blank_search;
 mod block_search;
 mod captures;
 mod doc_comments;

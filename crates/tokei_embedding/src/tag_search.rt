@@ -6,6 +6,7 @@ ghost use Rattle.tokei_embedding.specs.Seen.{tag_seen};
 ghost use Rattle.tokei_embedding.specs.TagSearches.{TagSought, SeeksElements, sought};
 ghost use Rattle.tokei_embedding.specs.Tags.{token_of, closer_of, element_to, tag_block};
 
+use crate::blank_search::BlankSearch;
 use crate::first_search::FirstSearch;
 use crate::next_openings::next_of;
 use crate::opening_search::OpeningSearch;
@@ -13,7 +14,6 @@ use crate::searches::is_at;
 use crate::spans::bytes_of;
 use crate::tags::{Tag, TagAt, closer_of, token_of};
 use std::marker::Model;
-use tokei_table::ext::is_blank_text;
 
 /// Finds the elements of one tag in one text, and remembers what each of its searches came to.
 #[derive(Drop)]
@@ -23,6 +23,7 @@ pub(crate) struct TagSearch<'a> {
     tokens: FirstSearch<'a>,
     openings: OpeningSearch<'a>,
     closers: FirstSearch<'a>,
+    blanks: BlankSearch<'a>,
 }
 
 impl<'a> Model for TagSearch<'a> {
@@ -30,33 +31,7 @@ impl<'a> Model for TagSearch<'a> {
 
     ghost view = { λ s. record { tag = s.tag; text = s.text.now } };
 
-    ghost invariant = { λ s. SeeksElements (record { tag = s.tag; text = s.text.now }) s.tokens s.openings s.closers };
-}
-
-/// The element with an opening of `len` bytes that ends before `start`.
-fn element_to<'a>(
-    text: &'a [u8],
-    closers: &mut FirstSearch<'a>,
-    value: Option<&'a [u8]>,
-    len: usize,
-    start: usize,
-) -> Option<TagAt<'a>>
-    requires inside { start ≤ length text.now }
-    requires within { len ≤ start }
-    requires seeks { closers.old.text ≡ text.now }
-    ensures element { option_map tag_seen result ≡ element_to (option_map (λ w. w.now) value.entry) len (drop start text.now) (first_of closers.old.token (drop start text.now)) }
-    ensures same { closers.new ≡ closers.old }
-{
-    let at = closers.first_in(start, text.len())?;
-    let contents = &text[start..start + at];
-    if is_blank_text(contents) {
-        return None;
-    }
-    Some(TagAt {
-        value,
-        contents,
-        size: len + at,
-    })
+    ghost invariant = { λ s. SeeksElements (record { tag = s.tag; text = s.text.now }) s.tokens s.openings s.closers s.blanks };
 }
 
 impl<'a> TagSearch<'a> {
@@ -70,6 +45,7 @@ impl<'a> TagSearch<'a> {
             tokens: FirstSearch::new(text, token_of(tag)),
             openings: OpeningSearch::new(tag, text),
             closers: FirstSearch::new(text, closer_of(tag)),
+            blanks: BlankSearch::new(text),
         }
     }
 
@@ -93,7 +69,30 @@ impl<'a> TagSearch<'a> {
         let opening = self.openings.opening_at(from, at, to)?;
         let value = bytes_of(&self.text[from..to], opening.value);
         let len = opening.whole.stop - at;
-        element_to(self.text, &mut self.closers, value, len, place + len)
+        self.element_to(value, len, place + len)
+    }
+
+    /// The element with an opening of `len` bytes that ends before `start`.
+    fn element_to(
+        &mut self,
+        value: Option<&'a [u8]>,
+        len: usize,
+        start: usize,
+    ) -> Option<TagAt<'a>>
+        requires within { len ≤ start }
+        requires inside { start ≤ length self.old.text }
+        ensures element { option_map tag_seen result ≡ element_to (option_map (λ w. w.now) value.entry) len (drop start self.old.text) (first_of (closer_of self.old.tag) (drop start self.old.text)) }
+        ensures same { self.new ≡ self.old }
+    {
+        let at = self.closers.first_in(start, self.text.len())?;
+        if self.blanks.is_blank_in(start, start + at) {
+            return None;
+        }
+        Some(TagAt {
+            value,
+            contents: &self.text[start..start + at],
+            size: len + at,
+        })
     }
 
     /// The first place from `at` on at which an element with the tag can open in the part `text[start..to]`: the tag's
