@@ -2,8 +2,10 @@ pub mod BlockLaws
 pub mod Captures
 pub mod DocComments
 pub mod Fences
+pub mod Remembered
 pub mod Searches
 pub mod Seen
 pub mod Spans
+pub mod TagSearches
 pub mod Tags
 pub mod TargetBlocks

@@ -3,18 +3,25 @@
 //! A part is a range of a text's bytes, and every place counts bytes.
 #![tactic(auto)]
 
+mod blank_search;
+mod block_search;
 mod captures;
 mod doc_comments;
 mod fences;
+mod first_search;
 mod html_like;
 pub mod laws;
+mod last_search;
 mod next_openings;
+mod opening_search;
 mod openings;
 mod searches;
 mod spans;
+mod tag_search;
 mod tags;
 mod target_blocks;
 
+pub use block_search::BlockSearch;
 pub use captures::{Capture, SimpleCapture};
 pub use doc_comments::{doc_at, doc_text};
 pub use fences::{FenceAt, fence_at};

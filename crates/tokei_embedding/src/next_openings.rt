@@ -15,7 +15,7 @@ use tokei_table::ext::is_whitespace;
 
 /// The place in the text of what was found in the part that begins at `start`, where it stands at `at` or behind it;
 /// else `to`.
-fn next_of(found: Option<usize>, start: usize, at: usize, to: usize) -> usize
+pub(crate) fn next_of(found: Option<usize>, start: usize, at: usize, to: usize) -> usize
     requires order { start ≤ at }
     requires inside { at ≤ to }
     requires within { IfSome found (λ i. start + i < to) }

@@ -8,9 +8,9 @@ use crate::searches::{first_of, is_at, last_of};
 use crate::spans::{Span, bytes_of, shifted};
 use tokei_table::ext::is_blank_text;
 
-const QUOTE: &[u8] = b"\"";
+pub(crate) const QUOTE: &[u8] = b"\"";
 
-const TAG_END: &[u8] = b">";
+pub(crate) const TAG_END: &[u8] = b">";
 
 /// The elements whose contents are in a language of their own.
 #[derive(Clone, Copy)]
@@ -64,7 +64,7 @@ pub(crate) fn closer_of(tag: Tag) -> &'static [u8]
 }
 
 /// What stands before the value that names the language.
-fn attribute_of(tag: Tag) -> &'static [u8]
+pub(crate) fn attribute_of(tag: Tag) -> &'static [u8]
     ensures value { result.now ≡ attribute_of tag }
     ensures some { 0 < length result.now }
 {
@@ -90,7 +90,7 @@ fn value_in(attribute: &[u8], inside: &[u8]) -> Option<Span>
 }
 
 /// The place behind the value, or the front without one.
-fn value_end(value: Option<Span>) -> usize
+pub(crate) fn value_end(value: Option<Span>) -> usize
     ensures { result ≡ value_end (option_map span_seen value) }
 {
     match value {

@@ -1,0 +1,41 @@
+-- What searches remember of a text.
+use Rattle.std.specs.Prelude.{◌≡◌, ℕ, ◌+◌, ◌<◌, ◌≤◌, true, false, List, length, slice_index, Option, None, Some}
+use Rattle.tokei_table.specs.Bytes.{is_blank}
+use Rattle.memchr.specs.Find.{OccursAt}
+
+-- A text, and the token that is sought in it.
+pub record Sought : Type 0 where
+  pub text : List ℕ
+  pub token : List ℕ
+
+-- The token stands in the text at no place from the first one to before the other.
+abbrev pub StandsNowhere : Sought → ℕ → ℕ → Type 0
+StandsNowhere s from place = (k : ℕ) → from ≤ k → k < place → ¬ OccursAt s.text s.token k
+
+-- The token's first place from a place on, or the text's length. Of a place before that one nothing is said.
+pub record IsFirstPlace (s : Sought) (from place : ℕ) : Type 0 where
+  pub some : 0 < length s.token
+  pub none : StandsNowhere s from place
+  pub stands : from ≤ place → place < length s.text → OccursAt s.text s.token place
+
+-- The token stands in the text at no place from the first one on at which it would end by the other.
+abbrev pub EndsNowhere : Sought → ℕ → ℕ → Type 0
+EndsNowhere s from to = (k : ℕ) → from ≤ k → k + length s.token ≤ to → ¬ OccursAt s.text s.token k
+
+-- The token stands at the place, ends by another, and does so at no later place.
+pub record StandsLast (s : Sought) (from to place : ℕ) : Type 0 where
+  pub order : from ≤ place
+  pub ends : place + length s.token ≤ to
+  pub stands : OccursAt s.text s.token place
+  pub none : EndsNowhere s (place + 1) to
+
+-- The token's last place in the text from one place to another.
+abbrev pub IsLastPlace : Sought → ℕ → ℕ → Option ℕ → Type 0
+IsLastPlace s from to None = EndsNowhere s from to
+IsLastPlace s from to (Some place) = StandsLast s from to place
+
+-- The first place from a place on of a byte that isn't blank, or the text's length. Of a place before that one nothing is
+-- said.
+pub record IsFirstSolid (text : List ℕ) (from place : ℕ) : Type 0 where
+  pub blank : (k : ℕ) → from ≤ k → k < place → is_blank (slice_index text k) ≡ true
+  pub solid : from ≤ place → place < length text → is_blank (slice_index text place) ≡ false
