@@ -17,8 +17,7 @@ ghost use Rattle.tokei_count.specs.Seen.{block_of};
 use crate::line_ends::line_stop;
 use crate::reading::Reading;
 use tokei_embedding::{
-    Tag, doc_at, fence_at, next_doc, next_fence, next_tag, next_target, tag_at, target_at,
-    target_of,
+    BlockSearch, Tag, doc_at, fence_at, next_doc, next_fence, next_target, target_at,
 };
 use tokei_stats::Sums;
 use tokei_table::ext::{trim, trim_first_and_last_line_of_whitespace};
@@ -169,6 +168,7 @@ fn element_language(
 /// The child that an element with the tag opens at the place `at` of the part `text[start..to]`.
 fn element_at<'a>(
     reading: &Reading<'a>,
+    search: &mut BlockSearch<'a>,
     tag: Tag,
     start: usize,
     at: usize,
@@ -177,9 +177,11 @@ fn element_at<'a>(
     requires order { start ≤ at }
     requires inside { at < to }
     requires ends { to ≤ length reading.now.text.now }
-    ensures { option_map block_of result ≡ element_at reading.now.table.now reading.now.language tag (take (to - start) (drop start reading.now.text.now)) (at - start) (drop at reading.now.text.now) }
+    requires searched { search.old ≡ reading.now.text.now }
+    ensures same { search.new ≡ search.old }
+    ensures block { option_map block_of result ≡ element_at reading.now.table.now reading.now.language tag (take (to - start) (drop start reading.now.text.now)) (at - start) (drop at reading.now.text.now) }
 {
-    let element = tag_at(tag, reading.text, start, at, to)?;
+    let element = search.tag_at(tag, start, at, to)?;
     Some(Block {
         language: element_language(reading.table, reading.language, tag, element.value),
         contents: trim_first_and_last_line_of_whitespace(element.contents),
@@ -191,19 +193,27 @@ fn element_at<'a>(
 }
 
 /// The child that an element opens at the place `at` of the part `text[start..to]`.
-fn html_block<'a>(reading: &Reading<'a>, start: usize, at: usize, to: usize) -> Option<Block<'a>>
+fn html_block<'a>(
+    reading: &Reading<'a>,
+    search: &mut BlockSearch<'a>,
+    start: usize,
+    at: usize,
+    to: usize,
+) -> Option<Block<'a>>
     requires order { start ≤ at }
     requires inside { at < to }
     requires ends { to ≤ length reading.now.text.now }
-    ensures { option_map block_of result ≡ html_block reading.now.table.now reading.now.language (take (to - start) (drop start reading.now.text.now)) (at - start) (drop at reading.now.text.now) }
+    requires searched { search.old ≡ reading.now.text.now }
+    ensures same { search.new ≡ search.old }
+    ensures block { option_map block_of result ≡ html_block reading.now.table.now reading.now.language (take (to - start) (drop start reading.now.text.now)) (at - start) (drop at reading.now.text.now) }
 {
-    if let Some(block) = element_at(reading, Tag::Script, start, at, to) {
+    if let Some(block) = element_at(reading, search, Tag::Script, start, at, to) {
         return Some(block);
     }
-    if let Some(block) = element_at(reading, Tag::Style, start, at, to) {
+    if let Some(block) = element_at(reading, search, Tag::Style, start, at, to) {
         return Some(block);
     }
-    element_at(reading, Tag::Template, start, at, to)
+    element_at(reading, search, Tag::Template, start, at, to)
 }
 
 /// The child that a doc comment opens at the place.
@@ -244,15 +254,23 @@ fn target_language(
 }
 
 /// The child that a block of the target language opens at the place `at` of the part `text[start..to]`.
-fn franca_block<'a>(reading: &Reading<'a>, start: usize, at: usize, to: usize) -> Option<Block<'a>>
+fn franca_block<'a>(
+    reading: &Reading<'a>,
+    search: &mut BlockSearch<'a>,
+    start: usize,
+    at: usize,
+    to: usize,
+) -> Option<Block<'a>>
     requires order { start ≤ at }
     requires inside { at < to }
     requires ends { to ≤ length reading.now.text.now }
-    ensures { option_map block_of result ≡ franca_block reading.now.table.now reading.now.language reading.now.text.now (take (to - start) (drop start reading.now.text.now)) (at - start) (drop at reading.now.text.now) }
+    requires searched { search.old ≡ reading.now.text.now }
+    ensures same { search.new ≡ search.old }
+    ensures block { option_map block_of result ≡ franca_block reading.now.table.now reading.now.language reading.now.text.now (take (to - start) (drop start reading.now.text.now)) (at - start) (drop at reading.now.text.now) }
 {
     let block = target_at(reading.text, start, at, to)?;
     Some(Block {
-        language: target_language(reading.table, reading.language, target_of(reading.text)),
+        language: target_language(reading.table, reading.language, search.target()),
         contents: trim_first_and_last_line_of_whitespace(block.contents),
         is_doc: false,
         size: block.size,
@@ -262,16 +280,17 @@ fn franca_block<'a>(reading: &Reading<'a>, start: usize, at: usize, to: usize) -
 }
 
 /// Where the next element can open at the place `at` or behind it, in the part `text[start..to]`, or the part's end.
-fn next_element(text: &[u8], start: usize, at: usize, to: usize) -> usize
+fn next_element(search: &mut BlockSearch, start: usize, at: usize, to: usize) -> usize
     requires order { start ≤ at }
     requires inside { at ≤ to }
-    requires ends { to ≤ length text.now }
+    requires ends { to ≤ length search.old }
     ensures high { result ≤ to }
-    ensures none { (tag : Tag) → (p : ℕ) → at ≤ p → p < result → tag_block tag (take (to - start) (drop start text.now)) (p - start) (drop p text.now) ≡ None }
+    ensures none { (tag : Tag) → (p : ℕ) → at ≤ p → p < result → tag_block tag (take (to - start) (drop start search.old)) (p - start) (drop p search.old) ≡ None }
+    ensures same { search.new ≡ search.old }
 {
-    let script = next_tag(Tag::Script, text, start, at, to);
-    let style = next_tag(Tag::Style, text, start, at, to);
-    let template = next_tag(Tag::Template, text, start, at, to);
+    let script = search.next_tag(Tag::Script, start, at, to);
+    let style = search.next_tag(Tag::Style, start, at, to);
+    let template = search.next_tag(Tag::Template, start, at, to);
     script.min(style).min(template)
 }
 
@@ -279,8 +298,9 @@ fn next_element(text: &[u8], start: usize, at: usize, to: usize) -> usize
 /// behind the last child. `child` is such an answer for an earlier place of the part, or that place: while it lies ahead,
 /// or where nothing is to be skipped, nothing is searched anew.
 #[inline(always)]
-pub(crate) fn next_child(
-    reading: &Reading,
+pub(crate) fn next_child<'a>(
+    reading: &Reading<'a>,
+    search: &mut BlockSearch<'a>,
     skips: bool,
     left: usize,
     start: usize,
@@ -293,7 +313,9 @@ pub(crate) fn next_child(
     requires inside { at < to }
     requires line { to ≡ at + length (first_line (drop at reading.now.text.now)) }
     requires childless { (p : ℕ) → at ≤ p → p < child → blocks_of reading.now left (drop p reading.now.text.now) ≡ None }
-    ensures { (p : ℕ) → at ≤ p → p < result → blocks_of reading.now left (drop p reading.now.text.now) ≡ None }
+    requires searched { search.old ≡ reading.now.text.now }
+    ensures same { search.new ≡ search.old }
+    ensures childless { (p : ℕ) → at ≤ p → p < result → blocks_of reading.now left (drop p reading.now.text.now) ≡ None }
 {
     if at < child || !skips {
         return child;
@@ -304,7 +326,7 @@ pub(crate) fn next_child(
     match Family::of_key(reading.syntax().key.as_str()) {
         Family::Plain | Family::Jupyter => to,
         Family::Markdown => next_fence(reading.text, start, at, to),
-        Family::HtmlLike => next_element(reading.text, start, at, to),
+        Family::HtmlLike => next_element(search, start, at, to),
         Family::Rust => next_doc(reading.text, at, to),
         Family::LinguaFranca => next_target(reading.text, start, at, to),
     }
@@ -314,6 +336,7 @@ pub(crate) fn next_child(
 /// child and the line goes to `end`, before its newline.
 pub(crate) fn block_at<'a>(
     reading: &Reading<'a>,
+    search: &mut BlockSearch<'a>,
     left: usize,
     start: usize,
     at: usize,
@@ -323,7 +346,9 @@ pub(crate) fn block_at<'a>(
     requires part { IsPart reading.now.text.now left start at }
     requires line { end ≡ at + line_len (drop at reading.now.text.now) }
     requires some { at < end }
-    ensures { option_map block_of result ≡ blocks_of reading.now left (drop at reading.now.text.now) }
+    requires searched { search.old ≡ reading.now.text.now }
+    ensures same { search.new ≡ search.old }
+    ensures block { option_map block_of result ≡ blocks_of reading.now left (drop at reading.now.text.now) }
 {
     if reading.levels == 0 {
         return None;
@@ -332,8 +357,8 @@ pub(crate) fn block_at<'a>(
     match Family::of_key(reading.syntax().key.as_str()) {
         Family::Plain | Family::Jupyter => None,
         Family::Markdown => markdown_block(reading, start, at, to),
-        Family::HtmlLike => html_block(reading, start, at, to),
+        Family::HtmlLike => html_block(reading, search, start, at, to),
         Family::Rust => rust_block(reading, at),
-        Family::LinguaFranca => franca_block(reading, start, at, to),
+        Family::LinguaFranca => franca_block(reading, search, start, at, to),
     }
 }

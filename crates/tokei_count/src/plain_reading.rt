@@ -28,7 +28,7 @@ use crate::reading::Reading;
 use crate::walk::{PartEnd, read_part};
 use std::alloc::{AllocError, Global};
 use std::collections::BTreeMap;
-use tokei_embedding::doc_text;
+use tokei_embedding::{BlockSearch, doc_text};
 use tokei_notebook::cells;
 use tokei_stats::{CodeStats, CountError, Sums, add_blob};
 use tokei_table::ext::trim;
@@ -63,6 +63,7 @@ fn is_notebook(syntax: &Syntax) -> bool
 /// where `left` bytes were left behind the last child.
 fn child_at<'a>(
     reading: &Reading<'a>,
+    search: &mut BlockSearch<'a>,
     left: usize,
     start: usize,
     at: usize,
@@ -73,9 +74,11 @@ fn child_at<'a>(
     requires opens { is_some (blocks_of reading.now left (drop at reading.now.text.now)) ≡ true }
     requires line { end ≡ at + line_len (drop at reading.now.text.now) }
     requires inside { at < end }
-    ensures { blocks_of reading.now left (drop at reading.now.text.now) ≡ Some (block_of result) }
+    requires searched { search.old ≡ reading.now.text.now }
+    ensures same { search.new ≡ search.old }
+    ensures child { blocks_of reading.now left (drop at reading.now.text.now) ≡ Some (block_of result) }
 {
-    match block_at(reading, left, start, at, end) {
+    match block_at(reading, search, left, start, at, end) {
         Some(block) => block,
         None => unreachable!(),
     }
@@ -163,12 +166,12 @@ fn read_notebook(
 /// that begin plain and hold no opener are decided at a glance, by the matchers of the table's languages, or walked as
 /// the others are. Its children are read with one level less.
 #[cycle(read_text)]
-pub(crate) fn read_text(
+pub(crate) fn read_text<'a>(
     alloc: Global,
-    table: &LanguageTable,
+    table: &'a LanguageTable,
     matchers: &[SharedMatchers],
     language: LanguageType,
-    text: &[u8],
+    text: &'a [u8],
     docs: bool,
     levels: u32,
     skips: bool,
@@ -192,6 +195,7 @@ pub(crate) fn read_text(
         docs,
         levels,
     };
+    let mut search = BlockSearch::new(text);
     let mut stack = Vec::new(alloc);
     let mut own = Sums::new();
     let mut blobs = BTreeMap::new(alloc);
@@ -210,7 +214,7 @@ pub(crate) fn read_text(
             start = stop;
             continue;
         }
-        let part = read_part(&reading, own_matchers, skips, &mut stack, left, start, end)?;
+        let part = read_part(&reading, &mut search, own_matchers, skips, &mut stack, left, start, end)?;
         own_steps += part.steps;
         match part.end {
             PartEnd::Line(class, behind) => {
@@ -218,7 +222,7 @@ pub(crate) fn read_text(
                 start = behind;
             }
             PartEnd::Broken(at) => {
-                let child = child_at(&reading, left, start, at, end);
+                let child = child_at(&reading, &mut search, left, start, at, end);
                 own = own.plus(child.share())?;
                 let doc = said(alloc, &child)?;
                 let inner = if child.is_doc {

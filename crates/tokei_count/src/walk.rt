@@ -19,6 +19,7 @@ use crate::matchers::SharedMatchers;
 use crate::openings::{block_at, next_child};
 use crate::reading::Reading;
 use std::alloc::AllocError;
+use tokei_embedding::BlockSearch;
 
 /// What the choice at a place does.
 #[derive(Clone, Copy)]
@@ -58,14 +59,23 @@ fn innermost<'a>(stack: &[Enclosure<'a>]) -> Option<Enclosure<'a>>
 
 /// Whether a child can open at the place `at` of a part that began at `start`, whose line goes to `end`, before its
 /// newline; `left` bytes were left behind the last child.
-fn opens_at(reading: &Reading, left: usize, start: usize, at: usize, end: usize) -> bool
+fn opens_at<'a>(
+    reading: &Reading<'a>,
+    search: &mut BlockSearch<'a>,
+    left: usize,
+    start: usize,
+    at: usize,
+    end: usize,
+) -> bool
     requires known { reading.now.language < length reading.now.table.now }
     requires part { IsPart reading.now.text.now left start at }
     requires line { end ≡ at + line_len (drop at reading.now.text.now) }
     requires some { at < length reading.now.text.now }
-    ensures { result ≡ is_some (blocks_of reading.now left (drop at reading.now.text.now)) }
+    requires searched { search.old ≡ reading.now.text.now }
+    ensures same { search.new ≡ search.old }
+    ensures opens { result ≡ is_some (blocks_of reading.now left (drop at reading.now.text.now)) }
 {
-    at < end && block_at(reading, left, start, at, end).is_some()
+    at < end && block_at(reading, search, left, start, at, end).is_some()
 }
 
 /// Whether no choice but the byte itself and a child can begin at the byte, in that mode.
@@ -89,6 +99,7 @@ fn is_plain_byte(matchers: &SharedMatchers, mode: Option<Enclosure>, byte: u8) -
 #[inline(always)]
 fn choice_at<'a>(
     reading: &Reading<'a>,
+    search: &mut BlockSearch<'a>,
     matchers: &SharedMatchers,
     mode: Option<Enclosure<'a>>,
     left: usize,
@@ -106,6 +117,8 @@ fn choice_at<'a>(
     requires room { steps.old < length reading.now.text.now }
     requires matched { matchers.now ≡ matchers_of (row_in reading.now) }
     requires childless { at < child → mode_of mode ≡ None → blocks_of reading.now left (drop at reading.now.text.now) ≡ None }
+    requires searched { search.old ≡ reading.now.text.now }
+    ensures same { search.new ≡ search.old }
     ensures counted { steps.new ≡ steps.old + 1 }
     ensures child { result ≡ Choice.Child → is_some (blocks_of reading.now left (drop at reading.now.text.now)) ≡ true }
     ensures choice { choice_of (blocks_of reading.now left (drop at reading.now.text.now)) result ≡ choice (row_in reading.now) (mode_of mode.entry) (blocks_of reading.now left (drop at reading.now.text.now)) (drop at reading.now.text.now) }
@@ -114,7 +127,7 @@ fn choice_at<'a>(
     if at < child && is_plain_byte(matchers, mode, reading.text[at]) {
         return Choice::Byte;
     }
-    let opens = child <= at && opens_at(reading, left, start, at, end);
+    let opens = child <= at && opens_at(reading, search, left, start, at, end);
     choose(reading.syntax(), mode, opens, &reading.text[at..])
 }
 
@@ -124,6 +137,7 @@ fn choice_at<'a>(
 #[inline(always)]
 fn take_bytes<'a>(
     reading: &Reading<'a>,
+    search: &mut BlockSearch<'a>,
     matchers: &SharedMatchers,
     stack: &[Enclosure<'a>],
     left: usize,
@@ -141,6 +155,8 @@ fn take_bytes<'a>(
     requires few { steps.old ≤ at - start }
     requires matched { matchers.now ≡ matchers_of (row_in reading.now) }
     requires childless { (p : ℕ) → at ≤ p → p < child → innermost (chain_of stack.now) ≡ None → blocks_of reading.now left (drop p reading.now.text.now) ≡ None }
+    requires searched { search.old ≡ reading.now.text.now }
+    ensures same { search.new ≡ search.old }
     ensures low { at ≤ result }
     ensures high { result ≤ end }
     ensures counted { steps.new ≡ steps.old + (result - at) }
@@ -150,7 +166,7 @@ fn take_bytes<'a>(
     let last = end.min(child);
     let mut next = at;
     while next < last && is_plain_byte(matchers, mode, reading.text[next]) {
-        let _byte = choice_at(reading, matchers, mode, left, start, next, end, child, steps);
+        let _byte = choice_at(reading, search, matchers, mode, left, start, next, end, child, steps);
         next += 1;
     }
     next
@@ -160,6 +176,7 @@ fn take_bytes<'a>(
 #[inline(always)]
 fn take_choice<'a>(
     reading: &Reading<'a>,
+    search: &mut BlockSearch<'a>,
     matchers: &SharedMatchers,
     stack: &mut Vec<Enclosure<'a>>,
     left: usize,
@@ -178,11 +195,13 @@ fn take_choice<'a>(
     requires room { steps.old < length reading.now.text.now }
     requires matched { matchers.now ≡ matchers_of (row_in reading.now) }
     requires childless { at < child → innermost (chain_of stack.old.items) ≡ None → blocks_of reading.now left (drop at reading.now.text.now) ≡ None }
+    requires searched { search.old ≡ reading.now.text.now }
+    ensures same { search.new ≡ search.old }
     ensures counted { steps.new ≡ steps.old + 1 }
     ensures takes { IfOk result (λ s. Steps (row_in reading.now) (blocks_of reading.now) left (chain_of stack.old.items) (chain_of stack.new.items) reading.now.text.now at s) }
 {
     let mode = innermost(stack);
-    match choice_at(reading, matchers, mode, left, start, at, end, child, steps) {
+    match choice_at(reading, search, matchers, mode, left, start, at, end, child, steps) {
         Choice::Closer => match stack.pop() {
             Some(enclosure) => Ok(Step::On(enclosure.closer.len())),
             None => unreachable!(),
@@ -207,8 +226,9 @@ fn take_choice<'a>(
 /// From the place `at` to before the answer no child opens in plain text. In an item that is the rest of the part, and
 /// nothing is searched; else `child` becomes the part's next child, or stays where nothing is to be skipped.
 #[inline(always)]
-fn look_ahead(
-    reading: &Reading,
+fn look_ahead<'a>(
+    reading: &Reading<'a>,
+    search: &mut BlockSearch<'a>,
     skips: bool,
     stack: &[Enclosure],
     left: usize,
@@ -222,13 +242,15 @@ fn look_ahead(
     requires inside { at < to }
     requires line { to ≡ at + length (first_line (drop at reading.now.text.now)) }
     requires childless { (p : ℕ) → at ≤ p → p < child.old → blocks_of reading.now left (drop p reading.now.text.now) ≡ None }
+    requires searched { search.old ≡ reading.now.text.now }
+    ensures same { search.new ≡ search.old }
     ensures childless { (p : ℕ) → at ≤ p → p < child.new → blocks_of reading.now left (drop p reading.now.text.now) ≡ None }
     ensures ahead { (p : ℕ) → at ≤ p → p < result → innermost (chain_of stack.now) ≡ None → blocks_of reading.now left (drop p reading.now.text.now) ≡ None }
 {
     if skips && !stack.is_empty() {
         return to;
     }
-    *child = next_child(reading, skips, left, start, at, to, *child);
+    *child = next_child(reading, search, skips, left, start, at, to, *child);
     *child
 }
 
@@ -237,6 +259,7 @@ fn look_ahead(
 /// begin it looks no further.
 pub(crate) fn read_part<'a>(
     reading: &Reading<'a>,
+    search: &mut BlockSearch<'a>,
     matchers: &SharedMatchers,
     skips: bool,
     stack: &mut Vec<Enclosure<'a>>,
@@ -251,7 +274,9 @@ pub(crate) fn read_part<'a>(
     requires line { end ≡ start + line_len (drop start reading.now.text.now) }
     requires some { start < length reading.now.text.now }
     requires matched { matchers.now ≡ matchers_of (row_in reading.now) }
-    ensures { IfOk result (λ e. Reads (row_in reading.now) (blocks_of reading.now) left reading.now.docs (chain_of stack.old.items) (chain_of stack.new.items) start reading.now.text.now e) }
+    requires searched { search.old ≡ reading.now.text.now }
+    ensures same { search.new ≡ search.old }
+    ensures reads { IfOk result (λ e. Reads (row_in reading.now) (blocks_of reading.now) left reading.now.docs (chain_of stack.old.items) (chain_of stack.new.items) start reading.now.text.now e) }
 {
     let begun = innermost(stack);
     let stop = line_stop(reading.text, end);
@@ -259,16 +284,16 @@ pub(crate) fn read_part<'a>(
     let mut child = start;
     let mut at = start;
     while at < end {
-        let ahead = look_ahead(reading, skips, stack, left, start, at, stop, &mut child);
+        let ahead = look_ahead(reading, search, skips, stack, left, start, at, stop, &mut child);
         let behind = take_bytes(
-            reading, matchers, stack, left, start, at, end, ahead, &mut steps,
+            reading, search, matchers, stack, left, start, at, end, ahead, &mut steps,
         );
         if at < behind {
             at = behind;
             continue;
         }
         match take_choice(
-            reading, matchers, stack, left, start, at, end, ahead, &mut steps,
+            reading, search, matchers, stack, left, start, at, end, ahead, &mut steps,
         )? {
             Step::On(len) => at += len,
             Step::Rest => at = stop,
@@ -281,7 +306,7 @@ pub(crate) fn read_part<'a>(
     if at < stop {
         let mode = innermost(stack);
         let _newline = choice_at(
-            reading, matchers, mode, left, start, at, end, at, &mut steps,
+            reading, search, matchers, mode, left, start, at, end, at, &mut steps,
         );
     }
     let line = &reading.text[start..stop];

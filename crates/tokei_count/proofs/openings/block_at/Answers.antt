@@ -14,8 +14,8 @@ line_stop-to-requires c = end_within c.args.reading.now.text.now c.args.at c.arg
 pub markdown_block-requires-clause-inside : goal.markdown_block-requires-clause-inside
 markdown_block-requires-clause-inside c = end_behind c.args.reading.now.text.now c.args.at c.args.end c.line_stop-to.result c.requires.part.high c.requires.line c.requires.some c.line_stop-to.ensures.more c.line_stop-to.ensures.last
 
-pub returns-in-Markdown : goal.returns-in-Markdown
-returns-in-Markdown c =
+pub returns-in-Markdown-clause-block : goal.returns-in-Markdown-clause-block
+returns-in-Markdown-clause-block c =
     let line : c.line_stop-to.result ≡ c.args.at + length (first_line (drop c.args.at c.args.reading.now.text.now)) = end_is c.args.reading.now.text.now c.args.at c.args.end c.line_stop-to.result c.requires.part.high c.requires.line c.line_stop-to.ensures.more c.line_stop-to.ensures.last in
     let family : family_of (row_in c.args.reading.now).key ≡ Markdown = ap (λ (r : Row). family_of r.key) (sym c.syntax.ensures.row) ∙ ap family_of (sym c.as_str.ensures.value) ∙ sym c.of_key.ensures ∙ c.in-Markdown.is in
     c.markdown_block.ensures ∙ block_is c.args.reading.now.text.now c.args.left c.args.start c.args.at c.line_stop-to.result c.requires.part line c.args.reading.now.table.now c.args.reading.now.language c.args.reading.now.levels Markdown family c.if-reading-eq0.false
@@ -23,17 +23,17 @@ returns-in-Markdown c =
 pub html_block-requires-clause-inside : goal.html_block-requires-clause-inside
 html_block-requires-clause-inside c = end_behind c.args.reading.now.text.now c.args.at c.args.end c.line_stop-to.result c.requires.part.high c.requires.line c.requires.some c.line_stop-to.ensures.more c.line_stop-to.ensures.last
 
-pub returns-in-HtmlLike : goal.returns-in-HtmlLike
-returns-in-HtmlLike c =
+pub returns-in-HtmlLike-clause-block : goal.returns-in-HtmlLike-clause-block
+returns-in-HtmlLike-clause-block c =
     let line : c.line_stop-to.result ≡ c.args.at + length (first_line (drop c.args.at c.args.reading.now.text.now)) = end_is c.args.reading.now.text.now c.args.at c.args.end c.line_stop-to.result c.requires.part.high c.requires.line c.line_stop-to.ensures.more c.line_stop-to.ensures.last in
     let family : family_of (row_in c.args.reading.now).key ≡ HtmlLike = ap (λ (r : Row). family_of r.key) (sym c.syntax.ensures.row) ∙ ap family_of (sym c.as_str.ensures.value) ∙ sym c.of_key.ensures ∙ c.in-HtmlLike.is in
-    c.html_block.ensures ∙ block_is c.args.reading.now.text.now c.args.left c.args.start c.args.at c.line_stop-to.result c.requires.part line c.args.reading.now.table.now c.args.reading.now.language c.args.reading.now.levels HtmlLike family c.if-reading-eq0.false
+    c.html_block.ensures.block ∙ block_is c.args.reading.now.text.now c.args.left c.args.start c.args.at c.line_stop-to.result c.requires.part line c.args.reading.now.table.now c.args.reading.now.language c.args.reading.now.levels HtmlLike family c.if-reading-eq0.false
 
 pub franca_block-requires-clause-inside : goal.franca_block-requires-clause-inside
 franca_block-requires-clause-inside c = end_behind c.args.reading.now.text.now c.args.at c.args.end c.line_stop-to.result c.requires.part.high c.requires.line c.requires.some c.line_stop-to.ensures.more c.line_stop-to.ensures.last
 
-pub returns-in-LinguaFranca : goal.returns-in-LinguaFranca
-returns-in-LinguaFranca c =
+pub returns-in-LinguaFranca-clause-block : goal.returns-in-LinguaFranca-clause-block
+returns-in-LinguaFranca-clause-block c =
     let line : c.line_stop-to.result ≡ c.args.at + length (first_line (drop c.args.at c.args.reading.now.text.now)) = end_is c.args.reading.now.text.now c.args.at c.args.end c.line_stop-to.result c.requires.part.high c.requires.line c.line_stop-to.ensures.more c.line_stop-to.ensures.last in
     let family : family_of (row_in c.args.reading.now).key ≡ LinguaFranca = ap (λ (r : Row). family_of r.key) (sym c.syntax.ensures.row) ∙ ap family_of (sym c.as_str.ensures.value) ∙ sym c.of_key.ensures ∙ c.in-LinguaFranca.is in
-    c.franca_block.ensures ∙ block_is c.args.reading.now.text.now c.args.left c.args.start c.args.at c.line_stop-to.result c.requires.part line c.args.reading.now.table.now c.args.reading.now.language c.args.reading.now.levels LinguaFranca family c.if-reading-eq0.false
+    c.franca_block.ensures.block ∙ block_is c.args.reading.now.text.now c.args.left c.args.start c.args.at c.line_stop-to.result c.requires.part line c.args.reading.now.table.now c.args.reading.now.language c.args.reading.now.levels LinguaFranca family c.if-reading-eq0.false

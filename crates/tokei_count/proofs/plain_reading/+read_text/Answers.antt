@@ -50,7 +50,7 @@ pub read_text-returns-in_err-own-in-Line-clause-overflow : goal.read_text-return
 read_text-returns-in_err-own-in-Line-clause-overflow t c =
     let lines : is_notebook (row_at c.args.table.now c.args.language) ≡ false = ap is_notebook (sym c.syntax-syntax.ensures.row) ∙ sym c.is_notebook.ensures ∙ c.if-is_notebook.false in
     let way : IsUnderWay c.args.table.now c.args.docs c.args.levels c.args.language c.args.text.now (sums_of c.loop-start.own) (blobs_of (entries_of c.loop-start.blobs.entries)) c.loop-start.left (chain_of c.loop-start.stack.items) (drop c.loop-start.start c.args.text.now) = record { counts = c.loop-start.invariant.counts; kids = c.loop-start.invariant.kids } in
-    let r = subst (ReadsTo (row_at c.args.table.now c.args.language) (blocks (languages_of c.args.table.now) c.args.levels c.args.language c.args.text.now) c.loop-start.left c.args.docs (chain_of c.loop-start.stack.items) (chain_of c.read_part.new.stack.items) c.loop-start.start c.args.text.now c.in_ok-part.part.steps) c.in-Line.is c.in_ok-part.ensures in
+    let r = subst (ReadsTo (row_at c.args.table.now c.args.language) (blocks (languages_of c.args.table.now) c.args.levels c.args.language c.args.text.now) c.loop-start.left c.args.docs (chain_of c.loop-start.stack.items) (chain_of c.read_part.new.stack.items) c.loop-start.start c.args.text.now c.in_ok-part.part.steps) c.in-Line.is c.in_ok-part.ensures.reads in
     λ is fits. c.in_err-own-in-Line.ensures.past (subst (λ (m : Counts). CountsFit (plus (sums_of c.loop-start.own) m)) (sym c.counted_as-in-Line.ensures)
     (line_fits c.args.table.now c.args.docs c.args.levels c.args.language c.args.text.now (sums_of c.loop-start.own) (blobs_of (entries_of c.loop-start.blobs.entries)) c.loop-start.left (chain_of c.loop-start.stack.items) (drop c.loop-start.start c.args.text.now) way (c.in-Line.behind - c.loop-start.start) c.in-Line.class (chain_of c.read_part.new.stack.items) r.5 lines fits))
 
@@ -58,9 +58,9 @@ pub read_text-returns-in_err-own-in-Broken-clause-overflow : goal.read_text-retu
 read_text-returns-in_err-own-in-Broken-clause-overflow t c =
     let lines : is_notebook (row_at c.args.table.now c.args.language) ≡ false = ap is_notebook (sym c.syntax-syntax.ensures.row) ∙ sym c.is_notebook.ensures ∙ c.if-is_notebook.false in
     let way : IsUnderWay c.args.table.now c.args.docs c.args.levels c.args.language c.args.text.now (sums_of c.loop-start.own) (blobs_of (entries_of c.loop-start.blobs.entries)) c.loop-start.left (chain_of c.loop-start.stack.items) (drop c.loop-start.start c.args.text.now) = record { counts = c.loop-start.invariant.counts; kids = c.loop-start.invariant.kids } in
-    let r = subst (ReadsTo (row_at c.args.table.now c.args.language) (blocks (languages_of c.args.table.now) c.args.levels c.args.language c.args.text.now) c.loop-start.left c.args.docs (chain_of c.loop-start.stack.items) (chain_of c.read_part.new.stack.items) c.loop-start.start c.args.text.now c.in_ok-part.part.steps) c.in-Broken.is c.in_ok-part.ensures in
+    let r = subst (ReadsTo (row_at c.args.table.now c.args.language) (blocks (languages_of c.args.table.now) c.args.levels c.args.language c.args.text.now) c.loop-start.left c.args.docs (chain_of c.loop-start.stack.items) (chain_of c.read_part.new.stack.items) c.loop-start.start c.args.text.now c.in_ok-part.part.steps) c.in-Broken.is c.in_ok-part.ensures.reads in
     let k : Block = block_of c.child_at-child.result in
-    let opens : (blocks (languages_of c.args.table.now) c.args.levels c.args.language c.args.text.now) c.loop-start.left (drop c.in-Broken.at c.args.text.now) ≡ Some k = c.child_at-child.ensures in
+    let opens : (blocks (languages_of c.args.table.now) c.args.levels c.args.language c.args.text.now) c.loop-start.left (drop c.in-Broken.at c.args.text.now) ≡ Some k = c.child_at-child.ensures.child in
     let same : r.0 ≡ k = some_same r.0 k (sym r.3.opens ∙ opens) in
     let n : ℕ = c.in-Broken.at - c.loop-start.start in
     let reads : ReadsChild (row_at c.args.table.now c.args.language) (blocks (languages_of c.args.table.now) c.args.levels c.args.language c.args.text.now) c.loop-start.left c.args.docs (chain_of c.loop-start.stack.items) n r.1 k (chain_of c.read_part.new.stack.items) (drop c.loop-start.start c.args.text.now) = subst (λ (b : Block). ReadsChild (row_at c.args.table.now c.args.language) (blocks (languages_of c.args.table.now) c.args.levels c.args.language c.args.text.now) c.loop-start.left c.args.docs (chain_of c.loop-start.stack.items) n r.1 b (chain_of c.read_part.new.stack.items) (drop c.loop-start.start c.args.text.now)) same r.3.reads in
@@ -70,7 +70,7 @@ read_text-returns-in_err-own-in-Broken-clause-overflow t c =
 pub read_text-read_text-requires : goal.read_text-read_text-requires
 read_text-read_text-requires t c =
     let k : Block = block_of c.child_at-child.result in
-    let opens : (blocks (languages_of c.args.table.now) c.args.levels c.args.language c.args.text.now) c.loop-start.left (drop c.in-Broken.at c.args.text.now) ≡ Some k = c.child_at-child.ensures in
+    let opens : (blocks (languages_of c.args.table.now) c.args.levels c.args.language c.args.text.now) c.loop-start.left (drop c.in-Broken.at c.args.text.now) ≡ Some k = c.child_at-child.ensures.child in
     let some : 0 < c.args.levels = levels_left c.args.table.now c.args.levels c.args.language c.args.text.now c.loop-start.left (drop c.in-Broken.at c.args.text.now) k opens in
     (omega (arith, some, c.decreases), (blocks_known c.args.table.now c.args.language c.args.text.now c.requires.known c.args.levels c.loop-start.left (drop c.in-Broken.at c.args.text.now) k opens, c.requires.indexed))
 
@@ -78,9 +78,9 @@ pub read_text-returns-in_err-read-in-Broken-clause-overflow : goal.read_text-ret
 read_text-returns-in_err-read-in-Broken-clause-overflow t c =
     let lines : is_notebook (row_at c.args.table.now c.args.language) ≡ false = ap is_notebook (sym c.syntax-syntax.ensures.row) ∙ sym c.is_notebook.ensures ∙ c.if-is_notebook.false in
     let way : IsUnderWay c.args.table.now c.args.docs c.args.levels c.args.language c.args.text.now (sums_of c.loop-start.own) (blobs_of (entries_of c.loop-start.blobs.entries)) c.loop-start.left (chain_of c.loop-start.stack.items) (drop c.loop-start.start c.args.text.now) = record { counts = c.loop-start.invariant.counts; kids = c.loop-start.invariant.kids } in
-    let r = subst (ReadsTo (row_at c.args.table.now c.args.language) (blocks (languages_of c.args.table.now) c.args.levels c.args.language c.args.text.now) c.loop-start.left c.args.docs (chain_of c.loop-start.stack.items) (chain_of c.read_part.new.stack.items) c.loop-start.start c.args.text.now c.in_ok-part.part.steps) c.in-Broken.is c.in_ok-part.ensures in
+    let r = subst (ReadsTo (row_at c.args.table.now c.args.language) (blocks (languages_of c.args.table.now) c.args.levels c.args.language c.args.text.now) c.loop-start.left c.args.docs (chain_of c.loop-start.stack.items) (chain_of c.read_part.new.stack.items) c.loop-start.start c.args.text.now c.in_ok-part.part.steps) c.in-Broken.is c.in_ok-part.ensures.reads in
     let k : Block = block_of c.child_at-child.result in
-    let opens : (blocks (languages_of c.args.table.now) c.args.levels c.args.language c.args.text.now) c.loop-start.left (drop c.in-Broken.at c.args.text.now) ≡ Some k = c.child_at-child.ensures in
+    let opens : (blocks (languages_of c.args.table.now) c.args.levels c.args.language c.args.text.now) c.loop-start.left (drop c.in-Broken.at c.args.text.now) ≡ Some k = c.child_at-child.ensures.child in
     let same : r.0 ≡ k = some_same r.0 k (sym r.3.opens ∙ opens) in
     let n : ℕ = c.in-Broken.at - c.loop-start.start in
     let reads : ReadsChild (row_at c.args.table.now c.args.language) (blocks (languages_of c.args.table.now) c.args.levels c.args.language c.args.text.now) c.loop-start.left c.args.docs (chain_of c.loop-start.stack.items) n r.1 k (chain_of c.read_part.new.stack.items) (drop c.loop-start.start c.args.text.now) = subst (λ (b : Block). ReadsChild (row_at c.args.table.now c.args.language) (blocks (languages_of c.args.table.now) c.args.levels c.args.language c.args.text.now) c.loop-start.left c.args.docs (chain_of c.loop-start.stack.items) n r.1 b (chain_of c.read_part.new.stack.items) (drop c.loop-start.start c.args.text.now)) same r.3.reads in
@@ -98,9 +98,9 @@ pub read_text-returns-in_err-add_blob-in-Broken-clause-overflow : goal.read_text
 read_text-returns-in_err-add_blob-in-Broken-clause-overflow t c =
     let lines : is_notebook (row_at c.args.table.now c.args.language) ≡ false = ap is_notebook (sym c.syntax-syntax.ensures.row) ∙ sym c.is_notebook.ensures ∙ c.if-is_notebook.false in
     let way : IsUnderWay c.args.table.now c.args.docs c.args.levels c.args.language c.args.text.now (sums_of c.loop-start.own) (blobs_of (entries_of c.loop-start.blobs.entries)) c.loop-start.left (chain_of c.loop-start.stack.items) (drop c.loop-start.start c.args.text.now) = record { counts = c.loop-start.invariant.counts; kids = c.loop-start.invariant.kids } in
-    let r = subst (ReadsTo (row_at c.args.table.now c.args.language) (blocks (languages_of c.args.table.now) c.args.levels c.args.language c.args.text.now) c.loop-start.left c.args.docs (chain_of c.loop-start.stack.items) (chain_of c.read_part.new.stack.items) c.loop-start.start c.args.text.now c.in_ok-part.part.steps) c.in-Broken.is c.in_ok-part.ensures in
+    let r = subst (ReadsTo (row_at c.args.table.now c.args.language) (blocks (languages_of c.args.table.now) c.args.levels c.args.language c.args.text.now) c.loop-start.left c.args.docs (chain_of c.loop-start.stack.items) (chain_of c.read_part.new.stack.items) c.loop-start.start c.args.text.now c.in_ok-part.part.steps) c.in-Broken.is c.in_ok-part.ensures.reads in
     let k : Block = block_of c.child_at-child.result in
-    let opens : (blocks (languages_of c.args.table.now) c.args.levels c.args.language c.args.text.now) c.loop-start.left (drop c.in-Broken.at c.args.text.now) ≡ Some k = c.child_at-child.ensures in
+    let opens : (blocks (languages_of c.args.table.now) c.args.levels c.args.language c.args.text.now) c.loop-start.left (drop c.in-Broken.at c.args.text.now) ≡ Some k = c.child_at-child.ensures.child in
     let same : r.0 ≡ k = some_same r.0 k (sym r.3.opens ∙ opens) in
     let n : ℕ = c.in-Broken.at - c.loop-start.start in
     let reads : ReadsChild (row_at c.args.table.now c.args.language) (blocks (languages_of c.args.table.now) c.args.levels c.args.language c.args.text.now) c.loop-start.left c.args.docs (chain_of c.loop-start.stack.items) n r.1 k (chain_of c.read_part.new.stack.items) (drop c.loop-start.start c.args.text.now) = subst (λ (b : Block). ReadsChild (row_at c.args.table.now c.args.language) (blocks (languages_of c.args.table.now) c.args.levels c.args.language c.args.text.now) c.loop-start.left c.args.docs (chain_of c.loop-start.stack.items) n r.1 b (chain_of c.read_part.new.stack.items) (drop c.loop-start.start c.args.text.now)) same r.3.reads in
@@ -124,9 +124,9 @@ pub read_text-loop-start-preserved : goal.read_text-loop-start-preserved
 read_text-loop-start-preserved t c =
     let lines : is_notebook (row_at c.args.table.now c.args.language) ≡ false = ap is_notebook (sym c.syntax-syntax.ensures.row) ∙ sym c.is_notebook.ensures ∙ c.if-is_notebook.false in
     let way : IsUnderWay c.args.table.now c.args.docs c.args.levels c.args.language c.args.text.now (sums_of c.loop-start.own) (blobs_of (entries_of c.loop-start.blobs.entries)) c.loop-start.left (chain_of c.loop-start.stack.items) (drop c.loop-start.start c.args.text.now) = record { counts = c.loop-start.invariant.counts; kids = c.loop-start.invariant.kids } in
-    let r = subst (ReadsTo (row_at c.args.table.now c.args.language) (blocks (languages_of c.args.table.now) c.args.levels c.args.language c.args.text.now) c.loop-start.left c.args.docs (chain_of c.loop-start.stack.items) (chain_of c.read_part.new.stack.items) c.loop-start.start c.args.text.now c.in_ok-part.part.steps) c.in-Broken.is c.in_ok-part.ensures in
+    let r = subst (ReadsTo (row_at c.args.table.now c.args.language) (blocks (languages_of c.args.table.now) c.args.levels c.args.language c.args.text.now) c.loop-start.left c.args.docs (chain_of c.loop-start.stack.items) (chain_of c.read_part.new.stack.items) c.loop-start.start c.args.text.now c.in_ok-part.part.steps) c.in-Broken.is c.in_ok-part.ensures.reads in
     let k : Block = block_of c.child_at-child.result in
-    let opens : (blocks (languages_of c.args.table.now) c.args.levels c.args.language c.args.text.now) c.loop-start.left (drop c.in-Broken.at c.args.text.now) ≡ Some k = c.child_at-child.ensures in
+    let opens : (blocks (languages_of c.args.table.now) c.args.levels c.args.language c.args.text.now) c.loop-start.left (drop c.in-Broken.at c.args.text.now) ≡ Some k = c.child_at-child.ensures.child in
     let same : r.0 ≡ k = some_same r.0 k (sym r.3.opens ∙ opens) in
     let n : ℕ = c.in-Broken.at - c.loop-start.start in
     let reads : ReadsChild (row_at c.args.table.now c.args.language) (blocks (languages_of c.args.table.now) c.args.levels c.args.language c.args.text.now) c.loop-start.left c.args.docs (chain_of c.loop-start.stack.items) n r.1 k (chain_of c.read_part.new.stack.items) (drop c.loop-start.start c.args.text.now) = subst (λ (b : Block). ReadsChild (row_at c.args.table.now c.args.language) (blocks (languages_of c.args.table.now) c.args.levels c.args.language c.args.text.now) c.loop-start.left c.args.docs (chain_of c.loop-start.stack.items) n r.1 b (chain_of c.read_part.new.stack.items) (drop c.loop-start.start c.args.text.now)) same r.3.reads in
@@ -178,6 +178,7 @@ read_text-loop-start-preserved t c =
       part = λ more. part_behind c.args.text.now (c.in-Broken.at + k.size) within;
       counts = now5.counts;
       kids = now5.kids;
+      searched = c.child_at-child.ensures.same ∙ c.in_ok-part.ensures.same ∙ c.loop-start.invariant.searched;
       line = λ high. end_later c.args.text.now c.loop-start.start (c.in-Broken.at + k.size) c.line_end-end.result (omega (arith, r.3.part.low)) c.line_end-end.ensures high;
       known = knows_later os c.args.text.now c.loop-start.start (c.in-Broken.at + k.size) c.is_glanced.new.next (omega (arith, r.3.part.low)) known;
       few = omega (arith, c.loop-start.invariant.few, r.2, r.3.few, reads.some, r.3.part.low);
@@ -292,12 +293,12 @@ read_text-slice_bounds-class_by-start t c = omega (arith, (end_is c.args.text.no
 
 pub read_text-child_at-child-requires-clause-line : goal.read_text-child_at-child-requires-clause-line
 read_text-child_at-child-requires-clause-line t c =
-    let r = subst (ReadsTo (row_at c.args.table.now c.args.language) (blocks (languages_of c.args.table.now) c.args.levels c.args.language c.args.text.now) c.loop-start.left c.args.docs (chain_of c.loop-start.stack.items) (chain_of c.read_part.new.stack.items) c.loop-start.start c.args.text.now c.in_ok-part.part.steps) c.in-Broken.is c.in_ok-part.ensures in
+    let r = subst (ReadsTo (row_at c.args.table.now c.args.language) (blocks (languages_of c.args.table.now) c.args.levels c.args.language c.args.text.now) c.loop-start.left c.args.docs (chain_of c.loop-start.stack.items) (chain_of c.read_part.new.stack.items) c.loop-start.start c.args.text.now c.in_ok-part.part.steps) c.in-Broken.is c.in_ok-part.ensures.reads in
     end_later c.args.text.now c.loop-start.start c.in-Broken.at c.line_end-end.result r.3.part.low c.line_end-end.ensures (omega (arith, r.3.inside, c.line_end-end.ensures))
 
 pub read_text-child_at-child-requires-clause-inside : goal.read_text-child_at-child-requires-clause-inside
 read_text-child_at-child-requires-clause-inside t c =
-    let r = subst (ReadsTo (row_at c.args.table.now c.args.language) (blocks (languages_of c.args.table.now) c.args.levels c.args.language c.args.text.now) c.loop-start.left c.args.docs (chain_of c.loop-start.stack.items) (chain_of c.read_part.new.stack.items) c.loop-start.start c.args.text.now c.in_ok-part.part.steps) c.in-Broken.is c.in_ok-part.ensures in
+    let r = subst (ReadsTo (row_at c.args.table.now c.args.language) (blocks (languages_of c.args.table.now) c.args.levels c.args.language c.args.text.now) c.loop-start.left c.args.docs (chain_of c.loop-start.stack.items) (chain_of c.read_part.new.stack.items) c.loop-start.start c.args.text.now c.in_ok-part.part.steps) c.in-Broken.is c.in_ok-part.ensures.reads in
     omega (arith, r.3.inside, c.line_end-end.ensures)
 
 pub read_text-slice_bounds-class_by-end : goal.read_text-slice_bounds-class_by-end
@@ -358,6 +359,7 @@ read_text-loop-start-preserved-then-is_glanced t c =
       part = λ more. glance_part c.args.text.now c.loop-start.left c.loop-start.start c.line_stop-stop.result (c.loop-start.invariant.part c.loop-start-test.true) (end_is c.args.text.now c.loop-start.start c.line_end-end.result c.line_stop-stop.result (omega (arith, c.loop-start-test.true)) c.line_end-end.ensures c.line_stop-stop.ensures.more c.line_stop-stop.ensures.last) c.loop-start-test.true more;
       counts = went.counts;
       kids = went.kids;
+      searched = c.loop-start.invariant.searched;
       line = λ high. end_later c.args.text.now c.loop-start.start c.line_stop-stop.result c.line_end-end.result (omega (arith, place)) c.line_end-end.ensures high;
       known = knows_later os c.args.text.now c.loop-start.start c.line_stop-stop.result c.is_glanced.new.next (omega (arith, place)) (subst (λ o. Knows o c.args.text.now c.loop-start.start c.is_glanced.new.next) os_is c.is_glanced.ensures.known);
       few = omega (arith, c.loop-start.invariant.few, place);
@@ -428,7 +430,7 @@ read_text-loop-start-preserved-in-Line t c =
     ap (λ (d : Chain). is_walked os (innermost d) (first_line (drop c.loop-start.start c.args.text.now))) (sym (ap chain_of c.deref.ensures.value)) ∙ ap (λ o. is_walked o (innermost (chain_of c.deref.result.now)) (first_line (drop c.loop-start.start c.args.text.now))) (sym os_is) ∙ c.is_glanced.ensures.walked skipped c.if-is_glanced.false in
     let known : Knows os c.args.text.now c.loop-start.start c.is_glanced.new.next = subst (λ o. Knows o c.args.text.now c.loop-start.start c.is_glanced.new.next) os_is c.is_glanced.ensures.known in
     let way : IsUnderWay c.args.table.now c.args.docs c.args.levels c.args.language c.args.text.now (sums_of c.loop-start.own) (blobs_of (entries_of c.loop-start.blobs.entries)) c.loop-start.left (chain_of c.loop-start.stack.items) (drop c.loop-start.start c.args.text.now) = record { counts = c.loop-start.invariant.counts; kids = c.loop-start.invariant.kids } in
-    let r = subst (ReadsTo (row_at c.args.table.now c.args.language) (blocks (languages_of c.args.table.now) c.args.levels c.args.language c.args.text.now) c.loop-start.left c.args.docs (chain_of c.loop-start.stack.items) (chain_of c.read_part.new.stack.items) c.loop-start.start c.args.text.now c.in_ok-part.part.steps) c.in-Line.is c.in_ok-part.ensures in
+    let r = subst (ReadsTo (row_at c.args.table.now c.args.language) (blocks (languages_of c.args.table.now) c.args.levels c.args.language c.args.text.now) c.loop-start.left c.args.docs (chain_of c.loop-start.stack.items) (chain_of c.read_part.new.stack.items) c.loop-start.start c.args.text.now c.in_ok-part.part.steps) c.in-Line.is c.in_ok-part.ensures.reads in
     let n : ℕ = c.in-Line.behind - c.loop-start.start in
     let place : c.loop-start.start + n ≡ c.in-Line.behind = omega (arith, r.0) in
     let there : drop n (drop c.loop-start.start c.args.text.now) ≡ drop c.in-Line.behind c.args.text.now = drop-drop n c.loop-start.start c.args.text.now ∙ ap (λ m. drop m c.args.text.now) place in
@@ -447,6 +449,7 @@ read_text-loop-start-preserved-in-Line t c =
       part = r.2;
       counts = went.counts;
       kids = went.kids;
+      searched = c.in_ok-part.ensures.same ∙ c.loop-start.invariant.searched;
       line = λ high. end_later c.args.text.now c.loop-start.start (c.in-Line.behind) c.line_end-end.result (omega (arith, place)) c.line_end-end.ensures high;
       known = knows_later os c.args.text.now c.loop-start.start c.in-Line.behind c.is_glanced.new.next (omega (arith, place)) known;
       few = omega (arith, c.loop-start.invariant.few, place, r.3);

@@ -25,6 +25,7 @@ invariant-read_text-loop-start l = record {
       ≡ plus (counts_left (row_at l.table l.fn.language) (blocks (languages_of l.table) l.levels l.fn.language l.text) (length l.text) l.docs [] l.text) (shares (children_left (row_at l.table l.fn.language) (blocks (languages_of l.table) l.levels l.fn.language l.text) (length l.text) [] l.text));
   kids : gathered (child_reading (languages_of l.table) l.docs l.levels) (blobs_of (entries_of l.blobs.entries)) (children_left (row_at l.table l.fn.language) (blocks (languages_of l.table) l.levels l.fn.language l.text) l.left (chain_of l.stack.items) (drop l.start l.text))
       ≡ gathered (child_reading (languages_of l.table) l.docs l.levels) none (children_left (row_at l.table l.fn.language) (blocks (languages_of l.table) l.levels l.fn.language l.text) (length l.text) [] l.text);
+  searched : l.search ≡ l.text;
   line : l.start ≤ l.end → l.end ≡ l.start + line_len (drop l.start l.text);
   known : Knows (openers (row_at l.table l.fn.language)) l.text l.start l.next;
   few : l.own_steps ≤ l.start;

@@ -30,7 +30,7 @@ returns-clause-choice c =
     ap (λ r. choice r (mode_of c.args.mode) o (take (length text - c.args.at) u)) c.syntax.ensures.row
     ∙ ap (choice (row_in c.args.reading.now) (mode_of c.args.mode) o) (rest_is c.args.at text) in
     elim c.if-child-at.branch [
-      | then-child-at w ↦ c.choose.ensures.choice (blocks_of c.args.reading.now c.args.left u) (sym (w.opens-is ∙ w.opens_at-opens.ensures)) ∙ here (blocks_of c.args.reading.now c.args.left u)
+      | then-child-at w ↦ c.choose.ensures.choice (blocks_of c.args.reading.now c.args.left u) (sym (w.opens-is ∙ w.opens_at-opens.ensures.opens)) ∙ here (blocks_of c.args.reading.now c.args.left u)
       | else-child-at w ↦ let off : nat_le c.args.child c.args.at ≡ false = grind (arith, nat_tests, w.if-child-at.false) in same_choice (row_in c.args.reading.now) (mode_of c.args.mode) (blocks_of c.args.reading.now c.args.left u) u c.choose.result (c.requires.childless w.if-child-at.false) (λ e. sym off ∙ sym w.opens-is ∙ c.choose.ensures.child e)
           (c.choose.ensures.choice None (sym off ∙ sym w.opens-is) ∙ here None)
     ]

@@ -6,8 +6,8 @@ use Rattle.tokei_count.proofs.Leading.{at_newline}
 use Rattle.tokei_count.proofs.walk.opens_at.Goals as goal
 
 -- at a newline no child opens
-pub returns-else-at-end : goal.returns-else-at-end
-returns-else-at-end c =
+pub returns-else-at-end-clause-opens : goal.returns-else-at-end-clause-opens
+returns-else-at-end-clause-opens c =
     let text : List ℕ = c.args.reading.now.text.now in
     let u : List ℕ = drop c.args.at text in
     let here : u ≡ 10 ∷ drop 1 u = at_newline u (omega (arith, c.requires.line, c.if-at-end.false)) (omega (arith, length-drop c.args.at text, c.requires.some)) in

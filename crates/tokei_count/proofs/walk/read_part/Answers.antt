@@ -1,4 +1,4 @@
-use Rattle.std.proofs.Common.{◌≡◌, ◌∙◌, ℕ, ◌+◌, ◌-◌, ◌<◌, ◌≤◌, sym, ap, subst, List, length, take, drop, arith, length-drop}
+use Rattle.std.proofs.Common.{◌≡◌, ◌∙◌, ℕ, ◌+◌, ◌-◌, ◌<◌, ◌≤◌, refl, sym, ap, subst, List, length, take, drop, arith, length-drop}
 use Rattle.std.proofs.lemmas.List.{drop-drop}
 use Rattle.tokei_count.specs.Class.{class_of}
 use Rattle.tokei_count.specs.Lines.{first_line, line_len}
@@ -30,6 +30,7 @@ loop-at-init c =
     let none : 0 ≡ reached c.args.start end - c.args.start = omega arith in
     let no_steps : 0 ≡ 0 - (c.args.start - end) = omega arith in
     record {
+      same = refl;
       leads = subst (λ n. Leads (row_in c.args.reading.now) (blocks_of c.args.reading.now) c.args.left (chain_of c.args.stack.now.items) n (0 - (c.args.start - end)) (chain_of c.args.stack.now.items) u) none
           (subst (λ j. Leads (row_in c.args.reading.now) (blocks_of c.args.reading.now) c.args.left (chain_of c.args.stack.now.items) 0 j (chain_of c.args.stack.now.items) u) no_steps
           (lead_none (row_in c.args.reading.now) (blocks_of c.args.reading.now) c.args.left (chain_of c.args.stack.now.items) u));
@@ -59,6 +60,7 @@ loop-at-preserved-then-at-behind c =
     let went : Leads (row_in c.args.reading.now) (blocks_of c.args.reading.now) c.args.left (chain_of c.loop-at.stack.items) n n (chain_of c.loop-at.stack.items) (drop at text) =
     subst (λ es. Leads (row_in c.args.reading.now) (blocks_of c.args.reading.now) c.args.left (chain_of es) n n (chain_of es) (drop at text)) c.deref-in-loop-at-2.ensures.value c.take_bytes-behind.ensures.leads in
     record {
+      same = c.take_bytes-behind.ensures.same ∙ c.look_ahead-ahead.ensures.same ∙ c.loop-at.invariant.same;
       leads = led_on (row_in c.args.reading.now) (blocks_of c.args.reading.now) c.args.left text c.args.start at (chain_of c.args.stack.now.items) (chain_of c.loop-at.stack.items) (chain_of c.loop-at.stack.items)
           (reached next end - c.args.start) (c.loop-at.steps - (at - end)) n n (c.take_bytes-behind.new.steps - (next - end)) part.low
           (subst (λ m. Leads (row_in c.args.reading.now) (blocks_of c.args.reading.now) c.args.left (chain_of c.args.stack.now.items) (m - c.args.start) (c.loop-at.steps - (at - end)) (chain_of c.loop-at.stack.items) (drop c.args.start text)) here c.loop-at.invariant.leads)
@@ -90,6 +92,7 @@ loop-at-preserved-in-On c =
     let rest_is : drop c.in-On.len (drop at text) ≡ drop next text = drop-drop c.in-On.len at text in
     let line_next : end ≡ next + line_len (drop next text) = omega (arith, line, goes.within, line_is, ap line_len rest_is) in
     record {
+      same = c.in_ok-len.ensures.same ∙ c.take_bytes-behind.ensures.same ∙ c.look_ahead-ahead.ensures.same ∙ c.loop-at.invariant.same;
       leads = led_on (row_in c.args.reading.now) (blocks_of c.args.reading.now) c.args.left text c.args.start at (chain_of c.args.stack.now.items) (chain_of c.loop-at.stack.items) (chain_of c.take_choice.new.stack.items)
           (reached next end - c.args.start) (c.loop-at.steps - (at - end)) c.in-On.len 1 (c.take_choice.new.steps - (next - end)) part.low
           (subst (λ m. Leads (row_in c.args.reading.now) (blocks_of c.args.reading.now) c.args.left (chain_of c.args.stack.now.items) (m - c.args.start) (c.loop-at.steps - (at - end)) (chain_of c.loop-at.stack.items) (drop c.args.start text)) here c.loop-at.invariant.leads)
@@ -121,6 +124,7 @@ loop-at-preserved c =
     let there : reached stop end ≡ at + line_len (drop at text) = omega (arith, line, stop_here, low) in
     let line_next : line_len (drop (at + line_len (drop at text)) text) ≡ 0 = ap line_len (sym (drop-drop (line_len (drop at text)) at text)) ∙ line_len-drop (line_len (drop at text)) (drop at text) (omega arith) ∙ omega arith in
     record {
+      same = c.in_ok-len.ensures.same ∙ c.take_bytes-behind.ensures.same ∙ c.look_ahead-ahead.ensures.same ∙ c.loop-at.invariant.same;
       leads = led_on (row_in c.args.reading.now) (blocks_of c.args.reading.now) c.args.left text c.args.start at (chain_of c.args.stack.now.items) (chain_of c.loop-at.stack.items) (chain_of c.take_choice.new.stack.items)
           (reached stop end - c.args.start) (c.loop-at.steps - (at - end)) (line_len (drop at text)) (1 - newlines (drop at text)) (c.take_choice.new.steps - (stop - end)) part.low
           (subst (λ m. Leads (row_in c.args.reading.now) (blocks_of c.args.reading.now) c.args.left (chain_of c.args.stack.now.items) (m - c.args.start) (c.loop-at.steps - (at - end)) (chain_of c.loop-at.stack.items) (drop c.args.start text)) here c.loop-at.invariant.leads)
@@ -134,8 +138,8 @@ loop-at-preserved c =
       childless = λ p low high. c.look_ahead-ahead.ensures.childless p (omega (arith, low, stop_here)) high;
     }
 
-pub returns-in-Child : goal.returns-in-Child
-returns-in-Child c =
+pub returns-in-Child-clause-reads : goal.returns-in-Child-clause-reads
+returns-in-Child-clause-reads c =
     let text : List ℕ = c.args.reading.now.text.now in
     let end : ℕ = c.args.end in
     let at : ℕ = c.loop-at.at in
@@ -160,8 +164,8 @@ returns-in-Child c =
       },
     )
 
-pub returns : goal.returns
-returns c =
+pub returns-clause-reads : goal.returns-clause-reads
+returns-clause-reads c =
     let text : List ℕ = c.args.reading.now.text.now in
     let u : List ℕ = drop c.args.start text in
     let end : ℕ = c.args.end in

@@ -11,6 +11,7 @@ reached at end = at - (at - end)
 
 abbrev pub invariant-loop-at : goal.invariant-loop-at
 invariant-loop-at l = record {
+  same : l.search ≡ l.fn.search;
   leads : Leads (row_in l.reading) (blocks_of l.reading) l.left (chain_of l.initial.stack.items) (reached l.at l.end - l.start) (l.steps - (l.at - l.end)) (chain_of l.stack.items) (drop l.start l.reading.text.now);
   closable : IsClosable (chain_of l.stack.items);
   part : IsPart l.reading.text.now l.left l.start (reached l.at l.end);

@@ -1,4 +1,4 @@
-use Rattle.std.proofs.Common.{◌≡◌, ◌∙◌, ℕ, suc, ◌+◌, ◌-◌, ◌<◌, ◌≤◌, List, ◌∷◌, length, drop, get_or, sym, ap, subst, arith, length-drop, drop-cons}
+use Rattle.std.proofs.Common.{◌≡◌, ◌∙◌, ℕ, suc, ◌+◌, ◌-◌, ◌<◌, ◌≤◌, List, ◌∷◌, length, drop, get_or, refl, sym, ap, subst, arith, length-drop, drop-cons}
 use Rattle.std.proofs.lemmas.List.{drop-drop}
 use Rattle.tokei_count.specs.Lines.{line_len}
 use Rattle.tokei_count.specs.Modes.{innermost}
@@ -19,6 +19,7 @@ pub loop-next-init : goal.loop-next-init
 loop-next-init c =
     let none : 0 ≡ c.args.at - c.args.at = omega arith in
     record {
+      same = refl;
       low = omega arith;
       high = omega (arith, c.requires.line);
       counted = omega arith;
@@ -49,6 +50,9 @@ choice_at-byte-requires-clause-room c =
     let within : c.args.end ≤ length c.args.reading.now.text.now = end_within c.args.reading.now.text.now c.args.at c.args.end c.requires.part.high c.requires.line in
     omega (arith, within, c.loop-next-test.true, c.min-last.ensures, c.loop-next.invariant.counted, c.loop-next.invariant.low, c.requires.few)
 
+pub choice_at-byte-requires-clause-searched : goal.choice_at-byte-requires-clause-searched
+choice_at-byte-requires-clause-searched c = c.loop-next.invariant.same ∙ c.requires.searched
+
 pub choice_at-byte-requires-clause-childless : goal.choice_at-byte-requires-clause-childless
 choice_at-byte-requires-clause-childless c = λ ahead plain. c.requires.childless c.loop-next.next c.loop-next.invariant.low ahead (sym c.innermost-mode.ensures ∙ plain)
 
@@ -68,6 +72,7 @@ loop-next-preserved c =
     goes_byte (row_in c.args.reading.now) (blocks_of c.args.reading.now) c.args.left c.requires.sound (blocks_fit c.args.reading.now).in_line (chain_of c.args.stack.now) u c.requires.closable some
     (plain_byte (row_in c.args.reading.now) c.requires.sound (innermost (chain_of c.args.stack.now)) (blocks_of c.args.reading.now c.args.left u) (get_or text next 0) u c.args.matchers.now here c.requires.matched byte (c.requires.childless next c.loop-next.invariant.low ahead)) in
     record {
+      same = c.choice_at-byte.ensures.same ∙ c.loop-next.invariant.same;
       low = omega (arith, c.loop-next.invariant.low);
       high = omega (arith, more);
       counted = omega (arith, c.loop-next.invariant.counted, c.loop-next.invariant.low, c.choice_at-byte.ensures.counted);
@@ -97,3 +102,9 @@ returns-after-loop-next-clause-counted c = c.loop-next.invariant.counted
 
 pub returns-after-loop-next-clause-leads : goal.returns-after-loop-next-clause-leads
 returns-after-loop-next-clause-leads c = c.loop-next.invariant.leads
+
+pub returns-else-is_plain_byte-clause-same : goal.returns-else-is_plain_byte-clause-same
+returns-else-is_plain_byte-clause-same c = c.loop-next.invariant.same
+
+pub returns-after-loop-next-clause-same : goal.returns-after-loop-next-clause-same
+returns-after-loop-next-clause-same c = c.loop-next.invariant.same

@@ -7,6 +7,7 @@ use Rattle.tokei_count.proofs.walk.take_bytes.Given as goal
 
 abbrev pub invariant-loop-next : goal.invariant-loop-next
 invariant-loop-next l = record {
+  same : l.search ≡ l.fn.search;
   low : l.fn.at ≤ l.next;
   high : l.next ≤ l.end;
   counted : l.steps ≡ l.fn.steps + (l.next - l.fn.at);
