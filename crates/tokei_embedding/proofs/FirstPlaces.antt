@@ -1,6 +1,5 @@
 -- A token's places in a part of a text, and the first one there.
-use Rattle.std.proofs.Common.{◌≡◌, ℕ, zero, suc, ◌+◌, ◌-◌, ◌<◌, ◌≤◌, List, length, take, drop, get_or, Option, None, Some, refl, sym, ◌∙◌, ap, subst, arith, length-take, length-drop, get_or-take, get_or-drop}
-use Rattle.std.proofs.lemmas.List.{drop_all}
+use Rattle.std.proofs.Common.{◌≡◌, ℕ, ◌+◌, ◌-◌, ◌<◌, ◌≤◌, List, length, take, drop, get_or, None, Some, sym, ◌∙◌, ap, subst, arith, length-take, length-drop, get_or-take, get_or-drop}
 use Rattle.memchr.specs.Find.{OccursAt, FindsNeedle}
 use Rattle.tokei_embedding.proofs.Places.{first_of-is}
 use Rattle.tokei_embedding.specs.Remembered.{Sought, IsFirstPlace}

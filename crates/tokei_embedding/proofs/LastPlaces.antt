@@ -1,9 +1,9 @@
 -- A token's last place in a part of a text.
-use Rattle.std.proofs.Common.{◌≡◌, ℕ, ◌+◌, ◌-◌, ◌<◌, ◌≤◌, List, length, take, drop, Option, None, Some, option_map, arith}
+use Rattle.std.proofs.Common.{◌≡◌, ℕ, ◌+◌, ◌-◌, ◌<◌, ◌≤◌, length, take, drop, None, Some, arith}
 use Rattle.memchr.specs.Find.{OccursAt, FindsLastNeedle}
 use Rattle.tokei_embedding.proofs.FirstPlaces.{part_length, occurs_out, occurs_in, place_at}
 use Rattle.tokei_embedding.proofs.Places.{last_of-is}
-use Rattle.tokei_embedding.specs.Remembered.{Sought, EndsNowhere, StandsLast, IsLastPlace}
+use Rattle.tokei_embedding.specs.Remembered.{Sought, EndsNowhere, StandsLast}
 use Rattle.tokei_embedding.specs.Searches.{last_of}
 
 -- the last place of the text's range is the last one of that part
@@ -40,8 +40,12 @@ last_found s from to i some l m f =
     let n = to - from in
     let fits : from + n ≤ length s.text = omega arith in
     let out = occurs_out s.text s.token from n i f.1 some in
-    record { order = omega arith; ends = omega (arith, out.1); stands = out.0;
-      none = λ k a b o. f.0.after (k - from) (omega arith) (omega (arith, part_length s.text from n fits)) (occurs_in s.text s.token from n (k - from) (place_at s.text s.token k from (omega arith) o) (omega (arith, b)) fits) }
+    record {
+      order = omega arith;
+      ends = omega (arith, out.1);
+      stands = out.0;
+      none = λ k a b o. f.0.after (k - from) (omega arith) (omega (arith, part_length s.text from n fits)) (occurs_in s.text s.token from n (k - from) (place_at s.text s.token k from (omega arith) o) (omega (arith, b)) fits);
+    }
 
 pub none_found : (s : Sought) (from to : ℕ) → 0 < length s.token → from ≤ to → to ≤ length s.text → FindsLastNeedle (take (to - from) (drop from s.text)) s.token None → EndsNowhere s from to
 none_found s from to some l m f = λ k a b o.

@@ -1,10 +1,10 @@
 -- The opening of a tag in a part of a text, by what is found in the text.
-use Rattle.std.proofs.Common.{◌≡◌, ℕ, ◌+◌, ◌-◌, ◌<◌, ◌≤◌, List, length, take, drop, codes, Option, None, Some, option_map, IfSome, refl, sym, ◌∙◌, ap, arith, take-take}
+use Rattle.std.proofs.Common.{◌≡◌, ℕ, ◌+◌, ◌-◌, ◌<◌, ◌≤◌, List, length, take, drop, codes, Option, None, Some, option_map, IfSome, sym, ◌∙◌, ap, arith, take-take}
 use Rattle.tokei_embedding.proofs.Places.{part_from}
 use Rattle.tokei_embedding.specs.Searches.{first_of, last_of}
 use Rattle.tokei_embedding.specs.Seen.{span_seen}
 use Rattle.tokei_embedding.specs.Spans.{Span, shifted}
-use Rattle.tokei_embedding.specs.Tags.{Opening, token_of, attribute_of, value_in, value_end, opening_past, opening_before, opening_at}
+use Rattle.tokei_embedding.specs.Tags.{token_of, attribute_of, value_in, value_end, opening_past, opening_before, opening_at}
 use Rattle.tokei_embedding.specs.declared.spans.Span as CodeSpan
 use Rattle.tokei_embedding.specs.declared.tags.Tag.{Tag}
 

@@ -10,8 +10,8 @@ mod doc_comments;
 mod fences;
 mod first_search;
 mod html_like;
-pub mod laws;
 mod last_search;
+pub mod laws;
 mod next_openings;
 mod opening_search;
 mod openings;
@@ -26,13 +26,13 @@ pub use captures::{Capture, SimpleCapture};
 pub use doc_comments::{doc_at, doc_text};
 pub use fences::{FenceAt, fence_at};
 pub use html_like::HtmlLike;
-pub use next_openings::{next_doc, next_fence, next_tag, next_target};
+pub use next_openings::{next_doc, next_fence, next_target};
 pub use openings::{
     end_lf, end_markdown, end_script, end_style, end_template, start_lf, start_markdown,
     start_script, start_style, start_template,
 };
-pub use tags::{Tag, TagAt, tag_at};
-pub use target_blocks::{TargetAt, target_at, target_of};
+pub use tags::{Tag, TagAt};
+pub use target_blocks::{TargetAt, target_at};
 
 #[cfg(test)]
 mod tests;

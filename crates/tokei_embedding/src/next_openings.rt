@@ -3,13 +3,11 @@ ghost use Rattle.std.specs.Prelude.{◌≡◌, ℕ, ◌+◌, ◌-◌, ◌≤◌,
 ghost use Rattle.tokei_embedding.specs.DocComments.{first_line, front_mark, doc_block};
 ghost use Rattle.tokei_embedding.specs.Fences.{first_fence, fence_block};
 ghost use Rattle.tokei_embedding.specs.Searches.{first_of, is_at};
-ghost use Rattle.tokei_embedding.specs.Tags.{token_of, tag_block};
 ghost use Rattle.tokei_embedding.specs.TargetBlocks.{target_block};
 
 use crate::doc_comments::front_mark;
 use crate::fences::first_fence;
 use crate::searches::first_of;
-use crate::tags::{Tag, token_of};
 use crate::target_blocks::OPENER;
 use tokei_table::ext::is_whitespace;
 
@@ -42,20 +40,6 @@ pub fn next_fence(text: &[u8], start: usize, at: usize, to: usize) -> usize
     ensures exact { result < to → is_at (result - start) (first_fence (take (to - start) (drop start text.now))) ≡ true }
 {
     next_of(first_fence(&text[start..to]), start, at, to)
-}
-
-/// The first place from `at` on at which an element with the tag can open in the part `text[start..to]`: the tag's first
-/// token. `to` where there is none, or where that one stands before `at`.
-pub fn next_tag(tag: Tag, text: &[u8], start: usize, at: usize, to: usize) -> usize
-    requires order { start ≤ at }
-    requires inside { at ≤ to }
-    requires ends { to ≤ length text.now }
-    ensures low { at ≤ result }
-    ensures high { result ≤ to }
-    ensures none { (p : ℕ) → at ≤ p → p < result → tag_block tag (take (to - start) (drop start text.now)) (p - start) (drop p text.now) ≡ None }
-    ensures exact { result < to → is_at (result - start) (first_of (token_of tag) (take (to - start) (drop start text.now))) ≡ true }
-{
-    next_of(first_of(&text[start..to], token_of(tag)), start, at, to)
 }
 
 /// The first place from `at` on at which a block of the target language can open in the part `text[start..to]`: its

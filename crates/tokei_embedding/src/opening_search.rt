@@ -2,13 +2,17 @@
 ghost use Rattle.std.specs.Prelude.{◌≡◌, ◌+◌, ◌-◌, ◌≤◌, ◌<◌, IfSome, length, take, drop, option_map};
 ghost use Rattle.tokei_embedding.specs.Seen.{span_seen, opening_seen};
 ghost use Rattle.tokei_embedding.specs.TagSearches.{TagSought, SeeksOpenings};
-ghost use Rattle.tokei_embedding.specs.Tags.{token_of, attribute_of, value_in, opening_at};
+ghost use Rattle.tokei_embedding.specs.Tags.{token_of, attribute_of, value_in, value_end, opening_at};
 
 use crate::first_search::FirstSearch;
 use crate::last_search::LastSearch;
 use crate::spans::{Span, shifted};
-use crate::tags::{Opening, QUOTE, TAG_END, Tag, attribute_of, token_of, value_end};
+use crate::tags::{Opening, Tag, attribute_of, token_of};
 use std::marker::Model;
+
+const QUOTE: &[u8] = b"\"";
+
+const TAG_END: &[u8] = b">";
 
 /// Finds the openings of one tag in one text, and remembers what each of its searches came to.
 #[derive(Drop)]
@@ -27,6 +31,16 @@ impl<'a> Model for OpeningSearch<'a> {
     ghost view = { λ s. record { tag = s.tag; text = s.text.now } };
 
     ghost invariant = { λ s. SeeksOpenings (record { tag = s.tag; text = s.text.now }) s.last_ends s.quotes s.attributes s.ends };
+}
+
+/// The place behind the value, or the front without one.
+fn value_end(value: Option<Span>) -> usize
+    ensures { result ≡ value_end (option_map span_seen value) }
+{
+    match value {
+        Some(v) => v.stop,
+        None => 0,
+    }
 }
 
 impl<'a> OpeningSearch<'a> {

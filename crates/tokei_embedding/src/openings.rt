@@ -7,9 +7,10 @@ ghost use Rattle.tokei_embedding.specs.declared.tags.Tag.TheVariants.{Script, St
 
 use crate::captures::{Capture, captured};
 use crate::fences::{FENCE, closing_len, first_fence, info_len};
+use crate::opening_search::OpeningSearch;
 use crate::searches::first_of;
 use crate::spans::Span;
-use crate::tags::{Opening, Tag, closer_of, opening_at, token_of};
+use crate::tags::{Opening, Tag, closer_of, token_of};
 use crate::target_blocks::{CLOSER, OPENER};
 
 fn first_opening(tag: Tag, part: &[u8]) -> Option<Opening>
@@ -18,7 +19,7 @@ fn first_opening(tag: Tag, part: &[u8]) -> Option<Opening>
     ensures value_within { IfSome result (λ o. IfSome o.value (λ v. (v.start ≤ v.stop) × (v.stop ≤ length part.now))) }
 {
     let at = first_of(part, token_of(tag))?;
-    opening_at(tag, part, at)
+    OpeningSearch::new(tag, part).opening_at(0, at, part.len())
 }
 
 fn start_tag<'a>(

@@ -1,6 +1,6 @@
-//! The first and the last place of a token.
+//! The first place of a token.
 ghost use Rattle.std.specs.Prelude.{◌≡◌, ◌+◌, ◌≤◌, ◌<◌, length, IfSome};
-ghost use Rattle.tokei_embedding.specs.Searches.{first_of, last_of, is_at};
+ghost use Rattle.tokei_embedding.specs.Searches.{first_of, is_at};
 
 use memchr::memmem;
 
@@ -11,15 +11,6 @@ pub(crate) fn first_of(text: &[u8], token: &[u8]) -> Option<usize>
     ensures within { IfSome result (λ i. i + length token.now ≤ length text.now) }
 {
     memmem::find(text, token)
-}
-
-/// The last place in the text at which the token stands.
-pub(crate) fn last_of(text: &[u8], token: &[u8]) -> Option<usize>
-    requires { 0 < length token.now }
-    ensures value { result ≡ last_of token.now text.now }
-    ensures within { IfSome result (λ i. i + length token.now ≤ length text.now) }
-{
-    memmem::rfind(text, token)
 }
 
 /// Whether what was found is the given place.

@@ -73,12 +73,7 @@ impl<'a> TagSearch<'a> {
     }
 
     /// The element with an opening of `len` bytes that ends before `start`.
-    fn element_to(
-        &mut self,
-        value: Option<&'a [u8]>,
-        len: usize,
-        start: usize,
-    ) -> Option<TagAt<'a>>
+    fn element_to(&mut self, value: Option<&'a [u8]>, len: usize, start: usize) -> Option<TagAt<'a>>
         requires within { len ≤ start }
         requires inside { start ≤ length self.old.text }
         ensures element { option_map tag_seen result ≡ element_to (option_map (λ w. w.now) value.entry) len (drop start self.old.text) (first_of (closer_of self.old.tag) (drop start self.old.text)) }

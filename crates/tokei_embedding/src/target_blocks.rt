@@ -130,7 +130,7 @@ fn target_here(text: &[u8]) -> Option<&[u8]>
 
 /// The target that a Lingua Franca text names: the word of its first `target` that no word byte stands before, with
 /// blanks between, where blanks with a newline or to the text's end, or `;` or `{`, follow the word.
-pub fn target_of(text: &[u8]) -> Option<&[u8]>
+pub(crate) fn target_of(text: &[u8]) -> Option<&[u8]>
     ensures { option_map (λ w. w.now) result ≡ target_of text.now }
 {
     let mut rest = text;

@@ -1,4 +1,5 @@
 //! Rows from outside: openings, contents and places.
+mod block_search;
 mod blocks;
 mod next_openings;
 mod places;

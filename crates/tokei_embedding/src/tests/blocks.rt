@@ -1,5 +1,5 @@
 //! What opens at a place, and what it holds.
-use crate::{Tag, doc_at, doc_text, fence_at, tag_at, target_at, target_of};
+use crate::{BlockSearch, Tag, doc_at, doc_text, fence_at, target_at};
 use std::test::Fail;
 
 #[test]
@@ -137,7 +137,8 @@ fn elements(rt: HostRuntime) -> Result<(), Fail> {
         ),
     ] {
         assert!(rt; from <= place && place < to && to <= text.len());
-        let block = tag_at(tag, text, from, place, to).ok_or("no element")?;
+        let mut search = BlockSearch::new(text);
+        let block = search.tag_at(tag, from, place, to).ok_or("no element")?;
         assert_eq!(rt; block.contents, contents);
         assert_eq!(rt; block.size, size);
     }
@@ -169,7 +170,8 @@ fn values(rt: HostRuntime) -> Result<(), Fail> {
         ),
     ] {
         assert!(rt; !text.is_empty());
-        let block = tag_at(tag, text, 0, 0, text.len()).ok_or("no element")?;
+        let mut search = BlockSearch::new(text);
+        let block = search.tag_at(tag, 0, 0, text.len()).ok_or("no element")?;
         assert_eq!(rt; block.value.ok_or("no value")?, value);
     }
     Ok(())
@@ -190,7 +192,8 @@ fn no_elements(rt: HostRuntime) {
         (Tag::Style, b"<script>a</script>".as_slice(), 0),
     ] {
         assert!(rt; place < text.len());
-        assert!(rt; tag_at(tag, text, 0, place, text.len()).is_none());
+        let mut search = BlockSearch::new(text);
+        assert!(rt; search.tag_at(tag, 0, place, text.len()).is_none());
     }
 }
 
@@ -269,7 +272,9 @@ fn targets(rt: HostRuntime) -> Result<(), Fail> {
             b"D".as_slice(),
         ),
     ] {
-        assert_eq!(rt; target_of(text).ok_or("no target")?, target);
+        let mut search = BlockSearch::new(text);
+        assert_eq!(rt; search.target().ok_or("no target")?, target);
+        assert_eq!(rt; search.target().ok_or("no target")?, target);
     }
     for text in [
         b"".as_slice(),
@@ -280,7 +285,9 @@ fn targets(rt: HostRuntime) -> Result<(), Fail> {
         b"targetC;".as_slice(),
         b"Target C;".as_slice(),
     ] {
-        assert!(rt; target_of(text).is_none());
+        let mut search = BlockSearch::new(text);
+        assert!(rt; search.target().is_none());
+        assert!(rt; search.target().is_none());
     }
     Ok(())
 }

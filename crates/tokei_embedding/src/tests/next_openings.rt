@@ -1,6 +1,6 @@
 //! The next place at which a block can open.
 use crate::doc_comments::first_line;
-use crate::{Tag, next_doc, next_fence, next_tag, next_target};
+use crate::{BlockSearch, Tag, next_doc, next_fence, next_target};
 
 #[test]
 fn next_fences(rt: HostRuntime) {
@@ -80,7 +80,8 @@ fn next_tags(rt: HostRuntime) {
         (Tag::Template, b"x <template".as_slice(), 0, 0, 10, 10),
     ] {
         assert!(rt; start <= at && at <= to && to <= text.len());
-        assert_eq!(rt; next_tag(tag, text, start, at, to), next);
+        let mut search = BlockSearch::new(text);
+        assert_eq!(rt; search.next_tag(tag, start, at, to), next);
     }
 }
 

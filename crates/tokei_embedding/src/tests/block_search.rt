@@ -1,0 +1,74 @@
+//! One search that is asked many questions answers each as a new one does.
+ghost use Rattle.std.specs.Prelude.{◌≡◌, ◌≤◌, ◌<◌, length};
+
+use crate::{BlockSearch, Tag};
+use std::process::Abort;
+
+const TEXTS: [&[u8]; 6] = [
+    b"<script>a<style> </style>",
+    b"a</script><script>\n</script>b<script>c</script>",
+    b"<style lang=\"x\">a</style><style>b</style>\"",
+    b"<script <style>a</style> type=\"b\"> </script>",
+    b"<template lang=\">\">a\nlang=\"\"></template>",
+    b"target C;\n",
+];
+
+fn expect_same(
+    rt: &impl Abort,
+    tag: Tag,
+    text: &[u8],
+    search: &mut BlockSearch<'_>,
+    from: usize,
+    to: usize,
+)
+    requires same { search.old ≡ text.now }
+    requires order { from < to }
+    requires ends { to ≤ length text.now }
+    ensures { search.new ≡ search.old }
+{
+    let mut fresh = BlockSearch::new(text);
+    let place = search.next_tag(tag, from, from, to);
+    assert_eq!(rt; place, fresh.next_tag(tag, from, from, to));
+    if place == to {
+        return;
+    }
+    match (
+        search.tag_at(tag, from, place, to),
+        fresh.tag_at(tag, from, place, to),
+    ) {
+        (Some(one), Some(other)) => {
+            assert_eq!(rt; one.size, other.size);
+            assert_eq!(rt; one.contents, other.contents);
+            assert!(rt; one.value == other.value);
+        }
+        (one, other) => assert!(rt; one.is_none() && other.is_none()),
+    }
+}
+
+#[test]
+fn rising_questions(rt: HostRuntime) {
+    for text in TEXTS {
+        let mut search = BlockSearch::new(text);
+        for from in 0..text.len() {
+            for to in from + 1..text.len() + 1 {
+                expect_same(&rt, Tag::Script, text, &mut search, from, to);
+                expect_same(&rt, Tag::Style, text, &mut search, from, to);
+                expect_same(&rt, Tag::Template, text, &mut search, from, to);
+            }
+        }
+    }
+}
+
+#[test]
+fn falling_questions(rt: HostRuntime) {
+    for text in TEXTS {
+        let mut search = BlockSearch::new(text);
+        for to in (1..text.len() + 1).rev() {
+            for from in (0..to).rev() {
+                expect_same(&rt, Tag::Script, text, &mut search, from, to);
+                expect_same(&rt, Tag::Style, text, &mut search, from, to);
+                expect_same(&rt, Tag::Template, text, &mut search, from, to);
+            }
+        }
+    }
+}
