@@ -98,6 +98,11 @@ TEXTS = {
     "a quote on each line": ("C", "", lambda: "a = \"b;\n" * SHARE),
     "`////` on each line": ("C", "", lambda: "////\n" * SHARE),
     "`///` on each line": ("Rust", "", lambda: "/// a word\n" * SHARE),
+    "elements in one line": ("Html", "", lambda: "<script>a</script>" * SHARE),
+    "scripts never closed": ("Html", "", lambda: "<script>a\n" * SHARE),
+    "fences in one line": ("Markdown", "", lambda: "```c a``` " * SHARE),
+    "target blocks in one line": ("LinguaFranca", "", lambda: "{=a=}" * SHARE),
+    "target blocks, no target": ("LinguaFranca", "", lambda: "{=a=}\n" * SHARE),
 }
 
 

@@ -29,11 +29,16 @@ pub(crate) enum Choice<'a> {
     Byte,
 }
 
-/// Whether the token stands at the front of the text.
+/// Whether the token stands at the front of the text. Most don't, by their first byte.
+#[inline(always)]
 pub(crate) fn begins(token: &str, text: &[u8]) -> bool
     ensures { result ≡ begins token.now text.now }
 {
-    text.starts_with(token.as_bytes())
+    let token = token.as_bytes();
+    match (token, text) {
+        ([first, ..], [byte, ..]) if *first != *byte => false,
+        _ => text.starts_with(token),
+    }
 }
 
 /// The first pair whose opener stands at the front of the text.

@@ -99,6 +99,7 @@ fn ends_opened(syntax: &Syntax, head: &[u8], ended: Option<Enclosure>) -> bool
 
 /// The class of a part that began and ended in these modes; `docs` says whether doc strings are treated as comments.
 #[tactic(auto, unfolding(crate::specs::Class::class_of))]
+#[inline(never)]
 pub fn class_of(
     syntax: &Syntax,
     docs: bool,
@@ -152,6 +153,7 @@ fn has_code_head(matchers: &SharedMatchers, bytes: &[u8]) -> bool
 
 /// The class of a part that began and ended in these modes, as `class_of` has it, which is asked only where the part's head
 /// may begin a comment.
+#[inline(always)]
 pub(crate) fn class_by(
     matchers: &SharedMatchers,
     syntax: &Syntax,

@@ -305,8 +305,10 @@ pub(crate) fn read_part<'a>(
     }
     if at < stop {
         let mode = innermost(stack);
+        // no child opens at a newline
+        let behind = at + 1;
         let _newline = choice_at(
-            reading, search, matchers, mode, left, start, at, end, at, &mut steps,
+            reading, search, matchers, mode, left, start, at, end, behind, &mut steps,
         );
     }
     let line = &reading.text[start..stop];

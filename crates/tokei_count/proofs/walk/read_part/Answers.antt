@@ -10,7 +10,7 @@ use Rattle.tokei_count.specs.Seen.{chain_of, mode_of}
 use Rattle.tokei_count.specs.Walked.{Steps}
 use Rattle.tokei_count.specs.declared.walk.Step.TheVariants.{Child}
 use Rattle.tokei_count.proofs.Blocks.{blocks_fit}
-use Rattle.tokei_count.proofs.Leading.{lead_none, line_len-drop, rest_is}
+use Rattle.tokei_count.proofs.Leading.{lead_none, at_newline, line_len-drop, rest_is}
 use Rattle.tokei_count.proofs.LineEnds.{end_is, end_within, end_behind, end_later, ends_more, first_line-low, first_line-high}
 use Rattle.tokei_count.proofs.Lines.{line_reads, take-first}
 use Rattle.tokei_count.proofs.PartFronts.{part_on, part_anew}
@@ -295,6 +295,21 @@ choice_at-newline-requires-clause-line c =
     let stop_is : c.line_stop-stop.result ≡ c.args.start + length (first_line (drop c.args.start text)) = end_is text c.args.start end c.line_stop-stop.result c.requires.part.high c.requires.line c.line_stop-stop.ensures.more c.line_stop-stop.ensures.last in
     let here : reached at end ≡ at = omega (arith, c.loop-at-test.false, c.if-at-stop.true, stop_is, c.requires.line, first_line-high (drop c.args.start text)) in
     c.loop-at.invariant.line ∙ ap (λ m. m + line_len (drop m text)) here
+
+-- no child opens at a newline
+pub choice_at-newline-requires-clause-childless : goal.choice_at-newline-requires-clause-childless
+choice_at-newline-requires-clause-childless c = λ _ plain.
+    let text : List ℕ = c.args.reading.now.text.now in
+    let end : ℕ = c.args.end in
+    let at : ℕ = c.loop-at.at in
+    let u : List ℕ = drop at text in
+    let stop_is : c.line_stop-stop.result ≡ c.args.start + length (first_line (drop c.args.start text)) = end_is text c.args.start end c.line_stop-stop.result c.requires.part.high c.requires.line c.line_stop-stop.ensures.more c.line_stop-stop.ensures.last in
+    let at_end : at ≡ end = omega (arith, c.loop-at-test.false, c.if-at-stop.true, stop_is, c.requires.line, first_line-high (drop c.args.start text)) in
+    let here : at ≡ reached at end = omega (arith, at_end) in
+    let line : end ≡ at + line_len u = c.loop-at.invariant.line ∙ ap (λ m. m + line_len (drop m text)) (sym here) in
+    let none : line_len u ≡ 0 = omega (arith, line, at_end) in
+    let some : 0 < length u = omega (arith, length-drop at text, c.if-at-stop.true, c.line_stop-stop.ensures.within) in
+    ap (blocks_of c.args.reading.now c.args.left) (at_newline u none some) ∙ (blocks_fit c.args.reading.now).in_line.none c.args.left (drop 1 u)
 
 pub class_by-class-requires-clause-matched : goal.class_by-class-requires-clause-matched
 class_by-class-requires-clause-matched c = c.requires.matched ∙ ap matchers_of (sym c.syntax.ensures.row)
