@@ -29,19 +29,29 @@ pub(crate) enum Choice<'a> {
     Byte,
 }
 
-/// Whether the token stands at the front of the text. Most don't, by their first byte.
+/// Whether the token stands at the front of the text. One or two bytes, as most tokens have, are compared in place.
 #[inline(always)]
-pub(crate) fn begins(token: &str, text: &[u8]) -> bool
+fn stands(token: &[u8], text: &[u8]) -> bool
     ensures { result ≡ begins token.now text.now }
 {
-    let token = token.as_bytes();
     match (token, text) {
         ([first, ..], [byte, ..]) if *first != *byte => false,
+        ([_], [_, ..]) => true,
+        ([_, second], [_, byte, ..]) => *second == *byte,
         _ => text.starts_with(token),
     }
 }
 
+/// The same.
+#[inline(always)]
+pub(crate) fn begins(token: &str, text: &[u8]) -> bool
+    ensures { result ≡ begins token.now text.now }
+{
+    stands(token.as_bytes(), text)
+}
+
 /// The first pair whose opener stands at the front of the text.
+#[inline(always)]
 fn opened<'a>(pairs: &'a [(String, String)], text: &[u8]) -> Option<&'a (String, String)>
     ensures { option_map pair_of (option_copied result) ≡ opened (pairs_of pairs.now) text.now }
 {
@@ -66,6 +76,7 @@ pub(crate) fn any_begins(tokens: &[String], text: &[u8]) -> bool
 }
 
 /// Whether an escape stands at the front of the text.
+#[inline(always)]
 fn is_escape(syntax: &Syntax, text: &[u8]) -> bool
     ensures { result ≡ is_escape (row_of syntax.now) text.now }
 {
@@ -99,11 +110,12 @@ fn met_in_comment<'a>(syntax: &Syntax, pair: &'a (String, String)) -> Choice<'a>
     }
 }
 
+#[inline(never)]
 fn in_string<'a>(syntax: &Syntax, verbatim: bool, closer: &[u8], text: &[u8]) -> Choice<'a>
     ensures choice { (block : Option Block) → choice_of block result ≡ choice_in_string (row_of syntax.now) verbatim closer.now text.now }
     ensures no_child { result ≢ Choice.Child }
 {
-    if text.starts_with(closer) {
+    if stands(closer, text) {
         Choice::Closer
     } else if !verbatim && is_escape(syntax, text) {
         Choice::Escape
@@ -112,13 +124,14 @@ fn in_string<'a>(syntax: &Syntax, verbatim: bool, closer: &[u8], text: &[u8]) ->
     }
 }
 
+#[inline(never)]
 fn in_comment<'a>(syntax: &'a Syntax, closer: &[u8], text: &[u8]) -> Choice<'a>
     ensures choice { (block : Option Block) → choice_of block result ≡ choice_in_comment (row_of syntax.now) closer.now text.now }
     ensures no_child { result ≢ Choice.Child }
 {
     if is_escape(syntax, text) {
         Choice::Escape
-    } else if text.starts_with(closer) {
+    } else if stands(closer, text) {
         Choice::Closer
     } else if let Some(pair) = opened(&syntax.multi_line_comments, text) {
         met_in_comment(syntax, pair)
@@ -129,6 +142,7 @@ fn in_comment<'a>(syntax: &'a Syntax, closer: &[u8], text: &[u8]) -> Choice<'a>
     }
 }
 
+#[inline(never)]
 fn in_plain<'a>(syntax: &'a Syntax, opens: bool, text: &[u8]) -> Choice<'a>
     ensures choice { (block : Option Block) → is_some block ≡ opens → choice_of block result ≡ choice_in_plain (row_of syntax.now) block text.now }
     ensures child { result ≡ Choice.Child → opens ≡ true }
@@ -156,7 +170,7 @@ fn in_plain<'a>(syntax: &'a Syntax, opens: bool, text: &[u8]) -> Choice<'a>
 
 /// The first choice that fits at the front of the text; `opens` says whether a child can open there.
 #[tactic(auto, unfolding(crate::specs::Choice::choice))]
-#[inline(never)]
+#[inline(always)]
 pub(crate) fn choose<'a>(
     syntax: &'a Syntax,
     mode: Option<Enclosure<'a>>,
