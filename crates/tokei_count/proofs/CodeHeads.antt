@@ -8,7 +8,8 @@ use Rattle.tokei_table.specs.Row.{Pair, Row}
 use Rattle.tokei_table.specs.Sound.{is_token, is_pair, IsSound}
 use Rattle.tokei_count.specs.Choice.{any_begins}
 use Rattle.tokei_count.specs.Class.{class_of, encloses, opens_with, head_of, keeps_columns, in_string, in_doc_string, in_comment, ends_opened}
-use Rattle.tokei_count.specs.CodeHeads.{BeginsNone, FrontBeginsNone, HasCodeHead}
+use Rattle.tokei_count.specs.CodeHeads.{FrontBeginsNone, HasCodeHead}
+use Rattle.tokei_count.specs.PlainBytes.{BeginsNone}
 use Rattle.tokei_count.specs.Derivation.{closer_of}
 use Rattle.tokei_count.specs.Items.{Mode}
 use Rattle.tokei_count.specs.Matchers.{Matchers, matchers_of, begins_opener, begins_choice}

@@ -10,7 +10,7 @@ use Rattle.tokei_count.specs.Choice.{choice, choice_in_plain, choice_within, cho
 use Rattle.tokei_count.specs.Choice.Choice.{closes, escapes, opens, takes_byte}
 use Rattle.tokei_count.specs.Items.{Block, Mode}
 use Rattle.tokei_count.specs.Matchers.{begins_opener, begins_choice, flags, Matchers, matchers_of}
-use Rattle.tokei_count.specs.PlainBytes.{NoCloser, IsPlainByte}
+use Rattle.tokei_count.specs.PlainBytes.{BeginsNone, BeginsNoneWithin, IsPlainByte}
 use Rattle.tokei_count.specs.Seen.{choice_of}
 use Rattle.tokei_count.specs.declared.choice.Choice as CodeChoice
 use Rattle.tokei_count.specs.declared.choice.Choice.TheVariants.{Closer, Escape, Child, Opener, PassedOpener, LineComment, Byte}
@@ -118,10 +118,6 @@ module _ (r : Row) (s : IsSound r) (b : ℕ) (t : List ℕ) (h : begins_choice r
   no_nested : opened r.nested_comments (b ∷ t) ≡ None
   no_nested = none_opened r.nested_comments b t s.nested_comments (or_left (begins_opener r.nested_comments b) _ h5)
 
-  in_string : (verbatim : Bool) (closer : List ℕ) → begins closer (b ∷ t) ≡ false → choice_in_string r verbatim closer (b ∷ t) ≡ takes_byte
-  in_string true closer e = ap (λ y. cond y closes (cond false escapes takes_byte)) e
-  in_string false closer e = ap (λ y. cond y closes (cond (is_escape r (b ∷ t)) escapes takes_byte)) e ∙ ap (λ y. cond y escapes takes_byte) no_escape
-
   in_comment : (closer : List ℕ) → begins closer (b ∷ t) ≡ false → choice_in_comment r closer (b ∷ t) ≡ takes_byte
   in_comment closer e =
       ap (λ y. cond y escapes (cond (begins closer (b ∷ t)) closes (or_else (opened r.multi_line_comments (b ∷ t)) (met_in_comment r) (or_else (opened r.nested_comments (b ∷ t)) (opens MultiLineComment) takes_byte)))) no_escape
@@ -136,21 +132,29 @@ module _ (r : Row) (s : IsSound r) (b : ℕ) (t : List ℕ) (h : begins_choice r
       let line : any_begins r.line_comment (b ∷ t) ≡ false = none_begins r.line_comment b t s.line_comment (or_right (begins_opener r.nested_comments b) _ h5) in
       rw (no_escape, e, doc, verbatim, no_quote, no_multi_line, no_nested, line) refl
 
-  by_kind : (k : Kind) (closer : List ℕ) → begins closer (b ∷ t) ≡ false → choice_within r k closer (b ∷ t) ≡ takes_byte
-  by_kind DocString closer e = in_string false closer e
-  by_kind VerbatimString closer e = in_string true closer e
-  by_kind OrdinaryString closer e = in_string false closer e
-  by_kind MultiLineComment closer e = in_comment closer e
+-- in a string a byte that is no backslash stands for itself, where the closer doesn't stand there
+in_string : (r : Row) (b : ℕ) (t : List ℕ) → (b == 92) ≡ false → (verbatim : Bool) (closer : List ℕ) → begins closer (b ∷ t) ≡ false → choice_in_string r verbatim closer (b ∷ t) ≡ takes_byte
+in_string r b t h true closer e = ap (λ y. cond y closes (cond false escapes takes_byte)) e
+in_string r b t h false closer e =
+    ap (λ y. cond y closes (cond (is_escape r (b ∷ t)) escapes takes_byte)) e
+    ∙ ap (λ y. cond y escapes takes_byte) (ap (λ y. y && (begins (92 ∷ []) t || is_some (opened r.quotes t))) h)
 
-  takes : (mode : Mode) (o : Option Block) → NoCloser mode b → (mode ≡ None → o ≡ None) → choice r mode o (b ∷ t) ≡ takes_byte
-  unfolding choice
-  takes None o k e = in_plain o (e refl)
-  takes (Some m) o k e = by_kind m.kind m.closer (not_begun m.closer b t k.1 k.0)
+-- by the matchers no choice begins at the byte
+none_begun : (r : Row) (b : ℕ) (m : Matchers) → m ≡ matchers_of r → BeginsNone m b → begins_choice r b ≡ false
+none_begun r b m is h = sym (flag_at (begins_choice r) 256 b h.small) ∙ ap (λ (n : Matchers). slice_index_or n.begins b false) (sym is) ∙ h.begins
 
 pub plain_byte : (r : Row) (s : IsSound r) (mode : Mode) (o : Option Block) (b : ℕ) (u : List ℕ) (m : Matchers) → u ≡ b ∷ drop 1 u → m ≡ matchers_of r → IsPlainByte m mode b → (mode ≡ None → o ≡ None) → choice r mode o u ≡ takes_byte
-plain_byte r s mode o b u m e is h none =
-    let no : begins_choice r b ≡ false = sym (flag_at (begins_choice r) 256 b h.small) ∙ ap (λ (n : Matchers). slice_index_or n.begins b false) (sym is) ∙ h.begins in
-    ap (choice r mode o) e ∙ takes r s b (drop 1 u) no mode o h.closer none
+unfolding choice
+plain_byte r s mode o b u m e is h none = ap (choice r mode o) e ∙ by_mode mode h none
+  where
+    by_kind : (k : Kind) (closer : List ℕ) → BeginsNoneWithin m k b → begins closer (b ∷ drop 1 u) ≡ false → choice_within r k closer (b ∷ drop 1 u) ≡ takes_byte
+    by_kind DocString closer h e = in_string r b (drop 1 u) h false closer e
+    by_kind VerbatimString closer h e = in_string r b (drop 1 u) h true closer e
+    by_kind OrdinaryString closer h e = in_string r b (drop 1 u) h false closer e
+    by_kind MultiLineComment closer h e = in_comment r s b (drop 1 u) (none_begun r b m is h) closer e
+    by_mode : (mode : Mode) → IsPlainByte m mode b → (mode ≡ None → o ≡ None) → choice r mode o (b ∷ drop 1 u) ≡ takes_byte
+    by_mode None h none = in_plain r s b (drop 1 u) (none_begun r b m is h) o (none refl)
+    by_mode (Some i) h none = by_kind i.kind i.closer h.0 (not_begun i.closer b (drop 1 u) h.2 h.1)
 
 -- a choice that is no child, in an item or where no child can open, is the same whatever can open there
 pub same_choice : (r : Row) (mode : Mode) (o : Option Block) (u : List ℕ) (x : CodeChoice.Choice) → (mode ≡ None → o ≡ None) → (x ≡ Child → false ≡ true) → choice_of None x ≡ choice r mode None u → choice_of o x ≡ choice r mode o u

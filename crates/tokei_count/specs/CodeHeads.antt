@@ -2,13 +2,9 @@
 use Rattle.std.specs.Prelude.{◌≡◌, ℕ, ◌<◌, false, List, [], ◌∷◌, slice_index_or}
 use Rattle.tokei_table.specs.Bytes.{trim_start}
 use Rattle.tokei_count.specs.Matchers.{Matchers}
+use Rattle.tokei_count.specs.PlainBytes.{BeginsNone}
 
--- no choice can begin at the byte
-pub record BeginsNone (m : Matchers) (b : ℕ) : Type 0 where
-  pub small : b < 256
-  pub begins : slice_index_or m.begins b false ≡ false
-
--- so it is of the first byte, and there is one
+-- no choice can begin at the first byte, and there is one
 abbrev pub FrontBeginsNone : Matchers → List ℕ → Type 0
 FrontBeginsNone m [] = ⊥
 FrontBeginsNone m (b ∷ t) = BeginsNone m b

@@ -5,7 +5,7 @@ ghost use Rattle.tokei_count.specs.Choice.{choice};
 ghost use Rattle.tokei_count.specs.Lines.{first_line, line_len};
 ghost use Rattle.tokei_count.specs.Matchers.{matchers_of};
 ghost use Rattle.tokei_count.specs.Modes.{innermost};
-ghost use Rattle.tokei_count.specs.PlainBytes.{IsPlainByte};
+ghost use Rattle.tokei_count.specs.PlainBytes.{BeginsNoneWithin, IsPlainByte};
 ghost use Rattle.tokei_count.specs.ReadingOf.{row_in, blocks_of};
 ghost use Rattle.tokei_count.specs.Progress.{IsPart, IsClosable, Leads};
 ghost use Rattle.tokei_count.specs.Seen.{choice_of, mode_of, chain_of};
@@ -13,7 +13,7 @@ ghost use Rattle.tokei_count.specs.Walked.{Steps, Reads};
 
 use crate::choice::{Choice, choose};
 use crate::class::{Class, class_by};
-use crate::items::Enclosure;
+use crate::items::{Enclosure, Kind};
 use crate::line_ends::line_stop;
 use crate::matchers::SharedMatchers;
 use crate::openings::{block_at, next_child};
@@ -78,19 +78,29 @@ fn opens_at<'a>(
     at < end && block_at(reading, search, left, start, at, end).is_some()
 }
 
+/// Whether no escape, opener or line comment can begin at the byte in an item of that kind.
+#[inline(always)]
+fn begins_none_within(matchers: &SharedMatchers, kind: Kind, byte: u8) -> bool
+    ensures { result ≡ true → BeginsNoneWithin matchers.now kind byte }
+{
+    match kind {
+        Kind::DocString | Kind::VerbatimString | Kind::OrdinaryString => byte != b'\\',
+        Kind::MultiLineComment => !matchers.begins(byte),
+    }
+}
+
 /// Whether no choice but the byte itself and a child can begin at the byte, in that mode.
 #[inline(always)]
 fn is_plain_byte(matchers: &SharedMatchers, mode: Option<Enclosure>, byte: u8) -> bool
     ensures { result ≡ true → IsPlainByte matchers.now (mode_of mode.entry) byte }
 {
-    !matchers.begins(byte)
-        && match mode {
-            None => true,
-            Some(inner) => match inner.closer {
-                [] => false,
-                [first, ..] => *first != byte,
-            },
-        }
+    match mode {
+        None => !matchers.begins(byte),
+        Some(inner) => match inner.closer {
+            [] => false,
+            [first, ..] => *first != byte && begins_none_within(matchers, inner.kind, byte),
+        },
+    }
 }
 
 /// The choice at the place `at` of a part that began at `start`, whose line goes to `end`, before its newline; `left`
