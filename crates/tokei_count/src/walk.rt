@@ -169,6 +169,8 @@ fn take_bytes<'a>(
     ensures same { search.new ≡ search.old }
     ensures low { at ≤ result }
     ensures high { result ≤ end }
+    ensures part { IsPart reading.now.text.now left start result }
+    ensures line { end ≡ result + line_len (drop result reading.now.text.now) }
     ensures counted { steps.new ≡ steps.old + (result - at) }
     ensures leads { Leads (row_in reading.now) (blocks_of reading.now) left (chain_of stack.now) (result - at) (result - at) (chain_of stack.now) (drop at reading.now.text.now) }
 {
@@ -295,11 +297,10 @@ pub(crate) fn read_part<'a>(
     let mut at = start;
     while at < end {
         let ahead = look_ahead(reading, search, skips, stack, left, start, at, stop, &mut child);
-        let behind = take_bytes(
+        at = take_bytes(
             reading, search, matchers, stack, left, start, at, end, ahead, &mut steps,
         );
-        if at < behind {
-            at = behind;
+        if end <= at {
             continue;
         }
         match take_choice(

@@ -15,8 +15,7 @@ use Rattle.tokei_count.proofs.LineEnds.{end_is, end_within, end_behind, end_late
 use Rattle.tokei_count.proofs.Lines.{line_reads, take-first}
 use Rattle.tokei_count.proofs.PartFronts.{part_on, part_anew}
 use Rattle.tokei_count.proofs.PartReading.{block_opens, child_read_at}
-use Rattle.tokei_count.proofs.Walking.{led_on}
-use Rattle.tokei_count.proofs.walk.read_part.Invariants.{reached}
+use Rattle.tokei_count.proofs.Walking.{led_on, run_on, reached}
 use Rattle.tokei_count.proofs.walk.read_part.Goals as goal
 use Rattle.tokei_count.proofs.walk.read_part.Goals.{then-at-stop, else-at-stop}
 
@@ -43,64 +42,63 @@ loop-at-init c =
       childless = λ p low high. absurd (omega (arith, low, high));
     }
 
--- bytes at which nothing else can begin lead on within the line
-pub loop-at-preserved-then-at-behind : goal.loop-at-preserved-then-at-behind
-loop-at-preserved-then-at-behind c =
+-- bytes at which nothing else can begin lead on to the line's end
+pub loop-at-preserved-then-end-at : goal.loop-at-preserved-then-end-at
+loop-at-preserved-then-end-at c =
     let text : List ℕ = c.args.reading.now.text.now in
     let end : ℕ = c.args.end in
-    let at : ℕ = c.loop-at.at in
-    let next : ℕ = c.take_bytes-behind.result in
-    let n : ℕ = next - at in
-    let here : reached at end ≡ at = omega (arith, c.loop-at-test.true) in
-    let there : reached next end ≡ next = omega (arith, c.take_bytes-behind.ensures.high) in
+    let at : ℕ = c.take_bytes-at.result in
+    let there : reached at end ≡ at = omega (arith, c.take_bytes-at.ensures.high) in
     let stop_is : c.line_stop-stop.result ≡ c.args.start + length (first_line (drop c.args.start text)) = end_is text c.args.start end c.line_stop-stop.result c.requires.part.high c.requires.line c.line_stop-stop.ensures.more c.line_stop-stop.ensures.last in
-    let part : IsPart text c.args.left c.args.start at = subst (IsPart text c.args.left c.args.start) here c.loop-at.invariant.part in
-    let line : end ≡ at + line_len (drop at text) = c.loop-at.invariant.line ∙ ap (λ m. m + line_len (drop m text)) here in
-    let place : at + n ≡ next = omega (arith, c.take_bytes-behind.ensures.low) in
-    let went : Leads (row_in c.args.reading.now) (blocks_of c.args.reading.now) c.args.left (chain_of c.loop-at.stack.items) n n (chain_of c.loop-at.stack.items) (drop at text) =
-    subst (λ es. Leads (row_in c.args.reading.now) (blocks_of c.args.reading.now) c.args.left (chain_of es) n n (chain_of es) (drop at text)) c.deref-in-loop-at-2.ensures.value c.take_bytes-behind.ensures.leads in
+    let went : Leads (row_in c.args.reading.now) (blocks_of c.args.reading.now) c.args.left (chain_of c.loop-at.stack.items) (at - c.loop-at.at) (at - c.loop-at.at) (chain_of c.loop-at.stack.items) (drop c.loop-at.at text) =
+    subst (λ es. Leads (row_in c.args.reading.now) (blocks_of c.args.reading.now) c.args.left (chain_of es) (at - c.loop-at.at) (at - c.loop-at.at) (chain_of es) (drop c.loop-at.at text)) c.deref-in-loop-at-2.ensures.value c.take_bytes-at.ensures.leads in
+    let led : Leads (row_in c.args.reading.now) (blocks_of c.args.reading.now) c.args.left (chain_of c.args.stack.now.items) (at - c.args.start) c.take_bytes-at.new.steps (chain_of c.loop-at.stack.items) (drop c.args.start text) =
+    run_on (row_in c.args.reading.now) (blocks_of c.args.reading.now) c.args.left text c.args.start c.loop-at.at at end c.loop-at.steps c.take_bytes-at.new.steps (chain_of c.args.stack.now.items) (chain_of c.loop-at.stack.items) c.loop-at-test.true c.loop-at.invariant.part c.loop-at.invariant.leads c.take_bytes-at.ensures.low c.take_bytes-at.ensures.counted went in
+    let all : c.take_bytes-at.new.steps ≡ c.take_bytes-at.new.steps - (at - end) = omega (arith, c.take_bytes-at.ensures.high) in
     record {
-      same = c.take_bytes-behind.ensures.same ∙ c.look_ahead-ahead.ensures.same ∙ c.loop-at.invariant.same;
-      leads = led_on (row_in c.args.reading.now) (blocks_of c.args.reading.now) c.args.left text c.args.start at (chain_of c.args.stack.now.items) (chain_of c.loop-at.stack.items) (chain_of c.loop-at.stack.items)
-          (reached next end - c.args.start) (c.loop-at.steps - (at - end)) n n (c.take_bytes-behind.new.steps - (next - end)) part.low
-          (subst (λ m. Leads (row_in c.args.reading.now) (blocks_of c.args.reading.now) c.args.left (chain_of c.args.stack.now.items) (m - c.args.start) (c.loop-at.steps - (at - end)) (chain_of c.loop-at.stack.items) (drop c.args.start text)) here c.loop-at.invariant.leads)
-          went (omega (arith, there, place)) (omega (arith, c.take_bytes-behind.ensures.high, c.take_bytes-behind.ensures.counted, c.loop-at-test.true));
+      same = c.take_bytes-at.ensures.same ∙ c.look_ahead-ahead.ensures.same ∙ c.loop-at.invariant.same;
+      leads = subst (λ j. Leads (row_in c.args.reading.now) (blocks_of c.args.reading.now) c.args.left (chain_of c.args.stack.now.items) (reached at end - c.args.start) j (chain_of c.loop-at.stack.items) (drop c.args.start text)) all
+          (subst (λ m. Leads (row_in c.args.reading.now) (blocks_of c.args.reading.now) c.args.left (chain_of c.args.stack.now.items) (m - c.args.start) c.take_bytes-at.new.steps (chain_of c.loop-at.stack.items) (drop c.args.start text)) (sym there) led);
       closable = c.loop-at.invariant.closable;
-      part = subst (IsPart text c.args.left c.args.start) (place ∙ sym there) (part_on text c.args.left c.args.start at n part (omega (arith, line, place, c.take_bytes-behind.ensures.high)));
-      line = end_later text at next end c.take_bytes-behind.ensures.low line c.take_bytes-behind.ensures.high ∙ ap (λ m. m + line_len (drop m text)) (sym there);
-      few = omega (arith, c.loop-at.invariant.few, part.low, place, c.take_bytes-behind.ensures.counted);
-      begun = omega (arith, c.take_bytes-behind.ensures.high);
-      high = omega (arith, c.take_bytes-behind.ensures.high, stop_is, c.requires.line, first_line-low (drop c.args.start text));
-      childless = λ p low high. c.look_ahead-ahead.ensures.childless p (omega (arith, low, place)) high;
+      part = subst (IsPart text c.args.left c.args.start) (sym there) c.take_bytes-at.ensures.part;
+      line = c.take_bytes-at.ensures.line ∙ ap (λ m. m + line_len (drop m text)) (sym there);
+      few = omega (arith, c.loop-at.invariant.few, c.loop-at.invariant.part.low, c.loop-at-test.true, c.take_bytes-at.ensures.low, c.take_bytes-at.ensures.counted);
+      begun = omega (arith, c.take_bytes-at.ensures.high);
+      high = omega (arith, c.take_bytes-at.ensures.high, stop_is, c.requires.line, first_line-low (drop c.args.start text));
+      childless = λ p low high. c.look_ahead-ahead.ensures.childless p (omega (arith, low, c.take_bytes-at.ensures.low)) high;
     }
 
 pub loop-at-preserved-in-On : goal.loop-at-preserved-in-On
 loop-at-preserved-in-On c =
     let text : List ℕ = c.args.reading.now.text.now in
     let end : ℕ = c.args.end in
-    let at : ℕ = c.loop-at.at in
+    let at : ℕ = c.take_bytes-at.result in
+    let more : at < end = omega (arith, c.if-end-at.false) in
     let next : ℕ = at + c.in-On.len in
-    let here : reached at end ≡ at = omega (arith, c.loop-at-test.true) in
     let stop_is : c.line_stop-stop.result ≡ c.args.start + length (first_line (drop c.args.start text)) = end_is text c.args.start end c.line_stop-stop.result c.requires.part.high c.requires.line c.line_stop-stop.ensures.more c.line_stop-stop.ensures.last in
     let goes : Goes (row_in c.args.reading.now) (blocks_of c.args.reading.now) c.args.left (chain_of c.loop-at.stack.items) c.in-On.len 1 (chain_of c.take_choice.new.stack.items) (drop at text) =
     subst (Steps (row_in c.args.reading.now) (blocks_of c.args.reading.now) c.args.left (chain_of c.loop-at.stack.items) (chain_of c.take_choice.new.stack.items) text at) c.in-On.is c.in_ok-len.ensures.takes in
-    let part : IsPart text c.args.left c.args.start at = subst (IsPart text c.args.left c.args.start) here c.loop-at.invariant.part in
-    let line : end ≡ at + line_len (drop at text) = c.loop-at.invariant.line ∙ ap (λ m. m + line_len (drop m text)) here in
+    let part : IsPart text c.args.left c.args.start at = c.take_bytes-at.ensures.part in
+    let line : end ≡ at + line_len (drop at text) = c.take_bytes-at.ensures.line in
+    let went : Leads (row_in c.args.reading.now) (blocks_of c.args.reading.now) c.args.left (chain_of c.loop-at.stack.items) (at - c.loop-at.at) (at - c.loop-at.at) (chain_of c.loop-at.stack.items) (drop c.loop-at.at text) =
+    subst (λ es. Leads (row_in c.args.reading.now) (blocks_of c.args.reading.now) c.args.left (chain_of es) (at - c.loop-at.at) (at - c.loop-at.at) (chain_of es) (drop c.loop-at.at text)) c.deref-in-loop-at-2.ensures.value c.take_bytes-at.ensures.leads in
+    let led : Leads (row_in c.args.reading.now) (blocks_of c.args.reading.now) c.args.left (chain_of c.args.stack.now.items) (at - c.args.start) c.take_bytes-at.new.steps (chain_of c.loop-at.stack.items) (drop c.args.start text) =
+    run_on (row_in c.args.reading.now) (blocks_of c.args.reading.now) c.args.left text c.args.start c.loop-at.at at end c.loop-at.steps c.take_bytes-at.new.steps (chain_of c.args.stack.now.items) (chain_of c.loop-at.stack.items) c.loop-at-test.true c.loop-at.invariant.part c.loop-at.invariant.leads c.take_bytes-at.ensures.low c.take_bytes-at.ensures.counted went in
     let behind : next ≤ end = omega (arith, line, goes.within) in
     let there : reached next end ≡ next = omega (arith, behind) in
     let line_is : line_len (drop c.in-On.len (drop at text)) ≡ line_len (drop at text) - c.in-On.len = line_len-drop c.in-On.len (drop at text) goes.within in
     let rest_is : drop c.in-On.len (drop at text) ≡ drop next text = drop-drop c.in-On.len at text in
     let line_next : end ≡ next + line_len (drop next text) = omega (arith, line, goes.within, line_is, ap line_len rest_is) in
     record {
-      same = c.in_ok-len.ensures.same ∙ c.take_bytes-behind.ensures.same ∙ c.look_ahead-ahead.ensures.same ∙ c.loop-at.invariant.same;
+      same = c.in_ok-len.ensures.same ∙ c.take_bytes-at.ensures.same ∙ c.look_ahead-ahead.ensures.same ∙ c.loop-at.invariant.same;
       leads = led_on (row_in c.args.reading.now) (blocks_of c.args.reading.now) c.args.left text c.args.start at (chain_of c.args.stack.now.items) (chain_of c.loop-at.stack.items) (chain_of c.take_choice.new.stack.items)
-          (reached next end - c.args.start) (c.loop-at.steps - (at - end)) c.in-On.len 1 (c.take_choice.new.steps - (next - end)) part.low
-          (subst (λ m. Leads (row_in c.args.reading.now) (blocks_of c.args.reading.now) c.args.left (chain_of c.args.stack.now.items) (m - c.args.start) (c.loop-at.steps - (at - end)) (chain_of c.loop-at.stack.items) (drop c.args.start text)) here c.loop-at.invariant.leads)
-          goes.leads (omega (arith, there)) (omega (arith, behind, c.loop-at-test.true, c.in_ok-len.ensures.counted));
+          (reached next end - c.args.start) c.take_bytes-at.new.steps c.in-On.len 1 (c.take_choice.new.steps - (next - end)) part.low
+          led
+          goes.leads (omega (arith, there)) (omega (arith, behind, more, c.in_ok-len.ensures.counted));
       closable = goes.closable;
       part = subst (IsPart text c.args.left c.args.start) (sym there) (part_on text c.args.left c.args.start at c.in-On.len part goes.within);
       line = line_next ∙ ap (λ m. m + line_len (drop m text)) (sym there);
-      few = omega (arith, c.loop-at.invariant.few, goes.some, part.low, c.in_ok-len.ensures.counted);
+      few = omega (arith, c.loop-at.invariant.few, c.loop-at.invariant.part.low, c.loop-at-test.true, c.take_bytes-at.ensures.low, c.take_bytes-at.ensures.counted, goes.some, part.low, c.in_ok-len.ensures.counted);
       begun = omega (arith, behind);
       high = omega (arith, behind, stop_is, c.requires.line, first_line-low (drop c.args.start text));
       childless = λ p low high. c.look_ahead-ahead.ensures.childless p (omega (arith, low)) high;
@@ -111,28 +109,32 @@ loop-at-preserved c =
     let text : List ℕ = c.args.reading.now.text.now in
     let end : ℕ = c.args.end in
     let stop : ℕ = c.line_stop-stop.result in
-    let at : ℕ = c.loop-at.at in
-    let here : reached at end ≡ at = omega (arith, c.loop-at-test.true) in
+    let at : ℕ = c.take_bytes-at.result in
+    let more : at < end = omega (arith, c.if-end-at.false) in
     let stop_is : c.line_stop-stop.result ≡ c.args.start + length (first_line (drop c.args.start text)) = end_is text c.args.start end c.line_stop-stop.result c.requires.part.high c.requires.line c.line_stop-stop.ensures.more c.line_stop-stop.ensures.last in
     let goes : Goes (row_in c.args.reading.now) (blocks_of c.args.reading.now) c.args.left (chain_of c.loop-at.stack.items) (line_len (drop at text)) (1 - newlines (drop at text)) (chain_of c.take_choice.new.stack.items) (drop at text) =
     subst (Steps (row_in c.args.reading.now) (blocks_of c.args.reading.now) c.args.left (chain_of c.loop-at.stack.items) (chain_of c.take_choice.new.stack.items) text at) c.in-Rest.is c.in_ok-len.ensures.takes in
-    let part : IsPart text c.args.left c.args.start at = subst (IsPart text c.args.left c.args.start) here c.loop-at.invariant.part in
-    let line : end ≡ at + line_len (drop at text) = c.loop-at.invariant.line ∙ ap (λ m. m + line_len (drop m text)) here in
+    let part : IsPart text c.args.left c.args.start at = c.take_bytes-at.ensures.part in
+    let line : end ≡ at + line_len (drop at text) = c.take_bytes-at.ensures.line in
+    let went : Leads (row_in c.args.reading.now) (blocks_of c.args.reading.now) c.args.left (chain_of c.loop-at.stack.items) (at - c.loop-at.at) (at - c.loop-at.at) (chain_of c.loop-at.stack.items) (drop c.loop-at.at text) =
+    subst (λ es. Leads (row_in c.args.reading.now) (blocks_of c.args.reading.now) c.args.left (chain_of es) (at - c.loop-at.at) (at - c.loop-at.at) (chain_of es) (drop c.loop-at.at text)) c.deref-in-loop-at-2.ensures.value c.take_bytes-at.ensures.leads in
+    let led : Leads (row_in c.args.reading.now) (blocks_of c.args.reading.now) c.args.left (chain_of c.args.stack.now.items) (at - c.args.start) c.take_bytes-at.new.steps (chain_of c.loop-at.stack.items) (drop c.args.start text) =
+    run_on (row_in c.args.reading.now) (blocks_of c.args.reading.now) c.args.left text c.args.start c.loop-at.at at end c.loop-at.steps c.take_bytes-at.new.steps (chain_of c.args.stack.now.items) (chain_of c.loop-at.stack.items) c.loop-at-test.true c.loop-at.invariant.part c.loop-at.invariant.leads c.take_bytes-at.ensures.low c.take_bytes-at.ensures.counted went in
     let stop_here : stop ≡ at + length (first_line (drop at text)) = end_is text at end stop part.high line c.line_stop-stop.ensures.more c.line_stop-stop.ensures.last in
     let low : line_len (drop at text) ≤ length (first_line (drop at text)) = first_line-low (drop at text) in
     let high : length (first_line (drop at text)) ≤ line_len (drop at text) + 1 = first_line-high (drop at text) in
     let there : reached stop end ≡ at + line_len (drop at text) = omega (arith, line, stop_here, low) in
     let line_next : line_len (drop (at + line_len (drop at text)) text) ≡ 0 = ap line_len (sym (drop-drop (line_len (drop at text)) at text)) ∙ line_len-drop (line_len (drop at text)) (drop at text) (omega arith) ∙ omega arith in
     record {
-      same = c.in_ok-len.ensures.same ∙ c.take_bytes-behind.ensures.same ∙ c.look_ahead-ahead.ensures.same ∙ c.loop-at.invariant.same;
+      same = c.in_ok-len.ensures.same ∙ c.take_bytes-at.ensures.same ∙ c.look_ahead-ahead.ensures.same ∙ c.loop-at.invariant.same;
       leads = led_on (row_in c.args.reading.now) (blocks_of c.args.reading.now) c.args.left text c.args.start at (chain_of c.args.stack.now.items) (chain_of c.loop-at.stack.items) (chain_of c.take_choice.new.stack.items)
-          (reached stop end - c.args.start) (c.loop-at.steps - (at - end)) (line_len (drop at text)) (1 - newlines (drop at text)) (c.take_choice.new.steps - (stop - end)) part.low
-          (subst (λ m. Leads (row_in c.args.reading.now) (blocks_of c.args.reading.now) c.args.left (chain_of c.args.stack.now.items) (m - c.args.start) (c.loop-at.steps - (at - end)) (chain_of c.loop-at.stack.items) (drop c.args.start text)) here c.loop-at.invariant.leads)
-          goes.leads (omega (arith, there)) (omega (arith, line, stop_here, low, high, c.loop-at-test.true, c.in_ok-len.ensures.counted));
+          (reached stop end - c.args.start) c.take_bytes-at.new.steps (line_len (drop at text)) (1 - newlines (drop at text)) (c.take_choice.new.steps - (stop - end)) part.low
+          led
+          goes.leads (omega (arith, there)) (omega (arith, line, stop_here, low, high, more, c.in_ok-len.ensures.counted));
       closable = goes.closable;
       part = subst (IsPart text c.args.left c.args.start) (sym there) (part_on text c.args.left c.args.start at (line_len (drop at text)) part goes.within);
       line = line ∙ omega (arith, line_next) ∙ ap (λ m. m + line_len (drop m text)) (sym there);
-      few = omega (arith, c.loop-at.invariant.few, goes.some, part.low, c.in_ok-len.ensures.counted, stop_here, low);
+      few = omega (arith, c.loop-at.invariant.few, c.loop-at.invariant.part.low, c.loop-at-test.true, c.take_bytes-at.ensures.low, c.take_bytes-at.ensures.counted, goes.some, part.low, c.in_ok-len.ensures.counted, stop_here, low);
       begun = omega (arith, line, stop_here, high, c.in_ok-len.ensures.counted);
       high = omega arith;
       childless = λ p low high. c.look_ahead-ahead.ensures.childless p (omega (arith, low, stop_here)) high;
@@ -142,25 +144,25 @@ pub returns-in-Child-clause-reads : goal.returns-in-Child-clause-reads
 returns-in-Child-clause-reads c =
     let text : List ℕ = c.args.reading.now.text.now in
     let end : ℕ = c.args.end in
-    let at : ℕ = c.loop-at.at in
-    let here : reached at end ≡ at = omega (arith, c.loop-at-test.true) in
-    let part : IsPart text c.args.left c.args.start at = subst (IsPart text c.args.left c.args.start) here c.loop-at.invariant.part in
-    let line : end ≡ at + line_len (drop at text) = c.loop-at.invariant.line ∙ ap (λ m. m + line_len (drop m text)) here in
-    let steps_are : c.loop-at.steps - (at - end) ≡ c.loop-at.steps = omega (arith, c.loop-at-test.true) in
-    let leads : Leads (row_in c.args.reading.now) (blocks_of c.args.reading.now) c.args.left (chain_of c.args.stack.now.items) (at - c.args.start) c.loop-at.steps (chain_of c.loop-at.stack.items) (drop c.args.start text) =
-    subst (λ j. Leads (row_in c.args.reading.now) (blocks_of c.args.reading.now) c.args.left (chain_of c.args.stack.now.items) (at - c.args.start) j (chain_of c.loop-at.stack.items) (drop c.args.start text)) steps_are
-    (subst (λ m. Leads (row_in c.args.reading.now) (blocks_of c.args.reading.now) c.args.left (chain_of c.args.stack.now.items) (m - c.args.start) (c.loop-at.steps - (at - end)) (chain_of c.loop-at.stack.items) (drop c.args.start text)) here c.loop-at.invariant.leads) in
+    let at : ℕ = c.take_bytes-at.result in
+    let more : at < end = omega (arith, c.if-end-at.false) in
+    let part : IsPart text c.args.left c.args.start at = c.take_bytes-at.ensures.part in
+    let line : end ≡ at + line_len (drop at text) = c.take_bytes-at.ensures.line in
+    let went : Leads (row_in c.args.reading.now) (blocks_of c.args.reading.now) c.args.left (chain_of c.loop-at.stack.items) (at - c.loop-at.at) (at - c.loop-at.at) (chain_of c.loop-at.stack.items) (drop c.loop-at.at text) =
+    subst (λ es. Leads (row_in c.args.reading.now) (blocks_of c.args.reading.now) c.args.left (chain_of es) (at - c.loop-at.at) (at - c.loop-at.at) (chain_of es) (drop c.loop-at.at text)) c.deref-in-loop-at-2.ensures.value c.take_bytes-at.ensures.leads in
+    let led : Leads (row_in c.args.reading.now) (blocks_of c.args.reading.now) c.args.left (chain_of c.args.stack.now.items) (at - c.args.start) c.take_bytes-at.new.steps (chain_of c.loop-at.stack.items) (drop c.args.start text) =
+    run_on (row_in c.args.reading.now) (blocks_of c.args.reading.now) c.args.left text c.args.start c.loop-at.at at end c.loop-at.steps c.take_bytes-at.new.steps (chain_of c.args.stack.now.items) (chain_of c.loop-at.stack.items) c.loop-at-test.true c.loop-at.invariant.part c.loop-at.invariant.leads c.take_bytes-at.ensures.low c.take_bytes-at.ensures.counted went in
     let opens : Steps (row_in c.args.reading.now) (blocks_of c.args.reading.now) c.args.left (chain_of c.loop-at.stack.items) (chain_of c.take_choice.new.stack.items) text at Child = subst (Steps (row_in c.args.reading.now) (blocks_of c.args.reading.now) c.args.left (chain_of c.loop-at.stack.items) (chain_of c.take_choice.new.stack.items) text at) c.in-Child.is c.in_ok-len.ensures.takes in (
       opens.0,
-      c.loop-at.steps,
-      omega (arith, c.in_ok-len.ensures.counted, c.take_bytes-behind.ensures.counted, c.take_bytes-behind.ensures.low, c.if-at-behind.false),
+      c.take_bytes-at.new.steps,
+      c.in_ok-len.ensures.counted,
       record {
         part = part;
-        few = c.loop-at.invariant.few;
+        few = omega (arith, c.loop-at.invariant.few, c.loop-at.invariant.part.low, c.loop-at-test.true, c.take_bytes-at.ensures.low, c.take_bytes-at.ensures.counted);
         opens = block_opens (row_in c.args.reading.now) (blocks_of c.args.reading.now) (blocks_fit c.args.reading.now) c.requires.sound c.args.left c.args.reading.now.docs opens.0 (chain_of c.loop-at.stack.items) (chain_of c.take_choice.new.stack.items) (drop at text) opens.1;
         reads = child_read_at (row_in c.args.reading.now) (blocks_of c.args.reading.now) (blocks_fit c.args.reading.now) c.requires.sound c.args.left c.args.reading.now.docs
-            (chain_of c.args.stack.now.items) (chain_of c.take_choice.new.stack.items) (chain_of c.loop-at.stack.items) c.args.start at opens.0 text part c.loop-at.steps leads opens.1;
-        inside = omega (arith, c.requires.line, c.loop-at-test.true);
+            (chain_of c.args.stack.now.items) (chain_of c.take_choice.new.stack.items) (chain_of c.loop-at.stack.items) c.args.start at opens.0 text part c.take_bytes-at.new.steps led opens.1;
+        inside = omega (arith, c.requires.line, more);
       },
     )
 
@@ -250,30 +252,30 @@ pub take_choice-requires-clause-part : goal.take_choice-requires-clause-part
 take_choice-requires-clause-part c =
     let text : List ℕ = c.args.reading.now.text.now in
     let end : ℕ = c.args.end in
-    let at : ℕ = c.loop-at.at in
-    let here : reached at end ≡ at = omega (arith, c.loop-at-test.true) in
-    let part : IsPart text c.args.left c.args.start at = subst (IsPart text c.args.left c.args.start) here c.loop-at.invariant.part in
-    let line : end ≡ at + line_len (drop at text) = c.loop-at.invariant.line ∙ ap (λ m. m + line_len (drop m text)) here in
+    let at : ℕ = c.take_bytes-at.result in
+    let more : at < end = omega (arith, c.if-end-at.false) in
+    let part : IsPart text c.args.left c.args.start at = c.take_bytes-at.ensures.part in
+    let line : end ≡ at + line_len (drop at text) = c.take_bytes-at.ensures.line in
     part
 
 pub take_choice-requires-clause-line : goal.take_choice-requires-clause-line
 take_choice-requires-clause-line c =
     let text : List ℕ = c.args.reading.now.text.now in
     let end : ℕ = c.args.end in
-    let at : ℕ = c.loop-at.at in
-    let here : reached at end ≡ at = omega (arith, c.loop-at-test.true) in
-    let part : IsPart text c.args.left c.args.start at = subst (IsPart text c.args.left c.args.start) here c.loop-at.invariant.part in
-    let line : end ≡ at + line_len (drop at text) = c.loop-at.invariant.line ∙ ap (λ m. m + line_len (drop m text)) here in
+    let at : ℕ = c.take_bytes-at.result in
+    let more : at < end = omega (arith, c.if-end-at.false) in
+    let part : IsPart text c.args.left c.args.start at = c.take_bytes-at.ensures.part in
+    let line : end ≡ at + line_len (drop at text) = c.take_bytes-at.ensures.line in
     line
 
 pub overflow_add-at : goal.overflow_add-at
 overflow_add-at c =
     let text : List ℕ = c.args.reading.now.text.now in
     let end : ℕ = c.args.end in
-    let at : ℕ = c.loop-at.at in
+    let at : ℕ = c.take_bytes-at.result in
+    let more : at < end = omega (arith, c.if-end-at.false) in
     let stop_is : c.line_stop-stop.result ≡ c.args.start + length (first_line (drop c.args.start text)) = end_is text c.args.start end c.line_stop-stop.result c.requires.part.high c.requires.line c.line_stop-stop.ensures.more c.line_stop-stop.ensures.last in
-    let here : reached at end ≡ at = omega (arith, c.loop-at-test.true) in
-    let line : end ≡ at + line_len (drop at text) = c.loop-at.invariant.line ∙ ap (λ m. m + line_len (drop m text)) here in
+    let line : end ≡ at + line_len (drop at text) = c.take_bytes-at.ensures.line in
     let goes : Goes (row_in c.args.reading.now) (blocks_of c.args.reading.now) c.args.left (chain_of c.loop-at.stack.items) c.in-On.len 1 (chain_of c.take_choice.new.stack.items) (drop at text) =
     subst (Steps (row_in c.args.reading.now) (blocks_of c.args.reading.now) c.args.left (chain_of c.loop-at.stack.items) (chain_of c.take_choice.new.stack.items) text at) c.in-On.is c.in_ok-len.ensures.takes in
     omega (arith, line, goes.within, stop_is, c.requires.line, first_line-low (drop c.args.start text), c.line_stop-stop.type_inv)

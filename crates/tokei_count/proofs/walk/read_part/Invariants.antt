@@ -3,11 +3,8 @@ use Rattle.tokei_count.specs.Lines.{line_len}
 use Rattle.tokei_count.specs.ReadingOf.{row_in, blocks_of}
 use Rattle.tokei_count.specs.Progress.{Leads, IsClosable, IsPart}
 use Rattle.tokei_count.specs.Seen.{chain_of}
+use Rattle.tokei_count.proofs.Walking.{reached}
 use Rattle.tokei_count.proofs.walk.read_part.Given as goal
-
--- how far the line was read; a line comment has led behind it
-abbrev pub reached : ℕ → ℕ → ℕ
-reached at end = at - (at - end)
 
 abbrev pub invariant-loop-at : goal.invariant-loop-at
 invariant-loop-at l = record {

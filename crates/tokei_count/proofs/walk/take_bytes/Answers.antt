@@ -108,3 +108,15 @@ returns-else-is_plain_byte-clause-same c = c.loop-next.invariant.same
 
 pub returns-after-loop-next-clause-same : goal.returns-after-loop-next-clause-same
 returns-after-loop-next-clause-same c = c.loop-next.invariant.same
+
+pub returns-else-is_plain_byte-clause-part : goal.returns-else-is_plain_byte-clause-part
+returns-else-is_plain_byte-clause-part c = c.loop-next.invariant.part
+
+pub returns-else-is_plain_byte-clause-line : goal.returns-else-is_plain_byte-clause-line
+returns-else-is_plain_byte-clause-line c = c.loop-next.invariant.line
+
+pub returns-after-loop-next-clause-part : goal.returns-after-loop-next-clause-part
+returns-after-loop-next-clause-part c = c.loop-next.invariant.part
+
+pub returns-after-loop-next-clause-line : goal.returns-after-loop-next-clause-line
+returns-after-loop-next-clause-line c = c.loop-next.invariant.line
