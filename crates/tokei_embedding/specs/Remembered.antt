@@ -8,6 +8,9 @@ pub record Sought : Type 0 where
   pub text : List ℕ
   pub token : List ℕ
 
+abbrev pub sought : List ℕ → List ℕ → Sought
+sought text token = record { text = text; token = token }
+
 -- The token stands in the text at no place from the first one to before the other.
 abbrev pub StandsNowhere : Sought → ℕ → ℕ → Type 0
 StandsNowhere s from place = (k : ℕ) → from ≤ k → k < place → ¬ OccursAt s.text s.token k

@@ -1,6 +1,6 @@
--- What the searches for the elements of a text remember.
+-- What is sought for the elements of a text.
 use Rattle.std.specs.Prelude.{◌≡◌, ℕ, List, codes}
-use Rattle.tokei_embedding.specs.Remembered.{Sought}
+use Rattle.tokei_embedding.specs.Remembered.{Sought, sought}
 use Rattle.tokei_embedding.specs.Tags.{token_of, closer_of, attribute_of}
 use Rattle.tokei_embedding.specs.declared.tags.Tag.{Tag}
 use Rattle.tokei_embedding.specs.declared.tags.Tag.TheVariants.{Script, Style, Template}
@@ -10,10 +10,6 @@ pub record TagSought : Type 0 where
   pub tag : Tag
   pub text : List ℕ
 
--- The token is sought in the text.
-abbrev pub sought : List ℕ → List ℕ → Sought
-sought text token = record { text = text; token = token }
-
 -- The last `>` and quote marks, the tag's attributes and the first `>` are sought in the same text.
 pub record SeeksOpenings (s : TagSought) (last_ends quotes attributes ends : Sought) : Type 0 where
   pub last : last_ends ≡ sought s.text (codes ">")
@@ -21,7 +17,7 @@ pub record SeeksOpenings (s : TagSought) (last_ends quotes attributes ends : Sou
   pub valued : attributes ≡ sought s.text (attribute_of s.tag)
   pub first : ends ≡ sought s.text (codes ">")
 
--- So are the tag's tokens, openings and closing tags, and blanks.
+-- So are the tag's tokens, its openings, its closing tags and the blanks.
 pub record SeeksElements (s : TagSought) (tokens : Sought) (openings : TagSought) (closers : Sought) (blanks : List ℕ) : Type 0 where
   pub begun : tokens ≡ sought s.text (token_of s.tag)
   pub opened : openings ≡ s

@@ -11,7 +11,9 @@ use tokei_table::ext::is_whitespace;
 #[derive(Drop)]
 pub(crate) struct BlankSearch<'a> {
     text: &'a [u8],
+    /// Where the last search began.
     from: usize,
+    /// What it came to: the first place from there on of a byte that isn't blank, or the text's length.
     place: usize,
 }
 
@@ -38,7 +40,7 @@ fn solid_from(text: &[u8], from: usize) -> usize
 }
 
 impl<'a> BlankSearch<'a> {
-    /// Has searched nothing yet.
+    /// Nothing is searched yet: no question lies from 1 to 0.
     pub(crate) fn new(text: &'a [u8]) -> BlankSearch<'a>
         ensures { result ≡ text.now }
     {

@@ -11,8 +11,9 @@ use crate::tags::{Tag, TagAt};
 use crate::target_blocks::target_of;
 use std::marker::Model;
 
-/// Finds the elements and the target of one text, and remembers what each search came to, so that no bytes are searched
-/// for the same thing over and over. Contracts see it as the text.
+/// Finds the elements and the target of one text, and remembers what each search came to: over questions that go from the
+/// front of the text to its end, all searches together take time that grows with its length. Contracts see it as the
+/// text.
 #[derive(Drop)]
 pub struct BlockSearch<'a> {
     text: &'a [u8],
@@ -31,7 +32,7 @@ impl<'a> Model for BlockSearch<'a> {
 }
 
 impl<'a> BlockSearch<'a> {
-    /// Searches the text.
+    /// Searches the text, of which nothing is searched yet.
     pub fn new(text: &'a [u8]) -> BlockSearch<'a>
         ensures { result ≡ text.now }
     {

@@ -1,6 +1,6 @@
 //! The first places of a token in a text.
 ghost use Rattle.std.specs.Prelude.{◌≡◌, ◌+◌, ◌-◌, ◌≤◌, ◌<◌, length, take, drop, IfSome};
-ghost use Rattle.tokei_embedding.specs.Remembered.{Sought, IsFirstPlace};
+ghost use Rattle.tokei_embedding.specs.Remembered.{Sought, sought, IsFirstPlace};
 ghost use Rattle.tokei_embedding.specs.Searches.{first_of};
 
 use memchr::memmem;
@@ -12,16 +12,18 @@ use std::marker::Model;
 pub(crate) struct FirstSearch<'a> {
     text: &'a [u8],
     token: &'a [u8],
+    /// Where the last search began.
     from: usize,
+    /// What it came to: the token's first place from there on, or the text's length.
     place: usize,
 }
 
 impl<'a> Model for FirstSearch<'a> {
     ghost Value = { Sought };
 
-    ghost view = { λ s. record { text = s.text.now; token = s.token.now } };
+    ghost view = { λ s. sought s.text.now s.token.now };
 
-    ghost invariant = { λ s. IsFirstPlace (record { text = s.text.now; token = s.token.now }) s.from s.place };
+    ghost invariant = { λ s. IsFirstPlace (sought s.text.now s.token.now) s.from s.place };
 }
 
 /// The token's first place from `from` on, or the text's length.
@@ -29,7 +31,7 @@ fn first_from(text: &[u8], token: &[u8], from: usize) -> usize
     requires some { 0 < length token.now }
     requires inside { from ≤ length text.now }
     ensures low { from ≤ result }
-    ensures first { IsFirstPlace (record { text = text.now; token = token.now }) from result }
+    ensures first { IsFirstPlace (sought text.now token.now) from result }
 {
     match memmem::find(&text[from..], token) {
         Some(i) => from + i,
@@ -38,10 +40,10 @@ fn first_from(text: &[u8], token: &[u8], from: usize) -> usize
 }
 
 impl<'a> FirstSearch<'a> {
-    /// Has searched nothing yet.
+    /// Nothing is searched yet: no question lies from 1 to 0.
     pub(crate) fn new(text: &'a [u8], token: &'a [u8]) -> FirstSearch<'a>
         requires { 0 < length token.now }
-        ensures { result ≡ record { text = text.now; token = token.now } }
+        ensures { result ≡ sought text.now token.now }
     {
         FirstSearch {
             text,

@@ -1,6 +1,6 @@
 //! The last places of a token in a text.
 ghost use Rattle.std.specs.Prelude.{◌≡◌, ◌+◌, ◌-◌, ◌≤◌, ◌<◌, length, take, drop, IfSome};
-ghost use Rattle.tokei_embedding.specs.Remembered.{Sought, IsLastPlace};
+ghost use Rattle.tokei_embedding.specs.Remembered.{Sought, sought, IsLastPlace};
 ghost use Rattle.tokei_embedding.specs.Searches.{last_of};
 
 use memchr::memmem;
@@ -12,17 +12,20 @@ use std::marker::Model;
 pub(crate) struct LastSearch<'a> {
     text: &'a [u8],
     token: &'a [u8],
+    /// Where the range of the last search began.
     from: usize,
+    /// Where it ended.
     to: usize,
+    /// What the search came to: the token's last place in the range.
     last: Option<usize>,
 }
 
 impl<'a> Model for LastSearch<'a> {
     ghost Value = { Sought };
 
-    ghost view = { λ s. record { text = s.text.now; token = s.token.now } };
+    ghost view = { λ s. sought s.text.now s.token.now };
 
-    ghost invariant = { λ s. (0 < length s.token.now) × IsLastPlace (record { text = s.text.now; token = s.token.now }) s.from s.to s.last };
+    ghost invariant = { λ s. (0 < length s.token.now) × IsLastPlace (sought s.text.now s.token.now) s.from s.to s.last };
 }
 
 /// The token's last place in `text[from..to]`, counted from the text's beginning.
@@ -30,7 +33,7 @@ fn last_between(text: &[u8], token: &[u8], from: usize, to: usize) -> Option<usi
     requires some { 0 < length token.now }
     requires order { from ≤ to }
     requires ends { to ≤ length text.now }
-    ensures { IsLastPlace (record { text = text.now; token = token.now }) from to result }
+    ensures { IsLastPlace (sought text.now token.now) from to result }
 {
     match memmem::rfind(&text[from..to], token) {
         Some(i) => Some(from + i),
@@ -39,10 +42,10 @@ fn last_between(text: &[u8], token: &[u8], from: usize, to: usize) -> Option<usi
 }
 
 impl<'a> LastSearch<'a> {
-    /// Has searched nothing yet.
+    /// Nothing is searched yet but the empty range at the front.
     pub(crate) fn new(text: &'a [u8], token: &'a [u8]) -> LastSearch<'a>
         requires { 0 < length token.now }
-        ensures { result ≡ record { text = text.now; token = token.now } }
+        ensures { result ≡ sought text.now token.now }
     {
         LastSearch {
             text,

@@ -2,7 +2,7 @@
 ghost use Rattle.std.specs.Prelude.{◌≡◌, ◌+◌, ◌-◌, ◌≤◌, ◌<◌, IfSome, length, take, drop, option_map};
 ghost use Rattle.tokei_embedding.specs.Seen.{span_seen, opening_seen};
 ghost use Rattle.tokei_embedding.specs.TagSearches.{TagSought, SeeksOpenings};
-ghost use Rattle.tokei_embedding.specs.Tags.{token_of, attribute_of, value_in, value_end, opening_at};
+ghost use Rattle.tokei_embedding.specs.Tags.{token_of, attribute_of, value_in, value_end, opening_past, opening_at};
 
 use crate::first_search::FirstSearch;
 use crate::last_search::LastSearch;
@@ -44,7 +44,7 @@ fn value_end(value: Option<Span>) -> usize
 }
 
 impl<'a> OpeningSearch<'a> {
-    /// Has searched nothing yet.
+    /// Nothing is searched yet.
     pub(crate) fn new(tag: Tag, text: &'a [u8]) -> OpeningSearch<'a>
         ensures { result ≡ record { tag = tag; text = text.now } }
     {
@@ -74,6 +74,37 @@ impl<'a> OpeningSearch<'a> {
         })
     }
 
+    /// The opening that begins at the place `at`, by the bytes `text[start..to]` from the place `inside` on, and the value
+    /// in them. Its places count as `at` and `inside` do.
+    fn opening_past(
+        &mut self,
+        at: usize,
+        inside: usize,
+        start: usize,
+        to: usize,
+        value: Option<Span>,
+    ) -> Option<Opening>
+        requires order { start ≤ to }
+        requires ends { to ≤ length self.old.text }
+        requires behind { at < inside }
+        requires counted { inside ≤ start }
+        requires within { IfSome value (λ v. (v.start ≤ v.stop) × (v.stop ≤ to - start)) }
+        ensures value { option_map opening_seen result ≡ opening_past at inside (take (to - start) (drop start self.old.text)) (option_map span_seen value) }
+        ensures whole { IfSome result (λ o. (o.whole.start ≡ at) × (at < o.whole.stop) × (o.whole.stop ≤ inside + (to - start))) }
+        ensures value_within { IfSome result (λ o. IfSome o.value (λ v. (v.start ≤ v.stop) × (v.stop ≤ inside + (to - start)))) }
+        ensures same { self.new ≡ self.old }
+    {
+        let behind = value_end(value);
+        let end = self.ends.first_in(start + behind, to)?;
+        Some(Opening {
+            whole: Span {
+                start: at,
+                stop: inside + (behind + end + 1),
+            },
+            value: shifted(value, inside),
+        })
+    }
+
     /// The opening of the tag whose token stands at the place `at` of the part `text[from..to]`. Its places count from
     /// `from` too.
     pub(crate) fn opening_at(&mut self, from: usize, at: usize, to: usize) -> Option<Opening>
@@ -84,18 +115,10 @@ impl<'a> OpeningSearch<'a> {
         ensures value_within { IfSome result (λ o. IfSome o.value (λ v. (v.start ≤ v.stop) × (v.stop ≤ to - from))) }
         ensures same { self.new ≡ self.old }
     {
-        let behind_token = at + token_of(self.tag).len();
-        let start = from + behind_token;
+        let inside = at + token_of(self.tag).len();
+        let start = from + inside;
         let last = self.last_ends.last_in(start, to)?;
         let value = self.value_in(start, start + last);
-        let behind = value_end(value);
-        let end = self.ends.first_in(start + behind, to)?;
-        Some(Opening {
-            whole: Span {
-                start: at,
-                stop: behind_token + (behind + end + 1),
-            },
-            value: shifted(value, behind_token),
-        })
+        self.opening_past(at, inside, start, to, value)
     }
 }

@@ -1,9 +1,8 @@
 //! The elements of one tag in a text.
-ghost use Rattle.std.specs.Prelude.{◌≡◌, ℕ, ◌+◌, ◌-◌, ◌≤◌, ◌<◌, ◌^◌, true, None, IfSome, length, take, drop, option_map};
-ghost use Rattle.tokei_embedding.specs.Remembered.{Sought};
+ghost use Rattle.std.specs.Prelude.{◌≡◌, ℕ, ◌-◌, ◌≤◌, ◌<◌, true, None, length, take, drop, option_map};
 ghost use Rattle.tokei_embedding.specs.Searches.{first_of, is_at};
 ghost use Rattle.tokei_embedding.specs.Seen.{tag_seen};
-ghost use Rattle.tokei_embedding.specs.TagSearches.{TagSought, SeeksElements, sought};
+ghost use Rattle.tokei_embedding.specs.TagSearches.{TagSought, SeeksElements};
 ghost use Rattle.tokei_embedding.specs.Tags.{token_of, closer_of, element_to, tag_block};
 
 use crate::blank_search::BlankSearch;
@@ -35,7 +34,7 @@ impl<'a> Model for TagSearch<'a> {
 }
 
 impl<'a> TagSearch<'a> {
-    /// Has searched nothing yet.
+    /// Nothing is searched yet.
     pub(crate) fn new(tag: Tag, text: &'a [u8]) -> TagSearch<'a>
         ensures { result ≡ record { tag = tag; text = text.now } }
     {
