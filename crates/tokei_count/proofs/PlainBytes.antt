@@ -152,6 +152,7 @@ plain_byte r s mode o b u m e is h none = ap (choice r mode o) e ∙ by_mode mod
     by_kind VerbatimString closer h e = in_string r b (drop 1 u) h true closer e
     by_kind OrdinaryString closer h e = in_string r b (drop 1 u) h false closer e
     by_kind MultiLineComment closer h e = in_comment r s b (drop 1 u) (none_begun r b m is h) closer e
+
     by_mode : (mode : Mode) → IsPlainByte m mode b → (mode ≡ None → o ≡ None) → choice r mode o (b ∷ drop 1 u) ≡ takes_byte
     by_mode None h none = in_plain r s b (drop 1 u) (none_begun r b m is h) o (none refl)
     by_mode (Some i) h none = by_kind i.kind i.closer h.0 (not_begun i.closer b (drop 1 u) h.2 h.1)

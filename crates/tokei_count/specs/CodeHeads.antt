@@ -1,5 +1,5 @@
 -- Parts at whose head nothing but code can begin.
-use Rattle.std.specs.Prelude.{◌≡◌, ℕ, ◌<◌, false, List, [], ◌∷◌, slice_index_or}
+use Rattle.std.specs.Prelude.{ℕ, List, [], ◌∷◌}
 use Rattle.tokei_table.specs.Bytes.{trim_start}
 use Rattle.tokei_count.specs.Matchers.{Matchers}
 use Rattle.tokei_count.specs.PlainBytes.{BeginsNone}

@@ -214,7 +214,16 @@ pub(crate) fn read_text<'a>(
             start = stop;
             continue;
         }
-        let part = read_part(&reading, &mut search, own_matchers, skips, &mut stack, left, start, end)?;
+        let part = read_part(
+            &reading,
+            &mut search,
+            own_matchers,
+            skips,
+            &mut stack,
+            left,
+            start,
+            end,
+        )?;
         own_steps += part.steps;
         match part.end {
             PartEnd::Line(class, behind) => {

@@ -1,4 +1,6 @@
 //! How many choices are made.
+ghost use Rattle.std.specs.Prelude.{◌<◌, length};
+
 use crate::plain_reading::{OUTERMOST_LEVELS, read_text};
 use crate::{CountConfig, Counter, parse_counted};
 use std::alloc::{AllocError, Global};
@@ -10,23 +12,21 @@ use tokei_table::{LanguageTable, LanguageType};
 const C_TABLE: &[u8] =
     br#"{"languages":{"C":{"line_comment":["//"],"multi_line_comments":[["/*","*/"]],"quotes":[["\"","\""]]}}}"#;
 
-/// The steps of the text where every line is walked, and those of `parse_counted`, or `None` without the table.
-fn steps(alloc: Global, text: &[u8]) -> Result<Option<(u128, u128)>, CountError> {
-    let table = match LanguageTable::from_json(alloc, C_TABLE) {
-        Ok(table) => table,
-        Err(_) => return Ok(None),
-    };
-    let counter = Counter::new(alloc, &table)?;
-    let language = match LanguageType::from_name(&table, "C") {
-        Some(language) => language,
-        None => return Ok(None),
-    };
+/// The steps of the text where every line is walked, and those of `parse_counted`.
+fn steps_by(
+    alloc: Global,
+    counter: &Counter,
+    language: LanguageType,
+    text: &[u8],
+) -> Result<(u128, u128), CountError>
+    requires { language < length counter.now }
+{
     let config = CountConfig {
         treat_doc_strings_as_comments: None,
     };
     let walked = read_text(
         alloc,
-        &table,
+        counter.table(),
         counter.matchers_by_language(),
         language,
         text,
@@ -34,8 +34,21 @@ fn steps(alloc: Global, text: &[u8]) -> Result<Option<(u128, u128)>, CountError>
         OUTERMOST_LEVELS,
         false,
     )?;
-    let (_, skipping) = parse_counted(alloc, &counter, language, text, &config)?;
-    Ok(Some((walked.steps, skipping)))
+    let (_, skipping) = parse_counted(alloc, counter, language, text, &config)?;
+    Ok((walked.steps, skipping))
+}
+
+/// The same of a text in C, or `None` without the table.
+fn steps(alloc: Global, text: &[u8]) -> Result<Option<(u128, u128)>, CountError> {
+    let table = match LanguageTable::from_json(alloc, C_TABLE) {
+        Ok(table) => table,
+        Err(_) => return Ok(None),
+    };
+    let counter = Counter::new(alloc, &table)?;
+    match LanguageType::from_name(&table, "C") {
+        Some(language) => Ok(Some(steps_by(alloc, &counter, language, text)?)),
+        None => Ok(None),
+    }
 }
 
 /// So many lines of two bytes, and then three lines of which two are in a comment.

@@ -178,7 +178,9 @@ fn take_bytes<'a>(
     let last = end.min(child);
     let mut next = at;
     while next < last && is_plain_byte(matchers, mode, reading.text[next]) {
-        let _byte = choice_at(reading, search, matchers, mode, left, start, next, end, child, steps);
+        let _byte = choice_at(
+            reading, search, matchers, mode, left, start, next, end, child, steps,
+        );
         next += 1;
     }
     next
@@ -213,7 +215,9 @@ fn take_choice<'a>(
     ensures takes { IfOk result (λ s. Steps (row_in reading.now) (blocks_of reading.now) left (chain_of stack.old.items) (chain_of stack.new.items) reading.now.text.now at s) }
 {
     let mode = innermost(stack);
-    match choice_at(reading, search, matchers, mode, left, start, at, end, child, steps) {
+    match choice_at(
+        reading, search, matchers, mode, left, start, at, end, child, steps,
+    ) {
         Choice::Closer => match stack.pop() {
             Some(enclosure) => Ok(Step::On(enclosure.closer.len())),
             None => unreachable!(),
@@ -296,7 +300,9 @@ pub(crate) fn read_part<'a>(
     let mut child = start;
     let mut at = start;
     while at < end {
-        let ahead = look_ahead(reading, search, skips, stack, left, start, at, stop, &mut child);
+        let ahead = look_ahead(
+            reading, search, skips, stack, left, start, at, stop, &mut child,
+        );
         at = take_bytes(
             reading, search, matchers, stack, left, start, at, end, ahead, &mut steps,
         );

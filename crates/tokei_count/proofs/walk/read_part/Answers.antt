@@ -10,8 +10,8 @@ use Rattle.tokei_count.specs.Seen.{chain_of, mode_of}
 use Rattle.tokei_count.specs.Walked.{Steps}
 use Rattle.tokei_count.specs.declared.walk.Step.TheVariants.{Child}
 use Rattle.tokei_count.proofs.Blocks.{blocks_fit}
-use Rattle.tokei_count.proofs.Leading.{lead_none, at_newline, line_len-drop, rest_is}
-use Rattle.tokei_count.proofs.LineEnds.{end_is, end_within, end_behind, end_later, ends_more, first_line-low, first_line-high}
+use Rattle.tokei_count.proofs.Leading.{lead_none, at_newline, line_len-drop}
+use Rattle.tokei_count.proofs.LineEnds.{end_is, end_within, end_behind, ends_more, first_line-low, first_line-high}
 use Rattle.tokei_count.proofs.Lines.{line_reads, take-first}
 use Rattle.tokei_count.proofs.PartFronts.{part_on, part_anew}
 use Rattle.tokei_count.proofs.PartReading.{block_opens, child_read_at}

@@ -1,13 +1,13 @@
-use Rattle.std.proofs.Common.{◌≡◌, ◌∙◌, ℕ, suc, ◌+◌, ◌-◌, ◌<◌, ◌≤◌, List, ◌∷◌, length, drop, get_or, refl, sym, ap, subst, arith, length-drop, drop-cons}
+use Rattle.std.proofs.Common.{◌≡◌, ◌∙◌, ℕ, suc, ◌+◌, ◌-◌, ◌<◌, ◌≤◌, List, ◌∷◌, length, drop, get_or, refl, sym, ap, subst, arith, drop-cons}
 use Rattle.std.proofs.lemmas.List.{drop-drop}
 use Rattle.tokei_count.specs.Lines.{line_len}
 use Rattle.tokei_count.specs.Modes.{innermost}
 use Rattle.tokei_count.specs.PlainBytes.{IsPlainByte}
 use Rattle.tokei_count.specs.ReadingOf.{row_in, blocks_of}
-use Rattle.tokei_count.specs.Progress.{Leads, Goes, IsPart}
+use Rattle.tokei_count.specs.Progress.{Leads, Goes}
 use Rattle.tokei_count.specs.Seen.{chain_of}
 use Rattle.tokei_count.proofs.Blocks.{blocks_fit}
-use Rattle.tokei_count.proofs.Leading.{lead_none, line_len-drop}
+use Rattle.tokei_count.proofs.Leading.{lead_none}
 use Rattle.tokei_count.proofs.LineEnds.{end_within, end_later}
 use Rattle.tokei_count.proofs.PartFronts.{part_on}
 use Rattle.tokei_count.proofs.PlainBytes.{plain_byte}
