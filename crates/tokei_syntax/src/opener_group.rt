@@ -70,6 +70,7 @@ impl OpenerGroup {
     }
 
     /// Whether one of the openers stands at the front of the text. Its second byte is looked at first.
+    #[inline(always)]
     pub(crate) fn stands(&self, text: &[u8]) -> bool
         ensures { result ≡ begins_with_one self.now text.now }
     {

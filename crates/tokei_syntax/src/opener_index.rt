@@ -18,6 +18,12 @@ const FIRST_BLOCK: usize = 64;
 /// The most bytes that are searched at a time for more than three bytes.
 const LARGEST_BLOCK: usize = 4096;
 
+/// How many bytes are searched at a time close by for up to three bytes: the most that `memchr` takes with two vectors.
+const NEAR_BLOCK: usize = 63;
+
+/// How many bytes are close by.
+const NEAR: usize = 252;
+
 /// The openers of a language in groups of one first byte. Contracts see it as the list of its openers.
 #[derive(Drop)]
 pub struct OpenerIndex {
@@ -41,6 +47,7 @@ impl Model for OpenerIndex {
     ghost invariant = { λ x. IsIndexOf (tokens_of x.openers.items) x.firsts.items x.groups.items };
 }
 
+#[inline(always)]
 fn has_byte(bytes: &[u8], byte: u8) -> bool
     ensures { result ≡ has_byte bytes.now byte }
 {
@@ -119,16 +126,46 @@ fn groups_of(
     Ok(groups)
 }
 
-/// The first place of the text whose byte is in the list, by searches for three bytes at a time, each up to where the
-/// one before it ended.
-fn first_of(bytes: &[u8], text: &[u8]) -> Option<usize>
+/// The first place of the text whose byte is in the list of at most three.
+#[inline(always)]
+fn first_of_few(bytes: &[u8], text: &[u8]) -> Option<usize>
+    requires { length bytes.now ≤ 3 }
     ensures { IsFirstByte (has_byte bytes.now) text.now result }
 {
     match bytes {
         [] => None,
         [a] => memchr(*a, text),
         [a, b] => memchr2(*a, *b, text),
-        [a, b, c] => memchr3(*a, *b, *c, text),
+        [a, b, c, ..] => memchr3(*a, *b, *c, text),
+    }
+}
+
+/// The same, in small blocks at first: the next hit is mostly close, and then one of them is found in few steps.
+#[inline(always)]
+fn first_of_few_near(bytes: &[u8], text: &[u8]) -> Option<usize>
+    requires { length bytes.now ≤ 3 }
+    ensures { IsFirstByte (has_byte bytes.now) text.now result }
+{
+    let mut from = 0;
+    while from < NEAR && NEAR_BLOCK <= text.len() - from {
+        let end = from + NEAR_BLOCK;
+        if let Some(n) = first_of_few(bytes, &text[from..end]) {
+            return Some(from + n);
+        }
+        from = end;
+    }
+    match first_of_few(bytes, &text[from..]) {
+        Some(n) => Some(from + n),
+        None => None,
+    }
+}
+
+/// The first place of the text whose byte is in the list, by searches for three bytes at a time, each up to where the
+/// one before it ended.
+fn first_of(bytes: &[u8], text: &[u8]) -> Option<usize>
+    ensures { IsFirstByte (has_byte bytes.now) text.now result }
+{
+    match bytes {
         [a, b, c, others @ ..] => match memchr3(*a, *b, *c, text) {
             Some(n) => match first_of(others, &text[..n]) {
                 Some(m) => Some(m),
@@ -136,6 +173,7 @@ fn first_of(bytes: &[u8], text: &[u8]) -> Option<usize>
             },
             None => first_of(others, text),
         },
+        _ => first_of_few(bytes, text),
     }
 }
 
@@ -157,11 +195,12 @@ fn first_in_blocks(bytes: &[u8], text: &[u8]) -> Option<usize>
 }
 
 /// The first place of the text whose byte is in the list.
+#[inline(always)]
 fn first_among(bytes: &[u8], text: &[u8]) -> Option<usize>
     ensures { IsFirstByte (has_byte bytes.now) text.now result }
 {
     if bytes.len() <= 3 {
-        first_of(bytes, text)
+        first_of_few_near(bytes, text)
     } else {
         first_in_blocks(bytes, text)
     }
@@ -207,6 +246,7 @@ impl OpenerIndex {
     }
 
     /// The openers that begin with the byte, where there are any.
+    #[inline(always)]
     fn group_of(&self, byte: u8) -> Option<&OpenerGroup>
         ensures { MatchOption result ((t : List ℕ) → begins_with_one self.entry.now (byte ∷ t) ≡ false)
             (λ g. (t : List ℕ) → begins_with_one g.now (byte ∷ t) ≡ begins_with_one self.entry.now (byte ∷ t)) }
@@ -220,6 +260,7 @@ impl OpenerIndex {
     }
 
     /// Whether an opener stands at the front of the text.
+    #[inline(always)]
     fn stands(&self, text: &[u8]) -> bool
         requires { 0 < length text.now }
         ensures { result ≡ begins_with_one self.now text.now }
@@ -234,6 +275,7 @@ impl OpenerIndex {
     }
 
     /// How many bytes at the front of the text are first bytes of openers, up to where an opener stands.
+    #[inline(always)]
     fn passed(&self, text: &[u8]) -> usize
         ensures within { result ≤ length text.now }
         ensures none { (k : ℕ) → k < result → begins_with_one self.now (drop k text.now) ≡ false }
