@@ -1,0 +1,16 @@
+"""The program that counts a text in each way and times it, `tokei_bench_count`."""
+import os
+import subprocess
+import sys
+
+TOP = os.path.dirname(os.path.dirname(os.path.abspath(__file__)))
+CRATE = f"{TOP}/crates/tokei_bench_count"
+PROGRAM = f"{CRATE}/out/tokei_bench_count"
+
+
+def build():
+    """Proves and builds the program where that hasn't been done."""
+    built = subprocess.run(["rt", "run", "--", "C"], cwd=CRATE, stdin=subprocess.DEVNULL, stdout=subprocess.DEVNULL,
+                           stderr=subprocess.DEVNULL, check=False)
+    if built.returncode != 0:
+        sys.exit("tokei_bench_count can't be built: run rt check in its folder")
