@@ -1,7 +1,8 @@
 -- At a byte at which no choice can begin none but the byte is made.
-use Rattle.std.proofs.Common.{◌≡◌, ℕ, zero, suc, ◌<◌, ◌≤◌, ◌⊎◌, inl, inr, ◌==◌, nat_eq, Bool, true, false, ◌&&◌, ◌||◌, cond, List, [], ◌∷◌, ◌++◌, length, drop, length-append, Option, None, Some, is_some, slice_index_or, refl, sym, ◌∙◌, ap, arith}
+use Rattle.std.proofs.Common.{◌≡◌, ℕ, zero, suc, ◌+◌, ◌<◌, ◌≤◌, ◌⊎◌, inl, inr, ◌==◌, nat_eq, Bool, true, false, ◌&&◌, ◌||◌, cond, List, [], ◌∷◌, ◌++◌, length, drop, get_or, drop-cons, length-append, Option, None, Some, is_some, slice_index_or, refl, sym, ◌∙◌, ap, arith}
 use Rattle.std.specs.List.{list_all, list_any}
 use Rattle.std.proofs.lemmas.Bool.Decides.{Decides-eqb}
+use Rattle.std.proofs.lemmas.List.{drop-drop}
 use Rattle.tokei_table.specs.Bytes.{begins}
 use Rattle.tokei_table.specs.FirstOpener.{is_first_of}
 use Rattle.tokei_table.specs.Row.{Pair, Row}
@@ -156,6 +157,13 @@ plain_byte r s mode o b u m e is h none = ap (choice r mode o) e ∙ by_mode mod
     by_mode : (mode : Mode) → IsPlainByte m mode b → (mode ≡ None → o ≡ None) → choice r mode o (b ∷ drop 1 u) ≡ takes_byte
     by_mode None h none = in_plain r s b (drop 1 u) (none_begun r b m is h) o (none refl)
     by_mode (Some i) h none = by_kind i.kind i.closer h.0 (not_begun i.closer b (drop 1 u) h.2 h.1)
+
+-- the same at a place of a text
+pub plain_byte_at : (r : Row) (s : IsSound r) (mode : Mode) (o : Option Block) (text : List ℕ) (at : ℕ) (m : Matchers) → m ≡ matchers_of r → at < length text → IsPlainByte m mode (get_or text at 0) → (mode ≡ None → o ≡ None) → choice r mode o (drop at text) ≡ takes_byte
+plain_byte_at r s mode o text at m e some h none =
+    let one : suc at ≡ at + 1 = omega arith in
+    let here : drop at text ≡ get_or text at 0 ∷ drop 1 (drop at text) = drop-cons text at 0 some ∙ ap (λ n. get_or text at 0 ∷ drop n text) one ∙ ap (λ w. get_or text at 0 ∷ w) (sym (drop-drop 1 at text)) in
+    plain_byte r s mode o (get_or text at 0) (drop at text) m here e h none
 
 -- a choice that is no child, in an item or where no child can open, is the same whatever can open there
 pub same_choice : (r : Row) (mode : Mode) (o : Option Block) (u : List ℕ) (x : CodeChoice.Choice) → (mode ≡ None → o ≡ None) → (x ≡ Child → false ≡ true) → choice_of None x ≡ choice r mode None u → choice_of o x ≡ choice r mode o u

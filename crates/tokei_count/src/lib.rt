@@ -16,6 +16,7 @@ mod line_ends;
 mod matchers;
 mod openings;
 mod parse;
+mod plain_bytes;
 mod plain_reading;
 mod reading;
 mod walk;

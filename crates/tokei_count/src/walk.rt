@@ -2,10 +2,10 @@
 ghost use Rattle.std.specs.Prelude.{◌≡◌, ℕ, ◌+◌, ◌-◌, ◌<◌, ◌≤◌, true, None, is_some, IfOk, drop, length};
 ghost use Rattle.tokei_table.specs.Sound.{IsSound};
 ghost use Rattle.tokei_count.specs.Choice.{choice};
+ghost use Rattle.tokei_count.specs.Choice.Choice.{takes_byte};
 ghost use Rattle.tokei_count.specs.Lines.{first_line, line_len};
 ghost use Rattle.tokei_count.specs.Matchers.{matchers_of};
 ghost use Rattle.tokei_count.specs.Modes.{innermost};
-ghost use Rattle.tokei_count.specs.PlainBytes.{BeginsNoneWithin, IsPlainByte};
 ghost use Rattle.tokei_count.specs.ReadingOf.{row_in, blocks_of};
 ghost use Rattle.tokei_count.specs.Progress.{IsPart, IsClosable, Leads};
 ghost use Rattle.tokei_count.specs.Seen.{choice_of, mode_of, chain_of};
@@ -17,6 +17,7 @@ use crate::items::{Enclosure, Kind};
 use crate::line_ends::line_stop;
 use crate::matchers::SharedMatchers;
 use crate::openings::{block_at, next_child};
+use crate::plain_bytes::{is_plain_byte, plain_end};
 use crate::reading::Reading;
 use std::alloc::AllocError;
 use tokei_embedding::BlockSearch;
@@ -78,55 +79,29 @@ fn opens_at<'a>(
     at < end && block_at(reading, search, left, start, at, end).is_some()
 }
 
-/// Whether no escape, opener or line comment can begin at the byte in an item of that kind.
-#[inline(always)]
-fn begins_none_within(matchers: &SharedMatchers, kind: Kind, byte: u8) -> bool
-    ensures { result ≡ true → BeginsNoneWithin matchers.now kind byte }
-{
-    match kind {
-        Kind::DocString | Kind::VerbatimString | Kind::OrdinaryString => byte != b'\\',
-        Kind::MultiLineComment => !matchers.begins(byte),
-    }
-}
-
-/// Whether no choice but the byte itself and a child can begin at the byte, in that mode.
-#[inline(always)]
-fn is_plain_byte(matchers: &SharedMatchers, mode: Option<Enclosure>, byte: u8) -> bool
-    ensures { result ≡ true → IsPlainByte matchers.now (mode_of mode.entry) byte }
-{
-    match mode {
-        None => !matchers.begins(byte),
-        Some(inner) => match inner.closer {
-            [] => false,
-            [first, ..] => *first != byte && begins_none_within(matchers, inner.kind, byte),
-        },
-    }
-}
-
 /// The choice at the place `at` of a part that began at `start`, whose line goes to `end`, before its newline; `left`
-/// bytes were left behind the last child, and no child opens in plain text from the place to before `child`. It is one
-/// step.
+/// bytes were left behind the last child, and no child opens in plain text from the place to before `child`. From the place
+/// to before `plain` each choice is the byte itself. It is one step.
 #[inline(always)]
 fn choice_at<'a>(
     reading: &Reading<'a>,
     search: &mut BlockSearch<'a>,
-    matchers: &SharedMatchers,
     mode: Option<Enclosure<'a>>,
     left: usize,
     start: usize,
     at: usize,
     end: usize,
     child: usize,
+    plain: usize,
     steps: &mut usize,
 ) -> Choice<'a>
-    requires sound { IsSound (row_in reading.now) }
     requires known { reading.now.language < length reading.now.table.now }
     requires part { IsPart reading.now.text.now left start at }
     requires line { end ≡ at + line_len (drop at reading.now.text.now) }
     requires some { at < length reading.now.text.now }
     requires room { steps.old < length reading.now.text.now }
-    requires matched { matchers.now ≡ matchers_of (row_in reading.now) }
     requires childless { at < child → mode_of mode ≡ None → blocks_of reading.now left (drop at reading.now.text.now) ≡ None }
+    requires plain { at < plain → choice (row_in reading.now) (mode_of mode) (blocks_of reading.now left (drop at reading.now.text.now)) (drop at reading.now.text.now) ≡ takes_byte }
     requires searched { search.old ≡ reading.now.text.now }
     ensures same { search.new ≡ search.old }
     ensures counted { steps.new ≡ steps.old + 1 }
@@ -134,7 +109,7 @@ fn choice_at<'a>(
     ensures choice { choice_of (blocks_of reading.now left (drop at reading.now.text.now)) result ≡ choice (row_in reading.now) (mode_of mode.entry) (blocks_of reading.now left (drop at reading.now.text.now)) (drop at reading.now.text.now) }
 {
     *steps += 1;
-    if at < child && is_plain_byte(matchers, mode, reading.text[at]) {
+    if at < plain {
         return Choice::Byte;
     }
     let opens = child <= at && opens_at(reading, search, left, start, at, end);
@@ -175,11 +150,11 @@ fn take_bytes<'a>(
     ensures leads { Leads (row_in reading.now) (blocks_of reading.now) left (chain_of stack.now) (result - at) (result - at) (chain_of stack.now) (drop at reading.now.text.now) }
 {
     let mode = innermost(stack);
-    let last = end.min(child);
+    let plain = plain_end(matchers, mode, reading.text, at, end.min(child));
     let mut next = at;
-    while next < last && is_plain_byte(matchers, mode, reading.text[next]) {
+    while next < plain {
         let _byte = choice_at(
-            reading, search, matchers, mode, left, start, next, end, child, steps,
+            reading, search, mode, left, start, next, end, child, plain, steps,
         );
         next += 1;
     }
@@ -191,7 +166,6 @@ fn take_bytes<'a>(
 fn take_choice<'a>(
     reading: &Reading<'a>,
     search: &mut BlockSearch<'a>,
-    matchers: &SharedMatchers,
     stack: &mut Vec<Enclosure<'a>>,
     left: usize,
     start: usize,
@@ -207,7 +181,6 @@ fn take_choice<'a>(
     requires line { end ≡ at + line_len (drop at reading.now.text.now) }
     requires some { at < end }
     requires room { steps.old < length reading.now.text.now }
-    requires matched { matchers.now ≡ matchers_of (row_in reading.now) }
     requires childless { at < child → innermost (chain_of stack.old.items) ≡ None → blocks_of reading.now left (drop at reading.now.text.now) ≡ None }
     requires searched { search.old ≡ reading.now.text.now }
     ensures same { search.new ≡ search.old }
@@ -216,7 +189,7 @@ fn take_choice<'a>(
 {
     let mode = innermost(stack);
     match choice_at(
-        reading, search, matchers, mode, left, start, at, end, child, steps,
+        reading, search, mode, left, start, at, end, child, at, steps,
     ) {
         Choice::Closer => match stack.pop() {
             Some(enclosure) => Ok(Step::On(enclosure.closer.len())),
@@ -310,7 +283,7 @@ pub(crate) fn read_part<'a>(
             continue;
         }
         match take_choice(
-            reading, search, matchers, stack, left, start, at, end, ahead, &mut steps,
+            reading, search, stack, left, start, at, end, ahead, &mut steps,
         )? {
             Step::On(len) => at += len,
             Step::Rest => at = stop,
@@ -324,8 +297,13 @@ pub(crate) fn read_part<'a>(
         let mode = innermost(stack);
         // no child opens at a newline
         let behind = at + 1;
+        let plain = if is_plain_byte(matchers, mode, b'\n') {
+            behind
+        } else {
+            at
+        };
         let _newline = choice_at(
-            reading, search, matchers, mode, left, start, at, end, behind, &mut steps,
+            reading, search, mode, left, start, at, end, behind, plain, &mut steps,
         );
     }
     let line = &reading.text[start..stop];

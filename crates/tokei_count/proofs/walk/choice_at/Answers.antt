@@ -12,14 +12,8 @@ use Rattle.tokei_count.proofs.Leading.{rest_is}
 use Rattle.tokei_count.proofs.walk.choice_at.Goals as goal
 use Rattle.tokei_count.proofs.walk.choice_at.Goals.{then-child-at, else-child-at}
 
-pub returns-then-is_plain_byte-clause-choice : goal.returns-then-is_plain_byte-clause-choice
-returns-then-is_plain_byte-clause-choice c =
-    let text : List ℕ = c.args.reading.now.text.now in
-    let u : List ℕ = drop c.args.at text in
-    let one : suc c.args.at ≡ c.args.at + 1 = omega arith in
-    let here : u ≡ get_or text c.args.at 0 ∷ drop 1 u = drop-cons text c.args.at 0 c.requires.some ∙ ap (λ n. get_or text c.args.at 0 ∷ drop n text) one ∙ ap (λ w. get_or text c.args.at 0 ∷ w) (sym (drop-drop 1 c.args.at text)) in
-    let byte : IsPlainByte c.args.matchers.now (mode_of c.args.mode) (get_or text c.args.at 0) = c.is_plain_byte.ensures c.if-is_plain_byte.true in
-    sym (plain_byte (row_in c.args.reading.now) c.requires.sound (mode_of c.args.mode) (blocks_of c.args.reading.now c.args.left u) (get_or text c.args.at 0) u c.args.matchers.now here c.requires.matched byte (c.requires.childless c.if-at-child.true))
+pub returns-then-at-plain-clause-choice : goal.returns-then-at-plain-clause-choice
+returns-then-at-plain-clause-choice c = sym (c.requires.plain c.if-at-plain.true)
 
 pub returns-clause-choice : goal.returns-clause-choice
 returns-clause-choice c =

@@ -15,9 +15,10 @@ use Rattle.tokei_count.proofs.LineEnds.{end_is, end_within, end_behind, ends_mor
 use Rattle.tokei_count.proofs.Lines.{line_reads, take-first}
 use Rattle.tokei_count.proofs.PartFronts.{part_on, part_anew}
 use Rattle.tokei_count.proofs.PartReading.{block_opens, child_read_at}
+use Rattle.tokei_count.proofs.PlainBytes.{plain_byte}
 use Rattle.tokei_count.proofs.Walking.{led_on, run_on, reached}
 use Rattle.tokei_count.proofs.walk.read_part.Goals as goal
-use Rattle.tokei_count.proofs.walk.read_part.Goals.{then-at-stop, else-at-stop}
+use Rattle.tokei_count.proofs.walk.read_part.Goals.{then-at-stop, else-at-stop, then-is_plain_byte, else-is_plain_byte}
 
 pub loop-at-init : goal.loop-at-init
 loop-at-init c =
@@ -312,6 +313,25 @@ choice_at-newline-requires-clause-childless c = λ _ plain.
     let none : line_len u ≡ 0 = omega (arith, line, at_end) in
     let some : 0 < length u = omega (arith, length-drop at text, c.if-at-stop.true, c.line_stop-stop.ensures.within) in
     ap (blocks_of c.args.reading.now c.args.left) (at_newline u none some) ∙ (blocks_fit c.args.reading.now).in_line.none c.args.left (drop 1 u)
+
+-- the newline is the byte itself where nothing begins at it
+pub choice_at-newline-requires-clause-plain : goal.choice_at-newline-requires-clause-plain
+choice_at-newline-requires-clause-plain c = λ ahead.
+    let text : List ℕ = c.args.reading.now.text.now in
+    let end : ℕ = c.args.end in
+    let at : ℕ = c.loop-at.at in
+    let u : List ℕ = drop at text in
+    let stop_is : c.line_stop-stop.result ≡ c.args.start + length (first_line (drop c.args.start text)) = end_is text c.args.start end c.line_stop-stop.result c.requires.part.high c.requires.line c.line_stop-stop.ensures.more c.line_stop-stop.ensures.last in
+    let at_end : at ≡ end = omega (arith, c.loop-at-test.false, c.if-at-stop.true, stop_is, c.requires.line, first_line-high (drop c.args.start text)) in
+    let here : at ≡ reached at end = omega (arith, at_end) in
+    let line : end ≡ at + line_len u = c.loop-at.invariant.line ∙ ap (λ m. m + line_len (drop m text)) (sym here) in
+    let none : line_len u ≡ 0 = omega (arith, line, at_end) in
+    let some : 0 < length u = omega (arith, length-drop at text, c.if-at-stop.true, c.line_stop-stop.ensures.within) in
+    let childless = ap (blocks_of c.args.reading.now c.args.left) (at_newline u none some) ∙ (blocks_fit c.args.reading.now).in_line.none c.args.left (drop 1 u) in
+    elim c.if-is_plain_byte.branch [
+      | then-is_plain_byte w ↦ plain_byte (row_in c.args.reading.now) c.requires.sound (mode_of c.innermost-mode.result) (blocks_of c.args.reading.now c.args.left u) 10 u c.args.matchers.now (at_newline u none some) c.requires.matched (c.is_plain_byte.ensures w.if-is_plain_byte.true) (λ _. childless)
+      | else-is_plain_byte w ↦ absurd (omega (arith, ahead, w.plain-is))
+    ]
 
 pub class_by-class-requires-clause-matched : goal.class_by-class-requires-clause-matched
 class_by-class-requires-clause-matched c = c.requires.matched ∙ ap matchers_of (sym c.syntax.ensures.row)

@@ -5,12 +5,12 @@ use Rattle.tokei_count.specs.Modes.{innermost}
 use Rattle.tokei_count.specs.PlainBytes.{IsPlainByte}
 use Rattle.tokei_count.specs.ReadingOf.{row_in, blocks_of}
 use Rattle.tokei_count.specs.Progress.{Leads, Goes}
-use Rattle.tokei_count.specs.Seen.{chain_of}
+use Rattle.tokei_count.specs.Seen.{chain_of, mode_of}
 use Rattle.tokei_count.proofs.Blocks.{blocks_fit}
 use Rattle.tokei_count.proofs.Leading.{lead_none}
 use Rattle.tokei_count.proofs.LineEnds.{end_within, end_later}
 use Rattle.tokei_count.proofs.PartFronts.{part_on}
-use Rattle.tokei_count.proofs.PlainBytes.{plain_byte}
+use Rattle.tokei_count.proofs.PlainBytes.{plain_byte_at}
 use Rattle.tokei_count.proofs.Stepping.{goes_byte}
 use Rattle.tokei_count.proofs.Walking.{led_on}
 use Rattle.tokei_count.proofs.walk.take_bytes.Goals as goal
@@ -29,10 +29,10 @@ loop-next-init c =
           (lead_none (row_in c.args.reading.now) (blocks_of c.args.reading.now) c.args.left (chain_of c.args.stack.now) (drop c.args.at c.args.reading.now.text.now));
     }
 
-pub bounds-reading-next : goal.bounds-reading-next
-bounds-reading-next c =
+pub plain_end-plain-requires : goal.plain_end-plain-requires
+plain_end-plain-requires c =
     let within : c.args.end ≤ length c.args.reading.now.text.now = end_within c.args.reading.now.text.now c.args.at c.args.end c.requires.part.high c.requires.line in
-    omega (arith, within, c.loop-next-test.true, c.min-last.ensures)
+    omega (arith, within, c.min.ensures)
 
 pub choice_at-byte-requires-clause-part : goal.choice_at-byte-requires-clause-part
 choice_at-byte-requires-clause-part c = c.loop-next.invariant.part
@@ -43,12 +43,12 @@ choice_at-byte-requires-clause-line c = c.loop-next.invariant.line
 pub choice_at-byte-requires-clause-some : goal.choice_at-byte-requires-clause-some
 choice_at-byte-requires-clause-some c =
     let within : c.args.end ≤ length c.args.reading.now.text.now = end_within c.args.reading.now.text.now c.args.at c.args.end c.requires.part.high c.requires.line in
-    omega (arith, within, c.loop-next-test.true, c.min-last.ensures)
+    omega (arith, within, c.loop-next-test.true, c.plain_end-plain.ensures.high (omega (arith, c.loop-next.invariant.low, c.loop-next-test.true)), c.min.ensures)
 
 pub choice_at-byte-requires-clause-room : goal.choice_at-byte-requires-clause-room
 choice_at-byte-requires-clause-room c =
     let within : c.args.end ≤ length c.args.reading.now.text.now = end_within c.args.reading.now.text.now c.args.at c.args.end c.requires.part.high c.requires.line in
-    omega (arith, within, c.loop-next-test.true, c.min-last.ensures, c.loop-next.invariant.counted, c.loop-next.invariant.low, c.requires.few)
+    omega (arith, within, c.loop-next-test.true, c.plain_end-plain.ensures.high (omega (arith, c.loop-next.invariant.low, c.loop-next-test.true)), c.min.ensures, c.loop-next.invariant.counted, c.loop-next.invariant.low, c.requires.few)
 
 pub choice_at-byte-requires-clause-searched : goal.choice_at-byte-requires-clause-searched
 choice_at-byte-requires-clause-searched c = c.loop-next.invariant.same ∙ c.requires.searched
@@ -56,21 +56,30 @@ choice_at-byte-requires-clause-searched c = c.loop-next.invariant.same ∙ c.req
 pub choice_at-byte-requires-clause-childless : goal.choice_at-byte-requires-clause-childless
 choice_at-byte-requires-clause-childless c = λ ahead plain. c.requires.childless c.loop-next.next c.loop-next.invariant.low ahead (sym c.innermost-mode.ensures ∙ plain)
 
+-- nothing else begins at the byte
+pub choice_at-byte-requires-clause-plain : goal.choice_at-byte-requires-clause-plain
+choice_at-byte-requires-clause-plain c = λ _.
+    let text : List ℕ = c.args.reading.now.text.now in
+    let next : ℕ = c.loop-next.next in
+    let last = c.plain_end-plain.ensures.high (omega (arith, c.loop-next.invariant.low, c.loop-next-test.true)) in
+    let within : c.args.end ≤ length text = end_within text c.args.at c.args.end c.requires.part.high c.requires.line in
+    plain_byte_at (row_in c.args.reading.now) c.requires.sound (mode_of c.innermost-mode.result) (blocks_of c.args.reading.now c.args.left (drop next text)) text next c.args.matchers.now c.requires.matched (omega (arith, c.loop-next-test.true, last, c.min.ensures, within))
+    (c.plain_end-plain.ensures.plain next c.loop-next.invariant.low c.loop-next-test.true) (λ plain. c.requires.childless next c.loop-next.invariant.low (omega (arith, c.loop-next-test.true, last, c.min.ensures)) (sym c.innermost-mode.ensures ∙ plain))
+
 pub loop-next-preserved : goal.loop-next-preserved
 loop-next-preserved c =
     let text : List ℕ = c.args.reading.now.text.now in
     let next : ℕ = c.loop-next.next in
     let u : List ℕ = drop next text in
     let within : c.args.end ≤ length text = end_within text c.args.at c.args.end c.requires.part.high c.requires.line in
-    let more : next < c.args.end = omega (arith, c.loop-next-test.true, c.min-last.ensures) in
-    let ahead : next < c.args.child = omega (arith, c.loop-next-test.true, c.min-last.ensures) in
+    let last = c.plain_end-plain.ensures.high (omega (arith, c.loop-next.invariant.low, c.loop-next-test.true)) in
+    let more : next < c.args.end = omega (arith, c.loop-next-test.true, last, c.min.ensures) in
+    let ahead : next < c.args.child = omega (arith, c.loop-next-test.true, last, c.min.ensures) in
     let some : 0 < line_len u = omega (arith, more, c.loop-next.invariant.line) in
-    let one : suc next ≡ next + 1 = omega arith in
-    let here : u ≡ get_or text next 0 ∷ drop 1 u = drop-cons text next 0 (omega (arith, more, within)) ∙ ap (λ n. get_or text next 0 ∷ drop n text) one ∙ ap (λ w. get_or text next 0 ∷ w) (sym (drop-drop 1 next text)) in
-    let byte = subst (λ m. IsPlainByte c.args.matchers.now m (get_or text next 0)) c.innermost-mode.ensures (c.is_plain_byte.ensures c.if-is_plain_byte.true) in
+    let byte = subst (λ m. IsPlainByte c.args.matchers.now m (get_or text next 0)) c.innermost-mode.ensures (c.plain_end-plain.ensures.plain next c.loop-next.invariant.low c.loop-next-test.true) in
     let goes : Goes (row_in c.args.reading.now) (blocks_of c.args.reading.now) c.args.left (chain_of c.args.stack.now) 1 1 (chain_of c.args.stack.now) u =
     goes_byte (row_in c.args.reading.now) (blocks_of c.args.reading.now) c.args.left c.requires.sound (blocks_fit c.args.reading.now).in_line (chain_of c.args.stack.now) u c.requires.closable some
-    (plain_byte (row_in c.args.reading.now) c.requires.sound (innermost (chain_of c.args.stack.now)) (blocks_of c.args.reading.now c.args.left u) (get_or text next 0) u c.args.matchers.now here c.requires.matched byte (c.requires.childless next c.loop-next.invariant.low ahead)) in
+    (plain_byte_at (row_in c.args.reading.now) c.requires.sound (innermost (chain_of c.args.stack.now)) (blocks_of c.args.reading.now c.args.left u) text next c.args.matchers.now c.requires.matched (omega (arith, more, within)) byte (c.requires.childless next c.loop-next.invariant.low ahead)) in
     record {
       same = c.choice_at-byte.ensures.same ∙ c.loop-next.invariant.same;
       low = omega (arith, c.loop-next.invariant.low);
@@ -82,41 +91,23 @@ loop-next-preserved c =
           (next + 1 - c.args.at) (next - c.args.at) 1 1 (next + 1 - c.args.at) c.loop-next.invariant.low c.loop-next.invariant.leads goes.leads (omega (arith, c.loop-next.invariant.low)) (omega (arith, c.loop-next.invariant.low));
     }
 
-pub returns-else-is_plain_byte-clause-low : goal.returns-else-is_plain_byte-clause-low
-returns-else-is_plain_byte-clause-low c = c.loop-next.invariant.low
+pub returns-clause-low : goal.returns-clause-low
+returns-clause-low c = c.loop-next.invariant.low
 
-pub returns-else-is_plain_byte-clause-counted : goal.returns-else-is_plain_byte-clause-counted
-returns-else-is_plain_byte-clause-counted c = c.loop-next.invariant.counted
+pub returns-clause-high : goal.returns-clause-high
+returns-clause-high c = c.loop-next.invariant.high
 
-pub returns-else-is_plain_byte-clause-leads : goal.returns-else-is_plain_byte-clause-leads
-returns-else-is_plain_byte-clause-leads c = c.loop-next.invariant.leads
+pub returns-clause-counted : goal.returns-clause-counted
+returns-clause-counted c = c.loop-next.invariant.counted
 
-pub returns-after-loop-next-clause-low : goal.returns-after-loop-next-clause-low
-returns-after-loop-next-clause-low c = c.loop-next.invariant.low
+pub returns-clause-leads : goal.returns-clause-leads
+returns-clause-leads c = c.loop-next.invariant.leads
 
-pub returns-after-loop-next-clause-high : goal.returns-after-loop-next-clause-high
-returns-after-loop-next-clause-high c = c.loop-next.invariant.high
+pub returns-clause-same : goal.returns-clause-same
+returns-clause-same c = c.loop-next.invariant.same
 
-pub returns-after-loop-next-clause-counted : goal.returns-after-loop-next-clause-counted
-returns-after-loop-next-clause-counted c = c.loop-next.invariant.counted
+pub returns-clause-part : goal.returns-clause-part
+returns-clause-part c = c.loop-next.invariant.part
 
-pub returns-after-loop-next-clause-leads : goal.returns-after-loop-next-clause-leads
-returns-after-loop-next-clause-leads c = c.loop-next.invariant.leads
-
-pub returns-else-is_plain_byte-clause-same : goal.returns-else-is_plain_byte-clause-same
-returns-else-is_plain_byte-clause-same c = c.loop-next.invariant.same
-
-pub returns-after-loop-next-clause-same : goal.returns-after-loop-next-clause-same
-returns-after-loop-next-clause-same c = c.loop-next.invariant.same
-
-pub returns-else-is_plain_byte-clause-part : goal.returns-else-is_plain_byte-clause-part
-returns-else-is_plain_byte-clause-part c = c.loop-next.invariant.part
-
-pub returns-else-is_plain_byte-clause-line : goal.returns-else-is_plain_byte-clause-line
-returns-else-is_plain_byte-clause-line c = c.loop-next.invariant.line
-
-pub returns-after-loop-next-clause-part : goal.returns-after-loop-next-clause-part
-returns-after-loop-next-clause-part c = c.loop-next.invariant.part
-
-pub returns-after-loop-next-clause-line : goal.returns-after-loop-next-clause-line
-returns-after-loop-next-clause-line c = c.loop-next.invariant.line
+pub returns-clause-line : goal.returns-clause-line
+returns-clause-line c = c.loop-next.invariant.line

@@ -17,4 +17,4 @@ invariant-loop-next l = record {
 }
 
 abbrev pub decreases-loop-next : goal.decreases-loop-next
-decreases-loop-next l = l.last - l.next
+decreases-loop-next l = l.plain - l.next
