@@ -1,1 +1,2 @@
 pub mod OneOf
+pub mod ByteSets

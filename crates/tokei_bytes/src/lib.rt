@@ -4,8 +4,10 @@
 //! search here is for a caller that mostly looks a few bytes ahead; far searches are memchr's.
 #![tactic(auto)]
 
+mod byte_set;
 mod one_of;
 #[cfg(test)]
 mod tests;
 
+pub use byte_set::ByteSet;
 pub use one_of::first_of_four;

@@ -1,0 +1,96 @@
+//! Sets of bytes that a text is searched for.
+ghost use Rattle.std.specs.Prelude.{◌≡◌, ℕ, ◌<◌, ◌≤◌, ◌==◌, false, length, slice_index, slice_index_or};
+ghost use Rattle.tokei_bytes.specs.ByteSets.{IsOutside, HasFew};
+
+use crate::one_of::first_of_four;
+use std::marker::Model;
+
+/// How many bytes are searched for at once.
+const FEW: usize = 4;
+
+/// A set of bytes. Contracts see a flag for each byte, which says whether it is in the set.
+#[derive(Drop)]
+pub struct ByteSet {
+    flags: Vec<bool>,
+    /// The first `count` of them are the bytes of the set, where those are at most four.
+    few: [u8; 4],
+    count: usize,
+}
+
+impl Model for ByteSet {
+    ghost use Rattle.std.specs.Prelude.{◌≡◌, Bool, List, length};
+    ghost use Rattle.tokei_bytes.specs.ByteSets.{HasFew};
+
+    ghost Value = { List Bool };
+
+    ghost view = { λ s. s.flags.items };
+
+    ghost invariant = { λ s. (length s.flags.items ≡ 256) × HasFew s.flags.items s.few s.count };
+}
+
+impl ByteSet {
+    /// The set of the bytes whose flags are set.
+    pub fn new(flags: Vec<bool>) -> ByteSet
+        requires { length flags.items ≡ 256 }
+        ensures { result ≡ flags.items }
+    {
+        let mut few = [0; 4];
+        let mut count = 0;
+        for byte in 0..256usize {
+            if flags[byte] && count <= FEW {
+                few = [byte as u8, few[0], few[1], few[2]];
+                count += 1;
+            }
+        }
+        ByteSet { flags, few, count }
+    }
+
+    /// Whether the byte is in the set.
+    #[inline(always)]
+    pub fn has(&self, byte: u8) -> bool
+        ensures { result ≡ slice_index_or self.now byte false }
+    {
+        self.flags[byte as usize]
+    }
+
+    /// How far, from the place `from` of the text on and no further than `to`, no byte is in the set. A place counts the
+    /// bytes of the text before it.
+    #[inline(always)]
+    pub fn clear_end(&self, text: &[u8], from: usize, to: usize) -> usize
+        requires order { from ≤ to }
+        requires within { to ≤ length text.now }
+        ensures low { from ≤ result }
+        ensures high { result ≤ to }
+        ensures clear { (p : ℕ) → from ≤ p → p < result → IsOutside self.now (slice_index text.now p) }
+    {
+        if self.count <= FEW {
+            return first_of_four(self.few, text, from, to);
+        }
+        let mut at = from;
+        while at < to && !self.has(text[at]) {
+            at += 1;
+        }
+        at
+    }
+
+    /// The same, where no byte is the other one either.
+    #[inline(always)]
+    pub fn clear_end_with(&self, other: u8, text: &[u8], from: usize, to: usize) -> usize
+        requires order { from ≤ to }
+        requires within { to ≤ length text.now }
+        ensures low { from ≤ result }
+        ensures high { result ≤ to }
+        ensures clear { (p : ℕ) → from ≤ p → p < result → IsOutside self.now (slice_index text.now p) }
+        ensures apart { (p : ℕ) → from ≤ p → p < result → (slice_index text.now p == other) ≡ false }
+    {
+        if self.count < FEW {
+            let few = [self.few[0], self.few[1], self.few[2], other];
+            return first_of_four(few, text, from, to);
+        }
+        let mut at = from;
+        while at < to && text[at] != other && !self.has(text[at]) {
+            at += 1;
+        }
+        at
+    }
+}
