@@ -41,7 +41,7 @@ record StartsNothing (g : Row) (b : ℕ) (t : List ℕ) : Type 0 where
 
 starts_nothing : (g : Row) (s : IsSound g) (m : Matchers) (b : ℕ) (t : List ℕ) → m ≡ matchers_of g → BeginsNone m b → StartsNothing g b t
 starts_nothing g s m b t is h =
-    let none : begins_choice g b ≡ false = sym (flag_at (begins_choice g) 256 b h.small) ∙ ap (λ (n : Matchers). slice_index_or n.begins b false) (sym is) ∙ h.begins in
+    let none : begins_choice g b ≡ false = sym (flag_at (begins_choice g) 256 b h.small) ∙ ap (λ (n : Matchers). slice_index_or n.begins b false) (sym is) ∙ h.outside in
     let h1 = or_right (b == 92) _ none in
     let h2 = or_right (begins_opener g.quotes b) _ h1 in
     let h3 = or_right (begins_opener g.verbatim_quotes b) _ h2 in

@@ -3,6 +3,8 @@ use Rattle.std.proofs.Common.{◌≡◌, ℕ, zero, suc, ◌+◌, ◌<◌, ◌�
 use Rattle.std.specs.List.{list_all, list_any}
 use Rattle.std.proofs.lemmas.Bool.Decides.{Decides-eqb}
 use Rattle.std.proofs.lemmas.List.{drop-drop}
+use Rattle.tokei_bytes.specs.ByteSets.{IsOutside}
+use Rattle.tokei_bytes.specs.OneOf.{is_one_of}
 use Rattle.tokei_table.specs.Bytes.{begins}
 use Rattle.tokei_table.specs.FirstOpener.{is_first_of}
 use Rattle.tokei_table.specs.Row.{Pair, Row}
@@ -10,7 +12,7 @@ use Rattle.tokei_table.specs.Sound.{is_token, is_pair, IsSound}
 use Rattle.tokei_count.specs.Choice.{choice, choice_in_plain, choice_within, choice_in_string, choice_in_comment, opened, any_begins, is_escape, or_else, met_in_comment}
 use Rattle.tokei_count.specs.Choice.Choice.{closes, escapes, opens, takes_byte}
 use Rattle.tokei_count.specs.Items.{Block, Mode}
-use Rattle.tokei_count.specs.Matchers.{begins_opener, begins_choice, flags, Matchers, matchers_of}
+use Rattle.tokei_count.specs.Matchers.{begins_opener, begins_choice, begins_in_comment, flags, Matchers, matchers_of}
 use Rattle.tokei_count.specs.PlainBytes.{BeginsNone, BeginsNoneWithin, IsPlainByte}
 use Rattle.tokei_count.specs.Seen.{choice_of}
 use Rattle.tokei_count.specs.declared.choice.Choice as CodeChoice
@@ -88,6 +90,19 @@ none_begins (p ∷ ts) b t s h =
     ap (λ y. y || any_begins ts (b ∷ t)) (not_begun p b t (token_some p (and_left (is_token p) (list_all is_token ts) s)) (or_left (is_first_of b p) (list_any (is_first_of b) ts) h))
     ∙ none_begins ts b t (and_right (is_token p) (list_all is_token ts) s) (or_right (is_first_of b p) (list_any (is_first_of b) ts) h)
 
+no_escape_at : (r : Row) (b : ℕ) (t : List ℕ) → (b == 92) ≡ false → is_escape r (b ∷ t) ≡ false
+no_escape_at r b t h = ap (λ y. y && (begins (92 ∷ []) t || is_some (opened r.quotes t))) h
+
+in_comment : (r : Row) (s : IsSound r) (b : ℕ) (t : List ℕ) → begins_in_comment r b ≡ false → (closer : List ℕ) → begins closer (b ∷ t) ≡ false → choice_in_comment r closer (b ∷ t) ≡ takes_byte
+in_comment r s b t h closer e =
+    let h1 = or_right (b == 92) _ h in
+    let no_multi_line : opened r.multi_line_comments (b ∷ t) ≡ None = none_opened r.multi_line_comments b t s.multi_line_comments (or_left (begins_opener r.multi_line_comments b) _ h1) in
+    let no_nested : opened r.nested_comments (b ∷ t) ≡ None = none_opened r.nested_comments b t s.nested_comments (or_right (begins_opener r.multi_line_comments b) _ h1) in
+    ap (λ y. cond y escapes (cond (begins closer (b ∷ t)) closes (or_else (opened r.multi_line_comments (b ∷ t)) (met_in_comment r) (or_else (opened r.nested_comments (b ∷ t)) (opens MultiLineComment) takes_byte)))) (no_escape_at r b t (or_left (b == 92) _ h))
+    ∙ ap (λ y. cond y closes (or_else (opened r.multi_line_comments (b ∷ t)) (met_in_comment r) (or_else (opened r.nested_comments (b ∷ t)) (opens MultiLineComment) takes_byte))) e
+    ∙ ap (λ o. or_else o (met_in_comment r) (or_else (opened r.nested_comments (b ∷ t)) (opens MultiLineComment) takes_byte)) no_multi_line
+    ∙ ap (λ o. or_else o (opens MultiLineComment) takes_byte) no_nested
+
 module _ (r : Row) (s : IsSound r) (b : ℕ) (t : List ℕ) (h : begins_choice r b ≡ false) where
   slash : (b == 92) ≡ false
   slash = or_left (b == 92) _ h
@@ -96,7 +111,7 @@ module _ (r : Row) (s : IsSound r) (b : ℕ) (t : List ℕ) (h : begins_choice r
   h1 = or_right (b == 92) _ h
 
   no_escape : is_escape r (b ∷ t) ≡ false
-  no_escape = ap (λ y. y && (begins (92 ∷ []) t || is_some (opened r.quotes t))) slash
+  no_escape = no_escape_at r b t slash
 
   no_quote : opened r.quotes (b ∷ t) ≡ None
   no_quote = none_opened r.quotes b t s.quotes (or_left (begins_opener r.quotes b) _ h1)
@@ -119,19 +134,21 @@ module _ (r : Row) (s : IsSound r) (b : ℕ) (t : List ℕ) (h : begins_choice r
   no_nested : opened r.nested_comments (b ∷ t) ≡ None
   no_nested = none_opened r.nested_comments b t s.nested_comments (or_left (begins_opener r.nested_comments b) _ h5)
 
-  in_comment : (closer : List ℕ) → begins closer (b ∷ t) ≡ false → choice_in_comment r closer (b ∷ t) ≡ takes_byte
-  in_comment closer e =
-      ap (λ y. cond y escapes (cond (begins closer (b ∷ t)) closes (or_else (opened r.multi_line_comments (b ∷ t)) (met_in_comment r) (or_else (opened r.nested_comments (b ∷ t)) (opens MultiLineComment) takes_byte)))) no_escape
-      ∙ ap (λ y. cond y closes (or_else (opened r.multi_line_comments (b ∷ t)) (met_in_comment r) (or_else (opened r.nested_comments (b ∷ t)) (opens MultiLineComment) takes_byte))) e
-      ∙ ap (λ o. or_else o (met_in_comment r) (or_else (opened r.nested_comments (b ∷ t)) (opens MultiLineComment) takes_byte)) no_multi_line
-      ∙ ap (λ o. or_else o (opens MultiLineComment) takes_byte) no_nested
-
   in_plain : (o : Option Block) → o ≡ None → choice_in_plain r o (b ∷ t) ≡ takes_byte
   in_plain o e =
       let doc : opened r.doc_quotes (b ∷ t) ≡ None = none_opened r.doc_quotes b t s.doc_quotes (or_left (begins_opener r.doc_quotes b) _ h3) in
       let verbatim : opened r.verbatim_quotes (b ∷ t) ≡ None = none_opened r.verbatim_quotes b t s.verbatim_quotes (or_left (begins_opener r.verbatim_quotes b) _ h2) in
       let line : any_begins r.line_comment (b ∷ t) ≡ false = none_begins r.line_comment b t s.line_comment (or_right (begins_opener r.nested_comments b) _ h5) in
       rw (no_escape, e, doc, verbatim, no_quote, no_multi_line, no_nested, line) refl
+
+-- a byte that is none of two, where each is searched for twice
+pub none_of_two : (a c b : ℕ) → is_one_of (a ∷ c ∷ a ∷ c ∷ []) b ≡ false → ((b == c) ≡ false) × ((b == a) ≡ false)
+none_of_two a c b h = by_tests (b == a) (b == c) h
+  where
+    by_tests : (x y : Bool) → cond x true (cond y true (cond x true (cond y true false))) ≡ false → (y ≡ false) × (x ≡ false)
+    by_tests true y h = cc
+    by_tests false true h = cc
+    by_tests false false h = (refl, refl)
 
 -- in a string a byte that is no backslash stands for itself, where the closer doesn't stand there
 in_string : (r : Row) (b : ℕ) (t : List ℕ) → (b == 92) ≡ false → (verbatim : Bool) (closer : List ℕ) → begins closer (b ∷ t) ≡ false → choice_in_string r verbatim closer (b ∷ t) ≡ takes_byte
@@ -142,7 +159,10 @@ in_string r b t h false closer e =
 
 -- by the matchers no choice begins at the byte
 none_begun : (r : Row) (b : ℕ) (m : Matchers) → m ≡ matchers_of r → BeginsNone m b → begins_choice r b ≡ false
-none_begun r b m is h = sym (flag_at (begins_choice r) 256 b h.small) ∙ ap (λ (n : Matchers). slice_index_or n.begins b false) (sym is) ∙ h.begins
+none_begun r b m is h = sym (flag_at (begins_choice r) 256 b h.small) ∙ ap (λ (n : Matchers). slice_index_or n.begins b false) (sym is) ∙ h.outside
+
+none_begun_in_comment : (r : Row) (b : ℕ) (m : Matchers) → m ≡ matchers_of r → IsOutside m.begins_in_comment b → begins_in_comment r b ≡ false
+none_begun_in_comment r b m is h = sym (flag_at (begins_in_comment r) 256 b h.small) ∙ ap (λ (n : Matchers). slice_index_or n.begins_in_comment b false) (sym is) ∙ h.outside
 
 pub plain_byte : (r : Row) (s : IsSound r) (mode : Mode) (o : Option Block) (b : ℕ) (u : List ℕ) (m : Matchers) → u ≡ b ∷ drop 1 u → m ≡ matchers_of r → IsPlainByte m mode b → (mode ≡ None → o ≡ None) → choice r mode o u ≡ takes_byte
 unfolding choice
@@ -152,7 +172,7 @@ plain_byte r s mode o b u m e is h none = ap (choice r mode o) e ∙ by_mode mod
     by_kind DocString closer h e = in_string r b (drop 1 u) h false closer e
     by_kind VerbatimString closer h e = in_string r b (drop 1 u) h true closer e
     by_kind OrdinaryString closer h e = in_string r b (drop 1 u) h false closer e
-    by_kind MultiLineComment closer h e = in_comment r s b (drop 1 u) (none_begun r b m is h) closer e
+    by_kind MultiLineComment closer h e = in_comment r s b (drop 1 u) (none_begun_in_comment r b m is h) closer e
 
     by_mode : (mode : Mode) → IsPlainByte m mode b → (mode ≡ None → o ≡ None) → choice r mode o (b ∷ drop 1 u) ≡ takes_byte
     by_mode None h none = in_plain r s b (drop 1 u) (none_begun r b m is h) o (none refl)

@@ -1,5 +1,5 @@
 -- What the texts of a language are searched and walked with.
-use Rattle.std.specs.Prelude.{ℕ, zero, suc, Bool, ◌||◌, ◌==◌, List, [], ◌∷◌, ◌++◌}
+use Rattle.std.specs.Prelude.{ℕ, zero, suc, Bool, true, false, ◌||◌, ◌==◌, List, [], ◌∷◌, ◌++◌}
 use Rattle.std.specs.List.{list_any}
 use Rattle.tokei_table.specs.FirstOpener.{is_first_of}
 use Rattle.tokei_table.specs.Openers.{openers}
@@ -15,15 +15,26 @@ abbrev pub begins_choice : Row → ℕ → Bool
 begins_choice r b =
     (b == 92) || (begins_opener r.quotes b || (begins_opener r.verbatim_quotes b || (begins_opener r.doc_quotes b || (begins_opener r.multi_line_comments b || (begins_opener r.nested_comments b || list_any (is_first_of b) r.line_comment)))))
 
+-- In a comment one can begin: it is a backslash, or the first byte of a multi-line or nested opener.
+abbrev pub begins_in_comment : Row → ℕ → Bool
+begins_in_comment r b = (b == 92) || (begins_opener r.multi_line_comments b || begins_opener r.nested_comments b)
+
+-- in a comment, or in plain text
+abbrev pub begins_within : Row → Bool → ℕ → Bool
+begins_within r true = begins_in_comment r
+begins_within r false = begins_choice r
+
 -- the test's answers for the bytes below n
 abbrev pub flags : (ℕ → Bool) → ℕ → List Bool
 flags f zero = []
 flags f (suc n) = flags f n ++ f n ∷ []
 
--- the openers that a part is searched for, and for each byte whether a choice can begin at it
+-- the openers that a part is searched for, and for each byte whether a choice can begin at it, in plain text and in a
+-- comment
 pub record Matchers : Type 0 where
   pub openers : List (List ℕ)
   pub begins : List Bool
+  pub begins_in_comment : List Bool
 
 abbrev pub matchers_of : Row → Matchers
-matchers_of r = record { openers = openers r; begins = flags (begins_choice r) 256 }
+matchers_of r = record { openers = openers r; begins = flags (begins_choice r) 256; begins_in_comment = flags (begins_in_comment r) 256 }

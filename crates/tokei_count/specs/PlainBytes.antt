@@ -1,5 +1,6 @@
 -- Bytes at which nothing but the byte itself, or a child, can begin.
 use Rattle.std.specs.Prelude.{◌≡◌, ℕ, ◌<◌, ◌==◌, false, [], None, Some, slice_index_or}
+use Rattle.tokei_bytes.specs.ByteSets.{IsOutside}
 use Rattle.tokei_table.specs.FirstOpener.{is_first_of}
 use Rattle.tokei_count.specs.Items.{Mode}
 use Rattle.tokei_count.specs.Matchers.{Matchers}
@@ -7,16 +8,15 @@ use Rattle.tokei_count.specs.declared.items.Kind.{Kind}
 use Rattle.tokei_count.specs.declared.items.Kind.TheVariants.{DocString, VerbatimString, OrdinaryString, MultiLineComment}
 
 -- no escape, opener or line comment begins at the byte, by the matchers
-pub record BeginsNone (m : Matchers) (b : ℕ) : Type 0 where
-  pub small : b < 256
-  pub begins : slice_index_or m.begins b false ≡ false
+abbrev pub BeginsNone : Matchers → ℕ → Type 0
+BeginsNone m b = IsOutside m.begins b
 
 -- in a string nothing but an escape begins, by its backslash, and the closer
 abbrev pub BeginsNoneWithin : Matchers → Kind → ℕ → Type 0
 BeginsNoneWithin m DocString b = (b == 92) ≡ false
 BeginsNoneWithin m VerbatimString b = (b == 92) ≡ false
 BeginsNoneWithin m OrdinaryString b = (b == 92) ≡ false
-BeginsNoneWithin m MultiLineComment b = BeginsNone m b
+BeginsNoneWithin m MultiLineComment b = IsOutside m.begins_in_comment b
 
 -- the closer of the innermost item doesn't begin at the byte, and nothing else does
 abbrev pub IsPlainByte : Matchers → Mode → ℕ → Type 0

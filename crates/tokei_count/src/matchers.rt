@@ -1,33 +1,33 @@
 //! What the texts of a language are searched and walked with.
-ghost use Rattle.std.specs.Prelude.{◌≡◌, ◌<◌, false, length, map, IfOk, slice_index_or};
+ghost use Rattle.std.specs.Prelude.{◌≡◌, ℕ, ◌<◌, ◌≤◌, ◌==◌, false, length, map, IfOk, slice_index, slice_index_or};
 ghost use Rattle.std.specs.List.{list_any};
+ghost use Rattle.tokei_bytes.specs.ByteSets.{IsOutside};
 ghost use Rattle.tokei_table.specs.FirstOpener.{first_opener, is_first_of};
 ghost use Rattle.tokei_table.specs.Lookups.{row_at};
 ghost use Rattle.tokei_table.specs.WellFormed.{IsWellFormed};
 ghost use Rattle.tokei_table.specs.RowOf.{row_of, pairs_of, tokens_of};
-ghost use Rattle.tokei_count.specs.Matchers.{begins_opener, begins_choice, flags, matchers_of};
+ghost use Rattle.tokei_count.specs.Matchers.{begins_opener, begins_choice, begins_in_comment, begins_within, flags, matchers_of};
 
 use std::alloc::{AllocError, Global};
 use std::marker::Model;
+use tokei_bytes::ByteSet;
 use tokei_table::{LanguageTable, LanguageType, OpenerIndex, Syntax};
 
-/// What the texts of a language are searched and walked with: its openers, and for each byte whether a choice other than
-/// the byte itself, a closer and a child can begin at it. Contracts see both.
+/// What the texts of a language are searched and walked with: its openers, and the bytes at which a choice other than the
+/// byte itself, a closer and a child can begin, in plain text and in a comment. Contracts see all three.
 #[derive(Drop)]
 pub struct SharedMatchers {
     openers: OpenerIndex,
-    begins: Vec<bool>,
+    begins: ByteSet,
+    begins_in_comment: ByteSet,
 }
 
 impl Model for SharedMatchers {
-    ghost use Rattle.std.specs.Prelude.{◌≡◌, length};
     ghost use Rattle.tokei_count.specs.Matchers.{Matchers};
 
     ghost Value = { Matchers };
 
-    ghost view = { λ m. record { openers = m.openers; begins = m.begins.items } };
-
-    ghost invariant = { λ m. length m.begins.items ≡ 256 };
+    ghost view = { λ m. record { openers = m.openers; begins = m.begins; begins_in_comment = m.begins_in_comment } };
 }
 
 fn is_first_of(byte: u8, token: &str) -> bool
@@ -74,15 +74,29 @@ fn begins_choice(syntax: &Syntax, byte: u8) -> bool
         || begins_token(&syntax.line_comment, byte)
 }
 
-/// For each byte whether a choice can begin at it.
-fn begins_of(alloc: Global, syntax: &Syntax) -> Result<Vec<bool>, AllocError>
-    ensures { IfOk result (λ v. v.items ≡ flags (begins_choice (row_of syntax.now)) 256) }
+/// The same in a comment.
+fn begins_in_comment(syntax: &Syntax, byte: u8) -> bool
+    ensures { result ≡ begins_in_comment (row_of syntax.now) byte }
 {
-    let mut begins = Vec::new(alloc);
+    byte == b'\\'
+        || begins_opener(&syntax.multi_line_comments, byte)
+        || begins_opener(&syntax.nested_comments, byte)
+}
+
+/// The bytes at which a choice can begin, in a comment or in plain text.
+fn beginnings(alloc: Global, syntax: &Syntax, in_comment: bool) -> Result<ByteSet, AllocError>
+    ensures { IfOk result (λ s. s ≡ flags (begins_within (row_of syntax.now) in_comment) 256) }
+{
+    let mut flags = Vec::new(alloc);
     for byte in 0..256usize {
-        begins.push(begins_choice(syntax, byte as u8))?;
+        let begins = if in_comment {
+            begins_in_comment(syntax, byte as u8)
+        } else {
+            begins_choice(syntax, byte as u8)
+        };
+        flags.push(begins)?;
     }
-    Ok(begins)
+    Ok(ByteSet::new(flags))
 }
 
 impl SharedMatchers {
@@ -109,8 +123,14 @@ impl SharedMatchers {
     {
         let texts = language.openers(alloc, table)?;
         let openers = OpenerIndex::of_texts(alloc, texts)?;
-        let begins = begins_of(alloc, table.syntax(language))?;
-        Ok(SharedMatchers { openers, begins })
+        let syntax = table.syntax(language);
+        let begins = beginnings(alloc, syntax, false)?;
+        let begins_in_comment = beginnings(alloc, syntax, true)?;
+        Ok(SharedMatchers {
+            openers,
+            begins,
+            begins_in_comment,
+        })
     }
 
     /// The least place of the text at which an opener stands, None where none does. It takes no memory.
@@ -125,7 +145,40 @@ impl SharedMatchers {
     pub(crate) fn begins(&self, byte: u8) -> bool
         ensures { result ≡ slice_index_or self.now.begins byte false }
     {
-        self.begins[byte as usize]
+        self.begins.has(byte)
+    }
+
+    /// The same in a comment.
+    #[inline(always)]
+    pub(crate) fn begins_in_comment(&self, byte: u8) -> bool
+        ensures { result ≡ slice_index_or self.now.begins_in_comment byte false }
+    {
+        self.begins_in_comment.has(byte)
+    }
+
+    /// How far, from the place `at` of the text on and no further than `to`, no such choice can begin in plain text.
+    #[inline(always)]
+    pub(crate) fn plain_end(&self, text: &[u8], at: usize, to: usize) -> usize
+        requires order { at ≤ to }
+        requires within { to ≤ length text.now }
+        ensures low { at ≤ result }
+        ensures high { result ≤ to }
+        ensures none { (p : ℕ) → at ≤ p → p < result → IsOutside self.now.begins (slice_index text.now p) }
+    {
+        self.begins.clear_end(text, at, to)
+    }
+
+    /// The same in a comment whose closer's first byte is `first`, which doesn't stand there either.
+    #[inline(always)]
+    pub(crate) fn comment_end(&self, first: u8, text: &[u8], at: usize, to: usize) -> usize
+        requires order { at ≤ to }
+        requires within { to ≤ length text.now }
+        ensures low { at ≤ result }
+        ensures high { result ≤ to }
+        ensures none { (p : ℕ) → at ≤ p → p < result → IsOutside self.now.begins_in_comment (slice_index text.now p) }
+        ensures open { (p : ℕ) → at ≤ p → p < result → (slice_index text.now p == first) ≡ false }
+    {
+        self.begins_in_comment.clear_end_with(first, text, at, to)
     }
 }
 

@@ -1,10 +1,11 @@
 //! Bytes at which nothing but the byte itself, or a child, can begin.
-ghost use Rattle.std.specs.Prelude.{◌≡◌, ℕ, ◌<◌, ◌≤◌, true, length, slice_index};
+ghost use Rattle.std.specs.Prelude.{◌≡◌, ℕ, ◌<◌, ◌≤◌, ◌==◌, true, false, length, slice_index};
 ghost use Rattle.tokei_count.specs.PlainBytes.{BeginsNoneWithin, IsPlainByte};
 ghost use Rattle.tokei_count.specs.Seen.{mode_of};
 
 use crate::items::{Enclosure, Kind};
 use crate::matchers::SharedMatchers;
+use tokei_bytes::first_of_four;
 
 /// Whether no escape, opener or line comment can begin at the byte in an item of that kind.
 #[inline(always)]
@@ -13,7 +14,7 @@ fn begins_none_within(matchers: &SharedMatchers, kind: Kind, byte: u8) -> bool
 {
     match kind {
         Kind::DocString | Kind::VerbatimString | Kind::OrdinaryString => byte != b'\\',
-        Kind::MultiLineComment => !matchers.begins(byte),
+        Kind::MultiLineComment => !matchers.begins_in_comment(byte),
     }
 }
 
@@ -31,8 +32,34 @@ pub(crate) fn is_plain_byte(matchers: &SharedMatchers, mode: Option<Enclosure>, 
     }
 }
 
-/// From the place `at` to before the answer, which goes no further than `to`, no choice but the byte itself and a child can
-/// begin at a byte of the text, in that mode.
+/// How far, from the place `at` of the text on and no further than `to`, no choice can begin in an item of that kind but the
+/// byte itself; nor does the first byte of its closer stand there.
+#[inline(always)]
+fn item_end(
+    matchers: &SharedMatchers,
+    kind: Kind,
+    first: u8,
+    text: &[u8],
+    at: usize,
+    to: usize,
+) -> usize
+    requires order { at ≤ to }
+    requires within { to ≤ length text.now }
+    ensures low { at ≤ result }
+    ensures high { result ≤ to }
+    ensures none { (p : ℕ) → at ≤ p → p < result → BeginsNoneWithin matchers.now kind (slice_index text.now p) }
+    ensures open { (p : ℕ) → at ≤ p → p < result → (slice_index text.now p == first) ≡ false }
+{
+    match kind {
+        Kind::DocString | Kind::VerbatimString | Kind::OrdinaryString => {
+            first_of_four([first, b'\\', first, b'\\'], text, at, to)
+        }
+        Kind::MultiLineComment => matchers.comment_end(first, text, at, to),
+    }
+}
+
+/// From the place `at` of the text to before the answer, which goes no further than `to`, no choice but the byte itself and a
+/// child can begin at a byte, in that mode.
 #[inline(always)]
 pub(crate) fn plain_end(
     matchers: &SharedMatchers,
@@ -46,9 +73,14 @@ pub(crate) fn plain_end(
     ensures high { at < result → result ≤ to }
     ensures plain { (p : ℕ) → at ≤ p → p < result → IsPlainByte matchers.now (mode_of mode.entry) (slice_index text.now p) }
 {
-    let mut end = at;
-    while end < to && is_plain_byte(matchers, mode, text[end]) {
-        end += 1;
+    if to <= at {
+        return at;
     }
-    end
+    match mode {
+        None => matchers.plain_end(text, at, to),
+        Some(inner) => match inner.closer {
+            [] => at,
+            [first, ..] => item_end(matchers, inner.kind, *first, text, at, to),
+        },
+    }
 }
