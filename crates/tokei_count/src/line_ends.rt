@@ -3,9 +3,13 @@ ghost use Rattle.std.specs.Prelude.{◌≡◌, ◌+◌, ◌<◌, ◌≤◌, drop
 ghost use Rattle.tokei_count.specs.Lines.{line_len};
 
 use memchr::memchr;
+use tokei_bytes::first_of_four;
 
-/// How many bytes stand before the first newline, or in all.
-pub(crate) fn line_len(text: &[u8]) -> usize
+/// How many bytes are searched for a newline before a far search: few lines have more.
+const NEAR: usize = 96;
+
+/// How many bytes stand before the first newline, or in all, where that is mostly far.
+fn far_line_len(text: &[u8]) -> usize
     ensures value { result ≡ line_len text.now }
     ensures within { result ≤ length text.now }
 {
@@ -15,8 +19,23 @@ pub(crate) fn line_len(text: &[u8]) -> usize
     }
 }
 
+/// The same, where it is mostly near.
+#[inline(always)]
+pub(crate) fn line_len(text: &[u8]) -> usize
+    ensures value { result ≡ line_len text.now }
+    ensures within { result ≤ length text.now }
+{
+    let near = text.len().min(NEAR);
+    let end = first_of_four([b'\n'; 4], text, 0, near);
+    if end < near {
+        return end;
+    }
+    near + far_line_len(&text[near..])
+}
+
 /// Where the line of the place `start` goes to, before its newline. `end` is where an earlier place's line went to: the same
 /// line, where `start` hasn't passed it, and nothing is searched.
+#[inline(always)]
 pub(crate) fn line_end(text: &[u8], start: usize, end: usize) -> usize
     requires start { start ≤ length text.now }
     requires known { start ≤ end → end ≡ start + line_len (drop start text.now) }
