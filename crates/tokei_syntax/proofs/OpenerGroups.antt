@@ -3,7 +3,7 @@ use Rattle.std.proofs.Common.{◌≡◌, ℕ, suc, zero, ◌+◌, ◌-◌, ◌<�
 use Rattle.std.specs.List.{list_any, list_all}
 use Rattle.std.proofs.lemmas.Bool.Decides.{Decides-eqb}
 use Rattle.std.proofs.lemmas.Bool.{cases_lt}
-use Rattle.std.proofs.lemmas.List.{get_or_default, get_or-map, take_rest, drop-drop, drop_all}
+use Rattle.std.proofs.lemmas.List.{get_or_default, get_or-map, drop_all}
 use Rattle.memchr.specs.Find.{IsFirstByte}
 use Rattle.tokei_syntax.proofs.FirstBytes.{part_reads, part_len}
 use Rattle.tokei_syntax.specs.Bytes.{begins}
@@ -108,40 +108,49 @@ module _ (os : List (List ℕ)) (firsts : List ℕ) (groups : List (List (List �
       ap (λ g. begins_with_one g (get_or firsts i 0 ∷ t)) (ap (λ gs. get_or gs i d) x.grouped ∙ get_or-map (λ y. with_first y os) firsts i 0 d l)
       ∙ in_group os (get_or firsts i 0) t x.nonempty
 
-  -- from a place on, before which no opener stands, to the next first byte of an opener
-  module _ (t : List ℕ) (i : ℕ) (l : i ≤ length t) (none : (k : ℕ) → k < i → begins_with_one os (drop k t) ≡ false) where
-    unhit : (n k : ℕ) → i + n ≤ length t → k < i + n → ((j : ℕ) → j < n → has_byte firsts (get_or (take (length t - i) (drop i t)) j 0) ≡ true → ⊥) → begins_with_one os (drop k t) ≡ false
-    unhit n k fits h f = elim (cases_lt k i) [
-      | inl a ↦ none k a
-      | inr a ↦ apart_at t k (omega (arith, h, fits)) (λ y. f (k - i) (omega (arith, a, h)) (ap (has_byte firsts) (part_reads t i (length t - i) k a (omega (arith, h, fits))) ∙ y))
-    ]
+  -- from a place on, up to the next first byte of an opener
+  pub none_passed : (t : List ℕ) (i j : ℕ) → j ≤ length t → ((k : ℕ) → i ≤ k → k < j → has_byte firsts (get_or t k 0) ≡ false) → (k : ℕ) → i ≤ k → k < j → begins_with_one os (drop k t) ≡ false
+  none_passed t i j l f k a h = apart_at t k (omega (arith, l, h)) (clash (has_byte firsts (get_or t k 0)) (f k a h))
+    where
+      clash : (b : Bool) → b ≡ false → b ≡ true → ⊥
+      clash b e y = absurd (cc)
 
-    pub hit_inside : (n : ℕ) → IsFirstByte (has_byte firsts) (take (length t - i) (drop i t)) (Some n) → i + n < length t
-    hit_inside n f = omega (arith, l, f.0.high, part_len t i (length t) (omega arith))
+-- the first byte that passes a test in the rest of a text, from a place on
+module _ (p : ℕ → Bool) (t : List ℕ) (i : ℕ) (l : i ≤ length t) where
+  unhit : (n : ℕ) → i + n ≤ length t → ((j : ℕ) → j < n → p (get_or (take (length t - i) (drop i t)) j 0) ≡ true → ⊥) → (k : ℕ) → i ≤ k → k < i + n → p (get_or t k 0) ≡ false
+  unhit n fits f k a h = not_true (p (get_or t k 0)) (λ y. f (k - i) (omega (arith, a, h)) (ap p (part_reads t i (length t - i) k a (omega (arith, h, fits))) ∙ y))
 
-    pub before_hit : (n : ℕ) → IsFirstByte (has_byte firsts) (take (length t - i) (drop i t)) (Some n) → (k : ℕ) → k < i + n → begins_with_one os (drop k t) ≡ false
-    before_hit n f k h = unhit n k (omega (arith, hit_inside n f)) h (λ j a. f.0.before j (omega arith) a)
+  pub hit_inside : (n : ℕ) → IsFirstByte p (take (length t - i) (drop i t)) (Some n) → i + n < length t
+  hit_inside n f = omega (arith, l, f.0.high, part_len t i (length t) (omega arith))
 
-    pub without_hit : IsFirstByte (has_byte firsts) (take (length t - i) (drop i t)) None → (k : ℕ) → k < length t → begins_with_one os (drop k t) ≡ false
-    without_hit f k h = unhit (length t - i) k (omega (arith, l)) (omega (arith, l, h)) (λ j a. f j (omega arith) (omega (arith, a, part_len t i (length t) (omega arith))))
+  pub before_hit : (n : ℕ) → IsFirstByte p (take (length t - i) (drop i t)) (Some n) → (k : ℕ) → i ≤ k → k < i + n → p (get_or t k 0) ≡ false
+  before_hit n f = unhit n (omega (arith, hit_inside n f)) (λ j a. f.0.before j (omega arith) a)
 
--- behind a miss, past more of them
-pub behind_misses : (os : List (List ℕ)) (t : List ℕ) (i m : ℕ) → i < length t → ((k : ℕ) → k < i → begins_with_one os (drop k t) ≡ false) → begins_with_one os (take (length t - i) (drop i t)) ≡ false → ((k : ℕ) → k < m → begins_with_one os (drop k (take (length t - (i + 1)) (drop (i + 1) t))) ≡ false) → (k : ℕ) → k < i + 1 + m → begins_with_one os (drop k t) ≡ false
-behind_misses os t i m l before here behind k h = elim (cases_lt k i) [
-  | inl a ↦ before k a
-  | inr a ↦ elim (cases_lt i k) [
-    | inl b ↦ later b
-    | inr b ↦ let same : k ≡ i = omega (arith, a, b) in ap (λ j. begins_with_one os (drop j t)) same ∙ ap (begins_with_one os) (sym (take_rest t i)) ∙ here
-  ]
+  pub without_hit : IsFirstByte p (take (length t - i) (drop i t)) None → (k : ℕ) → i ≤ k → k < length t → p (get_or t k 0) ≡ false
+  without_hit f k a h = unhit (length t - i) (omega (arith, l)) (λ j m. f j (omega arith) (omega (arith, m, part_len t i (length t) (omega arith)))) k a (omega (arith, l, h))
+
+-- where a group has all openers with a byte, they stand where it does at a place with that byte
+pub group_at : (g os : List (List ℕ)) (x : ℕ) → ((s : List ℕ) → begins_with_one g (x ∷ s) ≡ begins_with_one os (x ∷ s)) → (t : List ℕ) (n : ℕ) → n < length t → get_or t n 0 ≡ x → begins_with_one g (drop n t) ≡ begins_with_one os (drop n t)
+group_at g os x same [] n l e = absurd (omega (arith, l))
+group_at g os x same (b ∷ t) zero l e = ap (λ y. begins_with_one g (y ∷ t)) e ∙ same t ∙ sym (ap (λ y. begins_with_one os (y ∷ t)) e)
+group_at g os x same (b ∷ t) (suc n) l e = group_at g os x same t n (omega (arith, l)) e
+
+-- up to a place and from it on
+pub none_up_to : (os : List (List ℕ)) (t : List ℕ) (i j : ℕ) → ((k : ℕ) → k < i → begins_with_one os (drop k t) ≡ false) → ((k : ℕ) → i ≤ k → k < j → begins_with_one os (drop k t) ≡ false) → (k : ℕ) → k < j → begins_with_one os (drop k t) ≡ false
+none_up_to os t i j f g k h = elim (cases_lt k i) [
+  | inl a ↦ f k a
+  | inr a ↦ g k a h
 ]
+
+-- at a place, and behind it
+pub none_behind : (os : List (List ℕ)) (t : List ℕ) (i j : ℕ) → ((k : ℕ) → k < i → begins_with_one os (drop k t) ≡ false) → begins_with_one os (drop i t) ≡ false → ((k : ℕ) → i + 1 ≤ k → k < j → begins_with_one os (drop k t) ≡ false) → (k : ℕ) → k < j → begins_with_one os (drop k t) ≡ false
+none_behind os t i j before here behind = none_up_to os t (i + 1) j upto behind
   where
-    later : i < k → begins_with_one os (drop k t) ≡ false
-    later b =
-        let at : i + 1 + (k - (i + 1)) ≡ k = omega (arith, b) in
-        ap (λ j. begins_with_one os (drop j t)) (sym at)
-        ∙ ap (begins_with_one os) (sym (drop-drop (k - (i + 1)) (i + 1) t))
-        ∙ ap (λ s. begins_with_one os (drop (k - (i + 1)) s)) (sym (take_rest t (i + 1)))
-        ∙ behind (k - (i + 1)) (omega (arith, b, h))
+    upto : (k : ℕ) → k < i + 1 → begins_with_one os (drop k t) ≡ false
+    upto k h = elim (cases_lt k i) [
+      | inl a ↦ before k a
+      | inr a ↦ let same : k ≡ i = omega (arith, a, h) in ap (λ j. begins_with_one os (drop j t)) same ∙ here
+    ]
 
 -- a byte that was sought in a whole list
 pub no_byte : (bs : List ℕ) (i x : ℕ) → length bs ≤ i → has_byte (drop i bs) x ≡ has_byte bs x → has_byte bs x ≡ true → ⊥

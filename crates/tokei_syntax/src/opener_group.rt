@@ -1,5 +1,5 @@
 //! Openers with one first byte.
-ghost use Rattle.std.specs.Prelude.{◌≡◌, ◌<◌, false, length, IfOk, slice_index_or};
+ghost use Rattle.std.specs.Prelude.{◌≡◌, ◌≤◌, ◌<◌, ℕ, true, false, length, drop, IfOk, slice_index, slice_index_or};
 ghost use Rattle.std.specs.List.{list_any};
 ghost use Rattle.tokei_syntax.specs.OpenerGroups.{goes_on_with, HasSeconds};
 ghost use Rattle.tokei_syntax.specs.RowOf.{tokens_of};
@@ -79,5 +79,22 @@ impl OpenerGroup {
                 && begins_with_one(&self.openers, text),
             _ => begins_with_one(&self.openers, text),
         }
+    }
+
+    /// Up to which place the text, from a place on, goes on with the byte alone and none of the openers stands.
+    #[inline(always)]
+    pub(crate) fn passed(&self, byte: u8, text: &[u8], from: usize) -> usize
+        requires { from ≤ length text.now }
+        ensures low { from ≤ result }
+        ensures within { result ≤ length text.now }
+        ensures run { (k : ℕ) → from ≤ k → k < result → slice_index text.now k ≡ byte }
+        ensures none { (k : ℕ) → from ≤ k → k < result → begins_with_one self.now (drop k text.now) ≡ false }
+        ensures ends { result < length text.now → slice_index text.now result ≡ byte → begins_with_one self.now (drop result text.now) ≡ true }
+    {
+        let mut at = from;
+        while at < text.len() && text[at] == byte && !self.stands(&text[at..]) {
+            at += 1;
+        }
+        at
     }
 }

@@ -1,5 +1,5 @@
 //! The openers of a language, ready for a search of a text.
-ghost use Rattle.std.specs.Prelude.{◌≡◌, ◌≤◌, ◌<◌, ℕ, List, ◌∷◌, length, map, drop, ◌||◌, true, false, IfOk, OnOk, MatchOption};
+ghost use Rattle.std.specs.Prelude.{◌≡◌, ◌≤◌, ◌<◌, ℕ, List, ◌∷◌, length, map, drop, ◌||◌, true, false, IfOk, OnOk, MatchOption, slice_index};
 ghost use Rattle.std.specs.List.{list_all};
 ghost use Rattle.tokei_syntax.specs.FirstOpener.{first_opener, is_first, is_first_of, has_byte, is_nonempty};
 ghost use Rattle.tokei_syntax.specs.OpenerGroups.{with_first, IsIndexOf};
@@ -196,13 +196,28 @@ fn first_in_blocks(bytes: &[u8], text: &[u8]) -> Option<usize>
 
 /// The first place of the text whose byte is in the list.
 #[inline(always)]
-fn first_among(bytes: &[u8], text: &[u8]) -> Option<usize>
+fn first_of_any(bytes: &[u8], text: &[u8]) -> Option<usize>
     ensures { IsFirstByte (has_byte bytes.now) text.now result }
 {
     if bytes.len() <= 3 {
         first_of_few_near(bytes, text)
     } else {
         first_in_blocks(bytes, text)
+    }
+}
+
+/// The first place of the text, from a place on, whose byte is in the list; the text's length where there is none.
+#[inline(always)]
+fn first_among(bytes: &[u8], text: &[u8], from: usize) -> usize
+    requires { from ≤ length text.now }
+    ensures low { from ≤ result }
+    ensures within { result ≤ length text.now }
+    ensures passed { (k : ℕ) → from ≤ k → k < result → has_byte bytes.now (slice_index text.now k) ≡ false }
+    ensures found { result < length text.now → has_byte bytes.now (slice_index text.now result) ≡ true }
+{
+    match first_of_any(bytes, &text[from..]) {
+        Some(n) => from + n,
+        None => text.len(),
     }
 }
 
@@ -259,33 +274,15 @@ impl OpenerIndex {
         None
     }
 
-    /// Whether an opener stands at the front of the text.
+    /// The first place, from a place on, at which an opener can stand by its first byte; the text's length where there is none.
     #[inline(always)]
-    fn stands(&self, text: &[u8]) -> bool
-        requires { 0 < length text.now }
-        ensures { result ≡ begins_with_one self.now text.now }
-    {
-        match text {
-            [] => false,
-            [first, ..] => match self.group_of(*first) {
-                Some(group) => group.stands(text),
-                None => false,
-            },
-        }
-    }
-
-    /// How many bytes at the front of the text are first bytes of openers, up to where an opener stands.
-    #[inline(always)]
-    fn passed(&self, text: &[u8]) -> usize
+    fn next_first(&self, text: &[u8], from: usize) -> usize
+        requires { from ≤ length text.now }
+        ensures low { from ≤ result }
         ensures within { result ≤ length text.now }
-        ensures none { (k : ℕ) → k < result → begins_with_one self.now (drop k text.now) ≡ false }
+        ensures none { (k : ℕ) → from ≤ k → k < result → begins_with_one self.now (drop k text.now) ≡ false }
     {
-        for (i, byte) in text.iter().enumerate() {
-            if !has_byte(&self.firsts, *byte) || self.stands(&text[i..]) {
-                return i;
-            }
-        }
-        text.len()
+        first_among(&self.firsts, text, from)
     }
 
     /// The least place of the text at which some opener stands, None where there is none. It takes no memory.
@@ -293,13 +290,22 @@ impl OpenerIndex {
         ensures { result ≡ first_opener self.now text.now }
     {
         let mut from = 0;
-        while let Some(n) = first_among(&self.firsts, &text[from..]) {
-            let at = from + n;
-            if self.stands(&text[at..]) {
-                return Some(at);
+        while from < text.len() {
+            let at = self.next_first(text, from);
+            if at == text.len() {
+                return None;
             }
-            // bytes that can begin an opener often stand side by side, as in a line of slashes
-            from = at + 1 + self.passed(&text[at + 1..]);
+            let byte = text[at];
+            from = match self.group_of(byte) {
+                Some(group) => {
+                    if group.stands(&text[at..]) {
+                        return Some(at);
+                    }
+                    // a byte that can begin an opener often stands many times side by side, as in a line of slashes
+                    group.passed(byte, text, at + 1)
+                }
+                None => at + 1,
+            };
         }
         None
     }
