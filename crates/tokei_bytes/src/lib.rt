@@ -1,0 +1,11 @@
+//! The first of up to four bytes, where it is mostly a few places ahead.
+//!
+//! memchr's searches take at most three bytes, and cost some fifty instructions a call however close the hit is. The
+//! search here is for a caller that mostly looks a few bytes ahead; far searches are memchr's.
+#![tactic(auto)]
+
+mod one_of;
+#[cfg(test)]
+mod tests;
+
+pub use one_of::first_of_four;

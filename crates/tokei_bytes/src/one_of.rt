@@ -1,0 +1,71 @@
+//! The search, 32 places at a time.
+ghost use Rattle.std.specs.Prelude.{◌≡◌, ℕ, ◌+◌, ◌<◌, ◌≤◌, true, false, length, map, slice_index};
+ghost use Rattle.std.specs.Simd.Lanes.{mask_l};
+ghost use Rattle.tokei_bytes.specs.OneOf.{is_one_of};
+
+use std::simd::prelude::*;
+
+/// How many places are tested at once.
+const BLOCK: usize = 32;
+
+/// Bit k is set where lane k is one of the four.
+#[inline(always)]
+fn marks(bytes: [u8; 4], lanes: u8x32) -> u64
+    ensures { result ≡ mask_l (map (is_one_of bytes) lanes) }
+{
+    let front = lanes.simd_eq(u8x32::splat(bytes[0])) | lanes.simd_eq(u8x32::splat(bytes[1]));
+    let back = lanes.simd_eq(u8x32::splat(bytes[2])) | lanes.simd_eq(u8x32::splat(bytes[3]));
+    (front | back).to_bitmask()
+}
+
+/// Whether the byte is one of the four.
+#[inline(always)]
+fn is_one_of(bytes: [u8; 4], byte: u8) -> bool
+    ensures { result ≡ is_one_of bytes byte }
+{
+    byte == bytes[0] || byte == bytes[1] || byte == bytes[2] || byte == bytes[3]
+}
+
+/// The same search one place at a time, for the end of a text, where no block is left. It stands in no caller's code,
+/// since it is rarely run.
+#[inline(never)]
+fn first_by_one(bytes: [u8; 4], text: &[u8], from: usize, to: usize) -> usize
+    requires order { from ≤ to }
+    requires within { to ≤ length text.now }
+    ensures low { from ≤ result }
+    ensures high { result ≤ to }
+    ensures passed { (p : ℕ) → from ≤ p → p < result → is_one_of bytes (slice_index text.now p) ≡ false }
+    ensures found { result < to → is_one_of bytes (slice_index text.now result) ≡ true }
+{
+    let mut at = from;
+    while at < to && !is_one_of(bytes, text[at]) {
+        at += 1;
+    }
+    at
+}
+
+/// The first place of the text, from `from` to before `to`, whose byte is one of the four, or `to` where there is none.
+/// A place counts the bytes of the text before it. Fewer than four are searched for by naming some more than once.
+#[inline(always)]
+pub fn first_of_four(bytes: [u8; 4], text: &[u8], from: usize, to: usize) -> usize
+    requires order { from ≤ to }
+    requires within { to ≤ length text.now }
+    ensures low { from ≤ result }
+    ensures high { result ≤ to }
+    ensures passed { (p : ℕ) → from ≤ p → p < result → is_one_of bytes (slice_index text.now p) ≡ false }
+    ensures found { result < to → is_one_of bytes (slice_index text.now result) ≡ true }
+{
+    let mut at = from;
+    while at < to {
+        if text.len() - at < BLOCK {
+            return first_by_one(bytes, text, at, to);
+        }
+        // The block may go on past `to`, where a hit is none.
+        let marked = marks(bytes, u8x32::from_slice(&text[at..]));
+        if marked != 0 {
+            return to.min(at + marked.trailing_zeros() as usize);
+        }
+        at += BLOCK;
+    }
+    to
+}
