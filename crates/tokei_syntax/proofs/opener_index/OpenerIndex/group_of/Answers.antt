@@ -9,7 +9,7 @@ pub returns-then-byte-first : goal.returns-then-byte-first
 returns-then-byte-first c = λ t.
     let firsts = c.self.inside.firsts.items in
     let groups = c.self.inside.groups.items in
-    let index = subst (λ os. IsIndexOf os firsts groups) c.self.view_is c.self.invariant in
+    let index = subst (λ os. IsIndexOf os firsts groups) c.self.view_is c.self.invariant.0 in
     let inside : c.loop-i.i < length firsts = omega (arith, c.loop-i-test.true, ap length c.loop-i.invariant.0) in
     let here : c.args.byte ≡ get_or firsts c.loop-i.i 0 = c.if-byte-first.true ∙ ap (λ s. get_or s c.loop-i.i 0) c.loop-i.invariant.0 in
     ap (λ b. begins_with_one c.index.result.now (b ∷ t)) here
@@ -21,6 +21,6 @@ pub returns : goal.returns
 returns c = λ t.
     let firsts = c.self.inside.firsts.items in
     let groups = c.self.inside.groups.items in
-    let index = subst (λ os. IsIndexOf os firsts groups) c.self.view_is c.self.invariant in
+    let index = subst (λ os. IsIndexOf os firsts groups) c.self.view_is c.self.invariant.0 in
     apart c.args.self.now firsts groups index c.args.byte t
     (λ y. no_byte c.deref-first-items.result.now c.loop-i.i c.args.byte c.loop-i-test.false c.loop-i.invariant.1 (ap (λ s. has_byte s c.args.byte) c.loop-i.invariant.0 ∙ y))
