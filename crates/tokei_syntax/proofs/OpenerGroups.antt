@@ -1,5 +1,5 @@
 -- Which openers can stand at the front of a text: by its first byte those of a group, by its second one fewer.
-use Rattle.std.proofs.Common.{◌≡◌, ℕ, suc, zero, ◌+◌, ◌-◌, ◌<◌, ◌≤◌, Bool, true, false, ◌&&◌, ◌||◌, ◌==◌, cond, nat_eq, List, [], ◌∷◌, length, take, drop, get_or, None, Some, refl, sym, ◌∙◌, ap, arith, inl, inr}
+use Rattle.std.proofs.Common.{◌≡◌, ℕ, suc, zero, ◌+◌, ◌-◌, ◌<◌, ◌≤◌, Bool, true, false, ◌&&◌, ◌||◌, ◌==◌, cond, nat_eq, List, [], ◌∷◌, length, take, drop, get_or, None, Some, refl, sym, ◌∙◌, ap, subst, arith, inl, inr}
 use Rattle.std.specs.List.{list_any, list_all}
 use Rattle.std.proofs.lemmas.Bool.Decides.{Decides-eqb}
 use Rattle.std.proofs.lemmas.Bool.{cases_lt}
@@ -8,7 +8,7 @@ use Rattle.memchr.specs.Find.{IsFirstByte}
 use Rattle.tokei_syntax.proofs.FirstBytes.{part_reads, part_len}
 use Rattle.tokei_syntax.specs.Bytes.{begins}
 use Rattle.tokei_syntax.specs.FirstOpener.{is_nonempty, is_first_of, is_first, has_byte}
-use Rattle.tokei_syntax.specs.OpenerGroups.{with_first, goes_on_with, HasSeconds, IsIndexOf}
+use Rattle.tokei_syntax.specs.OpenerGroups.{with_first, goes_on_with, HasFlags, IsIndexOf, is_whole_with}
 use Rattle.tokei_syntax.specs.Bytes.{begins_with_one}
 
 pub not_true : (b : Bool) → (b ≡ true → ⊥) → b ≡ false
@@ -72,12 +72,50 @@ no_second (o ∷ os) x y t h =
     let p = or_parts (goes_on_with y o) (list_any (goes_on_with y) os) h in
     ap (λ b. b || begins_with_one os (x ∷ y ∷ t)) (other_second o x y t p.0) ∙ no_second os x y t p.1
 
-pub second_apart : (os : List (List ℕ)) (flags : List Bool) → HasSeconds os flags → (t : List ℕ) (d : Bool) → 2 ≤ length t → get_or t 1 0 < 256 → get_or flags (get_or t 1 0) d ≡ false → begins_with_one os t ≡ false
-second_apart os flags s [] d l r h = absurd (omega (arith, l))
-second_apart os flags s (x ∷ []) d l r h = absurd (omega (arith, l))
-second_apart os flags s (x ∷ y ∷ t) d l r h =
+pub second_apart : (os : List (List ℕ)) (t : List ℕ) (n : ℕ) → n + 1 < length t → list_any (goes_on_with (get_or t (n + 1) 0)) os ≡ false → begins_with_one os (drop n t) ≡ false
+second_apart os [] n l h = absurd (omega (arith, l))
+second_apart os (x ∷ []) n l h = absurd (omega (arith, l))
+second_apart os (x ∷ y ∷ t) zero l h = no_second os x y t h
+second_apart os (x ∷ y ∷ t) (suc n) l h =
+    let at : suc (n + 1) ≡ suc n + 1 = omega arith in
+    second_apart os (y ∷ t) n (omega (arith, l)) (ap (λ k. list_any (goes_on_with (get_or (x ∷ y ∷ t) k 0)) os) at ∙ h)
+
+-- where an opener is whole with the second byte, it stands at the text's front
+both : (a b : Bool) → a ≡ true → b ≡ true → (a && b) ≡ true
+both true b e f = f
+both false b e f = e
+
+turned : (x a : ℕ) → (x == a) ≡ true → nat_eq a x ≡ true
+turned x a e = (Decides-eqb a x).1 (sym ((Decides-eqb x a).0 e))
+
+whole_one : (o : List ℕ) (x y : ℕ) (t : List ℕ) → is_first_of x o ≡ true → is_whole_with y o ≡ true → begins o (x ∷ y ∷ t) ≡ true
+whole_one [] x y t f h = absurd (cc)
+whole_one (a ∷ []) x y t f h = both (nat_eq a x) true (turned x a f) refl
+whole_one (a ∷ b ∷ []) x y t f h = both (nat_eq a x) (nat_eq b y && true) (turned x a f) (both (nat_eq b y) true h refl)
+whole_one (a ∷ b ∷ c ∷ o) x y t f h = absurd (cc)
+
+whole : (os : List (List ℕ)) (x y : ℕ) (t : List ℕ) → list_all (is_first_of x) os ≡ true → list_any (is_whole_with y) os ≡ true → begins_with_one os (x ∷ y ∷ t) ≡ true
+unfolding begins_with_one
+whole [] x y t f h = h
+whole (o ∷ os) x y t f h =
+    either (is_whole_with y o) (list_any (is_whole_with y) os) (begins o (x ∷ y ∷ t)) (begins_with_one os (x ∷ y ∷ t))
+    (whole_one o x y t (and_left (is_first_of x o) (list_all (is_first_of x) os) f))
+    (whole os x y t (and_right (is_first_of x o) (list_all (is_first_of x) os) f))
+    h
+
+pub whole_at : (os : List (List ℕ)) (t : List ℕ) (n : ℕ) → n + 1 < length t → list_all (is_first_of (get_or t n 0)) os ≡ true → list_any (is_whole_with (get_or t (n + 1) 0)) os ≡ true → begins_with_one os (drop n t) ≡ true
+whole_at os [] n l f h = absurd (omega (arith, l))
+whole_at os (x ∷ []) n l f h = absurd (omega (arith, l))
+whole_at os (x ∷ y ∷ t) zero l f h = whole os x y t f h
+whole_at os (x ∷ y ∷ t) (suc n) l f h =
+    let at : suc (n + 1) ≡ suc n + 1 = omega arith in
+    whole_at os (y ∷ t) n (omega (arith, l)) f (ap (λ k. list_any (is_whole_with (get_or (x ∷ y ∷ t) k 0)) os) at ∙ h)
+
+-- what a byte's flag tells
+pub flag_is : (test : ℕ → List ℕ → Bool) (os : List (List ℕ)) (flags : List Bool) → HasFlags test os flags → (y : ℕ) → y < 256 → (d : Bool) → get_or flags y d ≡ list_any (test y) os
+flag_is test os flags s y r d =
     let inside : y < length flags = omega (arith, r, s.all) in
-    no_second os x y t (sym (s.each y r) ∙ get_or_default flags y false d inside ∙ h)
+    sym (get_or_default flags y false d inside) ∙ s.each y r
 
 -- the group of the text's first byte has all openers that can stand at its front
 pub in_group : (os : List (List ℕ)) (x : ℕ) (t : List ℕ) → list_all is_nonempty os ≡ true → begins_with_one (with_first x os) (x ∷ t) ≡ begins_with_one os (x ∷ t)
@@ -93,6 +131,14 @@ in_group (o ∷ os) x t all =
     by true e rest = ap (λ r. begins o (x ∷ t) || r) rest
     by false e rest = rest ∙ sym (ap (λ b. b || begins_with_one os (x ∷ t)) (not_true (begins o (x ∷ t)) (λ h. clash e (begins_first o t x (and_left (is_nonempty o) (list_all is_nonempty os) all) h))))
 
+all_first : (os : List (List ℕ)) (x : ℕ) → list_all (is_first_of x) (with_first x os) ≡ true
+all_first [] x = refl
+all_first (o ∷ os) x = by (is_first_of x o) refl (all_first os x)
+  where
+    by : (b : Bool) → is_first_of x o ≡ b → list_all (is_first_of x) (with_first x os) ≡ true → list_all (is_first_of x) (cond b (o ∷ with_first x os) (with_first x os)) ≡ true
+    by true e rest = ap (λ y. y && list_all (is_first_of x) (with_first x os)) e ∙ rest
+    by false e rest = rest
+
 -- what the search asks of a group
 module _ (os : List (List ℕ)) (firsts : List ℕ) (groups : List (List (List ℕ))) (x : IsIndexOf os firsts groups) where
   pub apart : (b : ℕ) (t : List ℕ) → (has_byte firsts b ≡ true → ⊥) → begins_with_one os (b ∷ t) ≡ false
@@ -107,6 +153,11 @@ module _ (os : List (List ℕ)) (firsts : List ℕ) (groups : List (List (List �
   of_group i d l t =
       ap (λ g. begins_with_one g (get_or firsts i 0 ∷ t)) (ap (λ gs. get_or gs i d) x.grouped ∙ get_or-map (λ y. with_first y os) firsts i 0 d l)
       ∙ in_group os (get_or firsts i 0) t x.nonempty
+
+  pub first_of_group : (i : ℕ) (d : List (List ℕ)) → i < length firsts → list_all (is_first_of (get_or firsts i 0)) (get_or groups i d) ≡ true
+  first_of_group i d l =
+      ap (list_all (is_first_of (get_or firsts i 0))) (ap (λ gs. get_or gs i d) x.grouped ∙ get_or-map (λ y. with_first y os) firsts i 0 d l)
+      ∙ all_first os (get_or firsts i 0)
 
   -- from a place on, up to the next first byte of an opener
   pub none_passed : (t : List ℕ) (i j : ℕ) → j ≤ length t → ((k : ℕ) → i ≤ k → k < j → has_byte firsts (get_or t k 0) ≡ false) → (k : ℕ) → i ≤ k → k < j → begins_with_one os (drop k t) ≡ false
@@ -134,6 +185,13 @@ pub group_at : (g os : List (List ℕ)) (x : ℕ) → ((s : List ℕ) → begins
 group_at g os x same [] n l e = absurd (omega (arith, l))
 group_at g os x same (b ∷ t) zero l e = ap (λ y. begins_with_one g (y ∷ t)) e ∙ same t ∙ sym (ap (λ y. begins_with_one os (y ∷ t)) e)
 group_at g os x same (b ∷ t) (suc n) l e = group_at g os x same t n (omega (arith, l)) e
+
+-- up to a place, and at it
+pub one_more : (P : ℕ → Type 0) (i j : ℕ) → ((k : ℕ) → i ≤ k → k < j → P k) → P j → (k : ℕ) → i ≤ k → k < j + 1 → P k
+one_more P i j f here k a h = elim (cases_lt k j) [
+  | inl b ↦ f k a b
+  | inr b ↦ let same : j ≡ k = omega (arith, b, h) in subst P same here
+]
 
 -- up to a place and from it on
 pub none_up_to : (os : List (List ℕ)) (t : List ℕ) (i j : ℕ) → ((k : ℕ) → k < i → begins_with_one os (drop k t) ≡ false) → ((k : ℕ) → i ≤ k → k < j → begins_with_one os (drop k t) ≡ false) → (k : ℕ) → k < j → begins_with_one os (drop k t) ≡ false

@@ -1,5 +1,5 @@
 //! The openers of a language, ready for a search of a text.
-ghost use Rattle.std.specs.Prelude.{IsSome, ◌↔◌, ◌≡◌, ◌≤◌, ◌<◌, ℕ, List, ◌∷◌, length, map, drop, ◌||◌, true, false, IfOk, OnOk, MatchOption, slice_index};
+ghost use Rattle.std.specs.Prelude.{IsSome, IfSome, ◌↔◌, ◌≡◌, ◌≤◌, ◌<◌, ℕ, List, ◌∷◌, length, map, drop, ◌||◌, true, false, IfOk, OnOk, MatchOption, slice_index};
 ghost use Rattle.std.specs.List.{list_all};
 ghost use Rattle.tokei_syntax.specs.FirstOpener.{first_opener, is_first, is_first_of, has_byte, is_nonempty};
 ghost use Rattle.tokei_syntax.specs.OpenerGroups.{with_first, IsIndexOf};
@@ -279,7 +279,8 @@ impl OpenerIndex {
     /// The openers that begin with the byte, where there are any.
     #[inline(always)]
     fn group_of(&self, byte: u8) -> Option<&OpenerGroup>
-        ensures { MatchOption result ((t : List ℕ) → begins_with_one self.entry.now (byte ∷ t) ≡ false)
+        ensures firsts { IfSome result (λ g. list_all (is_first_of byte) g.now ≡ true) }
+        ensures group { MatchOption result ((t : List ℕ) → begins_with_one self.entry.now (byte ∷ t) ≡ false)
             (λ g. (t : List ℕ) → begins_with_one g.now (byte ∷ t) ≡ begins_with_one self.entry.now (byte ∷ t)) }
     {
         for (i, first) in self.firsts.iter().enumerate() {
@@ -317,7 +318,7 @@ impl OpenerIndex {
             let byte = text[at];
             from = match self.group_of(byte) {
                 Some(group) => {
-                    if group.stands(&text[at..]) {
+                    if group.stands(text, at) {
                         return Some(at);
                     }
                     // a byte that can begin an opener often stands many times side by side, as in a line of slashes

@@ -16,8 +16,8 @@ returns-then-stands c =
     let inside : at < length c.args.text.now = omega (arith, c.next_first-at.ensures.within, c.if-at-text.false) in
     first_at c.args.self.now c.args.text.now at inside
     (none_up_to c.args.self.now c.args.text.now c.loop-from.from at c.loop-from.invariant.1 c.next_first-at.ensures.none)
-    (sym (group_at c.in-Some.group.now c.args.self.now (get_or c.args.text.now at 0) c.in-Some.ensures c.args.text.now at inside refl)
-    ∙ ap (begins_with_one c.in-Some.group.now) (sym (take_rest c.args.text.now at)) ∙ sym c.stands.ensures ∙ c.if-stands.true)
+    (sym (group_at c.in-Some.group.now c.args.self.now (get_or c.args.text.now at 0) c.in-Some.ensures.group c.args.text.now at inside refl)
+    ∙ sym c.stands.ensures ∙ c.if-stands.true)
 
 pub loop-from-preserved-else-stands : goal.loop-from-preserved-else-stands
 loop-from-preserved-else-stands c =
@@ -29,9 +29,9 @@ loop-from-preserved-else-stands c =
       c.passed-from.ensures.within,
       none_behind os text at c.passed-from.result
           (none_up_to os text c.loop-from.from at c.loop-from.invariant.1 c.next_first-at.ensures.none)
-          (sym (group_at c.in-Some.group.now os byte c.in-Some.ensures text at inside refl)
-          ∙ ap (begins_with_one c.in-Some.group.now) (sym (take_rest text at)) ∙ sym c.stands.ensures ∙ c.if-stands.false)
-          (λ k a h. sym (group_at c.in-Some.group.now os byte c.in-Some.ensures text k (omega (arith, h, c.passed-from.ensures.within)) (c.passed-from.ensures.run k a h)) ∙ c.passed-from.ensures.none k a h),
+          (sym (group_at c.in-Some.group.now os byte c.in-Some.ensures.group text at inside refl)
+          ∙ sym c.stands.ensures ∙ c.if-stands.false)
+          (λ k a h. sym (group_at c.in-Some.group.now os byte c.in-Some.ensures.group text k (omega (arith, h, c.passed-from.ensures.within)) (c.passed-from.ensures.run k a h)) ∙ c.passed-from.ensures.none k a h),
     )
 
 pub returns : goal.returns
