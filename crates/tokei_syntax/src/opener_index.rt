@@ -1,5 +1,5 @@
 //! The openers of a language, ready for a search of a text.
-ghost use Rattle.std.specs.Prelude.{IsSome, IfSome, ◌↔◌, ◌≡◌, ◌≤◌, ◌<◌, ℕ, List, ◌∷◌, length, map, drop, ◌||◌, true, false, IfOk, OnOk, MatchOption, slice_index};
+ghost use Rattle.std.specs.Prelude.{◌≡◌, ◌↔◌, ◌≤◌, ◌<◌, ℕ, List, ◌∷◌, length, map, drop, ◌||◌, true, false, IfOk, IfSome, IsSome, OnOk, MatchOption, slice_index};
 ghost use Rattle.std.specs.List.{list_all};
 ghost use Rattle.tokei_syntax.specs.FirstOpener.{first_opener, is_first, is_first_of, has_byte, is_nonempty};
 ghost use Rattle.tokei_syntax.specs.OpenerGroups.{with_first, IsIndexOf};
@@ -10,9 +10,9 @@ ghost use Rattle.tokei_syntax.specs.RowOf.{tokens_of};
 
 use crate::opener_group::OpenerGroup;
 use memchr::{memchr, memchr2, memchr3};
-use tokei_bytes::first_of_four;
 use std::alloc::{AllocError, Global};
 use std::marker::Model;
+use tokei_bytes::first_of_four;
 
 /// How many bytes are searched at first for more than three bytes.
 const FIRST_BLOCK: usize = 64;
@@ -291,7 +291,8 @@ impl OpenerIndex {
         None
     }
 
-    /// The first place, from a place on, at which an opener can stand by its first byte; the text's length where there is none.
+    /// The first place, from a place on, at which an opener can stand by its first byte; the text's length where there
+    /// is none.
     #[inline(always)]
     fn next_first(&self, text: &[u8], from: usize) -> usize
         requires { from ≤ length text.now }

@@ -1,6 +1,4 @@
-use Rattle.std.proofs.Common.{sym, ◌∙◌, ap, arith}
-use Rattle.std.proofs.lemmas.List.{take_rest}
-use Rattle.tokei_syntax.specs.Bytes.{begins_with_one}
+use Rattle.std.proofs.Common.{sym, ◌∙◌}
 use Rattle.tokei_syntax.proofs.OpenerGroups.{second_apart, whole_at}
 use Rattle.tokei_syntax.proofs.opener_group.OpenerGroup.stands.Goals as goal
 

@@ -1,6 +1,4 @@
-use Rattle.std.proofs.Common.{◌<◌, length, get_or, sym, refl, ◌∙◌, ap, arith}
-use Rattle.std.proofs.lemmas.List.{take_rest}
-use Rattle.tokei_syntax.specs.Bytes.{begins_with_one}
+use Rattle.std.proofs.Common.{◌<◌, length, get_or, sym, refl, ◌∙◌, arith}
 use Rattle.tokei_syntax.proofs.FirstPlaces.{first_at, first_none}
 use Rattle.tokei_syntax.proofs.OpenerGroups.{group_at, none_up_to, none_behind}
 use Rattle.tokei_syntax.proofs.opener_index.OpenerIndex.first_in.Goals as goal

@@ -1,6 +1,5 @@
-use Rattle.std.proofs.Common.{sym, ◌∙◌, ap, arith, subst}
+use Rattle.std.proofs.Common.{subst}
 use Rattle.tokei_syntax.specs.OpenerGroups.{IsIndexOf}
-use Rattle.tokei_syntax.specs.FirstOpener.{has_byte}
 use Rattle.tokei_syntax.proofs.OpenerGroups.{none_passed}
 use Rattle.tokei_syntax.proofs.opener_index.OpenerIndex.next_first.Goals as goal
 
