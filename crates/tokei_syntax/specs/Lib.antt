@@ -1,5 +1,6 @@
 pub mod Bytes
 pub mod FirstOpener
+pub mod NearBytes
 pub mod NewRow
 pub mod OpenerGroups
 pub mod OuterLines

@@ -14,10 +14,17 @@ goes_on_with y [] = true
 goes_on_with y (a ∷ []) = true
 goes_on_with y (a ∷ b ∷ o) = b == y
 
--- For each byte, a flag tells whether it can follow the first byte of one of the openers.
-pub record HasSeconds (openers : List (List ℕ)) (flags : List Bool) : Type 0 where
+-- Whether the opener stands wherever that byte follows its first one: it has no third byte.
+abbrev pub is_whole_with : ℕ → List ℕ → Bool
+is_whole_with y [] = true
+is_whole_with y (a ∷ []) = true
+is_whole_with y (a ∷ b ∷ []) = b == y
+is_whole_with y (a ∷ b ∷ c ∷ o) = false
+
+-- For each byte, a flag tells whether one of the openers passes the test with it.
+pub record HasFlags (test : ℕ → List ℕ → Bool) (openers : List (List ℕ)) (flags : List Bool) : Type 0 where
   pub all : length flags ≡ 256
-  pub each : (y : ℕ) → y < 256 → slice_index_or flags y false ≡ list_any (goes_on_with y) openers
+  pub each : (y : ℕ) → y < 256 → slice_index_or flags y false ≡ list_any (test y) openers
 
 -- No opener is empty, the list of first bytes has those of the openers, and beside each stand the openers with it.
 pub record IsIndexOf (openers : List (List ℕ)) (firsts : List ℕ) (groups : List (List (List ℕ))) : Type 0 where

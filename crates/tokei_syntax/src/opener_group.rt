@@ -1,7 +1,8 @@
 //! Openers with one first byte.
-ghost use Rattle.std.specs.Prelude.{◌≡◌, ◌<◌, false, length, IfOk, slice_index_or};
-ghost use Rattle.std.specs.List.{list_any};
-ghost use Rattle.tokei_syntax.specs.OpenerGroups.{goes_on_with, HasSeconds};
+ghost use Rattle.std.specs.Prelude.{◌≡◌, ◌+◌, ◌≤◌, ◌<◌, ℕ, true, false, length, drop, IfOk, slice_index, slice_index_or};
+ghost use Rattle.std.specs.List.{list_any, list_all};
+ghost use Rattle.tokei_syntax.specs.FirstOpener.{is_first_of};
+ghost use Rattle.tokei_syntax.specs.OpenerGroups.{goes_on_with, is_whole_with, HasFlags};
 ghost use Rattle.tokei_syntax.specs.RowOf.{tokens_of};
 ghost use Rattle.tokei_syntax.specs.Bytes.{begins_with_one};
 
@@ -9,23 +10,26 @@ use crate::ext::begins_with_one;
 use std::alloc::{AllocError, Global};
 use std::marker::Model;
 
-/// Some openers, with a table of what can follow a first byte of theirs. Contracts see the list of the openers.
+/// Some openers, with tables of what can follow a first byte of theirs. Contracts see the list of the openers.
 #[derive(Drop)]
 pub(crate) struct OpenerGroup {
     openers: Vec<String>,
+    /// For each byte whether one of the openers can go on with it behind its first one.
     seconds: Vec<bool>,
+    /// For each byte whether one of the openers stands wherever that byte follows its first one.
+    wholes: Vec<bool>,
 }
 
 impl Model for OpenerGroup {
     ghost use Rattle.std.specs.Prelude.{ℕ, List};
-    ghost use Rattle.tokei_syntax.specs.OpenerGroups.{HasSeconds};
+    ghost use Rattle.tokei_syntax.specs.OpenerGroups.{goes_on_with, is_whole_with, HasFlags};
     ghost use Rattle.tokei_syntax.specs.RowOf.{tokens_of};
 
     ghost Value = { List (List ℕ) };
 
     ghost view = { λ g. tokens_of g.openers.items };
 
-    ghost invariant = { λ g. HasSeconds (tokens_of g.openers.items) g.seconds.items };
+    ghost invariant = { λ g. HasFlags goes_on_with (tokens_of g.openers.items) g.seconds.items × HasFlags is_whole_with (tokens_of g.openers.items) g.wholes.items };
 }
 
 fn goes_on_with(opener: &[u8], byte: u8) -> bool
@@ -34,6 +38,16 @@ fn goes_on_with(opener: &[u8], byte: u8) -> bool
     match opener {
         [_, second, ..] => *second == byte,
         _ => true,
+    }
+}
+
+fn is_whole_with(opener: &[u8], byte: u8) -> bool
+    ensures { result ≡ is_whole_with byte opener.now }
+{
+    match opener {
+        [] | [_] => true,
+        [_, second] => *second == byte,
+        [_, _, _, ..] => false,
     }
 }
 
@@ -51,7 +65,7 @@ fn is_second(openers: &[String], byte: u8) -> bool
 
 /// For each byte whether it can follow the first byte of one of the openers.
 fn seconds_of(alloc: Global, openers: &[String]) -> Result<Vec<bool>, AllocError>
-    ensures { IfOk result (λ v. HasSeconds (tokens_of openers.now) v.items) }
+    ensures { IfOk result (λ v. HasFlags goes_on_with (tokens_of openers.now) v.items) }
 {
     let mut seconds = Vec::new(alloc);
     for byte in 0..256usize {
@@ -60,24 +74,94 @@ fn seconds_of(alloc: Global, openers: &[String]) -> Result<Vec<bool>, AllocError
     Ok(seconds)
 }
 
+/// Whether one of the openers stands wherever the byte follows its first one.
+fn is_whole(openers: &[String], byte: u8) -> bool
+    ensures { result ≡ list_any (is_whole_with byte) (tokens_of openers.now) }
+{
+    for opener in openers {
+        if is_whole_with(opener.as_bytes(), byte) {
+            return true;
+        }
+    }
+    false
+}
+
+/// For each byte whether one of the openers stands wherever it follows the first one.
+fn wholes_of(alloc: Global, openers: &[String]) -> Result<Vec<bool>, AllocError>
+    ensures { IfOk result (λ v. HasFlags is_whole_with (tokens_of openers.now) v.items) }
+{
+    let mut wholes = Vec::new(alloc);
+    for byte in 0..256usize {
+        wholes.push(is_whole(openers, byte as u8))?;
+    }
+    Ok(wholes)
+}
+
 impl OpenerGroup {
     /// The group of these openers. It fails where memory runs out.
     pub(crate) fn new(alloc: Global, openers: Vec<String>) -> Result<OpenerGroup, AllocError>
         ensures { IfOk result (λ g. g ≡ tokens_of openers.items) }
     {
         let seconds = seconds_of(alloc, &openers)?;
-        Ok(OpenerGroup { openers, seconds })
+        let wholes = wholes_of(alloc, &openers)?;
+        Ok(OpenerGroup {
+            openers,
+            seconds,
+            wholes,
+        })
     }
 
-    /// Whether one of the openers stands at the front of the text. Its second byte is looked at first.
+    /// Whether one of the openers can go on with the byte behind its first one.
     #[inline(always)]
-    pub(crate) fn stands(&self, text: &[u8]) -> bool
-        ensures { result ≡ begins_with_one self.now text.now }
+    fn goes_on(&self, byte: u8) -> bool
+        ensures { result ≡ list_any (goes_on_with byte) self.now }
     {
-        match text {
-            [_, second, ..] => self.seconds[*second as usize]
-                && begins_with_one(&self.openers, text),
-            _ => begins_with_one(&self.openers, text),
+        self.seconds[byte as usize]
+    }
+
+    /// Whether one of the openers stands wherever the byte follows its first one.
+    #[inline(always)]
+    fn is_decided(&self, byte: u8) -> bool
+        ensures { result ≡ list_any (is_whole_with byte) self.now }
+    {
+        self.wholes[byte as usize]
+    }
+
+    /// Whether one of the openers, all with the first byte that stands at the place, stands there. Mostly the second byte
+    /// tells.
+    #[inline(always)]
+    pub(crate) fn stands(&self, text: &[u8], at: usize) -> bool
+        requires inside { at < length text.now }
+        requires firsts { list_all (is_first_of (slice_index text.now at)) self.now ≡ true }
+        ensures { result ≡ begins_with_one self.now (drop at text.now) }
+    {
+        if at + 1 < text.len() {
+            let second = text[at + 1];
+            if self.is_decided(second) {
+                return true;
+            }
+            if !self.goes_on(second) {
+                return false;
+            }
         }
+        begins_with_one(&self.openers, &text[at..])
+    }
+
+    /// Up to which place the text, from a place on, goes on with the byte alone and each time with a byte behind it with
+    /// which none of the openers goes on.
+    #[inline(always)]
+    pub(crate) fn passed(&self, byte: u8, text: &[u8], from: usize) -> usize
+        requires { from ≤ length text.now }
+        ensures low { from ≤ result }
+        ensures within { result ≤ length text.now }
+        ensures run { (k : ℕ) → from ≤ k → k < result → slice_index text.now k ≡ byte }
+        ensures none { (k : ℕ) → from ≤ k → k < result → begins_with_one self.now (drop k text.now) ≡ false }
+        ensures ends { result + 1 < length text.now → slice_index text.now result ≡ byte → list_any (goes_on_with (slice_index text.now (result + 1))) self.now ≡ true }
+    {
+        let mut at = from;
+        while at + 1 < text.len() && text[at] == byte && !self.goes_on(text[at + 1]) {
+            at += 1;
+        }
+        at
     }
 }

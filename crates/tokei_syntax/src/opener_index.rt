@@ -1,9 +1,10 @@
 //! The openers of a language, ready for a search of a text.
-ghost use Rattle.std.specs.Prelude.{◌≡◌, ◌≤◌, ◌<◌, ℕ, List, ◌∷◌, length, map, drop, ◌||◌, true, false, IfOk, OnOk, MatchOption};
+ghost use Rattle.std.specs.Prelude.{◌≡◌, ◌↔◌, ◌≤◌, ◌<◌, ℕ, List, ◌∷◌, length, map, drop, ◌||◌, true, false, IfOk, IfSome, IsSome, OnOk, MatchOption, slice_index};
 ghost use Rattle.std.specs.List.{list_all};
 ghost use Rattle.tokei_syntax.specs.FirstOpener.{first_opener, is_first, is_first_of, has_byte, is_nonempty};
 ghost use Rattle.tokei_syntax.specs.OpenerGroups.{with_first, IsIndexOf};
 ghost use Rattle.tokei_syntax.specs.Bytes.{begins_with_one};
+ghost use Rattle.tokei_syntax.specs.NearBytes.{SameBytes, AreNear};
 ghost use Rattle.memchr.specs.Find.{IsFirstByte};
 ghost use Rattle.tokei_syntax.specs.RowOf.{tokens_of};
 
@@ -11,6 +12,7 @@ use crate::opener_group::OpenerGroup;
 use memchr::{memchr, memchr2, memchr3};
 use std::alloc::{AllocError, Global};
 use std::marker::Model;
+use tokei_bytes::first_of_four;
 
 /// How many bytes are searched at first for more than three bytes.
 const FIRST_BLOCK: usize = 64;
@@ -18,11 +20,8 @@ const FIRST_BLOCK: usize = 64;
 /// The most bytes that are searched at a time for more than three bytes.
 const LARGEST_BLOCK: usize = 4096;
 
-/// How many bytes are searched at a time close by for up to three bytes: the most that `memchr` takes with two vectors.
-const NEAR_BLOCK: usize = 63;
-
-/// How many bytes are close by.
-const NEAR: usize = 252;
+/// How many bytes are close by. Further ahead the searches of `memchr` are quicker.
+const NEAR: usize = 256;
 
 /// The openers of a language in groups of one first byte. Contracts see it as the list of its openers.
 #[derive(Drop)]
@@ -30,6 +29,8 @@ pub struct OpenerIndex {
     /// As they were given. The search goes by the groups.
     openers: Vec<String>,
     firsts: Vec<u8>,
+    /// The first bytes, where they are one to four; those that are fewer than four are named more than once.
+    near: Option<[u8; 4]>,
     /// For each of the first bytes the openers that begin with it.
     groups: Vec<OpenerGroup>,
 }
@@ -39,12 +40,13 @@ impl Model for OpenerIndex {
 
     ghost Value = { List (List ℕ) };
 
+    ghost use Rattle.tokei_syntax.specs.NearBytes.{AreNear};
     ghost use Rattle.tokei_syntax.specs.OpenerGroups.{IsIndexOf};
     ghost use Rattle.tokei_syntax.specs.RowOf.{tokens_of};
 
     ghost view = { λ x. tokens_of x.openers.items };
 
-    ghost invariant = { λ x. IsIndexOf (tokens_of x.openers.items) x.firsts.items x.groups.items };
+    ghost invariant = { λ x. IsIndexOf (tokens_of x.openers.items) x.firsts.items x.groups.items × AreNear x.near x.firsts.items };
 }
 
 #[inline(always)]
@@ -83,6 +85,20 @@ fn first_bytes(alloc: Global, openers: &[String]) -> Result<Vec<u8>, AllocError>
         add_first(&mut firsts, opener.as_bytes())?;
     }
     Ok(firsts)
+}
+
+/// The bytes of the list, where they are one to four.
+fn near_of(firsts: &[u8]) -> Option<[u8; 4]>
+    ensures same { AreNear result firsts.now }
+    ensures some { IsSome result ↔ (0 < length firsts.now × length firsts.now ≤ 4) }
+{
+    match firsts {
+        [a] => Some([*a, *a, *a, *a]),
+        [a, b] => Some([*a, *b, *a, *b]),
+        [a, b, c] => Some([*a, *b, *c, *a]),
+        [a, b, c, d] => Some([*a, *b, *c, *d]),
+        _ => None,
+    }
 }
 
 fn is_first_of(byte: u8, opener: &[u8]) -> bool
@@ -140,26 +156,6 @@ fn first_of_few(bytes: &[u8], text: &[u8]) -> Option<usize>
     }
 }
 
-/// The same, in small blocks at first: the next hit is mostly close, and then one of them is found in few steps.
-#[inline(always)]
-fn first_of_few_near(bytes: &[u8], text: &[u8]) -> Option<usize>
-    requires { length bytes.now ≤ 3 }
-    ensures { IsFirstByte (has_byte bytes.now) text.now result }
-{
-    let mut from = 0;
-    while from < NEAR && NEAR_BLOCK <= text.len() - from {
-        let end = from + NEAR_BLOCK;
-        if let Some(n) = first_of_few(bytes, &text[from..end]) {
-            return Some(from + n);
-        }
-        from = end;
-    }
-    match first_of_few(bytes, &text[from..]) {
-        Some(n) => Some(from + n),
-        None => None,
-    }
-}
-
 /// The first place of the text whose byte is in the list, by searches for three bytes at a time, each up to where the
 /// one before it ended.
 fn first_of(bytes: &[u8], text: &[u8]) -> Option<usize>
@@ -195,15 +191,48 @@ fn first_in_blocks(bytes: &[u8], text: &[u8]) -> Option<usize>
 }
 
 /// The first place of the text whose byte is in the list.
-#[inline(always)]
-fn first_among(bytes: &[u8], text: &[u8]) -> Option<usize>
+fn first_of_any(bytes: &[u8], text: &[u8]) -> Option<usize>
     ensures { IsFirstByte (has_byte bytes.now) text.now result }
 {
     if bytes.len() <= 3 {
-        first_of_few_near(bytes, text)
+        first_of_few(bytes, text)
     } else {
         first_in_blocks(bytes, text)
     }
+}
+
+/// The first place of the text, from a place on, whose byte is in the list; the text's length where there is none. It
+/// stands in no caller's code, since most hits are close by.
+#[inline(never)]
+fn first_among(bytes: &[u8], text: &[u8], from: usize) -> usize
+    requires { from ≤ length text.now }
+    ensures low { from ≤ result }
+    ensures within { result ≤ length text.now }
+    ensures passed { (k : ℕ) → from ≤ k → k < result → has_byte bytes.now (slice_index text.now k) ≡ false }
+    ensures found { result < length text.now → has_byte bytes.now (slice_index text.now result) ≡ true }
+{
+    match first_of_any(bytes, &text[from..]) {
+        Some(n) => from + n,
+        None => text.len(),
+    }
+}
+
+/// The same, where up to four bytes are searched for, named by both lists: mostly the first place is close by.
+#[inline(always)]
+fn first_near(near: [u8; 4], bytes: &[u8], text: &[u8], from: usize) -> usize
+    requires order { from ≤ length text.now }
+    requires same { SameBytes near bytes.now }
+    ensures low { from ≤ result }
+    ensures within { result ≤ length text.now }
+    ensures passed { (k : ℕ) → from ≤ k → k < result → has_byte bytes.now (slice_index text.now k) ≡ false }
+    ensures found { result < length text.now → has_byte bytes.now (slice_index text.now result) ≡ true }
+{
+    let end = from + NEAR.min(text.len() - from);
+    let at = first_of_four(near, text, from, end);
+    if at < end {
+        return at;
+    }
+    first_among(bytes, text, end)
 }
 
 impl OpenerIndex {
@@ -237,10 +266,12 @@ impl OpenerIndex {
         ensures { IfOk result (λ x. x ≡ tokens_of openers.items) }
     {
         let firsts = first_bytes(alloc, &openers)?;
+        let near = near_of(&firsts);
         let groups = groups_of(alloc, &firsts, &openers)?;
         Ok(OpenerIndex {
             openers,
             firsts,
+            near,
             groups,
         })
     }
@@ -248,7 +279,8 @@ impl OpenerIndex {
     /// The openers that begin with the byte, where there are any.
     #[inline(always)]
     fn group_of(&self, byte: u8) -> Option<&OpenerGroup>
-        ensures { MatchOption result ((t : List ℕ) → begins_with_one self.entry.now (byte ∷ t) ≡ false)
+        ensures firsts { IfSome result (λ g. list_all (is_first_of byte) g.now ≡ true) }
+        ensures group { MatchOption result ((t : List ℕ) → begins_with_one self.entry.now (byte ∷ t) ≡ false)
             (λ g. (t : List ℕ) → begins_with_one g.now (byte ∷ t) ≡ begins_with_one self.entry.now (byte ∷ t)) }
     {
         for (i, first) in self.firsts.iter().enumerate() {
@@ -259,33 +291,19 @@ impl OpenerIndex {
         None
     }
 
-    /// Whether an opener stands at the front of the text.
+    /// The first place, from a place on, at which an opener can stand by its first byte; the text's length where there
+    /// is none.
     #[inline(always)]
-    fn stands(&self, text: &[u8]) -> bool
-        requires { 0 < length text.now }
-        ensures { result ≡ begins_with_one self.now text.now }
-    {
-        match text {
-            [] => false,
-            [first, ..] => match self.group_of(*first) {
-                Some(group) => group.stands(text),
-                None => false,
-            },
-        }
-    }
-
-    /// How many bytes at the front of the text are first bytes of openers, up to where an opener stands.
-    #[inline(always)]
-    fn passed(&self, text: &[u8]) -> usize
+    fn next_first(&self, text: &[u8], from: usize) -> usize
+        requires { from ≤ length text.now }
+        ensures low { from ≤ result }
         ensures within { result ≤ length text.now }
-        ensures none { (k : ℕ) → k < result → begins_with_one self.now (drop k text.now) ≡ false }
+        ensures none { (k : ℕ) → from ≤ k → k < result → begins_with_one self.now (drop k text.now) ≡ false }
     {
-        for (i, byte) in text.iter().enumerate() {
-            if !has_byte(&self.firsts, *byte) || self.stands(&text[i..]) {
-                return i;
-            }
+        match self.near {
+            Some(near) => first_near(near, &self.firsts, text, from),
+            None => first_among(&self.firsts, text, from),
         }
-        text.len()
     }
 
     /// The least place of the text at which some opener stands, None where there is none. It takes no memory.
@@ -293,13 +311,22 @@ impl OpenerIndex {
         ensures { result ≡ first_opener self.now text.now }
     {
         let mut from = 0;
-        while let Some(n) = first_among(&self.firsts, &text[from..]) {
-            let at = from + n;
-            if self.stands(&text[at..]) {
-                return Some(at);
+        while from < text.len() {
+            let at = self.next_first(text, from);
+            if at == text.len() {
+                return None;
             }
-            // bytes that can begin an opener often stand side by side, as in a line of slashes
-            from = at + 1 + self.passed(&text[at + 1..]);
+            let byte = text[at];
+            from = match self.group_of(byte) {
+                Some(group) => {
+                    if group.stands(text, at) {
+                        return Some(at);
+                    }
+                    // a byte that can begin an opener often stands many times side by side, as in a line of slashes
+                    group.passed(byte, text, at + 1)
+                }
+                None => at + 1,
+            };
         }
         None
     }

@@ -1,40 +1,36 @@
-use Rattle.std.proofs.Common.{◌+◌, length, sym, ◌∙◌, ap, arith, subst}
-use Rattle.std.proofs.lemmas.List.{take_rest, length-drop}
-use Rattle.tokei_syntax.specs.OpenerGroups.{IsIndexOf}
-use Rattle.tokei_syntax.specs.Bytes.{begins_with_one}
+use Rattle.std.proofs.Common.{◌<◌, length, get_or, sym, refl, ◌∙◌, arith}
 use Rattle.tokei_syntax.proofs.FirstPlaces.{first_at, first_none}
-use Rattle.tokei_syntax.proofs.OpenerGroups.{hit_inside, before_hit, without_hit, behind_misses}
+use Rattle.tokei_syntax.proofs.OpenerGroups.{group_at, none_up_to, none_behind}
 use Rattle.tokei_syntax.proofs.opener_index.OpenerIndex.first_in.Goals as goal
+
+pub returns-then-at-text : goal.returns-then-at-text
+returns-then-at-text c =
+    let before = none_up_to c.args.self.now c.args.text.now c.loop-from.from c.next_first-at.result c.loop-from.invariant.1 c.next_first-at.ensures.none in
+    first_none c.args.self.now c.args.text.now (λ k h. before k (omega (arith, h, c.if-at-text.true)))
 
 pub returns-then-stands : goal.returns-then-stands
 returns-then-stands c =
-    let firsts = c.self.inside.firsts.items in
-    let groups = c.self.inside.groups.items in
-    let index = subst (λ os. IsIndexOf os firsts groups) c.self.view_is c.self.invariant in
-    let hit = rw c.deref.ensures.value at c.in-Some.ensures in
-    first_at c.args.self.now c.args.text.now (c.loop-n.from + c.in-Some.n)
-    (hit_inside c.args.self.now firsts groups index c.args.text.now c.loop-n.from c.loop-n.invariant.0 c.loop-n.invariant.1 c.in-Some.n hit)
-    (before_hit c.args.self.now firsts groups index c.args.text.now c.loop-n.from c.loop-n.invariant.0 c.loop-n.invariant.1 c.in-Some.n hit)
-    (ap (begins_with_one c.args.self.now) (sym (take_rest c.args.text.now (c.loop-n.from + c.in-Some.n))) ∙ sym c.stands.ensures ∙ c.if-stands.true)
+    let at = c.next_first-at.result in
+    let inside : at < length c.args.text.now = omega (arith, c.next_first-at.ensures.within, c.if-at-text.false) in
+    first_at c.args.self.now c.args.text.now at inside
+    (none_up_to c.args.self.now c.args.text.now c.loop-from.from at c.loop-from.invariant.1 c.next_first-at.ensures.none)
+    (sym (group_at c.in-Some.group.now c.args.self.now (get_or c.args.text.now at 0) c.in-Some.ensures.group c.args.text.now at inside refl)
+    ∙ sym c.stands.ensures ∙ c.if-stands.true)
 
-pub loop-n-preserved : goal.loop-n-preserved
-loop-n-preserved c =
-    let firsts = c.self.inside.firsts.items in
-    let groups = c.self.inside.groups.items in
-    let index = subst (λ os. IsIndexOf os firsts groups) c.self.view_is c.self.invariant in
-    let hit = rw c.deref.ensures.value at c.in-Some.ensures in
-    let inside = hit_inside c.args.self.now firsts groups index c.args.text.now c.loop-n.from c.loop-n.invariant.0 c.loop-n.invariant.1 c.in-Some.n hit in
-    let at = c.loop-n.from + c.in-Some.n in (
-      omega (arith, inside, c.passed.ensures.within, ap length (take_rest c.args.text.now (at + 1)), length-drop (at + 1) c.args.text.now),
-      behind_misses c.args.self.now c.args.text.now at c.passed.result inside
-          (before_hit c.args.self.now firsts groups index c.args.text.now c.loop-n.from c.loop-n.invariant.0 c.loop-n.invariant.1 c.in-Some.n hit)
-          (sym c.stands.ensures ∙ c.if-stands.false) c.passed.ensures.none,
+pub loop-from-preserved-else-stands : goal.loop-from-preserved-else-stands
+loop-from-preserved-else-stands c =
+    let at = c.next_first-at.result in
+    let text = c.args.text.now in
+    let os = c.args.self.now in
+    let byte = get_or text at 0 in
+    let inside : at < length text = omega (arith, c.next_first-at.ensures.within, c.if-at-text.false) in (
+      c.passed-from.ensures.within,
+      none_behind os text at c.passed-from.result
+          (none_up_to os text c.loop-from.from at c.loop-from.invariant.1 c.next_first-at.ensures.none)
+          (sym (group_at c.in-Some.group.now os byte c.in-Some.ensures.group text at inside refl)
+          ∙ sym c.stands.ensures ∙ c.if-stands.false)
+          (λ k a h. sym (group_at c.in-Some.group.now os byte c.in-Some.ensures.group text k (omega (arith, h, c.passed-from.ensures.within)) (c.passed-from.ensures.run k a h)) ∙ c.passed-from.ensures.none k a h),
     )
 
 pub returns : goal.returns
-returns c =
-    let firsts = c.self.inside.firsts.items in
-    let groups = c.self.inside.groups.items in
-    let index = subst (λ os. IsIndexOf os firsts groups) c.self.view_is c.self.invariant in
-    first_none c.args.self.now c.args.text.now
-    (without_hit c.args.self.now firsts groups index c.args.text.now c.loop-n.from c.loop-n.invariant.0 c.loop-n.invariant.1 (rw c.deref.ensures.value at c.in_default.ensures))
+returns c = first_none c.args.self.now c.args.text.now (λ k h. c.loop-from.invariant.1 k (omega (arith, h, c.loop-from-test.false)))
