@@ -1,5 +1,5 @@
 //! Places that were counted by hand, and the search held against a plain loop.
-use crate::first_of_four;
+use crate::{ByteSet, first_of_four};
 use std::alloc::Global;
 use std::test::Fail;
 
@@ -121,4 +121,51 @@ fn each_search_answers_as_a_plain_loop(rt: HostRuntime) {
             }
         }
     }
+}
+
+/// The set of the bytes.
+fn set_of(alloc: Global, bytes: &[u8]) -> Result<Option<ByteSet>, Fail> {
+    let mut flags = Vec::new(alloc);
+    for byte in 0..256usize {
+        flags.push(bytes.contains(&(byte as u8)))?;
+    }
+    if flags.len() == 256 {
+        Ok(Some(ByteSet::new(flags)))
+    } else {
+        Ok(None)
+    }
+}
+
+/// The set's bytes, the other byte, a text, how far it has none of the set, and how far nor the other byte either.
+const SETS: [(&[u8], u8, &[u8], usize, usize); 8] = [
+    (b"", b'*', b"a * b", 5, 2),
+    (b"/", b'*', b"a * b / c", 6, 2),
+    (b"/\\", b'*', b"a / b * c", 2, 2),
+    (b"/\\<", b'*', b"a b * c < d", 8, 4),
+    (b"/\\<#", b'*', b"a b * c # d", 8, 4),
+    (b"/\\<#$", b'*', b"a b * c / d", 8, 4),
+    (b"/\\<#$!", b'*', b"a b $ c * d", 4, 4),
+    (
+        b"/\\<#$!",
+        b'*',
+        b"nothing of it, in a text of more than 32 bytes",
+        46,
+        46,
+    ),
+];
+
+#[test]
+fn texts_are_clear_up_to_a_byte_of_the_set(rt: HostRuntime) -> Result<(), Fail> {
+    for (bytes, other, text, clear, apart) in SETS {
+        let set = set_of(rt.alloc(), bytes)?;
+        let found = set.as_ref().map(|set| set.clear_end(text, 0, text.len()));
+        assert_eq!(rt; found, Some(clear), "of {bytes:?}");
+        let found = set
+            .as_ref()
+            .map(|set| set.clear_end_with(other, text, 0, text.len()));
+        assert_eq!(rt; found, Some(apart), "of {bytes:?}");
+        let has = set.as_ref().map(|set| set.has(b'/'));
+        assert_eq!(rt; has, Some(bytes.contains(&b'/')), "of {bytes:?}");
+    }
+    Ok(())
 }
