@@ -110,7 +110,7 @@ fn met_in_comment<'a>(syntax: &Syntax, pair: &'a (String, String)) -> Choice<'a>
     }
 }
 
-#[inline(never)]
+#[inline(always)]
 fn in_string<'a>(syntax: &Syntax, verbatim: bool, closer: &[u8], text: &[u8]) -> Choice<'a>
     ensures choice { (block : Option Block) → choice_of block result ≡ choice_in_string (row_of syntax.now) verbatim closer.now text.now }
     ensures no_child { result ≢ Choice.Child }
@@ -124,7 +124,7 @@ fn in_string<'a>(syntax: &Syntax, verbatim: bool, closer: &[u8], text: &[u8]) ->
     }
 }
 
-#[inline(never)]
+#[inline(always)]
 fn in_comment<'a>(syntax: &'a Syntax, closer: &[u8], text: &[u8]) -> Choice<'a>
     ensures choice { (block : Option Block) → choice_of block result ≡ choice_in_comment (row_of syntax.now) closer.now text.now }
     ensures no_child { result ≢ Choice.Child }
@@ -142,7 +142,7 @@ fn in_comment<'a>(syntax: &'a Syntax, closer: &[u8], text: &[u8]) -> Choice<'a>
     }
 }
 
-#[inline(never)]
+#[inline(always)]
 fn in_plain<'a>(syntax: &'a Syntax, opens: bool, text: &[u8]) -> Choice<'a>
     ensures choice { (block : Option Block) → is_some block ≡ opens → choice_of block result ≡ choice_in_plain (row_of syntax.now) block text.now }
     ensures child { result ≡ Choice.Child → opens ≡ true }
