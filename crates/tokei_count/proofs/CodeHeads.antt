@@ -1,4 +1,4 @@
--- A part at whose head nothing but code can begin is code.
+-- A part at whose head nothing but code can begin is code, and a part of blanks is blank.
 use Rattle.std.proofs.Common.{◌≡◌, ℕ, ◌==◌, Bool, true, false, ◌&&◌, ◌||◌, cond, List, [], ◌∷◌, None, slice_index_or, refl, sym, ◌∙◌, ap}
 use Rattle.std.specs.List.{list_all}
 use Rattle.std.specs.Str.{bytes_eq}
@@ -124,3 +124,15 @@ module _ (g : Row) (s : IsSound g) (m : Matchers) (is : m ≡ matchers_of g) (do
       by_front (a ∷ u) e (b ∷ w) f i k =
           let trimmed : trim t ≡ b ∷ trim_end w = ap trim_end f ∙ trimmed_by (is_blank b) (all_blank w) b w (front_solid t b w f) in
           by_rules t a u b (trim_end w) e trimmed (front_not_blank t b w f) (starts_nothing g s m a u is i) (starts_nothing g s m b (trim_end w) is k)
+
+no_head : (t : List ℕ) → trim_start t ≡ [] → all_blank t ≡ true
+no_head [] e = refl
+no_head (a ∷ t) e = by_test (is_blank a) e (no_head t)
+  where
+    by_test : (x : Bool) → cond x (trim_start t) (a ∷ t) ≡ [] → (trim_start t ≡ [] → all_blank t ≡ true) → (x && all_blank t) ≡ true
+    by_test true e rest = rest e
+    by_test false e rest = cc
+
+pub blank_part : (g : Row) (docs : Bool) (t : List ℕ) (ended : Mode) → trim_start t ≡ [] → class_of g docs (record { begun = None; bytes = t; ended = ended }) ≡ Blank
+unfolding class_of
+blank_part g docs t ended e = rw (no_head t e) refl

@@ -1,5 +1,6 @@
 //! What a part counts as.
-ghost use Rattle.std.specs.Prelude.{◌≡◌, true};
+ghost use Rattle.std.specs.Prelude.{◌≡◌, Some, []};
+ghost use Rattle.tokei_table.specs.Bytes.{trim_start};
 ghost use Rattle.tokei_table.specs.Sound.{IsSound};
 ghost use Rattle.tokei_table.specs.RowOf.{pairs_of, row_of};
 ghost use Rattle.tokei_count.specs.Class.{encloses, opens_with, class_of, head_of, in_comment, in_string, in_doc_string, ends_opened};
@@ -137,22 +138,24 @@ pub fn class_of(
     Class::Code
 }
 
-/// Whether neither a comment nor an opener can begin the part or stand behind its front blanks, and some byte isn't blank.
-fn has_code_head(matchers: &SharedMatchers, bytes: &[u8]) -> bool
-    ensures { result ≡ true → HasCodeHead matchers.now bytes.now }
+/// What a part that begins plain is by its front alone: blank where all its bytes are, and code where neither a comment nor an
+/// opener can begin it or stand behind its front blanks, unless the language or the mode at its end says otherwise.
+#[inline(always)]
+fn class_by_front(matchers: &SharedMatchers, bytes: &[u8]) -> Option<Class>
+    ensures blank { result ≡ Some Class.Blank → trim_start bytes.now ≡ [] }
+    ensures code { result ≡ Some Class.Code → HasCodeHead matchers.now bytes.now }
 {
-    match bytes {
-        [] => false,
-        [first, ..] => !matchers.begins(*first)
-            && match trim_start(bytes) {
-                [] => false,
-                [head, ..] => !matchers.begins(*head),
-            },
+    match (bytes, trim_start(bytes)) {
+        (_, []) => Some(Class::Blank),
+        ([first, ..], [head, ..]) if !matchers.begins(*first) && !matchers.begins(*head) => {
+            Some(Class::Code)
+        }
+        _ => None,
     }
 }
 
-/// The class of a part that began and ended in these modes, as `class_of` has it, which is asked only where the part's head
-/// may begin a comment.
+/// The class of a part that began and ended in these modes, as `class_of` has it, which is asked only where the part's front
+/// doesn't tell.
 #[inline(always)]
 pub(crate) fn class_by(
     matchers: &SharedMatchers,
@@ -167,12 +170,12 @@ pub(crate) fn class_by(
     ensures { result ≡ class_of (row_of syntax.now) docs
         (record { begun = mode_of begun.entry; bytes = bytes.now; ended = mode_of ended.entry }) }
 {
-    if begun.is_none()
-        && !syntax.literate
-        && !in_doc_string(ended)
-        && has_code_head(matchers, bytes)
-    {
-        return Class::Code;
+    if begun.is_none() {
+        match class_by_front(matchers, bytes) {
+            Some(Class::Blank) => return Class::Blank,
+            Some(Class::Code) if !syntax.literate && !in_doc_string(ended) => return Class::Code,
+            _ => {}
+        }
     }
     class_of(syntax, docs, begun, bytes, ended)
 }
