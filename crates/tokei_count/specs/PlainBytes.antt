@@ -1,5 +1,5 @@
 -- Bytes at which nothing but the byte itself, or a child, can begin.
-use Rattle.std.specs.Prelude.{◌≡◌, ℕ, ◌<◌, ◌==◌, false, [], None, Some, slice_index_or}
+use Rattle.std.specs.Prelude.{◌≡◌, ℕ, ◌==◌, false, [], None, Some}
 use Rattle.tokei_bytes.specs.ByteSets.{IsOutside}
 use Rattle.tokei_table.specs.FirstOpener.{is_first_of}
 use Rattle.tokei_count.specs.Items.{Mode}

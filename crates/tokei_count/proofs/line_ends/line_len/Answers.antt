@@ -1,4 +1,4 @@
-use Rattle.std.proofs.Common.{◌∙◌, ℕ, ◌+◌, true, false, get_or, sym, ap, arith}
+use Rattle.std.proofs.Common.{◌∙◌, ℕ, ◌+◌, true, false, get_or, ap, arith}
 use Rattle.tokei_count.specs.Lines.{line_len}
 use Rattle.tokei_count.proofs.Leading.{rest_is}
 use Rattle.tokei_count.proofs.LineEnd.{line_len-at, line_len-behind, is_newline}

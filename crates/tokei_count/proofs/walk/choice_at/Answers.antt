@@ -1,13 +1,11 @@
-use Rattle.std.proofs.Common.{◌≡◌, ℕ, suc, ◌+◌, ◌-◌, nat_le, false, Option, None, List, ◌∷◌, take, drop, length, get_or, sym, ap, ◌∙◌, arith, drop-cons}
+use Rattle.std.proofs.Common.{◌≡◌, ℕ, ◌-◌, nat_le, false, Option, None, List, take, drop, length, sym, ap, ◌∙◌, arith}
 use Rattle.std.proofs.lemmas.Bool.Decides.{nat_tests}
-use Rattle.std.proofs.lemmas.List.{drop-drop}
 use Rattle.tokei_count.specs.Choice.{choice}
 use Rattle.tokei_count.specs.ReadingOf.{row_in, blocks_of}
-use Rattle.tokei_count.specs.PlainBytes.{IsPlainByte}
 use Rattle.tokei_count.specs.Items.{Block}
 use Rattle.tokei_count.specs.Seen.{mode_of}
 use Rattle.tokei_table.specs.RowOf.{row_of}
-use Rattle.tokei_count.proofs.PlainBytes.{plain_byte, same_choice}
+use Rattle.tokei_count.proofs.PlainBytes.{same_choice}
 use Rattle.tokei_count.proofs.Leading.{rest_is}
 use Rattle.tokei_count.proofs.walk.choice_at.Goals as goal
 use Rattle.tokei_count.proofs.walk.choice_at.Goals.{then-child-at, else-child-at}

@@ -1,5 +1,4 @@
-use Rattle.std.proofs.Common.{◌≡◌, ◌∙◌, ℕ, suc, ◌+◌, ◌-◌, ◌<◌, ◌≤◌, List, ◌∷◌, length, drop, get_or, refl, sym, ap, subst, arith, drop-cons}
-use Rattle.std.proofs.lemmas.List.{drop-drop}
+use Rattle.std.proofs.Common.{◌≡◌, ◌∙◌, ℕ, ◌+◌, ◌-◌, ◌<◌, ◌≤◌, List, length, drop, get_or, refl, sym, subst, arith}
 use Rattle.tokei_count.specs.Lines.{line_len}
 use Rattle.tokei_count.specs.Modes.{innermost}
 use Rattle.tokei_count.specs.PlainBytes.{IsPlainByte}

@@ -1,4 +1,4 @@
-use Rattle.std.proofs.Common.{subst, refl, slice_index, arith}
+use Rattle.std.proofs.Common.{subst, refl, slice_index}
 use Rattle.tokei_bytes.specs.ByteSets.{HasFew}
 use Rattle.tokei_bytes.proofs.Sets.{outside}
 use Rattle.tokei_bytes.proofs.byte_set.ByteSet.clear_end.Goals as goal

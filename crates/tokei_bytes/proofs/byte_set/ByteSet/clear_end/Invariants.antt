@@ -1,4 +1,4 @@
-use Rattle.std.proofs.Common.{◌≡◌, ℕ, ◌-◌, ◌<◌, ◌≤◌, ◌==◌, false, slice_index}
+use Rattle.std.proofs.Common.{ℕ, ◌-◌, ◌<◌, ◌≤◌, slice_index}
 use Rattle.tokei_bytes.specs.ByteSets.{IsOutside}
 use Rattle.tokei_bytes.proofs.byte_set.ByteSet.clear_end.Given as goal
 
