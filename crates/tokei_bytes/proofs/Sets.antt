@@ -1,8 +1,9 @@
 -- The few bytes of a set.
-use Rattle.std.proofs.Common.{◌≡◌, ℕ, zero, suc, ◌+◌, ◌<◌, ◌≤◌, ◌⊎◌, inl, inr, ◌==◌, Bool, true, false, cond, List, [], ◌∷◌, take, length, get_or, slice_index_or, refl, sym, ap, ◌∙◌, arith}
+use Rattle.std.proofs.Common.{◌≡◌, ◌≢◌, ℕ, zero, suc, ◌+◌, ◌<◌, ◌≤◌, ◌⊎◌, inl, inr, ◌==◌, Bool, true, false, cond, List, [], ◌∷◌, take, length, get_or, slice_index_or, refl, sym, ap, subst, ◌∙◌, arith}
 use Rattle.std.proofs.lemmas.Bool.Decides.{Decides-eqb}
 use Rattle.tokei_bytes.specs.OneOf.{is_one_of}
 use Rattle.tokei_bytes.specs.ByteSets.{HasFew}
+use Rattle.tokei_bytes.proofs.Blocks.{the_one}
 
 one_more : (y : Bool) (r : Bool) → r ≡ true → cond y true r ≡ true
 one_more true r h = refl
@@ -39,7 +40,20 @@ three (a ∷ b ∷ c ∷ d ∷ []) (suc (suc zero)) x four small = refl
 three (a ∷ b ∷ c ∷ d ∷ []) (suc (suc (suc zero))) x four small = refl
 three (a ∷ b ∷ c ∷ d ∷ []) (suc (suc (suc (suc n)))) x four small = absurd (omega (arith, small))
 
-pub with_front : (few : List ℕ) (n x : ℕ) → length few ≡ 4 → n < 4 → take (n + 1) (x ∷ get_or few 0 0 ∷ get_or few 1 0 ∷ get_or few 2 0 ∷ []) ≡ x ∷ take n few
+-- the byte in front of n few, or that byte alone where there are none
+abbrev pub with_one : List ℕ → ℕ → ℕ → List ℕ
+with_one few zero x = x ∷ x ∷ x ∷ x ∷ []
+with_one few (suc n) x = x ∷ get_or few 0 0 ∷ get_or few 1 0 ∷ get_or few 2 0 ∷ []
+
+pub alone : (few : List ℕ) (n x : ℕ) → n ≡ 0 → x ∷ x ∷ x ∷ x ∷ [] ≡ with_one few n x
+alone few zero x h = refl
+alone few (suc n) x h = absurd (omega arith)
+
+pub in_company : (few : List ℕ) (n x : ℕ) → n ≢ 0 → x ∷ get_or few 0 0 ∷ get_or few 1 0 ∷ get_or few 2 0 ∷ [] ≡ with_one few n x
+in_company few zero x h = absurd (h refl)
+in_company few (suc n) x h = refl
+
+with_front : (few : List ℕ) (n x : ℕ) → length few ≡ 4 → n < 4 → take (n + 1) (with_one few n x) ≡ x ∷ take n few
 with_front [] n x four small = absurd (omega arith)
 with_front (a ∷ []) n x four small = absurd (omega arith)
 with_front (a ∷ b ∷ []) n x four small = absurd (omega arith)
@@ -52,12 +66,41 @@ with_front (a ∷ b ∷ c ∷ d ∷ []) (suc (suc (suc zero))) x four small = re
 with_front (a ∷ b ∷ c ∷ d ∷ []) (suc (suc (suc (suc n)))) x four small = absurd (omega (arith, small))
 
 -- the byte in front of the others, or one of those
-pub in_front : (few : List ℕ) (n x b : ℕ) → length few ≡ 4 → n < 4 → (b ≡ x) ⊎ (is_one_of (take n few) b ≡ true) → is_one_of (take (n + 1) (x ∷ get_or few 0 0 ∷ get_or few 1 0 ∷ get_or few 2 0 ∷ [])) b ≡ true
+pub in_front : (few : List ℕ) (n x b : ℕ) → length few ≡ 4 → n < 4 → (b ≡ x) ⊎ (is_one_of (take n few) b ≡ true) → is_one_of (take (n + 1) (with_one few n x)) b ≡ true
 in_front few n x b four small h = ap (λ bs. is_one_of bs b) (with_front few n x four small) ∙ by_side h
   where
     by_side : (b ≡ x) ⊎ (is_one_of (take n few) b ≡ true) → cond (b == x) true (is_one_of (take n few) b) ≡ true
     by_side (inl e) = ap (λ y. cond y true (is_one_of (take n few) b)) ((Decides-eqb b x).1 e)
     by_side (inr h) = one_more (b == x) (is_one_of (take n few) b) h
+
+pub length-with_one : (few : List ℕ) (n x : ℕ) → length (with_one few n x) ≡ 4
+length-with_one few zero x = refl
+length-with_one few (suc n) x = refl
+
+-- one of a list is the first or one of the others
+first_or_other : (x : ℕ) (bs : List ℕ) (b : ℕ) → is_one_of (x ∷ bs) b ≡ true → (b ≡ x) ⊎ (is_one_of bs b ≡ true)
+first_or_other x bs b h = by_test (b == x) refl h
+  where
+    by_test : (y : Bool) → (b == x) ≡ y → cond y true (is_one_of bs b) ≡ true → (b ≡ x) ⊎ (is_one_of bs b ≡ true)
+    by_test true e h = inl ((Decides-eqb b x).0 e)
+    by_test false e h = inr h
+
+-- one of the first three is one of all
+one_of_three : (few : List ℕ) (b : ℕ) → length few ≡ 4 → is_one_of (get_or few 0 0 ∷ get_or few 1 0 ∷ get_or few 2 0 ∷ []) b ≡ true → is_one_of few b ≡ true
+one_of_three [] b four h = absurd (omega arith)
+one_of_three (x ∷ []) b four h = absurd (omega arith)
+one_of_three (x ∷ y ∷ []) b four h = absurd (omega arith)
+one_of_three (x ∷ y ∷ z ∷ w ∷ v ∷ r) b four h = absurd (omega arith)
+one_of_three (x ∷ y ∷ z ∷ []) b four h = absurd (omega arith)
+one_of_three (x ∷ y ∷ z ∷ w ∷ []) b four h = among 3 (x ∷ y ∷ z ∷ w ∷ []) b h
+
+-- what holds of the byte and of the few holds of both
+pub each_with_one : (P : ℕ → Type 0) (few : List ℕ) (n x : ℕ) → length few ≡ 4 → P x → (0 < n → (b : ℕ) → is_one_of few b ≡ true → P b) → (b : ℕ) → is_one_of (with_one few n x) b ≡ true → P b
+each_with_one P few zero x four own rest b h = subst P (sym (the_one b x h)) own
+each_with_one P few (suc n) x four own rest b h = elim (first_or_other x (get_or few 0 0 ∷ get_or few 1 0 ∷ get_or few 2 0 ∷ []) b h) [
+  | inl e ↦ subst P (sym e) own
+  | inr others ↦ rest (omega arith) b (one_of_three few b four others)
+]
 
 -- the flag of a byte that has one doesn't go by the default
 pub any_default : (flags : List Bool) (i : ℕ) (d e : Bool) → i < length flags → slice_index_or flags i d ≡ slice_index_or flags i e

@@ -1,8 +1,8 @@
 //! Sets of bytes that a text is searched for.
-ghost use Rattle.std.specs.Prelude.{◌≡◌, ℕ, ◌<◌, ◌≤◌, ◌==◌, false, length, slice_index, slice_index_or};
+ghost use Rattle.std.specs.Prelude.{◌≡◌, ℕ, ◌<◌, ◌≤◌, ◌==◌, ◌||◌, true, false, length, slice_index, slice_index_or};
 ghost use Rattle.tokei_bytes.specs.ByteSets.{IsOutside, HasFew};
 
-use crate::one_of::first_of_four;
+use crate::one_of::{first_of_four, first_of_one};
 use std::marker::Model;
 
 /// How many bytes are searched for at once.
@@ -12,7 +12,7 @@ const FEW: usize = 4;
 #[derive(Drop)]
 pub struct ByteSet {
     flags: Vec<bool>,
-    /// The first `count` of them are the bytes of the set, where those are at most four.
+    /// The first `count` of them are the bytes of the set, where those are at most four, and each is one where there are any.
     few: [u8; 4],
     count: usize,
 }
@@ -38,7 +38,11 @@ impl ByteSet {
         let mut count = 0;
         for byte in 0..256usize {
             if flags[byte] && count <= FEW {
-                few = [byte as u8, few[0], few[1], few[2]];
+                few = if count == 0 {
+                    [byte as u8; 4]
+                } else {
+                    [byte as u8, few[0], few[1], few[2]]
+                };
                 count += 1;
             }
         }
@@ -62,7 +66,11 @@ impl ByteSet {
         ensures low { from ≤ result }
         ensures high { result ≤ to }
         ensures clear { (p : ℕ) → from ≤ p → p < result → IsOutside self.now (slice_index text.now p) }
+        ensures found { result < to → slice_index_or self.now (slice_index text.now result) false ≡ true }
     {
+        if self.count == 0 {
+            return to;
+        }
         if self.count <= FEW {
             return first_of_four(self.few, text, from, to);
         }
@@ -82,7 +90,11 @@ impl ByteSet {
         ensures high { result ≤ to }
         ensures clear { (p : ℕ) → from ≤ p → p < result → IsOutside self.now (slice_index text.now p) }
         ensures apart { (p : ℕ) → from ≤ p → p < result → (slice_index text.now p == other) ≡ false }
+        ensures found { result < to → (slice_index text.now result == other || slice_index_or self.now (slice_index text.now result) false) ≡ true }
     {
+        if self.count == 0 {
+            return first_of_one(other, text, from, to);
+        }
         if self.count < FEW {
             let few = [self.few[0], self.few[1], self.few[2], other];
             return first_of_four(few, text, from, to);

@@ -10,4 +10,4 @@ mod one_of;
 mod tests;
 
 pub use byte_set::ByteSet;
-pub use one_of::first_of_four;
+pub use one_of::{first_not_of_four, first_of_four, first_of_one};

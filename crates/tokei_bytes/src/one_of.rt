@@ -1,12 +1,18 @@
-//! The search, 32 places at a time.
-ghost use Rattle.std.specs.Prelude.{◌≡◌, ℕ, ◌+◌, ◌<◌, ◌≤◌, true, false, length, map, slice_index};
+//! The searches, 16, 32 or 64 places at a time.
+ghost use Rattle.std.specs.Prelude.{◌≡◌, ℕ, ◌+◌, ◌<◌, ◌≤◌, ◌==◌, not, true, false, length, map, slice_index};
 ghost use Rattle.std.specs.Simd.Lanes.{mask_l};
 ghost use Rattle.tokei_bytes.specs.OneOf.{is_one_of};
 
 use std::simd::prelude::*;
 
-/// How many places are tested at once.
+/// How many places are tested at once for some bytes.
 const BLOCK: usize = 32;
+
+/// The same for one byte.
+const WIDE_BLOCK: usize = 64;
+
+/// The same for other bytes than some, which mostly stand close by.
+const SHORT_BLOCK: usize = 16;
 
 /// Bit k is set where lane k is one of the four.
 #[inline(always)]
@@ -66,6 +72,93 @@ pub fn first_of_four(bytes: [u8; 4], text: &[u8], from: usize, to: usize) -> usi
             return to.min(at + marked.trailing_zeros() as usize);
         }
         at += BLOCK;
+    }
+    to
+}
+
+/// Bit k is set where lane k is the byte.
+#[inline(always)]
+fn marks_of_one(byte: u8, lanes: u8x64) -> u64
+    ensures { result ≡ mask_l (map (λ x. x == byte) lanes) }
+{
+    lanes.simd_eq(u8x64::splat(byte)).to_bitmask()
+}
+
+/// The first place of the text, from `from` to before `to`, at which the byte stands, or `to` where there is none. A place
+/// counts the bytes of the text before it.
+#[inline(always)]
+pub fn first_of_one(byte: u8, text: &[u8], from: usize, to: usize) -> usize
+    requires order { from ≤ to }
+    requires within { to ≤ length text.now }
+    ensures low { from ≤ result }
+    ensures high { result ≤ to }
+    ensures passed { (p : ℕ) → from ≤ p → p < result → (slice_index text.now p == byte) ≡ false }
+    ensures found { result < to → slice_index text.now result ≡ byte }
+{
+    let mut at = from;
+    while at < to {
+        if text.len() - at < WIDE_BLOCK {
+            return first_of_four([byte; 4], text, at, to);
+        }
+        // The block may go on past `to`, where a hit is none.
+        let hits = marks_of_one(byte, u8x64::from_slice(&text[at..]));
+        if hits != 0 {
+            return to.min(at + hits.trailing_zeros() as usize);
+        }
+        at += WIDE_BLOCK;
+    }
+    to
+}
+
+/// Bit k is set where lane k is none of the four.
+#[inline(always)]
+fn marks_of_others(bytes: [u8; 4], lanes: u8x16) -> u64
+    ensures { result ≡ mask_l (map (λ x. not (is_one_of bytes x)) lanes) }
+{
+    let front = lanes.simd_ne(u8x16::splat(bytes[0])) & lanes.simd_ne(u8x16::splat(bytes[1]));
+    let back = lanes.simd_ne(u8x16::splat(bytes[2])) & lanes.simd_ne(u8x16::splat(bytes[3]));
+    (front & back).to_bitmask()
+}
+
+/// The search for another byte one place at a time, for the end of a text.
+#[inline(never)]
+fn first_other_by_one(bytes: [u8; 4], text: &[u8], from: usize, to: usize) -> usize
+    requires order { from ≤ to }
+    requires within { to ≤ length text.now }
+    ensures low { from ≤ result }
+    ensures high { result ≤ to }
+    ensures passed { (p : ℕ) → from ≤ p → p < result → is_one_of bytes (slice_index text.now p) ≡ true }
+    ensures found { result < to → is_one_of bytes (slice_index text.now result) ≡ false }
+{
+    let mut at = from;
+    while at < to && is_one_of(bytes, text[at]) {
+        at += 1;
+    }
+    at
+}
+
+/// The first place of the text, from `from` to before `to`, whose byte is none of the four, or `to` where each is. A place
+/// counts the bytes of the text before it.
+#[inline(always)]
+pub fn first_not_of_four(bytes: [u8; 4], text: &[u8], from: usize, to: usize) -> usize
+    requires order { from ≤ to }
+    requires within { to ≤ length text.now }
+    ensures low { from ≤ result }
+    ensures high { result ≤ to }
+    ensures passed { (p : ℕ) → from ≤ p → p < result → is_one_of bytes (slice_index text.now p) ≡ true }
+    ensures found { result < to → is_one_of bytes (slice_index text.now result) ≡ false }
+{
+    let mut at = from;
+    while at < to {
+        if text.len() - at < SHORT_BLOCK {
+            return first_other_by_one(bytes, text, at, to);
+        }
+        // The block may go on past `to`, where nothing is found.
+        let others = marks_of_others(bytes, u8x16::from_slice(&text[at..]));
+        if others != 0 {
+            return to.min(at + others.trailing_zeros() as usize);
+        }
+        at += SHORT_BLOCK;
     }
     to
 }

@@ -1,5 +1,5 @@
 //! Places that were counted by hand, and the search held against a plain loop.
-use crate::{ByteSet, first_of_four};
+use crate::{ByteSet, first_not_of_four, first_of_four, first_of_one};
 use std::alloc::Global;
 use std::test::Fail;
 
@@ -121,6 +121,63 @@ fn each_search_answers_as_a_plain_loop(rt: HostRuntime) {
             }
         }
     }
+}
+
+/// What the other two searches answer, for `a` and for other bytes than the four.
+fn other_searches(text: &[u8], from: usize, to: usize) -> Option<(usize, usize)> {
+    if from <= to && to <= text.len() {
+        Some((
+            first_of_one(b'a', text, from, to),
+            first_not_of_four(FOUR, text, from, to),
+        ))
+    } else {
+        None
+    }
+}
+
+/// The same by a plain loop.
+fn other_plain_searches(text: &[u8], from: usize, to: usize) -> Option<(usize, usize)> {
+    let (mut one, mut other) = (to, to);
+    for (place, byte) in text.iter().enumerate() {
+        if from <= place && place < one && *byte == b'a' {
+            one = place;
+        }
+        if from <= place && place < other && !FOUR.contains(byte) {
+            other = place;
+        }
+    }
+    Some((one, other))
+}
+
+/// At every pair of places of texts of more than one block.
+#[test]
+fn the_other_searches_answer_as_a_plain_loop(rt: HostRuntime) -> Result<(), Fail> {
+    for (length, place, byte) in [
+        (100, 99, b'a'),
+        (100, 63, b'a'),
+        (100, 64, b'a'),
+        (100, 9, b'a'),
+        (64, 63, b'a'),
+        (40, 33, b'a'),
+        (40, 50, b'a'),
+    ] {
+        let text = text_with(rt.alloc(), length, place, byte)?;
+        let mut opposite = Vec::new(rt.alloc());
+        for byte in text.iter() {
+            opposite.push(if *byte == b'.' { b'c' } else { b'.' })?;
+        }
+        for from in 0..length + 1 {
+            for to in from..length + 1 {
+                let found = other_searches(&text, from, to);
+                let want = other_plain_searches(&text, from, to);
+                assert_eq!(rt; found, want, "in {length} from {from} to {to}");
+                let found = other_searches(&opposite, from, to);
+                let want = other_plain_searches(&opposite, from, to);
+                assert_eq!(rt; found, want, "in {length} from {from} to {to}");
+            }
+        }
+    }
+    Ok(())
 }
 
 /// The set of the bytes.

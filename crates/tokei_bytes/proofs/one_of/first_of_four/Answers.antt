@@ -8,13 +8,13 @@ pub returns-then-marked-ne0-clause-passed : goal.returns-then-marked-ne0-clause-
 returns-then-marked-ne0-clause-passed c p low high =
     elim (cases_lt p c.loop-at.at) [
       | inl passed ↦ c.loop-at.invariant.1 p low passed
-      | inr ahead ↦ none_before_mark c.args.bytes c.args.text.now c.loop-at.at c.marks-marked.result (omega arith) c.marks-marked.ensures (omega arith) p (omega arith) (omega arith)
+      | inr ahead ↦ none_before_mark (is_one_of c.args.bytes) 32 c.args.text.now c.loop-at.at c.marks-marked.result (omega arith) (omega arith) c.marks-marked.ensures (omega arith) p (omega arith) (omega arith)
     ]
 
 pub returns-then-marked-ne0-clause-found : goal.returns-then-marked-ne0-clause-found
 returns-then-marked-ne0-clause-found c inside =
     subst (λ p. is_one_of c.args.bytes (get_or c.args.text.now p 0) ≡ true) (omega arith)
-    (one_at_mark c.args.bytes c.args.text.now c.loop-at.at c.marks-marked.result (omega arith) c.marks-marked.ensures (omega arith))
+    (one_at_mark (is_one_of c.args.bytes) 32 c.args.text.now c.loop-at.at c.marks-marked.result (omega arith) (omega arith) c.marks-marked.ensures (omega arith))
 
 pub loop-at-preserved : goal.loop-at-preserved
 loop-at-preserved c = (
@@ -22,6 +22,6 @@ loop-at-preserved c = (
   λ p low high.
       elim (cases_lt p c.loop-at.at) [
         | inl passed ↦ c.loop-at.invariant.1 p low passed
-        | inr ahead ↦ none_in_block c.args.bytes c.args.text.now c.loop-at.at c.marks-marked.result (omega arith) c.marks-marked.ensures (omega arith) p (omega arith) (omega arith)
+        | inr ahead ↦ none_in_block (is_one_of c.args.bytes) 32 c.args.text.now c.loop-at.at c.marks-marked.result (omega arith) (omega arith) c.marks-marked.ensures (omega arith) p (omega arith) (omega arith)
       ],
 )

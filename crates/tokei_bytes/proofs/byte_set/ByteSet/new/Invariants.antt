@@ -7,4 +7,5 @@ invariant-loop-byte l = record {
   bound : l.count ≤ 5;
   long : length l.few ≡ 4;
   few : l.count ≤ 4 → (b : ℕ) → b < l.byte → slice_index_or l.flags.items b false ≡ true → is_one_of (take l.count l.few) b ≡ true;
+  held : 0 < l.count → (b : ℕ) → is_one_of l.few b ≡ true → slice_index_or l.flags.items b false ≡ true;
 }
