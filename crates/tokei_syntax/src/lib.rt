@@ -8,7 +8,7 @@ pub mod opener_index;
 pub mod syntax;
 
 pub use ext::{
-    contains_slice, is_blank_text, is_line_ending_whitespace, is_whitespace, trim,
+    blanks_end, contains_slice, is_blank_text, is_line_ending_whitespace, is_whitespace, trim,
     trim_first_and_last_line_of_whitespace, trim_start,
 };
 pub use opener_index::OpenerIndex;

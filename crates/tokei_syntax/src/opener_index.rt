@@ -228,7 +228,13 @@ fn first_near(near: [u8; 4], bytes: &[u8], text: &[u8], from: usize) -> usize
     ensures found { result < length text.now → has_byte bytes.now (slice_index text.now result) ≡ true }
 {
     let end = from + NEAR.min(text.len() - from);
-    let at = first_of_four(near, text, from, end);
+    let [a, b, c, d] = near;
+    // two bytes are half the work of four
+    let at = if c == a && d == b {
+        first_of_four([a, b, a, b], text, from, end)
+    } else {
+        first_of_four(near, text, from, end)
+    };
     if at < end {
         return at;
     }
