@@ -1,5 +1,7 @@
 -- A part at whose head nothing but code can begin is code, and a part of blanks is blank.
-use Rattle.std.proofs.Common.{◌≡◌, ℕ, ◌==◌, Bool, true, false, ◌&&◌, ◌||◌, cond, List, [], ◌∷◌, None, slice_index_or, refl, sym, ◌∙◌, ap}
+use Rattle.std.proofs.Common.{◌≡◌, ℕ, zero, suc, ◌+◌, ◌-◌, ◌<◌, ◌≤◌, ◌==◌, Bool, true, false, ◌&&◌, ◌||◌, not, cond, List, [], ◌∷◌, None, Some, drop, take, length, length-drop, get_or, slice_index_or, refl, sym, ◌∙◌, ap, subst, arith}
+use Rattle.std.proofs.lemmas.List.{length-take-le, get_or-take, get_or-drop}
+use Rattle.std.proofs.Math.ListN.{drop_of_length-le}
 use Rattle.std.specs.List.{list_all}
 use Rattle.std.specs.Str.{bytes_eq}
 use Rattle.tokei_table.specs.Bytes.{ends, is_blank, all_blank, trim, trim_start, trim_end}
@@ -7,13 +9,15 @@ use Rattle.tokei_table.specs.FirstOpener.{is_first_of}
 use Rattle.tokei_table.specs.Row.{Pair, Row}
 use Rattle.tokei_table.specs.Sound.{is_token, is_pair, IsSound}
 use Rattle.tokei_count.specs.Choice.{any_begins}
-use Rattle.tokei_count.specs.Class.{class_of, encloses, opens_with, head_of, keeps_columns, in_string, in_doc_string, in_comment, ends_opened}
+use Rattle.tokei_count.specs.Class.{class_of, encloses, opens_with, head_of, is_comment, is_doc_string, keeps_columns, in_string, in_doc_string, in_comment, ends_opened}
 use Rattle.tokei_count.specs.CodeHeads.{FrontBeginsNone, HasCodeHead}
 use Rattle.tokei_count.specs.PlainBytes.{BeginsNone}
 use Rattle.tokei_count.specs.Derivation.{closer_of}
 use Rattle.tokei_count.specs.Items.{Mode}
 use Rattle.tokei_count.specs.Matchers.{Matchers, matchers_of, begins_opener, begins_choice}
 use Rattle.tokei_count.specs.declared.class.Class.TheVariants.{Blank, Code, Comment}
+use Rattle.tokei_count.specs.declared.items.Kind.{Kind}
+use Rattle.tokei_count.specs.declared.items.Kind.TheVariants.{DocString, VerbatimString, OrdinaryString, MultiLineComment}
 use Rattle.tokei_count.proofs.Fits.{and_left, and_right}
 use Rattle.tokei_count.proofs.PlainBytes.{flag_at, not_begun, token_some, none_begins, or_left, or_right}
 
@@ -136,3 +140,61 @@ no_head (a ∷ t) e = by_test (is_blank a) e (no_head t)
 pub blank_part : (g : Row) (docs : Bool) (t : List ℕ) (ended : Mode) → trim_start t ≡ [] → class_of g docs (record { begun = None; bytes = t; ended = ended }) ≡ Blank
 unfolding class_of
 blank_part g docs t ended e = rw (no_head t e) refl
+
+-- no byte before place h is no blank, and the one there, where there is one, isn't
+pub front_at : (u : List ℕ) (h : ℕ) → h ≤ length u → ((k : ℕ) → k < h → is_blank (get_or u k 0) ≡ true) → (h < length u → is_blank (get_or u h 0) ≡ false) → trim_start u ≡ drop h u
+front_at [] zero l f g = refl
+front_at [] (suc h) l f g = absurd (omega arith)
+front_at (a ∷ u) zero l f g = ap (λ x. cond x (trim_start u) (a ∷ u)) (g (omega arith))
+front_at (a ∷ u) (suc h) l f g = ap (λ x. cond x (trim_start u) (a ∷ u)) (f zero (omega arith)) ∙ front_at u h (omega arith) (λ k i. f (suc k) (omega arith)) (λ i. g (omega arith))
+
+begun_at : (m : Matchers) (u : List ℕ) (h : ℕ) → h < length u → BeginsNone m (get_or u h 0) → FrontBeginsNone m (drop h u)
+begun_at m [] h l n = absurd (omega arith)
+begun_at m (a ∷ u) zero l n = n
+begun_at m (a ∷ u) (suc h) l n = begun_at m u h (omega arith) n
+
+-- The part of the text t from place i to before place j, whose front blanks end at place h.
+module _ (t : List ℕ) (i j h : ℕ) (low : i ≤ h) (high : h ≤ j) (within : j ≤ length t)
+    (blank : (p : ℕ) → i ≤ p → p < h → is_blank (get_or t p 0) ≡ true) (solid : h < j → is_blank (get_or t h 0) ≡ false) where
+  abbrev pub part : List ℕ
+  part = take (j - i) (drop i t)
+
+  length-part : length part ≡ j - i
+  length-part = length-take-le (j - i) (drop i t) (omega (arith, length-drop i t))
+
+  byte_at : (k : ℕ) → k < j - i → get_or part k 0 ≡ get_or t (i + k) 0
+  byte_at k l = get_or-take (j - i) (drop i t) k 0 l ∙ get_or-drop i t k 0
+
+  pub front_is : trim_start part ≡ drop (h - i) part
+  front_is = front_at part (h - i) (omega (arith, length-part))
+      (λ k l. ap is_blank (byte_at k (omega arith)) ∙ blank (i + k) (omega arith) (omega arith))
+      (λ l. ap is_blank (byte_at (h - i) (omega (arith, length-part)) ∙ ap (λ p. get_or t p 0) (omega arith)) ∙ solid (omega (arith, length-part)))
+
+  pub blank_front : h ≡ j → trim_start part ≡ []
+  blank_front e = front_is ∙ drop_of_length-le part (omega (arith, length-part))
+
+  pub code_front : (m : Matchers) → h < j → BeginsNone m (get_or t i 0) → BeginsNone m (get_or t h 0) → HasCodeHead m part
+  code_front m l a b = record {
+    first = begun_at m part 0 (omega (arith, length-part)) (subst (BeginsNone m) (ap (λ p. get_or t p 0) (omega arith) ∙ sym (byte_at 0 (omega arith))) a);
+    head = subst (FrontBeginsNone m) (sym front_is) (begun_at m part (h - i) (omega (arith, length-part)) (subst (BeginsNone m) (ap (λ p. get_or t p 0) (omega arith) ∙ sym (byte_at (h - i) (omega arith))) b));
+  }
+
+-- a part that began in a comment and doesn't end in a string is a comment
+not_doc : (ended : Mode) → in_string ended ≡ false → in_doc_string ended ≡ false
+not_doc None h = refl
+not_doc (Some e) h = by_kind e.kind h
+  where
+    by_kind : (k : Kind) → not (is_comment k) ≡ false → is_doc_string k ≡ false
+    by_kind DocString h = cc
+    by_kind VerbatimString h = cc
+    by_kind OrdinaryString h = cc
+    by_kind MultiLineComment h = refl
+
+pub comment_part : (g : Row) (docs : Bool) (t : List ℕ) (begun ended : Mode) → in_comment begun ≡ true → in_string ended ≡ false → class_of g docs (record { begun = begun; bytes = t; ended = ended }) ≡ Comment
+unfolding class_of
+comment_part g docs t None ended b e = cc
+comment_part g docs t (Some x) ended b e = rw (not_doc ended e) (rw e (rw b (both g.literate)))
+  where
+    both : (y : Bool) → cond y Comment Comment ≡ Comment
+    both true = refl
+    both false = refl

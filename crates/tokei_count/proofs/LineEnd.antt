@@ -1,6 +1,5 @@
 -- The first newline of a text, as the searches find it.
 use Rattle.std.proofs.Common.{◌≡◌, ◌∙◌, ℕ, suc, zero, ◌+◌, ◌<◌, ◌≤◌, ◌==◌, Bool, true, false, cond, List, [], ◌∷◌, drop, length, get_or, refl, sym, ap, arith}
-use Rattle.tokei_bytes.specs.OneOf.{is_one_of}
 use Rattle.tokei_count.specs.Lines.{line_len}
 
 -- each byte before the place is no newline
@@ -16,14 +15,6 @@ line_len-all (b ∷ t) f = rw (f zero (omega arith)) (ap suc (line_len-all t (λ
 pub not_true : (x : Bool) → (x ≡ true → ⊥) → x ≡ false
 not_true true h = absurd (h refl)
 not_true false h = refl
-
--- a byte that is one of four newlines, or isn't
-newline_of_four : (y : Bool) → cond y true (cond y true (cond y true (cond y true false))) ≡ y
-newline_of_four true = refl
-newline_of_four false = refl
-
-pub is_newline : (b : ℕ) (x : Bool) → is_one_of (10 ∷ 10 ∷ 10 ∷ 10 ∷ []) b ≡ x → (b == 10) ≡ x
-is_newline b x h = sym (newline_of_four (b == 10)) ∙ h
 
 -- no newline stands at the first n places
 pub line_len-behind : (t : List ℕ) (n : ℕ) → n ≤ length t → ((k : ℕ) → k < n → (get_or t k 0 == 10) ≡ false) → n + line_len (drop n t) ≡ line_len t

@@ -1,6 +1,6 @@
 //! What a part counts as.
-ghost use Rattle.std.specs.Prelude.{◌≡◌, Some, []};
-ghost use Rattle.tokei_table.specs.Bytes.{trim_start};
+ghost use Rattle.std.specs.Prelude.{◌≡◌, ◌-◌, ◌≤◌, Some, [], drop, length, take};
+ghost use Rattle.tokei_table.specs.Bytes.{trim, trim_start};
 ghost use Rattle.tokei_table.specs.Sound.{IsSound};
 ghost use Rattle.tokei_table.specs.RowOf.{pairs_of, row_of};
 ghost use Rattle.tokei_count.specs.Class.{encloses, opens_with, class_of, head_of, in_comment, in_string, in_doc_string, ends_opened};
@@ -12,7 +12,7 @@ use crate::choice::{any_begins, begins};
 use crate::items::{Enclosure, Kind};
 use crate::matchers::SharedMatchers;
 use tokei_table::Syntax;
-use tokei_table::ext::{is_blank_text, trim, trim_start};
+use tokei_table::ext::{blanks_end, is_blank_text, trim};
 
 /// What a line counts as.
 #[derive(Clone, Copy, Debug, PartialEq, Eq)]
@@ -73,14 +73,15 @@ fn in_doc_string(mode: Option<Enclosure>) -> bool
     }
 }
 
-/// The part without its blanks, or as it stands where columns count.
-fn head_of<'t>(syntax: &Syntax, text: &'t [u8]) -> &'t [u8]
+/// The part without its blanks, which is `trimmed`, or as it stands where columns count.
+fn head_of<'t>(syntax: &Syntax, text: &'t [u8], trimmed: &'t [u8]) -> &'t [u8]
+    requires { trimmed.now ≡ trim text.now }
     ensures { result.now ≡ head_of (row_of syntax.now) text.now }
 {
     if syntax.key.as_str() == "FortranLegacy" || syntax.key.as_str() == "FortranModern" {
         text
     } else {
-        trim(text)
+        trimmed
     }
 }
 
@@ -126,8 +127,8 @@ pub fn class_of(
     if in_string(begun) {
         return Class::Code;
     }
-    let head = head_of(syntax, bytes);
     let trimmed = trim(bytes);
+    let head = head_of(syntax, bytes, trimmed);
     if any_begins(&syntax.line_comment, head)
         || encloses(&syntax.multi_line_comments, trimmed)
         || encloses(&syntax.nested_comments, trimmed)
@@ -138,44 +139,59 @@ pub fn class_of(
     Class::Code
 }
 
-/// What a part that begins plain is by its front alone: blank where all its bytes are, and code where neither a comment nor an
-/// opener can begin it or stand behind its front blanks, unless the language or the mode at its end says otherwise.
+/// What the part of the text from `start` to before `stop` is by its front alone, where it begins plain: blank where all its
+/// bytes are, and code where neither a comment nor an opener can begin it or stand behind its front blanks, unless the
+/// language or the mode at its end says otherwise.
 #[inline(always)]
-fn class_by_front(matchers: &SharedMatchers, bytes: &[u8]) -> Option<Class>
-    ensures blank { result ≡ Some Class.Blank → trim_start bytes.now ≡ [] }
-    ensures code { result ≡ Some Class.Code → HasCodeHead matchers.now bytes.now }
+fn class_by_front(
+    matchers: &SharedMatchers,
+    text: &[u8],
+    start: usize,
+    stop: usize,
+) -> Option<Class>
+    requires order { start ≤ stop }
+    requires within { stop ≤ length text.now }
+    ensures blank { result ≡ Some Class.Blank → trim_start (take (stop - start) (drop start text.now)) ≡ [] }
+    ensures code { result ≡ Some Class.Code → HasCodeHead matchers.now (take (stop - start) (drop start text.now)) }
 {
-    match (bytes, trim_start(bytes)) {
-        (_, []) => Some(Class::Blank),
-        ([first, ..], [head, ..]) if !matchers.begins(*first) && !matchers.begins(*head) => {
-            Some(Class::Code)
-        }
-        _ => None,
+    let head = blanks_end(text, start, stop);
+    if head == stop {
+        return Some(Class::Blank);
     }
+    if matchers.begins(text[start]) || matchers.begins(text[head]) {
+        return None;
+    }
+    Some(Class::Code)
 }
 
-/// The class of a part that began and ended in these modes, as `class_of` has it, which is asked only where the part's front
-/// doesn't tell.
+/// The class of the part of the text from `start` to before `stop`, which began and ended in these modes, as `class_of` has
+/// it. That is asked only where neither the part's front nor the modes tell.
 #[inline(always)]
 pub(crate) fn class_by(
     matchers: &SharedMatchers,
     syntax: &Syntax,
     docs: bool,
     begun: Option<Enclosure>,
-    bytes: &[u8],
+    text: &[u8],
+    start: usize,
+    stop: usize,
     ended: Option<Enclosure>,
 ) -> Class
     requires sound { IsSound (row_of syntax.now) }
     requires matched { matchers.now ≡ matchers_of (row_of syntax.now) }
+    requires order { start ≤ stop }
+    requires within { stop ≤ length text.now }
     ensures { result ≡ class_of (row_of syntax.now) docs
-        (record { begun = mode_of begun.entry; bytes = bytes.now; ended = mode_of ended.entry }) }
+        (record { begun = mode_of begun.entry; bytes = take (stop - start) (drop start text.now); ended = mode_of ended.entry }) }
 {
     if begun.is_none() {
-        match class_by_front(matchers, bytes) {
+        match class_by_front(matchers, text, start, stop) {
             Some(Class::Blank) => return Class::Blank,
             Some(Class::Code) if !syntax.literate && !in_doc_string(ended) => return Class::Code,
             _ => {}
         }
+    } else if in_comment(begun) && !in_string(ended) {
+        return Class::Comment;
     }
-    class_of(syntax, docs, begun, bytes, ended)
+    class_of(syntax, docs, begun, &text[start..stop], ended)
 }

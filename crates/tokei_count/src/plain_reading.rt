@@ -209,7 +209,7 @@ pub(crate) fn read_text<'a>(
         end = line_end(text, start, end);
         let stop = line_stop(text, end);
         if is_glanced(skips, own_matchers, &stack, text, start, stop, &mut next) {
-            let glanced = class_by(own_matchers, syntax, docs, None, &text[start..stop], None);
+            let glanced = class_by(own_matchers, syntax, docs, None, text, start, stop, None);
             own = own.plus(counted_as(glanced))?;
             start = stop;
             continue;

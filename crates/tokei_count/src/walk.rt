@@ -306,13 +306,14 @@ pub(crate) fn read_part<'a>(
             reading, search, mode, left, start, at, end, behind, plain, &mut steps,
         );
     }
-    let line = &reading.text[start..stop];
     let class = class_by(
         matchers,
         reading.syntax(),
         reading.docs,
         begun,
-        line,
+        reading.text,
+        start,
+        stop,
         innermost(stack),
     );
     let end = PartEnd::Line(class, stop);

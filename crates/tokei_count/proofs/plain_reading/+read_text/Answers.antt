@@ -285,11 +285,8 @@ read_text-line_stop-stop-requires t c = end_within c.args.text.now c.loop-start.
 pub read_text-is_glanced-requires-clause-stop : goal.read_text-is_glanced-requires-clause-stop
 read_text-is_glanced-requires-clause-stop t c = end_is c.args.text.now c.loop-start.start c.line_end-end.result c.line_stop-stop.result (omega (arith, c.loop-start-test.true)) c.line_end-end.ensures c.line_stop-stop.ensures.more c.line_stop-stop.ensures.last
 
-pub read_text-slice_bounds-class_by-count : goal.read_text-slice_bounds-class_by-count
-read_text-slice_bounds-class_by-count t c = omega (arith, (end_is c.args.text.now c.loop-start.start c.line_end-end.result c.line_stop-stop.result (omega (arith, c.loop-start-test.true)) c.line_end-end.ensures c.line_stop-stop.ensures.more c.line_stop-stop.ensures.last))
-
-pub read_text-slice_bounds-class_by-start : goal.read_text-slice_bounds-class_by-start
-read_text-slice_bounds-class_by-start t c = omega (arith, (end_is c.args.text.now c.loop-start.start c.line_end-end.result c.line_stop-stop.result (omega (arith, c.loop-start-test.true)) c.line_end-end.ensures c.line_stop-stop.ensures.more c.line_stop-stop.ensures.last))
+pub read_text-class_by-glanced-requires-clause-order : goal.read_text-class_by-glanced-requires-clause-order
+read_text-class_by-glanced-requires-clause-order t c = omega (arith, (end_is c.args.text.now c.loop-start.start c.line_end-end.result c.line_stop-stop.result (omega (arith, c.loop-start-test.true)) c.line_end-end.ensures c.line_stop-stop.ensures.more c.line_stop-stop.ensures.last))
 
 pub read_text-child_at-child-requires-clause-line : goal.read_text-child_at-child-requires-clause-line
 read_text-child_at-child-requires-clause-line t c =
@@ -301,8 +298,8 @@ read_text-child_at-child-requires-clause-inside t c =
     let r = subst (ReadsTo (row_at c.args.table.now c.args.language) (blocks (languages_of c.args.table.now) c.args.levels c.args.language c.args.text.now) c.loop-start.left c.args.docs (chain_of c.loop-start.stack.items) (chain_of c.read_part.new.stack.items) c.loop-start.start c.args.text.now c.in_ok-part.part.steps) c.in-Broken.is c.in_ok-part.ensures.reads in
     omega (arith, r.3.inside, c.line_end-end.ensures)
 
-pub read_text-slice_bounds-class_by-end : goal.read_text-slice_bounds-class_by-end
-read_text-slice_bounds-class_by-end t c = omega (arith, (end_is c.args.text.now c.loop-start.start c.line_end-end.result c.line_stop-stop.result (omega (arith, c.loop-start-test.true)) c.line_end-end.ensures c.line_stop-stop.ensures.more c.line_stop-stop.ensures.last), first_within (drop c.loop-start.start c.args.text.now), length-drop c.loop-start.start c.args.text.now, c.loop-start-test.true)
+pub read_text-class_by-glanced-requires-clause-within : goal.read_text-class_by-glanced-requires-clause-within
+read_text-class_by-glanced-requires-clause-within t c = omega (arith, (end_is c.args.text.now c.loop-start.start c.line_end-end.result c.line_stop-stop.result (omega (arith, c.loop-start-test.true)) c.line_end-end.ensures c.line_stop-stop.ensures.more c.line_stop-stop.ensures.last), first_within (drop c.loop-start.start c.args.text.now), length-drop c.loop-start.start c.args.text.now, c.loop-start-test.true)
 
 pub read_text-class_by-glanced-requires-clause-matched : goal.read_text-class_by-glanced-requires-clause-matched
 read_text-class_by-glanced-requires-clause-matched t c = c.index-matchers-index.is ∙ ap (λ ms. get_or ms c.index.result c.index-matchers-index.result) c.requires.indexed ∙ matchers_at c.args.table.now c.args.language c.index.result c.index-matchers-index.result c.index.ensures c.requires.known ∙ ap matchers_of (sym c.syntax-syntax.ensures.row)

@@ -1,0 +1,22 @@
+use Rattle.std.proofs.Common.{◌≡◌, ◌∙◌, sym, slice_index, arith}
+use Rattle.tokei_count.specs.PlainBytes.{BeginsNone}
+use Rattle.tokei_count.proofs.CodeHeads.{blank_front, code_front}
+use Rattle.tokei_count.proofs.class.class_by_front.Goals as goal
+
+pub returns-then-head-stop-clause-blank : goal.returns-then-head-stop-clause-blank
+returns-then-head-stop-clause-blank c _ =
+    let e = c.blanks_end-head.ensures in
+    blank_front c.args.text.now c.args.start c.args.stop c.blanks_end-head.result e.low e.high c.requires.within e.blank e.found c.if-head-stop.true
+
+pub returns-clause-code : goal.returns-clause-code
+returns-clause-code c _ =
+    let e = c.blanks_end-head.ensures in
+    let first : BeginsNone c.args.matchers.now (slice_index c.args.text.now c.args.start) = record {
+      small = (c.type_inv.text c.args.start).fits;
+      outside = sym c.begins.ensures ∙ c.if-begins.false;
+    } in
+    let head : BeginsNone c.args.matchers.now (slice_index c.args.text.now c.blanks_end-head.result) = record {
+      small = (c.type_inv.text c.blanks_end-head.result).fits;
+      outside = sym c.begins-else-begins.ensures ∙ c.if-begins-2.false;
+    } in
+    code_front c.args.text.now c.args.start c.args.stop c.blanks_end-head.result e.low e.high c.requires.within e.blank e.found c.args.matchers.now (omega (arith, c.if-head-stop.false, e.high)) first head
