@@ -201,8 +201,14 @@ mod tests {
                 b"\x0ea\x08 ".as_slice(),
                 b"\x0ea\x08".as_slice(),
             ),
+            (
+                b"                 \x0b\x0c\r\n\t  a, and twenty bytes behind it ".as_slice(),
+                b"a, and twenty bytes behind it ".as_slice(),
+                b"a, and twenty bytes behind it".as_slice(),
+            ),
         ] {
             assert_eq!(rt; trim_start(text), front);
+            assert_eq!(rt; blanks_end(text, 0, text.len()), text.len() - front.len());
             assert_eq!(rt; trim(text), both);
         }
         Ok(())
