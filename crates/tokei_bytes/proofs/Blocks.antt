@@ -1,9 +1,9 @@
 -- What the lanes and the mask of a block say of its bytes.
-use Rattle.std.proofs.Common.{◌≡◌, ◌≢◌, ℕ, ◌+◌, ◌%◌, ◌^◌, ◌<◌, ◌≤◌, ◌==◌, Bool, true, false, not, cond, eqb, List, [], ◌∷◌, map, length, get_or, replicate, bit_and, bit_or, refl, sym, ap, ap₂, subst, ◌∙◌, arith, w64, inl, inr}
+use Rattle.std.proofs.Common.{◌≡◌, ◌≢◌, ℕ, ◌+◌, ◌%◌, ◌^◌, ◌<◌, ◌≤◌, ◌==◌, Bool, true, false, not, cond, eqb, List, [], ◌∷◌, map, length, get_or, replicate, bit_and, bit_or, refl, sym, ap, ap₂, ◌∙◌, arith, w64, inl, inr}
 use Rattle.std.proofs.lemmas.Bool.{cases_lt}
 use Rattle.std.proofs.lemmas.Bool.Decides.{Decides-eqb}
 use Rattle.std.proofs.lemmas.Nat.Bits.{bit_at-trailing_zeros}
-use Rattle.std.proofs.lemmas.Simd.{zip2_splat, zip2_of_maps, bit_mask_l, mask_l-mod, mask_l-lt, length-chunk, trailing_mask_l, run_in_chunk_le, run_in_chunk_fails, run_in_chunk_stops, none_from_empty_mask}
+use Rattle.std.proofs.lemmas.Simd.{zip2_splat, zip2_of_maps, bit_mask_l, mask_l-mod, mask_l-lt, length-chunk, trailing_mask_l, run_in_chunk_fails, run_in_chunk_stops, none_from_empty_mask}
 use Rattle.std.proofs.lemmas.List.{length-map, get_or_past}
 use lib.Pow.{pow_mono}
 use Rattle.std.specs.Int.{bit_at}
@@ -141,9 +141,9 @@ module _ (p : ℕ → Bool) (w : ℕ) (t : List ℕ) (i m : ℕ) (most : w ≤ 6
       elim (cases_lt (count_trailing_zeros 64 m) w) [
         | inl inside ↦ inside
         | inr past ↦
-          let clear : bit_at m (count_trailing_zeros 64 m) ≡ 0 =
-              ap (λ n. bit_at n (count_trailing_zeros 64 m)) marked ∙ bit_mask_l (map p (chunk i w t)) (count_trailing_zeros 64 m) ∙ ap (λ b. cond b 1 0) (get_or_past (map p (chunk i w t)) (count_trailing_zeros 64 m) false (omega (arith, lanes))) in
-          absurd (omega (arith, clear, set.1))
+            let clear : bit_at m (count_trailing_zeros 64 m) ≡ 0 =
+            ap (λ n. bit_at n (count_trailing_zeros 64 m)) marked ∙ bit_mask_l (map p (chunk i w t)) (count_trailing_zeros 64 m) ∙ ap (λ b. cond b 1 0) (get_or_past (map p (chunk i w t)) (count_trailing_zeros 64 m) false (omega (arith, lanes))) in
+            absurd (omega (arith, clear, set.1))
       ]
 
   pub none_before_mark : m ≢ 0 → (k : ℕ) → i ≤ k → k < i + count_trailing_zeros 64 m → p (get_or t k 0) ≡ false

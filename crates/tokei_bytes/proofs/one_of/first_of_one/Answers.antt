@@ -24,7 +24,7 @@ returns-then-hits-ne0-clause-passed c p low high =
 pub returns-then-hits-ne0-clause-found : goal.returns-then-hits-ne0-clause-found
 returns-then-hits-ne0-clause-found c inside =
     let hit = subst (λ p. (get_or c.args.text.now p 0 == c.args.byte) ≡ true) (omega arith)
-        (one_at_mark (λ x. x == c.args.byte) 64 c.args.text.now c.loop-at.at c.marks_of_one-hits.result (omega arith) (omega arith) c.marks_of_one-hits.ensures (omega arith)) in
+    (one_at_mark (λ x. x == c.args.byte) 64 c.args.text.now c.loop-at.at c.marks_of_one-hits.result (omega arith) (omega arith) c.marks_of_one-hits.ensures (omega arith)) in
     (Decides-eqb (get_or c.args.text.now c.min.result 0) c.args.byte).0 hit
 
 pub loop-at-preserved : goal.loop-at-preserved

@@ -29,4 +29,4 @@ returns-in-Some-Code c =
 pub returns-then-not-in_string : goal.returns-then-not-in_string
 returns-then-not-in_string c =
     sym (comment_part (row_of c.args.syntax.now) c.args.docs (take (c.args.stop - c.args.start) (drop c.args.start c.args.text.now)) (mode_of c.args.begun) (mode_of c.args.ended)
-        (sym c.in_comment.ensures ∙ c.if-in_comment.true) (sym c.in_string.ensures ∙ c.if-not-in_string.true))
+    (sym c.in_comment.ensures ∙ c.if-in_comment.true) (sym c.in_string.ensures ∙ c.if-not-in_string.true))

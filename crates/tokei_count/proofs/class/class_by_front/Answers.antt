@@ -1,4 +1,4 @@
-use Rattle.std.proofs.Common.{◌≡◌, ◌∙◌, sym, slice_index, arith}
+use Rattle.std.proofs.Common.{◌∙◌, sym, slice_index, arith}
 use Rattle.tokei_count.specs.PlainBytes.{BeginsNone}
 use Rattle.tokei_count.proofs.CodeHeads.{blank_front, code_front}
 use Rattle.tokei_count.proofs.class.class_by_front.Goals as goal

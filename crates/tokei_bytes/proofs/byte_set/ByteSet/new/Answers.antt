@@ -1,4 +1,4 @@
-use Rattle.std.proofs.Common.{◌≡◌, ◌+◌, ◌<◌, ℕ, inl, inr, true, false, take, length, slice_index_or, sym, ap, subst, ◌∙◌, arith}
+use Rattle.std.proofs.Common.{◌≡◌, ◌+◌, inl, inr, true, false, take, length, slice_index_or, sym, ap, ◌∙◌, arith}
 use Rattle.std.proofs.lemmas.Bool.{cases_lt}
 use Rattle.tokei_bytes.specs.OneOf.{is_one_of}
 use Rattle.tokei_bytes.proofs.Sets.{with_one, alone, in_company, in_front, length-with_one, each_with_one, any_default}
@@ -11,25 +11,25 @@ contradiction e = cc
 pub loop-byte-preserved : goal.loop-byte-preserved
 loop-byte-preserved c = elim c.if-index.branch [
   | then-index+then-count-le-FEW w ↦
-    let is : c.if-index.few ≡ with_one c.loop-byte.few c.loop-byte.count c.loop-byte.byte =
-        w.few-is ∙ (elim w.if-count-eq0.branch [
-          | then-count-eq0 v ↦ v.few-is ∙ alone c.loop-byte.few c.loop-byte.count c.loop-byte.byte v.if-count-eq0.true
-          | else-count-eq0 v ↦ v.few-is ∙ in_company c.loop-byte.few c.loop-byte.count c.loop-byte.byte v.if-count-eq0.false
-        ]) in
-    let member : slice_index_or c.args.flags.items c.loop-byte.byte false ≡ true =
-        any_default c.args.flags.items c.loop-byte.byte false c.index.result.now (omega (arith, c.loop-byte-test.true, c.requires)) ∙ sym c.index.ensures ∙ w.if-index.true in
-    record {
-      bound = omega (arith, w.count-is, w.if-count-le-FEW.true);
-      long = ap length is ∙ length-with_one c.loop-byte.few c.loop-byte.count c.loop-byte.byte;
-      few = λ small b under flag.
-          ap (λ n. is_one_of (take n c.if-index.few) b) w.count-is ∙ ap (λ bs. is_one_of (take (c.loop-byte.count + 1) bs) b) is
-          ∙ in_front c.loop-byte.few c.loop-byte.count c.loop-byte.byte b c.loop-byte.invariant.long (omega (arith, small, w.count-is)) (elim (cases_lt b c.loop-byte.byte) [
-            | inl earlier ↦ inr (c.loop-byte.invariant.few (omega (arith, small, w.count-is)) b earlier flag)
-            | inr later ↦ inl (omega (arith, later, under))
-          ]);
-      held = λ some b h.
-          each_with_one (λ b. slice_index_or c.args.flags.items b false ≡ true) c.loop-byte.few c.loop-byte.count c.loop-byte.byte c.loop-byte.invariant.long member c.loop-byte.invariant.held b (ap (λ bs. is_one_of bs b) (sym is) ∙ h);
-    }
+      let is : c.if-index.few ≡ with_one c.loop-byte.few c.loop-byte.count c.loop-byte.byte =
+      w.few-is ∙ (elim w.if-count-eq0.branch [
+        | then-count-eq0 v ↦ v.few-is ∙ alone c.loop-byte.few c.loop-byte.count c.loop-byte.byte v.if-count-eq0.true
+        | else-count-eq0 v ↦ v.few-is ∙ in_company c.loop-byte.few c.loop-byte.count c.loop-byte.byte v.if-count-eq0.false
+      ]) in
+      let member : slice_index_or c.args.flags.items c.loop-byte.byte false ≡ true =
+      any_default c.args.flags.items c.loop-byte.byte false c.index.result.now (omega (arith, c.loop-byte-test.true, c.requires)) ∙ sym c.index.ensures ∙ w.if-index.true in
+      record {
+        bound = omega (arith, w.count-is, w.if-count-le-FEW.true);
+        long = ap length is ∙ length-with_one c.loop-byte.few c.loop-byte.count c.loop-byte.byte;
+        few = λ small b under flag.
+            ap (λ n. is_one_of (take n c.if-index.few) b) w.count-is ∙ ap (λ bs. is_one_of (take (c.loop-byte.count + 1) bs) b) is
+            ∙ in_front c.loop-byte.few c.loop-byte.count c.loop-byte.byte b c.loop-byte.invariant.long (omega (arith, small, w.count-is)) (elim (cases_lt b c.loop-byte.byte) [
+              | inl earlier ↦ inr (c.loop-byte.invariant.few (omega (arith, small, w.count-is)) b earlier flag)
+              | inr later ↦ inl (omega (arith, later, under))
+            ]);
+        held = λ some b h.
+            each_with_one (λ b. slice_index_or c.args.flags.items b false ≡ true) c.loop-byte.few c.loop-byte.count c.loop-byte.byte c.loop-byte.invariant.long member c.loop-byte.invariant.held b (ap (λ bs. is_one_of bs b) (sym is) ∙ h);
+      }
   | else-index w ↦ record {
     bound = omega (arith, w.count-is, c.loop-byte.invariant.bound);
     long = ap length w.few-is ∙ c.loop-byte.invariant.long;
