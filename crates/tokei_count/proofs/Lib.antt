@@ -21,6 +21,7 @@ pub mod TokenOpeners
 pub mod OpenersInLines
 pub mod Glancing
 pub mod QuietBlocks
+pub mod QuietSteps
 pub mod StepReading
 pub mod Weights
 pub mod HeavyBlocks

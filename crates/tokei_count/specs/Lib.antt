@@ -31,4 +31,5 @@ pub mod CodeHeads
 pub mod Glanced
 pub mod OpeningItems
 pub mod StepLaw
+pub mod QuietLaw
 pub mod PartLaw

@@ -2,6 +2,7 @@
 ghost use Rattle.std.specs.Prelude.{◌<◌, ◌^◌, length};
 ghost use Rattle.tokei_count.specs.GlanceLaw.{PlainPartsStayPlain};
 ghost use Rattle.tokei_count.specs.PartLaw.{UnwalkedPartsStayPlain};
+ghost use Rattle.tokei_count.specs.QuietLaw.{QuietTextsTakeNoSteps};
 ghost use Rattle.tokei_count.specs.Spelling.{ItemsSpellText};
 ghost use Rattle.tokei_count.specs.StepLaw.{OpeningsStepsWork};
 ghost use Rattle.tokei_count.specs.WeightLaws.{LightReadingsFit, LinesWithinWeight, ShortReadingsFit, StepsWithinWeight, WeightIsLength};
@@ -24,6 +25,11 @@ pub fn unwalked_parts_stay_plain()
 /// The steps of a text are at least its openings and at most its work, through all children.
 pub fn steps_lie_between()
     ensures { OpeningsStepsWork }
+{}
+
+/// A text that isn't a notebook and holds no opener takes no steps.
+pub fn quiet_texts_take_no_steps()
+    ensures { QuietTextsTakeNoSteps }
 {}
 
 /// A text takes no more steps than it weighs.

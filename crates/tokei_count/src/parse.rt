@@ -40,6 +40,7 @@ pub fn parse_counted(
     ensures steps { IfOk result (λ r. r.1 ≡ capped (steps (languages_of counter.now) outermost_levels language text.now)) }
     ensures least { IfOk result (λ r. capped (openings (languages_of counter.now) outermost_levels language text.now) ≤ r.1) }
     ensures worked { IfOk result (λ r. r.1 ≤ work (languages_of counter.now) outermost_levels language text.now) }
+    ensures zero { is_notebook (row_at counter.now language) ≡ false → first_opener (openers (row_at counter.now language)) text.now ≡ None → IfOk result (λ r. r.1 ≡ 0) }
     ensures most { IfOk result (λ r. r.1 ≤ weight (languages_of counter.now) outermost_levels language text.now) }
     ensures few { HaveNoNotebook counter.now → IfOk result (λ r. r.1 ≤ length text.now) }
     ensures weight { IfOk result (λ r. lines_of (summary (stats_of r.0)) ≤ weight (languages_of counter.now) outermost_levels language text.now) }

@@ -11,6 +11,7 @@ use Rattle.tokei_stats.specs.Seen.{stats_of}
 use Rattle.tokei_stats.specs.Statistics.{lines_of, summary}
 use Rattle.tokei_stats.specs.declared.error.CountError.TheVariants.{Overflow}
 use Rattle.tokei_count.proofs.LineWeight.{lines-weight, reading-fits, reading-fits_by_length}
+use Rattle.tokei_count.proofs.QuietSteps.{quiet_steps}
 use Rattle.tokei_count.proofs.StepWeight.{steps-weight}
 use Rattle.tokei_count.proofs.StepsBetween.{steps-between}
 use Rattle.tokei_count.proofs.TableBounds.{have_tokens, capped-low, capped-more}
@@ -69,3 +70,8 @@ returns-in_err-read-clause-light c = λ light.
     subst (λ (rows : List Row). Fits (reading (languages_of rows) c.unwrap_or-docs.result outermost_levels c.args.language c.args.text.now)) (sym c.table.ensures.table) fits in
     let p = err_from_is_err_and c.from_residual.result c.from_residual.ensures.1 in
     rw (p.1, p.2) (λ is. let same_err : c.in_err-read.field-0.0 ≡ Overflow = cc in c.in_err-read.ensures.overflow (ap Err same_err) here)
+
+pub returns-clause-zero : goal.returns-clause-zero
+returns-clause-zero c = λ lines none.
+    let steps_are : c.in_ok-read.read.steps ≡ capped (steps (languages_of c.args.counter.now) outermost_levels c.args.language c.args.text.now) = c.in_ok-read.ensures.steps refl ∙ ap (λ (rows : List Row). capped (steps (languages_of rows) outermost_levels c.args.language c.args.text.now)) c.table.ensures.table in
+    steps_are ∙ ap capped (quiet_steps c.args.counter.now (have_tokens c.args.counter.now c.table.ensures.well_formed) outermost_levels c.args.language c.args.text.now lines none)
