@@ -1,0 +1,34 @@
+-- The code's values as the definitions see them.
+use Rattle.std.specs.Prelude.{ℕ, List, map, string_bytes}
+use Rattle.std.specs.declared.alloc.Global.{Global}
+use Rattle.std.specs.declared.vec.Vec.{Vec}
+use Rattle.tokei_stats.specs.Seen.{stats_of}
+use Rattle.tokei_stats.specs.declared.report.Report.{Report}
+use Rattle.tokei_languages.specs.Values.{ReportValue, LanguageValue}
+use Rattle.tokei_languages.specs.declared.language.Language.{Language}
+use Rattle.tokei_languages.specs.declared.languages.Languages.{Languages}
+
+abbrev pub report_of : Report → ReportValue
+report_of r = record { name = string_bytes r.name; stats = stats_of r.stats }
+
+abbrev pub reports_of : Vec Report Global → List ReportValue
+reports_of v = map report_of v.items
+
+-- the reports by language
+abbrev pub children_of : List (ℕ × Vec Report Global) → List (ℕ × List ReportValue)
+children_of es = map (λ e. (e.0, reports_of e.1)) es
+
+abbrev pub language_of : Language → LanguageValue
+language_of s = record {
+  counts = record { blanks = s.blanks; code = s.code; comments = s.comments };
+  reports = reports_of s.reports;
+  children = children_of s.children.entries;
+  inaccurate = s.inaccurate;
+}
+
+-- each language under its number
+abbrev pub entries_of : List (ℕ × Language) → List (ℕ × LanguageValue)
+entries_of es = map (λ e. (e.0, language_of e.1)) es
+
+abbrev pub languages_of : Languages → List (ℕ × LanguageValue)
+languages_of s = entries_of s.languages.entries

@@ -1,0 +1,30 @@
+-- What contracts see of a report, of a language and of languages.
+use Rattle.std.specs.Prelude.{ℕ, Bool, false, List, [], Option}
+use Rattle.std.specs.Ordering.{nat_cmp}
+use Rattle.std.specs.BTreeMap.{is_at}
+use Rattle.std.specs.List.Sorted.{IsStrictlySortedBy}
+use Rattle.std.specs.Map.{keys_of, lookup}
+use Rattle.tokei_stats.specs.Statistics.{Counts, Statistics, no_lines}
+
+-- the statistics of a file under its name, in bytes
+pub record ReportValue : Type 0 where
+  pub name : List ℕ
+  pub stats : Statistics
+
+-- a language: its counts, its files' reports, those of each language inside, and whether a file couldn't be read
+pub record LanguageValue : Type 0 where
+  pub counts : Counts
+  pub reports : List ReportValue
+  pub children : List (ℕ × List ReportValue)
+  pub inaccurate : Bool
+
+abbrev pub empty_language : LanguageValue
+empty_language = record { counts = no_lines; reports = []; children = []; inaccurate = false }
+
+-- what was counted of a language, if anything was
+abbrev pub language_at : List (ℕ × LanguageValue) → ℕ → Option LanguageValue
+language_at es k = lookup (is_at (nat_cmp k)) es
+
+-- the keys ascend, so that each stands once
+abbrev pub IsInOrder : {S : Type 0} → List (ℕ × S) → Type 0
+IsInOrder es = IsStrictlySortedBy nat_cmp (keys_of es)

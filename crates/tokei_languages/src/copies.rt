@@ -1,0 +1,53 @@
+//! Copies of reports.
+ghost use Rattle.std.specs.Prelude.{◌≡◌, IfOk, IfErr, map};
+ghost use Rattle.tokei_languages.specs.Seen.{children_of, report_of, reports_of};
+
+use std::alloc::Global;
+use std::collections::BTreeMap;
+use tokei_stats::{CountError, Report};
+use tokei_table::LanguageType;
+
+/// A copy of each report, in their order.
+pub(crate) fn copied_reports(alloc: Global, reports: &[Report]) -> Result<Vec<Report>, CountError>
+    ensures ok { IfOk result (λ copies. reports_of copies ≡ map report_of reports.now) }
+    ensures memory { IfErr result (λ e. e ≡ CountError.Memory) }
+{
+    let mut copies = Vec::with_capacity(alloc, reports.len())?;
+    for report in reports {
+        copies.push(report.try_clone()?)?;
+    }
+    Ok(copies)
+}
+
+/// A copy of each language's reports.
+pub(crate) fn copied_children(
+    alloc: Global,
+    children: &BTreeMap<LanguageType, Vec<Report>>,
+) -> Result<BTreeMap<LanguageType, Vec<Report>>, CountError>
+    ensures ok { IfOk result (λ copies. children_of copies.entries ≡ children_of children.now.entries) }
+    ensures memory { IfErr result (λ e. e ≡ CountError.Memory) }
+{
+    let mut copies = BTreeMap::new(alloc);
+    for (language, reports) in children.iter() {
+        let copy = copied_reports(alloc, reports)?;
+        put(&mut copies, *language, copy)?;
+    }
+    Ok(copies)
+}
+
+ghost use Rattle.std.specs.Prelude.{OnOk};
+ghost use Rattle.std.specs.Ordering.{nat_cmp};
+ghost use Rattle.std.specs.BTreeMap.{insert_entry};
+
+/// Puts the reports at the language.
+pub(crate) fn put(
+    children: &mut BTreeMap<LanguageType, Vec<Report>>,
+    language: LanguageType,
+    reports: Vec<Report>,
+) -> Result<(), CountError>
+    ensures ok { OnOk result (children.new.entries ≡ insert_entry nat_cmp children.old.entries language reports) }
+    ensures memory { IfErr result (λ e. e ≡ CountError.Memory) }
+{
+    let _old = children.insert(language, reports)?;
+    Ok(())
+}

@@ -1,0 +1,11 @@
+//! The languages that were counted: their counts, their files' reports, and how these are added, renewed, summarised and
+//! sorted.
+#![tactic(auto)]
+
+mod copies;
+pub mod language;
+pub mod languages;
+
+pub use language::Language;
+pub use languages::Languages;
+pub use tokei_stats::CountError;
