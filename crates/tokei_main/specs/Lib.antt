@@ -1,4 +1,3 @@
-pub mod Faults
 pub mod CTable
 pub mod CountsAsC
 pub mod CountsLine

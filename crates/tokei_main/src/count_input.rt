@@ -9,10 +9,9 @@ ghost use Rattle.tokei_main.specs.CountsLine.{counts_line};
 
 use crate::c_table::c_table;
 use crate::input_error::InputError;
-use crate::sink::Sink;
-use crate::source::Source;
 use std::alloc::{AllocError, Global};
 use tokei_count::{CodeStats, CountConfig, CountError, Counter, parse_from_slice};
+use tokei_io::{Sink, Source};
 use tokei_table::LanguageType;
 
 /// The most reads of one input.

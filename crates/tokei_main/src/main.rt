@@ -5,13 +5,10 @@
 mod bench;
 mod c_table;
 mod count_input;
-mod counted;
 #[cfg(test)]
 mod cut_rows;
 #[cfg(test)]
 mod every_call;
-#[cfg(test)]
-mod fail_once;
 #[cfg(test)]
 mod hostile_rows;
 mod input_error;
@@ -23,17 +20,15 @@ mod plain_rows;
 mod refused_calls;
 #[cfg(test)]
 mod short_texts;
-mod sink;
-mod source;
 #[cfg(test)]
 mod sum_rows;
 #[cfg(test)]
 mod tests;
 
 use count_input::count_input;
-use counted::Counted;
 use std::io;
 use std::process::ExitCode;
+use tokei_io::Counted;
 
 fn main(rt: HostRuntime) -> io::Result<ExitCode> {
     let mut reader = Counted::new(rt.reader());

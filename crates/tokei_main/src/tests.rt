@@ -1,10 +1,9 @@
 //! Texts counted through `count_input`, from memory to memory, and its faults.
 use crate::count_input::count_input;
-use crate::counted::Counted;
-use crate::fail_once::FailOnce;
 use crate::input_error::InputError;
 use std::alloc::Global;
 use std::test::Fail;
+use tokei_io::{Counted, FailOnce};
 
 /// What is written for a text, behind what stood there, to a writer that has room for the line.
 fn written(alloc: Global, text: &[u8], stood: &[u8]) -> Result<Vec<u8>, InputError> {
