@@ -12,6 +12,7 @@ pub mod Joining
 pub mod LineEnds
 pub mod NameOrder
 pub mod Placing
+pub mod Ranking
 pub mod Refusing
 pub mod Roots
 pub mod Spans

@@ -10,6 +10,7 @@ pub mod Levels
 pub mod Memory
 pub mod Notes
 pub mod Patterns
+pub mod Ranks
 pub mod Reach
 pub mod Reading
 pub mod Refusals

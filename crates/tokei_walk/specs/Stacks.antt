@@ -1,5 +1,5 @@
 -- How a step changes the folders that are walked.
-use Rattle.std.specs.Prelude.{◌≡◌, ◌<◌, ◌-◌, ℕ, List, [], ◌∷◌, ◌++◌, Bool, true, false, cond, Option, Some, None, Ok, reverse, length}
+use Rattle.std.specs.Prelude.{◌≡◌, ◌<◌, ◌-◌, ◌^◌, ℕ, List, [], ◌∷◌, ◌++◌, Bool, true, false, cond, Option, Some, None, Ok, reverse, length}
 use Rattle.tokei_walk.specs.declared.stack.Item.{Item}
 use Rattle.tokei_walk.specs.declared.stack.Stack.{Stack}
 use Rattle.tokei_walk.specs.declared.stack.Step.{Step}
@@ -30,6 +30,7 @@ pub record Enters (old new : Stack) (place : List ℕ) : Type 0 where
   pub names_stay : new.context.names ≡ old.context.names
   pub shown_stay : new.context.shown ≡ old.context.shown
   pub levels_is : without_last new.context.levels ≡ old.context.levels
+  pub few : length new.left < 2 ^ 64
 
 -- in a told tree its entries and its rules are the tree's
 pub record EntersTold (t : Tree) (rules : Rules) (old new : Stack) (place : List ℕ) : Type 0 where

@@ -29,11 +29,25 @@ impl<T> Items<T> {
         }
     }
 
-    /// The list of a vector's items.
+    /// The list of a vector's items. It takes no memory.
     pub fn from_vec(inner: Vec<T>) -> Items<T>
         ensures { result ≡ inner.items }
     {
         Items { inner }
+    }
+
+    /// The vector of the items. It takes no memory.
+    pub fn into_vec(self) -> Vec<T>
+        ensures { result.items ≡ self }
+    {
+        self.inner
+    }
+
+    /// How many items there are.
+    pub fn len(&self) -> usize
+        ensures { result ≡ length self.now }
+    {
+        self.inner.len()
     }
 
     /// The items.
@@ -76,7 +90,8 @@ impl<T> Items<T> {
 
     /// Turns the items round.
     pub fn reverse(&mut self)
-        ensures { self.new ≡ turned self.old }
+        ensures turned { self.new ≡ turned self.old }
+        ensures fits { length self.new ≤ usize.MAX }
     {
         self.inner.reverse();
     }

@@ -1,4 +1,4 @@
-ghost use Rattle.std.specs.Prelude.{◌≡◌, ◌<◌, ◌++◌, [], ◌∷◌, reverse, OnOk, IfOk, MatchOption, Ok, Err, true, false};
+ghost use Rattle.std.specs.Prelude.{◌≡◌, ◌<◌, ◌+◌, ◌-◌, ◌++◌, [], ◌∷◌, length, reverse, OnOk, OnSome, IfOk, MatchOption, Ok, Err, true, false};
 ghost use Rattle.std.specs.Bool.{MatchBool};
 ghost use Rattle.tokei_walk.specs.Notes.{Grows};
 ghost use Rattle.tokei_walk.specs.Answers.{Told, list_answer};
@@ -6,6 +6,7 @@ ghost use Rattle.tokei_walk.specs.declared.fs.Fault.TheVariants.{Refused as Refu
 ghost use Rattle.tokei_walk.specs.Tree.{names_of};
 ghost use Rattle.tokei_walk.specs.Levels.{drops, under};
 ghost use Rattle.tokei_walk.specs.Descent.{without_name};
+ghost use Rattle.tokei_walk.specs.Ranks.{weight, stack_rank, FoundFalls};
 ghost use Rattle.tokei_walk.specs.Stacks.{Pops, Leaves, Enters, EntersTold, StepTells, StepStays, NoneStays, NoneIsSame, file_kept, VisitTells, ExploreTells};
 
 use crate::fs::{Entry, Fault, Folders, Kind, Listing};
@@ -224,6 +225,8 @@ fn visit<F: Folders>(
     ensures honest { OnOk result (F.memory_faults folders.old < u64.MAX
         → F.memory_faults folders.new ≡ F.memory_faults folders.old) }
     ensures stays { IfOk result (λ o. NoneIsSame stack.old stack.new o) }
+    ensures falls { IfOk result (λ o. OnSome o (stack_rank stack.new
+        < stack_rank stack.old + weight (256 - length stack.old.below))) }
     ensures told { Told (F.tree folders.old) (λ t. IfOk result (λ o.
         VisitTells settings.now.excludes settings.now.rules t stack.old stack.new
         item.entry.name item.place o)) }
@@ -269,6 +272,7 @@ fn meet_next<F: Folders>(
     ensures honest { OnOk result (F.memory_faults folders.old < u64.MAX
         → F.memory_faults folders.new ≡ F.memory_faults folders.old) }
     ensures stays { IfOk result (λ s. StepStays stack.old stack.new s) }
+    ensures falls { IfOk result (λ s. FoundFalls stack.old stack.new s) }
     ensures told { Told (F.tree folders.old) (λ t. IfOk result (λ s.
         StepTells settings.now.excludes settings.now.rules t stack.old stack.new s)) }
 {
@@ -300,6 +304,7 @@ pub fn explore<F: Folders>(
     ensures honest { OnOk result (F.memory_faults folders.old < u64.MAX
         → F.memory_faults folders.new ≡ F.memory_faults folders.old) }
     ensures stays { IfOk result (λ o. NoneStays stack.old stack.new o) }
+    ensures falls { IfOk result (λ o. OnSome o (stack_rank stack.new < stack_rank stack.old)) }
     ensures told { Told (F.tree folders.old) (λ t. IfOk result (λ o.
         ExploreTells settings.now.excludes settings.now.rules t stack.old stack.new o)) }
 {

@@ -1,9 +1,10 @@
-ghost use Rattle.std.specs.Prelude.{◌≡◌, ◌≢◌, ◌<◌, ◌≤◌, ◌++◌, [], ◌∷◌, true, false, None, Some, Ok, length, reverse, map, OnOk, OnErr, IfOk};
+ghost use Rattle.std.specs.Prelude.{◌≡◌, ◌≢◌, ◌<◌, ◌≤◌, ◌+◌, ◌++◌, [], ◌∷◌, true, false, None, Some, Ok, length, reverse, map, OnOk, OnErr, OnSome, IfOk};
 ghost use Rattle.tokei_walk.specs.Answers.{Told, above_view};
 ghost use Rattle.tokei_walk.specs.Tree.{Tree, is_sound, names_of, folders_above};
 ghost use Rattle.tokei_walk.specs.Fits.{is_empty};
 ghost use Rattle.tokei_walk.specs.Kept.{kept_in};
 ghost use Rattle.tokei_walk.specs.Descent.{root_context, of_root, of_stack, descend};
+ghost use Rattle.tokei_walk.specs.Ranks.{weight, stack_rank, all_rank, rank};
 ghost use Rattle.tokei_walk.specs.Notes.{Grows, notes_of, exclude_notes, notes_of_excludes};
 ghost use Rattle.tokei_walk.specs.Walks.{to_come, has_failed as walk_failed, of_all, Advances, HasEnded, RootGives, exclude_patterns, excludes_of, names_over, levels_over};
 
@@ -106,6 +107,7 @@ fn enter_root<F: Folders>(
     ensures same { F.tree folders.new ≡ F.tree folders.old }
     ensures notes { Grows notes.old notes.new }
     ensures below { OnOk result (length stack.new.below ≤ length stack.old.below) }
+    ensures bounded { OnOk result (stack_rank stack.new < stack_rank stack.old + weight 257) }
     ensures told { Told (F.tree folders.old) (λ t. OnOk result
         (stack.old.left ≡ [] → stack.old.below ≡ [] →
         descend settings.now.excludes settings.now.rules t 257
@@ -153,6 +155,7 @@ fn begin_root<F: Folders>(
     ensures same { F.tree folders.new ≡ F.tree folders.old }
     ensures notes { Grows notes.old notes.new }
     ensures below { OnOk result (length stack.new.below ≤ length stack.old.below) }
+    ensures bounded { OnOk result (stack_rank stack.new < stack_rank stack.old + weight 257) }
     ensures told { Told (F.tree folders.old) (λ t. IfOk result (λ o.
         stack.old.left ≡ [] → stack.old.below ≡ [] → RootGives
         (of_root settings.now.excludes settings.now.rules t root)
@@ -193,6 +196,8 @@ fn advance<F: Folders>(
 ) -> Result<Option<KeptFile>, AllocError>
     ensures same { F.tree folders.new ≡ F.tree folders.old }
     ensures notes { Grows notes.old notes.new }
+    ensures fewer { IfOk result (λ o. OnSome o
+        (all_rank stack.new roots.new < all_rank stack.old roots.old)) }
     ensures ended { result ≡ Ok None
         → (stack.new.left ≡ []) × (stack.new.below ≡ []) × (roots.new ≡ []) }
     ensures told { Told (F.tree folders.old) (λ t. IfOk result (λ o. Advances
@@ -325,6 +330,7 @@ impl Walk {
         ensures same { F.tree folders.new ≡ F.tree folders.old }
         ensures told { Told (F.tree folders.old) (λ t. IfOk result
             (λ o. Advances (to_come t self.old) (to_come t self.new) o)) }
+        ensures fewer { IfOk result (λ o. OnSome o (rank self.new < rank self.old)) }
         ensures ended { result ≡ Ok None → HasEnded self.new }
         ensures notes { Grows (notes_of self.old) (notes_of self.new) }
         ensures refused { OnErr result (walk_failed self.new ≡ true) }

@@ -24,4 +24,4 @@ loop-name-preserved c =
     }
 
 pub returns : goal.returns
-returns c = ap (map above_view) (ap reverse c.reverse.ensures ∙ reverse-reverse c.loop-name.found) ∙ sym (c.loop-name.invariant.found ∙ found_end c.args.names.now c.loop-name.name-index (map above_view c.loop-name.found) c.loop-name-test.false)
+returns c = ap (map above_view) (ap reverse c.reverse.ensures.turned ∙ reverse-reverse c.loop-name.found) ∙ sym (c.loop-name.invariant.found ∙ found_end c.args.names.now c.loop-name.name-index (map above_view c.loop-name.found) c.loop-name-test.false)

@@ -1,8 +1,9 @@
-use Rattle.std.proofs.Common.{◌≡◌, ◌+◌, ◌-◌, ◌*◌, ◌<◌, ◌^◌, length}
+use Rattle.std.proofs.Common.{◌≡◌, ◌+◌, ◌-◌, ◌*◌, ◌<◌, ◌≤◌, ◌^◌, length}
 use Rattle.tokei_walk.specs.Answers.{Told}
 use Rattle.tokei_walk.specs.Notes.{Grows}
 use Rattle.tokei_walk.specs.Descent.{of_top}
 use Rattle.tokei_walk.specs.Stacks.{Stays}
+use Rattle.tokei_walk.specs.Ranks.{stack_rank}
 use Rattle.tokei_walk.proofs.stack.+exploring.Given as goal
 
 abbrev pub decreases-explore : goal.decreases-explore
@@ -20,6 +21,7 @@ invariant-explore-loop-file g l = record {
   same : g.F.Folders.tree l.folders ≡ g.F.Folders.tree l.initial.folders;
   honest : g.F.Folders.memory_faults l.initial.folders < 2 ^ 64 - 1 → g.F.Folders.memory_faults l.folders ≡ g.F.Folders.memory_faults l.initial.folders;
   stays : Stays l.initial.stack l.stack;
+  falls : stack_rank l.stack ≤ stack_rank l.initial.stack;
   told : Told (g.F.Folders.tree l.initial.folders) (λ t. of_top l.settings.excludes l.settings.rules t l.initial.stack ≡ of_top l.settings.excludes l.settings.rules t l.stack);
 }
 

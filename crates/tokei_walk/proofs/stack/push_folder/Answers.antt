@@ -1,4 +1,4 @@
-use Rattle.std.proofs.Common.{refl, ap, ◌∙◌, rules}
+use Rattle.std.proofs.Common.{refl, ap, ◌∙◌, rules, arith, length}
 use Rattle.tokei_walk.specs.Ends.{without_last}
 use Rattle.tokei_walk.proofs.LineEnds.{without_last-push}
 use Rattle.tokei_walk.proofs.stack.push_folder.Goals as goal
@@ -10,4 +10,5 @@ returns-clause-entered c = record {
   names_stay = refl;
   shown_stay = refl;
   levels_is = ap without_last c.in_ok-push.ensures.ok ∙ without_last-push c.args.stack.now.context.levels c.args.level;
+  few = omega (arith, ap length c.replace-left.ensures.after, c.reverse.ensures.fits);
 }

@@ -10,4 +10,4 @@ loop-node-preserved c = record {
 }
 
 pub returns-clause-placed : goal.returns-clause-placed
-returns-clause-placed c = λ top e. added_all (top ∷ c.args.places.now.items) (top ∷ c.loop-node.places.items) c.args.nodes c.loop-node.nodes c.reverse.new.self c.in_default.ensures.0 c.reverse.ensures (c.loop-node.invariant.so_far top e)
+returns-clause-placed c = λ top e. added_all (top ∷ c.args.places.now.items) (top ∷ c.loop-node.places.items) c.args.nodes c.loop-node.nodes c.reverse.new.self c.in_default.ensures.0 c.reverse.ensures.turned (c.loop-node.invariant.so_far top e)

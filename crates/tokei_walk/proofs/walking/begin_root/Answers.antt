@@ -1,6 +1,7 @@
 use Rattle.std.proofs.Common.{Some, sym, ap, ◌∙◌}
 use Rattle.tokei_walk.specs.Answers.{node_kind}
 use Rattle.tokei_walk.specs.Tree.{names_of, node_at}
+use Rattle.tokei_walk.proofs.Ranking.{below_root}
 use Rattle.tokei_walk.proofs.Roots.{root_blank, root_missing, root_file, root_folder, root_other, one_file}
 use Rattle.tokei_walk.proofs.StackSteps.{empty_gives}
 use Rattle.tokei_walk.proofs.walking.begin_root.Goals as goal
@@ -35,3 +36,15 @@ pub returns-in-Some-Other-clause-told : goal.returns-in-Some-Other-clause-told
 returns-in-Some-Other-clause-told g c = λ t e left below.
     let kind = sym (c.in-Some-Other.is ∙ ap Some c.in-Some-Other.field-0-is) ∙ c.in_ok-kind_at.ensures.told t e ∙ ap (λ p. node_kind (node_at t (names_of p))) c.as_str-2.ensures in
     absurd (root_other t c.args.root kind)
+
+pub returns-then-is_blank-clause-bounded : goal.returns-then-is_blank-clause-bounded
+returns-then-is_blank-clause-bounded g c = below_root c.args.stack.now
+
+pub returns-in_ok-note-in-None-clause-bounded : goal.returns-in_ok-note-in-None-clause-bounded
+returns-in_ok-note-in-None-clause-bounded g c = below_root c.args.stack.now
+
+pub returns-in_ok-path-in-Some-File-clause-bounded : goal.returns-in_ok-path-in-Some-File-clause-bounded
+returns-in_ok-path-in-Some-File-clause-bounded g c = below_root c.args.stack.now
+
+pub returns-in-Some-Other-clause-bounded : goal.returns-in-Some-Other-clause-bounded
+returns-in-Some-Other-clause-bounded g c = below_root c.args.stack.now

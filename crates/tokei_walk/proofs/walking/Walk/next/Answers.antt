@@ -1,5 +1,6 @@
 use Rattle.std.proofs.Common.{refl, ◌∙◌}
 use Rattle.tokei_walk.specs.Notes.{notes_of}
+use Rattle.tokei_walk.specs.Ranks.{rank}
 use Rattle.tokei_walk.proofs.Roots.{to_come_left, to_come_failed, all_ended, advances_by}
 use Rattle.tokei_walk.proofs.walking.Walk.next.Goals as goal
 
@@ -24,3 +25,7 @@ returns-in_err-found-clause-notes g c = c.in_err-found.ensures.notes
 pub returns-clause-notes : goal.returns-clause-notes
 unfolding notes_of
 returns-clause-notes g c = c.in_ok-found.ensures.notes
+
+pub returns-clause-fewer : goal.returns-clause-fewer
+unfolding rank
+returns-clause-fewer g c = c.in_ok-found.ensures.fewer
