@@ -7,7 +7,7 @@ use Rattle.std.specs.List.{AllByRecursion}
 use Rattle.std.specs.List.Sorted.{IsStrictlySortedBy}
 use Rattle.std.specs.Map.{keys_of}
 use Rattle.std.specs.BTreeMap.{insert_entry}
-use Rattle.tokei_languages.proofs.Views.{seen, inserted_seen}
+use Rattle.tokei_languages.proofs.Entries.{seen, inserted_seen}
 
 all_at : {A : Type 0} (P : ℕ → Type 0) (old : List (ℕ × A)) (k : ℕ) (t : A) (rest : List (ℕ × A)) → AllByRecursion P (keys_of (old ++ (k, t) ∷ rest)) → P k
 all_at P [] k t rest h = h.0

@@ -1,2 +1,4 @@
-pub mod Views
+pub mod BlobReports
 pub mod Copying
+pub mod Entries
+pub mod TakingBack

@@ -1,2 +1,7 @@
-pub mod Values
+pub mod Maps
+pub mod Merging
+pub mod Renewing
 pub mod Seen
+pub mod Summaries
+pub mod TakenBack
+pub mod Values

@@ -1,5 +1,5 @@
 -- What contracts see of a report, of a language and of languages.
-use Rattle.std.specs.Prelude.{ℕ, Bool, false, List, [], Option}
+use Rattle.std.specs.Prelude.{ℕ, Bool, true, false, List, [], Option}
 use Rattle.std.specs.Ordering.{nat_cmp}
 use Rattle.std.specs.BTreeMap.{is_at}
 use Rattle.std.specs.List.Sorted.{IsStrictlySortedBy}
@@ -20,6 +20,10 @@ pub record LanguageValue : Type 0 where
 
 abbrev pub empty_language : LanguageValue
 empty_language = record { counts = no_lines; reports = []; children = []; inaccurate = false }
+
+-- a file of the language couldn't be read
+abbrev pub marked : LanguageValue → LanguageValue
+marked s = record s { inaccurate = true }
 
 -- what was counted of a language, if anything was
 abbrev pub language_at : List (ℕ × LanguageValue) → ℕ → Option LanguageValue

@@ -1,10 +1,10 @@
 //! Copies of reports.
-ghost use Rattle.std.specs.Prelude.{◌≡◌, IfOk, IfErr, map};
+ghost use Rattle.std.specs.Prelude.{◌≡◌, IfOk, IfErr, map, string_bytes};
 ghost use Rattle.tokei_languages.specs.Seen.{children_of, report_of, reports_of};
 
 use std::alloc::Global;
 use std::collections::BTreeMap;
-use tokei_stats::{CountError, Report};
+use tokei_stats::{CodeStats, CountError, Report};
 use tokei_table::LanguageType;
 
 /// A copy of each report, in their order.
@@ -35,7 +35,7 @@ pub(crate) fn copied_children(
     Ok(copies)
 }
 
-ghost use Rattle.std.specs.Prelude.{OnOk};
+ghost use Rattle.std.specs.Prelude.{[], ◌∷◌, OnOk};
 ghost use Rattle.std.specs.Ordering.{nat_cmp};
 ghost use Rattle.std.specs.BTreeMap.{insert_entry};
 
@@ -50,4 +50,40 @@ pub(crate) fn put(
 {
     let _old = children.insert(language, reports)?;
     Ok(())
+}
+
+ghost use Rattle.tokei_stats.specs.Seen.{blobs_of, entries_of, stats_of};
+ghost use Rattle.tokei_languages.specs.Merging.{blob_reports};
+
+/// One report of this name and these statistics.
+fn blob_report(alloc: Global, name: &String, stats: &CodeStats) -> Result<Vec<Report>, CountError>
+    ensures ok { IfOk result (λ reports. reports_of reports
+        ≡ record { name = string_bytes name.now; stats = stats_of stats.now } ∷ []) }
+    ensures memory { IfErr result (λ e. e ≡ CountError.Memory) }
+{
+    let report = Report {
+        stats: stats.try_clone()?,
+        name: name.clone()?,
+    };
+    let mut reports = Vec::with_capacity(alloc, 1)?;
+    reports.push(report)?;
+    Ok(reports)
+}
+
+/// A report of this name for each blob.
+pub(crate) fn blob_reports(
+    alloc: Global,
+    name: &String,
+    blobs: &BTreeMap<LanguageType, CodeStats>,
+) -> Result<BTreeMap<LanguageType, Vec<Report>>, CountError>
+    ensures ok { IfOk result (λ children. children_of children.entries
+        ≡ blob_reports (string_bytes name.now) (blobs_of (entries_of blobs.now.entries))) }
+    ensures memory { IfErr result (λ e. e ≡ CountError.Memory) }
+{
+    let mut children = BTreeMap::new(alloc);
+    for (language, stats) in blobs.iter() {
+        let reports = blob_report(alloc, name, stats)?;
+        put(&mut children, *language, reports)?;
+    }
+    Ok(children)
 }

@@ -1,9 +1,10 @@
 //! A language's counts and reports.
-use crate::copies::{copied_children, copied_reports};
+use crate::children::append;
+use crate::copies::{blob_reports, copied_children, copied_reports};
 use std::alloc::Global;
 use std::collections::BTreeMap;
 use std::fmt;
-use tokei_stats::{CountError, Report};
+use tokei_stats::{CountError, Report, Sums};
 use tokei_table::LanguageType;
 
 /// How many lines of a language are blank, code and comments, the reports of its files, and those of the texts of other
@@ -19,7 +20,7 @@ pub struct Language {
     pub children: BTreeMap<LanguageType, Vec<Report>>,
     /// Whether a file of the language couldn't be read.
     pub inaccurate: bool,
-    alloc: Global,
+    pub(crate) alloc: Global,
 }
 
 // The allocator is no member that a reader of the text knows.
@@ -37,10 +38,13 @@ impl fmt::Debug for Language {
 }
 
 impl Language {
-    ghost use Rattle.std.specs.Prelude.{◌≡◌, ◌<◌, ◌↔◌, [], true, IfOk, IfErr, OnErr, IsTrue};
-    ghost use Rattle.tokei_stats.specs.Statistics.{lines_of, no_lines};
-    ghost use Rattle.tokei_languages.specs.Values.{empty_language};
-    ghost use Rattle.tokei_languages.specs.Seen.{language_of};
+    ghost use Rattle.std.specs.Prelude.{◌≡◌, ◌<◌, ◌↔◌, [], true, IfOk, IfErr, OnOk, OnErr, IsErrOf, IsTrue};
+    ghost use Rattle.tokei_stats.specs.Overflow.{CountsFit};
+    ghost use Rattle.tokei_stats.specs.Seen.{sums_of};
+    ghost use Rattle.tokei_stats.specs.Statistics.{lines_of, no_lines, plus};
+    ghost use Rattle.tokei_languages.specs.Merging.{merged_language, with_report};
+    ghost use Rattle.tokei_languages.specs.Values.{empty_language, marked};
+    ghost use Rattle.tokei_languages.specs.Seen.{language_of, report_of};
 
     /// No lines and no reports; takes no memory.
     pub fn new(alloc: Global) -> Language
@@ -59,7 +63,7 @@ impl Language {
 
     /// Marks the language as counted without all of its files.
     pub fn mark_inaccurate(&mut self)
-        ensures { language_of self.new ≡ record (language_of self.old) { inaccurate = true } }
+        ensures { language_of self.new ≡ marked (language_of self.old) }
     {
         self.inaccurate = true;
     }
@@ -85,6 +89,59 @@ impl Language {
                 Some(all) => Ok(all),
             },
         }
+    }
+
+    /// The three counts.
+    pub(crate) fn counts(&self) -> Sums
+        ensures { sums_of result ≡ (language_of self.now).counts }
+    {
+        Sums {
+            blanks: self.blanks,
+            code: self.code,
+            comments: self.comments,
+        }
+    }
+
+    /// Puts other counts in the place of these.
+    pub(crate) fn put_counts(&mut self, counts: Sums)
+        ensures { self.new ≡ record self.old {
+            blanks = counts.blanks; code = counts.code; comments = counts.comments } }
+    {
+        self.blanks = counts.blanks;
+        self.code = counts.code;
+        self.comments = counts.comments;
+    }
+
+    /// Puts the report behind the others, and one of the same name for each of its blobs behind those of the blob's
+    /// language; the counts stay until `total` renews them. A refusal, for want of memory alone, changes nothing.
+    pub fn add_report(&mut self, report: Report) -> Result<(), CountError>
+        ensures ok { OnOk result
+            (language_of self.new ≡ with_report (language_of self.old) (report_of report)) }
+        ensures memory { IfErr result (λ e. e ≡ CountError.Memory) }
+        ensures err { OnErr result (language_of self.new ≡ language_of self.old) }
+    {
+        let more = blob_reports(self.alloc, &report.name, &report.stats.blobs)?;
+        self.reports.reserve(1)?;
+        let _before = append(self.alloc, &mut self.children, more)?;
+        self.reports.push(report).unwrap();
+        Ok(())
+    }
+
+    /// Adds the counts, puts the other's reports behind these, and joins the marks. `Overflow` exactly where a sum of two
+    /// counts passes the greatest `usize`, or `Memory`; a refusal changes nothing.
+    pub fn add(&mut self, other: Language) -> Result<(), CountError>
+        ensures ok { OnOk result
+            (language_of self.new ≡ merged_language (language_of self.old) (language_of other)) }
+        ensures fits { OnOk result
+            (CountsFit (plus (language_of self.old).counts (language_of other).counts)) }
+        ensures overflow { IsErrOf result CountError.Overflow
+            → ¬ CountsFit (plus (language_of self.old).counts (language_of other).counts) }
+        ensures memory { IsErrOf result CountError.Memory
+            → CountsFit (plus (language_of self.old).counts (language_of other).counts) }
+        ensures err { OnErr result (language_of self.new ≡ language_of self.old) }
+    {
+        let _before = self.grow(other)?;
+        Ok(())
     }
 
     /// A copy, which differs from a clone in that it may be refused for want of memory.

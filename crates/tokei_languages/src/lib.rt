@@ -2,9 +2,13 @@
 //! sorted.
 #![tactic(auto)]
 
+mod before;
+mod children;
 mod copies;
 pub mod language;
 pub mod languages;
+mod merge;
+mod sums;
 
 pub use language::Language;
 pub use languages::Languages;

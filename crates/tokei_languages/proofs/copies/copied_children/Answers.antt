@@ -3,7 +3,7 @@ use Rattle.std.specs.Ordering.{nat_cmp}
 use Rattle.std.specs.List.Sorted.{IsStrictlySortedBy}
 use Rattle.tokei_languages.specs.Seen.{children_of, report_of, reports_of}
 use Rattle.tokei_languages.proofs.Copying.{filled_more}
-use Rattle.tokei_languages.proofs.Views.{keys_seen}
+use Rattle.tokei_languages.proofs.Entries.{keys_seen}
 use Rattle.tokei_languages.proofs.copies.copied_children.Goals as goal
 
 pub loop-language-preserved : goal.loop-language-preserved

@@ -1,6 +1,6 @@
 use Rattle.std.proofs.Common.{sym, ap, ◌∙◌, option_map}
 use Rattle.tokei_languages.specs.Seen.{language_of}
-use Rattle.tokei_languages.proofs.Views.{at_seen}
+use Rattle.tokei_languages.proofs.Entries.{at_seen}
 use Rattle.tokei_languages.proofs.languages.Languages.get.Goals as goal
 
 pub returns : goal.returns

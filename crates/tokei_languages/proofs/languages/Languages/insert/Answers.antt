@@ -1,6 +1,6 @@
 use Rattle.std.proofs.Common.{sym, ap, ◌∙◌, option_map}
 use Rattle.tokei_languages.specs.Seen.{entries_of, language_of}
-use Rattle.tokei_languages.proofs.Views.{at_seen, inserted_seen}
+use Rattle.tokei_languages.proofs.Entries.{at_seen, inserted_seen}
 use Rattle.tokei_languages.proofs.languages.Languages.insert.Goals as goal
 
 pub returns-clause-ok : goal.returns-clause-ok

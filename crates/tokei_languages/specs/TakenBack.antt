@@ -1,0 +1,22 @@
+-- A language as it was before another was added to it.
+use Rattle.std.specs.Prelude.{ℕ, List, [], ◌∷◌, take, Option, option_map}
+use Rattle.tokei_languages.specs.Maps.{taken_back}
+use Rattle.tokei_languages.specs.Values.{ReportValue, LanguageValue}
+use Rattle.tokei_languages.specs.declared.before.Before.{Before}
+
+-- the first reports alone, as many as there were
+abbrev pub first : Option ℕ → Option (List ReportValue → List ReportValue)
+first before = option_map (λ n. take n) before
+
+-- the lists as they were before these grew, the last of them taken back first
+abbrev pub all_taken_back : List (ℕ × List ReportValue) → List (ℕ × Option ℕ) → List (ℕ × List ReportValue)
+all_taken_back es [] = es
+all_taken_back es (b ∷ bs) = taken_back (first b.1) (all_taken_back es bs) b.0
+
+abbrev pub restored : Before → LanguageValue → LanguageValue
+restored b s = record {
+  counts = record { blanks = b.blanks; code = b.code; comments = b.comments };
+  reports = take b.reports s.reports;
+  children = all_taken_back s.children b.children.items;
+  inaccurate = b.inaccurate;
+}
