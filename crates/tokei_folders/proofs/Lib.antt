@@ -1,0 +1,9 @@
+pub mod Adding
+pub mod FoldersAbove
+pub mod Joining
+pub mod ListEnds
+pub mod NameOrder
+pub mod Placing
+pub mod Contents
+pub mod Refusing
+pub mod TopEntries

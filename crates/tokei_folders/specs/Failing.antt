@@ -1,0 +1,30 @@
+-- Folders whose calls fail once a number of calls has passed.
+use Rattle.std.specs.Prelude.{◌≡◌, ℕ, ◌+◌, ◌-◌, ◌<◌, Result, Err}
+use Rattle.tokei_folders.specs.Answers.{counted}
+use Rattle.tokei_folders.specs.declared.failing.FailingFolders.{FailingFolders}
+use Rattle.tokei_folders.specs.declared.fs.Fault.{Fault}
+use Rattle.tokei_folders.specs.declared.fs.Fault.TheVariants.{Memory}
+
+-- how many calls still pass
+abbrev pub calls_left : {F : Type 0} → FailingFolders F → ℕ
+calls_left s = s.left
+
+-- the folders inside
+abbrev pub inside : {F : Type 0} → FailingFolders F → F
+inside s = s.inner
+
+-- the faults of the folders inside, and the calls that didn't pass
+abbrev pub all_faults : {F : Type 0} → (F → ℕ) → FailingFolders F → ℕ
+all_faults faults s = faults s.inner + s.refused
+
+-- a number of faults below the greatest `u64` grows by an answer that wants memory, and by no other
+abbrev pub Counts : {S A : Type 0} → (S → ℕ) → S → S → Result A Fault → Type 0
+Counts faults old new r = faults old < 18446744073709551615 → faults new ≡ counted r (faults old)
+
+-- a call takes one of those that still pass; where none is left it fails for want of memory and doesn't reach the folders
+-- inside, and one that passes wants memory exactly where they do
+pub record PassesOrFails {F A : Type 0} (faults : F → ℕ) (old new : FailingFolders F) (r : Result A Fault) : Type 0 where
+  pub counts_down : calls_left new ≡ calls_left old - 1
+  pub fails : calls_left old ≡ 0 → r ≡ Err Memory
+  pub stays : calls_left old ≡ 0 → inside new ≡ inside old
+  pub passes : 0 < calls_left old → Counts faults (inside old) (inside new) r

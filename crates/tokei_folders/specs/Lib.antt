@@ -1,0 +1,9 @@
+pub mod Additions
+pub mod Answers
+pub mod Ends
+pub mod Failing
+pub mod FolderLaws
+pub mod Memory
+pub mod Places
+pub mod Refusals
+pub mod Tree

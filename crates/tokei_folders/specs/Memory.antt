@@ -1,0 +1,12 @@
+-- What folders in memory show of themselves.
+use Rattle.std.specs.Prelude.{ℕ}
+use Rattle.tokei_folders.specs.declared.memory.MemoryFolders.{MemoryFolders}
+use Rattle.tokei_folders.specs.Tree.{Tree}
+
+-- the tree that they tell
+abbrev pub tree_of : MemoryFolders → Tree
+tree_of m = m.tree
+
+-- how many of their answers were out of memory
+abbrev pub faults_of : MemoryFolders → ℕ
+faults_of m = m.faults

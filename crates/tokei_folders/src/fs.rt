@@ -1,0 +1,128 @@
+//! The calls on folders, and what they answer.
+ghost use Rattle.std.specs.Prelude.{◌≡◌, ◌<◌, ℕ, Option};
+ghost use Rattle.tokei_folders.specs.Tree.{Tree, IsSound, node_at, names_of};
+ghost use Rattle.tokei_folders.specs.Answers.{Tells, BytesTell, AboveTells, NamesTell, StaysFull, counted, kind_answer, read_answer, head_answer, list_answer, ListTells};
+
+use crate::texts::Text;
+use std::alloc::{AllocError, AllocFailed};
+
+/// What stands at a place.
+#[derive(Clone, Copy, Debug, PartialEq, Eq)]
+pub enum Kind {
+    File,
+    Folder,
+    /// Neither, as a link below a root, or a device.
+    Other,
+}
+
+/// Why a call on folders gives no answer.
+#[derive(Clone, Copy, Debug, PartialEq, Eq)]
+pub enum Fault {
+    /// The place is missing, of the wrong kind, or can't be read.
+    Refused,
+    /// Memory was refused.
+    Memory,
+}
+
+impl From<AllocError> for Fault {
+    ghost use Rattle.std.specs.Prelude.{◌≡◌};
+    ghost use Rattle.tokei_folders.specs.declared.fs.Fault.TheVariants.{Memory};
+
+    ghost from_gives = { λ _ e. e ≡ Memory };
+
+    fn from(_refused: AllocError) -> Fault {
+        Fault::Memory
+    }
+}
+
+impl<T: Drop> From<AllocFailed<T>> for Fault {
+    ghost use Rattle.std.specs.Prelude.{◌≡◌};
+    ghost use Rattle.tokei_folders.specs.declared.fs.Fault.TheVariants.{Memory};
+
+    ghost from_gives = { λ _ e. e ≡ Memory };
+
+    fn from(_refused: AllocFailed<T>) -> Fault {
+        Fault::Memory
+    }
+}
+
+/// An entry of a folder.
+#[derive(Drop)]
+pub struct Entry {
+    pub name: Text,
+    pub kind: Kind,
+}
+
+/// What a folder holds.
+#[derive(Drop)]
+pub struct Listing {
+    /// The entries in byte order of their names.
+    pub entries: Vec<Entry>,
+    /// How many names aren't UTF-8 and are passed over.
+    pub unnamed: usize,
+}
+
+/// A folder above a place.
+#[derive(Drop)]
+pub struct Above {
+    pub place: Text,
+    /// The name that leads down from it.
+    pub name: Text,
+}
+
+/// Folders, by the places of their entries. A value may tell its tree, which no call changes.
+pub trait Folders {
+    /// The tree that the value tells, where it tells one.
+    ghost tree: { Self → Option Tree };
+
+    /// How many times the value answered that it was out of memory: a count that stays at the
+    /// greatest `u64`.
+    ghost memory_faults: { Self → ℕ };
+
+    /// What stands at a place, links followed.
+    fn kind(&mut self, place: &str) -> Result<Kind, Fault>
+        ensures told { Tells (tree self.old)
+            (λ t. kind_answer (node_at t (names_of place.now))) result }
+        ensures same { tree self.new ≡ tree self.old }
+        ensures counts { memory_faults self.old < u64.MAX
+            → memory_faults self.new ≡ counted result (memory_faults self.old) }
+        ensures full { StaysFull (memory_faults self.old) (memory_faults self.new) };
+
+    /// What a folder holds, no links followed.
+    fn list(&mut self, place: &str) -> Result<Listing, Fault>
+        ensures told { ListTells (tree self.old) (names_of place.now) result }
+        ensures named { NamesTell (tree self.old) result }
+        ensures same { tree self.new ≡ tree self.old }
+        ensures counts { memory_faults self.old < u64.MAX
+            → memory_faults self.new ≡ counted result (memory_faults self.old) }
+        ensures full { StaysFull (memory_faults self.old) (memory_faults self.new) };
+
+    /// The content of a file.
+    fn read(&mut self, place: &str) -> Result<Vec<u8>, Fault>
+        ensures told { BytesTell (tree self.old)
+            (λ t. read_answer (node_at t (names_of place.now))) result }
+        ensures same { tree self.new ≡ tree self.old }
+        ensures counts { memory_faults self.old < u64.MAX
+            → memory_faults self.new ≡ counted result (memory_faults self.old) }
+        ensures full { StaysFull (memory_faults self.old) (memory_faults self.new) };
+
+    /// The first 128 bytes of a file, or all where there are fewer.
+    fn head(&mut self, place: &str) -> Result<Vec<u8>, Fault>
+        ensures told { BytesTell (tree self.old)
+            (λ t. head_answer (node_at t (names_of place.now))) result }
+        ensures same { tree self.new ≡ tree self.old }
+        ensures counts { memory_faults self.old < u64.MAX
+            → memory_faults self.new ≡ counted result (memory_faults self.old) }
+        ensures full { StaysFull (memory_faults self.old) (memory_faults self.new) };
+
+    /// The folders above a place, nearest first.
+    fn above(&mut self, place: &str) -> Result<Vec<Above>, Fault>
+        ensures told { AboveTells (tree self.old) (names_of place.now) result }
+        ensures same { tree self.new ≡ tree self.old }
+        ensures counts { memory_faults self.old < u64.MAX
+            → memory_faults self.new ≡ counted result (memory_faults self.old) }
+        ensures full { StaysFull (memory_faults self.old) (memory_faults self.new) };
+
+    /// A told tree has each place once, in order.
+    ghost sound: { (s : Self) → IsSound (tree s) };
+}

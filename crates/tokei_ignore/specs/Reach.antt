@@ -1,0 +1,44 @@
+-- How far the signs before the first one that spans any number of items fit a list.
+use Rattle.std.specs.Prelude.{ℕ, List, [], ◌∷◌, Bool, cond}
+use Rattle.std.specs.Str.{chars}
+use Rattle.tokei_ignore.specs.declared.pieces.Piece.{Piece}
+use Rattle.tokei_ignore.specs.declared.pieces.Segment.{Segment}
+use Rattle.tokei_ignore.specs.declared.matching.NameReach.{NameReach}
+use Rattle.tokei_ignore.specs.declared.matching.NameReach.TheVariants as in_name
+use Rattle.tokei_ignore.specs.declared.matching.PathReach.{PathReach}
+use Rattle.tokei_ignore.specs.declared.matching.PathReach.TheVariants as in_path
+use Rattle.tokei_ignore.specs.Segments.{spans_characters, fits_character, spans_names, fits_name}
+
+pub data Reach (P X : Type 0) : Type 0 where
+  fails : Reach P X
+  done : Reach P X
+  at_span : List P → List X → Reach P X
+
+abbrev pub ended : {P X : Type 0} → List X → Reach P X
+ended [] = done
+ended (x ∷ xs) = fails
+
+-- the next sign's reach, where the first item fits this one
+abbrev pub onward : {P X : Type 0} → (X → Bool) → (List X → Reach P X) → List X → Reach P X
+onward test next [] = fails
+onward test next (x ∷ xs) = cond (test x) (next xs) fails
+
+abbrev pub reach : {P X : Type 0} → (P → Bool) → (P → X → Bool) → List P → List X → Reach P X
+reach spans fits_one [] xs = ended xs
+reach spans fits_one (p ∷ ps) xs = cond (spans p) (at_span ps xs) (onward (fits_one p) (reach spans fits_one ps) xs)
+
+abbrev pub name_reach : List Piece → List ℕ → Reach Piece ℕ
+name_reach = reach spans_characters fits_character
+
+abbrev pub path_reach : List Segment → List (List ℕ) → Reach Segment (List ℕ)
+path_reach = reach spans_names fits_name
+
+abbrev pub name_reach_view : NameReach → Reach Piece ℕ
+name_reach_view in_name.Fails = fails
+name_reach_view in_name.Done = done
+name_reach_view (in_name.AtSpan ps rest) = at_span ps.now (chars rest.now)
+
+abbrev pub path_reach_view : PathReach → Reach Segment (List ℕ)
+path_reach_view in_path.Fails = fails
+path_reach_view in_path.Done = done
+path_reach_view (in_path.AtSpan ps rest) = at_span ps.now rest.now
