@@ -1,6 +1,7 @@
 //! A language's counts and reports.
 use crate::children::append;
 use crate::copies::{blob_reports, copied_children, copied_reports};
+use crate::sums::{add_children, own_sums};
 use std::alloc::Global;
 use std::collections::BTreeMap;
 use std::fmt;
@@ -43,6 +44,8 @@ impl Language {
     ghost use Rattle.tokei_stats.specs.Seen.{sums_of};
     ghost use Rattle.tokei_stats.specs.Statistics.{lines_of, no_lines, plus};
     ghost use Rattle.tokei_languages.specs.Merging.{merged_language, with_report};
+    ghost use Rattle.tokei_languages.specs.Renewing.{own_sum, renewed};
+    ghost use Rattle.tokei_languages.specs.Summaries.{language_summary, summarised};
     ghost use Rattle.tokei_languages.specs.Values.{empty_language, marked};
     ghost use Rattle.tokei_languages.specs.Seen.{language_of, report_of};
 
@@ -142,6 +145,52 @@ impl Language {
     {
         let _before = self.grow(other)?;
         Ok(())
+    }
+
+    /// Renews the counts: they become the sums of the reports' own counts. `Overflow` exactly where one of these passes the
+    /// greatest `usize`, which changes nothing.
+    pub fn total(&mut self) -> Result<(), CountError>
+        ensures ok { OnOk result (language_of self.new ≡ renewed (language_of self.old)) }
+        ensures fits { OnOk result (CountsFit (own_sum (language_of self.old).reports)) }
+        ensures past { OnErr result (¬ CountsFit (own_sum (language_of self.old).reports)) }
+        ensures overflow { IfErr result (λ e. e ≡ CountError.Overflow) }
+        ensures err { OnErr result (language_of self.new ≡ language_of self.old) }
+    {
+        let counts = own_sums(&self.reports)?;
+        self.put_counts(counts);
+        Ok(())
+    }
+
+    /// The counts with those of the texts inside: the counts of `summarise`, without its memory. `Overflow` exactly where
+    /// one of the three passes the greatest `usize`.
+    pub fn summary_counts(&self) -> Result<Sums, CountError>
+        ensures sum { IfOk result (λ n. sums_of n ≡ language_summary (language_of self.now)) }
+        ensures past { OnErr result (¬ CountsFit (language_summary (language_of self.now))) }
+        ensures overflow { IfErr result (λ e. e ≡ CountError.Overflow) }
+    {
+        add_children(self.counts(), &self.children)
+    }
+
+    /// A copy without children, whose counts have taken in the summaries of all child reports; reports and mark stay.
+    /// `Overflow` exactly where a count passes the greatest `usize`, or `Memory`.
+    pub fn summarise(&self) -> Result<Language, CountError>
+        ensures ok { IfOk result (λ summary. language_of summary ≡ summarised (language_of self.now)) }
+        ensures fits { OnOk result (CountsFit (language_summary (language_of self.now))) }
+        ensures overflow { IsErrOf result CountError.Overflow
+            → ¬ CountsFit (language_summary (language_of self.now)) }
+        ensures memory { IsErrOf result CountError.Memory
+            → CountsFit (language_summary (language_of self.now)) }
+    {
+        let counts = self.summary_counts()?;
+        Ok(Language {
+            blanks: counts.blanks,
+            code: counts.code,
+            comments: counts.comments,
+            reports: copied_reports(self.alloc, &self.reports)?,
+            children: BTreeMap::new(self.alloc),
+            inaccurate: self.inaccurate,
+            alloc: self.alloc,
+        })
     }
 
     /// A copy, which differs from a clone in that it may be refused for want of memory.

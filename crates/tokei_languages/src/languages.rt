@@ -11,8 +11,8 @@ use tokei_table::LanguageType;
 /// The languages that were counted, each once, in the table's order.
 #[derive(PartialEq, Drop)]
 pub struct Languages {
-    languages: BTreeMap<LanguageType, Language>,
-    alloc: Global,
+    pub(crate) languages: BTreeMap<LanguageType, Language>,
+    pub(crate) alloc: Global,
 }
 
 // Shown as the map that a reader thinks of.

@@ -9,6 +9,7 @@ pub mod language;
 pub mod languages;
 mod merge;
 mod sums;
+mod totals;
 
 pub use language::Language;
 pub use languages::Languages;
