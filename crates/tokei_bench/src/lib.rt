@@ -16,7 +16,7 @@ mod refusals;
 #[cfg(test)]
 mod shown;
 
-/// Twenty languages in the layout of a table: the text of `languages.json`, byte for byte.
+/// Twenty languages in the layout of a table: the text of `bench/languages.json`, byte for byte.
 pub const BENCH: &str = r##"{
   "languages": {
     "Bash": {

@@ -1,0 +1,6 @@
+<%-- 6 lines 2 code 3 comments 1 blanks --%>
+<%-- a block
+     of two lines --%>
+
+<%@ Page Language="C#" %>
+<p><%= Name %></p> <%-- once --%>

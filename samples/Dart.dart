@@ -1,0 +1,11 @@
+// 11 lines 7 code 3 comments 1 blanks
+/* a block /* in a block */
+   and its end */
+
+void main() {
+  var raw = r'a \ // text';
+  print("/* no comment $raw"); // said once
+}
+const doc = '''
+// no comment
+''';

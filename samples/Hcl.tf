@@ -1,0 +1,8 @@
+# 8 lines 3 code 4 comments 1 blanks
+# for people who read
+/* a block
+   of two lines */
+
+variable "name" { # of whom
+  default = "a # name"
+}

@@ -1,0 +1,9 @@
+# 9 lines 4 code 4 comments 1 blanks
+# for people who read
+/* a block
+   of two lines */
+
+{ name = "a # name"; # of whom
+  text = ''
+    # no comment
+  ''; }

@@ -1,0 +1,8 @@
+(* 8 lines 4 code 3 comments 1 blanks *)
+(* a block (* in a block *)
+   and its end *)
+
+let name = "a (* name"
+let quoted = {|a "quoted" (* text|}
+let rec poly : 'a -> 'a = fun x -> x (* same *)
+let () = print_endline (name ^ quoted)

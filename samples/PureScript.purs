@@ -1,0 +1,7 @@
+-- 7 lines 2 code 4 comments 1 blanks
+-- for people who read
+{- a block
+   of two lines -}
+
+module Main where
+name = "a -- name" -- of whom

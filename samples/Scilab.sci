@@ -1,0 +1,8 @@
+// 8 lines 4 code 3 comments 1 blanks
+/* a block
+   of two lines */
+
+function y = twice(x)
+  disp("// no comment"); // said once
+  y = 2 * x;
+endfunction

@@ -1,0 +1,6 @@
+// 6 lines 3 code 2 comments 1 blanks
+// for people who read
+
+namespace example
+@pattern("// none") // one
+string Mark

@@ -1,0 +1,9 @@
+// 9 lines 5 code 3 comments 1 blanks
+/* a block /* in a block */
+   and its end */
+
+let raw = #"a "quoted" // text \"#
+func greet() {
+    print("/* no comment", raw) // said once
+}
+greet()

@@ -1,0 +1,6 @@
+(* 6 lines 2 code 3 comments 1 blanks *)
+(* a block (* in a block *)
+   and its end *)
+
+fun main () = return <xml>"(* none"</xml> (* once *)
+val one = 1
