@@ -1,0 +1,4 @@
+pub mod Forms
+pub mod Grouping
+pub mod Refusals
+pub mod Styles
