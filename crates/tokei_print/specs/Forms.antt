@@ -1,5 +1,6 @@
 -- The forms of a stream by their names.
-use Rattle.std.specs.Prelude.{◌≡◌, ◌≢◌, ℕ, List, Result, codes, map, MatchResult, to_ascii_lowercase}
+use Rattle.std.specs.Prelude.{◌≡◌, ◌≢◌, ℕ, List, Result, codes, map, MatchResult}
+use Rattle.std.specs.Char.{to_ascii_lowercase}
 use Rattle.tokei_print.specs.declared.streaming.Streaming.{Streaming}
 use Rattle.tokei_print.specs.declared.streaming.Streaming.TheVariants.{Simple, Json}
 use Rattle.tokei_print.specs.declared.streaming.StreamingError.{StreamingError}

@@ -1,4 +1,12 @@
+pub mod Cells
+pub mod Fitting
 pub mod Forms
 pub mod Grouping
+pub mod Heading
+pub mod LanguageRow
+pub mod Layouts
+pub mod NameSection
+pub mod Printing
 pub mod Refusals
+pub mod Rules
 pub mod Styles

@@ -8,7 +8,11 @@ pub const LANGUAGE_COLUMN_WIDTH: usize = 10;
 pub const PATH_COLUMN_WIDTH: usize = 80;
 /// How many files a language has.
 pub const FILES_COLUMN_WIDTH: usize = 8;
+
 pub const LINES_COLUMN_WIDTH: usize = 12;
+
 pub const CODE_COLUMN_WIDTH: usize = 12;
+
 pub const COMMENTS_COLUMN_WIDTH: usize = 12;
+
 pub const BLANKS_COLUMN_WIDTH: usize = 12;

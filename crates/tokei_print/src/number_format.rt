@@ -66,8 +66,8 @@ pub struct NumberFormat {
 }
 
 impl NumberFormat {
-    ghost use Rattle.std.specs.Prelude.{◌≡◌, IfOk, string_bytes, decimal};
-    ghost use Rattle.tokei_print.specs.Grouping.{grouped, separator_text};
+    ghost use Rattle.std.specs.Prelude.{◌≡◌, ◌++◌, [], IfOk, OnOk, string_bytes, decimal, if◌then◌else◌};
+    ghost use Rattle.tokei_print.specs.Grouping.{ends_group, grouped, separator_text};
 
     /// The number's digits, a separator behind each digit that a multiple of three digits follow.
     pub fn grouped(&self, alloc: Global, number: usize) -> Result<String, AllocError>
@@ -77,14 +77,22 @@ impl NumberFormat {
         let digits = digits.as_bytes();
         let mut text = String::new(alloc);
         for (i, digit) in digits.iter().enumerate() {
-            let behind = digits.len() - 1 - i;
             text.push(char::from(*digit))?;
-            if behind > 0 && behind % 3 == 0 {
-                if let Some(separator) = self.separator {
-                    text.push(separator)?;
-                }
-            }
+            self.end_group(&mut text, digits.len() - 1 - i)?;
         }
         Ok(text)
+    }
+
+    /// Appends the separator where so many digits that follow end a group.
+    fn end_group(&self, text: &mut String, behind: usize) -> Result<(), AllocError>
+        ensures { OnOk result (string_bytes text.new
+            ≡ string_bytes text.old ++ (if ends_group behind then separator_text self.now.separator else [])) }
+    {
+        if behind > 0 && behind % 3 == 0 {
+            if let Some(separator) = self.separator {
+                text.push(separator)?;
+            }
+        }
+        Ok(())
     }
 }

@@ -1,0 +1,21 @@
+-- The rows that part others: as many strokes as there are columns.
+use Rattle.std.specs.Prelude.{ℕ, List, [], ◌∷◌, ◌++◌}
+use Rattle.std.specs.List.{repeat}
+
+-- what ends each row
+abbrev pub newline : List ℕ
+newline = 10 ∷ []
+
+-- the bytes of a heavy stroke, `━`
+abbrev pub heavy : List ℕ
+heavy = 226 ∷ 148 ∷ 129 ∷ []
+
+-- the bytes of a light stroke, `─`
+abbrev pub light : List ℕ
+light = 226 ∷ 148 ∷ 128 ∷ []
+
+abbrev pub row : ℕ → List ℕ
+row columns = repeat columns heavy ++ newline
+
+abbrev pub subrow : ℕ → List ℕ
+subrow columns = repeat columns light ++ newline

@@ -1,0 +1,123 @@
+//! Writes the rows of a report.
+use crate::error::PrintError;
+use crate::layout::Layout;
+use crate::number_format::NumberFormat;
+use std::alloc::Global;
+use tokei_io::Sink;
+use tokei_languages::Language;
+
+/// Writes the rows of a report to a sink. After a refused call nothing is said of the bytes that it wrote.
+#[derive(Drop)]
+pub struct Printer<W> {
+    pub layout: Layout,
+    pub writer: W,
+    alloc: Global,
+}
+
+impl<W: Sink + Drop> Printer<W> {
+    ghost use Rattle.std.specs.Prelude.{◌≡◌, ◌≢◌, ◌<◌, ◌≤◌, Ok, Err, None, Some, IfOk, IfErr, IsErrOf, OnOk, option_map};
+    ghost use Rattle.std.specs.Io.KnownBytes.{Appends};
+    ghost use Rattle.tokei_languages.specs.Seen.{language_of};
+    ghost use Rattle.tokei_print.specs.Fitting.{LinesFit};
+    ghost use Rattle.tokei_print.specs.Heading.{header, warning};
+    ghost use Rattle.tokei_print.specs.LanguageRow.{language_row};
+    ghost use Rattle.tokei_print.specs.NameSection.{name_section, prefix_of};
+    ghost use Rattle.tokei_print.specs.Printing.{faults_after_printing};
+
+    /// A printer of rows of so many columns, which lists each language's files where `list_files` says so.
+    pub fn new(
+        alloc: Global,
+        columns: usize,
+        list_files: bool,
+        writer: W,
+        format: NumberFormat,
+    ) -> Result<Printer<W>, PrintError>
+        requires wide { 81 ≤ columns }
+        requires narrow { columns ≤ 65535 }
+        ensures writer { IfOk result (λ printer. printer.writer ≡ writer) }
+        ensures columns { IfOk result (λ printer. printer.layout.columns ≡ columns) }
+        ensures files { IfOk result (λ printer. printer.layout.list_files ≡ list_files) }
+        ensures format { IfOk result (λ printer. printer.layout.format ≡ format) }
+        ensures memory { IfErr result (λ e. e ≡ PrintError.Memory) }
+    {
+        let layout = Layout::new(alloc, columns, list_files, format)?;
+        Ok(Printer {
+            layout,
+            writer,
+            alloc,
+        })
+    }
+
+    /// Puts the text behind what stands in the writer.
+    fn put(&mut self, text: &str) -> Result<(), PrintError>
+        ensures bytes { OnOk result (Appends (W.contents self.old.writer) (W.contents self.new.writer) text.now) }
+        ensures faults { W.faults self.old.writer < u64.MAX
+            → W.faults self.new.writer ≡ faults_after_printing result (W.faults self.old.writer) }
+        ensures overflow { result ≢ Err PrintError.Overflow }
+        ensures layout { self.new.layout ≡ self.old.layout }
+    {
+        match self.writer.put(text.as_bytes()) {
+            Ok(()) => Ok(()),
+            Err(_) => Err(PrintError::Write),
+        }
+    }
+
+    /// The names of the columns, between two rows.
+    pub fn print_header(&mut self) -> Result<(), PrintError>
+        ensures bytes { OnOk result
+            (Appends (W.contents self.old.writer) (W.contents self.new.writer) (header self.old.layout.columns)) }
+        ensures faults { W.faults self.old.writer < u64.MAX
+            → W.faults self.new.writer ≡ faults_after_printing result (W.faults self.old.writer) }
+        ensures overflow { result ≢ Err PrintError.Overflow }
+        ensures layout { self.new.layout ≡ self.old.layout }
+    {
+        let text = self.layout.header(self.alloc)?;
+        self.put(text.as_str())
+    }
+
+    /// The note that counts can be inaccurate.
+    pub fn print_inaccuracy_warning(&mut self) -> Result<(), PrintError>
+        ensures bytes { OnOk result (Appends (W.contents self.old.writer) (W.contents self.new.writer) warning) }
+        ensures faults { W.faults self.old.writer < u64.MAX
+            → W.faults self.new.writer ≡ faults_after_printing result (W.faults self.old.writer) }
+        ensures overflow { result ≢ Err PrintError.Overflow }
+        ensures layout { self.new.layout ≡ self.old.layout }
+    {
+        self.put("Note: results can be inaccurate for languages marked with '(!)'\n")
+    }
+
+    /// The name at the head of a row, with the mark of an inaccurate language, and no newline.
+    pub fn print_language_name(
+        &mut self,
+        inaccurate: bool,
+        name: &str,
+        prefix: Option<&str>,
+    ) -> Result<(), PrintError>
+        ensures bytes { OnOk result (Appends (W.contents self.old.writer) (W.contents self.new.writer)
+            (name_section self.old.layout.columns inaccurate name.now (prefix_of (option_map (λ p. p.now) prefix.entry)))) }
+        ensures faults { W.faults self.old.writer < u64.MAX
+            → W.faults self.new.writer ≡ faults_after_printing result (W.faults self.old.writer) }
+        ensures overflow { result ≢ Err PrintError.Overflow }
+        ensures layout { self.new.layout ≡ self.old.layout }
+    {
+        let prefix = prefix.unwrap_or("");
+        let text = self
+            .layout
+            .name_section(self.alloc, inaccurate, name, prefix)?;
+        self.put(text.as_str())
+    }
+
+    /// A language's row under this name. `Overflow` only where its lines pass the greatest `usize`.
+    pub fn print_language(&mut self, language: &Language, name: &str) -> Result<(), PrintError>
+        ensures bytes { OnOk result (Appends (W.contents self.old.writer) (W.contents self.new.writer)
+            (language_row self.old.layout (language_of language.now) name.now)) }
+        ensures faults { W.faults self.old.writer < u64.MAX
+            → W.faults self.new.writer ≡ faults_after_printing result (W.faults self.old.writer) }
+        ensures fits { OnOk result (LinesFit (language_of language.now).counts) }
+        ensures overflow { IsErrOf result PrintError.Overflow → ¬ LinesFit (language_of language.now).counts }
+        ensures layout { self.new.layout ≡ self.old.layout }
+    {
+        let text = self.layout.language_row(self.alloc, language, name)?;
+        self.put(text.as_str())
+    }
+}
