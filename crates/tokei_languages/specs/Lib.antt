@@ -2,6 +2,7 @@ pub mod Maps
 pub mod Merging
 pub mod Renewing
 pub mod Seen
+pub mod Sorting
 pub mod Summaries
 pub mod TakenBack
 pub mod Values

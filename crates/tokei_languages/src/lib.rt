@@ -8,6 +8,7 @@ mod copies;
 pub mod language;
 pub mod languages;
 mod merge;
+mod sorting;
 mod sums;
 mod totals;
 
