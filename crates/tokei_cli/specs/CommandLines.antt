@@ -1,0 +1,39 @@
+-- A command line as read, and what it answers where nothing is counted.
+use Rattle.std.specs.Prelude.{◌≡◌, ℕ, List, Option, option_map, map, string_bytes, ⊤}
+use Rattle.clap.specs.declared.error.kind.ErrorKind.{ErrorKind}
+use Rattle.clap.specs.declared.error.kind.ErrorKind.TheVariants.{DisplayHelp, DisplayVersion}
+use Rattle.tokei_cli.specs.declared.cli.Cli.{Cli}
+use Rattle.tokei_cli.specs.declared.cli_error.CliError.{CliError}
+use Rattle.tokei_cli.specs.declared.cli_error.CliError.TheVariants.{Memory, Refused, Asked}
+
+-- the exit status of a command line that isn't run
+abbrev pub status_of : CliError → ℕ
+status_of Memory = 1
+status_of (Refused text) = 2
+status_of (Asked text) = 0
+
+-- help and the version were asked for, everything else is a refusal; memory may be wanting for either
+abbrev pub Answers : ErrorKind → CliError → Type 0
+Answers kind Memory = ⊤
+Answers DisplayHelp (Refused text) = ⊥
+Answers DisplayVersion (Refused text) = ⊥
+Answers kind (Refused text) = ⊤
+Answers DisplayHelp (Asked text) = ⊤
+Answers DisplayVersion (Asked text) = ⊤
+Answers kind (Asked text) = ⊥
+
+-- the files and folders to be counted
+abbrev pub inputs_of : Cli → List (List ℕ)
+inputs_of c = map string_bytes c.input.items
+
+-- the patterns of what is left out
+abbrev pub excludes_of : Cli → List (List ℕ)
+excludes_of c = map string_bytes c.exclude.items
+
+-- where earlier results are read from
+abbrev pub file_input_of : Cli → Option (List ℕ)
+file_input_of c = option_map string_bytes c.file_input
+
+-- the file of the table of languages
+abbrev pub table_of : Cli → List ℕ
+table_of c = string_bytes c.table

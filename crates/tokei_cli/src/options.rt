@@ -1,0 +1,167 @@
+//! The options, and what help says of each.
+use crate::version::VERSION;
+use clap::{Arg, ArgAction, Command, value_parser};
+use std::alloc::{AllocError, Global};
+
+/// The table of languages, where no option names another.
+pub(crate) const DEFAULT_TABLE: &str = "languages.json";
+
+/// An option without a value.
+fn flag<'a>(alloc: Global, name: &'a str, help: &'a str) -> Arg<'a> {
+    Arg::new(alloc, name)
+        .long(name)
+        .action(ArgAction::SetTrue)
+        .help(help)
+}
+
+/// An option with one value.
+fn value<'a>(alloc: Global, name: &'a str, help: &'a str) -> Arg<'a> {
+    Arg::new(alloc, name)
+        .long(name)
+        .action(ArgAction::Set)
+        .help(help)
+}
+
+/// The options on what the report shows.
+fn with_report<'a>(alloc: Global, command: Command<'a>) -> Result<Command<'a>, AllocError> {
+    let columns = value(
+        alloc,
+        "columns",
+        "Prints the report at this width, in columns; at least 81.",
+    )
+    .short('c')
+    .value_parser(value_parser!(usize))
+    .conflicts_with("output")?;
+    let files = flag(alloc, "files", "Also lists every file.").short('f');
+    let compact = flag(
+        alloc,
+        "compact",
+        "Prints no statistics of embedded languages.",
+    )
+    .short('C');
+    let numbers = value(
+        alloc,
+        "num-format",
+        "How numbers are printed: plain (1234, the default), commas (1,234), dots (1.234) or underscores (1_234).",
+    )
+    .short('n')
+    .conflicts_with("output")?;
+    command.arg(columns)?.arg(files)?.arg(compact)?.arg(numbers)
+}
+
+/// The options on formats for other programs, and on the list of languages.
+fn with_formats<'a>(alloc: Global, command: Command<'a>) -> Result<Command<'a>, AllocError> {
+    let output = value(
+        alloc,
+        "output",
+        "Writes the results in a format for other programs, in place of the report: json.",
+    )
+    .short('o');
+    let streaming = value(
+        alloc,
+        "streaming",
+        "Writes a record of each file as it is counted (language, path, lines, blanks, code, comments): simple or json.",
+    );
+    let languages = flag(
+        alloc,
+        "languages",
+        "Lists the languages and their extensions, and counts nothing.",
+    )
+    .short('l')
+    .conflicts_with("input")?;
+    command.arg(output)?.arg(streaming)?.arg(languages)
+}
+
+/// The options on the order of the report, and on which languages it has.
+fn with_order<'a>(alloc: Global, command: Command<'a>) -> Result<Command<'a>, AllocError> {
+    let sort = value(
+        alloc,
+        "sort",
+        "Sorts the languages by a column: files, lines, blanks, code or comments.",
+    )
+    .short('s')
+    .conflicts_with("rsort")?;
+    let rsort = value(
+        alloc,
+        "rsort",
+        "Sorts the languages by a column, and reverses the order.",
+    )
+    .short('r');
+    let types = value(
+        alloc,
+        "types",
+        "Counts only these languages, separated by commas, as in -t=Rust,Markdown.",
+    )
+    .short('t')
+    .action(ArgAction::Append);
+    command.arg(sort)?.arg(rsort)?.arg(types)
+}
+
+/// The options on which ignore files are obeyed.
+fn with_ignore_files<'a>(alloc: Global, command: Command<'a>) -> Result<Command<'a>, AllocError> {
+    let all = flag(
+        alloc,
+        "no-ignore",
+        "Obeys no ignore file; implies --no-ignore-parent, --no-ignore-dot and --no-ignore-vcs.",
+    );
+    let parent = flag(
+        alloc,
+        "no-ignore-parent",
+        "Obeys no ignore file of the folders above.",
+    );
+    let dot = flag(
+        alloc,
+        "no-ignore-dot",
+        "Obeys neither .ignore nor .tokeignore.",
+    );
+    let vcs = flag(
+        alloc,
+        "no-ignore-vcs",
+        "Obeys none of git's ignore files, those of the folders above included.",
+    );
+    command.arg(all)?.arg(parent)?.arg(dot)?.arg(vcs)
+}
+
+/// The options on what else is left out, and on files that the program reads.
+fn with_files<'a>(alloc: Global, command: Command<'a>) -> Result<Command<'a>, AllocError> {
+    let exclude = value(
+        alloc,
+        "exclude",
+        "Leaves out all files and folders that match the pattern; may be given several times.",
+    )
+    .short('e')
+    .action(ArgAction::Append);
+    let hidden = flag(alloc, "hidden", "Counts hidden files too.");
+    let earlier = Arg::new(alloc, "file_input")
+        .long("input")
+        .short('i')
+        .action(ArgAction::Set)
+        .help("Adds the statistics of an earlier run, written by -o json: a file, or stdin.");
+    let table = value(alloc, "table", "The file of the table of languages.").default_value(
+        DEFAULT_TABLE,
+    );
+    command.arg(exclude)?.arg(hidden)?.arg(earlier)?.arg(table)
+}
+
+/// The whole command line.
+pub(crate) fn command<'a>(alloc: Global) -> Result<Command<'a>, AllocError> {
+    let verbose = Arg::new(alloc, "verbose")
+        .long("verbose")
+        .short('v')
+        .action(ArgAction::Count)
+        .help("Shows more notes: -v warnings, -vv and -vvv everything; without it errors alone.");
+    let input = Arg::new(alloc, "input")
+        .action(ArgAction::Append)
+        .num_args(0..)
+        .help("The files and folders to be counted; the current folder where none is given.");
+    let command = Command::new(alloc, "tokei")
+        .bin_name("tokei")?
+        .version(VERSION)
+        .about("Counts blank, code and comment lines, by language.");
+    let command = with_report(alloc, command)?;
+    let command = with_formats(alloc, command)?;
+    let command = with_order(alloc, command)?;
+    let command = with_ignore_files(alloc, command)?;
+    let command = with_files(alloc, command)?;
+    command.arg(verbose)?.arg(input)
+}

@@ -1,0 +1,79 @@
+//! The folders of the system, as the walk asks them.
+ghost use Rattle.std.specs.Prelude.{◌≡◌, ◌<◌, None};
+ghost use Rattle.tokei_walk.specs.Answers.{counted};
+
+use crate::folders_above::folders_above;
+use crate::listing::{kind_of, listing};
+use crate::reading::{content, head};
+use std::io::ErrorKind;
+use std::rt::Files;
+use std::{fs, io};
+use tokei_walk::{Above, Fault, Folders, Items, Kind, Listing};
+
+/// The folders of the system, which tell no tree. Places are paths, read from the current folder on.
+#[derive(Drop)]
+pub struct RealFolders<R> {
+    rt: R,
+    memory_faults: u64,
+}
+
+impl<R: Files + AllocGlobal + Clone + Drop> RealFolders<R> {
+    /// The folders that the handle reaches.
+    pub fn new(rt: R) -> RealFolders<R>
+        ensures none { result.memory_faults ≡ 0 }
+    {
+        RealFolders {
+            rt,
+            memory_faults: 0,
+        }
+    }
+
+    /// The answer, or why there is none; want of memory is counted.
+    fn answered<T>(&mut self, given: io::Result<T>) -> Result<T, Fault>
+        ensures counts { self.old.memory_faults < u64.MAX
+            → self.new.memory_faults ≡ counted result (self.old.memory_faults) }
+    {
+        match given {
+            Ok(answer) => Ok(answer),
+            Err(e) if e.kind() == ErrorKind::OutOfMemory => {
+                self.memory_faults = self.memory_faults.saturating_add(1);
+                Err(Fault::Memory)
+            }
+            Err(_) => Err(Fault::Refused),
+        }
+    }
+}
+
+impl<R: Files + AllocGlobal + Clone + Drop> Folders for RealFolders<R> {
+    ghost tree = { λ _. None };
+
+    ghost memory_faults = { λ s. s.memory_faults };
+
+    ghost sound = { λ _. tt };
+
+    fn kind(&mut self, place: &str) -> Result<Kind, Fault> {
+        let metadata = fs::metadata(&self.rt, place);
+        let metadata = self.answered(metadata)?;
+        Ok(kind_of(&metadata))
+    }
+
+    fn list(&mut self, place: &str) -> Result<Listing, Fault> {
+        let found = listing(&self.rt, place);
+        self.answered(found)
+    }
+
+    fn read(&mut self, place: &str) -> Result<Items<u8>, Fault> {
+        let bytes = content(&self.rt, place);
+        Ok(Items::from_vec(self.answered(bytes)?))
+    }
+
+    fn head(&mut self, place: &str) -> Result<Items<u8>, Fault> {
+        let bytes = head(&self.rt, place);
+        Ok(Items::from_vec(self.answered(bytes)?))
+    }
+
+    fn above(&mut self, place: &str) -> Result<Items<Above>, Fault> {
+        let found = folders_above(&self.rt, place);
+        self.answered(found)
+    }
+}
