@@ -1,5 +1,5 @@
 -- A command line as read, and what it answers where nothing is counted.
-use Rattle.std.specs.Prelude.{◌≡◌, ℕ, List, Option, option_map, map, string_bytes, ⊤}
+use Rattle.std.specs.Prelude.{ℕ, List, Option, option_map, map, string_bytes, ⊤}
 use Rattle.clap.specs.declared.error.kind.ErrorKind.{ErrorKind}
 use Rattle.clap.specs.declared.error.kind.ErrorKind.TheVariants.{DisplayHelp, DisplayVersion}
 use Rattle.tokei_cli.specs.declared.cli.Cli.{Cli}

@@ -1,9 +1,8 @@
 -- The order of a folder's entries.
-use Rattle.std.specs.Prelude.{ℕ, List}
 use Rattle.std.specs.Ordering.{nat_cmp}
 use Rattle.std.specs.Cmp.Lexicographic.{slice_cmp}
 use Rattle.std.specs.declared.cmp.Ordering.{Ordering}
-use Rattle.tokei_walk.specs.declared.fs.Entry.{Entry}
+use Rattle.tokei_folders.specs.declared.fs.Entry.{Entry}
 
 -- entries by their names, byte by byte
 abbrev pub by_name : Entry → Entry → Ordering

@@ -2,11 +2,11 @@
 use std::alloc::{AllocError, Global};
 use std::rt::Files;
 use std::{fs, io};
-use tokei_walk::{Above, Items, Text};
+use tokei_folders::{Above, Text};
 
 /// The folders above a path that begins with `/`, nearest first.
-fn folders_over(alloc: Global, path: &str) -> Result<Items<Above>, AllocError> {
-    let mut above = Items::new(alloc);
+fn folders_over(alloc: Global, path: &str) -> Result<Vec<Above>, AllocError> {
+    let mut above = Vec::new(alloc);
     let mut rest = path;
     for _ in 0..path.len() {
         match rest.rsplit_once('/') {
@@ -25,10 +25,7 @@ fn folders_over(alloc: Global, path: &str) -> Result<Items<Above>, AllocError> {
 }
 
 /// The folders above a place, nearest first, by its real path: one without links.
-pub(crate) fn folders_above<R: Files + AllocGlobal>(
-    rt: &R,
-    place: &str,
-) -> io::Result<Items<Above>> {
+pub(crate) fn folders_above<R: Files + AllocGlobal>(rt: &R, place: &str) -> io::Result<Vec<Above>> {
     let path = fs::canonicalize(rt, place)?;
     Ok(folders_over(rt.alloc(), path.as_str())?)
 }

@@ -9,7 +9,7 @@ use std::fs::Metadata;
 use std::io::ErrorKind;
 use std::rt::Files;
 use std::{fs, io};
-use tokei_walk::{Entry, Items, Kind, Listing, Text};
+use tokei_folders::{Entry, Kind, Listing, Text};
 
 /// What the system says stands there. A link that isn't followed is neither a file nor a folder, nor is a device, a pipe or
 /// a socket.
@@ -64,12 +64,9 @@ pub(crate) fn listing<R: Files + AllocGlobal + Clone + Drop>(
     rt: &R,
     place: &str,
 ) -> io::Result<Listing>
-    ensures sorted { IfOk result (λ l. IsSorted by_name l.entries) }
+    ensures sorted { IfOk result (λ l. IsSorted by_name l.entries.items) }
 {
     let (mut entries, unnamed) = found(rt, place)?;
     put_in_order(&mut entries)?;
-    Ok(Listing {
-        entries: Items::from_vec(entries),
-        unnamed,
-    })
+    Ok(Listing { entries, unnamed })
 }

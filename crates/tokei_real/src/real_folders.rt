@@ -1,6 +1,6 @@
 //! The folders of the system, as the walk asks them.
 ghost use Rattle.std.specs.Prelude.{◌≡◌, ◌<◌, None};
-ghost use Rattle.tokei_walk.specs.Answers.{counted};
+ghost use Rattle.tokei_folders.specs.Answers.{counted, StaysFull};
 
 use crate::folders_above::folders_above;
 use crate::listing::{kind_of, listing};
@@ -8,7 +8,7 @@ use crate::reading::{content, head};
 use std::io::ErrorKind;
 use std::rt::Files;
 use std::{fs, io};
-use tokei_walk::{Above, Fault, Folders, Items, Kind, Listing};
+use tokei_folders::{Above, Fault, Folders, Kind, Listing};
 
 /// The folders of the system, which tell no tree. Places are paths, read from the current folder on.
 #[derive(Drop)]
@@ -32,6 +32,7 @@ impl<R: Files + AllocGlobal + Clone + Drop> RealFolders<R> {
     fn answered<T>(&mut self, given: io::Result<T>) -> Result<T, Fault>
         ensures counts { self.old.memory_faults < u64.MAX
             → self.new.memory_faults ≡ counted result (self.old.memory_faults) }
+        ensures full { StaysFull self.old.memory_faults self.new.memory_faults }
     {
         match given {
             Ok(answer) => Ok(answer),
@@ -62,17 +63,17 @@ impl<R: Files + AllocGlobal + Clone + Drop> Folders for RealFolders<R> {
         self.answered(found)
     }
 
-    fn read(&mut self, place: &str) -> Result<Items<u8>, Fault> {
+    fn read(&mut self, place: &str) -> Result<Vec<u8>, Fault> {
         let bytes = content(&self.rt, place);
-        Ok(Items::from_vec(self.answered(bytes)?))
+        self.answered(bytes)
     }
 
-    fn head(&mut self, place: &str) -> Result<Items<u8>, Fault> {
+    fn head(&mut self, place: &str) -> Result<Vec<u8>, Fault> {
         let bytes = head(&self.rt, place);
-        Ok(Items::from_vec(self.answered(bytes)?))
+        self.answered(bytes)
     }
 
-    fn above(&mut self, place: &str) -> Result<Items<Above>, Fault> {
+    fn above(&mut self, place: &str) -> Result<Vec<Above>, Fault> {
         let found = folders_above(&self.rt, place);
         self.answered(found)
     }

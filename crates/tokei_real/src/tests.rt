@@ -5,7 +5,7 @@ use std::io::{Error, ErrorKind, Read};
 use std::os::unix::fs::symlink;
 use std::test::Fail;
 use std::{env, fs, io, process};
-use tokei_walk::{Fault, Folders, Kind};
+use tokei_folders::{Fault, Folders, Kind};
 
 /// A reader that gives a text, two bytes a read at most, and has then ended or fails.
 #[derive(Clone, Copy)]
@@ -60,7 +60,7 @@ fn shown_listing(rt: &HostRuntime, place: &str) -> Result<String, Fail> {
     let mut folders = RealFolders::new(rt.clone()?);
     let listing = folders.list(place)?;
     let mut shown = String::new(rt.alloc());
-    for entry in listing.entries.as_slice() {
+    for entry in &listing.entries {
         let more = format!(in rt.alloc(); "{} {:?}, ", entry.name.as_str(), entry.kind)?;
         shown.push_str(more.as_str())?;
     }
@@ -165,13 +165,13 @@ fn folders_above_by_the_real_path(rt: HostRuntime) -> Result<(), Fail> {
     let real = real.as_path().display();
     let nearest = format!(in rt.alloc(); "{real}/a b, {real} a, ")?;
     let mut shown = String::new(rt.alloc());
-    for above in above.as_slice() {
+    for above in &above {
         let more = format!(in rt.alloc(); "{} {}, ", above.place.as_str(), above.name.as_str())?;
         shown.push_str(more.as_str())?;
     }
     assert!(rt; shown.as_str().starts_with(nearest.as_str()), "{shown}");
     assert!(rt; shown.as_str().contains(", / "), "{shown}");
-    assert!(rt; folders.above("/")?.as_slice().is_empty());
+    assert!(rt; folders.above("/")?.is_empty());
     fs::remove_dir_all(&rt, top.as_str())?;
     Ok(())
 }

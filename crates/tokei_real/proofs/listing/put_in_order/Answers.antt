@@ -4,7 +4,7 @@ use Rattle.std.specs.Ordering.{is_lt}
 use Rattle.std.proofs.lemmas.Cmp.{nat_list_cmp_total}
 use Rattle.std.proofs.lemmas.Fn.{always_returns_same}
 use Rattle.std.proofs.lemmas.List.MinMax.{ranks_by}
-use Rattle.tokei_walk.specs.declared.fs.Entry.{Entry}
+use Rattle.tokei_folders.specs.declared.fs.Entry.{Entry}
 use Rattle.tokei_real.specs.Listings.{by_name}
 use Rattle.tokei_real.proofs.listing.put_in_order.Goals as goal
 
