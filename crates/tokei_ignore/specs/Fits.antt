@@ -11,6 +11,13 @@ abbrev pub first_and_rest : {X : Type 0} → (X → Bool) → (List X → Bool) 
 first_and_rest test rest [] = false
 first_and_rest test rest (x ∷ xs) = test x && rest xs
 
+-- the last item passes the test
+abbrev pub last_passes : {X : Type 0} → (X → Bool) → List X → Bool
+last_passes test [] = false
+last_passes test (x ∷ []) = test x
+last_passes test (x ∷ y ∷ xs) = last_passes test (y ∷ xs)
+
+-- there is no item
 abbrev pub is_empty : {X : Type 0} → List X → Bool
 is_empty [] = true
 is_empty (x ∷ xs) = false

@@ -1,9 +1,10 @@
 //! When names fit the segments of a pattern.
-ghost use Rattle.std.specs.Prelude.{◌≡◌, ◌<◌, ◌≤◌, [], ◌∷◌, length, MatchOption, ⊤};
+ghost use Rattle.std.specs.Prelude.{◌≡◌, ◌<◌, ◌≤◌, [], ◌∷◌, length, MatchOption, IfSome, ⊤};
 ghost use Rattle.std.specs.Str.{chars, IsUtf8};
 ghost use Rattle.std.specs.List.{list_any};
-ghost use Rattle.tokei_ignore.specs.Fits.{at_some_end};
+ghost use Rattle.tokei_ignore.specs.Fits.{at_some_end, last_passes};
 ghost use Rattle.tokei_ignore.specs.Segments.{is_in_range, fits_character as piece_fits, fits_characters, fits_name as segment_fits, fits_names as path_fits};
+ghost use Rattle.tokei_ignore.specs.declared.pieces.Segment.TheVariants.{AnyNames as AnyNamesSegment, Name as NameSegment};
 ghost use Rattle.tokei_ignore.specs.Reach.{name_reach, name_reach_view, path_reach, path_reach_view};
 
 use crate::pieces::{Piece, Range, Segment};
@@ -165,13 +166,47 @@ fn fits_some_later(segments: &[Segment], names: &[Text]) -> bool
     }
 }
 
+/// Whether the pieces take all of the last name.
+fn fits_last_name(pieces: &[Piece], names: &[Text]) -> bool
+    ensures { result ≡ last_passes (λ name. fits_characters pieces.now (chars name)) names.now }
+{
+    match names.split_last() {
+        None => false,
+        Some((last, _)) => fits_whole_name(pieces, last.as_str()),
+    }
+}
+
 /// Whether the segments take all the names. It takes no memory.
-pub fn fits_names(segments: &[Segment], names: &[Text]) -> bool
+fn fits_from_first(segments: &[Segment], names: &[Text]) -> bool
     ensures { result ≡ path_fits segments.now names.now }
 {
     match reach_in_path(segments, names) {
         PathReach::Fails => false,
         PathReach::Done => true,
         PathReach::AtSpan(others, rest) => fits_some_later(others, rest),
+    }
+}
+
+/// The pieces of the name where the segments are any names and then one.
+fn name_after_any(segments: &[Segment]) -> Option<&[Piece]>
+    ensures { IfSome result (λ ps. segments.entry.now ≡ AnyNamesSegment ∷ NameSegment ps.now ∷ []) }
+{
+    match segments.split_first() {
+        Some((Segment::AnyNames, rest)) => match rest.split_first() {
+            Some((Segment::Name(pieces), [])) => Some(pieces.as_slice()),
+            _ => None,
+        },
+        _ => None,
+    }
+}
+
+/// The same; any names and then one, as of a pattern that no slash anchors, are tried at the last
+/// name alone.
+pub fn fits_names(segments: &[Segment], names: &[Text]) -> bool
+    ensures { result ≡ path_fits segments.now names.now }
+{
+    match name_after_any(segments) {
+        Some(pieces) => fits_last_name(pieces, names),
+        None => fits_from_first(segments, names),
     }
 }

@@ -1,25 +1,26 @@
 -- A descent through a sound tree gives the files that a filter of all its places keeps, in their order.
 use Rattle.std.proofs.Common.{◌≡◌, ℕ, zero, suc, List, [], ◌∷◌, ◌++◌, Bool, true, false, cond, Ok, Err, refl, sym, ap, ap₂, ◌∙◌}
 use Rattle.std.specs.List.{flat_map, list_all}
-use Rattle.tokei_walk.specs.declared.fs.Kind.TheVariants.{File, Folder}
-use Rattle.tokei_walk.specs.declared.fs.Entry.{Entry}
-use Rattle.tokei_walk.specs.declared.fs.Fault.TheVariants.{Refused}
+use Rattle.tokei_folders.specs.declared.fs.Kind.TheVariants.{File, Folder}
+use Rattle.tokei_folders.specs.declared.fs.Entry.{Entry}
+use Rattle.tokei_folders.specs.declared.fs.Fault.TheVariants.{Refused}
 use Rattle.tokei_walk.specs.declared.kept_file.KeptFile.{KeptFile}
 use Rattle.tokei_walk.specs.declared.levels.Context.{Context}
 use Rattle.tokei_walk.specs.declared.levels.Rules.{Rules}
-use Rattle.tokei_walk.specs.declared.nodes.Node.{Node}
-use Rattle.tokei_walk.specs.declared.nodes.Node.TheVariants.{File as file, Folder as folder}
-use Rattle.tokei_walk.specs.declared.nodes.PlacedNode.{PlacedNode}
-use Rattle.tokei_walk.specs.declared.patterns.Pattern.{Pattern}
-use Rattle.tokei_walk.specs.Answers.{can_list, list_answer, entries_in}
-use Rattle.tokei_walk.specs.Descent.{joined, kept, with_level, of_entry, of_entries, of_listing, descend}
+use Rattle.tokei_folders.specs.declared.nodes.Node.{Node}
+use Rattle.tokei_folders.specs.declared.nodes.Node.TheVariants.{File as file, Folder as folder}
+use Rattle.tokei_folders.specs.declared.nodes.PlacedNode.{PlacedNode}
+use Rattle.tokei_ignore.specs.declared.patterns.Pattern.{Pattern}
+use Rattle.tokei_folders.specs.Answers.{can_list, list_answer, entries_in}
+use Rattle.tokei_folders.specs.Places.{joined}
+use Rattle.tokei_walk.specs.Descent.{kept, with_level, of_entry, of_entries, of_listing, descend}
 use Rattle.tokei_walk.specs.Levels.{level_at, drops, under}
-use Rattle.tokei_walk.specs.Tree.{Names, Tree, node_at, names_of, is_sound, is_in_order, has_names, is_whole_name}
-use Rattle.tokei_walk.proofs.FoldersAbove.{one_name}
+use Rattle.tokei_folders.specs.Tree.{Names, Tree, node_at, names_of, is_sound, is_in_order, has_names, is_whole_name}
+use Rattle.tokei_folders.proofs.FoldersAbove.{one_name}
 use Rattle.tokei_walk.proofs.Groups.{Gives, place_gives, all_give, entry_gives, entries_give, group, Ends, Closed, entries_same, named_whole, grouped}
 use Rattle.tokei_walk.proofs.Inside.{inside, inside_order, inside_names, inside_further, node_inside, entries_inside}
-use Rattle.tokei_walk.proofs.Joining.{names_of-joined}
-use Rattle.tokei_walk.proofs.NameOrder.{left_of_and, right_of_and}
+use Rattle.tokei_folders.proofs.Joining.{names_of-joined}
+use Rattle.tokei_folders.proofs.NameOrder.{left_of_and, right_of_and}
 
 -- the step of a walk down to a place: what its next name gives, in a folder whose rules the context has
 abbrev below_entry : List Pattern → Rules → (Context → List ℕ → Names → Names → Node → List KeptFile) → Context → List ℕ → Names → Gives

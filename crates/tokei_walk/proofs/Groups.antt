@@ -6,13 +6,13 @@ use Rattle.std.specs.declared.cmp.Ordering.{Ordering}
 use Rattle.std.specs.declared.cmp.Ordering.TheVariants.{Less, Equal, Greater}
 use Rattle.std.proofs.lemmas.Cmp.{nat_list_cmp_total}
 use Rattle.tokei_walk.specs.declared.kept_file.KeptFile.{KeptFile}
-use Rattle.tokei_walk.specs.declared.nodes.Node.{Node}
-use Rattle.tokei_walk.specs.declared.nodes.Node.TheVariants.{File as file, Folder as folder}
-use Rattle.tokei_walk.specs.declared.nodes.PlacedNode.{PlacedNode}
-use Rattle.tokei_walk.specs.Answers.{can_list}
-use Rattle.tokei_walk.specs.Tree.{Names, Tree, names_cmp, is_before, is_first, is_in_order, has_names, is_whole_name, node_at, below}
+use Rattle.tokei_folders.specs.declared.nodes.Node.{Node}
+use Rattle.tokei_folders.specs.declared.nodes.Node.TheVariants.{File as file, Folder as folder}
+use Rattle.tokei_folders.specs.declared.nodes.PlacedNode.{PlacedNode}
+use Rattle.tokei_folders.specs.Answers.{can_list}
+use Rattle.tokei_folders.specs.Tree.{Names, Tree, names_cmp, is_before, is_first, is_in_order, has_names, is_whole_name, node_at, below}
 use Rattle.tokei_walk.proofs.Inside.{name_cmp, inside, put_below, same_name, itself, other_back, first_unequal}
-use Rattle.tokei_walk.proofs.NameOrder.{left_of_and, right_of_and, first_trans, names_total}
+use Rattle.tokei_folders.proofs.NameOrder.{left_of_and, right_of_and, first_trans, names_total}
 
 -- what a place gives by its names and its node, where a folder's entry has a name and what follows it
 abbrev pub Gives : Type 0

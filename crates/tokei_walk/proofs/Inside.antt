@@ -7,12 +7,12 @@ use Rattle.std.specs.declared.cmp.Ordering.{Ordering}
 use Rattle.std.specs.declared.cmp.Ordering.TheVariants.{Less, Equal, Greater}
 use Rattle.std.proofs.lemmas.Cmp.{nat_list_cmp_total, tied_itself}
 use Rattle.std.proofs.lemmas.Map.Lookups.{exact_bytes}
-use Rattle.tokei_walk.specs.declared.fs.Entry.{Entry}
-use Rattle.tokei_walk.specs.declared.nodes.Node.{Node}
-use Rattle.tokei_walk.specs.declared.nodes.PlacedNode.{PlacedNode}
-use Rattle.tokei_walk.specs.Answers.{entries_in, entry_named, only_name}
-use Rattle.tokei_walk.specs.Tree.{Names, Tree, names_cmp, is_before, is_first, is_in_order, has_names, is_whole_name, node_at, below}
-use Rattle.tokei_walk.proofs.NameOrder.{left_of_and, right_of_and, both}
+use Rattle.tokei_folders.specs.declared.fs.Entry.{Entry}
+use Rattle.tokei_folders.specs.declared.nodes.Node.{Node}
+use Rattle.tokei_folders.specs.declared.nodes.PlacedNode.{PlacedNode}
+use Rattle.tokei_folders.specs.Answers.{entries_in, entry_named, only_name}
+use Rattle.tokei_folders.specs.Tree.{Names, Tree, names_cmp, is_before, is_first, is_in_order, has_names, is_whole_name, node_at, below}
+use Rattle.tokei_folders.proofs.NameOrder.{left_of_and, right_of_and, both}
 
 abbrev pub name_cmp : List ℕ → List ℕ → Ordering
 name_cmp = slice_cmp nat_cmp
@@ -38,11 +38,11 @@ same_name m n e = exact_bytes m n (is_equal (name_cmp m n) e)
 pub itself : (m : List ℕ) → name_cmp m m ≡ Equal
 itself m = tied_itself nat_list_cmp_total m
 
-record Opened (b : Bool) (o : Option Names) (ns : Names) : Type 0 where
-  holds : b ≡ true
-  is : o ≡ Some ns
+pub record Opened (b : Bool) (o : Option Names) (ns : Names) : Type 0 where
+  pub holds : b ≡ true
+  pub is : o ≡ Some ns
 
-opened : (b : Bool) (o : Option Names) (ns : Names) → cond b o None ≡ Some ns → Opened b o ns
+pub opened : (b : Bool) (o : Option Names) (ns : Names) → cond b o None ≡ Some ns → Opened b o ns
 opened true o ns e = record { holds = refl; is = e }
 opened false o ns e = absurd (cc)
 
@@ -78,7 +78,7 @@ pub inside_order : (q : Names) (t : Tree) → is_in_order t ≡ true → is_in_o
 inside_order q [] h = refl
 inside_order q (e ∷ t) h = put_order q e t (below q e.names) refl (left_of_and (is_first e.names t) (is_in_order t) h) (inside_order q t (right_of_and (is_first e.names t) (is_in_order t) h))
 
-whole_below : (q ns bs : Names) → below q ns ≡ Some bs → list_all is_whole_name ns ≡ true → list_all is_whole_name bs ≡ true
+pub whole_below : (q ns bs : Names) → below q ns ≡ Some bs → list_all is_whole_name ns ≡ true → list_all is_whole_name bs ≡ true
 whole_below [] ns bs e h = let x : bs ≡ ns = cc in ap (list_all is_whole_name) x ∙ h
 whole_below (d ∷ ds) [] bs e h = absurd (cc)
 whole_below (d ∷ ds) (n ∷ ns) bs e h = whole_below ds ns bs (opened (is_eq (name_cmp d n)) (below ds ns) bs e).is (right_of_and (is_whole_name n) (list_all is_whole_name ns) h)

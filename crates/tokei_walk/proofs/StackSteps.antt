@@ -2,26 +2,27 @@
 use Rattle.std.proofs.Common.{◌≡◌, ℕ, zero, suc, ◌-◌, ◌<◌, ◌≤◌, List, [], ◌∷◌, ◌++◌, length, reverse, Bool, true, false, cond, Some, Result, Ok, Err, refl, sym, ap, ap₂, ◌∙◌, arith, append_assoc, append-nil, subst, IfOk, OnOk}
 use Rattle.std.specs.declared.alloc.AllocError.{AllocError}
 use Rattle.std.proofs.lemmas.List.{reverse-append, length-reverse, same_from_push, length-append}
-use Rattle.tokei_walk.specs.declared.fs.Entry.{Entry}
-use Rattle.tokei_walk.specs.declared.fs.Kind.{Kind}
-use Rattle.tokei_walk.specs.declared.fs.Kind.TheVariants.{File, Folder, Other}
-use Rattle.tokei_walk.specs.declared.fs.Fault.TheVariants.{Refused}
+use Rattle.tokei_folders.specs.declared.fs.Entry.{Entry}
+use Rattle.tokei_folders.specs.declared.fs.Kind.{Kind}
+use Rattle.tokei_folders.specs.declared.fs.Kind.TheVariants.{File, Folder, Other}
+use Rattle.tokei_folders.specs.declared.fs.Fault.TheVariants.{Refused}
 use Rattle.tokei_walk.specs.declared.kept_file.KeptFile.{KeptFile}
 use Rattle.tokei_walk.specs.declared.levels.Context.{Context}
 use Rattle.tokei_walk.specs.declared.levels.Level.{Level}
 use Rattle.tokei_walk.specs.declared.levels.Rules.{Rules}
-use Rattle.tokei_walk.specs.declared.patterns.Pattern.{Pattern}
+use Rattle.tokei_ignore.specs.declared.patterns.Pattern.{Pattern}
 use Rattle.tokei_walk.specs.declared.stack.Frame.{Frame}
 use Rattle.tokei_walk.specs.declared.stack.Item.{Item}
 use Rattle.tokei_walk.specs.declared.stack.Stack.{Stack}
 use Rattle.tokei_walk.specs.declared.stack.Step.{Step}
-use Rattle.tokei_walk.specs.Answers.{list_answer}
-use Rattle.tokei_walk.specs.Descent.{joined, kept, with_level, of_kind, is_folder, of_entry, of_entries, of_listing, descend, outer, without_name, of_frames, of_top, of_stack}
-use Rattle.tokei_walk.specs.Ends.{without_last}
+use Rattle.tokei_folders.specs.Answers.{list_answer}
+use Rattle.tokei_folders.specs.Places.{joined}
+use Rattle.tokei_walk.specs.Descent.{kept, with_level, of_kind, is_folder, of_entry, of_entries, of_listing, descend, outer, without_name, of_frames, of_top, of_stack}
+use Rattle.tokei_folders.specs.Ends.{without_last}
 use Rattle.tokei_walk.specs.Levels.{level_at, drops, under}
 use Rattle.tokei_walk.specs.Stacks.{Pops, Leaves, Enters, EntersTold, of_folder, file_kept, StepTells, Stays}
-use Rattle.tokei_walk.specs.Tree.{Tree, names_of}
-use Rattle.tokei_walk.proofs.LineEnds.{without_last-push}
+use Rattle.tokei_folders.specs.Tree.{Tree, names_of}
+use Rattle.tokei_folders.proofs.ListEnds.{without_last-push}
 
 abbrev pub context_of : List Level → List (List ℕ) → List (List ℕ) → Context
 context_of l n s = record { levels = l; names = n; shown = s }

@@ -1,28 +1,25 @@
 -- The files that one descent through a told tree meets.
 use Rattle.std.specs.Prelude.{ℕ, zero, suc, ◌-◌, List, [], ◌∷◌, ◌++◌, Bool, true, false, Option, Some, None, Result, Ok, Err, map, reverse, length, if◌then◌else◌, cond}
 use Rattle.std.specs.List.{flat_map}
-use Rattle.tokei_walk.specs.declared.nodes.Node.{Node}
-use Rattle.tokei_walk.specs.declared.nodes.Node.TheVariants.{File as file, Folder as folder}
-use Rattle.tokei_walk.specs.declared.fs.Kind.{Kind}
-use Rattle.tokei_walk.specs.declared.fs.Kind.TheVariants.{File, Folder, Other}
-use Rattle.tokei_walk.specs.declared.fs.Entry.{Entry}
-use Rattle.tokei_walk.specs.declared.fs.Fault.{Fault}
+use Rattle.tokei_folders.specs.declared.nodes.Node.{Node}
+use Rattle.tokei_folders.specs.declared.nodes.Node.TheVariants.{File as file, Folder as folder}
+use Rattle.tokei_folders.specs.declared.fs.Kind.{Kind}
+use Rattle.tokei_folders.specs.declared.fs.Kind.TheVariants.{File, Folder, Other}
+use Rattle.tokei_folders.specs.declared.fs.Entry.{Entry}
+use Rattle.tokei_folders.specs.declared.fs.Fault.{Fault}
 use Rattle.tokei_walk.specs.declared.kept_file.KeptFile.{KeptFile}
 use Rattle.tokei_walk.specs.declared.levels.Context.{Context}
 use Rattle.tokei_walk.specs.declared.levels.Rules.{Rules}
 use Rattle.tokei_walk.specs.declared.levels.Level.{Level}
 use Rattle.tokei_walk.specs.declared.stack.Stack.{Stack}
 use Rattle.tokei_walk.specs.declared.stack.Frame.{Frame}
-use Rattle.tokei_walk.specs.declared.patterns.Pattern.{Pattern}
-use Rattle.tokei_walk.specs.Answers.{list_answer}
-use Rattle.tokei_walk.specs.Ends.{ends_in, without_last}
-use Rattle.tokei_walk.specs.Fits.{is_empty}
+use Rattle.tokei_ignore.specs.declared.patterns.Pattern.{Pattern}
+use Rattle.tokei_folders.specs.Answers.{list_answer}
+use Rattle.tokei_folders.specs.Ends.{without_last}
+use Rattle.tokei_folders.specs.Places.{joined}
+use Rattle.tokei_ignore.specs.Fits.{is_empty}
 use Rattle.tokei_walk.specs.Levels.{level_at, drops, under}
-use Rattle.tokei_walk.specs.Tree.{Names, Tree, node_at, names_of, folders_above}
-
--- the place of an entry: a slash stands between, unless the folder's place ends in one
-unfoldable pub joined : List ℕ → List ℕ → List ℕ
-joined place name = if ends_in 47 place then place ++ name else place ++ 47 ∷ name
+use Rattle.tokei_folders.specs.Tree.{Names, Tree, node_at, names_of, folders_above}
 
 -- a kept file's shown path and its place are joined in the same way
 abbrev pub kept : List ℕ → List KeptFile

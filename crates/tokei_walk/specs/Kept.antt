@@ -4,16 +4,16 @@ use Rattle.std.specs.List.{flat_map, list_all}
 use Rattle.tokei_walk.specs.declared.kept_file.KeptFile.{KeptFile}
 use Rattle.tokei_walk.specs.declared.levels.Context.{Context}
 use Rattle.tokei_walk.specs.declared.levels.Rules.{Rules}
-use Rattle.tokei_walk.specs.declared.nodes.Node.{Node}
-use Rattle.tokei_walk.specs.declared.nodes.Node.TheVariants.{File as file, Folder as folder}
-use Rattle.tokei_walk.specs.declared.nodes.PlacedNode.{PlacedNode}
-use Rattle.tokei_walk.specs.declared.patterns.Pattern.{Pattern}
-use Rattle.tokei_walk.specs.Additions.{is_file}
-use Rattle.tokei_walk.specs.Answers.{can_list}
-use Rattle.tokei_walk.specs.Descent.{joined}
-use Rattle.tokei_walk.specs.Fits.{is_empty}
+use Rattle.tokei_folders.specs.declared.nodes.Node.{Node}
+use Rattle.tokei_folders.specs.declared.nodes.Node.TheVariants.{File as file, Folder as folder}
+use Rattle.tokei_folders.specs.declared.nodes.PlacedNode.{PlacedNode}
+use Rattle.tokei_ignore.specs.declared.patterns.Pattern.{Pattern}
+use Rattle.tokei_folders.specs.Additions.{is_file}
+use Rattle.tokei_folders.specs.Answers.{can_list}
+use Rattle.tokei_folders.specs.Places.{joined}
+use Rattle.tokei_ignore.specs.Fits.{is_empty}
 use Rattle.tokei_walk.specs.Levels.{level_at, drops_last}
-use Rattle.tokei_walk.specs.Tree.{Names, Tree, node_at, names_of, folders_above, below}
+use Rattle.tokei_folders.specs.Tree.{Names, Tree, node_at, names_of, folders_above, below}
 
 -- the folders whose ignore files hold for an entry below a root, each with the name that leads down
 -- from it: those from the root to the entry's folder and, where the rules say so, those above the root

@@ -1,20 +1,20 @@
 -- The rules that a folder's ignore files give, and what the rules of folders inside one another decide.
 use Rattle.std.specs.Prelude.{ℕ, ◌&&◌, List, [], ◌∷◌, ◌++◌, Bool, true, false, Option, Some, None, is_some, if◌then◌else◌, cond, codes}
 use Rattle.std.specs.List.{list_any}
-use Rattle.tokei_walk.specs.declared.nodes.Node.{Node}
-use Rattle.tokei_walk.specs.declared.nodes.Node.TheVariants.{File as file, Folder as folder}
+use Rattle.tokei_folders.specs.declared.nodes.Node.{Node}
+use Rattle.tokei_folders.specs.declared.nodes.Node.TheVariants.{File as file, Folder as folder}
 use Rattle.tokei_walk.specs.declared.levels.Rules.{Rules}
 use Rattle.tokei_walk.specs.declared.levels.Level.{Level}
 use Rattle.tokei_walk.specs.declared.levels.Source.{Source}
 use Rattle.tokei_walk.specs.declared.levels.Source.TheVariants.{Tokeignore, Plain, Gitignore, GitExclude}
 use Rattle.tokei_walk.specs.declared.levels.Context.{Context}
-use Rattle.tokei_walk.specs.declared.patterns.Pattern.{Pattern}
-use Rattle.tokei_walk.specs.declared.ignore_files.Verdict.{Verdict}
-use Rattle.tokei_walk.specs.declared.ignore_files.Verdict.TheVariants.{Ignore, Keep}
-use Rattle.tokei_walk.specs.Ends.{without_first, begins_with}
-use Rattle.tokei_walk.specs.IgnoreFiles.{patterns_of, last_fitting, or_else}
-use Rattle.tokei_walk.specs.Patterns.{fits_entry}
-use Rattle.tokei_walk.specs.Tree.{Names, Tree, node_at}
+use Rattle.tokei_ignore.specs.declared.patterns.Pattern.{Pattern}
+use Rattle.tokei_ignore.specs.declared.ignore_files.Verdict.{Verdict}
+use Rattle.tokei_ignore.specs.declared.ignore_files.Verdict.TheVariants.{Ignore, Keep}
+use Rattle.tokei_folders.specs.Ends.{without_first, begins_with}
+use Rattle.tokei_ignore.specs.IgnoreFiles.{patterns_of, last_fitting, or_else}
+use Rattle.tokei_ignore.specs.Patterns.{fits_entry}
+use Rattle.tokei_folders.specs.Tree.{Names, Tree, node_at}
 
 -- an ignore file that is missing, is no file or can't be read gives no pattern
 abbrev pub patterns_at : Option Node → List Pattern

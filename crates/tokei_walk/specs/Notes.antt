@@ -4,10 +4,10 @@ use Rattle.std.specs.List.{flat_map}
 use Rattle.std.specs.Str.{chars}
 use Rattle.tokei_walk.specs.declared.kept_file.Note.{Note}
 use Rattle.tokei_walk.specs.declared.kept_file.NoteKind.TheVariants.{BadExclude}
-use Rattle.tokei_walk.specs.declared.patterns.Pattern.{Pattern}
-use Rattle.tokei_walk.specs.declared.patterns.PatternError.{PatternError}
+use Rattle.tokei_ignore.specs.declared.patterns.Pattern.{Pattern}
+use Rattle.tokei_ignore.specs.declared.patterns.PatternError.{PatternError}
 use Rattle.tokei_walk.specs.declared.walking.Walk.{Walk}
-use Rattle.tokei_walk.specs.Patterns.{exclude_pattern}
+use Rattle.tokei_ignore.specs.Patterns.{exclude_pattern}
 
 -- what a walk met so far
 unfoldable pub notes_of : Walk → List Note

@@ -6,12 +6,13 @@ use Rattle.tokei_walk.specs.declared.stack.Step.{Step}
 use Rattle.tokei_walk.specs.declared.stack.Step.TheVariants.{Found, Passed, Ended}
 use Rattle.tokei_walk.specs.declared.kept_file.KeptFile.{KeptFile}
 use Rattle.tokei_walk.specs.declared.levels.Rules.{Rules}
-use Rattle.tokei_walk.specs.declared.patterns.Pattern.{Pattern}
-use Rattle.tokei_walk.specs.Answers.{list_answer}
-use Rattle.tokei_walk.specs.Descent.{joined, outer, descend, of_top, of_stack}
-use Rattle.tokei_walk.specs.Ends.{without_last}
+use Rattle.tokei_ignore.specs.declared.patterns.Pattern.{Pattern}
+use Rattle.tokei_folders.specs.Answers.{list_answer}
+use Rattle.tokei_folders.specs.Places.{joined}
+use Rattle.tokei_walk.specs.Descent.{outer, descend, of_top, of_stack}
+use Rattle.tokei_folders.specs.Ends.{without_last}
 use Rattle.tokei_walk.specs.Levels.{level_at, drops, under}
-use Rattle.tokei_walk.specs.Tree.{Tree, names_of}
+use Rattle.tokei_folders.specs.Tree.{Tree, names_of}
 
 -- the next entry is taken from those that are left
 abbrev pub Pops : Stack → Stack → Option Item → Type 0

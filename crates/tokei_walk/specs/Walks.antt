@@ -1,20 +1,22 @@
 -- The files that a walk still has to come.
-use Rattle.std.specs.Prelude.{◌≡◌, ℕ, List, [], ◌∷◌, ◌++◌, Bool, Option, Some, None, reverse, map, if◌then◌else◌}
+use Rattle.std.specs.Prelude.{◌≡◌, ℕ, List, [], ◌∷◌, ◌++◌, Bool, Option, Some, None, reverse, map, String, string_bytes, ◌&&◌, ◌||◌, if◌then◌else◌}
+use Rattle.std.specs.Global.{Global}
 use Rattle.std.specs.List.{flat_map}
 use Rattle.std.specs.Str.{chars}
 use Rattle.tokei_walk.specs.declared.kept_file.KeptFile.{KeptFile}
 use Rattle.tokei_walk.specs.declared.levels.Rules.{Rules}
 use Rattle.tokei_walk.specs.declared.levels.Level.{Level}
-use Rattle.tokei_walk.specs.declared.fs.Above.{Above}
-use Rattle.tokei_walk.specs.declared.patterns.Pattern.{Pattern}
+use Rattle.tokei_folders.specs.declared.fs.Above.{Above}
+use Rattle.tokei_ignore.specs.declared.patterns.Pattern.{Pattern}
 use Rattle.tokei_walk.specs.declared.stack.Stack.{Stack}
 use Rattle.tokei_walk.specs.declared.walking.Walk.{Walk}
-use Rattle.tokei_walk.specs.Answers.{above_view}
+use Rattle.tokei_folders.specs.Answers.{above_view}
 use Rattle.tokei_walk.specs.Descent.{of_root, of_stack}
-use Rattle.tokei_walk.specs.IgnoreFiles.{patterns_in}
+use Rattle.tokei_ignore.specs.Fits.{is_empty}
+use Rattle.tokei_ignore.specs.IgnoreFiles.{patterns_in}
 use Rattle.tokei_walk.specs.Levels.{level_at}
-use Rattle.tokei_walk.specs.Patterns.{exclude_pattern}
-use Rattle.tokei_walk.specs.Tree.{Tree, Names}
+use Rattle.tokei_ignore.specs.Patterns.{exclude_pattern}
+use Rattle.tokei_folders.specs.Tree.{Tree, Names}
 
 -- the files of roots, the last one first
 unfoldable pub of_roots : List Pattern → Rules → Tree → List (List ℕ) → List KeptFile
@@ -29,6 +31,18 @@ to_come t w = if w.failed then [] else of_all w.settings.excludes w.settings.rul
 
 unfoldable pub has_failed : Walk → Bool
 has_failed w = w.failed
+
+-- nothing is left of a stack
+abbrev pub is_spent : Stack → Bool
+is_spent s = is_empty s.left && is_empty s.below
+
+-- a walk is over: it has failed, or nothing is left of it
+unfoldable pub is_over : Walk → Bool
+is_over w = w.failed || (is_spent w.stack && is_empty w.roots)
+
+-- the bytes of texts
+abbrev pub texts_of : List (String Global) → List (List ℕ)
+texts_of texts = map string_bytes texts
 
 -- the answer is the first file of those to come, and the rest is left; there is none where none is to come
 abbrev pub Advances : List KeptFile → List KeptFile → Option KeptFile → Type 0

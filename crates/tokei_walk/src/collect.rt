@@ -1,39 +1,38 @@
+//! All kept files at once.
 ghost use Rattle.std.specs.Prelude.{◌≡◌, ◌<◌, OnOk, IfOk};
-ghost use Rattle.tokei_walk.specs.Answers.{Told};
+ghost use Rattle.tokei_folders.specs.Answers.{Told};
 ghost use Rattle.tokei_walk.specs.Kept.{kept_in};
 ghost use Rattle.tokei_walk.specs.Notes.{Grows, notes_of_excludes};
-ghost use Rattle.tokei_walk.specs.Walks.{excludes_of};
+ghost use Rattle.tokei_walk.specs.Walks.{excludes_of, texts_of};
 
-use crate::fs::Folders;
 use crate::kept_file::{KeptFile, Note};
 use crate::levels::Rules;
-use crate::lists::Items;
-use crate::texts::Text;
 use crate::walking::Walk;
 use std::alloc::{AllocError, Global};
+use tokei_folders::{Folders, Items};
 
 /// The files that the ignore rules keep, and what was passed over.
 #[derive(Drop)]
 pub struct Kept {
-    pub files: Items<KeptFile>,
-    pub notes: Items<Note>,
+    pub files: Vec<KeptFile>,
+    pub notes: Vec<Note>,
 }
 
-#[tactic(auto, using(crate::proofs::Growing::grows_same, crate::proofs::Growing::grows_on))]
 /// All files that the ignore rules keep: the roots that are files, and those below a root, which a
-/// filter of all places keeps, in order of the roots and of the places. It is refused for want of
+/// filter of all places keeps, in order of the roots and of the places. It is refused out of
 /// memory alone.
+#[tactic(auto, using(crate::proofs::Growing::grows_same, crate::proofs::Growing::grows_on))]
 pub fn kept_files<F: Folders>(
     alloc: Global,
     folders: &mut F,
-    roots: &[Text],
-    excludes: &[Text],
+    roots: &[String],
+    excludes: &[String],
     rules: &Rules,
 ) -> Result<Kept, AllocError>
     ensures same { F.tree folders.new ≡ F.tree folders.old }
     ensures told { Told (F.tree folders.old) (λ t. IfOk result (λ k.
-        k.files ≡ kept_in (excludes_of excludes.now) rules.now t roots.now)) }
-    ensures notes { IfOk result (λ k. Grows (notes_of_excludes excludes.now) k.notes) }
+        k.files.items ≡ kept_in (excludes_of (texts_of excludes.now)) rules.now t (texts_of roots.now))) }
+    ensures notes { IfOk result (λ k. Grows (notes_of_excludes (texts_of excludes.now)) k.notes.items) }
     ensures honest { OnOk result (F.memory_faults folders.old < u64.MAX
         → F.memory_faults folders.new ≡ F.memory_faults folders.old) }
 {
@@ -43,7 +42,7 @@ pub fn kept_files<F: Folders>(
         files.push(file)?;
     }
     Ok(Kept {
-        files,
+        files: files.into_vec(),
         notes: walk.into_notes(),
     })
 }

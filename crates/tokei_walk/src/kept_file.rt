@@ -1,5 +1,6 @@
-use crate::lists::Items;
-use crate::texts::Text;
+//! Kept files, and notes of what was passed over.
+use tokei_folders::{Items, Text};
+
 
 /// A file that the ignore rules keep.
 #[derive(Drop)]

@@ -1,11 +1,11 @@
+//! What the rules of folders inside one another decide.
+use tokei_folders::{Items, Text};
+use tokei_ignore::{Pattern, Verdict, verdict_among};
+
 ghost use Rattle.std.specs.Prelude.{◌≡◌, None};
-ghost use Rattle.tokei_walk.specs.Ends.{without_first as rest_of, begins_with};
+ghost use Rattle.tokei_folders.specs.Ends.{without_first as rest_of, begins_with};
 ghost use Rattle.tokei_walk.specs.Levels.{patterns_from as level_patterns, decision as level_decision, repository as repository_of, decided as level_decided, is_excluded as excluded_by, drops_last};
 
-use crate::ignore_files::{Verdict, verdict_among};
-use crate::lists::Items;
-use crate::patterns::Pattern;
-use crate::texts::Text;
 
 /// Which rules of the walk apply.
 #[derive(Clone, Copy, Debug, PartialEq, Eq)]
@@ -106,8 +106,8 @@ fn repository<'a>(levels: &'a [Level], names: &'a [Text]) -> (&'a [Level], &'a [
     (found_levels, found_names)
 }
 
-#[tactic(auto, unfolding(crate::specs::Levels::decided))]
 /// What the ignore files decide about an entry.
+#[tactic(auto, unfolding(crate::specs::Levels::decided))]
 fn decided(levels: &[Level], names: &[Text], entered: bool) -> Option<Verdict>
     ensures { result ≡ level_decided levels.now names.now entered }
 {
@@ -140,8 +140,8 @@ fn begins_dotted(name: &str) -> bool
     }
 }
 
-#[tactic(auto, unfolding(crate::specs::Levels::drops_last))]
 /// Whether the entry that the context's names lead to is dropped; its own name is the last.
+#[tactic(auto, unfolding(crate::specs::Levels::drops_last))]
 pub fn is_dropped(
     excludes: &[Pattern],
     rules: &Rules,

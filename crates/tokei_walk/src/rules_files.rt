@@ -1,22 +1,20 @@
-ghost use Rattle.std.specs.Prelude.{◌≡◌, ◌<◌, ◌++◌, ◌&&◌, [], ◌∷◌, OnOk, OnErr, IfOk, cond, is_some, codes};
+//! The rules of a folder, read from its ignore files.
+ghost use Rattle.std.specs.Prelude.{◌≡◌, ◌<◌, ◌++◌, ◌&&◌, [], ◌∷◌, OnOk, OnErr, IfOk, option_map, cond, is_some, codes};
 ghost use Rattle.tokei_walk.specs.Notes.{Grows};
-ghost use Rattle.tokei_walk.specs.Answers.{Told, node_kind, node_content};
-ghost use Rattle.tokei_walk.specs.Tree.{names_of, node_at};
+ghost use Rattle.tokei_folders.specs.Answers.{Told, node_kind, node_content};
+ghost use Rattle.tokei_folders.specs.Tree.{names_of, node_at};
 ghost use Rattle.tokei_walk.specs.Levels.{patterns_at, level_at};
-ghost use Rattle.tokei_walk.specs.Descent.{joined as joined_places};
+ghost use Rattle.tokei_folders.specs.Places.{joined as joined_places};
 
-use crate::fs::{Fault, Folders, Kind};
-use crate::ignore_files::IgnoreFile;
 use crate::kept_file::{Note, NoteKind};
 use crate::levels::{Level, Rules};
-use crate::lists::Items;
-use crate::patterns::Pattern;
-use crate::places::joined;
-use crate::texts::Text;
 use std::alloc::{AllocError, Global};
+use tokei_folders::{Fault, Folders, Items, Kind, Text};
+use tokei_folders::places::joined;
+use tokei_ignore::{IgnoreFile, Pattern};
 
-#[tactic(auto, using(crate::proofs::Growing::grows_same, crate::proofs::Growing::grows_on))]
 /// Adds a note.
+#[tactic(auto, using(crate::proofs::Growing::grows_same, crate::proofs::Growing::grows_on))]
 pub fn note(
     alloc: Global,
     notes: &mut Items<Note>,
@@ -48,10 +46,10 @@ pub fn kind_at<F: Folders>(folders: &mut F, place: &str) -> Result<Option<Kind>,
 }
 
 /// The content of a file, where it can be read.
-fn content<F: Folders>(folders: &mut F, place: &str) -> Result<Option<Items<u8>>, AllocError>
+fn content<F: Folders>(folders: &mut F, place: &str) -> Result<Option<Vec<u8>>, AllocError>
     ensures same { F.tree folders.new ≡ F.tree folders.old }
     ensures told { Told (F.tree folders.old) (λ t. IfOk result
-        (λ c. c ≡ node_content (node_at t (names_of place.now)))) }
+        (λ c. option_map (λ v. v.items) c ≡ node_content (node_at t (names_of place.now)))) }
     ensures honest { OnOk result (F.memory_faults folders.old < u64.MAX
         → F.memory_faults folders.new ≡ F.memory_faults folders.old) }
 {
@@ -62,8 +60,8 @@ fn content<F: Folders>(folders: &mut F, place: &str) -> Result<Option<Items<u8>>
     }
 }
 
-#[tactic(auto, using(crate::proofs::Growing::grows_same, crate::proofs::Growing::grows_on))]
 /// The patterns of an ignore file, where it is there and can be read.
+#[tactic(auto, using(crate::proofs::Growing::grows_same, crate::proofs::Growing::grows_on))]
 fn patterns_of_file<F: Folders>(
     alloc: Global,
     folders: &mut F,
@@ -92,8 +90,8 @@ fn patterns_of_file<F: Folders>(
     Ok(file.patterns)
 }
 
-#[tactic(auto, using(crate::proofs::Growing::grows_same, crate::proofs::Growing::grows_on))]
 /// The patterns of the ignore file that a path leads to from a folder; none where it is off.
+#[tactic(auto, using(crate::proofs::Growing::grows_same, crate::proofs::Growing::grows_on))]
 fn patterns_of_name<F: Folders>(
     alloc: Global,
     folders: &mut F,
@@ -136,8 +134,8 @@ fn is_repository<F: Folders>(
     Ok(kind_at(folders, whole.as_str())?.is_some())
 }
 
-#[tactic(auto, using(crate::proofs::Growing::grows_same, crate::proofs::Growing::grows_on))]
 /// Reads the rules of a folder.
+#[tactic(auto, using(crate::proofs::Growing::grows_same, crate::proofs::Growing::grows_on))]
 pub fn read_level<F: Folders>(
     alloc: Global,
     folders: &mut F,

@@ -1,24 +1,24 @@
+//! The folders that are walked, and the way through them.
 ghost use Rattle.std.specs.Prelude.{◌≡◌, ◌<◌, ◌+◌, ◌-◌, ◌++◌, [], ◌∷◌, length, reverse, OnOk, OnSome, IfOk, MatchOption, Ok, Err, true, false};
 ghost use Rattle.std.specs.Bool.{MatchBool};
 ghost use Rattle.tokei_walk.specs.Notes.{Grows};
-ghost use Rattle.tokei_walk.specs.Answers.{Told, list_answer};
-ghost use Rattle.tokei_walk.specs.declared.fs.Fault.TheVariants.{Refused as RefusedFault};
-ghost use Rattle.tokei_walk.specs.Tree.{names_of};
+ghost use Rattle.tokei_folders.specs.Answers.{Told, list_answer};
+ghost use Rattle.tokei_folders.specs.declared.fs.Fault.TheVariants.{Refused as RefusedFault};
+ghost use Rattle.tokei_folders.specs.Tree.{names_of};
 ghost use Rattle.tokei_walk.specs.Levels.{drops, under};
 ghost use Rattle.tokei_walk.specs.Descent.{without_name};
+ghost use Rattle.tokei_walk.specs.Walks.{is_spent as spent};
 ghost use Rattle.tokei_walk.specs.Ranks.{weight, stack_rank, FoundFalls};
 ghost use Rattle.tokei_walk.specs.Stacks.{Pops, Leaves, Enters, EntersTold, StepTells, StepStays, NoneStays, NoneIsSame, file_kept, VisitTells, ExploreTells};
 
-use crate::fs::{Entry, Fault, Folders, Kind, Listing};
 use crate::kept_file::{KeptFile, Note, NoteKind};
 use crate::levels::{Context, Level, Rules, is_dropped};
-use crate::lists::Items;
-use crate::patterns::Pattern;
-use crate::places::joined;
 use crate::rules_files::{note, read_level};
-use crate::texts::Text;
 use std::alloc::{AllocError, Global};
 use std::mem;
+use tokei_folders::{Entry, Fault, Folders, Items, Kind, Listing, Text};
+use tokei_folders::places::joined;
+use tokei_ignore::Pattern;
 
 /// A folder that is entered and not yet left.
 #[derive(Drop)]
@@ -53,6 +53,15 @@ pub struct Settings {
     pub alloc: Global,
     pub rules: Rules,
     pub excludes: Items<Pattern>,
+}
+
+impl Stack {
+    /// Whether nothing is left.
+    pub fn is_spent(&self) -> bool
+        ensures { result ≡ spent self.now }
+    {
+        self.left.is_empty() && self.below.is_empty()
+    }
 }
 
 /// Takes the next entry of the walked folder.
@@ -133,7 +142,7 @@ pub fn listing<F: Folders>(folders: &mut F, place: &str) -> Result<Option<Listin
     ensures same { F.tree folders.new ≡ F.tree folders.old }
     ensures told { Told (F.tree folders.old) (λ t. IfOk result (λ o. MatchOption o
         (list_answer t (names_of place.now) ≡ Err RefusedFault)
-        (λ l. list_answer t (names_of place.now) ≡ Ok l.entries))) }
+        (λ l. list_answer t (names_of place.now) ≡ Ok l.entries.items))) }
     ensures honest { OnOk result (F.memory_faults folders.old < u64.MAX
         → F.memory_faults folders.new ≡ F.memory_faults folders.old) }
 {
@@ -144,8 +153,8 @@ pub fn listing<F: Folders>(folders: &mut F, place: &str) -> Result<Option<Listin
     }
 }
 
-#[tactic(auto, using(crate::proofs::Growing::grows_same))]
 /// Leaves a note where a folder has names that aren't UTF-8.
+#[tactic(auto, using(crate::proofs::Growing::grows_same))]
 pub fn note_unnamed(
     alloc: Global,
     notes: &mut Items<Note>,
@@ -160,8 +169,8 @@ pub fn note_unnamed(
     Ok(())
 }
 
-#[tactic(auto, using(crate::proofs::Growing::grows_same, crate::proofs::Growing::grows_on))]
 /// Walks another folder; whether it can be listed.
+#[tactic(auto, using(crate::proofs::Growing::grows_same, crate::proofs::Growing::grows_on))]
 pub fn enter<F: Folders>(
     settings: &Settings,
     folders: &mut F,
@@ -186,7 +195,7 @@ pub fn enter<F: Folders>(
     };
     note_unnamed(alloc, notes, &listing, place.as_str())?;
     let level = read_level(alloc, folders, notes, &settings.rules, place.as_str())?;
-    push_folder(stack, place, level, listing.entries)?;
+    push_folder(stack, place, level, Items::from_vec(listing.entries))?;
     Ok(true)
 }
 
@@ -209,9 +218,9 @@ fn push_folder(
     Ok(())
 }
 
-#[tactic(auto, using(crate::proofs::Growing::grows_same, crate::proofs::Growing::grows_on))]
 /// Explores the folder of an entry, whose name and place these are, and leaves it again where it
 /// gives no file.
+#[tactic(auto, using(crate::proofs::Growing::grows_same, crate::proofs::Growing::grows_on))]
 #[cycle(exploring)]
 fn visit<F: Folders>(
     settings: &Settings,
@@ -258,8 +267,8 @@ fn visit<F: Folders>(
     }
 }
 
-#[tactic(auto, using(crate::proofs::Growing::grows_same, crate::proofs::Growing::grows_on))]
 /// Meets the next entry of the walked folder.
+#[tactic(auto, using(crate::proofs::Growing::grows_same, crate::proofs::Growing::grows_on))]
 #[cycle(exploring)]
 fn meet_next<F: Folders>(
     settings: &Settings,
@@ -290,8 +299,8 @@ fn meet_next<F: Folders>(
     }
 }
 
-#[tactic(auto, using(crate::proofs::Growing::grows_same, crate::proofs::Growing::grows_on))]
 /// The next file below the walked folder, which stays where there is none.
+#[tactic(auto, using(crate::proofs::Growing::grows_same, crate::proofs::Growing::grows_on))]
 #[cycle(exploring)]
 pub fn explore<F: Folders>(
     settings: &Settings,

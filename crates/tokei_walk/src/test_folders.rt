@@ -1,10 +1,8 @@
 //! Folders for tests: some that are watched, and some that stand inside one another.
 ghost use Rattle.std.specs.Prelude.{◌≡◌};
 
-use crate::fs::{Above, Entry, Fault, Folders, Kind, Listing};
-use crate::lists::Items;
-use crate::texts::Text;
 use std::alloc::{AllocError, Global};
+use tokei_folders::{Above, Entry, Fault, Folders, Items, Kind, Listing, Text};
 
 /// Folders whose calls of `read` are counted, and which may hold names that aren't UTF-8.
 #[derive(Drop)]

@@ -1,13 +1,10 @@
 //! What the tests of the walk share: told trees, and the files and notes of a walk as one text.
 use crate::collect::kept_files;
-use crate::fs::{Fault, Folders};
 use crate::kept_file::{KeptFile, Note, NoteKind};
 use crate::levels::Rules;
-use crate::lists::Items;
-use crate::memory::MemoryFolders;
-use crate::texts::Text;
 use crate::walking::Walk;
 use std::alloc::{AllocError, Global};
+use tokei_folders::{Fault, Folders, Items, MemoryFolders, Text};
 
 /// All rules apply.
 pub const ALL: Rules = Rules {

@@ -1,13 +1,10 @@
 //! Trees whose kept files and notes a person wrote down, through `kept_files` and through a walk.
-use crate::failing::FailingFolders;
-use crate::fs::{Fault, Folders};
 use crate::levels::Rules;
-use crate::memory::MemoryFolders;
-use crate::nodes::Call;
 use crate::test_folders::{Nested, Watched};
 use crate::told_tests::{ALL, Row, begun, collected, push_file, told, walked};
 use std::alloc::{AllocError, Global};
 use std::test::Fail;
+use tokei_folders::{Call, FailingFolders, Fault, Folders, MemoryFolders};
 
 /// Both ways to ask for the kept files of a row answer what is wanted.
 fn is_kept<F: Folders>(alloc: Global, folders: &mut F, row: &Row) -> Result<bool, AllocError> {

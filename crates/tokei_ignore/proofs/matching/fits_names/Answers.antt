@@ -1,14 +1,8 @@
-use Rattle.std.proofs.Common.{sym, ap, ◌∙◌}
-use Rattle.tokei_ignore.specs.Segments.{spans_names, fits_name}
-use Rattle.tokei_ignore.proofs.Spans.{fits-reach, by_reach}
+use Rattle.std.proofs.Common.{◌≡◌, List, sym, ap, ◌∙◌}
+use Rattle.tokei_ignore.specs.declared.pieces.Segment.{Segment}
+use Rattle.tokei_ignore.specs.Segments.{fits_names}
+use Rattle.tokei_ignore.proofs.LastNames.{fits_last}
 use Rattle.tokei_ignore.proofs.matching.fits_names.Goals as goal
 
-pub returns-in-Fails : goal.returns-in-Fails
-returns-in-Fails c = sym (fits-reach spans_names fits_name c.args.segments.now c.args.names.now ∙ ap (by_reach spans_names fits_name) (sym c.in-Fails.ensures))
-
-pub returns-in-Done : goal.returns-in-Done
-returns-in-Done c = sym (fits-reach spans_names fits_name c.args.segments.now c.args.names.now ∙ ap (by_reach spans_names fits_name) (sym c.in-Done.ensures))
-
-pub returns-in-AtSpan : goal.returns-in-AtSpan
-returns-in-AtSpan c =
-    c.fits_some_later.ensures ∙ sym (fits-reach spans_names fits_name c.args.segments.now c.args.names.now ∙ ap (by_reach spans_names fits_name) (sym c.in-AtSpan.ensures))
+pub returns-in-Some : goal.returns-in-Some
+returns-in-Some c = c.fits_last_name.ensures ∙ sym (ap (λ (ss : List Segment). fits_names ss c.args.names.now) c.in-Some.ensures ∙ fits_last c.in-Some.pieces.now c.args.names.now)

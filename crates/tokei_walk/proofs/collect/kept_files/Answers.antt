@@ -2,7 +2,7 @@ use Rattle.std.proofs.Common.{◌++◌, refl, List, Option, ◌∙◌, sym, ap, 
 use Rattle.tokei_walk.specs.declared.kept_file.KeptFile.{KeptFile}
 use Rattle.tokei_walk.specs.Walks.{to_come, Advances}
 use Rattle.tokei_walk.proofs.Growing.{grows_on, grows_same}
-use Rattle.tokei_walk.proofs.Roots.{more, sound_of}
+use Rattle.tokei_walk.proofs.RootSteps.{more, sound_of}
 use Rattle.tokei_walk.proofs.collect.kept_files.Goals as goal
 
 pub loop-files-preserved : goal.loop-files-preserved
@@ -20,7 +20,7 @@ pub returns-clause-told : goal.returns-clause-told
 returns-clause-told g c = λ t e.
     let inv = c.loop-files.invariant in
     let none = subst (λ (o : Option KeptFile). Advances (to_come t c.loop-files.walk) (to_come t c.next.new.self) o) c.in_default.is (c.in_ok-file.ensures.told t (inv.same ∙ e)) in
-    sym (append-nil c.loop-files.files) ∙ ap (λ (x : List KeptFile). c.loop-files.files ++ x) (sym none) ∙ inv.told t e
+    c.into_vec.ensures ∙ sym (append-nil c.loop-files.files) ∙ ap (λ (x : List KeptFile). c.loop-files.files ++ x) (sym none) ∙ inv.told t e
     ∙ c.in_ok-walk.ensures.comes t (sound_of (g.F.Folders.tree c.args.folders.now) t (g.met.F.Folders.sound c.args.folders.now) e)
 
 pub loop-files-init : goal.loop-files-init

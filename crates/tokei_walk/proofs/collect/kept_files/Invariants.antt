@@ -1,6 +1,7 @@
 use Rattle.std.proofs.Common.{◌≡◌, ◌++◌, ◌<◌, ◌-◌, ◌^◌, length}
-use Rattle.tokei_walk.specs.Answers.{Told}
+use Rattle.tokei_folders.specs.Answers.{Told}
 use Rattle.tokei_walk.specs.Notes.{Grows, notes_of}
+use Rattle.tokei_walk.specs.Ranks.{rank}
 use Rattle.tokei_walk.specs.Walks.{to_come}
 use Rattle.tokei_walk.proofs.collect.kept_files.Given as goal
 
@@ -12,6 +13,5 @@ invariant-loop-files g l = record {
   told : Told (g.F.Folders.tree l.initial.folders) (λ t. l.files ++ to_come t l.walk ≡ to_come t l.initial.walk);
 }
 
--- a list holds no more items than the greatest `usize`
 abbrev pub decreases-loop-files : goal.decreases-loop-files
-decreases-loop-files g l = 2 ^ 64 - 1 - length l.files
+decreases-loop-files g l = rank l.walk

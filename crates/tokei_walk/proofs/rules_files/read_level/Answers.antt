@@ -1,6 +1,6 @@
 use Rattle.std.proofs.Common.{◌∙◌}
-use Rattle.tokei_walk.specs.Tree.{names_of}
-use Rattle.tokei_walk.proofs.Joining.{level_told}
+use Rattle.tokei_folders.specs.Tree.{names_of}
+use Rattle.tokei_walk.proofs.RuleFiles.{level_told}
 use Rattle.tokei_walk.proofs.rules_files.read_level.Goals as goal
 
 pub returns-clause-told : goal.returns-clause-told

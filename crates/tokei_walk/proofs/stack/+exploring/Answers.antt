@@ -1,15 +1,15 @@
 use Rattle.std.proofs.Common.{◌≡◌, ◌+◌, ◌-◌, ◌++◌, ◌≤◌, ◌<◌, List, length, reverse, Bool, Option, OnSome, Err, sym, ap, ◌∙◌, arith, subst, rules}
 use Rattle.std.specs.Bool.{MatchBool}
-use Rattle.tokei_walk.specs.declared.fs.Fault.TheVariants.{Refused}
+use Rattle.tokei_folders.specs.declared.fs.Fault.TheVariants.{Refused}
 use Rattle.tokei_walk.specs.declared.kept_file.KeptFile.{KeptFile}
 use Rattle.tokei_walk.specs.declared.stack.Item.{Item}
-use Rattle.tokei_walk.specs.Answers.{list_answer}
+use Rattle.tokei_folders.specs.Answers.{list_answer}
 use Rattle.tokei_walk.specs.Descent.{of_stack}
 use Rattle.tokei_walk.specs.declared.stack.Stack.{Stack}
 use Rattle.tokei_walk.specs.declared.stack.Step.{Step}
 use Rattle.tokei_walk.specs.Ranks.{weight, stack_rank}
 use Rattle.tokei_walk.specs.Stacks.{Pops, EntersTold, VisitTells, ExploreTells, NoneIsSame, NoneStays, StepStays, StepTells}
-use Rattle.tokei_walk.specs.Tree.{names_of}
+use Rattle.tokei_folders.specs.Tree.{names_of}
 use Rattle.tokei_walk.proofs.StackSteps.{with_context, forgotten_stack, refused_stack, top_ends, tells_other, file_told, tells_folder_some, tells_folder_none, visit_deep, visit_refused, visit_entered, stack_entered, visit_left}
 use Rattle.tokei_walk.proofs.Growing.{grows_on}
 use Rattle.tokei_walk.proofs.Ranking.{popped, entered_rank, stays_rank, file_falls}

@@ -1,5 +1,5 @@
 use Rattle.std.proofs.Common.{◌≡◌, ◌+◌, ◌-◌, ◌*◌, ◌<◌, ◌≤◌, ◌^◌, length}
-use Rattle.tokei_walk.specs.Answers.{Told}
+use Rattle.tokei_folders.specs.Answers.{Told}
 use Rattle.tokei_walk.specs.Notes.{Grows}
 use Rattle.tokei_walk.specs.Descent.{of_top}
 use Rattle.tokei_walk.specs.Stacks.{Stays}

@@ -1,6 +1,6 @@
 use Rattle.std.proofs.Common.{ℕ, List, ap, ◌∙◌}
 use Rattle.tokei_walk.specs.declared.levels.Context.{Context}
-use Rattle.tokei_walk.specs.declared.patterns.Pattern.{Pattern}
+use Rattle.tokei_ignore.specs.declared.patterns.Pattern.{Pattern}
 use Rattle.tokei_walk.specs.Levels.{drops_last}
 use Rattle.tokei_walk.proofs.stack.consider.Goals as goal
 

@@ -1,6 +1,6 @@
 use Rattle.std.proofs.Common.{refl, ap, ◌∙◌, rules, arith, length}
-use Rattle.tokei_walk.specs.Ends.{without_last}
-use Rattle.tokei_walk.proofs.LineEnds.{without_last-push}
+use Rattle.tokei_folders.specs.Ends.{without_last}
+use Rattle.tokei_folders.proofs.ListEnds.{without_last-push}
 use Rattle.tokei_walk.proofs.stack.push_folder.Goals as goal
 
 pub returns-clause-entered : goal.returns-clause-entered

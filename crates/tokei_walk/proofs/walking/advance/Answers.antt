@@ -7,7 +7,7 @@ use Rattle.tokei_walk.specs.Stacks.{Leaves, NoneStays, ExploreTells}
 use Rattle.tokei_walk.specs.Walks.{of_roots, RootGives}
 use Rattle.tokei_walk.proofs.Growing.{grows_on}
 use Rattle.tokei_walk.proofs.Ranking.{explored_rank, left_rank, all_falls, all_stays, root_falls}
-use Rattle.tokei_walk.proofs.Roots.{explored_none, all_ended, root_begins}
+use Rattle.tokei_walk.proofs.RootSteps.{explored_none, all_ended, root_begins}
 use Rattle.tokei_walk.proofs.StackSteps.{left_gives, top_ends}
 use Rattle.tokei_walk.proofs.walking.advance.Goals as goal
 

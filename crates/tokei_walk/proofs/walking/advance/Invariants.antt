@@ -1,5 +1,5 @@
 use Rattle.std.proofs.Common.{◌≡◌, ◌+◌, ◌<◌, ◌≤◌, ◌-◌, ◌^◌, length}
-use Rattle.tokei_walk.specs.Answers.{Told}
+use Rattle.tokei_folders.specs.Answers.{Told}
 use Rattle.tokei_walk.specs.Notes.{Grows}
 use Rattle.tokei_walk.specs.Ranks.{all_rank}
 use Rattle.tokei_walk.specs.Walks.{of_all}

@@ -1,22 +1,36 @@
-use Rattle.std.proofs.Common.{refl, ◌∙◌}
+use Rattle.std.proofs.Common.{refl, sym, ◌∙◌}
 use Rattle.tokei_walk.specs.Notes.{notes_of}
 use Rattle.tokei_walk.specs.Ranks.{rank}
-use Rattle.tokei_walk.proofs.Roots.{to_come_left, to_come_failed, all_ended, advances_by}
+use Rattle.tokei_walk.specs.Walks.{has_failed}
+use Rattle.tokei_walk.proofs.Over.{over_gives, not_failed, spent_over}
+use Rattle.tokei_walk.proofs.RootSteps.{to_come_left, all_ended, advances_by}
 use Rattle.tokei_walk.proofs.walking.Walk.next.Goals as goal
 
-pub returns-then-self-clause-told : goal.returns-then-self-clause-told
-returns-then-self-clause-told g c = λ t e. to_come_failed t c.args.self.now c.if-self.true
+pub returns-then-is_over-clause-told : goal.returns-then-is_over-clause-told
+returns-then-is_over-clause-told g c = λ t e. over_gives t c.args.self.now (sym c.is_over.ensures ∙ c.if-is_over.true)
 
-pub returns-then-self-clause-ended : goal.returns-then-self-clause-ended
-returns-then-self-clause-ended g c = λ q t. to_come_failed t c.args.self.now c.if-self.true
+pub returns-then-is_over-clause-ended : goal.returns-then-is_over-clause-ended
+returns-then-is_over-clause-ended g c = λ q t. over_gives t c.args.self.now (sym c.is_over.ensures ∙ c.if-is_over.true)
 
 pub returns-clause-told : goal.returns-clause-told
-returns-clause-told g c = λ t e. advances_by _ _ _ _ c.in_ok-found.found (to_come_left t c.args.self.now c.if-self.false) (to_come_left t _ refl) (c.in_ok-found.ensures.told t e)
+returns-clause-told g c = λ t e.
+    advances_by _ _ _ _ c.in_ok-found.found (to_come_left t c.args.self.now (not_failed c.args.self.now (sym c.is_over.ensures ∙ c.if-is_over.false))) (to_come_left t _ refl) (c.in_ok-found.ensures.told t e)
 
 pub returns-clause-ended : goal.returns-clause-ended
 returns-clause-ended g c = λ q t.
     let ends = c.in_ok-found.ensures.ended q in
     to_come_left t _ refl ∙ all_ended _ _ t _ _ ends.0 ends.1 ends.2
+
+pub returns-clause-over : goal.returns-clause-over
+returns-clause-over g c = λ q. let ends = c.in_ok-found.ensures.ended q in spent_over _ ends.0 ends.1 ends.2
+
+pub returns-clause-stays : goal.returns-clause-stays
+unfolding has_failed
+returns-clause-stays g c = sym (not_failed c.args.self.now (sym c.is_over.ensures ∙ c.if-is_over.false))
+
+pub returns-clause-failed : goal.returns-clause-failed
+unfolding has_failed
+returns-clause-failed g c = λ h. let live = not_failed c.args.self.now (sym c.is_over.ensures ∙ c.if-is_over.false) in absurd (cc)
 
 pub returns-in_err-found-clause-notes : goal.returns-in_err-found-clause-notes
 unfolding notes_of
@@ -29,3 +43,7 @@ returns-clause-notes g c = c.in_ok-found.ensures.notes
 pub returns-clause-fewer : goal.returns-clause-fewer
 unfolding rank
 returns-clause-fewer g c = c.in_ok-found.ensures.fewer
+
+pub returns-in_err-found-clause-failed : goal.returns-in_err-found-clause-failed
+unfolding has_failed
+returns-in_err-found-clause-failed g c = λ h. let live = not_failed c.args.self.now (sym c.is_over.ensures ∙ c.if-is_over.false) in absurd (cc)

@@ -1,0 +1,40 @@
+-- The rules of a folder, by the ignore files at its joined places.
+use Rattle.std.proofs.Common.{◌≡◌, ℕ, ◌&&◌, codes, List, [], ◌∷◌, ◌++◌, Bool, true, cond, Option, Some, None, is_some, Result, refl, sym, ap, ◌∙◌, subst, IfOk}
+use Rattle.tokei_folders.specs.declared.nodes.Node.{Node}
+use Rattle.tokei_folders.specs.Places.{joined}
+use Rattle.tokei_folders.specs.Answers.{node_kind}
+use Rattle.tokei_folders.specs.Tree.{Names, Tree, node_at, names_of}
+use Rattle.tokei_folders.proofs.Joining.{names_of-joined}
+use Rattle.tokei_walk.specs.Levels.{level_at, ignore_file_at, has_git, patterns_at}
+use Rattle.tokei_walk.specs.declared.levels.Level.{Level}
+use Rattle.tokei_walk.specs.declared.levels.Rules.{Rules}
+use Rattle.tokei_ignore.specs.declared.patterns.Pattern.{Pattern}
+
+-- what is told of a joined place is told of the names
+pub told_of_joined : {X E : Type 0} (r : Result X E) (f : Names → X) (on : Bool) (none : X) (w p n : List ℕ) → on ≡ true → w ≡ joined p n → IfOk r (λ x. x ≡ f (names_of w)) → IfOk r (λ x. x ≡ cond on (f (names_of p ++ names_of n)) none)
+told_of_joined r f on none w p n is_on is h =
+    let same = ap names_of is ∙ names_of-joined p n in
+    let q : f (names_of w) ≡ cond on (f (names_of p ++ names_of n)) none = ap f same ∙ sym (ap (λ b. cond b (f (names_of p ++ names_of n)) none) is_on) in
+    subst (λ (y : _). IfOk r (λ x. x ≡ y)) q h
+
+-- a kind stands exactly where a node does
+pub some_kind : (o : Option Node) → is_some (node_kind o) ≡ is_some o
+some_kind None = refl
+some_kind (Some n) = refl
+
+level_of : List Pattern → List Pattern → List Pattern → List Pattern → Bool → Level
+level_of a b c d g = record { tokeignore = a; ignore = b; gitignore = c; git_exclude = d; git = g }
+
+same_level : {a a' b b' c c' d d' : List Pattern} {g g' : Bool} → a ≡ a' → b ≡ b' → c ≡ c' → d ≡ d' → g ≡ g' → level_of a b c d g ≡ level_of a' b' c' d' g'
+same_level ea eb ec ed eg = λ i. level_of (ea i) (eb i) (ec i) (ed i) (eg i)
+
+-- the rules of a folder, file by file
+pub level_told : (t : Tree) (r : Rules) (p : Names) (a b c d : List Pattern) (g : Bool) → g ≡ (r.git && is_some (node_at t (p ++ names_of (codes ".git"))))
+    → a ≡ cond r.dot (patterns_at (node_at t (p ++ names_of (codes ".tokeignore")))) []
+    → b ≡ cond r.dot (patterns_at (node_at t (p ++ names_of (codes ".ignore")))) []
+    → c ≡ cond r.git (patterns_at (node_at t (p ++ names_of (codes ".gitignore")))) []
+    → d ≡ cond g (patterns_at (node_at t (p ++ names_of (codes ".git/info/exclude")))) []
+    → record { tokeignore = a; ignore = b; gitignore = c; git_exclude = d; git = g } ≡ level_at t r p
+unfolding level_of level_at ignore_file_at has_git names_of
+level_told t r p a b c d g eg ea eb ec ed =
+    same_level ea eb ec (ed ∙ ap (λ (x : Bool). cond x (patterns_at (node_at t (p ++ codes ".git" ∷ codes "info" ∷ codes "exclude" ∷ []))) []) eg) eg

@@ -1,9 +1,0 @@
-use Rattle.std.proofs.Common.{◌≡◌, length}
-use Rattle.tokei_walk.specs.IgnoreFiles.{last_fitting}
-use Rattle.tokei_walk.proofs.ignore_files.verdict_among.Given as goal
-
-abbrev pub invariant-loop-pattern : goal.invariant-loop-pattern
-invariant-loop-pattern l = last_fitting l.left l.names l.folder ≡ last_fitting l.patterns l.names l.folder
-
-abbrev pub decreases-loop-pattern : goal.decreases-loop-pattern
-decreases-loop-pattern l = length l.left

@@ -1,0 +1,91 @@
+//! The folders above a root, and what their rules decide.
+ghost use Rattle.std.specs.Prelude.{◌≡◌, ◌<◌, ◌++◌, [], reverse, map, OnOk, IfOk};
+ghost use Rattle.tokei_folders.specs.Answers.{Told, above_view};
+ghost use Rattle.tokei_folders.specs.Tree.{names_of, folders_above};
+ghost use Rattle.tokei_walk.specs.Descent.{root_context};
+ghost use Rattle.tokei_walk.specs.Notes.{Grows};
+ghost use Rattle.tokei_walk.specs.Walks.{names_over, levels_over};
+
+use crate::kept_file::Note;
+use crate::levels::Context;
+use crate::rules_files::read_level;
+use crate::stack::Settings;
+use std::alloc::{AllocError, Global};
+use tokei_folders::names::names;
+use tokei_folders::{Above, Fault, Folders, Items};
+
+/// The folders above a place, nearest first; none where they can't be told.
+fn folders_over<F: Folders>(
+    alloc: Global,
+    folders: &mut F,
+    place: &str,
+) -> Result<Items<Above>, AllocError>
+    ensures same { F.tree folders.new ≡ F.tree folders.old }
+    ensures told { Told (F.tree folders.old) (λ t. IfOk result (λ found.
+        map above_view (reverse found) ≡ folders_above [] (names_of place.now))) }
+    ensures honest { OnOk result (F.memory_faults folders.old < u64.MAX
+        → F.memory_faults folders.new ≡ F.memory_faults folders.old) }
+{
+    match folders.above(place) {
+        Ok(found) => Ok(Items::from_vec(found)),
+        Err(Fault::Refused) => Ok(Items::new(alloc)),
+        Err(Fault::Memory) => Err(AllocError),
+    }
+}
+
+/// Reads the rules of the folders above, from the top down, with the names that lead down.
+#[tactic(auto, using(crate::proofs::Growing::grows_same, crate::proofs::Growing::grows_on))]
+fn read_over<F: Folders>(
+    settings: &Settings,
+    folders: &mut F,
+    notes: &mut Items<Note>,
+    mut found: Items<Above>,
+    context: &mut Context,
+) -> Result<(), AllocError>
+    ensures same { F.tree folders.new ≡ F.tree folders.old }
+    ensures notes { Grows notes.old notes.new }
+    ensures shown { OnOk result (context.new.shown ≡ context.old.shown) }
+    ensures names { OnOk result (context.new.names ≡ context.old.names ++ names_over found) }
+    ensures levels { Told (F.tree folders.old) (λ t. OnOk result (context.new.levels
+        ≡ context.old.levels ++ levels_over t settings.now.rules found)) }
+    ensures honest { OnOk result (F.memory_faults folders.old < u64.MAX
+        → F.memory_faults folders.new ≡ F.memory_faults folders.old) }
+{
+    while let Some(above) = found.pop() {
+        let place = above.place.as_str();
+        let level = read_level(settings.alloc, folders, notes, &settings.rules, place)?;
+        context.levels.push(level)?;
+        context.names.push(above.name)?;
+    }
+    Ok(())
+}
+
+/// The context of a root's entries, but for the rules of the root itself.
+#[tactic(auto, using(crate::proofs::Growing::grows_same, crate::proofs::Growing::grows_on))]
+pub fn context_of_root<F: Folders>(
+    settings: &Settings,
+    folders: &mut F,
+    notes: &mut Items<Note>,
+    root: &str,
+) -> Result<Context, AllocError>
+    ensures same { F.tree folders.new ≡ F.tree folders.old }
+    ensures notes { Grows notes.old notes.new }
+    ensures told { Told (F.tree folders.old) (λ t. IfOk result
+        (λ c. c ≡ root_context t settings.now.rules (names_of root.now))) }
+    ensures honest { OnOk result (F.memory_faults folders.old < u64.MAX
+        → F.memory_faults folders.new ≡ F.memory_faults folders.old) }
+{
+    let alloc = settings.alloc;
+    let shown = names(alloc, root)?;
+    let mut context = Context {
+        levels: Items::new(alloc),
+        names: Items::new(alloc),
+        shown,
+    };
+    if !settings.rules.parents {
+        return Ok(context);
+    }
+    let found = folders_over(alloc, folders, root)?;
+    read_over(settings, folders, notes, found, &mut context)?;
+    Ok(context)
+}

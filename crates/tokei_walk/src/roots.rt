@@ -1,0 +1,117 @@
+//! The beginning of a root.
+ghost use Rattle.std.specs.Prelude.{◌≡◌, ◌<◌, ◌≤◌, ◌+◌, [], length, OnOk, IfOk};
+ghost use Rattle.tokei_folders.specs.Answers.{Told};
+ghost use Rattle.tokei_folders.specs.Tree.{names_of};
+ghost use Rattle.tokei_ignore.specs.Fits.{is_empty};
+ghost use Rattle.tokei_walk.specs.Descent.{root_context, of_root, of_stack, descend};
+ghost use Rattle.tokei_walk.specs.Notes.{Grows};
+ghost use Rattle.tokei_walk.specs.Ranks.{weight, stack_rank};
+ghost use Rattle.tokei_walk.specs.Walks.{RootGives, texts_of};
+
+use crate::kept_file::{KeptFile, Note, NoteKind};
+use crate::parents::context_of_root;
+use crate::rules_files::{kind_at, note, read_level};
+use crate::stack::{Settings, Stack, listing, note_unnamed};
+use std::alloc::{AllocError, Global};
+use tokei_folders::{Folders, Items, Kind, Text};
+
+/// A copy of the roots.
+pub fn copied_roots(alloc: Global, roots: &[String]) -> Result<Items<Text>, AllocError>
+    ensures { IfOk result (λ rs. rs ≡ texts_of roots.now) }
+{
+    let mut copies = Items::new(alloc);
+    for root in roots {
+        copies.push(Text::from_str(alloc, root.as_str())?)?;
+    }
+    Ok(copies)
+}
+
+/// Walks a root that is a folder.
+#[tactic(auto, using(crate::proofs::Growing::grows_same, crate::proofs::Growing::grows_on))]
+fn enter_root<F: Folders>(
+    settings: &Settings,
+    folders: &mut F,
+    notes: &mut Items<Note>,
+    stack: &mut Stack,
+    root: Text,
+) -> Result<(), AllocError>
+    ensures same { F.tree folders.new ≡ F.tree folders.old }
+    ensures notes { Grows notes.old notes.new }
+    ensures below { OnOk result (length stack.new.below ≤ length stack.old.below) }
+    ensures bounded { OnOk result (stack_rank stack.new < stack_rank stack.old + weight 257) }
+    ensures told { Told (F.tree folders.old) (λ t. OnOk result
+        (stack.old.left ≡ [] → stack.old.below ≡ [] →
+        descend settings.now.excludes settings.now.rules t 257
+        (root_context t settings.now.rules (names_of root)) root
+        ≡ of_stack settings.now.excludes settings.now.rules t stack.new)) }
+    ensures honest { OnOk result (F.memory_faults folders.old < u64.MAX
+        → F.memory_faults folders.new ≡ F.memory_faults folders.old) }
+{
+    let alloc = settings.alloc;
+    let listing = match listing(folders, root.as_str())? {
+        Some(listing) => listing,
+        None => return note(alloc, notes, NoteKind::Unlisted, root.as_str()),
+    };
+    note_unnamed(alloc, notes, &listing, root.as_str())?;
+    let mut context = context_of_root(settings, folders, notes, root.as_str())?;
+    let level = read_level(alloc, folders, notes, &settings.rules, root.as_str())?;
+    context.levels.push(level)?;
+    let mut left = Items::from_vec(listing.entries);
+    left.reverse();
+    stack.context = context;
+    stack.place = root;
+    stack.left = left;
+    stack.below.clear();
+    Ok(())
+}
+
+fn is_blank(text: &Text) -> bool
+    ensures { result ≡ is_empty text.now }
+{
+    match text.as_str().as_bytes() {
+        [] => true,
+        _ => false,
+    }
+}
+
+/// Begins a root: a file is answered, a folder is walked.
+#[tactic(auto, using(crate::proofs::Growing::grows_same, crate::proofs::Growing::grows_on))]
+pub fn begin_root<F: Folders>(
+    settings: &Settings,
+    folders: &mut F,
+    notes: &mut Items<Note>,
+    stack: &mut Stack,
+    root: Text,
+) -> Result<Option<KeptFile>, AllocError>
+    ensures same { F.tree folders.new ≡ F.tree folders.old }
+    ensures notes { Grows notes.old notes.new }
+    ensures below { OnOk result (length stack.new.below ≤ length stack.old.below) }
+    ensures bounded { OnOk result (stack_rank stack.new < stack_rank stack.old + weight 257) }
+    ensures told { Told (F.tree folders.old) (λ t. IfOk result (λ o.
+        stack.old.left ≡ [] → stack.old.below ≡ [] → RootGives
+        (of_root settings.now.excludes settings.now.rules t root)
+        (of_stack settings.now.excludes settings.now.rules t stack.new) o)) }
+    ensures honest { OnOk result (F.memory_faults folders.old < u64.MAX
+        → F.memory_faults folders.new ≡ F.memory_faults folders.old) }
+{
+    let alloc = settings.alloc;
+    if is_blank(&root) {
+        note(alloc, notes, NoteKind::MissingRoot, root.as_str())?;
+        return Ok(None);
+    }
+    match kind_at(folders, root.as_str())? {
+        None => {
+            note(alloc, notes, NoteKind::MissingRoot, root.as_str())?;
+            Ok(None)
+        }
+        Some(Kind::File) => {
+            let path = Text::from_str(alloc, root.as_str())?;
+            Ok(Some(KeptFile { path, place: root }))
+        }
+        Some(Kind::Folder) => {
+            enter_root(settings, folders, notes, stack, root)?;
+            Ok(None)
+        }
+        Some(Kind::Other) => Ok(None),
+    }
+}
