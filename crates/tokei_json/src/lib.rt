@@ -1,0 +1,4 @@
+//! Languages as a JSON document.
+#![tactic(auto)]
+
+mod write;
