@@ -1,1 +1,5 @@
 pub mod Document
+pub mod LanguageMaps
+pub mod Layout
+pub mod Outcome
+pub mod Reading
