@@ -1,1 +1,3 @@
 pub mod Insertions
+pub mod Members
+pub mod NoFloats

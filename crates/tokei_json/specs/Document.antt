@@ -2,6 +2,7 @@
 use Rattle.std.specs.Prelude.{ℕ, List, [], ◌∷◌, codes, map}
 use Rattle.serde_json.specs.Data.{Data, unsigned, boolean, number, string, array, object, Members, no_members, member, put}
 use Rattle.serde_json.specs.View.{items_of}
+use Rattle.tokei_languages.specs.Summaries.{total_of}
 use Rattle.tokei_languages.specs.Values.{ReportValue, LanguageValue}
 use Rattle.tokei_stats.specs.Statistics.{Statistics, Blobs}
 use Rattle.tokei_stats.specs.Statistics.Statistics.{node}
@@ -53,5 +54,7 @@ language_data rows l = object
     (member (codes "reports") (reports_data rows l.reports) no_members))))))
 
 -- languages beside their total
-abbrev pub document_with : List Row → LanguageValue → List (ℕ × LanguageValue) → Data
-document_with rows total es = object (put (codes "Total") (language_data rows total) (named_data rows (language_data rows) es no_members))
+unfoldable pub document : List Row → List (ℕ × LanguageValue) → Data
+document rows es = object
+    (put (codes "Total") (language_data rows (total_of es))
+    (named_data rows (language_data rows) es no_members))

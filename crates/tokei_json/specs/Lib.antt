@@ -1,4 +1,5 @@
 pub mod Document
+pub mod Formats
 pub mod LanguageMaps
 pub mod Layout
 pub mod Outcome

@@ -77,9 +77,7 @@ fn is_truth_value(member: Option<&Value>) -> bool
 fn has_counts(value: &Value) -> bool
     ensures { result ≡ has_counts (view value.now) }
 {
-    is_count(value.get("blanks"))
-        && is_count(value.get("code"))
-        && is_count(value.get("comments"))
+    is_count(value.get("blanks")) && is_count(value.get("code")) && is_count(value.get("comments"))
 }
 
 #[cycle(statistics)]

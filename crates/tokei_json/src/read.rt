@@ -94,7 +94,11 @@ fn blobs_of_members(
     let mut blobs = BTreeMap::new(alloc);
     for (name, member) in members.iter() {
         let stats = statistics_in(alloc, table, member)?;
-        put_blob(&mut blobs, LanguageType::from_name(table, name.as_str()), stats)?;
+        put_blob(
+            &mut blobs,
+            LanguageType::from_name(table, name.as_str()),
+            stats,
+        )?;
     }
     Ok(blobs)
 }
@@ -198,7 +202,11 @@ fn with_children(
     let mut children = BTreeMap::new(alloc);
     for (name, member) in members.iter() {
         let reports = reports_in(alloc, table, Some(member))?;
-        put_children(&mut children, LanguageType::from_name(table, name.as_str()), reports)?;
+        put_children(
+            &mut children,
+            LanguageType::from_name(table, name.as_str()),
+            reports,
+        )?;
     }
     Ok(children)
 }
@@ -270,7 +278,11 @@ fn with_languages(
     let mut languages = Languages::new(alloc);
     for (name, member) in members.iter() {
         let value = language_in(alloc, table, member)?;
-        put_language(&mut languages, LanguageType::from_name(table, name.as_str()), value)?;
+        put_language(
+            &mut languages,
+            LanguageType::from_name(table, name.as_str()),
+            value,
+        )?;
     }
     Ok(languages)
 }

@@ -1,4 +1,4 @@
-use Rattle.std.proofs.Common.{◌∙◌, ap, sym, refl}
+use Rattle.std.proofs.Common.{◌∙◌, ap, sym}
 use Rattle.tokei_json.specs.Reading.{put_blob}
 use Rattle.tokei_stats.specs.Seen.{blobs_of, entries_of, stats_of}
 use Rattle.tokei_json.proofs.Insertions.{insert_blob}

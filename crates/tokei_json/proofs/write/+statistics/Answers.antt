@@ -14,7 +14,7 @@ blobs_value-loop-language-preserved t c =
     let named : string_bytes c.in_ok-name.name ≡ name_of rows c.in-Some.language.now = search rules in
     let seen : view c.in_ok-value.value ≡ statistics_data rows (stats_of c.in-Some.stats.now) = c.in_ok-value.ensures in
     let put_here : members_view c.insert.new.self.entries
-        ≡ put (name_of rows c.in-Some.language.now) (statistics_data rows (stats_of c.in-Some.stats.now)) (members_view l.members.entries) =
+    ≡ put (name_of rows c.in-Some.language.now) (statistics_data rows (stats_of c.in-Some.stats.now)) (members_view l.members.entries) =
     ap members_view c.in_ok-insert.ensures.entries ∙ members_view-insert_entry l.members.entries c.in_ok-name.name c.in_ok-value.value ∙ rw (named, seen) refl in
     l.invariant
     ∙ ap (λ es. blobs_data rows (blobs_of (entries_of es)) (members_view l.members.entries)) c.in-Some.ensures.steps
