@@ -1,0 +1,71 @@
+-- The settings of a configuration file.
+use Rattle.std.specs.Prelude.{ℕ, List, Bool, ◌&&◌, Option, Some, None, is_some, unwrap_or, if◌then◌else◌, codes}
+use Rattle.toml.specs.Data.{Members, get_member, as_bool}
+use Rattle.toml.specs.Parse.{parse_document}
+use Rattle.tokei_config.specs.Settings.{Settings, empty}
+use Rattle.tokei_config.specs.Members.{optional, as_count, as_sort, as_languages}
+use Rattle.tokei_config.specs.Languages.{as_additions}
+use Rattle.tokei_options.specs.declared.sort.Sort.{Sort}
+use Rattle.tokei_table.specs.Row.{Row}
+
+-- A member that is missing, or that can't be read, is none.
+abbrev pub readable : {X : Type 0} → Option (Option X) → Option X
+readable found = unwrap_or found None
+
+abbrev pub flag : List ℕ → Members → Option (Option Bool)
+flag key ms = optional as_bool (get_member key ms)
+
+-- Each member, where it is there; `types` and `languages` name languages of the table.
+abbrev pub columns_in : Members → Option (Option ℕ)
+columns_in ms = optional as_count (get_member (codes "columns") ms)
+
+abbrev pub sort_in : Members → Option (Option Sort)
+sort_in ms = optional as_sort (get_member (codes "sort") ms)
+
+abbrev pub types_in : List Row → Members → Option (Option (List ℕ))
+types_in rows ms = optional (as_languages rows) (get_member (codes "types") ms)
+
+abbrev pub languages_in : List Row → Members → Option (Option (List (ℕ × List (List ℕ))))
+languages_in rows ms = optional (as_additions rows) (get_member (codes "languages") ms)
+
+-- Whether none of the members that are there is of a wrong kind or names what isn't known.
+abbrev pub is_readable : List Row → Members → Bool
+is_readable rows ms =
+    is_some (columns_in ms)
+    && (is_some (flag (codes "hidden") ms)
+    && (is_some (flag (codes "no_ignore") ms)
+    && (is_some (flag (codes "no_ignore_parent") ms)
+    && (is_some (flag (codes "no_ignore_dot") ms)
+    && (is_some (flag (codes "no_ignore_vcs") ms)
+    && (is_some (flag (codes "treat_doc_strings_as_comments") ms)
+    && (is_some (sort_in ms)
+    && (is_some (types_in rows ms)
+    && is_some (languages_in rows ms)))))))))
+
+-- The settings that the members make.
+abbrev pub settings_in : List Row → Members → Settings
+settings_in rows ms = record {
+  columns = readable (columns_in ms);
+  hidden = readable (flag (codes "hidden") ms);
+  no_ignore = readable (flag (codes "no_ignore") ms);
+  no_ignore_parent = readable (flag (codes "no_ignore_parent") ms);
+  no_ignore_dot = readable (flag (codes "no_ignore_dot") ms);
+  no_ignore_vcs = readable (flag (codes "no_ignore_vcs") ms);
+  treat_doc_strings_as_comments = readable (flag (codes "treat_doc_strings_as_comments") ms);
+  sort = readable (sort_in ms);
+  types = readable (types_in rows ms);
+  languages = readable (languages_in rows ms);
+}
+
+-- The settings of the members of a file; none where one of the ten can't be read. Other members are passed over.
+abbrev pub settings_of_members : List Row → Members → Settings
+settings_of_members rows ms = if is_readable rows ms then settings_in rows ms else empty
+
+-- The settings of what TOML makes of a text; none where it isn't TOML.
+abbrev pub settings_of_reading : List Row → Option Members → Settings
+settings_of_reading rows None = empty
+settings_of_reading rows (Some ms) = settings_of_members rows ms
+
+-- The settings of a file's text.
+unfoldable pub settings_of_text : List Row → List ℕ → Settings
+settings_of_text rows text = settings_of_reading rows (parse_document text)

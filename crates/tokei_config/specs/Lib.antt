@@ -1,0 +1,6 @@
+pub mod Settings
+pub mod Members
+pub mod Languages
+pub mod Document
+pub mod Reading
+pub mod Seen

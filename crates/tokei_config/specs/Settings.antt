@@ -1,0 +1,47 @@
+-- What a configuration says, and which of several is heard.
+use Rattle.std.specs.Prelude.{ℕ, List, Bool, Option, None}
+use Rattle.std.specs.Option.{option_or}
+use Rattle.tokei_options.specs.declared.sort.Sort.{Sort}
+
+-- Each member, where the configuration has it. Languages stand for their places in the table.
+pub record Settings : Type 0 where
+  pub columns : Option ℕ
+  pub hidden : Option Bool
+  pub no_ignore : Option Bool
+  pub no_ignore_parent : Option Bool
+  pub no_ignore_dot : Option Bool
+  pub no_ignore_vcs : Option Bool
+  pub treat_doc_strings_as_comments : Option Bool
+  pub sort : Option Sort
+  pub types : Option (List ℕ)
+  pub languages : Option (List (ℕ × List (List ℕ)))
+
+-- No member at all.
+abbrev pub empty : Settings
+empty = record {
+  columns = None;
+  hidden = None;
+  no_ignore = None;
+  no_ignore_parent = None;
+  no_ignore_dot = None;
+  no_ignore_vcs = None;
+  treat_doc_strings_as_comments = None;
+  sort = None;
+  types = None;
+  languages = None;
+}
+
+-- Member by member the first settings, and the second where the first have none.
+abbrev pub first_of_each : Settings → Settings → Settings
+first_of_each a b = record {
+  columns = option_or a.columns b.columns;
+  hidden = option_or a.hidden b.hidden;
+  no_ignore = option_or a.no_ignore b.no_ignore;
+  no_ignore_parent = option_or a.no_ignore_parent b.no_ignore_parent;
+  no_ignore_dot = option_or a.no_ignore_dot b.no_ignore_dot;
+  no_ignore_vcs = option_or a.no_ignore_vcs b.no_ignore_vcs;
+  treat_doc_strings_as_comments = option_or a.treat_doc_strings_as_comments b.treat_doc_strings_as_comments;
+  sort = option_or a.sort b.sort;
+  types = option_or a.types b.types;
+  languages = option_or a.languages b.languages;
+}

@@ -1,0 +1,95 @@
+//! The configuration of a run.
+use crate::language_config::LanguageConfig;
+use std::collections::BTreeMap;
+use tokei_options::{CountConfig, Sort};
+use tokei_table::LanguageType;
+
+/// The configuration of a run. A member that is `None` leaves the choice to the caller.
+#[derive(Debug, Drop)]
+pub struct Config {
+    /// The width of a printed report.
+    pub columns: Option<usize>,
+    /// Whether files and folders whose names begin with a dot are counted.
+    pub hidden: Option<bool>,
+    /// Whether no ignore file is obeyed.
+    pub no_ignore: Option<bool>,
+    /// Whether no ignore file above the roots is obeyed.
+    pub no_ignore_parent: Option<bool>,
+    /// Whether neither `.ignore` nor `.tokeignore` is obeyed.
+    pub no_ignore_dot: Option<bool>,
+    /// Whether no ignore file of git is obeyed.
+    pub no_ignore_vcs: Option<bool>,
+    /// Whether lines of doc strings count as comments.
+    pub treat_doc_strings_as_comments: Option<bool>,
+    /// The column by which languages are sorted.
+    pub sort: Option<Sort>,
+    /// The languages that are counted, and no others.
+    pub types: Option<Vec<LanguageType>>,
+    /// What is added to languages.
+    pub languages: Option<BTreeMap<LanguageType, LanguageConfig>>,
+}
+
+impl Config {
+    ghost use Rattle.std.specs.Prelude.{◌≡◌};
+    ghost use Rattle.tokei_config.specs.Settings.{empty, first_of_each};
+    ghost use Rattle.tokei_config.specs.Seen.{settings_of};
+
+    /// The configuration in which each member is `None`; takes no memory.
+    pub fn new() -> Config
+        ensures { settings_of result ≡ empty }
+    {
+        Config {
+            columns: None,
+            hidden: None,
+            no_ignore: None,
+            no_ignore_parent: None,
+            no_ignore_dot: None,
+            no_ignore_vcs: None,
+            treat_doc_strings_as_comments: None,
+            sort: None,
+            types: None,
+            languages: None,
+        }
+    }
+
+    /// How texts are counted.
+    pub fn counting(&self) -> CountConfig
+        ensures { result.treat_doc_strings_as_comments ≡ self.now.treat_doc_strings_as_comments }
+    {
+        CountConfig {
+            treat_doc_strings_as_comments: self.treat_doc_strings_as_comments,
+        }
+    }
+
+    /// The members of this configuration, and those of the other where this one has none.
+    pub(crate) fn or(self, other: Config) -> Config
+        ensures { settings_of result ≡ first_of_each (settings_of self) (settings_of other) }
+    {
+        Config {
+            columns: self.columns.or(other.columns),
+            hidden: self.hidden.or(other.hidden),
+            no_ignore: self.no_ignore.or(other.no_ignore),
+            no_ignore_parent: self.no_ignore_parent.or(other.no_ignore_parent),
+            no_ignore_dot: self.no_ignore_dot.or(other.no_ignore_dot),
+            no_ignore_vcs: self.no_ignore_vcs.or(other.no_ignore_vcs),
+            treat_doc_strings_as_comments: self
+                .treat_doc_strings_as_comments
+                .or(other.treat_doc_strings_as_comments),
+            sort: self.sort.or(other.sort),
+            types: self.types.or(other.types),
+            languages: self.languages.or(other.languages),
+        }
+    }
+}
+
+impl Default for Config {
+    ghost use Rattle.std.specs.Prelude.{◌≡◌};
+    ghost use Rattle.tokei_config.specs.Settings.{empty};
+    ghost use Rattle.tokei_config.specs.Seen.{settings_of};
+
+    ghost is_default = { λ c. settings_of c ≡ empty };
+
+    fn default() -> Config {
+        Config::new()
+    }
+}

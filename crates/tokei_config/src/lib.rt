@@ -1,0 +1,13 @@
+//! The configuration of a run, and the files that it is read from.
+#![tactic(auto)]
+
+pub mod config;
+mod document;
+pub mod language_config;
+mod languages;
+mod members;
+#[cfg(test)]
+mod tests;
+
+pub use config::Config;
+pub use language_config::LanguageConfig;
