@@ -1,5 +1,5 @@
 -- The settings of a configuration file.
-use Rattle.std.specs.Prelude.{ℕ, List, Bool, ◌&&◌, Option, Some, None, is_some, unwrap_or, if◌then◌else◌, codes}
+use Rattle.std.specs.Prelude.{ℕ, List, Bool, ◌&&◌, Option, Some, None, is_some, unwrap_or, option_and_then, if◌then◌else◌, codes}
 use Rattle.toml.specs.Data.{Members, get_member, as_bool}
 use Rattle.toml.specs.Parse.{parse_document}
 use Rattle.tokei_config.specs.Settings.{Settings, empty}
@@ -8,9 +8,9 @@ use Rattle.tokei_config.specs.Languages.{as_additions}
 use Rattle.tokei_options.specs.declared.sort.Sort.{Sort}
 use Rattle.tokei_table.specs.Row.{Row}
 
--- A member that is missing, or that can't be read, is none.
-abbrev pub readable : {X : Type 0} → Option (Option X) → Option X
-readable found = unwrap_or found None
+-- The value of a member that can be read.
+abbrev pub value_of : {X : Type 0} → Option (Option X) → Option X
+value_of found = unwrap_or found None
 
 abbrev pub flag : List ℕ → Members → Option (Option Bool)
 flag key ms = optional as_bool (get_member key ms)
@@ -42,30 +42,29 @@ is_readable rows ms =
     && (is_some (types_in rows ms)
     && is_some (languages_in rows ms)))))))))
 
--- The settings that the members make.
-abbrev pub settings_in : List Row → Members → Settings
-settings_in rows ms = record {
-  columns = readable (columns_in ms);
-  hidden = readable (flag (codes "hidden") ms);
-  no_ignore = readable (flag (codes "no_ignore") ms);
-  no_ignore_parent = readable (flag (codes "no_ignore_parent") ms);
-  no_ignore_dot = readable (flag (codes "no_ignore_dot") ms);
-  no_ignore_vcs = readable (flag (codes "no_ignore_vcs") ms);
-  treat_doc_strings_as_comments = readable (flag (codes "treat_doc_strings_as_comments") ms);
-  sort = readable (sort_in ms);
-  types = readable (types_in rows ms);
-  languages = readable (languages_in rows ms);
+-- The settings that the members make, a member that is missing being none.
+abbrev pub readable_settings : List Row → Members → Settings
+readable_settings rows ms = record {
+  columns = value_of (columns_in ms);
+  hidden = value_of (flag (codes "hidden") ms);
+  no_ignore = value_of (flag (codes "no_ignore") ms);
+  no_ignore_parent = value_of (flag (codes "no_ignore_parent") ms);
+  no_ignore_dot = value_of (flag (codes "no_ignore_dot") ms);
+  no_ignore_vcs = value_of (flag (codes "no_ignore_vcs") ms);
+  treat_doc_strings_as_comments = value_of (flag (codes "treat_doc_strings_as_comments") ms);
+  sort = value_of (sort_in ms);
+  types = value_of (types_in rows ms);
+  languages = value_of (languages_in rows ms);
 }
 
--- The settings of the members of a file; none where one of the ten can't be read. Other members are passed over.
-abbrev pub settings_of_members : List Row → Members → Settings
-settings_of_members rows ms = if is_readable rows ms then settings_in rows ms else empty
+-- The settings of the members of a file; nothing where one of the ten can't be read. Other members are passed over.
+abbrev pub settings_in : List Row → Members → Option Settings
+settings_in rows ms = if is_readable rows ms then Some (readable_settings rows ms) else None
 
--- The settings of what TOML makes of a text; none where it isn't TOML.
+-- The settings of what TOML makes of a text.
 abbrev pub settings_of_reading : List Row → Option Members → Settings
-settings_of_reading rows None = empty
-settings_of_reading rows (Some ms) = settings_of_members rows ms
+settings_of_reading rows found = unwrap_or (option_and_then (settings_in rows) found) empty
 
--- The settings of a file's text.
+-- The settings of a file's text; none where it isn't TOML, or where one of its members can't be read.
 unfoldable pub settings_of_text : List Row → List ℕ → Settings
 settings_of_text rows text = settings_of_reading rows (parse_document text)
