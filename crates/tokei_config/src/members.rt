@@ -1,9 +1,9 @@
 //! The members of a configuration file that are one value.
 ghost use Rattle.std.specs.Prelude.{◌≡◌, option_map};
-ghost use Rattle.std.specs.Option.{ok_or};
 ghost use Rattle.toml.specs.Data.{get_member, as_bool};
 ghost use Rattle.toml.specs.View.{view, table_view};
 ghost use Rattle.tokei_config.specs.Members.{optional, as_count, as_sort, natural_of};
+ghost use Rattle.tokei_config.specs.Reading.{Reads};
 
 use std::alloc::{AllocError, AllocFailed};
 use tokei_options::Sort;
@@ -46,11 +46,10 @@ pub(crate) fn member<'a>(table: &'a Table, key: &str) -> Option<&'a Value>
 }
 
 /// The truth value at a key.
-pub(crate) fn flag_at(table: &Table, key: &str) -> Result<Option<bool>, MemberError>
-    ensures { result ≡ ok_or (optional as_bool (get_member key.now (table_view table.now)))
-        MemberError.Unreadable }
+pub(crate) fn flag_at(members: &Table, key: &str) -> Result<Option<bool>, MemberError>
+    ensures { Reads (λ v. v) (optional as_bool (get_member key.now (table_view members.now))) result }
 {
-    match member(table, key) {
+    match member(members, key) {
         None => Ok(None),
         Some(Value::Boolean(flag)) => Ok(Some(*flag)),
         Some(_) => Err(MemberError::Unreadable),
@@ -68,11 +67,10 @@ fn natural(number: i64) -> Option<usize>
 }
 
 /// The number at a key, which isn't below 0.
-pub(crate) fn count_at(table: &Table, key: &str) -> Result<Option<usize>, MemberError>
-    ensures { result ≡ ok_or (optional as_count (get_member key.now (table_view table.now)))
-        MemberError.Unreadable }
+pub(crate) fn count_at(members: &Table, key: &str) -> Result<Option<usize>, MemberError>
+    ensures { Reads (λ v. v) (optional as_count (get_member key.now (table_view members.now))) result }
 {
-    let Some(value) = member(table, key) else {
+    let Some(value) = member(members, key) else {
         return Ok(None);
     };
     match value {
@@ -85,11 +83,10 @@ pub(crate) fn count_at(table: &Table, key: &str) -> Result<Option<usize>, Member
 }
 
 /// The column that the word at a key names.
-pub(crate) fn sort_at(table: &Table, key: &str) -> Result<Option<Sort>, MemberError>
-    ensures { result ≡ ok_or (optional as_sort (get_member key.now (table_view table.now)))
-        MemberError.Unreadable }
+pub(crate) fn sort_at(members: &Table, key: &str) -> Result<Option<Sort>, MemberError>
+    ensures { Reads (λ v. v) (optional as_sort (get_member key.now (table_view members.now))) result }
 {
-    let Some(value) = member(table, key) else {
+    let Some(value) = member(members, key) else {
         return Ok(None);
     };
     match value {
