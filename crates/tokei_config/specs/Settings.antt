@@ -1,5 +1,5 @@
 -- What a configuration says, and which of several is heard.
-use Rattle.std.specs.Prelude.{ℕ, List, Bool, Option, None}
+use Rattle.std.specs.Prelude.{ℕ, List, [], Bool, Option, None, unwrap_or}
 use Rattle.std.specs.Option.{option_or}
 use Rattle.tokei_options.specs.declared.sort.Sort.{Sort}
 
@@ -45,3 +45,7 @@ first_of_each a b = record {
   types = option_or a.types b.types;
   languages = option_or a.languages b.languages;
 }
+
+-- The extensions that languages gain, in the order of the table.
+abbrev pub additions_in : Settings → List (ℕ × List (List ℕ))
+additions_in s = unwrap_or s.languages []

@@ -1,8 +1,9 @@
 //! The configuration of a run.
 use crate::language_config::LanguageConfig;
+use std::alloc::{AllocError, Global};
 use std::collections::BTreeMap;
 use tokei_options::{CountConfig, Sort};
-use tokei_table::LanguageType;
+use tokei_table::{LanguageTable, LanguageType};
 
 /// The configuration of a run. A member that is `None` leaves the choice to the caller.
 #[derive(Debug, Drop)]
@@ -30,9 +31,10 @@ pub struct Config {
 }
 
 impl Config {
-    ghost use Rattle.std.specs.Prelude.{◌≡◌};
-    ghost use Rattle.tokei_config.specs.Settings.{empty, first_of_each};
+    ghost use Rattle.std.specs.Prelude.{◌≡◌, IfOk, map};
+    ghost use Rattle.tokei_config.specs.Settings.{additions_in, empty, first_of_each};
     ghost use Rattle.tokei_config.specs.Seen.{settings_of};
+    ghost use Rattle.tokei_table.specs.Extended.{addition_of, extended};
 
     /// The configuration in which each member is `None`; takes no memory.
     pub fn new() -> Config
@@ -61,6 +63,36 @@ impl Config {
         }
     }
 
+    /// The extensions that languages gain, in the order of the table and as `LanguageTable::extended` takes them. It
+    /// fails where memory runs out.
+    pub fn additions(
+        &self,
+        alloc: Global,
+    ) -> Result<Vec<(LanguageType, &[String])>, AllocError>
+        ensures { IfOk result (λ v. map addition_of v.items ≡ additions_in (settings_of self.entry.now)) }
+    {
+        let mut additions = Vec::new(alloc);
+        if let Some(languages) = &self.languages {
+            for (language, config) in languages.iter() {
+                add(&mut additions, *language, config.extensions.as_slice())?;
+            }
+        }
+        Ok(additions)
+    }
+
+    /// The table in which languages have gained the extensions of this configuration, which no language had. It fails
+    /// where memory runs out.
+    pub fn extended_table(
+        &self,
+        alloc: Global,
+        table: &LanguageTable,
+    ) -> Result<LanguageTable, AllocError>
+        ensures { IfOk result (λ t. t ≡ extended table.now (additions_in (settings_of self.now))) }
+    {
+        let additions = self.additions(alloc)?;
+        table.extended(alloc, &additions)
+    }
+
     /// The members of this configuration, and those of the other where this one has none.
     pub(crate) fn or(self, other: Config) -> Config
         ensures { settings_of result ≡ first_of_each (settings_of self) (settings_of other) }
@@ -79,6 +111,24 @@ impl Config {
             types: self.types.or(other.types),
             languages: self.languages.or(other.languages),
         }
+    }
+}
+
+ghost use Rattle.std.specs.Prelude.{◌≡◌, ◌++◌, ◌∷◌, [], map, OnOk, string_bytes};
+ghost use Rattle.tokei_table.specs.Extended.{addition_of};
+
+/// Adds a language and the extensions that it gains.
+fn add<'a>(
+    additions: &mut Vec<(LanguageType, &'a [String])>,
+    language: LanguageType,
+    extensions: &'a [String],
+) -> Result<(), AllocError>
+    ensures { OnOk result (map addition_of additions.new.items
+        ≡ map addition_of additions.old.items ++ (language, map string_bytes extensions.now) ∷ []) }
+{
+    match additions.push((language, extensions)) {
+        Ok(()) => Ok(()),
+        Err(_) => Err(AllocError),
     }
 }
 
