@@ -1,2 +1,3 @@
+pub mod FileTexts
 pub mod InOrder
 pub mod Lists

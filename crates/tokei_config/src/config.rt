@@ -1,7 +1,9 @@
 //! The configuration of a run.
+use crate::files::{ConfigDirs, config_in};
 use crate::language_config::LanguageConfig;
 use std::alloc::{AllocError, Global};
 use std::collections::BTreeMap;
+use tokei_folders::Folders;
 use tokei_options::{CountConfig, Sort};
 use tokei_table::{LanguageTable, LanguageType};
 
@@ -31,7 +33,9 @@ pub struct Config {
 }
 
 impl Config {
-    ghost use Rattle.std.specs.Prelude.{◌≡◌, IfOk, map};
+    ghost use Rattle.std.specs.Prelude.{◌≡◌, ◌<◌, IfOk, OnOk, map};
+    ghost use Rattle.tokei_config.specs.Files.{configuration};
+    ghost use Rattle.tokei_folders.specs.Answers.{Told};
     ghost use Rattle.tokei_config.specs.Settings.{additions_in, empty, first_of_each};
     ghost use Rattle.tokei_config.specs.Seen.{settings_of};
     ghost use Rattle.tokei_table.specs.Extended.{addition_of, extended};
@@ -52,6 +56,28 @@ impl Config {
             types: None,
             languages: None,
         }
+    }
+
+    /// The configuration of a user's files: of each member the first that is there of the current folder's file, the
+    /// home folder's and that of the folder for configuration. A folder's file is `tokei.toml`, or `.tokeirc` where
+    /// that can't be read as UTF-8. A file counts as empty where it isn't TOML, or where a member is of a wrong kind or
+    /// names a language or a column that isn't known. It fails where memory runs out, and the folders keep their tree.
+    pub fn from_config_files<F: Folders>(
+        alloc: Global,
+        table: &LanguageTable,
+        folders: &mut F,
+        dirs: &ConfigDirs,
+    ) -> Result<Config, AllocError>
+        ensures same { F.tree folders.new ≡ F.tree folders.old }
+        ensures told { Told (F.tree folders.old) (λ t. IfOk result (λ c. settings_of c
+            ≡ configuration table.now t dirs.now)) }
+        ensures honest { OnOk result (F.memory_faults folders.old < u64.MAX
+            → F.memory_faults folders.new ≡ F.memory_faults folders.old) }
+    {
+        let current = config_in(alloc, table, folders, &dirs.current)?;
+        let home = config_in(alloc, table, folders, &dirs.home)?;
+        let config = config_in(alloc, table, folders, &dirs.config)?;
+        Ok(current.or(home.or(config)))
     }
 
     /// How texts are counted.

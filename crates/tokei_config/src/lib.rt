@@ -3,6 +3,7 @@
 
 pub mod config;
 mod document;
+pub mod files;
 pub mod language_config;
 mod languages;
 mod members;
@@ -10,4 +11,5 @@ mod members;
 mod tests;
 
 pub use config::Config;
+pub use files::ConfigDirs;
 pub use language_config::LanguageConfig;
