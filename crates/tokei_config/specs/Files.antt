@@ -1,5 +1,5 @@
 -- The configuration files of a told tree.
-use Rattle.std.specs.Prelude.{ℕ, List, ◌++◌, Option, Some, None, option_map, option_and_then, string_bytes, String, if◌then◌else◌, codes}
+use Rattle.std.specs.Prelude.{ℕ, List, ◌++◌, Option, Some, None, option_and_then, string_bytes, String, if◌then◌else◌, codes}
 use Rattle.std.specs.Option.{option_or}
 use Rattle.std.specs.Global.{Global}
 use Rattle.std.specs.Str.{is_utf8}

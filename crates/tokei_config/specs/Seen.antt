@@ -1,5 +1,5 @@
 -- The code's configuration as the definitions see it.
-use Rattle.std.specs.Prelude.{ℕ, List, map, string_bytes, option_map, Option}
+use Rattle.std.specs.Prelude.{ℕ, List, map, string_bytes, option_map}
 use Rattle.tokei_config.specs.Settings.{Settings}
 use Rattle.tokei_config.specs.Languages.{Addition}
 use Rattle.tokei_config.specs.declared.config.Config.{Config}

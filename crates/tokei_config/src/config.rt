@@ -91,11 +91,9 @@ impl Config {
 
     /// The extensions that languages gain, in the order of the table and as `LanguageTable::extended` takes them. It
     /// fails where memory runs out.
-    pub fn additions(
-        &self,
-        alloc: Global,
-    ) -> Result<Vec<(LanguageType, &[String])>, AllocError>
-        ensures { IfOk result (λ v. map addition_of v.items ≡ additions_in (settings_of self.entry.now)) }
+    pub fn additions(&self, alloc: Global) -> Result<Vec<(LanguageType, &[String])>, AllocError>
+        ensures { IfOk result (λ v. map addition_of v.items
+            ≡ additions_in (settings_of self.entry.now)) }
     {
         let mut additions = Vec::new(alloc);
         if let Some(languages) = &self.languages {

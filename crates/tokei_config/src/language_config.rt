@@ -1,6 +1,5 @@
 //! What a configuration adds to a language.
 ghost use Rattle.std.specs.Prelude.{◌≡◌, []};
-ghost use Rattle.tokei_config.specs.Seen.{extensions_of};
 
 use std::alloc::Global;
 
@@ -12,8 +11,6 @@ pub struct LanguageConfig {
 }
 
 impl LanguageConfig {
-    ghost use Rattle.std.specs.Prelude.{map, string_bytes};
-
     /// Adds no extension; takes no memory.
     pub fn new(alloc: Global) -> LanguageConfig
         ensures { result.extensions.items ≡ [] }

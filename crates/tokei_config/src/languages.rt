@@ -1,16 +1,14 @@
 //! The members of a configuration file that name languages.
-ghost use Rattle.std.specs.Prelude.{◌≡◌, map, string_bytes, option_map};
-ghost use Rattle.toml.specs.Data.{get_member, as_array, as_table};
+ghost use Rattle.std.specs.Prelude.{◌≡◌, Some, map, string_bytes, is_some, option_map, option_and_then, OnOk, IfOk, IfErr};
+ghost use Rattle.std.specs.BTreeMap.{get, insert_entry, Updates};
+ghost use Rattle.std.specs.Ordering.{nat_cmp};
+ghost use Rattle.toml.specs.Data.{get_member, as_str, as_table};
 ghost use Rattle.toml.specs.View.{view, items_view, table_view};
 ghost use Rattle.tokei_config.specs.Languages.{addition, additions, as_additions, one_each, extensions_in};
-ghost use Rattle.tokei_config.specs.Members.{optional, all_of, as_language, as_languages, as_texts};
+ghost use Rattle.tokei_config.specs.Members.{optional, all_of, as_language, as_languages};
 ghost use Rattle.tokei_config.specs.Reading.{Reads};
 ghost use Rattle.tokei_config.specs.Seen.{additions_of, extensions_of};
 ghost use Rattle.tokei_config.specs.declared.members.MemberError.TheVariants.{Memory};
-ghost use Rattle.toml.specs.Data.{as_str};
-ghost use Rattle.std.specs.Prelude.{option_and_then, is_some, OnOk, IfOk, IfErr, Some};
-ghost use Rattle.std.specs.BTreeMap.{get, insert_entry, Updates};
-ghost use Rattle.std.specs.Ordering.{nat_cmp};
 
 use crate::language_config::LanguageConfig;
 use crate::members::{MemberError, member};
@@ -35,14 +33,12 @@ fn languages_named(
     table: &LanguageTable,
     values: &[Value],
 ) -> Result<Vec<LanguageType>, MemberError>
-    ensures { Reads (λ v. v.items) (all_of (as_language table.now) (items_view values.now)) result }
+    ensures { Reads (λ v. v.items)
+        (all_of (as_language table.now) (items_view values.now)) result }
 {
     let mut languages = Vec::new(alloc);
     for value in values {
-        match language(table, value) {
-            Some(known) => languages.push(known)?,
-            None => return Err(MemberError::Unreadable),
-        }
+        languages.push(language(table, value).ok_or(MemberError::Unreadable)?)?;
     }
     Ok(languages)
 }
@@ -104,7 +100,8 @@ fn addition(
     key: &str,
     entry: &Value,
 ) -> Result<(LanguageType, LanguageConfig), MemberError>
-    ensures { Reads (λ a. (a.0, extensions_of a.1)) (addition table.now key.now (view entry.now)) result }
+    ensures { Reads (λ a. (a.0, extensions_of a.1))
+        (addition table.now key.now (view entry.now)) result }
 {
     let Some(language) = LanguageType::from_name(table, key) else {
         return Err(MemberError::Unreadable);
@@ -120,7 +117,8 @@ fn additions(
     table: &LanguageTable,
     members: &Table,
 ) -> Result<Vec<(LanguageType, LanguageConfig)>, MemberError>
-    ensures { Reads (λ v. additions_of v.items) (additions table.now (table_view members.now)) result }
+    ensures { Reads (λ v. additions_of v.items)
+        (additions table.now (table_view members.now)) result }
 {
     let mut found = Vec::new(alloc);
     for (key, entry) in members.iter() {
@@ -135,9 +133,12 @@ fn put(
     language: LanguageType,
     config: LanguageConfig,
 ) -> Result<bool, MemberError>
-    ensures entries { OnOk result (languages.new.entries ≡ insert_entry nat_cmp languages.old.entries language config) }
-    ensures updates { OnOk result (Updates nat_cmp languages.old languages.new language (Some config)) }
-    ensures was_there { IfOk result (λ there. there ≡ is_some (get nat_cmp languages.old language)) }
+    ensures entries { OnOk result (languages.new.entries
+        ≡ insert_entry nat_cmp languages.old.entries language config) }
+    ensures updates { OnOk result
+        (Updates nat_cmp languages.old languages.new language (Some config)) }
+    ensures was_there { IfOk result
+        (λ there. there ≡ is_some (get nat_cmp languages.old language)) }
     ensures memory { IfErr result (λ e. e ≡ Memory) }
 {
     let old = languages.insert(language, config)?;

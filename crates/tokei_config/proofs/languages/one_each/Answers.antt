@@ -9,12 +9,12 @@ loop-language-preserved c =
     let steps : into_iter_items c.loop-language.language-iterator ≡ (c.in-Some.language, c.in-Some.config) ∷ into_iter_items c.next.new.self = search rules in
     record {
       order = c.loop-language.invariant.order
-        ∙ ap (λ es. fold placed (additions_of c.loop-language.languages.entries) (additions_of es)) steps
-        ∙ ap (λ es. fold placed es (additions_of (into_iter_items c.next.new.self)))
+          ∙ ap (λ es. fold placed (additions_of c.loop-language.languages.entries) (additions_of es)) steps
+          ∙ ap (λ es. fold placed es (additions_of (into_iter_items c.next.new.self)))
           (sym (ap additions_of c.in_ok-put.ensures.entries ∙ placed-seen c.loop-language.languages.entries c.in-Some.language c.in-Some.config));
       clashes = c.loop-language.invariant.clashes
-        ∙ ap (λ es. clash c.loop-language.languages.entries (additions_of es)) steps
-        ∙ clash-put c.loop-language.languages.entries c.put.new.languages.entries c.in-Some.language c.in-Some.config (extensions_of c.in-Some.config)
+          ∙ ap (λ es. clash c.loop-language.languages.entries (additions_of es)) steps
+          ∙ clash-put c.loop-language.languages.entries c.put.new.languages.entries c.in-Some.language c.in-Some.config (extensions_of c.in-Some.config)
           (additions_of (into_iter_items c.next.new.self)) (sym c.in_ok-put.ensures.was_there ∙ c.if-branch.false) c.in_ok-put.ensures.updates.0;
     }
 
