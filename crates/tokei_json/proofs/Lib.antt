@@ -1,3 +1,4 @@
+pub mod Bytes
 pub mod Insertions
 pub mod Members
 pub mod NoFloats

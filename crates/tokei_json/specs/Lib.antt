@@ -1,3 +1,4 @@
+pub mod Adding
 pub mod Document
 pub mod Formats
 pub mod LanguageMaps

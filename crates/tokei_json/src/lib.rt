@@ -1,14 +1,17 @@
 //! Languages as a JSON document.
 #![tactic(auto)]
 
-mod document;
+pub mod document;
 pub mod error;
 pub mod format;
+pub mod input;
 mod language_maps;
 mod layout;
 mod read;
 pub mod write;
 
+pub use document::from_value;
 pub use error::InputError;
 pub use format::{Format, FormatError};
+pub use input::add_input;
 pub use write::to_value;
