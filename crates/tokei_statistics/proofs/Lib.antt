@@ -1,0 +1,6 @@
+pub mod ReadAnswers
+pub mod Deciding
+pub mod LastNames
+pub mod Merges
+pub mod Running
+pub mod Totals

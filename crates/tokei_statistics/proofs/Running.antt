@@ -1,0 +1,222 @@
+-- The languages of a run, one file at a time.
+use Rattle.std.proofs.Common.{◌≡◌, ℕ, ◌+◌, List, [], ◌∷◌, ◌++◌, Bool, true, false, ◌||◌, Option, Some, None, option_map, Result, Ok, Err, OnOk, OnErr, refl, sym, ◌∙◌, ap, subst, arith, append_assoc, append-nil, length, take}
+use Rattle.std.proofs.Math.Bool.{or_assoc}
+use Rattle.std.proofs.Math.Seq.{take-append_seam}
+use Rattle.std.specs.Bool.{⊤}
+use Rattle.tokei_languages.specs.Values.{ReportValue, LanguageValue, empty_language, marked}
+use Rattle.tokei_languages.specs.Maps.{put_at, merged}
+use Rattle.tokei_languages.specs.Merging.{appended, blob_reports, merged_language, merged_languages, with_report}
+use Rattle.tokei_stats.specs.Statistics.{Counts, Statistics, no_lines, plus, blobs}
+use Rattle.tokei_walk.specs.declared.kept_file.KeptFile.{KeptFile}
+use Rattle.tokei_walk.specs.Tree.{Tree}
+use Rattle.tokei_statistics.specs.Contents.{content_at, stats_at, stats_in}
+use Rattle.tokei_statistics.specs.Runs.{Counting, language_from, language_of_file, languages_in, languages_of_file, languages_of_run, FileFits, ReadingsFit, AddsFiles, AddsFirst}
+use Rattle.tokei_statistics.proofs.Merges.{Ascends, AllMeet, Associates, merged_assoc, ascends_merged, meet_merged, same_put}
+
+or_false : (a : Bool) → (a || false) ≡ a
+or_false true = refl
+or_false false = refl
+
+or_true : (a : Bool) → (a || true) ≡ true
+or_true true = refl
+or_true false = refl
+
+add_assoc3 : (a b c : ℕ) → (a + b) + c ≡ a + (b + c)
+add_assoc3 a b c = omega arith
+
+plus_assoc : (a b c : Counts) → plus (plus a b) c ≡ plus a (plus b c)
+plus_assoc a b c = λ i. record {
+  blanks = add_assoc3 a.blanks b.blanks c.blanks i;
+  code = add_assoc3 a.code b.code c.code i;
+  comments = add_assoc3 a.comments b.comments c.comments i;
+}
+
+add_none : (a : ℕ) → a + 0 ≡ a
+add_none a = omega arith
+
+plus_none : (a : Counts) → plus a no_lines ≡ a
+plus_none a = λ i. record { blanks = add_none a.blanks i; code = add_none a.code i; comments = add_none a.comments i }
+
+-- lists of reports
+
+abbrev join_reports : List ReportValue → List ReportValue → List ReportValue
+join_reports a b = a ++ b
+
+abbrev any : List ReportValue → Type 0
+any rs = ⊤
+
+reports_append : Associates join_reports any
+reports_append = record { closed = λ s t p q. tt; same = λ s t u p q. append_assoc s t u }
+
+all_any : (es : List (ℕ × List ReportValue)) → AllMeet any es
+all_any [] = tt
+all_any (e ∷ es) = (tt, all_any es)
+
+appended_assoc : (a b c : List (ℕ × List ReportValue)) → Ascends b → appended (appended a b) c ≡ appended a (appended b c)
+appended_assoc a b c up = merged_assoc join_reports any reports_append a b c up (all_any b) (all_any c)
+
+ascends_appended : (a b : List (ℕ × List ReportValue)) → Ascends a → Ascends (appended a b)
+ascends_appended a b up = ascends_merged join_reports any reports_append a b up
+
+-- languages
+
+-- the languages inside ascend
+abbrev pub IsLaidOut : LanguageValue → Type 0
+IsLaidOut s = Ascends s.children
+
+merged_language_assoc : (s t u : LanguageValue) → IsLaidOut t → merged_language (merged_language s t) u ≡ merged_language s (merged_language t u)
+merged_language_assoc s t u up = λ i. record {
+  counts = plus_assoc s.counts t.counts u.counts i;
+  reports = append_assoc s.reports t.reports u.reports i;
+  children = appended_assoc s.children t.children u.children up i;
+  inaccurate = or_assoc s.inaccurate t.inaccurate u.inaccurate i;
+}
+
+languages_join : Associates merged_language IsLaidOut
+languages_join = record {
+  closed = λ s t p q. ascends_appended s.children t.children p;
+  same = λ s t u p q. merged_language_assoc s t u p;
+}
+
+-- a report is added as the language of that report alone
+with_report-merged : (r : ReportValue) (s : LanguageValue) → with_report s r ≡ merged_language s (with_report empty_language r)
+with_report-merged r s = λ i. record {
+  counts = sym (plus_none s.counts) i;
+  reports = s.reports ++ r ∷ [];
+  children = appended_assoc s.children [] (blob_reports r.name (blobs r.stats)) tt i;
+  inaccurate = sym (or_false s.inaccurate) i;
+}
+
+marked-merged : (s : LanguageValue) → marked s ≡ merged_language s (marked empty_language)
+marked-merged s = λ i. record {
+  counts = sym (plus_none s.counts) i;
+  reports = sym (append-nil s.reports) i;
+  children = s.children;
+  inaccurate = sym (or_true s.inaccurate) i;
+}
+
+-- a report that is put
+pub report_put : (old : List (ℕ × LanguageValue)) (l : ℕ) (r : ReportValue) → put_at (λ s. with_report s r) (with_report empty_language r) old l ≡ merged_languages old ((l, with_report empty_language r) ∷ [])
+report_put old l r = same_put (λ s. with_report s r) (λ s. merged_language s (with_report empty_language r)) (with_report empty_language r) old l (with_report-merged r)
+
+-- a mark that is put
+pub mark_put : (old : List (ℕ × LanguageValue)) (l : ℕ) → put_at marked (marked empty_language) old l ≡ merged_languages old ((l, marked empty_language) ∷ [])
+mark_put old l = same_put marked (λ s. merged_language s (marked empty_language)) (marked empty_language) old l marked-merged
+
+-- runs
+
+from_laid_out : (path : List ℕ) (o : Option Statistics) → IsLaidOut (language_from path o)
+from_laid_out path None = tt
+from_laid_out path (Some s) = ascends_appended [] (blob_reports path (blobs s)) tt
+
+module _ (c : Counting) (t : Tree) where
+  in_ascends : (k : KeptFile) (o : Option ℕ) → Ascends (languages_in c t k o)
+  in_ascends k None = tt
+  in_ascends k (Some l) = (tt, tt)
+
+  in_laid_out : (k : KeptFile) (o : Option ℕ) → AllMeet IsLaidOut (languages_in c t k o)
+  in_laid_out k None = tt
+  in_laid_out k (Some l) = (from_laid_out k.path (stats_at t c.rows c.docs l k.place), tt)
+
+  file_ascends : (k : KeptFile) → Ascends (languages_of_file c t k)
+  unfolding languages_of_file
+  file_ascends k = in_ascends k (language_of_file c t k)
+
+  file_laid_out : (k : KeptFile) → AllMeet IsLaidOut (languages_of_file c t k)
+  unfolding languages_of_file
+  file_laid_out k = in_laid_out k (language_of_file c t k)
+
+  run_ascends : (ks : List KeptFile) → Ascends (languages_of_run c t ks)
+  run_ascends [] = tt
+  run_ascends (k ∷ ks) = ascends_merged merged_language IsLaidOut languages_join (languages_of_file c t k) (languages_of_run c t ks) (file_ascends k)
+
+  run_laid_out : (ks : List KeptFile) → AllMeet IsLaidOut (languages_of_run c t ks)
+  run_laid_out [] = tt
+  run_laid_out (k ∷ ks) = meet_merged merged_language IsLaidOut languages_join (languages_of_file c t k) (languages_of_run c t ks) (file_laid_out k) (run_laid_out ks)
+
+  one_by : (k : KeptFile) (o : Option ℕ) → languages_in c t k o ≡ merged_languages [] (languages_in c t k o)
+  one_by k None = refl
+  one_by k (Some l) = refl
+
+  -- one file more at the end
+  run_push : (ks : List KeptFile) (k : KeptFile) → languages_of_run c t (ks ++ k ∷ []) ≡ merged_languages (languages_of_run c t ks) (languages_of_file c t k)
+  unfolding languages_of_file
+  run_push [] k = one_by k (language_of_file c t k)
+  run_push (j ∷ ks) k =
+      ap (merged_languages (languages_of_file c t j)) (run_push ks k)
+      ∙ sym (merged_assoc merged_language IsLaidOut languages_join (languages_of_file c t j) (languages_of_run c t ks) (languages_of_file c t k) (run_ascends ks) (run_laid_out ks) (file_laid_out k))
+
+  -- the files are those that are counted and those that are to come
+  pub record SoFar (files rest : List KeptFile) (old new : List (ℕ × LanguageValue)) : Type 0 where
+    pub done : List KeptFile
+    pub whole : done ++ rest ≡ files
+    pub adds : AddsFiles c t done old new
+
+  pub none_yet : (files : List KeptFile) (a : List (ℕ × LanguageValue)) → SoFar files files a a
+  none_yet files a = record { done = []; whole = refl; adds = refl }
+
+  -- one file more
+  pub one_more : (files rest left : List KeptFile) (k : KeptFile) (a b d : List (ℕ × LanguageValue)) → SoFar files rest a b → rest ≡ k ∷ left → d ≡ merged_languages b (languages_of_file c t k) → SoFar files left a d
+  one_more files rest left k a b d h is one = record {
+    done = h.done ++ k ∷ [];
+    whole = append_assoc h.done (k ∷ []) left ∙ ap (λ (q : List KeptFile). h.done ++ q) (sym is) ∙ h.whole;
+    adds =
+        one
+        ∙ ap (λ (q : List (ℕ × LanguageValue)). merged_languages q (languages_of_file c t k)) h.adds
+        ∙ merged_assoc merged_language IsLaidOut languages_join a (languages_of_run c t h.done) (languages_of_file c t k) (run_ascends h.done) (run_laid_out h.done) (file_laid_out k)
+        ∙ ap (merged_languages a) (sym (run_push h.done k));
+  }
+
+  -- all of them
+  pub all_done : (files rest : List KeptFile) (a b : List (ℕ × LanguageValue)) → SoFar files rest a b → rest ≡ [] → AddsFiles c t files a b
+  all_done files rest a b h none =
+      let all : h.done ≡ files = sym (append-nil h.done) ∙ ap (λ (q : List KeptFile). h.done ++ q) (sym none) ∙ h.whole in
+      subst (λ (q : List KeptFile). AddsFiles c t q a b) all h.adds
+
+  -- the first of them
+  pub first_done : (files rest : List KeptFile) (a b : List (ℕ × LanguageValue)) → SoFar files rest a b → AddsFirst c t files a b
+  first_done files rest a b h =
+      let first : h.done ≡ take (length h.done) files = sym (take-append_seam h.done rest) ∙ ap (take (length h.done)) h.whole in
+      record { count = length h.done; adds = subst (λ (q : List KeptFile). AddsFiles c t q a b) first h.adds }
+
+  fit_at : (ds : List KeptFile) (k : KeptFile) (left : List KeptFile) → ReadingsFit c t (ds ++ (k ∷ left)) → FileFits c t k
+  fit_at [] k left h = h.0
+  fit_at (d ∷ ds) k left h = fit_at ds k left h.1
+
+  -- where one doesn't fit, not all do
+  pub one_over : (files rest left : List KeptFile) (k : KeptFile) (a b : List (ℕ × LanguageValue)) → SoFar files rest a b → rest ≡ k ∷ left → (FileFits c t k → ⊥) → ReadingsFit c t files → ⊥
+  one_over files rest left k a b h is over fit =
+      over (fit_at h.done k left (subst (λ (q : List KeptFile). ReadingsFit c t q) (sym h.whole ∙ ap (λ (q : List KeptFile). h.done ++ q) is) fit))
+
+  -- a file that counts in no language changes nothing
+  pub file_passed : (k : KeptFile) (o : Option ℕ) (a : List (ℕ × LanguageValue)) → o ≡ language_of_file c t k → o ≡ None → a ≡ merged_languages a (languages_of_file c t k)
+  unfolding languages_of_file
+  file_passed k o a is none = sym (ap (λ (q : Option ℕ). merged_languages a (languages_in c t k q)) (sym is ∙ none))
+
+  -- a file that was read
+  pub file_reported : {E : Type 0} (q : Result (Unit {0}) E) (k : KeptFile) (o : Option ℕ) (l : ℕ) (s : Statistics) (r : ReportValue) (a b : List (ℕ × LanguageValue)) → o ≡ language_of_file c t k → o ≡ Some l → Some s ≡ stats_at t c.rows c.docs l k.place → r ≡ record { name = k.path; stats = s }
+      → OnOk q (b ≡ put_at (λ x. with_report x r) (with_report empty_language r) a l)
+      → OnOk q (b ≡ merged_languages a (languages_of_file c t k))
+  unfolding languages_of_file
+  file_reported (Ok u) k o l s r a b is some read named put =
+      put
+      ∙ report_put a l r
+      ∙ ap (λ (v : LanguageValue). merged_languages a ((l, v) ∷ [])) (ap (with_report empty_language) named ∙ ap (language_from k.path) read)
+      ∙ ap (λ (q : Option ℕ). merged_languages a (languages_in c t k q)) (sym some ∙ is)
+  file_reported (Err e) k o l s r a b is some read named put = tt
+
+  -- a file that couldn't be read
+  pub file_marked : {E : Type 0} (q : Result (Unit {0}) E) (k : KeptFile) (o : Option ℕ) (l : ℕ) (a b : List (ℕ × LanguageValue)) → o ≡ language_of_file c t k → o ≡ Some l → content_at t k.place ≡ None
+      → OnOk q (b ≡ put_at marked (marked empty_language) a l)
+      → OnOk q (b ≡ merged_languages a (languages_of_file c t k))
+  unfolding languages_of_file
+  file_marked (Ok u) k o l a b is some none put =
+      put
+      ∙ mark_put a l
+      ∙ ap (λ (d : Option (List ℕ)). merged_languages a ((l, language_from k.path (option_map (stats_in c.rows c.docs l) d)) ∷ [])) (sym none)
+      ∙ ap (λ (q : Option ℕ). merged_languages a (languages_in c t k q)) (sym some ∙ is)
+  file_marked (Err e) k o l a b is some none put = tt
+
+pub always_err : {T E A : Type 0} (q : Result T E) → A → OnErr q A
+always_err (Ok x) a = tt
+always_err (Err e) a = a

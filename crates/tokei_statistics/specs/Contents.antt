@@ -1,0 +1,21 @@
+-- What a file of a told tree counts: the plain reading of its content, decoded.
+use Rattle.std.specs.Prelude.{ℕ, Bool, List, Option, option_map}
+use Rattle.tokei_count.specs.Openings.{languages_of}
+use Rattle.tokei_count.specs.PlainReading.{reading, outermost_levels}
+use Rattle.tokei_stats.specs.Statistics.{Statistics}
+use Rattle.tokei_table.specs.Row.{Row}
+use Rattle.tokei_text.specs.Decoding.{decoded}
+use Rattle.tokei_walk.specs.Answers.{node_content}
+use Rattle.tokei_walk.specs.Tree.{Tree, node_at, names_of}
+
+-- the content of the file at a place, where it can be read
+unfoldable pub content_at : Tree → List ℕ → Option (List ℕ)
+content_at t place = node_content (node_at t (names_of place))
+
+-- the statistics of a content in a language, where `docs` says whether doc strings count as comments
+unfoldable pub stats_in : List Row → Bool → ℕ → List ℕ → Statistics
+stats_in rows docs language content = reading (languages_of rows) docs outermost_levels language (decoded content)
+
+-- the statistics of the file at a place, where it can be read
+abbrev pub stats_at : Tree → List Row → Bool → ℕ → List ℕ → Option Statistics
+stats_at t rows docs language place = option_map (stats_in rows docs language) (content_at t place)

@@ -1,0 +1,29 @@
+-- The language of a path in a told tree: by the path's name, and by the head of the file where the name decides nothing
+-- and has no extension.
+use Rattle.std.specs.Prelude.{ℕ, List, Bool, true, false, Option, None, is_some, Result, Ok, Err, if◌then◌else◌}
+use Rattle.tokei_table.specs.Lookups.{or_else, extension_of, from_file_name}
+use Rattle.tokei_table.specs.Row.{Row}
+use Rattle.tokei_table.specs.Shebangs.{from_shebang}
+use Rattle.tokei_walk.specs.declared.fs.Fault.{Fault}
+use Rattle.tokei_walk.specs.Answers.{head_answer}
+use Rattle.tokei_walk.specs.Kept.{last_name}
+use Rattle.tokei_walk.specs.Tree.{Tree, node_at, names_of}
+
+-- the name of a path is its last one; empty ones and `.` are none
+unfoldable pub name_of : List ℕ → List ℕ
+name_of path = last_name (names_of path)
+
+-- by a head; one that can't be read stands for no language
+abbrev pub from_head : List Row → Result (List ℕ) Fault → Option ℕ
+from_head rows (Ok head) = from_shebang rows head
+from_head rows (Err fault) = None
+
+-- by the head of the file at a path
+abbrev pub language_by_head : Tree → List Row → List ℕ → Option ℕ
+language_by_head t rows path = from_head rows (head_answer (node_at t (names_of path)))
+
+-- the language of the file at a path
+abbrev pub language_by_path : Tree → List Row → List ℕ → Option ℕ
+language_by_path t rows path =
+    or_else (from_file_name rows (name_of path)) (
+    if is_some (extension_of (name_of path)) then None else language_by_head t rows path)

@@ -1,0 +1,123 @@
+//! The report of one file: what its content counts, decoded, in a language.
+ghost use Rattle.std.specs.Prelude.{◌≡◌, ◌≢◌, ◌<◌, None, Some, Err, length, OnOk, IfOk, IfErr, IsSomeAnd, string_bytes};
+ghost use Rattle.tokei_count.specs.Seen.{docs_of};
+ghost use Rattle.tokei_stats.specs.Overflow.{Fits};
+ghost use Rattle.tokei_stats.specs.Seen.{stats_of};
+ghost use Rattle.tokei_walk.specs.Answers.{Told};
+ghost use Rattle.tokei_walk.specs.declared.fs.Fault.TheVariants.{Refused as RefusedFault, Memory as MemoryFault};
+ghost use Rattle.tokei_statistics.specs.declared.error.ParseFault.TheVariants.{Refused as NotRead, Memory as OutOfMemory, Overflow as TooMany};
+ghost use Rattle.tokei_statistics.specs.Contents.{content_at, stats_at, stats_in};
+
+use crate::error::ParseFault;
+use std::alloc::Global;
+use tokei_count::{CodeStats, CountConfig, Counter, Report, decode_text, parse_from_slice};
+use tokei_table::LanguageType;
+use tokei_walk::{Fault, Folders};
+
+/// The content of the file at a place.
+fn content<F: Folders>(folders: &mut F, place: &str) -> Result<Vec<u8>, Fault>
+    ensures same { F.tree folders.new ≡ F.tree folders.old }
+    ensures told { Told (F.tree folders.old) (λ t. IfOk result (λ c.
+        content_at t place.now ≡ Some c.items)) }
+    ensures refused { result ≡ Err RefusedFault → Told (F.tree folders.old) (λ t.
+        content_at t place.now ≡ None) }
+    ensures honest { result ≢ Err MemoryFault → F.memory_faults folders.old < u64.MAX
+        → F.memory_faults folders.new ≡ F.memory_faults folders.old }
+{
+    match folders.read(place) {
+        Ok(content) => Ok(content.into_vec()),
+        Err(fault) => Err(fault),
+    }
+}
+
+/// What texts are counted with.
+#[derive(Drop)]
+pub(crate) struct Counting<'a> {
+    pub alloc: Global,
+    pub counter: &'a Counter<'a>,
+    pub config: CountConfig,
+    /// The languages that count; `None` means all.
+    pub types: Option<&'a [LanguageType]>,
+}
+
+impl Counting<'_> {
+    /// The statistics of a content in a language, once it is decoded. `Overflow` comes only where one of its counts passes
+    /// the greatest `usize`.
+    fn count(&self, language: LanguageType, content: Vec<u8>) -> Result<CodeStats, ParseFault>
+        requires { language < length self.now.counter.now }
+        ensures stats { IfOk result (λ s. stats_of s
+            ≡ stats_in self.now.counter.now (docs_of self.now.config) language content.items) }
+        ensures overflow { result ≡ Err TooMany
+            → ¬ Fits (stats_in self.now.counter.now (docs_of self.now.config) language content.items) }
+        ensures counted { result ≢ Err NotRead }
+    {
+        let text = decode_text(self.alloc, content)?;
+        Ok(parse_from_slice(
+            self.alloc,
+            self.counter,
+            language,
+            &text,
+            &self.config,
+        )?)
+    }
+
+    /// The statistics of the file at a place, in a language.
+    pub fn read<F: Folders>(
+        &self,
+        folders: &mut F,
+        language: LanguageType,
+        place: &str,
+    ) -> Result<CodeStats, ParseFault>
+        requires { language < length self.now.counter.now }
+        ensures same { F.tree folders.new ≡ F.tree folders.old }
+        ensures told { Told (F.tree folders.old) (λ t. IfOk result (λ s. Some (stats_of s)
+            ≡ stats_at t self.now.counter.now (docs_of self.now.config) language place.now)) }
+        ensures refused { result ≡ Err NotRead → Told (F.tree folders.old) (λ t.
+            content_at t place.now ≡ None) }
+        ensures overflow { result ≡ Err TooMany → Told (F.tree folders.old) (λ t. IsSomeAnd
+            (stats_at t self.now.counter.now (docs_of self.now.config) language place.now) (λ s. ¬ Fits s)) }
+        ensures honest { result ≢ Err OutOfMemory → F.memory_faults folders.old < u64.MAX
+            → F.memory_faults folders.new ≡ F.memory_faults folders.old }
+    {
+        let content = content(folders, place)?;
+        self.count(language, content)
+    }
+}
+
+/// The report of the file at a path, in a language of the counter's table: what its content counts, once it is decoded,
+/// under that path. The path comes back with each refusal, and the folders keep their tree. `Overflow` comes only where
+/// a count of the file passes the greatest `usize`.
+pub fn parse_file<F: Folders>(
+    alloc: Global,
+    counter: &Counter,
+    language: LanguageType,
+    folders: &mut F,
+    path: String,
+    config: &CountConfig,
+) -> Result<Report, (ParseFault, String)>
+    requires { language < length counter.now }
+    ensures same { F.tree folders.new ≡ F.tree folders.old }
+    ensures told { Told (F.tree folders.old) (λ t. IfOk result (λ r. Some (stats_of r.stats)
+        ≡ stats_at t counter.now (docs_of config.now) language (string_bytes path))) }
+    ensures name { IfOk result (λ r. r.name ≡ path) }
+    ensures back { IfErr result (λ e. e.1 ≡ path) }
+    ensures refused { IfErr result (λ e. e.0 ≡ NotRead → Told (F.tree folders.old) (λ t.
+        content_at t (string_bytes path) ≡ None)) }
+    ensures overflow { IfErr result (λ e. e.0 ≡ TooMany → Told (F.tree folders.old) (λ t. IsSomeAnd
+        (stats_at t counter.now (docs_of config.now) language (string_bytes path)) (λ s. ¬ Fits s))) }
+    ensures honest { OnOk result (F.memory_faults folders.old < u64.MAX
+        → F.memory_faults folders.new ≡ F.memory_faults folders.old) }
+    ensures counted { IfErr result (λ e. e.0 ≢ OutOfMemory → F.memory_faults folders.old < u64.MAX
+        → F.memory_faults folders.new ≡ F.memory_faults folders.old) }
+{
+    let counting = Counting {
+        alloc,
+        counter,
+        config: *config,
+        types: None,
+    };
+    match counting.read(folders, language, path.as_str()) {
+        Ok(stats) => Ok(Report { stats, name: path }),
+        Err(fault) => Err((fault, path)),
+    }
+}

@@ -1,0 +1,14 @@
+//! Where the walk and the counter meet: which language a file has, the report of a file, and the statistics of all files
+//! that the ignore rules keep below some roots.
+//!
+//! `specs/` holds the rules, one idea a file: the language of a path, and the report of a content.
+#![tactic(auto)]
+
+mod contents;
+mod counting;
+mod error;
+pub mod laws;
+mod paths;
+
+pub use error::ParseFault;
+pub use paths::{from_shebang, language_of_path};
