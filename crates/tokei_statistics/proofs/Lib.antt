@@ -1,6 +1,5 @@
-pub mod ReadAnswers
 pub mod Deciding
-pub mod LastNames
 pub mod Merges
+pub mod ReadFiles
 pub mod Running
 pub mod Totals

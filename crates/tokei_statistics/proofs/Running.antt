@@ -4,11 +4,11 @@ use Rattle.std.proofs.Math.Bool.{or_assoc}
 use Rattle.std.proofs.Math.Seq.{take-append_seam}
 use Rattle.std.specs.Bool.{⊤}
 use Rattle.tokei_languages.specs.Values.{ReportValue, LanguageValue, empty_language, marked}
-use Rattle.tokei_languages.specs.Maps.{put_at, merged}
+use Rattle.tokei_languages.specs.Maps.{put_at}
 use Rattle.tokei_languages.specs.Merging.{appended, blob_reports, merged_language, merged_languages, with_report}
 use Rattle.tokei_stats.specs.Statistics.{Counts, Statistics, no_lines, plus, blobs}
 use Rattle.tokei_walk.specs.declared.kept_file.KeptFile.{KeptFile}
-use Rattle.tokei_walk.specs.Tree.{Tree}
+use Rattle.tokei_folders.specs.Tree.{Tree}
 use Rattle.tokei_statistics.specs.Contents.{content_at, stats_at, stats_in}
 use Rattle.tokei_statistics.specs.Runs.{Counting, language_from, language_of_file, languages_in, languages_of_file, languages_of_run, FileFits, ReadingsFit, AddsFiles, AddsFirst}
 use Rattle.tokei_statistics.proofs.Merges.{Ascends, AllMeet, Associates, merged_assoc, ascends_merged, meet_merged, same_put}
@@ -220,3 +220,7 @@ module _ (c : Counting) (t : Tree) where
 pub always_err : {T E A : Type 0} (q : Result T E) → A → OnErr q A
 always_err (Ok x) a = tt
 always_err (Err e) a = a
+
+-- none of them
+pub none_added : (c : Counting) (t : Tree) (files : List KeptFile) (a : List (ℕ × LanguageValue)) → AddsFirst c t files a a
+none_added c t files a = record { count = 0; adds = refl }

@@ -1,8 +1,7 @@
 -- What is added up over languages doesn't ask in which order they were merged.
-use Rattle.std.proofs.Common.{◌≡◌, ℕ, ◌+◌, ◌<◌, List, [], ◌∷◌, ◌++◌, Bool, true, false, ◌||◌, cond, refl, sym, ◌∙◌, ap, subst, arith, sum_by, nat_lt}
+use Rattle.std.proofs.Common.{◌≡◌, ℕ, ◌+◌, List, [], ◌∷◌, ◌++◌, Bool, true, false, ◌||◌, cond, refl, sym, ◌∙◌, ap, arith, sum_by, nat_lt}
 use Rattle.std.proofs.lemmas.Bool.Decides.{nat_tests}
 use Rattle.std.proofs.Math.Bool.{or_assoc, or_comm}
-use Rattle.std.proofs.lemmas.Cmp.{ranked}
 use Rattle.std.proofs.lemmas.List.Sorted.{sum_by-IsPermutation}
 use Rattle.std.proofs.lemmas.List.Sums.{sum_by-cons}
 use Rattle.std.specs.List.Sorted.{IsPermutation}
@@ -10,14 +9,14 @@ use Rattle.std.specs.Ordering.{nat_cmp, match_ordering}
 use Rattle.std.specs.declared.cmp.Ordering.{Ordering}
 use Rattle.std.specs.declared.cmp.Ordering.TheVariants.{Less, Equal, Greater}
 use Rattle.tokei_languages.specs.Maps.{put_at, merged}
-use Rattle.tokei_languages.specs.Merging.{appended, merged_language, merged_languages}
+use Rattle.tokei_languages.specs.Merging.{merged_language, merged_languages}
 use Rattle.tokei_languages.specs.Renewing.{own_sum, renewed, renewed_languages}
 use Rattle.tokei_languages.specs.Summaries.{reports_summary, children_summary, language_summary, languages_summary, any_inaccurate}
 use Rattle.tokei_languages.specs.Values.{ReportValue, LanguageValue}
 use Rattle.tokei_stats.specs.Statistics.{Counts, no_lines, plus, own, summary}
 use Rattle.tokei_walk.specs.declared.kept_file.KeptFile.{KeptFile}
-use Rattle.tokei_walk.specs.Tree.{Tree}
-use Rattle.tokei_statistics.specs.OrderLaws.{HaveEqualTotals, OrderKeepsTotals}
+use Rattle.tokei_folders.specs.Tree.{Tree}
+use Rattle.tokei_statistics.specs.OrderLaws.{OrderKeepsTotals}
 use Rattle.tokei_statistics.specs.Runs.{Counting, languages_of_file, languages_of_run}
 
 -- a number of each value, added up over entries, where joining values adds them
@@ -162,7 +161,7 @@ module _ (c : Counting) (t : Tree) where
       → any_inaccurate (renewed_languages (merged_languages old (languages_of_run c t xs))) ≡ any_inaccurate (renewed_languages (merged_languages old (languages_of_run c t ys)))
   same_marks old xs ys p =
       let of_run : (ks : List KeptFile) → any_inaccurate (renewed_languages (merged_languages old (languages_of_run c t ks))) ≡ (any_inaccurate old || nat_lt 0 (sum_by (λ (k : KeptFile). one_if (is_marked k)) ks)) =
-          λ ks. marks_renewed (merged_languages old (languages_of_run c t ks)) ∙ marks_merged old (languages_of_run c t ks) ∙ ap (λ b. any_inaccurate old || b) (run_marks ks) in
+      λ ks. marks_renewed (merged_languages old (languages_of_run c t ks)) ∙ marks_merged old (languages_of_run c t ks) ∙ ap (λ b. any_inaccurate old || b) (run_marks ks) in
       of_run xs ∙ ap (λ n. any_inaccurate old || nat_lt 0 n) (sym (sum_by-IsPermutation (λ (k : KeptFile). one_if (is_marked k)) xs ys p)) ∙ sym (of_run ys)
 
 blanks_add : IsColumn (λ n. n.blanks)

@@ -5,8 +5,8 @@ use Rattle.tokei_count.specs.PlainReading.{reading, outermost_levels}
 use Rattle.tokei_stats.specs.Statistics.{Statistics}
 use Rattle.tokei_table.specs.Row.{Row}
 use Rattle.tokei_text.specs.Decoding.{decoded}
-use Rattle.tokei_walk.specs.Answers.{node_content}
-use Rattle.tokei_walk.specs.Tree.{Tree, node_at, names_of}
+use Rattle.tokei_folders.specs.Answers.{node_content}
+use Rattle.tokei_folders.specs.Tree.{Tree, node_at, names_of}
 
 -- the content of the file at a place, where it can be read
 unfoldable pub content_at : Tree → List ℕ → Option (List ℕ)

@@ -1,8 +1,8 @@
 -- Why a file has no report.
 use Rattle.tokei_stats.specs.declared.error.CountError.{CountError}
 use Rattle.tokei_stats.specs.declared.error.CountError.TheVariants.{Memory, Overflow}
-use Rattle.tokei_walk.specs.declared.fs.Fault.{Fault}
-use Rattle.tokei_walk.specs.declared.fs.Fault.TheVariants.{Refused, Memory as Wanting}
+use Rattle.tokei_folders.specs.declared.fs.Fault.{Fault}
+use Rattle.tokei_folders.specs.declared.fs.Fault.TheVariants.{Refused, Memory as Wanting}
 use Rattle.tokei_statistics.specs.declared.error.ParseFault.{ParseFault}
 use Rattle.tokei_statistics.specs.declared.error.ParseFault.TheVariants.{Refused as NotRead, Memory as OutOfMemory, Overflow as TooMany}
 

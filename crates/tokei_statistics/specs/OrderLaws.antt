@@ -6,7 +6,7 @@ use Rattle.tokei_languages.specs.Renewing.{renewed_languages}
 use Rattle.tokei_languages.specs.Summaries.{languages_summary, any_inaccurate}
 use Rattle.tokei_languages.specs.Values.{LanguageValue}
 use Rattle.tokei_walk.specs.declared.kept_file.KeptFile.{KeptFile}
-use Rattle.tokei_walk.specs.Tree.{Tree}
+use Rattle.tokei_folders.specs.Tree.{Tree}
 use Rattle.tokei_statistics.specs.Runs.{Counting, languages_of_run}
 
 -- the counts of both, with those of the texts inside, and their marks are the same

@@ -1,17 +1,17 @@
 -- The language of a path in a told tree: by the path's name, and by the head of the file where the name decides nothing
 -- and has no extension.
-use Rattle.std.specs.Prelude.{ℕ, List, Bool, true, false, Option, None, is_some, Result, Ok, Err, if◌then◌else◌}
+use Rattle.std.specs.Prelude.{ℕ, List, [], Option, None, is_some, unwrap_or, Result, Ok, Err, if◌then◌else◌}
+use Rattle.std.specs.List.{last_or}
 use Rattle.tokei_table.specs.Lookups.{or_else, extension_of, from_file_name}
 use Rattle.tokei_table.specs.Row.{Row}
 use Rattle.tokei_table.specs.Shebangs.{from_shebang}
-use Rattle.tokei_walk.specs.declared.fs.Fault.{Fault}
-use Rattle.tokei_walk.specs.Answers.{head_answer}
-use Rattle.tokei_walk.specs.Kept.{last_name}
-use Rattle.tokei_walk.specs.Tree.{Tree, node_at, names_of}
+use Rattle.tokei_folders.specs.declared.fs.Fault.{Fault}
+use Rattle.tokei_folders.specs.Answers.{head_answer}
+use Rattle.tokei_folders.specs.Tree.{Tree, node_at, names_of}
 
--- the name of a path is its last one; empty ones and `.` are none
+-- the name of a path is its last one; empty ones and `.` are none, and a path without names has the empty text
 unfoldable pub name_of : List ℕ → List ℕ
-name_of path = last_name (names_of path)
+name_of path = unwrap_or (last_or None (names_of path)) []
 
 -- by a head; one that can't be read stands for no language
 abbrev pub from_head : List Row → Result (List ℕ) Fault → Option ℕ

@@ -1,12 +1,12 @@
 -- The languages of a run: what the kept files count, each in the language that its path has.
 use Rattle.std.specs.Prelude.{◌≡◌, ℕ, ◌==◌, Bool, true, List, [], ◌∷◌, take, Option, Some, None, option_and_then, IfSome, if◌then◌else◌, ⊤}
 use Rattle.std.specs.List.{list_any}
-use Rattle.tokei_languages.specs.Values.{ReportValue, LanguageValue, empty_language, marked}
+use Rattle.tokei_languages.specs.Values.{LanguageValue, empty_language, marked}
 use Rattle.tokei_stats.specs.Overflow.{Fits}
 use Rattle.tokei_stats.specs.Statistics.{Statistics}
 use Rattle.tokei_table.specs.Row.{Row}
 use Rattle.tokei_walk.specs.declared.kept_file.KeptFile.{KeptFile}
-use Rattle.tokei_walk.specs.Tree.{Tree}
+use Rattle.tokei_folders.specs.Tree.{Tree}
 use Rattle.tokei_statistics.specs.Contents.{stats_at}
 use Rattle.tokei_languages.specs.Merging.{merged_languages, with_report}
 use Rattle.tokei_statistics.specs.Paths.{language_by_path}

@@ -3,8 +3,8 @@ ghost use Rattle.std.specs.Prelude.{◌≡◌, ◌≢◌, ◌<◌, None, Some, E
 ghost use Rattle.tokei_count.specs.Seen.{docs_of};
 ghost use Rattle.tokei_stats.specs.Overflow.{Fits};
 ghost use Rattle.tokei_stats.specs.Seen.{stats_of};
-ghost use Rattle.tokei_walk.specs.Answers.{Told};
-ghost use Rattle.tokei_walk.specs.declared.fs.Fault.TheVariants.{Refused as RefusedFault, Memory as MemoryFault};
+ghost use Rattle.tokei_folders.specs.Answers.{Told};
+ghost use Rattle.tokei_folders.specs.declared.fs.Fault.TheVariants.{Refused as RefusedFault, Memory as MemoryFault};
 ghost use Rattle.tokei_statistics.specs.declared.error.ParseFault.TheVariants.{Refused as NotRead, Memory as OutOfMemory, Overflow as TooMany};
 ghost use Rattle.tokei_statistics.specs.Contents.{content_at, stats_at, stats_in};
 
@@ -24,10 +24,7 @@ fn content<F: Folders>(folders: &mut F, place: &str) -> Result<Vec<u8>, Fault>
     ensures honest { result ≢ Err MemoryFault → F.memory_faults folders.old < u64.MAX
         → F.memory_faults folders.new ≡ F.memory_faults folders.old }
 {
-    match folders.read(place) {
-        Ok(content) => Ok(content.into_vec()),
-        Err(fault) => Err(fault),
-    }
+    folders.read(place)
 }
 
 /// What texts are counted with.
@@ -52,13 +49,7 @@ impl Counting<'_> {
         ensures counted { result ≢ Err NotRead }
     {
         let text = decode_text(self.alloc, content)?;
-        Ok(parse_from_slice(
-            self.alloc,
-            self.counter,
-            language,
-            &text,
-            &self.config,
-        )?)
+        Ok(parse_from_slice(self.alloc, self.counter, language, &text, &self.config)?)
     }
 
     /// The statistics of the file at a place, in a language.

@@ -2,9 +2,10 @@
 ghost use Rattle.std.specs.Prelude.{◌≡◌, ◌≢◌, ◌<◌, Err, length, OnOk, OnErr, IfOk, IfSome, IsErrOf};
 ghost use Rattle.tokei_languages.specs.Merging.{merged_languages};
 ghost use Rattle.tokei_languages.specs.Seen.{languages_of};
-ghost use Rattle.tokei_walk.specs.Answers.{Told};
-ghost use Rattle.tokei_walk.specs.Notes.{Grows, notes_of};
-ghost use Rattle.tokei_walk.specs.Walks.{to_come, HasEnded};
+ghost use Rattle.tokei_folders.specs.Answers.{Told};
+ghost use Rattle.tokei_walk.specs.Kept.{kept_in};
+ghost use Rattle.tokei_walk.specs.Notes.{Grows, notes_of, notes_of_excludes};
+ghost use Rattle.tokei_walk.specs.Walks.{to_come, excludes_of, texts_of};
 ghost use Rattle.tokei_statistics.specs.Runs.{counts, AddsFiles, AddsFirst, FileFits, ReadingsFit, languages_of_file, language_of_file};
 ghost use Rattle.tokei_statistics.specs.Seen.{counting_of};
 
@@ -15,7 +16,7 @@ use std::alloc::AllocError;
 use tokei_count::{CountError, Report};
 use tokei_languages::Languages;
 use tokei_table::LanguageType;
-use tokei_walk::{Folders, KeptFile, Walk};
+use tokei_walk::{Folders, KeptFile, Note, Rules, Walk};
 
 impl Counting<'_> {
     /// Whether files of the language are counted.
@@ -105,5 +106,33 @@ impl Counting<'_> {
             self.add_file(folders, file, languages)?;
         }
         Ok(())
+    }
+    /// Counts the files that the rules keep below the roots, and answers what was passed over. After a refusal the
+    /// languages are those from before with those of the first files, so many as were counted.
+    pub fn count_roots<F: Folders>(
+        &self,
+        folders: &mut F,
+        roots: &[String],
+        excludes: &[String],
+        rules: &Rules,
+        languages: &mut Languages,
+    ) -> Result<Vec<Note>, CountError>
+        ensures same { F.tree folders.new ≡ F.tree folders.old }
+        ensures told { Told (F.tree folders.old) (λ t. OnOk result (AddsFiles (counting_of self.now) t
+            (kept_in (excludes_of (texts_of excludes.now)) rules.now t (texts_of roots.now))
+            (languages_of languages.old) (languages_of languages.new))) }
+        ensures partly { Told (F.tree folders.old) (λ t. OnErr result (AddsFirst (counting_of self.now) t
+            (kept_in (excludes_of (texts_of excludes.now)) rules.now t (texts_of roots.now))
+            (languages_of languages.old) (languages_of languages.new))) }
+        ensures overflow { IsErrOf result CountError.Overflow → Told (F.tree folders.old) (λ t.
+            ¬ ReadingsFit (counting_of self.now) t
+            (kept_in (excludes_of (texts_of excludes.now)) rules.now t (texts_of roots.now))) }
+        ensures notes { IfOk result (λ n. Grows (notes_of_excludes (texts_of excludes.now)) n.items) }
+        ensures honest { OnOk result (F.memory_faults folders.old < u64.MAX
+            → F.memory_faults folders.new ≡ F.memory_faults folders.old) }
+    {
+        let mut walk = Walk::new(self.alloc, roots, excludes, rules)?;
+        self.count_files(folders, &mut walk, languages)?;
+        Ok(walk.into_notes())
     }
 }

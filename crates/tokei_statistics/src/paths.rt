@@ -1,34 +1,18 @@
 //! Which language a file has: by its name, and by its head where the name decides nothing and has no extension.
 ghost use Rattle.std.specs.Prelude.{◌≡◌, ◌<◌, length, IfOk, IfSome, OnOk};
-ghost use Rattle.tokei_walk.specs.Answers.{Told};
-ghost use Rattle.tokei_walk.specs.Tree.{is_name as is_a_name};
+ghost use Rattle.tokei_folders.specs.Answers.{Told};
 ghost use Rattle.tokei_statistics.specs.Paths.{name_of, language_by_head, language_by_path};
 
 use std::alloc::{AllocError, Global};
 use tokei_table::{LanguageTable, LanguageType, has_extension};
+use tokei_walk::names::last_name;
 use tokei_walk::{Fault, Folders};
 
-fn is_name(piece: &str) -> bool
-    ensures { result ≡ is_a_name piece.now }
-{
-    match piece.as_bytes() {
-        [] => false,
-        [only] => *only != b'.',
-        _ => true,
-    }
-}
-
-/// The last name of a path, where empty ones and `.` are none; the empty text where it has none.
-pub(crate) fn file_name(path: &str) -> &str
+/// The last name of a path; the empty text where it has none.
+fn file_name(path: &str) -> &str
     ensures { result.now ≡ name_of path.entry.now }
 {
-    let mut last = "";
-    for piece in path.split('/') {
-        if is_name(piece) {
-            last = piece;
-        }
-    }
-    last
+    last_name(path).unwrap_or("")
 }
 
 /// The language of a script, by the first line of its head. A head that can't be read has none. `Memory` is the only
@@ -47,7 +31,7 @@ pub fn from_shebang<F: Folders>(
         → F.memory_faults folders.new ≡ F.memory_faults folders.old) }
 {
     match folders.head(path) {
-        Ok(head) => Ok(LanguageType::from_shebang_bytes(table, head.as_slice())),
+        Ok(head) => Ok(LanguageType::from_shebang_bytes(table, &head)),
         Err(Fault::Refused) => Ok(None),
         Err(Fault::Memory) => Err(AllocError),
     }

@@ -1,5 +1,4 @@
 use Rattle.std.proofs.Common.{Err, ap, sym, ◌∙◌}
-use Rattle.tokei_languages.specs.Values.{ReportValue}
 use Rattle.tokei_languages.specs.Seen.{languages_of}
 use Rattle.tokei_stats.specs.Seen.{stats_of}
 use Rattle.tokei_statistics.specs.Contents.{content_at, stats_at}
