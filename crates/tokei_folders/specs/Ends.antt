@@ -22,4 +22,3 @@ abbrev pub without_last : {X : Type 0} → List X → List X
 without_last [] = []
 without_last (x ∷ []) = []
 without_last (x ∷ y ∷ xs) = x ∷ without_last (y ∷ xs)
-

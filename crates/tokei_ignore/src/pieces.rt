@@ -1,7 +1,6 @@
 //! What the segments of a pattern are made of.
 use tokei_folders::Items;
 
-
 /// The characters from `low` to `high`, both included.
 #[derive(Clone, Copy, Debug, PartialEq, Eq)]
 pub struct Range {

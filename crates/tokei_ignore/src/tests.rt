@@ -44,6 +44,11 @@ fn patterns_fit(rt: HostRuntime) -> Result<(), Fail> {
         ("a\\  ", "a ", false, true),
         ("a  ", "a", false, true),
         ("?", "é", false, true),
+        ("[\\]]", "]", false, true),
+        ("[\\]]", "a", false, false),
+        ("a**b", "ab", false, true),
+        ("a**b", "axyb", false, true),
+        ("a**b", "a/b", false, false),
     ];
     for (line, path, folder, want) in rows {
         let found = fits(rt.alloc(), line, path, folder);
@@ -72,6 +77,44 @@ fn the_last_line_decides(rt: HostRuntime) -> Result<(), Fail> {
     assert!(rt; file.bad_lines == 1);
     assert!(rt; names.as_slice().len() > 0);
     assert!(rt; file.verdict(names.as_slice(), false) == Some(Verdict::Keep));
+    Ok(())
+}
+
+#[test]
+fn a_pattern_matches_an_entry(rt: HostRuntime) -> Result<(), Fail> {
+    let names = names(rt.alloc(), "d/a.rs")?;
+    assert!(rt; names.as_slice().len() > 0);
+    match Pattern::parse(rt.alloc(), "d/*.rs") {
+        Ok(Some(pattern)) => assert!(rt; pattern.matches(names.as_slice(), false)),
+        Ok(None) | Err(_) => assert!(rt; false),
+    }
+    match Pattern::parse_exclude(rt.alloc(), "#a") {
+        Ok(Some(pattern)) => assert!(rt; !pattern.matches(names.as_slice(), false)),
+        Ok(None) | Err(_) => assert!(rt; false),
+    }
+    Ok(())
+}
+
+/// What an ignore file decides about a file at the top.
+fn verdict(alloc: Global, bytes: &[u8], name: &str) -> Result<Option<Verdict>, AllocError> {
+    let names = names(alloc, name)?;
+    let file = IgnoreFile::parse(alloc, bytes)?;
+    if names.is_empty() {
+        return Ok(None);
+    }
+    Ok(file.verdict(names.as_slice(), false))
+}
+
+#[test]
+fn line_ends_and_lines_that_are_no_text(rt: HostRuntime) -> Result<(), Fail> {
+    let dropped = Some(Verdict::Ignore);
+    assert!(rt; verdict(rt.alloc(), b"*.a\r", "x.a")? == dropped);
+    assert!(rt; verdict(rt.alloc(), b"*.a\r\n*.b", "x.a")? == dropped);
+    assert!(rt; verdict(rt.alloc(), b"*.a\r\r", "x.a")? == None);
+    assert!(rt; verdict(rt.alloc(), b"\xFF*.a\n*.b", "x.a")? == None);
+    assert!(rt; verdict(rt.alloc(), b"\xFF*.a\n*.b", "x.b")? == dropped);
+    let file = IgnoreFile::parse(rt.alloc(), b"#\xFF\n\xFF\n#a\n")?;
+    assert_eq!(rt; file.bad_lines, 2);
     Ok(())
 }
 

@@ -4,6 +4,7 @@ pub mod Groups
 pub mod Growing
 pub mod Inside
 pub mod KeptPlaces
+pub mod ListedFiles
 pub mod Over
 pub mod Ranking
 pub mod RootSteps

@@ -6,6 +6,8 @@ use Rattle.tokei_folders.specs.Answers.{node_kind}
 use Rattle.tokei_folders.specs.Tree.{Names, Tree, node_at, names_of}
 use Rattle.tokei_folders.proofs.Joining.{names_of-joined}
 use Rattle.tokei_walk.specs.Levels.{level_at, ignore_file_at, has_git, patterns_at}
+use Rattle.tokei_walk.specs.Sought.{level_of}
+use Rattle.tokei_walk.specs.declared.rules_files.Sought.{Sought}
 use Rattle.tokei_walk.specs.declared.levels.Level.{Level}
 use Rattle.tokei_walk.specs.declared.levels.Rules.{Rules}
 use Rattle.tokei_ignore.specs.declared.patterns.Pattern.{Pattern}
@@ -22,19 +24,25 @@ pub some_kind : (o : Option Node) → is_some (node_kind o) ≡ is_some o
 some_kind None = refl
 some_kind (Some n) = refl
 
-level_of : List Pattern → List Pattern → List Pattern → List Pattern → Bool → Level
-level_of a b c d g = record { tokeignore = a; ignore = b; gitignore = c; git_exclude = d; git = g }
+abbrev pub level_with : List Pattern → List Pattern → List Pattern → List Pattern → Bool → Level
+level_with a b c d g = record { tokeignore = a; ignore = b; gitignore = c; git_exclude = d; git = g }
 
-same_level : {a a' b b' c c' d d' : List Pattern} {g g' : Bool} → a ≡ a' → b ≡ b' → c ≡ c' → d ≡ d' → g ≡ g' → level_of a b c d g ≡ level_of a' b' c' d' g'
-same_level ea eb ec ed eg = λ i. level_of (ea i) (eb i) (ec i) (ed i) (eg i)
+pub same_level : {a a' b b' c c' d d' : List Pattern} {g g' : Bool} → a ≡ a' → b ≡ b' → c ≡ c' → d ≡ d' → g ≡ g' → level_with a b c d g ≡ level_with a' b' c' d' g'
+same_level ea eb ec ed eg = λ i. level_with (ea i) (eb i) (ec i) (ed i) (eg i)
 
--- the rules of a folder, file by file
-pub level_told : (t : Tree) (r : Rules) (p : Names) (a b c d : List Pattern) (g : Bool) → g ≡ (r.git && is_some (node_at t (p ++ names_of (codes ".git"))))
-    → a ≡ cond r.dot (patterns_at (node_at t (p ++ names_of (codes ".tokeignore")))) []
-    → b ≡ cond r.dot (patterns_at (node_at t (p ++ names_of (codes ".ignore")))) []
-    → c ≡ cond r.git (patterns_at (node_at t (p ++ names_of (codes ".gitignore")))) []
-    → d ≡ cond g (patterns_at (node_at t (p ++ names_of (codes ".git/info/exclude")))) []
-    → record { tokeignore = a; ignore = b; gitignore = c; git_exclude = d; git = g } ≡ level_at t r p
+-- the rules of the files that are sought, file by file
+pub level_told : (t : Tree) (s : Sought) (p : Names) (a b c d : List Pattern)
+    → a ≡ cond s.tokeignore (patterns_at (node_at t (p ++ names_of (codes ".tokeignore")))) []
+    → b ≡ cond s.ignore (patterns_at (node_at t (p ++ names_of (codes ".ignore")))) []
+    → c ≡ cond s.gitignore (patterns_at (node_at t (p ++ names_of (codes ".gitignore")))) []
+    → d ≡ cond s.git (patterns_at (node_at t (p ++ names_of (codes ".git/info/exclude")))) []
+    → record { tokeignore = a; ignore = b; gitignore = c; git_exclude = d; git = s.git } ≡ level_of t s p
+unfolding level_of ignore_file_at names_of
+level_told t s p a b c d ea eb ec ed = same_level ea eb ec ed refl
+
+-- a folder's own rules, where its `.git` is known and each file is sought
+pub level_asked : (t : Tree) (r : Rules) (p : Names) (g : Bool) → g ≡ (r.git && is_some (node_at t (p ++ names_of (codes ".git"))))
+    → level_of t (record { git = g; tokeignore = r.dot; ignore = r.dot; gitignore = r.git }) p ≡ level_at t r p
 unfolding level_of level_at ignore_file_at has_git names_of
-level_told t r p a b c d g eg ea eb ec ed =
-    same_level ea eb ec (ed ∙ ap (λ (x : Bool). cond x (patterns_at (node_at t (p ++ codes ".git" ∷ codes "info" ∷ codes "exclude" ∷ []))) []) eg) eg
+level_asked t r p g is =
+    same_level refl refl refl (ap (λ (x : Bool). cond x (patterns_at (node_at t (p ++ codes ".git" ∷ codes "info" ∷ codes "exclude" ∷ []))) []) is) is

@@ -17,6 +17,7 @@ pub mod Kept
 pub mod Levels
 pub mod Notes
 pub mod Ranks
+pub mod Sought
 pub mod Stacks
 pub mod WalkLaws
 pub mod Walks

@@ -1,7 +1,6 @@
 //! Kept files, and notes of what was passed over.
 use tokei_folders::{Items, Text};
 
-
 /// A file that the ignore rules keep.
 #[derive(Drop)]
 pub struct KeptFile {

@@ -1,11 +1,10 @@
 //! What the rules of folders inside one another decide.
-use tokei_folders::{Items, Text};
-use tokei_ignore::{Pattern, Verdict, verdict_among};
-
 ghost use Rattle.std.specs.Prelude.{◌≡◌, None};
 ghost use Rattle.tokei_folders.specs.Ends.{without_first as rest_of, begins_with};
 ghost use Rattle.tokei_walk.specs.Levels.{patterns_from as level_patterns, decision as level_decision, repository as repository_of, decided as level_decided, is_excluded as excluded_by, drops_last};
 
+use tokei_folders::{Items, Text};
+use tokei_ignore::{Pattern, Verdict, verdict_among};
 
 /// Which rules of the walk apply.
 #[derive(Clone, Copy, Debug, PartialEq, Eq)]

@@ -10,7 +10,7 @@ ghost use Rattle.tokei_walk.specs.Walks.{RootGives, texts_of};
 
 use crate::kept_file::{KeptFile, Note, NoteKind};
 use crate::parents::context_of_root;
-use crate::rules_files::{kind_at, note, read_level};
+use crate::rules_files::{kind_at, note, read_sought, sought_among};
 use crate::stack::{Settings, Stack, listing, note_unnamed};
 use std::alloc::{AllocError, Global};
 use tokei_folders::{Folders, Items, Kind, Text};
@@ -54,7 +54,8 @@ fn enter_root<F: Folders>(
     };
     note_unnamed(alloc, notes, &listing, root.as_str())?;
     let mut context = context_of_root(settings, folders, notes, root.as_str())?;
-    let level = read_level(alloc, folders, notes, &settings.rules, root.as_str())?;
+    let sought = sought_among(&settings.rules, listing.entries.as_slice());
+    let level = read_sought(alloc, folders, notes, sought, root.as_str())?;
     context.levels.push(level)?;
     let mut left = Items::from_vec(listing.entries);
     left.reverse();

@@ -3,14 +3,16 @@ ghost use Rattle.std.specs.Prelude.{◌≡◌, ◌<◌, ◌++◌, ◌&&◌, [], 
 ghost use Rattle.tokei_walk.specs.Notes.{Grows};
 ghost use Rattle.tokei_folders.specs.Answers.{Told, node_kind, node_content};
 ghost use Rattle.tokei_folders.specs.Tree.{names_of, node_at};
+ghost use Rattle.tokei_walk.specs.Sought.{level_of, listed, lists as is_listed};
 ghost use Rattle.tokei_walk.specs.Levels.{patterns_at, level_at};
 ghost use Rattle.tokei_folders.specs.Places.{joined as joined_places};
 
 use crate::kept_file::{Note, NoteKind};
 use crate::levels::{Level, Rules};
 use std::alloc::{AllocError, Global};
-use tokei_folders::{Fault, Folders, Items, Kind, Text};
+use std::cmp::Ordering;
 use tokei_folders::places::joined;
+use tokei_folders::{Entry, Fault, Folders, Items, Kind, Text};
 use tokei_ignore::{IgnoreFile, Pattern};
 
 /// Adds a note.
@@ -134,7 +136,73 @@ fn is_repository<F: Folders>(
     Ok(kind_at(folders, whole.as_str())?.is_some())
 }
 
-/// Reads the rules of a folder.
+/// Whether an entry of this name is listed, of whatever kind.
+fn lists(entries: &[Entry], name: &str) -> bool
+    ensures { result ≡ is_listed entries.now name.now }
+{
+    for entry in entries {
+        if entry.name.as_str().cmp(name) == Ordering::Equal {
+            return true;
+        }
+    }
+    false
+}
+
+/// Which ignore files of a folder are sought, and whether git's rules begin there.
+#[derive(Clone, Copy)]
+pub struct Sought {
+    pub git: bool,
+    pub tokeignore: bool,
+    pub ignore: bool,
+    pub gitignore: bool,
+}
+
+/// Of the ignore files that the rules ask for, those that are listed.
+#[tactic(auto, unfolding(crate::specs::Sought::listed))]
+pub fn sought_among(rules: &Rules, entries: &[Entry]) -> Sought
+    ensures { result ≡ listed rules.now entries.now }
+{
+    Sought {
+        git: rules.git && lists(entries, ".git"),
+        tokeignore: rules.dot && lists(entries, ".tokeignore"),
+        ignore: rules.dot && lists(entries, ".ignore"),
+        gitignore: rules.git && lists(entries, ".gitignore"),
+    }
+}
+
+/// Reads the ignore files of a folder that are sought.
+#[tactic(auto, using(crate::proofs::Growing::grows_same, crate::proofs::Growing::grows_on))]
+pub fn read_sought<F: Folders>(
+    alloc: Global,
+    folders: &mut F,
+    notes: &mut Items<Note>,
+    sought: Sought,
+    place: &str,
+) -> Result<Level, AllocError>
+    ensures same { F.tree folders.new ≡ F.tree folders.old }
+    ensures notes { Grows notes.old notes.new }
+    ensures told { Told (F.tree folders.old) (λ t. IfOk result
+        (λ l. l ≡ level_of t sought (names_of place.now))) }
+    ensures honest { OnOk result (F.memory_faults folders.old < u64.MAX
+        → F.memory_faults folders.new ≡ F.memory_faults folders.old) }
+{
+    let dot = sought.tokeignore;
+    let tokeignore = patterns_of_name(alloc, folders, notes, dot, place, ".tokeignore")?;
+    let ignore = patterns_of_name(alloc, folders, notes, sought.ignore, place, ".ignore")?;
+    let git = sought.gitignore;
+    let gitignore = patterns_of_name(alloc, folders, notes, git, place, ".gitignore")?;
+    let git = sought.git;
+    let git_exclude = patterns_of_name(alloc, folders, notes, git, place, ".git/info/exclude")?;
+    Ok(Level {
+        tokeignore,
+        ignore,
+        gitignore,
+        git_exclude,
+        git,
+    })
+}
+
+/// Reads the rules of a folder that isn't listed.
 #[tactic(auto, using(crate::proofs::Growing::grows_same, crate::proofs::Growing::grows_on))]
 pub fn read_level<F: Folders>(
     alloc: Global,
@@ -151,15 +219,11 @@ pub fn read_level<F: Folders>(
         → F.memory_faults folders.new ≡ F.memory_faults folders.old) }
 {
     let git = is_repository(alloc, folders, rules.git, place)?;
-    let tokeignore = patterns_of_name(alloc, folders, notes, rules.dot, place, ".tokeignore")?;
-    let ignore = patterns_of_name(alloc, folders, notes, rules.dot, place, ".ignore")?;
-    let gitignore = patterns_of_name(alloc, folders, notes, rules.git, place, ".gitignore")?;
-    let git_exclude = patterns_of_name(alloc, folders, notes, git, place, ".git/info/exclude")?;
-    Ok(Level {
-        tokeignore,
-        ignore,
-        gitignore,
-        git_exclude,
+    let sought = Sought {
         git,
-    })
+        tokeignore: rules.dot,
+        ignore: rules.dot,
+        gitignore: rules.git,
+    };
+    read_sought(alloc, folders, notes, sought, place)
 }

@@ -13,11 +13,11 @@ ghost use Rattle.tokei_walk.specs.Stacks.{Pops, Leaves, Enters, EntersTold, Step
 
 use crate::kept_file::{KeptFile, Note, NoteKind};
 use crate::levels::{Context, Level, Rules, is_dropped};
-use crate::rules_files::{note, read_level};
+use crate::rules_files::{note, read_sought, sought_among};
 use std::alloc::{AllocError, Global};
 use std::mem;
-use tokei_folders::{Entry, Fault, Folders, Items, Kind, Listing, Text};
 use tokei_folders::places::joined;
+use tokei_folders::{Entry, Fault, Folders, Items, Kind, Listing, Text};
 use tokei_ignore::Pattern;
 
 /// A folder that is entered and not yet left.
@@ -194,7 +194,8 @@ pub fn enter<F: Folders>(
         return Ok(false);
     };
     note_unnamed(alloc, notes, &listing, place.as_str())?;
-    let level = read_level(alloc, folders, notes, &settings.rules, place.as_str())?;
+    let sought = sought_among(&settings.rules, listing.entries.as_slice());
+    let level = read_sought(alloc, folders, notes, sought, place.as_str())?;
     push_folder(stack, place, level, Items::from_vec(listing.entries))?;
     Ok(true)
 }

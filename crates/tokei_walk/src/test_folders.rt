@@ -4,22 +4,28 @@ ghost use Rattle.std.specs.Prelude.{◌≡◌};
 use std::alloc::{AllocError, Global};
 use tokei_folders::{Above, Entry, Fault, Folders, Items, Kind, Listing, Text};
 
-/// Folders whose calls of `read` are counted, and which may hold names that aren't UTF-8.
+/// Folders whose calls are counted.
 #[derive(Drop)]
 pub struct Watched<F> {
     pub inner: F,
+    pub calls: u64,
+    /// Of these those of `read`.
     pub reads: u64,
-    /// How many such names each folder has.
-    pub unnamed: usize,
 }
 
 impl<F: Folders> Watched<F> {
     pub fn new(inner: F) -> Watched<F> {
         Watched {
             inner,
+            calls: 0,
             reads: 0,
-            unnamed: 0,
         }
+    }
+
+    fn count(&mut self)
+        ensures { self.new.inner ≡ self.old.inner }
+    {
+        self.calls = self.calls.saturating_add(1);
     }
 }
 
@@ -31,6 +37,48 @@ impl<F: Folders> Folders for Watched<F> {
     ghost sound = { λ s. F.sound s.inner };
 
     fn kind(&mut self, place: &str) -> Result<Kind, Fault> {
+        self.count();
+        self.inner.kind(place)
+    }
+
+    fn list(&mut self, place: &str) -> Result<Listing, Fault> {
+        self.count();
+        self.inner.list(place)
+    }
+
+    fn read(&mut self, place: &str) -> Result<Vec<u8>, Fault> {
+        self.count();
+        self.reads = self.reads.saturating_add(1);
+        self.inner.read(place)
+    }
+
+    fn head(&mut self, place: &str) -> Result<Vec<u8>, Fault> {
+        self.count();
+        self.inner.head(place)
+    }
+
+    fn above(&mut self, place: &str) -> Result<Vec<Above>, Fault> {
+        self.count();
+        self.inner.above(place)
+    }
+}
+
+/// Folders of which each has a name that isn't UTF-8. They tell no tree.
+#[derive(Drop)]
+pub struct Unnamed<F> {
+    pub inner: F,
+}
+
+impl<F: Folders> Folders for Unnamed<F> {
+    ghost use Rattle.std.specs.Prelude.{None};
+
+    ghost tree = { λ _. None };
+
+    ghost memory_faults = { λ s. F.memory_faults s.inner };
+
+    ghost sound = { λ _. tt };
+
+    fn kind(&mut self, place: &str) -> Result<Kind, Fault> {
         self.inner.kind(place)
     }
 
@@ -38,22 +86,21 @@ impl<F: Folders> Folders for Watched<F> {
         match self.inner.list(place) {
             Ok(listing) => Ok(Listing {
                 entries: listing.entries,
-                unnamed: self.unnamed,
+                unnamed: 1,
             }),
             Err(fault) => Err(fault),
         }
     }
 
-    fn read(&mut self, place: &str) -> Result<Items<u8>, Fault> {
-        self.reads = self.reads.saturating_add(1);
+    fn read(&mut self, place: &str) -> Result<Vec<u8>, Fault> {
         self.inner.read(place)
     }
 
-    fn head(&mut self, place: &str) -> Result<Items<u8>, Fault> {
+    fn head(&mut self, place: &str) -> Result<Vec<u8>, Fault> {
         self.inner.head(place)
     }
 
-    fn above(&mut self, place: &str) -> Result<Items<Above>, Fault> {
+    fn above(&mut self, place: &str) -> Result<Vec<Above>, Fault> {
         self.inner.above(place)
     }
 }
@@ -78,7 +125,7 @@ impl Nested {
 
     /// Adds `/d` for each level below the top: what the folder at a place holds.
     fn listing(&self, place: &str) -> Result<Listing, AllocError> {
-        let mut entries = Items::new(self.alloc);
+        let mut entries = Vec::new(self.alloc);
         entries.push(Entry {
             name: Text::from_str(self.alloc, "a.c")?,
             kind: Kind::File,
@@ -123,15 +170,15 @@ impl Folders for Nested {
         }
     }
 
-    fn read(&mut self, _place: &str) -> Result<Items<u8>, Fault> {
+    fn read(&mut self, _place: &str) -> Result<Vec<u8>, Fault> {
         Err(Fault::Refused)
     }
 
-    fn head(&mut self, _place: &str) -> Result<Items<u8>, Fault> {
+    fn head(&mut self, _place: &str) -> Result<Vec<u8>, Fault> {
         Err(Fault::Refused)
     }
 
-    fn above(&mut self, _place: &str) -> Result<Items<Above>, Fault> {
-        Ok(Items::new(self.alloc))
+    fn above(&mut self, _place: &str) -> Result<Vec<Above>, Fault> {
+        Ok(Vec::new(self.alloc))
     }
 }

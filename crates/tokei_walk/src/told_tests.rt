@@ -39,10 +39,10 @@ pub fn told(alloc: Global, tree: &[(&str, &str)]) -> Result<MemoryFolders, Fault
     Ok(folders)
 }
 
-pub fn texts(alloc: Global, words: &[&str]) -> Result<Items<Text>, AllocError> {
-    let mut texts = Items::new(alloc);
+pub fn texts(alloc: Global, words: &[&str]) -> Result<Vec<String>, AllocError> {
+    let mut texts = Vec::new(alloc);
     for word in words {
-        texts.push(Text::from_str(alloc, word)?)?;
+        texts.push(String::from_str(alloc, word)?)?;
     }
     Ok(texts)
 }

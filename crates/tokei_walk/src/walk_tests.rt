@@ -1,6 +1,6 @@
 //! Trees whose kept files and notes a person wrote down, through `kept_files` and through a walk.
 use crate::levels::Rules;
-use crate::test_folders::{Nested, Watched};
+use crate::test_folders::{Nested, Unnamed, Watched};
 use crate::told_tests::{ALL, Row, begun, collected, push_file, told, walked};
 use std::alloc::{AllocError, Global};
 use std::test::Fail;
@@ -43,6 +43,7 @@ fn ignore_files_drop_files(rt: HostRuntime) -> Result<(), Fail> {
     ];
     let below: &[(&str, &str)] = &[("gen/a.rs", ""), (".ignore", "gen/\n!gen/a.rs")];
     let bad: &[(&str, &str)] = &[("a.c", ""), (".ignore", "[a\n*.c")];
+    let hidden_folder: &[(&str, &str)] = &[(".h/a.c", ""), ("b.c", "")];
     let rows = [
         row(dot, ALL, ""),
         row(dot, no_dot, " ./main.rs"),
@@ -55,6 +56,57 @@ fn ignore_files_drop_files(rt: HostRuntime) -> Result<(), Fail> {
         row(both, ALL, " ./a.rs"),
         row(below, ALL, ""),
         row(bad, ALL, " BadLine:./.ignore"),
+        row(hidden_folder, ALL, " ./b.c"),
+        row(hidden_folder, seen, " ./.h/a.c ./b.c"),
+    ];
+    for row in &rows {
+        let mut folders = told(rt.alloc(), row.tree)?;
+        let holds = is_kept(rt.alloc(), &mut folders, row)?;
+        assert!(rt; holds, "{}", row.want);
+    }
+    Ok(())
+}
+
+#[test]
+fn one_ignore_file_overrules_another(rt: HostRuntime) -> Result<(), Fail> {
+    let two_kinds: &[(&str, &str)] = &[
+        (".tokeignore", "!a.c"),
+        (".ignore", "*.c"),
+        ("a.c", ""),
+        ("b.c", ""),
+    ];
+    let two_of_git: &[(&str, &str)] = &[
+        (".git/info/exclude", "*.c"),
+        (".gitignore", "!a.c"),
+        ("a.c", ""),
+        ("b.c", ""),
+    ];
+    let nearer: &[(&str, &str)] = &[
+        (".ignore", "*.c"),
+        ("a.c", ""),
+        ("d/.ignore", "!a.c"),
+        ("d/a.c", ""),
+        ("d/b.c", ""),
+    ];
+    let inner_git: &[(&str, &str)] = &[
+        (".git/", ""),
+        (".gitignore", "*.c"),
+        ("a.c", ""),
+        ("d/.git/", ""),
+        ("d/a.c", ""),
+    ];
+    let file_git: &[(&str, &str)] = &[
+        (".git", "gitdir: d"),
+        (".gitignore", "*.c"),
+        ("a.c", ""),
+        ("a.h", ""),
+    ];
+    let rows = [
+        row(two_kinds, ALL, " ./a.c"),
+        row(two_of_git, ALL, " ./a.c"),
+        row(nearer, ALL, " ./d/a.c"),
+        row(inner_git, ALL, " ./d/a.c"),
+        row(file_git, ALL, " ./a.h"),
     ];
     for row in &rows {
         let mut folders = told(rt.alloc(), row.tree)?;
@@ -137,6 +189,7 @@ fn excludes_fit_the_shown_path(rt: HostRuntime) -> Result<(), Fail> {
     let inner: &[(&str, &str)] = &[("x/src/a.c", "")];
     let marked: &[(&str, &str)] = &[("a.c", ""), ("!a.c", "")];
     let kept: &[(&str, &str)] = &[("a.c", ""), (".ignore", "!a.c")];
+    let number: &[(&str, &str)] = &[("#a", ""), ("b", "")];
     let rows = [
         excluded(target, &["."], &["target"], " ./src/a.rs"),
         excluded(inner, &["x/src"], &["src/*.c"], " x/src/a.c"),
@@ -145,6 +198,7 @@ fn excludes_fit_the_shown_path(rt: HostRuntime) -> Result<(), Fail> {
         excluded(marked, &["."], &["!a.c"], " ./a.c"),
         excluded(kept, &["."], &["a.c"], ""),
         excluded(kept, &["a.c"], &["a.c"], " a.c"),
+        excluded(number, &["."], &["#a"], " ./b"),
         excluded(
             inner,
             &["."],
@@ -227,12 +281,32 @@ fn too_deep_a_folder_is_passed_over(rt: HostRuntime) -> Result<(), Fail> {
     Ok(())
 }
 
+/// How many calls reach the folders of a tree that is walked once.
+fn calls_of(alloc: Global, tree: &'static [(&'static str, &'static str)]) -> Result<u64, Fault> {
+    let mut folders = Watched::new(told(alloc, tree)?);
+    let _text = collected(alloc, &mut folders, &row(tree, ALL, ""))?;
+    Ok(folders.calls)
+}
+
+#[test]
+fn ignore_files_are_learnt_from_the_listing(rt: HostRuntime) -> Result<(), Fail> {
+    // The top: its kind, the folders above it, its listing.
+    assert_eq!(rt; calls_of(rt.alloc(), &[("a.c", "")])?, 3);
+    // One listing more.
+    assert_eq!(rt; calls_of(rt.alloc(), &[("a.c", ""), ("d/b.c", "")])?, 4);
+    // And the kind and the content of an ignore file.
+    let ignored = &[("a.c", ""), ("d/.gitignore", "*.x"), ("d/b.c", "")];
+    assert_eq!(rt; calls_of(rt.alloc(), ignored)?, 6);
+    Ok(())
+}
+
 #[test]
 fn names_that_are_not_text_leave_a_note(rt: HostRuntime) -> Result<(), Fail> {
     let tree: &[(&str, &str)] = &[("d/a.c", ""), ("e.c", "")];
     let row = row(tree, ALL, " ./d/a.c ./e.c Unnamed:. Unnamed:./d");
-    let mut folders = Watched::new(told(rt.alloc(), tree)?);
-    folders.unnamed = 1;
+    let mut folders = Unnamed {
+        inner: told(rt.alloc(), tree)?,
+    };
     let holds = is_kept(rt.alloc(), &mut folders, &row)?;
     assert!(rt; holds);
     Ok(())

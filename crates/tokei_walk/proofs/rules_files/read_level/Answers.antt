@@ -1,13 +1,9 @@
-use Rattle.std.proofs.Common.{◌∙◌}
+use Rattle.std.proofs.Common.{◌≡◌, IfOk, subst, ◌∙◌}
 use Rattle.tokei_folders.specs.Tree.{names_of}
-use Rattle.tokei_walk.proofs.RuleFiles.{level_told}
+use Rattle.tokei_walk.specs.declared.levels.Level.{Level}
+use Rattle.tokei_walk.proofs.RuleFiles.{level_asked}
 use Rattle.tokei_walk.proofs.rules_files.read_level.Goals as goal
 
 pub returns-clause-told : goal.returns-clause-told
 returns-clause-told g c = λ t e.
-    let first = c.is_repository.ensures.same ∙ e in
-    let second = c.patterns_of_name.ensures.same ∙ first in
-    let third = c.patterns_of_name-2.ensures.same ∙ second in
-    let fourth = c.patterns_of_name-3.ensures.same ∙ third in
-    level_told t c.args.rules.now (names_of c.args.place.now) c.in_ok-tokeignore.tokeignore c.in_ok-ignore.ignore c.in_ok-gitignore.gitignore c.in_ok-git_exclude.git_exclude c.in_ok-git.git
-    (c.in_ok-git.ensures.told t e) (c.in_ok-tokeignore.ensures.told t first) (c.in_ok-ignore.ensures.told t second) (c.in_ok-gitignore.ensures.told t third) (c.in_ok-git_exclude.ensures.told t fourth)
+    subst (λ (y : Level). IfOk c.read_sought.result (λ l. l ≡ y)) (level_asked t c.args.rules.now (names_of c.args.place.now) c.in_ok-git.git (c.in_ok-git.ensures.told t e)) (c.read_sought.ensures.told t (c.is_repository.ensures.same ∙ e))

@@ -1,0 +1,23 @@
+use Rattle.std.proofs.Common.{◌≡◌, ◌++◌, ◌∷◌, [], ℕ, List, Option, Ok, Err, sym, ap, ap₂, ◌∙◌, subst}
+use Rattle.std.specs.Prelude.{MatchOption}
+use Rattle.tokei_folders.specs.declared.fs.Listing.{Listing}
+use Rattle.tokei_folders.specs.declared.fs.Fault.TheVariants.{Refused}
+use Rattle.tokei_folders.specs.Answers.{list_answer}
+use Rattle.tokei_folders.specs.Tree.{names_of}
+use Rattle.tokei_walk.specs.declared.rules_files.Sought.{Sought}
+use Rattle.tokei_walk.specs.declared.levels.Level.{Level}
+use Rattle.tokei_walk.specs.Sought.{listed, level_of}
+use Rattle.tokei_walk.proofs.ListedFiles.{level_listed}
+use Rattle.tokei_walk.proofs.stack.enter.Goals as goal
+
+pub returns-clause-told : goal.returns-clause-told
+returns-clause-told g c = λ t e.
+    let x = c.args.settings.now in let place = c.args.place in
+    let first = c.listing.ensures.same ∙ e in
+    let told = subst (λ (o : Option Listing). MatchOption o (list_answer t (names_of c.as_str.result.now) ≡ Err Refused) (λ l. list_answer t (names_of c.as_str.result.now) ≡ Ok l.entries.items)) c.in-Some.is (c.in_ok-listing.ensures.told t e) in
+    let listed_here = ap (λ p. list_answer t (names_of p)) (sym c.as_str.ensures) ∙ told in
+    let sought = c.sought_among-sought.ensures ∙ ap (listed x.rules) c.as_slice.ensures.value in
+    let level = c.in_ok-level.ensures.told t first ∙ ap₂ (λ (s : Sought) (p : List ℕ). level_of t s (names_of p)) sought c.as_str-3.ensures ∙ level_listed t x.rules (names_of place) c.in-Some.listing.entries.items listed_here in record {
+      entries_are = listed_here ∙ ap Ok (sym (c.in_ok-push_folder.ensures.entries ∙ c.from_vec.ensures));
+      levels_are = c.in_ok-push_folder.ensures.levels ∙ ap (λ (l : Level). c.args.stack.now.context.levels ++ l ∷ []) level;
+    }
