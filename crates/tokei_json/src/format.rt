@@ -41,7 +41,7 @@ impl Format {
     pub fn all_feature_names() -> &'static [&'static str]
         ensures { map (λ w. w.now) result.now ≡ all_words }
     {
-        &["cbor", "json", "yaml"]
+        Format::all()
     }
 
     /// The words of the formats that are known but can't be had.

@@ -8,6 +8,8 @@ pub mod input;
 mod language_maps;
 mod layout;
 mod read;
+#[cfg(test)]
+mod tests;
 pub mod write;
 
 pub use document::from_value;
