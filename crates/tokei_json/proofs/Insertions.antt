@@ -31,7 +31,7 @@ put_by Less k j s t es more later h = refl
 put_by Equal k j s t es more later h = refl
 put_by Greater k j s t es more later h = ap (blob j s) h
 
-blobs_of-insert : (es : List (ℕ × Statistics)) (k : ℕ) (t : Statistics) → blobs_of (insert_entry nat_cmp es k t) ≡ put (blobs_of es) k t
+pub blobs_of-insert : (es : List (ℕ × Statistics)) (k : ℕ) (t : Statistics) → blobs_of (insert_entry nat_cmp es k t) ≡ put (blobs_of es) k t
 blobs_of-insert [] k t = refl
 blobs_of-insert (e ∷ es) k t = put_by (nat_cmp k e.0) k e.0 e.1 t es (insert_entry nat_cmp es k t) (put (blobs_of es) k t) (blobs_of-insert es k t)
 

@@ -1,4 +1,10 @@
 pub mod Bytes
 pub mod Insertions
+pub mod Commuting
 pub mod Members
+pub mod Names
 pub mod NoFloats
+pub mod ReadBack
+pub mod ReadBackValues
+pub mod SoundLayout
+pub mod SoundNames

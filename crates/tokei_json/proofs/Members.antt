@@ -4,6 +4,7 @@ use Rattle.std.specs.Bool.{⊤}
 use Rattle.std.proofs.lemmas.Map.Text.{is_eq-slice_cmp}
 use Rattle.std.proofs.lemmas.Slice.Eq.{bytes_eq-Decides}
 use Rattle.std.specs.Ordering.{match_ordering}
+use Rattle.std.specs.List.{AllByRecursion}
 use Rattle.std.specs.Cmp.Lexicographic.{slice_cmp}
 use Rattle.serde_json.specs.Data.{Data, Members, no_members, member, put}
 use Rattle.tokei_table.specs.Row.{Row}
@@ -34,3 +35,14 @@ module _ (P : List ℕ → Data → Type 0) where
       → ((k : ℕ) (s : S) → P (name_of rows k) (value_of s)) → AllMembers ms → AllMembers (named_data rows value_of es ms)
   all_named rows value_of [] ms f h = h
   all_named rows value_of (e ∷ es) ms f h = all_named rows value_of es (put (name_of rows e.0) (value_of e.1) ms) f (all_put (name_of rows e.0) (value_of e.1) ms (f e.0 e.1) h)
+
+  pub all_named_each : {S : Type 0} (rows : List Row) (value_of : S → Data) (es : List (ℕ × S)) (ms : Members)
+      → AllByRecursion (λ e. P (name_of rows e.0) (value_of e.1)) es → AllMembers ms → AllMembers (named_data rows value_of es ms)
+  all_named_each rows value_of [] ms f h = h
+  all_named_each rows value_of (e ∷ es) ms f h =
+      all_named_each rows value_of es (put (name_of rows e.0) (value_of e.1) ms) f.1 (all_put (name_of rows e.0) (value_of e.1) ms f.0 h)
+
+-- what holds of each member, by what holds of each member
+pub all_mono : (P Q : List ℕ → Data → Type 0) (ms : Members) → ((k : List ℕ) (d : Data) → P k d → Q k d) → AllMembers P ms → AllMembers Q ms
+all_mono P Q no_members f h = tt
+all_mono P Q (member k d ms) f h = (f k d h.0, all_mono P Q ms f h.1)

@@ -5,3 +5,4 @@ pub mod LanguageMaps
 pub mod Layout
 pub mod Outcome
 pub mod Reading
+pub mod ReadingBack

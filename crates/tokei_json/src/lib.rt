@@ -6,6 +6,7 @@ pub mod error;
 pub mod format;
 pub mod input;
 mod language_maps;
+pub mod laws;
 mod layout;
 mod read;
 #[cfg(test)]
