@@ -1,3 +1,5 @@
+pub mod AnyOrder
+pub mod Laws
 pub mod Maps
 pub mod Merging
 pub mod Renewing

@@ -108,7 +108,10 @@ impl Language {
     /// Puts other counts in the place of these.
     pub(crate) fn put_counts(&mut self, counts: Sums)
         ensures { self.new ≡ record self.old {
-            blanks = counts.blanks; code = counts.code; comments = counts.comments } }
+          blanks = counts.blanks;
+          code = counts.code;
+          comments = counts.comments;
+        } }
     {
         self.blanks = counts.blanks;
         self.code = counts.code;
@@ -193,17 +196,20 @@ impl Language {
         })
     }
 
-    /// A copy, which differs from a clone in that it may be refused for want of memory.
+    /// A copy, equal by `==`, which differs from a clone in that it may be refused for want of memory.
     pub fn try_clone(&self) -> Result<Language, CountError>
         ensures ok { IfOk result (λ copy. language_of copy ≡ language_of self.now) }
+        ensures equal { IfOk result (λ copy. IsTrue (⟦<Language as PartialEq>⟧.eq copy self.now)) }
         ensures memory { IfErr result (λ e. e ≡ CountError.Memory) }
     {
+        let reports = copied_reports(self.alloc, &self.reports)?;
+        let children = copied_children(self.alloc, &self.children)?;
         Ok(Language {
             blanks: self.blanks,
             code: self.code,
             comments: self.comments,
-            reports: copied_reports(self.alloc, &self.reports)?,
-            children: copied_children(self.alloc, &self.children)?,
+            reports,
+            children,
             inaccurate: self.inaccurate,
             alloc: self.alloc,
         })

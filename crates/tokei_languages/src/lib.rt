@@ -7,9 +7,12 @@ mod children;
 mod copies;
 pub mod language;
 pub mod languages;
+pub mod laws;
 mod merge;
 mod sorting;
 mod sums;
+#[cfg(test)]
+mod tests;
 mod totals;
 
 pub use language::Language;

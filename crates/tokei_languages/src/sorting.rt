@@ -48,7 +48,8 @@ impl Language {
         ensures memory { IfErr result (λ e. e ≡ CountError.Memory) }
         ensures err { OnErr result (language_of self.new ≡ language_of self.old) }
     {
-        self.reports.sort_by(|first, second| order_of(sort, first, second))?;
+        self.reports
+            .sort_by(|first, second| order_of(sort, first, second))?;
         Ok(())
     }
 }
