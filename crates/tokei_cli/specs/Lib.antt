@@ -1,2 +1,3 @@
 pub mod CommandLines
 pub mod Printing
+pub mod Overriding

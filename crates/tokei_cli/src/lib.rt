@@ -5,6 +5,9 @@ mod cli;
 mod cli_error;
 mod options;
 mod output_error;
+mod overriding;
+#[cfg(test)]
+mod overriding_tests;
 mod printing;
 #[cfg(test)]
 mod printing_tests;
