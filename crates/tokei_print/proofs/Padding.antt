@@ -1,12 +1,14 @@
 -- What a hole with a width or a precision writes, in the words of the specs.
-use Rattle.std.proofs.Common.{◌≡◌, ℕ, suc, zero, ◌-◌, ◌^◌, ◌<◌, List, [], ◌∷◌, ◌++◌, length, replicate, Bool, true, false, if◌then◌else◌, refl, sym, ap, ◌∙◌, arith, append-nil, lit<}
+use Rattle.std.proofs.Common.{◌≡◌, ℕ, suc, zero, ◌-◌, ◌^◌, ◌≤◌, ◌<◌, List, [], ◌∷◌, ◌++◌, length, replicate, Bool, true, false, if◌then◌else◌, refl, sym, ap, ◌∙◌, arith, append-nil, lit<}
 use Rattle.std.proofs.lemmas.Bool.Decides.{nat_tests}
-use Rattle.std.specs.Prelude.{◌==◌, ◌&&◌}
+use Rattle.std.specs.Prelude.{◌==◌, ◌&&◌, nat_lt}
 use lib.Utf8.{encode}
 use Rattle.std.specs.List.{repeat}
 use Rattle.std.specs.Fmt.{padded, format_spec, take_chars, char_count, styled_text}
 use Rattle.std.proofs.lemmas.Str.{encode_ascii}
 use Rattle.tokei_stats.proofs.Padding.{char_count-le, take_chars_all}
+use Rattle.tokei_stats.specs.Places.{left_in}
+use Rattle.tokei_stats.specs.ReportRow.{name_cell}
 use Rattle.tokei_print.specs.Cells.{right_in}
 
 one_space : encode 32 ≡ 32 ∷ []
@@ -57,3 +59,7 @@ precise n t h =
     let other : (n == 18446744073709551615) ≡ false = grind (arith, nat_tests) in
     let none : repeat {A = ℕ} (0 - char_count (take_chars n t) - 0) (encode 32) ≡ [] = nothing (0 - char_count (take_chars n t) - 0) (omega arith) in
     rw (other, none) (append-nil (take_chars n t))
+
+-- a name that fits stands whole
+pub short_cell : (w : ℕ) (name : List ℕ) → length name ≤ w → name_cell w name ≡ left_in w name
+short_cell w name h = let fits : nat_lt w (length name) ≡ false = grind (arith, nat_tests) in rw fits refl

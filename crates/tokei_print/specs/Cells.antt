@@ -25,3 +25,11 @@ number_text separator number = grouped separator (decimal number)
 abbrev pub number_cells : List ℕ → Counts → List ℕ
 number_cells separator n =
     four_cells (number_text separator (lines_of n)) (number_text separator n.code) (number_text separator n.comments) (number_text separator n.blanks)
+
+-- the same, with 14 places for the lines
+abbrev pub subtotal_cells : List ℕ → Counts → List ℕ
+subtotal_cells separator n =
+    32 ∷ (right_in 14 (number_text separator (lines_of n))
+    ++ (32 ∷ (right_in 12 (number_text separator n.code)
+    ++ (32 ∷ (right_in 12 (number_text separator n.comments)
+    ++ (32 ∷ right_in 12 (number_text separator n.blanks)))))))

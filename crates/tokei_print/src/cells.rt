@@ -2,7 +2,7 @@
 ghost use Rattle.std.specs.Prelude.{◌≡◌, ◌+◌, IfOk, IfErr, IsErrOf, OnErr, OnOk, string_bytes};
 ghost use Rattle.tokei_stats.specs.Seen.{sums_of};
 ghost use Rattle.tokei_stats.specs.Statistics.{lines_of};
-ghost use Rattle.tokei_print.specs.Cells.{four_cells, number_cells};
+ghost use Rattle.tokei_print.specs.Cells.{four_cells, number_cells, subtotal_cells};
 ghost use Rattle.tokei_print.specs.Fitting.{LinesFit};
 ghost use Rattle.tokei_print.specs.Grouping.{separator_text};
 
@@ -55,4 +55,23 @@ pub(crate) fn number_cells(
     let comments = format.grouped(alloc, counts.comments)?;
     let blanks = format.grouped(alloc, counts.blanks)?;
     Ok(four_cells(alloc, &lines, &code, &comments, &blanks)?)
+}
+
+/// The same, with 14 places for the lines.
+#[tactic(auto, using(crate::proofs::Padding::styled_right))]
+pub(crate) fn subtotal_cells(
+    alloc: Global,
+    format: NumberFormat,
+    counts: Sums,
+) -> Result<String, CountError>
+    ensures ok { IfOk result (λ s. string_bytes s ≡ subtotal_cells (separator_text format.separator) (sums_of counts)) }
+    ensures overflow { IsErrOf result CountError.Overflow → ¬ LinesFit (sums_of counts) }
+{
+    let lines = format.grouped(alloc, lines(counts)?)?;
+    let code = format.grouped(alloc, counts.code)?;
+    let comments = format.grouped(alloc, counts.comments)?;
+    let blanks = format.grouped(alloc, counts.blanks)?;
+    let (lines, code) = (lines.as_str(), code.as_str());
+    let (comments, blanks) = (comments.as_str(), blanks.as_str());
+    Ok(format!(in alloc; " {lines:>14} {code:>12} {comments:>12} {blanks:>12}")?)
 }

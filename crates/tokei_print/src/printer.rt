@@ -2,9 +2,11 @@
 use crate::error::PrintError;
 use crate::layout::Layout;
 use crate::number_format::NumberFormat;
+use crate::results::Showing;
 use std::alloc::Global;
 use tokei_io::Sink;
-use tokei_languages::Language;
+use tokei_languages::{Language, Languages};
+use tokei_table::{LanguageTable, LanguageType};
 
 /// Writes the rows of a report to a sink. After a refused call nothing is said of the bytes that it wrote.
 #[derive(Drop)]
@@ -17,12 +19,17 @@ pub struct Printer<W> {
 impl<W: Sink + Drop> Printer<W> {
     ghost use Rattle.std.specs.Prelude.{◌≡◌, ◌≢◌, ◌<◌, ◌≤◌, Ok, Err, None, Some, IfOk, IfErr, IsErrOf, OnOk, option_map};
     ghost use Rattle.std.specs.Io.KnownBytes.{Appends};
-    ghost use Rattle.tokei_languages.specs.Seen.{language_of};
+    ghost use Rattle.tokei_languages.specs.Seen.{language_of, languages_of};
     ghost use Rattle.tokei_print.specs.Fitting.{LinesFit};
     ghost use Rattle.tokei_print.specs.Heading.{header, warning};
     ghost use Rattle.tokei_print.specs.LanguageRow.{language_row};
     ghost use Rattle.tokei_print.specs.NameSection.{name_section, prefix_of};
     ghost use Rattle.tokei_print.specs.Printing.{faults_after_printing};
+    ghost use Rattle.tokei_print.specs.Listed.{languages_in};
+    ghost use Rattle.tokei_print.specs.Names.{name_in};
+    ghost use Rattle.tokei_print.specs.Results.{results_text};
+    ghost use Rattle.tokei_print.specs.ResultsFit.{ResultsFit};
+    ghost use Rattle.tokei_print.specs.Total.{total_text, TotalFits};
 
     /// A printer of rows of so many columns, which lists each language's files where `list_files` says so.
     pub fn new(
@@ -118,6 +125,47 @@ impl<W: Sink + Drop> Printer<W> {
         ensures layout { self.new.layout ≡ self.old.layout }
     {
         let text = self.layout.language_row(self.alloc, language, name)?;
+        self.put(text.as_str())
+    }
+
+    /// The rows of the languages: first those without children, then the others, each group in the order given. Where
+    /// `compact`, no language has children. Listed files stand by name, unless they are `sorted` already. A language that
+    /// isn't of the table has an empty name. `Overflow` only where a sum that a row shows passes the greatest `usize`.
+    pub fn print_results(
+        &mut self,
+        table: &LanguageTable,
+        languages: &[(LanguageType, &Language)],
+        compact: bool,
+        sorted: bool,
+    ) -> Result<(), PrintError>
+        ensures bytes { OnOk result (Appends (W.contents self.old.writer) (W.contents self.new.writer)
+            (results_text self.old.layout (name_in table.now) compact sorted (languages_in languages.now))) }
+        ensures faults { W.faults self.old.writer < u64.MAX
+            → W.faults self.new.writer ≡ faults_after_printing result (W.faults self.old.writer) }
+        ensures overflow { IsErrOf result PrintError.Overflow
+            → ¬ ResultsFit self.old.layout.list_files compact sorted (languages_in languages.now) }
+        ensures layout { self.new.layout ≡ self.old.layout }
+    {
+        let showing = Showing {
+            table,
+            compact,
+            sorted,
+        };
+        let text = self.layout.results(self.alloc, showing, languages)?;
+        self.put(text.as_str())
+    }
+
+    /// The row of all languages together, between two rows. `Overflow` only where a sum that it shows passes the greatest
+    /// `usize`.
+    pub fn print_total(&mut self, languages: &Languages) -> Result<(), PrintError>
+        ensures bytes { OnOk result (Appends (W.contents self.old.writer) (W.contents self.new.writer)
+            (total_text self.old.layout (languages_of languages.now))) }
+        ensures faults { W.faults self.old.writer < u64.MAX
+            → W.faults self.new.writer ≡ faults_after_printing result (W.faults self.old.writer) }
+        ensures overflow { IsErrOf result PrintError.Overflow → ¬ TotalFits (languages_of languages.now) }
+        ensures layout { self.new.layout ≡ self.old.layout }
+    {
+        let text = self.layout.total(self.alloc, languages)?;
         self.put(text.as_str())
     }
 }

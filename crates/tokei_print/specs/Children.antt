@@ -1,0 +1,39 @@
+-- The rows of the languages inside the files of another, and the subtotal below them.
+use Rattle.std.specs.Prelude.{ℕ, ◌-◌, List, [], ◌∷◌, ◌++◌, false, codes, length}
+use Rattle.tokei_languages.specs.Summaries.{language_summary, reports_summary}
+use Rattle.tokei_languages.specs.Values.{ReportValue, LanguageValue}
+use Rattle.tokei_stats.specs.ReportRow.{name_cell}
+use Rattle.tokei_stats.specs.Statistics.{Counts}
+use Rattle.tokei_print.specs.Cells.{subtotal_cells}
+use Rattle.tokei_print.specs.LanguageRow.{files_and_counts}
+use Rattle.tokei_print.specs.Layouts.{Layout, separator_in}
+use Rattle.tokei_print.specs.NameSection.{name_section}
+use Rattle.tokei_print.specs.Rules.{newline}
+
+-- a child's reports and the sums of their summaries; with no report there are none, and no newline either
+abbrev pub child_counts : Layout → List ReportValue → List ℕ
+child_counts layout [] = []
+child_counts layout (report ∷ reports) =
+    files_and_counts (separator_in layout) (length (report ∷ reports)) (reports_summary (report ∷ reports))
+
+-- the row of a language inside the files of another, never marked as inaccurate
+abbrev pub child_row : Layout → List ℕ → List ReportValue → List ℕ
+child_row layout name reports = name_section layout.columns false name (codes " |-") ++ child_counts layout reports
+
+-- a row for each child, in their order
+abbrev pub child_rows : Layout → (ℕ → List ℕ) → List (ℕ × List ReportValue) → List ℕ
+child_rows layout names [] = []
+child_rows layout names (child ∷ children) = child_row layout (names child.0) child.1 ++ child_rows layout names children
+
+-- how many places the name of a report's row or of a subtotal has, less the two that a report's row adds
+abbrev pub path_places : ℕ → ℕ
+path_places columns = columns - 56
+
+-- counts that take in those of the texts inside
+abbrev pub subtotal : Layout → List ℕ → Counts → List ℕ
+subtotal layout name n = 32 ∷ (name_cell (path_places layout.columns) name ++ (subtotal_cells (separator_in layout) n ++ newline))
+
+-- the rows of a language's children, and their subtotal
+abbrev pub children_block : Layout → (ℕ → List ℕ) → LanguageValue → List ℕ
+children_block layout names language =
+    child_rows layout names language.children ++ subtotal layout (codes "(Total)") (language_summary language)

@@ -1,0 +1,69 @@
+-- The rows of a language's files: first those of files with no other language inside, then the others with their blobs.
+use Rattle.std.specs.Prelude.{ℕ, ◌-◌, List, [], ◌∷◌, ◌++◌, ◌==◌, ◌||◌, Bool, true, false, not, codes, filter, length, replicate, if◌then◌else◌}
+use Rattle.tokei_languages.specs.Values.{ReportValue}
+use Rattle.tokei_stats.specs.ReportRow.{report_row}
+use Rattle.tokei_stats.specs.Statistics.{Statistics, Blobs, own, blobs, summary}
+use Rattle.tokei_stats.specs.Statistics.Blobs.{none, blob}
+use Rattle.tokei_print.specs.Cells.{number_cells}
+use Rattle.tokei_print.specs.Children.{path_places, subtotal}
+use Rattle.tokei_print.specs.Layouts.{Layout, separator_in}
+use Rattle.tokei_print.specs.NameSection.{name_section}
+use Rattle.tokei_print.specs.Rules.{newline}
+
+-- a report's row of its own counts
+abbrev pub file_row : Layout → ReportValue → List ℕ
+file_row layout report = report_row (path_places layout.columns) report.name (own report.stats) ++ newline
+
+abbrev pub file_rows : Layout → List ReportValue → List ℕ
+file_rows layout [] = []
+file_rows layout (report ∷ reports) = file_row layout report ++ file_rows layout reports
+
+-- a file's name: alone where no other file stands above, and else between dashes
+abbrev pub name_line : Layout → Bool → List ℕ → List ℕ
+name_line layout first name = if first then 32 ∷ (name ++ newline)
+    else (codes "-- " ++ (name ++ (32 ∷ (replicate (layout.columns - 4 - length name) 45 ++ newline))))
+
+-- the own counts of a file, under the name of its language
+abbrev pub own_row : Layout → List ℕ → Statistics → List ℕ
+own_row layout name stats = codes " |-" ++ (report_row (path_places layout.columns - 3) name (own stats) ++ newline)
+
+-- the own counts of a language inside a file
+abbrev pub blob_row : Layout → Bool → List ℕ → Statistics → List ℕ
+blob_row layout inaccurate name stats =
+    name_section layout.columns inaccurate name (codes " |-")
+    ++ (32 ∷ (replicate 8 32 ++ (number_cells (separator_in layout) (own stats) ++ newline)))
+
+-- a row for each language inside, in their order
+abbrev pub blob_rows : Layout → (ℕ → List ℕ) → Bool → Blobs → List ℕ
+blob_rows layout names inaccurate none = []
+blob_rows layout names inaccurate (blob key stats rest) =
+    blob_row layout inaccurate (names key) stats ++ blob_rows layout names inaccurate rest
+
+-- the rows of a file that holds other languages, of a language of this name and mark
+abbrev pub file_block : Layout → (ℕ → List ℕ) → Bool → List ℕ → Bool → ReportValue → List ℕ
+file_block layout names inaccurate language first report =
+    name_line layout first report.name
+    ++ (own_row layout language report.stats
+    ++ (blob_rows layout names inaccurate (blobs report.stats)
+    ++ subtotal layout (codes "|- (Total)") (summary report.stats)))
+
+-- the rows of files that hold other languages, one after the other
+abbrev pub file_blocks : Layout → (ℕ → List ℕ) → Bool → List ℕ → Bool → List ReportValue → List ℕ
+file_blocks layout names inaccurate language first [] = []
+file_blocks layout names inaccurate language first (report ∷ reports) =
+    file_block layout names inaccurate language first report ++ file_blocks layout names inaccurate language false reports
+
+abbrev pub no_blobs : Blobs → Bool
+no_blobs none = true
+no_blobs (blob key stats rest) = false
+
+-- a file has a row alone where no other language is inside, and each does where compact
+abbrev pub has_row_alone : Bool → ReportValue → Bool
+has_row_alone compact report = compact || no_blobs (blobs report.stats)
+
+-- the rows of files in this order: those with a row alone first
+abbrev pub listed_files : Layout → (ℕ → List ℕ) → Bool → Bool → List ℕ → List ReportValue → List ℕ
+listed_files layout names compact inaccurate language reports =
+    let alone = filter (has_row_alone compact) reports in
+    file_rows layout alone
+    ++ file_blocks layout names inaccurate language (length alone == 0) (filter (λ report. not (has_row_alone compact report)) reports)

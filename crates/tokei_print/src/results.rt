@@ -1,0 +1,207 @@
+//! The rows of all languages.
+ghost use Rattle.std.specs.Prelude.{◌≡◌};
+ghost use Rattle.tokei_languages.specs.Seen.{language_of};
+ghost use Rattle.tokei_print.specs.Results.{is_empty_language, is_of_group, shows_children};
+
+use crate::file_rows::ListedLanguage;
+use crate::layout::Layout;
+use crate::names::name_of;
+use crate::ordered::in_order;
+use std::alloc::Global;
+use tokei_languages::Language;
+use tokei_stats::CountError;
+use tokei_table::{LanguageTable, LanguageType};
+
+/// How the languages are shown.
+#[derive(Clone, Copy)]
+pub(crate) struct Showing<'a> {
+    /// Of whose languages they are.
+    pub(crate) table: &'a LanguageTable,
+    /// Without the languages inside.
+    pub(crate) compact: bool,
+    /// Whether the files stand in their order already.
+    pub(crate) sorted: bool,
+}
+
+/// Languages whose children are shown, or the others.
+#[derive(Clone, Copy)]
+struct Group {
+    with_children: bool,
+    /// Whether no row stands above.
+    first: bool,
+}
+
+/// Whether no line was counted and no other language is inside.
+#[tactic(auto, using(crate::proofs::EmptyLanguages::empty_language))]
+fn is_empty(language: &Language) -> bool
+    ensures { result ≡ is_empty_language (language_of language.now) }
+{
+    language.is_empty()
+}
+
+/// Whether the languages inside are shown.
+fn shows_children(language: &Language, compact: bool) -> bool
+    ensures { result ≡ shows_children compact (language_of language.now) }
+{
+    !compact && language.children.len() != 0
+}
+
+/// Whether the language is of the group whose children are shown, or of the other.
+fn is_of_group(language: &Language, compact: bool, with_children: bool) -> bool
+    ensures { result ≡ is_of_group compact with_children (language_of language.now) }
+{
+    if is_empty(language) {
+        return false;
+    }
+    if with_children {
+        shows_children(language, compact)
+    } else {
+        !shows_children(language, compact)
+    }
+}
+
+impl Layout {
+    ghost use Rattle.std.specs.Prelude.{◌≡◌, IfOk, IsErrOf, string_bytes};
+    ghost use Rattle.tokei_languages.specs.Seen.{language_of};
+    ghost use Rattle.tokei_print.specs.Listed.{languages_in};
+    ghost use Rattle.tokei_print.specs.Names.{name_in};
+    ghost use Rattle.tokei_print.specs.Results.{counts_block, files_block, group_of, language_block, language_blocks, parting, results_text};
+    ghost use Rattle.tokei_print.specs.ResultsFit.{LanguageFits, LanguagesFit, ResultsFit};
+
+    /// What parts a language with more than one row from those above.
+    fn parting(&self, language: &Language, compact: bool, first: bool) -> &str
+        ensures { result.now ≡ parting self.entry.now compact first (language_of language.entry.now) }
+    {
+        if first {
+            ""
+        } else if shows_children(language, compact) || self.list_files {
+            self.subrow()
+        } else {
+            ""
+        }
+    }
+
+    /// A language's own row, and those of its children.
+    fn counts_block(
+        &self,
+        alloc: Global,
+        showing: Showing,
+        name: &str,
+        language: &Language,
+    ) -> Result<String, CountError>
+        ensures ok { IfOk result (λ s. string_bytes s ≡ counts_block self.now
+            (name_in showing.entry.table.now) showing.entry.compact name.now (language_of language.now)) }
+        ensures overflow { IsErrOf result CountError.Overflow
+            → ¬ LanguageFits self.now.list_files showing.entry.compact showing.entry.sorted (language_of language.now) }
+    {
+        let row = self.language_row(alloc, language, name)?;
+        if !shows_children(language, showing.compact) {
+            return Ok(row);
+        }
+        let children = self.children_block(alloc, showing.table, language)?;
+        let (row, children) = (row.as_str(), children.as_str());
+        Ok(format!(in alloc; "{row}{children}")?)
+    }
+
+    /// The rows of a language's files, where they are listed.
+    fn files_block(
+        &self,
+        alloc: Global,
+        showing: Showing,
+        name: &str,
+        language: &Language,
+    ) -> Result<String, CountError>
+        ensures ok { IfOk result (λ s. string_bytes s ≡ files_block self.now
+            (name_in showing.entry.table.now) showing.entry.compact showing.entry.sorted name.now (language_of language.now)) }
+        ensures overflow { IsErrOf result CountError.Overflow
+            → ¬ LanguageFits self.now.list_files showing.entry.compact showing.entry.sorted (language_of language.now) }
+    {
+        if !self.list_files {
+            return Ok(String::new(alloc));
+        }
+        let reports = in_order(alloc, &language.reports, showing.sorted)?;
+        let listed = ListedLanguage {
+            table: showing.table,
+            name,
+            inaccurate: language.inaccurate,
+        };
+        let files = self.listed_files(alloc, listed, showing.compact, &reports)?;
+        let (subrow, files) = (self.subrow(), files.as_str());
+        Ok(format!(in alloc; "{subrow}{files}")?)
+    }
+
+    /// All rows of a language.
+    fn language_block(
+        &self,
+        alloc: Global,
+        showing: Showing,
+        first: bool,
+        entry: &(LanguageType, &Language),
+    ) -> Result<String, CountError>
+        ensures ok { IfOk result (λ s. string_bytes s ≡ language_block self.now (name_in showing.entry.table.now)
+            showing.entry.compact showing.entry.sorted first entry.now.0 (language_of entry.now.1.now)) }
+        ensures overflow { IsErrOf result CountError.Overflow
+            → ¬ LanguageFits self.now.list_files showing.entry.compact showing.entry.sorted (language_of entry.now.1.now) }
+    {
+        let language = entry.1;
+        let name = name_of(showing.table, entry.0);
+        let counts = self.counts_block(alloc, showing, name, language)?;
+        let files = self.files_block(alloc, showing, name, language)?;
+        let parting = self.parting(language, showing.compact, first);
+        let (counts, files) = (counts.as_str(), files.as_str());
+        Ok(format!(in alloc; "{parting}{counts}{files}")?)
+    }
+
+    /// The rows of the languages of a group, one after the other.
+    fn group_rows(
+        &self,
+        alloc: Global,
+        showing: Showing,
+        group: Group,
+        languages: &[(LanguageType, &Language)],
+    ) -> Result<String, CountError>
+        ensures ok { IfOk result (λ s. string_bytes s ≡ language_blocks self.now (name_in showing.entry.table.now)
+            showing.entry.compact showing.entry.sorted group.first
+            (group_of showing.entry.compact group.with_children (languages_in languages.now))) }
+        ensures overflow { IsErrOf result CountError.Overflow
+            → ¬ LanguagesFit self.now.list_files showing.entry.compact showing.entry.sorted
+            (group_of showing.entry.compact group.with_children (languages_in languages.now)) }
+    {
+        let mut rows = String::new(alloc);
+        let mut first = group.first;
+        for entry in languages {
+            if is_of_group(entry.1, showing.compact, group.with_children) {
+                rows.push_str(&self.language_block(alloc, showing, first, entry)?)?;
+                first = false;
+            }
+        }
+        Ok(rows)
+    }
+
+    /// The rows of all languages.
+    #[tactic(auto, using(crate::proofs::Files::no_blocks))]
+    pub(crate) fn results(
+        &self,
+        alloc: Global,
+        showing: Showing,
+        languages: &[(LanguageType, &Language)],
+    ) -> Result<String, CountError>
+        ensures ok { IfOk result (λ s. string_bytes s ≡ results_text self.now (name_in showing.entry.table.now)
+            showing.entry.compact showing.entry.sorted (languages_in languages.now)) }
+        ensures overflow { IsErrOf result CountError.Overflow
+            → ¬ ResultsFit self.now.list_files showing.entry.compact showing.entry.sorted (languages_in languages.now) }
+    {
+        let alone = Group {
+            with_children: false,
+            first: true,
+        };
+        let alone = self.group_rows(alloc, showing, alone, languages)?;
+        let others = Group {
+            with_children: true,
+            first: alone.is_empty(),
+        };
+        let others = self.group_rows(alloc, showing, others, languages)?;
+        let (alone, others) = (alone.as_str(), others.as_str());
+        Ok(format!(in alloc; "{alone}{others}")?)
+    }
+}
