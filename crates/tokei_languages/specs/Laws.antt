@@ -13,11 +13,13 @@ SummarisingOnceSuffices = (s : LanguageValue) → summarised (summarised s) ≡ 
 
 -- each sort is a stable permutation in order
 abbrev pub SortsAreStable : Type 0
-SortsAreStable = (sort : Sort) (rs : List ReportValue) → IsStableSort (puts_first sort) rs (stably_sorted (puts_first sort) rs)
+SortsAreStable = (sort : Sort) (rs : List ReportValue)
+    → IsStableSort (puts_first sort) rs (stably_sorted (puts_first sort) rs)
 
 -- and no other list is
 abbrev pub StableSortsAreOne : Type 0
-StableSortsAreOne = (sort : Sort) (rs ss : List ReportValue) → IsStableSort (puts_first sort) rs ss → ss ≡ stably_sorted (puts_first sort) rs
+StableSortsAreOne = (sort : Sort) (rs ss : List ReportValue)
+    → IsStableSort (puts_first sort) rs ss → ss ≡ stably_sorted (puts_first sort) rs
 
 -- files counted in any order give equal totals, and only the order of reports differs
 abbrev pub AnyOrderOfFilesCountsAlike : Type 0

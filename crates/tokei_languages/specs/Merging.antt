@@ -17,7 +17,10 @@ blob_reports name (blob k s rest) = (k, record { name = name; stats = s } ∷ []
 
 -- with one report more, and a child report for each of its blobs; the counts stay until they are renewed
 abbrev pub with_report : LanguageValue → ReportValue → LanguageValue
-with_report s r = record s { reports = s.reports ++ r ∷ []; children = appended s.children (blob_reports r.name (blobs r.stats)) }
+with_report s r = record s {
+  reports = s.reports ++ r ∷ [];
+  children = appended s.children (blob_reports r.name (blobs r.stats));
+}
 
 -- both added, the left one's reports first
 abbrev pub merged_language : LanguageValue → LanguageValue → LanguageValue

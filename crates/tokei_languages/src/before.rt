@@ -26,13 +26,16 @@ impl Language {
 
     /// As `add`. The answer is what `take_back` needs.
     pub(crate) fn grow(&mut self, other: Language) -> Result<Before, CountError>
-        ensures ok { OnOk result (language_of self.new ≡ merged_language (language_of self.old) (language_of other)) }
-        ensures fits { OnOk result (CountsFit (plus (language_of self.old).counts (language_of other).counts)) }
+        ensures ok { OnOk result
+            (language_of self.new ≡ merged_language (language_of self.old) (language_of other)) }
+        ensures fits { OnOk result
+            (CountsFit (plus (language_of self.old).counts (language_of other).counts)) }
         ensures overflow { IsErrOf result CountError.Overflow
             → ¬ CountsFit (plus (language_of self.old).counts (language_of other).counts) }
         ensures memory { IsErrOf result CountError.Memory
             → CountsFit (plus (language_of self.old).counts (language_of other).counts) }
-        ensures back { IfOk result (λ before. restored before (language_of self.new) ≡ language_of self.old) }
+        ensures back { IfOk result (λ before.
+            restored before (language_of self.new) ≡ language_of self.old) }
         ensures err { OnErr result (language_of self.new ≡ language_of self.old) }
     {
         let counts = self.counts().plus(other.counts())?;

@@ -18,10 +18,13 @@ fn append_at(
     mut reports: Vec<Report>,
 ) -> Result<Option<usize>, CountError>
     ensures ok { OnOk result (children_of children.new.entries
-        ≡ put_at (λ rs. rs ++ reports_of reports) (reports_of reports) (children_of children.old.entries) language) }
+        ≡ put_at (λ rs. rs ++ reports_of reports) (reports_of reports)
+        (children_of children.old.entries) language) }
     ensures back { IfOk result (λ before.
-        taken_back (first before) (children_of children.new.entries) language ≡ children_of children.old.entries) }
-    ensures err { OnErr result (children_of children.new.entries ≡ children_of children.old.entries) }
+        taken_back (first before) (children_of children.new.entries) language
+        ≡ children_of children.old.entries) }
+    ensures err { OnErr result
+        (children_of children.new.entries ≡ children_of children.old.entries) }
     ensures memory { IfErr result (λ e. e ≡ CountError.Memory) }
 {
     if let Some(there) = children.get_mut(&language) {
@@ -39,7 +42,8 @@ fn take_back(
     language: LanguageType,
     before: Option<usize>,
 )
-    ensures { children_of children.new.entries ≡ taken_back (first before) (children_of children.old.entries) language }
+    ensures { children_of children.new.entries
+        ≡ taken_back (first before) (children_of children.old.entries) language }
 {
     match before {
         Some(count) => {
@@ -58,7 +62,8 @@ pub(crate) fn take_all_back(
     children: &mut BTreeMap<LanguageType, Vec<Report>>,
     mut before: Vec<(LanguageType, Option<usize>)>,
 )
-    ensures { children_of children.new.entries ≡ all_taken_back (children_of children.old.entries) before.items }
+    ensures { children_of children.new.entries
+        ≡ all_taken_back (children_of children.old.entries) before.items }
 {
     while let Some(last) = before.pop() {
         take_back(children, last.0, last.1);
@@ -74,8 +79,10 @@ pub(crate) fn append(
     ensures ok { OnOk result (children_of children.new.entries
         ≡ appended (children_of children.old.entries) (children_of more.entries)) }
     ensures back { IfOk result (λ before.
-        all_taken_back (children_of children.new.entries) before.items ≡ children_of children.old.entries) }
-    ensures err { OnErr result (children_of children.new.entries ≡ children_of children.old.entries) }
+        all_taken_back (children_of children.new.entries) before.items
+        ≡ children_of children.old.entries) }
+    ensures err { OnErr result
+        (children_of children.new.entries ≡ children_of children.old.entries) }
     ensures memory { IfErr result (λ e. e ≡ CountError.Memory) }
 {
     let mut before = Vec::with_capacity(alloc, more.len())?;

@@ -24,7 +24,8 @@ pub(crate) fn copied_children(
     alloc: Global,
     children: &BTreeMap<LanguageType, Vec<Report>>,
 ) -> Result<BTreeMap<LanguageType, Vec<Report>>, CountError>
-    ensures ok { IfOk result (λ copies. children_of copies.entries ≡ children_of children.now.entries) }
+    ensures ok { IfOk result (λ copies.
+        children_of copies.entries ≡ children_of children.now.entries) }
     ensures memory { IfErr result (λ e. e ≡ CountError.Memory) }
 {
     let mut copies = BTreeMap::new(alloc);
@@ -45,7 +46,8 @@ pub(crate) fn put(
     language: LanguageType,
     reports: Vec<Report>,
 ) -> Result<(), CountError>
-    ensures ok { OnOk result (children.new.entries ≡ insert_entry nat_cmp children.old.entries language reports) }
+    ensures ok { OnOk result (children.new.entries
+        ≡ insert_entry nat_cmp children.old.entries language reports) }
     ensures memory { IfErr result (λ e. e ≡ CountError.Memory) }
 {
     let _old = children.insert(language, reports)?;

@@ -74,7 +74,8 @@ impl Language {
     /// Whether the three counts are 0 and no other language is inside.
     pub fn is_empty(&self) -> bool
         ensures { IsTrue result
-            ↔ (((language_of self.now).counts ≡ no_lines) × ((language_of self.now).children ≡ [])) }
+            ↔ (((language_of self.now).counts ≡ no_lines)
+            × ((language_of self.now).children ≡ [])) }
     {
         self.blanks == 0 && self.code == 0 && self.comments == 0 && self.children.is_empty()
     }
@@ -177,7 +178,8 @@ impl Language {
     /// A copy without children, whose counts have taken in the summaries of all child reports; reports and mark stay.
     /// `Overflow` exactly where a count passes the greatest `usize`, or `Memory`.
     pub fn summarise(&self) -> Result<Language, CountError>
-        ensures ok { IfOk result (λ summary. language_of summary ≡ summarised (language_of self.now)) }
+        ensures ok { IfOk result (λ summary.
+            language_of summary ≡ summarised (language_of self.now)) }
         ensures fits { OnOk result (CountsFit (language_summary (language_of self.now))) }
         ensures overflow { IsErrOf result CountError.Overflow
             → ¬ CountsFit (language_summary (language_of self.now)) }

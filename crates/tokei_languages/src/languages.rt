@@ -43,7 +43,8 @@ impl Languages {
 
     /// What was counted of the language, if anything was.
     pub fn get(&self, language: LanguageType) -> Option<&Language>
-        ensures { option_map language_of (option_copied result) ≡ language_at (languages_of self.now) language }
+        ensures { option_map language_of (option_copied result)
+            ≡ language_at (languages_of self.now) language }
     {
         self.languages.get(&language)
     }
@@ -83,8 +84,8 @@ impl Languages {
     /// changes nothing.
     pub fn add_report(&mut self, language: LanguageType, report: Report) -> Result<(), CountError>
         ensures ok { OnOk result (languages_of self.new
-            ≡ put_at (λ s. with_report s (report_of report)) (with_report empty_language (report_of report))
-            (languages_of self.old) language) }
+            ≡ put_at (λ s. with_report s (report_of report))
+            (with_report empty_language (report_of report)) (languages_of self.old) language) }
         ensures memory { IfErr result (λ e. e ≡ CountError.Memory) }
         ensures err { OnErr result (languages_of self.new ≡ languages_of self.old) }
     {
@@ -118,8 +119,8 @@ impl Languages {
     /// Adds every language of the other. `Overflow` only where a sum of two counts passes the greatest `usize`, or
     /// `Memory`; a refusal changes nothing.
     pub fn add(&mut self, other: Languages) -> Result<(), CountError>
-        ensures ok { OnOk result
-            (languages_of self.new ≡ merged_languages (languages_of self.old) (languages_of other)) }
+        ensures ok { OnOk result (languages_of self.new
+            ≡ merged_languages (languages_of self.old) (languages_of other)) }
         ensures fits { OnOk result (MergeFits (languages_of self.old) (languages_of other)) }
         ensures overflow { IsErrOf result CountError.Overflow
             → ¬ MergeFits (languages_of self.old) (languages_of other) }

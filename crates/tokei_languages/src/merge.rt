@@ -19,7 +19,8 @@ fn add_at(
     more: Language,
 ) -> Result<Option<Before>, CountError>
     ensures ok { OnOk result (entries_of languages.new.entries
-        ≡ put_at (λ s. merged_language s (language_of more)) (language_of more) (entries_of languages.old.entries) language) }
+        ≡ put_at (λ s. merged_language s (language_of more)) (language_of more)
+        (entries_of languages.old.entries) language) }
     ensures fits { OnOk result
         (FitAt (language_at (entries_of languages.old.entries) language) (language_of more)) }
     ensures overflow { IsErrOf result CountError.Overflow
@@ -27,7 +28,8 @@ fn add_at(
     ensures back { IfOk result (λ before.
         taken_back (option_map restored before) (entries_of languages.new.entries) language
         ≡ entries_of languages.old.entries) }
-    ensures err { OnErr result (entries_of languages.new.entries ≡ entries_of languages.old.entries) }
+    ensures err { OnErr result
+        (entries_of languages.new.entries ≡ entries_of languages.old.entries) }
 {
     if let Some(there) = languages.get_mut(&language) {
         let before = there.grow(more)?;
@@ -65,10 +67,12 @@ pub(crate) fn add_all(
 ) -> Result<(), CountError>
     ensures ok { OnOk result (entries_of languages.new.entries
         ≡ merged_languages (entries_of languages.old.entries) (entries_of more.entries)) }
-    ensures fits { OnOk result (MergeFits (entries_of languages.old.entries) (entries_of more.entries)) }
+    ensures fits { OnOk result
+        (MergeFits (entries_of languages.old.entries) (entries_of more.entries)) }
     ensures overflow { IsErrOf result CountError.Overflow
         → ¬ MergeFits (entries_of languages.old.entries) (entries_of more.entries) }
-    ensures err { OnErr result (entries_of languages.new.entries ≡ entries_of languages.old.entries) }
+    ensures err { OnErr result
+        (entries_of languages.new.entries ≡ entries_of languages.old.entries) }
 {
     let Some((language, first)) = more.pop_first() else {
         return Ok(());

@@ -79,7 +79,8 @@ impl Languages {
 
     /// The languages with the reports of each sorted as by `Language::sort_by`; refused for want of memory alone.
     pub fn with_sorted_reports(self, sort: Sort) -> Result<Languages, CountError>
-        ensures ok { IfOk result (λ sorted. languages_of sorted ≡ sorted_languages sort (languages_of self)) }
+        ensures ok { IfOk result (λ sorted.
+            languages_of sorted ≡ sorted_languages sort (languages_of self)) }
         ensures memory { IfErr result (λ e. e ≡ CountError.Memory) }
     {
         let Languages { languages, alloc } = self;

@@ -37,8 +37,10 @@ pub(crate) fn own_sums(reports: &[Report]) -> Result<Sums, CountError>
 
 /// The sums and the summaries of the reports, added up.
 fn add_summaries(sums: Sums, reports: &[Report]) -> Result<Sums, CountError>
-    ensures sum { IfOk result (λ n. sums_of n ≡ plus (sums_of sums) (reports_summary (map report_of reports.now))) }
-    ensures past { OnErr result (¬ CountsFit (plus (sums_of sums) (reports_summary (map report_of reports.now)))) }
+    ensures sum { IfOk result (λ n.
+        sums_of n ≡ plus (sums_of sums) (reports_summary (map report_of reports.now))) }
+    ensures past { OnErr result
+        (¬ CountsFit (plus (sums_of sums) (reports_summary (map report_of reports.now)))) }
     ensures overflow { IfErr result (λ e. e ≡ CountError.Overflow) }
 {
     let mut more = sums;

@@ -219,8 +219,7 @@ fn refused_languages_add(rt: HostRuntime) {
             one_file(rt.alloc(), c, rust),
             one_file(rt.alloc(), rust, json),
         ) {
-            let added = other;
-            match sum.add(added) {
+            match sum.add(other) {
                 Err(refused) => {
                     assert_eq!(rt; refused, CountError::Memory);
                     assert!(rt; sum == same);

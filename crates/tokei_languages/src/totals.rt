@@ -37,7 +37,8 @@ fn renew(language: &mut Language)
 /// Renews the counts of all languages, whose sums fit.
 fn renew_all(languages: &mut BTreeMap<LanguageType, Language>)
     requires { RenewalFits (entries_of languages.old.entries) }
-    ensures { entries_of languages.new.entries ≡ renewed_languages (entries_of languages.old.entries) }
+    ensures { entries_of languages.new.entries
+        ≡ renewed_languages (entries_of languages.old.entries) }
 {
     languages.retain(|_, language| {
         renew(language);
@@ -56,7 +57,8 @@ impl Languages {
     /// Renews the counts of every language: they become the sums of its reports' own counts. `Overflow` exactly where one
     /// of these passes the greatest `usize`, which changes nothing.
     pub fn renew_counts(&mut self) -> Result<(), CountError>
-        ensures ok { OnOk result (languages_of self.new ≡ renewed_languages (languages_of self.old)) }
+        ensures ok { OnOk result
+            (languages_of self.new ≡ renewed_languages (languages_of self.old)) }
         ensures fits { OnOk result (RenewalFits (languages_of self.old)) }
         ensures past { OnErr result (¬ RenewalFits (languages_of self.old)) }
         ensures overflow { IfErr result (λ e. e ≡ CountError.Overflow) }
@@ -95,7 +97,8 @@ impl Languages {
 
     /// A copy of the reports of each language.
     fn copied_reports(&self) -> Result<BTreeMap<LanguageType, Vec<Report>>, CountError>
-        ensures ok { IfOk result (λ m. children_of m.entries ≡ reports_by_language (languages_of self.now)) }
+        ensures ok { IfOk result (λ m.
+            children_of m.entries ≡ reports_by_language (languages_of self.now)) }
         ensures memory { IfErr result (λ e. e ≡ CountError.Memory) }
     {
         let mut copies = BTreeMap::new(self.alloc);
