@@ -5,6 +5,7 @@ pub mod Growing
 pub mod Inside
 pub mod KeptPlaces
 pub mod ListedFiles
+pub mod NearestFirst
 pub mod Over
 pub mod Ranking
 pub mod RootSteps

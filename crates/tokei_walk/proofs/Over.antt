@@ -16,7 +16,7 @@ none_left t w true is h = to_come_failed t w is
 none_left t w false is h =
     let spent = left_of_and (is_spent w.stack) (is_empty w.roots) h in
     to_come_left t w is
-    ∙ all_ended _ _ t w.stack w.roots (nothing_in w.stack.left (left_of_and (is_empty w.stack.left) (is_empty w.stack.below) spent)) (nothing_in w.stack.below (right_of_and (is_empty w.stack.left) (is_empty w.stack.below) spent))
+    ∙ all_ended _ _ t w.stack w.roots (nothing_in w.stack.left (left_of_and (is_empty w.stack.left) (is_empty w.stack.holders) spent)) (nothing_in w.stack.holders (right_of_and (is_empty w.stack.left) (is_empty w.stack.holders) spent))
     (nothing_in w.roots (right_of_and (is_spent w.stack) (is_empty w.roots) h))
 
 -- nothing is to come
@@ -38,7 +38,7 @@ or_true true = refl
 or_true false = refl
 
 -- a walk of which nothing is left is over
-pub spent_over : (w : Walk) → w.stack.left ≡ [] → w.stack.below ≡ [] → w.roots ≡ [] → is_over w ≡ true
+pub spent_over : (w : Walk) → w.stack.left ≡ [] → w.stack.holders ≡ [] → w.roots ≡ [] → is_over w ≡ true
 unfolding is_over
 spent_over w left below roots =
     ap (λ (b : Bool). w.failed || b) (ap₂ (λ (a b : Bool). a && b) (ap₂ (λ (a b : Bool). a && b) (ap is_empty left) (ap is_empty below)) (ap is_empty roots)) ∙ or_true w.failed

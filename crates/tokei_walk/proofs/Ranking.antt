@@ -27,18 +27,18 @@ weight-below k n h = mul-lt-mul_of_pos_right h (weight-pos n)
 pub stays_rank : (s v : Stack) → Stays s v → length v.left ≤ length s.left → stack_rank v ≤ stack_rank s
 unfolding stack_rank
 stays_rank s v stays fewer =
-    let w = weight (256 - length s.below) in
+    let w = weight (256 - length s.holders) in
     let less : length v.left * w ≤ length s.left * w = mul-le-mul_right w fewer in
     let same = ap (λ b. length v.left * weight (256 - length b) + frames_rank (reverse b)) stays.2 in
     omega arith
 
 -- an entry that is taken takes its weight
-pub popped : (s u : Stack) (item : Item) → Pops s u (Some item) → stack_rank s ≡ stack_rank u + weight (256 - length s.below)
+pub popped : (s u : Stack) (item : Item) → Pops s u (Some item) → stack_rank s ≡ stack_rank u + weight (256 - length s.holders)
 unfolding stack_rank
 popped s u item h =
-    let w = weight (256 - length s.below) in
+    let w = weight (256 - length s.holders) in
     let one : length s.left ≡ suc (length u.left) = sym (length-reverse s.left) ∙ ap length h.0 ∙ ap suc (length-reverse u.left) in
-    let same = ap (λ (v : Stack). length u.left * weight (256 - length v.below) + frames_rank (reverse v.below)) h.2 in
+    let same = ap (λ (v : Stack). length u.left * weight (256 - length v.holders) + frames_rank (reverse v.holders)) h.2 in
     let product : length s.left * w ≡ length u.left * w + w = ap (λ n. n * w) one ∙ omega arith in
     omega arith
 
@@ -49,17 +49,17 @@ turned below front f is =
     ap frames_rank (ap reverse is ∙ reverse-append front (f ∷ [])) ∙ ap (λ n. length f.left * weight (256 - n) + frames_rank (reverse front)) (length-reverse front)
 
 -- a folder that is entered weighs less than its entry
-pub entered_rank : (s u : Stack) (c : Context) (place : List ℕ) → length s.below < 256 → Enters (with_context s c) u place → stack_rank u < stack_rank s + weight (256 - length s.below)
+pub entered_rank : (s u : Stack) (c : Context) (place : List ℕ) → length s.holders < 256 → Enters (with_context s c) u place → stack_rank u < stack_rank s + weight (256 - length s.holders)
 unfolding stack_rank
 entered_rank s u c place shallow h =
     let f : Frame = record { place = s.place; left = s.left } in
-    let n = 255 - length s.below in
-    let more : 256 - length s.below ≡ suc n = omega arith in
-    let fewer : 256 - length u.below ≡ n = omega (arith, ap length h.below_is, length-append s.below (f ∷ [])) in
+    let n = 255 - length s.holders in
+    let more : 256 - length s.holders ≡ suc n = omega arith in
+    let fewer : 256 - length u.holders ≡ n = omega (arith, ap length h.holders_is, length-append s.holders (f ∷ [])) in
     let own : length u.left * weight n < weight (suc n) = weight-below (length u.left) n h.few in
     let at = ap (λ m. length u.left * weight m) fewer in
     let whole = ap weight more in
-    let held = turned u.below s.below f h.below_is in
+    let held = turned u.holders s.holders f h.holders_is in
     omega arith
 
 -- a folder that is left takes what was left of it
@@ -67,11 +67,11 @@ pub left_rank : (s u : Stack) → Leaves s u true → stack_rank u ≤ stack_ran
 unfolding stack_rank
 left_rank s u h =
     let f : Frame = record { place = u.place; left = u.left } in
-    let held = turned s.below u.below f h.0 in
+    let held = turned s.holders u.holders f h.0 in
     omega arith
 
 -- a root's folder weighs less than a root
-pub root_rank : (s : Stack) → s.below ≡ [] → length s.left < 2 ^ 64 → stack_rank s < weight 257
+pub root_rank : (s : Stack) → s.holders ≡ [] → length s.left < 2 ^ 64 → stack_rank s < weight 257
 unfolding stack_rank frames_rank
 root_rank s below few =
     let own : length s.left * weight 256 < weight (suc 256) = weight-below (length s.left) 256 few in
@@ -82,7 +82,7 @@ root_rank s below few =
 pub file_falls : (s u v : Stack) (item : Item) (q : Result Step AllocError) → Pops s u (Some item) → OnOk q (v ≡ u) → IfOk q (λ st. FoundFalls s v st)
 file_falls s u v item (Ok (Found k)) h same =
     let p = popped s u item h in
-    let w = weight-pos (256 - length s.below) in
+    let w = weight-pos (256 - length s.holders) in
     let e = ap stack_rank same in
     omega arith
 file_falls s u v item (Ok Passed) h same = tt

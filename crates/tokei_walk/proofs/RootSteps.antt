@@ -108,7 +108,7 @@ pub no_roots : (xs : List Pattern) (r : Rules) (t : Tree) (roots : List (List �
 unfolding of_roots
 no_roots xs r t roots e = ap (λ q. flat_map (of_root xs r t) (reverse q)) e
 
-pub all_ended : (xs : List Pattern) (r : Rules) (t : Tree) (s : Stack) (roots : List (List ℕ)) → s.left ≡ [] → s.below ≡ [] → roots ≡ [] → of_all xs r t s roots ≡ []
+pub all_ended : (xs : List Pattern) (r : Rules) (t : Tree) (s : Stack) (roots : List (List ℕ)) → s.left ≡ [] → s.holders ≡ [] → roots ≡ [] → of_all xs r t s roots ≡ []
 all_ended xs r t s roots left below none = ap₂ (λ (a b : List KeptFile). a ++ b) (empty_gives xs r t s left below) (no_roots xs r t roots none)
 
 roots_pop : (xs : List Pattern) (r : Rules) (t : Tree) (roots front : List (List ℕ)) (root : List ℕ) → roots ≡ front ++ root ∷ [] → of_roots xs r t roots ≡ of_root xs r t root ++ of_roots xs r t front
@@ -116,7 +116,7 @@ unfolding of_roots
 roots_pop xs r t roots front root is = ap (λ q. flat_map (of_root xs r t) q) (ap reverse is ∙ reverse-append front (root ∷ []))
 
 -- the next root, where nothing of the one before is left
-pub root_begins : (xs : List Pattern) (r : Rules) (t : Tree) (s v : Stack) (roots front : List (List ℕ)) (root : List ℕ) → Stays s v → v.left ≡ [] → v.below ≡ [] → of_top xs r t s ≡ [] → roots ≡ front ++ root ∷ [] → of_all xs r t s roots ≡ of_root xs r t root ++ of_roots xs r t front
+pub root_begins : (xs : List Pattern) (r : Rules) (t : Tree) (s v : Stack) (roots front : List (List ℕ)) (root : List ℕ) → Stays s v → v.left ≡ [] → v.holders ≡ [] → of_top xs r t s ≡ [] → roots ≡ front ++ root ∷ [] → of_all xs r t s roots ≡ of_root xs r t root ++ of_roots xs r t front
 root_begins xs r t s v roots front root stays left below none is =
     ap₂ (λ (a b : List KeptFile). a ++ b) (explored_none xs r t s v stays left none ∙ empty_gives xs r t v left below) (roots_pop xs r t roots front root is)
 
@@ -129,7 +129,7 @@ unfolding to_come
 to_come_failed t w e = ap (λ b. cond b [] (of_all w.settings.excludes w.settings.rules t w.stack w.roots)) e
 
 -- a walk that is begun has all files of its roots to come
-pub begun : (t : Tree) (w : Walk) (xs : List Pattern) (roots : List (List ℕ)) → w.failed ≡ false → w.settings.excludes ≡ xs → w.stack.left ≡ [] → w.stack.below ≡ [] → w.roots ≡ reverse roots → to_come t w ≡ descended xs w.settings.rules t roots
+pub begun : (t : Tree) (w : Walk) (xs : List Pattern) (roots : List (List ℕ)) → w.failed ≡ false → w.settings.excludes ≡ xs → w.stack.left ≡ [] → w.stack.holders ≡ [] → w.roots ≡ reverse roots → to_come t w ≡ descended xs w.settings.rules t roots
 unfolding of_roots descended
 begun t w xs roots e is left below turned_round =
     to_come_left t w e ∙ ap (λ (q : List KeptFile). q ++ of_roots w.settings.excludes w.settings.rules t w.roots) (empty_gives w.settings.excludes w.settings.rules t w.stack left below)

@@ -32,7 +32,7 @@ same_context a b c = λ i. context_of (a i) (b i) (c i)
 
 -- the stack with another context
 abbrev pub with_context : Stack → Context → Stack
-with_context s c = record { context = c; place = s.place; left = s.left; below = s.below }
+with_context s c = record { context = c; place = s.place; left = s.left; holders = s.holders }
 
 -- a name that is taken off again
 pub forgotten : (c d e : Context) (name : List ℕ) → d ≡ under c name → e ≡ without_name d → e ≡ c
@@ -44,34 +44,34 @@ forgotten_stack s d e name is took = ap (with_context s) (forgotten s.context d 
 
 pub top_ends : (xs : List Pattern) (r : Rules) (t : Tree) (s : Stack) → reverse s.left ≡ [] → of_top xs r t s ≡ []
 unfolding of_entries
-top_ends xs r t s e = ap (of_entries xs r (descend xs r t (256 - length s.below)) s.context s.place) e
+top_ends xs r t s e = ap (of_entries xs r (descend xs r t (256 - length s.holders)) s.context s.place) e
 
 abbrev entry_of : List Pattern → Rules → Tree → Stack → Entry → List KeptFile
-entry_of xs r t s e = of_entry xs r (descend xs r t (256 - length s.below)) s.context s.place e
+entry_of xs r t s e = of_entry xs r (descend xs r t (256 - length s.holders)) s.context s.place e
 
 top_step : (xs : List Pattern) (r : Rules) (t : Tree) (s u : Stack) (item : Item) → Pops s u (Some item) → of_top xs r t s ≡ entry_of xs r t u item.entry ++ of_top xs r t u
 unfolding of_entries
 top_step xs r t s u item h =
-    ap (of_entries xs r (descend xs r t (256 - length s.below)) s.context s.place) h.0 ∙ ap (λ (v : Stack). entry_of xs r t v item.entry ++ of_top xs r t v) (sym h.2)
+    ap (of_entries xs r (descend xs r t (256 - length s.holders)) s.context s.place) h.0 ∙ ap (λ (v : Stack). entry_of xs r t v item.entry ++ of_top xs r t v) (sym h.2)
 
 entry_is : (xs : List Pattern) (r : Rules) (t : Tree) (s u : Stack) (item : Item) (k : Kind) → Pops s u (Some item) → item.entry.kind ≡ k
-    → entry_of xs r t u item.entry ≡ of_kind k (drops xs r u.context item.entry.name (is_folder k)) item.place (descend xs r t (256 - length u.below) (under u.context item.entry.name) item.place)
+    → entry_of xs r t u item.entry ≡ of_kind k (drops xs r u.context item.entry.name (is_folder k)) item.place (descend xs r t (256 - length u.holders) (under u.context item.entry.name) item.place)
 unfolding of_entry
 entry_is xs r t s u item k h e =
     let at : joined u.place item.entry.name ≡ item.place = ap (λ (v : Stack). joined v.place item.entry.name) h.2 ∙ sym h.1 in
-    ap (λ (j : Kind). of_kind j (drops xs r u.context item.entry.name (is_folder j)) (joined u.place item.entry.name) (descend xs r t (256 - length u.below) (under u.context item.entry.name) (joined u.place item.entry.name))) e
-    ∙ ap (λ (p : List ℕ). of_kind k (drops xs r u.context item.entry.name (is_folder k)) p (descend xs r t (256 - length u.below) (under u.context item.entry.name) p)) at
+    ap (λ (j : Kind). of_kind j (drops xs r u.context item.entry.name (is_folder j)) (joined u.place item.entry.name) (descend xs r t (256 - length u.holders) (under u.context item.entry.name) (joined u.place item.entry.name))) e
+    ∙ ap (λ (p : List ℕ). of_kind k (drops xs r u.context item.entry.name (is_folder k)) p (descend xs r t (256 - length u.holders) (under u.context item.entry.name) p)) at
 
 pub tells_other : (xs : List Pattern) (r : Rules) (t : Tree) (s u : Stack) (item : Item) → Pops s u (Some item) → item.entry.kind ≡ Other → of_top xs r t s ≡ of_top xs r t u
 tells_other xs r t s u item h e = top_step xs r t s u item h ∙ ap (λ (q : List KeptFile). q ++ of_top xs r t u) (entry_is xs r t s u item Other h e)
 
 -- the folders that hold the walked one give the same
-same_frames : (xs : List Pattern) (r : Rules) (t : Tree) (s u : Stack) (item : Item) → Pops s u (Some item) → of_frames xs r t (outer s.context) (reverse s.below) ≡ of_frames xs r t (outer u.context) (reverse u.below)
-same_frames xs r t s u item h = ap (λ (v : Stack). of_frames xs r t (outer v.context) (reverse v.below)) (sym h.2)
+same_frames : (xs : List Pattern) (r : Rules) (t : Tree) (s u : Stack) (item : Item) → Pops s u (Some item) → of_frames xs r t (outer s.context) (reverse s.holders) ≡ of_frames xs r t (outer u.context) (reverse u.holders)
+same_frames xs r t s u item h = ap (λ (v : Stack). of_frames xs r t (outer v.context) (reverse v.holders)) (sym h.2)
 
 stack_step : (xs : List Pattern) (r : Rules) (t : Tree) (s u : Stack) (item : Item) → Pops s u (Some item) → of_stack xs r t s ≡ entry_of xs r t u item.entry ++ of_stack xs r t u
 stack_step xs r t s u item h =
-    ap₂ (λ (a b : List KeptFile). a ++ b) (top_step xs r t s u item h) (same_frames xs r t s u item h) ∙ append_assoc (entry_of xs r t u item.entry) (of_top xs r t u) (of_frames xs r t (outer u.context) (reverse u.below))
+    ap₂ (λ (a b : List KeptFile). a ++ b) (top_step xs r t s u item h) (same_frames xs r t s u item h) ∙ append_assoc (entry_of xs r t u item.entry) (of_top xs r t u) (of_frames xs r t (outer u.context) (reverse u.holders))
 
 file_tells : (xs : List Pattern) (r : Rules) (t : Tree) (s u : Stack) (place : List ℕ) (b : Bool) → of_top xs r t s ≡ cond b [] (kept place) ++ of_top xs r t u → of_stack xs r t s ≡ cond b [] (kept place) ++ of_stack xs r t u → StepTells xs r t s u (file_kept b place)
 file_tells xs r t s u place true top all = top
@@ -98,16 +98,16 @@ same_stack xs r t s u h e =
     ap₂ (λ (a b : List KeptFile). a ++ b) e (ap₂ (λ (c : Context) (fs : List Frame). of_frames xs r t (outer c) (reverse fs)) (sym h.0) (sym h.2))
 
 pub visit_dropped : (xs : List Pattern) (r : Rules) (t : Tree) (s : Stack) (name place : List ℕ) → drops xs r s.context name true ≡ true → of_folder xs r t s name place ≡ []
-visit_dropped xs r t s name place e = ap (λ b. cond b [] (descend xs r t (256 - length s.below) (under s.context name) place)) e
+visit_dropped xs r t s name place e = ap (λ b. cond b [] (descend xs r t (256 - length s.holders) (under s.context name) place)) e
 
 nothing_either : {X : Type 0} (b : Bool) (ys : List X) → ys ≡ [] → cond b [] ys ≡ []
 nothing_either true ys e = refl
 nothing_either false ys e = e
 
-pub visit_deep : (xs : List Pattern) (r : Rules) (t : Tree) (s : Stack) (name place : List ℕ) → 256 ≤ length s.below → of_folder xs r t s name place ≡ []
+pub visit_deep : (xs : List Pattern) (r : Rules) (t : Tree) (s : Stack) (name place : List ℕ) → 256 ≤ length s.holders → of_folder xs r t s name place ≡ []
 unfolding descend
 visit_deep xs r t s name place deep =
-    let none : 256 - length s.below ≡ zero = omega arith in
+    let none : 256 - length s.holders ≡ zero = omega arith in
     nothing_either (drops xs r s.context name true) _ (ap (λ n. descend xs r t n (under s.context name) place) none)
 
 unlisted : (xs : List Pattern) (r : Rules) (t : Tree) (n : ℕ) (c : Context) (place : List ℕ) → list_answer t (names_of place) ≡ Err Refused → descend xs r t n c place ≡ []
@@ -117,7 +117,7 @@ unlisted xs r t (suc n) c place e =
     ap (of_listing (λ d at es. of_entries xs r (descend xs r t n) (with_level d (level_at t r (names_of at))) at es) c place) e
 
 pub visit_refused : (xs : List Pattern) (r : Rules) (t : Tree) (s : Stack) (name place : List ℕ) → list_answer t (names_of place) ≡ Err Refused → of_folder xs r t s name place ≡ []
-visit_refused xs r t s name place e = nothing_either (drops xs r s.context name true) _ (unlisted xs r t (256 - length s.below) (under s.context name) place e)
+visit_refused xs r t s name place e = nothing_either (drops xs r s.context name true) _ (unlisted xs r t (256 - length s.holders) (under s.context name) place e)
 
 listed : (xs : List Pattern) (r : Rules) (t : Tree) (n : ℕ) (c : Context) (place : List ℕ) (es : List Entry) → list_answer t (names_of place) ≡ Ok es → descend xs r t (suc n) c place ≡ of_entries xs r (descend xs r t n) (with_level c (level_at t r (names_of place))) place es
 unfolding descend
@@ -130,13 +130,13 @@ entered_context : (s u : Stack) (c : Context) (l : Level) (place name : List ℕ
 entered_context s u c l place name is h levels =
     same_context (ap (λ (d : Context). d.levels ++ l ∷ []) (sym is) ∙ sym levels) (ap (λ (d : Context). d.names) (sym is) ∙ sym h.names_stay) (ap (λ (d : Context). d.shown) (sym is) ∙ sym h.shown_stay)
 
-pub visit_entered : (xs : List Pattern) (r : Rules) (t : Tree) (s u : Stack) (c : Context) (name place : List ℕ) → c ≡ under s.context name → drops xs r s.context name true ≡ false → length s.below < 256 → Enters (with_context s c) u place → EntersTold t r (with_context s c) u place
+pub visit_entered : (xs : List Pattern) (r : Rules) (t : Tree) (s u : Stack) (c : Context) (name place : List ℕ) → c ≡ under s.context name → drops xs r s.context name true ≡ false → length s.holders < 256 → Enters (with_context s c) u place → EntersTold t r (with_context s c) u place
     → of_folder xs r t s name place ≡ of_top xs r t u
 visit_entered xs r t s u c name place is kept_in shallow h told =
-    let n = 255 - length s.below in
-    let more : 256 - length s.below ≡ suc n = omega arith in
-    let fewer : n ≡ 256 - length u.below = omega (arith, ap length h.below_is, length-append s.below (record { place = s.place; left = s.left } ∷ [])) in
-    ap (λ b. cond b [] (descend xs r t (256 - length s.below) (under s.context name) place)) kept_in ∙ ap (λ m. descend xs r t m (under s.context name) place) more
+    let n = 255 - length s.holders in
+    let more : 256 - length s.holders ≡ suc n = omega arith in
+    let fewer : n ≡ 256 - length u.holders = omega (arith, ap length h.holders_is, length-append s.holders (record { place = s.place; left = s.left } ∷ [])) in
+    ap (λ b. cond b [] (descend xs r t (256 - length s.holders) (under s.context name) place)) kept_in ∙ ap (λ m. descend xs r t m (under s.context name) place) more
     ∙ listed xs r t n (under s.context name) place (reverse u.left) told.entries_are
     ∙ same_top xs r t (reverse u.left) fewer (entered_context s u c (level_at t r (names_of place)) place name is h told.levels_are) (sym h.place_is)
 
@@ -148,22 +148,22 @@ pub stack_entered : (xs : List Pattern) (r : Rules) (t : Tree) (s u : Stack) (c 
 unfolding of_frames
 stack_entered xs r t s u c name place is h =
     let f : Frame = record { place = s.place; left = s.left } in
-    let turned : reverse u.below ≡ f ∷ reverse s.below = ap reverse h.below_is ∙ reverse-append s.below (f ∷ []) in
+    let turned : reverse u.holders ≡ f ∷ reverse s.holders = ap reverse h.holders_is ∙ reverse-append s.holders (f ∷ []) in
     let frames = ap₂ (λ (d : Context) (fs : List Frame). of_frames xs r t d fs) (outer_is s u c name place is h) turned in
-    let size = ap (λ n. of_entries xs r (descend xs r t (256 - n)) s.context s.place (reverse s.left) ++ of_frames xs r t (outer s.context) (reverse s.below)) (length-reverse s.below) in
+    let size = ap (λ n. of_entries xs r (descend xs r t (256 - n)) s.context s.place (reverse s.left) ++ of_frames xs r t (outer s.context) (reverse s.holders)) (length-reverse s.holders) in
     ap (λ (q : List KeptFile). of_top xs r t u ++ q) (frames ∙ size)
 
 abbrev stack_of : Context → Frame → List Frame → Stack
-stack_of c f fs = record { context = c; place = f.place; left = f.left; below = fs }
+stack_of c f fs = record { context = c; place = f.place; left = f.left; holders = fs }
 
 -- the folder is left again
 pub visit_left : (s u v w : Stack) (c : Context) (b : Bool) (name place : List ℕ) → c ≡ under s.context name → Enters (with_context s c) u place → Stays u v → Leaves v w b → w ≡ s
 visit_left s u v w c false name place is h stays left =
-    absurd (let e : _ ≡ [] = sym (stays.2 ∙ h.below_is) ∙ left.0 in let n = ap length e in omega (arith, length-append s.below (record { place = s.place; left = s.left } ∷ [])))
+    absurd (let e : _ ≡ [] = sym (stays.2 ∙ h.holders_is) ∙ left.0 in let n = ap length e in omega (arith, length-append s.holders (record { place = s.place; left = s.left } ∷ [])))
 visit_left s u v w c true name place is h stays left =
     let f : Frame = record { place = s.place; left = s.left } in
     let g : Frame = record { place = w.place; left = w.left } in
-    let both = same_from_push w.below s.below g f (sym left.0 ∙ stays.2 ∙ h.below_is) in
+    let both = same_from_push w.holders s.holders g f (sym left.0 ∙ stays.2 ∙ h.holders_is) in
     let context = left.1 ∙ ap outer stays.0 ∙ outer_is s u c name place is h in
     λ i. stack_of (context i) (both.1 i) (both.0 i)
 
@@ -176,22 +176,22 @@ file_told xs r t s u v item (Ok st) h e same is = tells_file xs r t s u v item s
 file_told xs r t s u v item (Err x) h e same is = tt
 
 -- a root that is walked
-pub root_entered : (xs : List Pattern) (r : Rules) (t : Tree) (s : Stack) (c d : Context) (l : Level) (root : List ℕ) → list_answer t (names_of root) ≡ Ok (reverse s.left) → c ≡ d → l ≡ level_at t r (names_of root) → s.context ≡ with_level c l → s.place ≡ root → s.below ≡ [] → descend xs r t 257 d root ≡ of_stack xs r t s
+pub root_entered : (xs : List Pattern) (r : Rules) (t : Tree) (s : Stack) (c d : Context) (l : Level) (root : List ℕ) → list_answer t (names_of root) ≡ Ok (reverse s.left) → c ≡ d → l ≡ level_at t r (names_of root) → s.context ≡ with_level c l → s.place ≡ root → s.holders ≡ [] → descend xs r t 257 d root ≡ of_stack xs r t s
 unfolding of_frames
 root_entered xs r t s c d l root entries is level context place below =
     let at : with_level d (level_at t r (names_of root)) ≡ s.context = sym (context ∙ ap₂ with_level is level) in
-    let n : 256 ≡ 256 - length s.below = omega (arith, ap length below) in
-    let frames : of_frames xs r t (outer s.context) (reverse s.below) ≡ [] = ap (λ (fs : List Frame). of_frames xs r t (outer s.context) (reverse fs)) below in
+    let n : 256 ≡ 256 - length s.holders = omega (arith, ap length below) in
+    let frames : of_frames xs r t (outer s.context) (reverse s.holders) ≡ [] = ap (λ (fs : List Frame). of_frames xs r t (outer s.context) (reverse fs)) below in
     listed xs r t 256 d root (reverse s.left) entries ∙ same_top xs r t (reverse s.left) n at (sym place) ∙ sym (ap (λ (q : List KeptFile). of_top xs r t s ++ q) frames ∙ append-nil (of_top xs r t s))
 
 -- an empty stack gives nothing
-pub empty_gives : (xs : List Pattern) (r : Rules) (t : Tree) (s : Stack) → s.left ≡ [] → s.below ≡ [] → of_stack xs r t s ≡ []
+pub empty_gives : (xs : List Pattern) (r : Rules) (t : Tree) (s : Stack) → s.left ≡ [] → s.holders ≡ [] → of_stack xs r t s ≡ []
 unfolding of_frames
 empty_gives xs r t s left below =
     ap₂ (λ (a b : List KeptFile). a ++ b) (top_ends xs r t s (ap reverse left)) (ap (λ (fs : List Frame). of_frames xs r t (outer s.context) (reverse fs)) below)
 
 -- a root that can't be listed leaves an empty stack
-pub root_unlisted : (xs : List Pattern) (r : Rules) (t : Tree) (s : Stack) (d : Context) (root : List ℕ) → list_answer t (names_of root) ≡ Err Refused → s.left ≡ [] → s.below ≡ [] → descend xs r t 257 d root ≡ of_stack xs r t s
+pub root_unlisted : (xs : List Pattern) (r : Rules) (t : Tree) (s : Stack) (d : Context) (root : List ℕ) → list_answer t (names_of root) ≡ Err Refused → s.left ≡ [] → s.holders ≡ [] → descend xs r t 257 d root ≡ of_stack xs r t s
 root_unlisted xs r t s d root refused left below = unlisted xs r t 257 d root refused ∙ sym (empty_gives xs r t s left below)
 
 -- where the walked folder gives nothing more, what holds it goes on
@@ -200,6 +200,6 @@ unfolding of_frames
 left_gives xs r t s u false e top h = absurd (cc)
 left_gives xs r t s u true e top h =
     let f : Frame = record { place = u.place; left = u.left } in
-    let turned : reverse s.below ≡ f ∷ reverse u.below = ap reverse h.0 ∙ reverse-append u.below (f ∷ []) in
-    let size = ap (λ n. of_entries xs r (descend xs r t (256 - n)) u.context u.place (reverse u.left) ++ of_frames xs r t (outer u.context) (reverse u.below)) (length-reverse u.below) in
+    let turned : reverse s.holders ≡ f ∷ reverse u.holders = ap reverse h.0 ∙ reverse-append u.holders (f ∷ []) in
+    let size = ap (λ n. of_entries xs r (descend xs r t (256 - n)) u.context u.place (reverse u.left) ++ of_frames xs r t (outer u.context) (reverse u.holders)) (length-reverse u.holders) in
     ap₂ (λ (a b : List KeptFile). a ++ b) top (ap₂ (λ (d : Context) (fs : List Frame). of_frames xs r t d fs) (sym h.1) turned) ∙ size

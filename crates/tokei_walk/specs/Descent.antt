@@ -29,7 +29,7 @@ kept place = record { path = place; place = place } ∷ []
 abbrev pub with_level : Context → Level → Context
 with_level c l = record c { levels = c.levels ++ l ∷ [] }
 
--- what an entry gives, where `below` says what a folder gives
+-- what an entry gives, where `inner` is what a folder gives
 abbrev pub of_kind : Kind → Bool → List ℕ → List KeptFile → List KeptFile
 of_kind File dropped place inner = cond dropped [] (kept place)
 of_kind Folder dropped place inner = cond dropped [] inner
@@ -89,7 +89,7 @@ of_frames excludes rules t c (f ∷ fs) = of_entries excludes rules (descend exc
 
 -- what the folder that is walked still gives
 abbrev pub of_top : List Pattern → Rules → Tree → Stack → List KeptFile
-of_top excludes rules t s = of_entries excludes rules (descend excludes rules t (256 - length s.below)) s.context s.place (reverse s.left)
+of_top excludes rules t s = of_entries excludes rules (descend excludes rules t (256 - length s.holders)) s.context s.place (reverse s.left)
 
 abbrev pub of_stack : List Pattern → Rules → Tree → Stack → List KeptFile
-of_stack excludes rules t s = of_top excludes rules t s ++ of_frames excludes rules t (outer s.context) (reverse s.below)
+of_stack excludes rules t s = of_top excludes rules t s ++ of_frames excludes rules t (outer s.context) (reverse s.holders)

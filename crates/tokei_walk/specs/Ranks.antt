@@ -18,7 +18,7 @@ frames_rank (f ∷ fs) = length f.left * weight (256 - length fs) + frames_rank 
 
 -- the entries left of all folders that are walked
 unfoldable pub stack_rank : Stack → ℕ
-stack_rank s = length s.left * weight (256 - length s.below) + frames_rank (reverse s.below)
+stack_rank s = length s.left * weight (256 - length s.holders) + frames_rank (reverse s.holders)
 
 -- those, and the roots that are still to come
 unfoldable pub all_rank : Stack → List (List ℕ) → ℕ

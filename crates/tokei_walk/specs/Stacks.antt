@@ -21,13 +21,13 @@ Pops old new (Some item) = (reverse old.left ≡ item.entry ∷ reverse new.left
 
 -- the folder that holds the walked one is walked again
 abbrev pub Leaves : Stack → Stack → Bool → Type 0
-Leaves old new false = (old.below ≡ []) × (new ≡ old)
-Leaves old new true = (old.below ≡ new.below ++ record { place = new.place; left = new.left } ∷ []) × (new.context ≡ outer old.context)
+Leaves old new false = (old.holders ≡ []) × (new ≡ old)
+Leaves old new true = (old.holders ≡ new.holders ++ record { place = new.place; left = new.left } ∷ []) × (new.context ≡ outer old.context)
 
 -- a folder is entered: the one that was walked holds it, and its rules stand last
 pub record Enters (old new : Stack) (place : List ℕ) : Type 0 where
   pub place_is : new.place ≡ place
-  pub below_is : new.below ≡ old.below ++ record { place = old.place; left = old.left } ∷ []
+  pub holders_is : new.holders ≡ old.holders ++ record { place = old.place; left = old.left } ∷ []
   pub names_stay : new.context.names ≡ old.context.names
   pub shown_stay : new.context.shown ≡ old.context.shown
   pub levels_is : without_last new.context.levels ≡ old.context.levels
@@ -40,7 +40,7 @@ pub record EntersTold (t : Tree) (rules : Rules) (old new : Stack) (place : List
 
 -- what an entry that is a folder gives
 abbrev pub of_folder : List Pattern → Rules → Tree → Stack → List ℕ → List ℕ → List KeptFile
-of_folder excludes rules t s name place = cond (drops excludes rules s.context name true) [] (descend excludes rules t (256 - length s.below) (under s.context name) place)
+of_folder excludes rules t s name place = cond (drops excludes rules s.context name true) [] (descend excludes rules t (256 - length s.holders) (under s.context name) place)
 
 -- a file that isn't dropped is found
 abbrev pub file_kept : Bool → List ℕ → Step
@@ -55,7 +55,7 @@ StepTells excludes rules t old new Ended = of_top excludes rules t old ≡ []
 
 -- the walked folder stays, with what holds it
 abbrev pub Stays : Stack → Stack → Type 0
-Stays old new = (new.context ≡ old.context) × (new.place ≡ old.place) × (new.below ≡ old.below)
+Stays old new = (new.context ≡ old.context) × (new.place ≡ old.place) × (new.holders ≡ old.holders)
 
 abbrev pub StepStays : Stack → Stack → Step → Type 0
 StepStays old new (Found k) = Unit {0}

@@ -34,7 +34,7 @@ has_failed w = w.failed
 
 -- nothing is left of a stack
 abbrev pub is_spent : Stack → Bool
-is_spent s = is_empty s.left && is_empty s.below
+is_spent s = is_empty s.left && is_empty s.holders
 
 -- a walk is over: it has failed, or nothing is left of it
 unfoldable pub is_over : Walk → Bool

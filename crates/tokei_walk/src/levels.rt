@@ -1,5 +1,5 @@
 //! What the rules of folders inside one another decide.
-ghost use Rattle.std.specs.Prelude.{◌≡◌, None};
+ghost use Rattle.std.specs.Prelude.{◌≡◌, None, drop};
 ghost use Rattle.tokei_folders.specs.Ends.{without_first as rest_of, begins_with};
 ghost use Rattle.tokei_walk.specs.Levels.{patterns_from as level_patterns, decision as level_decision, repository as repository_of, decided as level_decided, is_excluded as excluded_by, drops_last};
 
@@ -70,19 +70,31 @@ fn without_first(names: &[Text]) -> &[Text]
     }
 }
 
-/// What the ignore files of one kind decide: the nearest folder's that decides.
+/// The names behind so many first ones.
+fn names_behind(names: &[Text], count: usize) -> &[Text]
+    ensures { result.now ≡ drop count names.entry.now }
+{
+    if count < names.len() {
+        &names[count..]
+    } else {
+        &[]
+    }
+}
+
+/// What the ignore files of one kind decide: the nearest folder's that decides. Farther ones aren't
+/// asked then.
 fn decision(source: Source, levels: &[Level], names: &[Text], entered: bool) -> Option<Verdict>
     ensures { result ≡ level_decision source levels.now names.now entered None }
 {
-    let mut found = None;
-    let mut left = names;
-    for level in levels {
-        if let Some(verdict) = verdict_among(patterns(level, source), left, entered) {
-            found = Some(verdict);
+    let mut left = levels;
+    while let Some((level, farther)) = left.split_last() {
+        let below = names_behind(names, farther.len());
+        if let Some(verdict) = verdict_among(patterns(level, source), below, entered) {
+            return Some(verdict);
         }
-        left = without_first(left);
+        left = farther;
     }
-    found
+    None
 }
 
 /// The folders from the nearest one with an entry `.git` on, with the names from there.

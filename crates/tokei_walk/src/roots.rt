@@ -37,10 +37,10 @@ fn enter_root<F: Folders>(
 ) -> Result<(), AllocError>
     ensures same { F.tree folders.new ≡ F.tree folders.old }
     ensures notes { Grows notes.old notes.new }
-    ensures below { OnOk result (length stack.new.below ≤ length stack.old.below) }
+    ensures holders { OnOk result (length stack.new.holders ≤ length stack.old.holders) }
     ensures bounded { OnOk result (stack_rank stack.new < stack_rank stack.old + weight 257) }
     ensures told { Told (F.tree folders.old) (λ t. OnOk result
-        (stack.old.left ≡ [] → stack.old.below ≡ [] →
+        (stack.old.left ≡ [] → stack.old.holders ≡ [] →
         descend settings.now.excludes settings.now.rules t 257
         (root_context t settings.now.rules (names_of root)) root
         ≡ of_stack settings.now.excludes settings.now.rules t stack.new)) }
@@ -62,7 +62,7 @@ fn enter_root<F: Folders>(
     stack.context = context;
     stack.place = root;
     stack.left = left;
-    stack.below.clear();
+    stack.holders.clear();
     Ok(())
 }
 
@@ -86,10 +86,10 @@ pub fn begin_root<F: Folders>(
 ) -> Result<Option<KeptFile>, AllocError>
     ensures same { F.tree folders.new ≡ F.tree folders.old }
     ensures notes { Grows notes.old notes.new }
-    ensures below { OnOk result (length stack.new.below ≤ length stack.old.below) }
+    ensures holders { OnOk result (length stack.new.holders ≤ length stack.old.holders) }
     ensures bounded { OnOk result (stack_rank stack.new < stack_rank stack.old + weight 257) }
     ensures told { Told (F.tree folders.old) (λ t. IfOk result (λ o.
-        stack.old.left ≡ [] → stack.old.below ≡ [] → RootGives
+        stack.old.left ≡ [] → stack.old.holders ≡ [] → RootGives
         (of_root settings.now.excludes settings.now.rules t root)
         (of_stack settings.now.excludes settings.now.rules t stack.new) o)) }
     ensures honest { OnOk result (F.memory_faults folders.old < u64.MAX

@@ -37,7 +37,7 @@ pub struct Stack {
     /// Its entries that are still to be met, the last one first.
     pub left: Items<Entry>,
     /// The folders that hold it, from the root down.
-    pub below: Items<Frame>,
+    pub holders: Items<Frame>,
 }
 
 /// An entry and its place.
@@ -60,7 +60,7 @@ impl Stack {
     pub fn is_spent(&self) -> bool
         ensures { result ≡ spent self.now }
     {
-        self.left.is_empty() && self.below.is_empty()
+        self.left.is_empty() && self.holders.is_empty()
     }
 }
 
@@ -79,7 +79,7 @@ pub fn next_item(alloc: Global, stack: &mut Stack) -> Result<Option<Item>, Alloc
 pub fn leave(stack: &mut Stack) -> bool
     ensures { Leaves stack.old stack.new result }
 {
-    let Some(frame) = stack.below.pop() else {
+    let Some(frame) = stack.holders.pop() else {
         return false;
     };
     stack.place = frame.place;
@@ -215,7 +215,7 @@ fn push_folder(
     entries.reverse();
     let left = mem::replace(&mut stack.left, entries);
     let place = mem::replace(&mut stack.place, place);
-    stack.below.push(Frame { place, left })?;
+    stack.holders.push(Frame { place, left })?;
     Ok(())
 }
 
@@ -236,7 +236,7 @@ fn visit<F: Folders>(
         → F.memory_faults folders.new ≡ F.memory_faults folders.old) }
     ensures stays { IfOk result (λ o. NoneIsSame stack.old stack.new o) }
     ensures falls { IfOk result (λ o. OnSome o (stack_rank stack.new
-        < stack_rank stack.old + weight (256 - length stack.old.below))) }
+        < stack_rank stack.old + weight (256 - length stack.old.holders))) }
     ensures told { Told (F.tree folders.old) (λ t. IfOk result (λ o.
         VisitTells settings.now.excludes settings.now.rules t stack.old stack.new
         item.entry.name item.place o)) }
@@ -245,7 +245,7 @@ fn visit<F: Folders>(
         forget(&mut stack.context);
         return Ok(None);
     }
-    if stack.below.as_slice().len() >= 256 {
+    if stack.holders.as_slice().len() >= 256 {
         note(
             settings.alloc,
             notes,

@@ -29,7 +29,7 @@ fn advance<F: Folders>(
     ensures fewer { IfOk result (λ o. OnSome o
         (all_rank stack.new roots.new < all_rank stack.old roots.old)) }
     ensures ended { result ≡ Ok None
-        → (stack.new.left ≡ []) × (stack.new.below ≡ []) × (roots.new ≡ []) }
+        → (stack.new.left ≡ []) × (stack.new.holders ≡ []) × (roots.new ≡ []) }
     ensures told { Told (F.tree folders.old) (λ t. IfOk result (λ o. Advances
         (of_all settings.now.excludes settings.now.rules t stack.old roots.old)
         (of_all settings.now.excludes settings.now.rules t stack.new roots.new) o)) }
@@ -68,7 +68,7 @@ pub struct Walk {
 
 fn empty_stack(alloc: Global) -> Result<Stack, AllocError>
     ensures left { IfOk result (λ s. s.left ≡ []) }
-    ensures below { IfOk result (λ s. s.below ≡ []) }
+    ensures holders { IfOk result (λ s. s.holders ≡ []) }
 {
     let place = Text::from_str(alloc, "")?;
     Ok(Stack {
@@ -79,7 +79,7 @@ fn empty_stack(alloc: Global) -> Result<Stack, AllocError>
         },
         place,
         left: Items::new(alloc),
-        below: Items::new(alloc),
+        holders: Items::new(alloc),
     })
 }
 
@@ -161,7 +161,8 @@ impl Walk {
     pub fn failed(&self) -> bool
         ensures { result ≡ walk_failed self.now }
     {
-        self.failed
+        let Walk { failed, .. } = self;
+        *failed
     }
 
     /// What the walk met and passed over so far.

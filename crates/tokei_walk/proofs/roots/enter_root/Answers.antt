@@ -33,7 +33,7 @@ returns-clause-told g c = λ t e left below.
     let sought = c.sought_among-sought.ensures ∙ ap (listed x.rules) c.as_slice.ensures.value in
     let level = c.in_ok-level.ensures.told t second ∙ ap₂ (λ (s : Sought) (p : List ℕ). level_of t s (names_of p)) sought c.as_str-4.ensures ∙ level_listed t x.rules (names_of root) c.in-Some.listing.entries.items listed_in in
     let cx = c.in_ok-context.context in
-    let walked : Stack = record { context = record { levels = c.push.new.self; names = cx.names; shown = cx.shown }; place = root; left = c.reverse.new.self; below = c.clear.new.self } in
+    let walked : Stack = record { context = record { levels = c.push.new.self; names = cx.names; shown = cx.shown }; place = root; left = c.reverse.new.self; holders = c.clear.new.self } in
     root_entered x.excludes x.rules t walked c.in_ok-context.context (root_context t x.rules (names_of root)) c.in_ok-level.level root entries is level (same_context c.in_ok-push.ensures.ok refl refl) refl c.clear.ensures
 
 pub returns-in-None-clause-bounded : goal.returns-in-None-clause-bounded
@@ -42,6 +42,6 @@ returns-in-None-clause-bounded g c = always_ok c.note.result (below_root c.args.
 pub returns-clause-bounded : goal.returns-clause-bounded
 returns-clause-bounded g c =
     let cx = c.in_ok-context.context in
-    let walked : Stack = record { context = record { levels = c.push.new.self; names = cx.names; shown = cx.shown }; place = c.args.root; left = c.reverse.new.self; below = c.clear.new.self } in
+    let walked : Stack = record { context = record { levels = c.push.new.self; names = cx.names; shown = cx.shown }; place = c.args.root; left = c.reverse.new.self; holders = c.clear.new.self } in
     let few : length c.reverse.new.self < 2 ^ 64 = omega (arith, c.reverse.ensures.fits) in
     omega (arith, root_rank walked c.clear.ensures few)

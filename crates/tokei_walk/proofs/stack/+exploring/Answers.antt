@@ -57,7 +57,7 @@ visit-returns-then-as_slice-ge256-clause-stays g t c =
 
 pub visit-returns-then-as_slice-ge256-clause-told : goal.visit-returns-then-as_slice-ge256-clause-told
 visit-returns-then-as_slice-ge256-clause-told g t c = λ t' e.
-    let deep : 256 ≤ length c.args.stack.now.below = omega (arith, ap length c.as_slice.ensures) in
+    let deep : 256 ≤ length c.args.stack.now.holders = omega (arith, ap length c.as_slice.ensures) in
     visit_deep c.args.settings.now.excludes c.args.settings.now.rules t' c.args.stack.now c.args.item.entry.name c.args.item.place deep
 
 pub visit-returns-then-not-branch-clause-stays : goal.visit-returns-then-not-branch-clause-stays
@@ -73,7 +73,7 @@ visit-returns-then-not-branch-clause-told g t c = λ t' e.
 pub visit-returns-in-Some-clause-told : goal.visit-returns-in-Some-clause-told
 visit-returns-in-Some-clause-told g t c = λ t' e.
     let x = c.args.settings.now in let s = c.args.stack.now in let d = c.consider.new.context in let u = c.enter.new.stack in let name = c.args.item.entry.name in let place = c.args.item.place in
-    let shallow : length s.below < 256 = omega (arith, ap length c.as_slice.ensures) in
+    let shallow : length s.holders < 256 = omega (arith, ap length c.as_slice.ensures) in
     let stays = sym c.in_ok-consider.ensures.dropped ∙ c.if-branch.false in
     let enters = c.in_ok-enter.ensures.entered c.if-not-branch.false in
     let told = subst (λ (b : Bool). MatchBool b (EntersTold t' x.rules (with_context s d) u place) (list_answer t' (names_of place) ≡ Err Refused)) c.if-not-branch.false (c.in_ok-enter.ensures.told t' e) in
@@ -90,7 +90,7 @@ visit-returns-clause-stays g t c =
 pub visit-returns-clause-told : goal.visit-returns-clause-told
 visit-returns-clause-told g t c = λ t' e.
     let x = c.args.settings.now in let s = c.args.stack.now in let d = c.consider.new.context in let u = c.enter.new.stack in let name = c.args.item.entry.name in let place = c.args.item.place in
-    let shallow : length s.below < 256 = omega (arith, ap length c.as_slice.ensures) in
+    let shallow : length s.holders < 256 = omega (arith, ap length c.as_slice.ensures) in
     let stays = sym c.in_ok-consider.ensures.dropped ∙ c.if-branch.false in
     let enters = c.in_ok-enter.ensures.entered c.if-not-branch.false in
     let told = subst (λ (b : Bool). MatchBool b (EntersTold t' x.rules (with_context s d) u place) (list_answer t' (names_of place) ≡ Err Refused)) c.if-not-branch.false (c.in_ok-enter.ensures.told t' e) in
@@ -119,14 +119,14 @@ pub meet_next-returns-in-Some-2-clause-falls : goal.meet_next-returns-in-Some-2-
 meet_next-returns-in-Some-2-clause-falls g t c =
     let s = c.args.stack.now in let u = c.next_item.new.stack in let v = c.visit.new.stack in
     let pops = subst (λ (o : Option Item). Pops s u o) c.in-Some.is c.in_ok-next_item.ensures in
-    let falls = subst (λ (o : Option KeptFile). OnSome o (stack_rank v < stack_rank u + weight (256 - length u.below))) c.in-Some-2.is c.in_ok-file-in-Folder.ensures.falls in
-    let below = ap (λ (w : Stack). weight (256 - length w.below)) pops.2 in
+    let falls = subst (λ (o : Option KeptFile). OnSome o (stack_rank v < stack_rank u + weight (256 - length u.holders))) c.in-Some-2.is c.in_ok-file-in-Folder.ensures.falls in
+    let below = ap (λ (w : Stack). weight (256 - length w.holders)) pops.2 in
     omega (arith, popped s u c.in-Some.item pops, below, falls)
 
 pub visit-returns-in-Some-clause-falls : goal.visit-returns-in-Some-clause-falls
 visit-returns-in-Some-clause-falls g t c =
     let s = c.args.stack.now in let d = c.consider.new.context in let u = c.enter.new.stack in let v = c.explore.new.stack in
-    let shallow : length s.below < 256 = omega (arith, ap length c.as_slice.ensures) in
+    let shallow : length s.holders < 256 = omega (arith, ap length c.as_slice.ensures) in
     let enters = c.in_ok-enter.ensures.entered c.if-not-branch.false in
     let falls = subst (λ (o : Option KeptFile). OnSome o (stack_rank v < stack_rank u)) c.in-Some.is c.in_ok-file.ensures.falls in
     omega (arith, entered_rank s u d c.args.item.place shallow enters, falls)

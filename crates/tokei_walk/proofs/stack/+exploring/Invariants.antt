@@ -7,13 +7,13 @@ use Rattle.tokei_walk.specs.Ranks.{stack_rank}
 use Rattle.tokei_walk.proofs.stack.+exploring.Given as goal
 
 abbrev pub decreases-explore : goal.decreases-explore
-decreases-explore g l = 3 * (256 - length l.stack.now.below) + 2
+decreases-explore g l = 3 * (256 - length l.stack.now.holders) + 2
 
 abbrev pub decreases-meet_next : goal.decreases-meet_next
-decreases-meet_next g l = 3 * (256 - length l.stack.now.below) + 1
+decreases-meet_next g l = 3 * (256 - length l.stack.now.holders) + 1
 
 abbrev pub decreases-visit : goal.decreases-visit
-decreases-visit g l = 3 * (256 - length l.stack.now.below)
+decreases-visit g l = 3 * (256 - length l.stack.now.holders)
 
 abbrev pub invariant-explore-loop-file : goal.invariant-explore-loop-file
 invariant-explore-loop-file g l = record {

@@ -6,7 +6,7 @@ use Rattle.tokei_walk.proofs.stack.push_folder.Goals as goal
 pub returns-clause-entered : goal.returns-clause-entered
 returns-clause-entered c = record {
   place_is = search rules;
-  below_is = search rules;
+  holders_is = search rules;
   names_stay = refl;
   shown_stay = refl;
   levels_is = ap without_last c.in_ok-push.ensures.ok ∙ without_last-push c.args.stack.now.context.levels c.args.level;

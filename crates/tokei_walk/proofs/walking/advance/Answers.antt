@@ -42,7 +42,7 @@ returns-in-Some-2-clause-told g c = λ t e.
     let top = subst (λ (o : Option KeptFile). ExploreTells x.excludes x.rules t s v o) c.in-None.is (c.in_ok-file.ensures.told t (inv.same ∙ e)) in
     let left = subst (λ (b : Bool). Leaves v c.leave.new.stack b) c.if-leave.false c.leave.ensures in
     let root = c.in-Some-pop.root in let front = c.pop.new.self in let w = c.begin_root.new.stack in
-    let given = subst (λ (o : Option KeptFile). RootGives (of_root x.excludes x.rules t root) (of_stack x.excludes x.rules t w) o) c.in-Some-2.is (c.in_ok-file-2.ensures.told t (c.explore.ensures.same ∙ inv.same ∙ e) (ap (λ (u : Stack). u.left) left.1 ∙ stays.1) (ap (λ (u : Stack). u.below) left.1 ∙ left.0)) in
+    let given = subst (λ (o : Option KeptFile). RootGives (of_root x.excludes x.rules t root) (of_stack x.excludes x.rules t w) o) c.in-Some-2.is (c.in_ok-file-2.ensures.told t (c.explore.ensures.same ∙ inv.same ∙ e) (ap (λ (u : Stack). u.left) left.1 ∙ stays.1) (ap (λ (u : Stack). u.holders) left.1 ∙ left.0)) in
     inv.told t e ∙ root_begins x.excludes x.rules t s v c.loop-file.roots front root stays.0 stays.1 left.0 top c.in-Some-pop.ensures
     ∙ ap (λ (q : List KeptFile). q ++ of_roots x.excludes x.rules t front) given
 
@@ -58,7 +58,7 @@ loop-file-preserved g c =
       honest = search rules;
       told = λ t e.
           let top = subst (λ (o : Option KeptFile). ExploreTells x.excludes x.rules t s v o) c.in-None.is (c.in_ok-file.ensures.told t (inv.same ∙ e)) in
-          let given = subst (λ (o : Option KeptFile). RootGives (of_root x.excludes x.rules t root) (of_stack x.excludes x.rules t w) o) c.in-None-2.is (c.in_ok-file-2.ensures.told t (c.explore.ensures.same ∙ inv.same ∙ e) (ap (λ (u : Stack). u.left) left.1 ∙ stays.1) (ap (λ (u : Stack). u.below) left.1 ∙ left.0)) in
+          let given = subst (λ (o : Option KeptFile). RootGives (of_root x.excludes x.rules t root) (of_stack x.excludes x.rules t w) o) c.in-None-2.is (c.in_ok-file-2.ensures.told t (c.explore.ensures.same ∙ inv.same ∙ e) (ap (λ (u : Stack). u.left) left.1 ∙ stays.1) (ap (λ (u : Stack). u.holders) left.1 ∙ left.0)) in
           inv.told t e ∙ root_begins x.excludes x.rules t s v c.loop-file.roots front root stays.0 stays.1 left.0 top c.in-Some-pop.ensures ∙ ap (λ (q : List KeptFile). q ++ of_roots x.excludes x.rules t front) given;
     }
 

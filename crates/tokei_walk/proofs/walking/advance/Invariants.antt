@@ -15,4 +15,4 @@ invariant-loop-file g l = record {
 }
 
 abbrev pub decreases-loop-file : goal.decreases-loop-file
-decreases-loop-file g l = length l.roots + length l.stack.below
+decreases-loop-file g l = length l.roots + length l.stack.holders
