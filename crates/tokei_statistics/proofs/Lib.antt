@@ -1,3 +1,4 @@
+pub mod Configured
 pub mod Deciding
 pub mod Merges
 pub mod ReadFiles

@@ -224,3 +224,9 @@ always_err (Err e) a = a
 -- none of them
 pub none_added : (c : Counting) (t : Tree) (files : List KeptFile) (a : List (ℕ × LanguageValue)) → AddsFirst c t files a a
 none_added c t files a = record { count = 0; adds = refl }
+
+-- all of them, and the languages stay
+pub all_added : (c : Counting) (t : Tree) (files : List KeptFile) (a b d : List (ℕ × LanguageValue)) → AddsFiles c t files a b → d ≡ b → AddsFirst c t files a d
+all_added c t files a b d adds same =
+    let all : take (length files) files ≡ files = ap (take (length files)) (sym (append-nil files)) ∙ take-append_seam files [] in
+    record { count = length files; adds = same ∙ adds ∙ ap (λ (ks : List KeptFile). merged_languages a (languages_of_run c t ks)) (sym all) }

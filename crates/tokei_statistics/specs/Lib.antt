@@ -1,3 +1,4 @@
+pub mod Configs
 pub mod Contents
 pub mod Faults
 pub mod OrderLaws

@@ -1,6 +1,7 @@
 -- The languages of a run: what the kept files count, each in the language that its path has.
 use Rattle.std.specs.Prelude.{◌≡◌, ℕ, ◌==◌, Bool, true, List, [], ◌∷◌, take, Option, Some, None, option_and_then, IfSome, if◌then◌else◌, ⊤}
 use Rattle.std.specs.List.{list_any}
+use Rattle.tokei_languages.specs.Renewing.{renewed_languages, RenewalFits}
 use Rattle.tokei_languages.specs.Values.{LanguageValue, empty_language, marked}
 use Rattle.tokei_stats.specs.Overflow.{Fits}
 use Rattle.tokei_stats.specs.Statistics.{Statistics}
@@ -73,3 +74,12 @@ AddsFiles c t files old new = new ≡ merged_languages old (languages_of_run c t
 pub record AddsFirst (c : Counting) (t : Tree) (files : List KeptFile) (old new : List (ℕ × LanguageValue)) : Type 0 where
   pub count : ℕ
   pub adds : AddsFiles c t (take count files) old new
+
+-- those of all files are, and the counts are renewed
+abbrev pub AddsRun : Counting → Tree → List KeptFile → List (ℕ × LanguageValue) → List (ℕ × LanguageValue) → Type 0
+AddsRun c t files old new = new ≡ renewed_languages (merged_languages old (languages_of_run c t files))
+
+-- the sums of a run fit the code's numbers: each reading's, and those of the renewed counts
+pub record RunFits (c : Counting) (t : Tree) (files : List KeptFile) (old : List (ℕ × LanguageValue)) : Type 0 where
+  pub readings : ReadingsFit c t files
+  pub renewal : RenewalFits (merged_languages old (languages_of_run c t files))

@@ -27,10 +27,11 @@ fn content<F: Folders>(folders: &mut F, place: &str) -> Result<Vec<u8>, Fault>
     folders.read(place)
 }
 
-/// What texts are counted with.
+/// By what files are counted.
 #[derive(Drop)]
-pub(crate) struct Counting<'a> {
+pub struct Counting<'a> {
     pub alloc: Global,
+    /// Of the table by which files have their languages.
     pub counter: &'a Counter<'a>,
     pub config: CountConfig,
     /// The languages that count; `None` means all.
@@ -72,43 +73,5 @@ impl Counting<'_> {
     {
         let content = content(folders, place)?;
         self.count(language, content)
-    }
-}
-
-/// The report of the file at a path, in a language of the counter's table: what its content counts, once it is decoded,
-/// under that path. The path comes back with each refusal, and the folders keep their tree. `Overflow` comes only where
-/// a count of the file passes the greatest `usize`.
-pub fn parse_file<F: Folders>(
-    alloc: Global,
-    counter: &Counter,
-    language: LanguageType,
-    folders: &mut F,
-    path: String,
-    config: &CountConfig,
-) -> Result<Report, (ParseFault, String)>
-    requires { language < length counter.now }
-    ensures same { F.tree folders.new ≡ F.tree folders.old }
-    ensures told { Told (F.tree folders.old) (λ t. IfOk result (λ r. Some (stats_of r.stats)
-        ≡ stats_at t counter.now (docs_of config.now) language (string_bytes path))) }
-    ensures name { IfOk result (λ r. r.name ≡ path) }
-    ensures back { IfErr result (λ e. e.1 ≡ path) }
-    ensures refused { IfErr result (λ e. e.0 ≡ NotRead → Told (F.tree folders.old) (λ t.
-        content_at t (string_bytes path) ≡ None)) }
-    ensures overflow { IfErr result (λ e. e.0 ≡ TooMany → Told (F.tree folders.old) (λ t. IsSomeAnd
-        (stats_at t counter.now (docs_of config.now) language (string_bytes path)) (λ s. ¬ Fits s))) }
-    ensures honest { OnOk result (F.memory_faults folders.old < u64.MAX
-        → F.memory_faults folders.new ≡ F.memory_faults folders.old) }
-    ensures counted { IfErr result (λ e. e.0 ≢ OutOfMemory → F.memory_faults folders.old < u64.MAX
-        → F.memory_faults folders.new ≡ F.memory_faults folders.old) }
-{
-    let counting = Counting {
-        alloc,
-        counter,
-        config: *config,
-        types: None,
-    };
-    match counting.read(folders, language, path.as_str()) {
-        Ok(stats) => Ok(Report { stats, name: path }),
-        Err(fault) => Err((fault, path)),
     }
 }

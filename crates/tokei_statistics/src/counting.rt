@@ -30,7 +30,7 @@ impl Counting<'_> {
     }
 
     /// The language in which a file is counted, if in any.
-    fn language<F: Folders>(
+    pub fn language<F: Folders>(
         &self,
         folders: &mut F,
         file: &KeptFile,
@@ -51,7 +51,7 @@ impl Counting<'_> {
 
     /// Counts one file: its report goes to its language, or a mark where it can't be read. A refusal changes nothing of
     /// the languages.
-    fn add_file<F: Folders>(
+    pub fn add_file<F: Folders>(
         &self,
         folders: &mut F,
         file: KeptFile,

@@ -8,7 +8,14 @@ mod contents;
 mod counting;
 mod error;
 pub mod laws;
+mod parsing;
 mod paths;
+mod statistics;
+#[cfg(test)]
+mod tests;
 
+pub use contents::Counting;
 pub use error::ParseFault;
-pub use paths::{from_shebang, language_of_path};
+pub use parsing::parse_file;
+pub use paths::{from_path, from_shebang};
+pub use statistics::CountFiles;

@@ -1,9 +1,12 @@
 //! Which language a file has: by its name, and by its head where the name decides nothing and has no extension.
 ghost use Rattle.std.specs.Prelude.{◌≡◌, ◌<◌, length, IfOk, IfSome, OnOk};
+ghost use Rattle.tokei_config.specs.Seen.{settings_of};
 ghost use Rattle.tokei_folders.specs.Answers.{Told};
+ghost use Rattle.tokei_statistics.specs.Configs.{rows_by};
 ghost use Rattle.tokei_statistics.specs.Paths.{name_of, language_by_head, language_by_path};
 
 use std::alloc::{AllocError, Global};
+use tokei_config::Config;
 use tokei_table::{LanguageTable, LanguageType, has_extension};
 use tokei_walk::names::last_name;
 use tokei_walk::{Fault, Folders};
@@ -39,7 +42,7 @@ pub fn from_shebang<F: Folders>(
 
 /// The language of the file at a path, by the table as it stands: by its name, and by its head where the name decides
 /// nothing and has no extension. `Memory` is the only refusal, and leaves the folders' tree as it was.
-pub fn language_of_path<F: Folders>(
+pub(crate) fn language_of_path<F: Folders>(
     alloc: Global,
     table: &LanguageTable,
     folders: &mut F,
@@ -58,4 +61,23 @@ pub fn language_of_path<F: Folders>(
         None if has_extension(name) => Ok(None),
         None => from_shebang(alloc, table, folders, path),
     }
+}
+
+/// The language of the file at a path, by the table in which languages have gained the extensions of the configuration.
+/// `Memory` is the only refusal, and leaves the folders' tree as it was.
+pub fn from_path<F: Folders>(
+    alloc: Global,
+    table: &LanguageTable,
+    folders: &mut F,
+    path: &str,
+    config: &Config,
+) -> Result<Option<LanguageType>, AllocError>
+    ensures same { F.tree folders.new ≡ F.tree folders.old }
+    ensures told { Told (F.tree folders.old) (λ t. IfOk result (λ o.
+        o ≡ language_by_path t (rows_by table.now (settings_of config.now)) path.now)) }
+    ensures honest { OnOk result (F.memory_faults folders.old < u64.MAX
+        → F.memory_faults folders.new ≡ F.memory_faults folders.old) }
+{
+    let extended = config.extended_table(alloc, table)?;
+    language_of_path(alloc, &extended, folders, path)
 }

@@ -1,0 +1,38 @@
+use Rattle.std.proofs.Common.{◌≡◌, ℕ, List, option_map, OnOk, OnErr, ◌∙◌}
+use Rattle.tokei_config.specs.Seen.{settings_of}
+use Rattle.tokei_count.specs.Seen.{docs_of}
+use Rattle.tokei_languages.specs.Seen.{languages_of}
+use Rattle.tokei_walk.specs.declared.kept_file.KeptFile.{KeptFile}
+use Rattle.tokei_walk.specs.Kept.{kept_in}
+use Rattle.tokei_walk.specs.Walks.{excludes_of, texts_of}
+use Rattle.tokei_statistics.specs.Configs.{rules_of, counting_by, kept_by}
+use Rattle.tokei_statistics.specs.Runs.{Counting, AddsFiles, AddsFirst, ReadingsFit}
+use Rattle.tokei_statistics.proofs.Configured.{said_again}
+use Rattle.tokei_statistics.proofs.statistics.LanguagesCountFiles.get_all_files.Goals as goal
+
+pub returns-clause-told : goal.returns-clause-told
+unfolding kept_by
+returns-clause-told g c = λ t e.
+    let s = settings_of c.args.config.now in
+    let code : Counting = record { rows = c.in_ok-counter.counter; docs = docs_of c.count_config.result; types = option_map (λ types. types.now) c.types.result } in
+    let same : code ≡ counting_by c.args.table.now s = λ i. record { rows = (c.in_ok-counter.ensures ∙ c.in_ok-extended.ensures) i; docs = c.count_config.ensures i; types = c.types.ensures i } in
+    said_again (λ b ks. OnOk c.count_roots.result (AddsFiles b t ks (languages_of c.args.self.now) (languages_of c.count_roots.new.languages)))
+    (λ r. kept_in (excludes_of (texts_of c.args.ignored.now)) r t (texts_of c.args.paths.now)) code (counting_by c.args.table.now s) c.rules.result (rules_of s) same c.rules.ensures (c.count_roots.ensures.told t e)
+
+pub returns-clause-partly : goal.returns-clause-partly
+unfolding kept_by
+returns-clause-partly g c = λ t e.
+    let s = settings_of c.args.config.now in
+    let code : Counting = record { rows = c.in_ok-counter.counter; docs = docs_of c.count_config.result; types = option_map (λ types. types.now) c.types.result } in
+    let same : code ≡ counting_by c.args.table.now s = λ i. record { rows = (c.in_ok-counter.ensures ∙ c.in_ok-extended.ensures) i; docs = c.count_config.ensures i; types = c.types.ensures i } in
+    said_again (λ b ks. OnErr c.count_roots.result (AddsFirst b t ks (languages_of c.args.self.now) (languages_of c.count_roots.new.languages)))
+    (λ r. kept_in (excludes_of (texts_of c.args.ignored.now)) r t (texts_of c.args.paths.now)) code (counting_by c.args.table.now s) c.rules.result (rules_of s) same c.rules.ensures (c.count_roots.ensures.partly t e)
+
+pub returns-clause-overflow : goal.returns-clause-overflow
+unfolding kept_by
+returns-clause-overflow g c = λ q t e.
+    let s = settings_of c.args.config.now in
+    let code : Counting = record { rows = c.in_ok-counter.counter; docs = docs_of c.count_config.result; types = option_map (λ types. types.now) c.types.result } in
+    let same : code ≡ counting_by c.args.table.now s = λ i. record { rows = (c.in_ok-counter.ensures ∙ c.in_ok-extended.ensures) i; docs = c.count_config.ensures i; types = c.types.ensures i } in
+    said_again (λ b ks. ReadingsFit b t ks → ⊥)
+    (λ r. kept_in (excludes_of (texts_of c.args.ignored.now)) r t (texts_of c.args.paths.now)) code (counting_by c.args.table.now s) c.rules.result (rules_of s) same c.rules.ensures (c.count_roots.ensures.overflow q t e)

@@ -1,0 +1,151 @@
+//! The statistics of all files that a configuration keeps below some roots.
+ghost use Rattle.std.specs.Prelude.{◌≡◌, ◌<◌, option_map, OnOk, OnErr, IfOk, IsErrOf};
+ghost use Rattle.tokei_config.specs.Seen.{settings_of};
+ghost use Rattle.tokei_folders.specs.Answers.{Told};
+ghost use Rattle.tokei_languages.specs.Seen.{languages_of};
+ghost use Rattle.tokei_walk.specs.Notes.{Grows, notes_of_excludes};
+ghost use Rattle.tokei_walk.specs.Walks.{texts_of};
+ghost use Rattle.tokei_statistics.specs.Configs.{is_on as is_switched_on, rules_of, counting_by, kept_by};
+ghost use Rattle.tokei_statistics.specs.Runs.{AddsFiles, AddsFirst, AddsRun, ReadingsFit, RunFits};
+
+use crate::contents::Counting;
+use crate::parsing::count_config;
+use std::alloc::Global;
+use tokei_config::Config;
+use tokei_count::{CountError, Counter};
+use tokei_folders::Folders;
+use tokei_languages::Languages;
+use tokei_table::{LanguageTable, LanguageType};
+use tokei_walk::{Note, Rules};
+
+fn is_on(switch: Option<bool>) -> bool
+    ensures { result ≡ is_switched_on switch }
+{
+    switch.unwrap_or(false)
+}
+
+/// Which ignore rules a configuration obeys.
+fn rules(config: &Config) -> Rules
+    ensures { result ≡ rules_of (settings_of config.now) }
+{
+    let none = is_on(config.no_ignore);
+    Rules {
+        parents: !(none || is_on(config.no_ignore_parent)),
+        dot: !(none || is_on(config.no_ignore_dot)),
+        git: !(none || is_on(config.no_ignore_vcs)),
+        hidden: !is_on(config.hidden),
+    }
+}
+
+/// The languages that a configuration counts; `None` means all.
+fn types(config: &Config) -> Option<&[LanguageType]>
+    ensures { option_map (λ types. types.now) result ≡ (settings_of config.entry.now).types }
+{
+    match &config.types {
+        Some(types) => Some(types.as_slice()),
+        None => None,
+    }
+}
+
+/// Languages into which the files of folders are counted.
+pub trait CountFiles {
+    /// Counts each file that the configuration keeps below the paths, as the walk gives it, in the language that it has by
+    /// the table in which languages have gained the configuration's extensions; the counts of languages aren't renewed.
+    /// Excludes are patterns, as in an ignore file. A file that can't be read marks its language and leaves no report.
+    /// What was passed over is answered.
+    ///
+    /// `Overflow` comes only where a count of a file passes the greatest `usize`. After a refusal the languages are those
+    /// from before with those of the first files, so many as were counted, and the folders keep their tree.
+    fn get_all_files<F: Folders>(
+        &mut self,
+        alloc: Global,
+        table: &LanguageTable,
+        folders: &mut F,
+        paths: &[String],
+        ignored: &[String],
+        config: &Config,
+    ) -> Result<Vec<Note>, CountError>;
+
+    /// The same, and then the counts of every language are renewed: they become the sums of its reports' own counts.
+    ///
+    /// `Overflow` comes only where a count of a file, or such a sum, passes the greatest `usize`. After a refusal no counts
+    /// are renewed.
+    fn get_statistics<F: Folders>(
+        &mut self,
+        alloc: Global,
+        table: &LanguageTable,
+        folders: &mut F,
+        paths: &[String],
+        ignored: &[String],
+        config: &Config,
+    ) -> Result<Vec<Note>, CountError>;
+}
+
+impl CountFiles for Languages {
+    fn get_all_files<F: Folders>(
+        &mut self,
+        alloc: Global,
+        table: &LanguageTable,
+        folders: &mut F,
+        paths: &[String],
+        ignored: &[String],
+        config: &Config,
+    ) -> Result<Vec<Note>, CountError>
+        ensures same { F.tree folders.new ≡ F.tree folders.old }
+        ensures told { Told (F.tree folders.old) (λ t. OnOk result
+            (AddsFiles (counting_by table.now (settings_of config.now)) t
+            (kept_by (settings_of config.now) t (texts_of paths.now) (texts_of ignored.now))
+            (languages_of self.old) (languages_of self.new))) }
+        ensures partly { Told (F.tree folders.old) (λ t. OnErr result
+            (AddsFirst (counting_by table.now (settings_of config.now)) t
+            (kept_by (settings_of config.now) t (texts_of paths.now) (texts_of ignored.now))
+            (languages_of self.old) (languages_of self.new))) }
+        ensures overflow { IsErrOf result CountError.Overflow → Told (F.tree folders.old) (λ t.
+            ¬ ReadingsFit (counting_by table.now (settings_of config.now)) t
+            (kept_by (settings_of config.now) t (texts_of paths.now) (texts_of ignored.now))) }
+        ensures notes { IfOk result (λ n. Grows (notes_of_excludes (texts_of ignored.now)) n.items) }
+        ensures honest { OnOk result (F.memory_faults folders.old < u64.MAX
+            → F.memory_faults folders.new ≡ F.memory_faults folders.old) }
+    {
+        let extended = config.extended_table(alloc, table)?;
+        let counter = Counter::new(alloc, &extended)?;
+        let counting = Counting {
+            alloc,
+            counter: &counter,
+            config: count_config(config),
+            types: types(config),
+        };
+        counting.count_roots(folders, paths, ignored, &rules(config), self)
+    }
+
+    fn get_statistics<F: Folders>(
+        &mut self,
+        alloc: Global,
+        table: &LanguageTable,
+        folders: &mut F,
+        paths: &[String],
+        ignored: &[String],
+        config: &Config,
+    ) -> Result<Vec<Note>, CountError>
+        ensures same { F.tree folders.new ≡ F.tree folders.old }
+        ensures told { Told (F.tree folders.old) (λ t. OnOk result
+            (AddsRun (counting_by table.now (settings_of config.now)) t
+            (kept_by (settings_of config.now) t (texts_of paths.now) (texts_of ignored.now))
+            (languages_of self.old) (languages_of self.new))) }
+        ensures partly { Told (F.tree folders.old) (λ t. OnErr result
+            (AddsFirst (counting_by table.now (settings_of config.now)) t
+            (kept_by (settings_of config.now) t (texts_of paths.now) (texts_of ignored.now))
+            (languages_of self.old) (languages_of self.new))) }
+        ensures overflow { IsErrOf result CountError.Overflow → Told (F.tree folders.old) (λ t.
+            ¬ RunFits (counting_by table.now (settings_of config.now)) t
+            (kept_by (settings_of config.now) t (texts_of paths.now) (texts_of ignored.now))
+            (languages_of self.old)) }
+        ensures notes { IfOk result (λ n. Grows (notes_of_excludes (texts_of ignored.now)) n.items) }
+        ensures honest { OnOk result (F.memory_faults folders.old < u64.MAX
+            → F.memory_faults folders.new ≡ F.memory_faults folders.old) }
+    {
+        let notes = self.get_all_files(alloc, table, folders, paths, ignored, config)?;
+        self.renew_counts()?;
+        Ok(notes)
+    }
+}
