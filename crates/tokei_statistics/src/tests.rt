@@ -148,7 +148,10 @@ fn a_script_has_the_language_of_its_head(rt: HostRuntime) -> Result<(), Fail> {
 fn a_name_decides_before_a_head(rt: HostRuntime) -> Result<(), Fail> {
     let alloc = rt.alloc();
     let table = bench_table(alloc)?;
-    let mut folders = files(alloc, &[("a.c", b"#!/bin/bash\n"), ("b.unknown", b"#!/bin/bash\n")])?;
+    let mut folders = files(
+        alloc,
+        &[("a.c", b"#!/bin/bash\n"), ("b.unknown", b"#!/bin/bash\n")],
+    )?;
     folders.refuse_call("a.c", Call::Head)?;
     let languages = counted(alloc, &table, &mut folders, ".", &Config::new())?;
     assert_eq!(rt; languages.len(), 1);
@@ -173,7 +176,8 @@ fn contents_are_decoded(rt: HostRuntime) -> Result<(), Fail> {
 fn a_notebook_counts_its_cells_as_children(rt: HostRuntime) -> Result<(), Fail> {
     let alloc = rt.alloc();
     let table = bench_table(alloc)?;
-    let notebook = br#"{"cells":[{"cell_type":"code","source":["x = 1\n","y = 2"]}],"metadata":{"kernelspec":{},"language_info":{}}}"#;
+    let notebook =
+        br#"{"cells":[{"cell_type":"code","source":["x = 1\n","y = 2"]}],"metadata":{"kernelspec":{},"language_info":{}}}"#;
     let mut folders = files(alloc, &[("n.ipynb", notebook)])?;
     let languages = counted(alloc, &table, &mut folders, ".", &Config::new())?;
     let jupyter = LanguageType::from_name(&table, "Jupyter").ok_or("no Jupyter")?;
@@ -182,7 +186,14 @@ fn a_notebook_counts_its_cells_as_children(rt: HostRuntime) -> Result<(), Fail> 
     assert_eq!(rt; row_of(language), (0, 0, 0, 1, false));
     let cells = language.children.get(&python).ok_or("no cells")?;
     assert_eq!(rt; cells.len(), 1);
-    assert_eq!(rt; (cells[0].stats.blanks, cells[0].stats.code, cells[0].stats.comments), (0, 2, 0));
+    assert_eq!(rt;
+        (
+            cells[0].stats.blanks,
+            cells[0].stats.code,
+            cells[0].stats.comments
+        ),
+        (0, 2, 0)
+    );
     assert!(rt; cells[0].name.as_str() == "./n.ipynb");
     Ok(())
 }
@@ -237,9 +248,18 @@ fn switches_leave_out_rules(rt: HostRuntime) -> Result<(), Fail> {
     let mut folders = MemoryFolders::new(alloc);
     folders.add_folder("directory.rs")?;
     assert_eq!(rt; rust_reports(alloc, &table, &mut folders, ".", &all)?, 0);
-    let mut folders = files(alloc, &[("child/main.rs", b"fn main() {}"), (".ignore", b"*.rs\n")])?;
-    assert_eq!(rt; rust_reports(alloc, &table, &mut folders, "child", &all)?, 0);
-    assert_eq!(rt; rust_reports(alloc, &table, &mut folders, "child", &no_parent)?, 1);
+    let mut folders = files(
+        alloc,
+        &[("child/main.rs", b"fn main() {}"), (".ignore", b"*.rs\n")],
+    )?;
+    assert_eq!(rt;
+        rust_reports(alloc, &table, &mut folders, "child", &all)?,
+        0
+    );
+    assert_eq!(rt;
+        rust_reports(alloc, &table, &mut folders, "child", &no_parent)?,
+        1
+    );
     Ok(())
 }
 
@@ -308,7 +328,10 @@ fn a_refused_run_leaves_the_first_files(rt: HostRuntime) -> Result<(), Fail> {
     let config = Config::new();
     let mut most = 0;
     for passes in 0..40 {
-        let told = files(alloc, &[("a.c", b"x;\n"), ("b.c", b"y;\n"), ("c.c", b"z;\n")])?;
+        let told = files(
+            alloc,
+            &[("a.c", b"x;\n"), ("b.c", b"y;\n"), ("c.c", b"z;\n")],
+        )?;
         let mut folders = FailingFolders::new(told, passes);
         let mut languages = Languages::new(alloc);
         let run = languages.get_statistics(alloc, &table, &mut folders, &roots, &none, &config);
