@@ -6,8 +6,6 @@
 
 mod byte_set;
 mod one_of;
-#[cfg(test)]
-mod tests;
 
 pub use byte_set::ByteSet;
 pub use one_of::{first_not_of_four, first_of_four, first_of_one};

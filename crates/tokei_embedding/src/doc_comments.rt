@@ -7,7 +7,7 @@ use std::alloc::{AllocError, Global};
 use tokei_table::ext::{is_whitespace, trim_start};
 
 /// The text through its first newline.
-pub(crate) fn first_line(text: &[u8]) -> &[u8]
+pub fn first_line(text: &[u8]) -> &[u8]
     ensures value { result.now ≡ first_line text.now }
     ensures within { length result.now ≤ length text.now }
     ensures some { 0 < length text.now → 0 < length result.now }

@@ -23,7 +23,7 @@ mod target_blocks;
 
 pub use block_search::BlockSearch;
 pub use captures::{Capture, SimpleCapture};
-pub use doc_comments::{doc_at, doc_text};
+pub use doc_comments::{doc_at, doc_text, first_line};
 pub use fences::{FenceAt, fence_at};
 pub use html_like::HtmlLike;
 pub use next_openings::{next_doc, next_fence, next_target};
@@ -33,6 +33,3 @@ pub use openings::{
 };
 pub use tags::{Tag, TagAt};
 pub use target_blocks::{TargetAt, target_at};
-
-#[cfg(test)]
-mod tests;

@@ -10,8 +10,6 @@ pub mod report;
 pub mod report_row;
 pub mod stats;
 pub mod sums;
-#[cfg(test)]
-mod tests;
 
 pub use error::CountError;
 pub use report::Report;

@@ -3,8 +3,6 @@
 
 mod boundaries;
 mod decoding;
-#[cfg(test)]
-mod tests;
 
 pub use boundaries::find_char_boundary;
 pub use decoding::decode_text;

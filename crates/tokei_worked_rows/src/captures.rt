@@ -1,10 +1,10 @@
 //! Captures and their places.
-use crate::{
+use std::process::Abort;
+use std::test::Fail;
+use tokei_embedding::{
     Capture, HtmlLike, SimpleCapture, end_lf, end_markdown, end_script, end_style, end_template,
     start_lf, start_markdown, start_script, start_style, start_template,
 };
-use std::process::Abort;
-use std::test::Fail;
 
 fn expect_at(
     rt: &impl Abort,

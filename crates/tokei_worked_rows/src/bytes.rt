@@ -1,7 +1,7 @@
 //! Places that were counted by hand, and the search held against a plain loop.
-use crate::{ByteSet, first_not_of_four, first_of_four, first_of_one};
 use std::alloc::Global;
 use std::test::Fail;
+use tokei_bytes::{ByteSet, first_not_of_four, first_of_four, first_of_one};
 
 /// The four bytes that are searched for.
 const FOUR: [u8; 4] = *b"abcd";

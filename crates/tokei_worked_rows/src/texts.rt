@@ -1,6 +1,6 @@
-//! Worked rows.
-use crate::{decode_text, find_char_boundary};
+//! Contents that are decoded, and boundaries of characters.
 use std::test::Fail;
+use tokei_text::{decode_text, find_char_boundary};
 
 #[test]
 fn contents_are_decoded(rt: HostRuntime) -> Result<(), Fail> {

@@ -1,7 +1,7 @@
 //! Worked rows of reports, and what stands after a refused call.
-use crate::{CodeStats, CountError, Report};
 use std::alloc::{AllocError, Global};
 use std::test::Fail;
+use tokei_stats::{CodeStats, CountError, Report};
 use tokei_table::{LanguageTable, LanguageType};
 
 /// A report of these blank, code and comment lines.

@@ -1,6 +1,6 @@
 //! What opens at a place, and what it holds.
-use crate::{BlockSearch, Tag, doc_at, doc_text, fence_at, target_at};
 use std::test::Fail;
+use tokei_embedding::{BlockSearch, Tag, doc_at, doc_text, fence_at, target_at};
 
 #[test]
 fn fences(rt: HostRuntime) -> Result<(), Fail> {

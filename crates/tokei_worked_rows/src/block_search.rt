@@ -1,8 +1,8 @@
 //! One search that is asked many questions answers each as a new one does.
 ghost use Rattle.std.specs.Prelude.{◌≡◌, ◌≤◌, ◌<◌, length};
 
-use crate::{BlockSearch, Tag};
 use std::process::Abort;
+use tokei_embedding::{BlockSearch, Tag};
 
 const TEXTS: [&[u8]; 6] = [
     b"<script>a<style> </style>",

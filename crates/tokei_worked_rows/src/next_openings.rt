@@ -1,6 +1,5 @@
 //! The next place at which a block can open.
-use crate::doc_comments::first_line;
-use crate::{BlockSearch, Tag, next_doc, next_fence, next_target};
+use tokei_embedding::{BlockSearch, Tag, first_line, next_doc, next_fence, next_target};
 
 #[test]
 fn next_fences(rt: HostRuntime) {
