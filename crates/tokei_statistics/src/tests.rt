@@ -1,13 +1,11 @@
 //! What folders in memory count, by the bench table.
-ghost use Rattle.std.specs.Prelude.{◌≡◌};
-
-use crate::{CountFiles, from_path, parse_file};
+use crate::{CountFiles, from_path};
 use std::alloc::Global;
 use std::collections::BTreeMap;
 use std::test::Fail;
 use tokei_bench::bench_json;
 use tokei_config::{Config, LanguageConfig};
-use tokei_count::{CountError, Counter};
+use tokei_count::CountError;
 use tokei_languages::{Language, Languages};
 use tokei_table::{LanguageTable, LanguageType};
 use tokei_walk::{Call, FailingFolders, Fault, Folders, MemoryFolders};
@@ -350,29 +348,5 @@ fn a_refused_run_leaves_the_first_files(rt: HostRuntime) -> Result<(), Fail> {
         }
     }
     assert!(rt; false, "no run ended");
-    Ok(())
-}
-
-#[test]
-fn a_file_is_parsed_alone(rt: HostRuntime) -> Result<(), Fail> {
-    let alloc = rt.alloc();
-    let table = bench_table(alloc)?;
-    let counter = Counter::new(alloc, &table)?;
-    let c = LanguageType::from_name(&table, "C").ok_or("no C")?;
-    let config = Config::new();
-    let mut folders = files(alloc, &[("a.c", b"x;\n// y\n")])?;
-    let path = String::from_str(alloc, "./a.c")?;
-    match parse_file(alloc, &counter, c, &mut folders, path, &config) {
-        Ok(report) => {
-            assert_eq!(rt; (report.stats.code, report.stats.comments), (1, 1));
-            assert!(rt; report.name.as_str() == "./a.c");
-        }
-        Err(_) => assert!(rt; false, "refused"),
-    }
-    let path = String::from_str(alloc, "b.c")?;
-    match parse_file(alloc, &counter, c, &mut folders, path, &config) {
-        Ok(_) => assert!(rt; false, "not there"),
-        Err((_, path)) => assert!(rt; path.as_str() == "b.c"),
-    }
     Ok(())
 }
