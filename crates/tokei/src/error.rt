@@ -38,3 +38,17 @@ impl<T: Drop> From<AllocFailed<T>> for RunError {
         RunError::Memory
     }
 }
+
+impl From<CountError> for RunError {
+    ghost use Rattle.std.specs.Prelude.{◌≡◌};
+    ghost use Rattle.tokei.specs.Errors.{error_of_count};
+
+    ghost from_gives = { λ refused e. e ≡ error_of_count refused };
+
+    fn from(refused: CountError) -> RunError {
+        match refused {
+            CountError::Memory => RunError::Memory,
+            CountError::Overflow => RunError::Overflow,
+        }
+    }
+}

@@ -2,11 +2,15 @@
 //! for each file. It hands on the names of all crates that it stands on.
 #![tactic(auto)]
 
+mod counting;
 pub mod error;
 pub mod job;
+mod report;
+pub mod running;
 
 pub use error::RunError;
 pub use job::{Job, Wanted};
+pub use running::run;
 pub use tokei_config::{Config, ConfigDirs, LanguageConfig};
 pub use tokei_folders::{
     Above, Call, Entry, FailingFolders, Fault, Folders, Items, Kind, Listing, MemoryFolders, Text,
