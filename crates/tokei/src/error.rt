@@ -1,6 +1,7 @@
 //! Why a run ended without its output.
 use std::alloc::{AllocError, AllocFailed};
 use thiserror::Error;
+use tokei_print::PrintError;
 use tokei_stats::CountError;
 
 /// Why a run ended without its output. What was written until then stands.
@@ -49,6 +50,21 @@ impl From<CountError> for RunError {
         match refused {
             CountError::Memory => RunError::Memory,
             CountError::Overflow => RunError::Overflow,
+        }
+    }
+}
+
+/// A report is made in memory first, so a fault of its writer says that memory ran out.
+impl From<PrintError> for RunError {
+    ghost use Rattle.std.specs.Prelude.{◌≡◌};
+    ghost use Rattle.tokei.specs.Errors.{error_of_print};
+
+    ghost from_gives = { λ refused e. e ≡ error_of_print refused };
+
+    fn from(refused: PrintError) -> RunError {
+        match refused {
+            PrintError::Memory | PrintError::Write => RunError::Memory,
+            PrintError::Overflow => RunError::Overflow,
         }
     }
 }
