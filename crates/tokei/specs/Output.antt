@@ -1,5 +1,5 @@
 -- What a run writes: a document, or the printed report.
-use Rattle.std.specs.Prelude.{◌≡◌, ℕ, List, [], ◌++◌, Bool, true, false, Option, None, Some, length, nat_lt, if◌then◌else◌, ⊤}
+use Rattle.std.specs.Prelude.{◌≡◌, ℕ, List, [], ◌++◌, Bool, true, false, Option, None, Some, is_some, length, nat_lt, if◌then◌else◌, ⊤}
 use Rattle.std.specs.Option.{option_or}
 use Rattle.std.specs.Io.KnownBytes.{Appends}
 use Rattle.serde_json.specs.Written.{compact_text}
@@ -12,7 +12,7 @@ use Rattle.tokei_options.specs.declared.sort.Sort.{Sort}
 use Rattle.tokei_options.specs.declared.sort.Sort.TheVariants.{Blanks, Comments, Code, Files, Lines}
 use Rattle.tokei_stats.specs.Statistics.{lines_of}
 use Rattle.tokei_print.specs.Heading.{header, warning}
-use Rattle.tokei_print.specs.Layouts.{Layout}
+use Rattle.tokei_print.specs.declared.layout.Layout.{Layout}
 use Rattle.tokei_print.specs.Names.{name_in}
 use Rattle.tokei_print.specs.Results.{results_text}
 use Rattle.tokei_print.specs.Styles.{separator_of}
@@ -35,17 +35,12 @@ sort_of job = option_or job.sort (settings_of job.config).sort
 abbrev pub warning_of : List (ℕ × LanguageValue) → List ℕ
 warning_of languages = if any_inaccurate languages then warning else []
 
--- whether a sort is asked for
-abbrev pub is_sorted : Option Sort → Bool
-is_sorted None = false
-is_sorted (Some sort) = true
-
 -- the rows of a report: languages as they are listed, and the total of all
 abbrev pub report_text : Layout → List Row → Job → List (ℕ × LanguageValue) → List (ℕ × LanguageValue) → List ℕ
 report_text layout rows job listed languages =
     warning_of languages
     ++ (header layout.columns
-    ++ (results_text layout (name_in rows) job.compact (is_sorted (sort_of job)) listed
+    ++ (results_text layout (name_in rows) job.compact (is_some (sort_of job)) listed
     ++ total_text layout languages))
 
 -- a text is the report of languages, listed so, and laid out as the job says
@@ -64,19 +59,28 @@ count_of Code language = language.counts.code
 count_of Files language = length language.reports
 count_of Lines language = lines_of language.counts
 
--- without a sort languages stand in the table's order; of a sorted report nothing is said
+-- behind what stood there a writer has the document of a job's languages, and nothing else
+abbrev pub WritesDocument : List Row → Job → Tree → Option (List ℕ) → Option (List ℕ) → Type 0
+WritesDocument rows job t old new = Appends old new (compact_text (document rows (languages_after rows job t)))
+
+-- a report of languages in the table's order is written
+pub record WritesReport (rows : List Row) (job : Job) (languages : List (ℕ × LanguageValue)) (old new : Option (List ℕ)) : Type 0 where
+  pub text : List ℕ
+  pub report : IsReport rows job languages languages text
+  pub appended : Appends old new text
+
+-- without a sort languages stand in the table's order; of the order of a sorted report nothing is said
+abbrev pub WritesTable : Option Sort → List Row → Job → Tree → Option (List ℕ) → Option (List ℕ) → Type 0
+WritesTable None rows job t old new = WritesReport rows job (languages_after rows job t) old new
+WritesTable (Some sort) rows job t old new = ⊤
+
+-- what a run writes; of a stream nothing is said
+abbrev pub Outputs : Wanted → List Row → Job → Tree → Option (List ℕ) → Option (List ℕ) → Type 0
+Outputs (Document format) rows job t old new = WritesDocument rows job t old new
+Outputs Table rows job t old new = WritesTable (sort_of job) rows job t old new
+Outputs (Stream form) rows job t old new = ⊤
+
+-- without a sort the text is the report of languages in the table's order
 abbrev pub IsTable : Option Sort → List Row → Job → List (ℕ × LanguageValue) → List ℕ → Type 0
 IsTable None rows job languages text = IsReport rows job languages languages text
 IsTable (Some sort) rows job languages text = ⊤
-
--- what is wanted of languages
-abbrev pub IsWanted : Wanted → List Row → Job → List (ℕ × LanguageValue) → List ℕ → Type 0
-IsWanted (Document format) rows job languages text = text ≡ compact_text (document rows languages)
-IsWanted Table rows job languages text = IsTable (sort_of job) rows job languages text
-IsWanted (Stream form) rows job languages text = ⊤
-
--- behind what stood there a writer has the output of a job, and nothing else
-pub record Writes (rows : List Row) (job : Job) (t : Tree) (old new : Option (List ℕ)) : Type 0 where
-  pub text : List ℕ
-  pub wanted : IsWanted job.wanted rows job (languages_after rows job t) text
-  pub appended : Appends old new text

@@ -8,7 +8,7 @@ use Rattle.tokei_languages.specs.Renewing.{renewed_languages}
 use Rattle.tokei_languages.specs.Seen.{languages_of}
 use Rattle.tokei_languages.specs.Values.{LanguageValue}
 use Rattle.tokei_statistics.specs.Configs.{counting_by, kept_by}
-use Rattle.tokei_statistics.specs.Runs.{Counting, RunFits, languages_of_run}
+use Rattle.tokei_statistics.specs.Runs.{Counting, languages_of_run}
 use Rattle.tokei_table.specs.Row.{Row}
 use Rattle.tokei_walk.specs.declared.kept_file.KeptFile.{KeptFile}
 use Rattle.tokei_walk.specs.Walks.{texts_of}
@@ -31,7 +31,3 @@ files_of job t = kept_by (settings_of job.config) t (texts_of job.paths.items) (
 unfoldable pub languages_after : List Row → Job → Tree → List (ℕ × LanguageValue)
 languages_after rows job t =
     renewed_languages (merged_languages (earlier_of job.earlier) (languages_of_run (counting_of rows job) t (files_of job t)))
-
--- the sums of counting fit the code's numbers
-unfoldable pub CountingFits : List Row → Job → Tree → Type 0
-CountingFits rows job t = RunFits (counting_of rows job) t (files_of job t) (earlier_of job.earlier)

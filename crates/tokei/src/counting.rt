@@ -4,8 +4,8 @@ ghost use Rattle.tokei_folders.specs.Answers.{Told};
 ghost use Rattle.tokei_languages.specs.Seen.{languages_of};
 ghost use Rattle.tokei_walk.specs.Notes.{Grows, notes_of_excludes};
 ghost use Rattle.tokei_walk.specs.Walks.{texts_of};
-ghost use Rattle.tokei.specs.declared.error.RunError.TheVariants.{Overflow, Write};
-ghost use Rattle.tokei.specs.Runs.{earlier_of, languages_after, CountingFits};
+ghost use Rattle.tokei.specs.declared.error.RunError.TheVariants.{Write};
+ghost use Rattle.tokei.specs.Runs.{earlier_of, languages_after};
 
 use crate::error::RunError;
 use crate::job::Job;
@@ -59,8 +59,6 @@ pub(crate) fn tally_of<F: Folders>(
     ensures same { F.tree folders.new ≡ F.tree folders.old }
     ensures told { Told (F.tree folders.old) (λ t. IfOk result (λ tally.
         languages_of tally.languages ≡ languages_after table.now job.now t)) }
-    ensures overflow { result ≡ Err Overflow → Told (F.tree folders.old) (λ t.
-        ¬ CountingFits table.now job.now t) }
     ensures unwritten { result ≢ Err Write }
     ensures notes { IfOk result (λ tally.
         Grows (notes_of_excludes (texts_of job.now.ignored.items)) tally.notes.items) }

@@ -7,6 +7,7 @@ pub mod error;
 pub mod job;
 mod report;
 pub mod running;
+mod stream;
 
 pub use error::RunError;
 pub use job::{Job, Wanted};

@@ -1,9 +1,9 @@
 //! The printed report of a run.
-ghost use Rattle.std.specs.Prelude.{◌≡◌, ◌≢◌, ◌≤◌, Err, IfOk};
+ghost use Rattle.std.specs.Prelude.{◌≡◌, ◌≢◌, ◌≤◌, ◌++◌, ◌∷◌, [], Err, IfOk, OnOk};
 ghost use Rattle.tokei_languages.specs.Seen.{language_of, languages_of};
 ghost use Rattle.tokei_print.specs.Listed.{languages_in};
 ghost use Rattle.tokei.specs.declared.error.RunError.TheVariants.{Write};
-ghost use Rattle.tokei.specs.Output.{columns_of, count_of, sort_of, IsReport, IsTable};
+ghost use Rattle.tokei.specs.Output.{columns_of, count_of, sort_of, warning_of, IsReport, IsTable};
 
 use crate::error::RunError;
 use crate::job::Job;
@@ -11,7 +11,7 @@ use std::alloc::{AllocError, Global};
 use tokei_io::Counted;
 use tokei_languages::{Language, Languages};
 use tokei_options::Sort;
-use tokei_print::Printer;
+use tokei_print::{PrintError, Printer};
 use tokei_table::{LanguageTable, LanguageType};
 
 /// The width of a report: 81 at least, and 65,535 at most.
@@ -23,6 +23,21 @@ fn columns(asked: usize) -> usize
     asked.clamp(81, 65535)
 }
 
+/// Adds a language to those that are listed.
+fn add<'a>(
+    listed: &mut Vec<(LanguageType, &'a Language)>,
+    language: LanguageType,
+    value: &'a Language,
+) -> Result<(), AllocError>
+    ensures { OnOk result (languages_in listed.new.items
+        ≡ languages_in listed.old.items ++ (language, language_of value.now) ∷ []) }
+{
+    match listed.push((language, value)) {
+        Ok(()) => Ok(()),
+        Err(_) => Err(AllocError),
+    }
+}
+
 /// The languages in the table's order.
 fn listed(
     alloc: Global,
@@ -30,9 +45,9 @@ fn listed(
 ) -> Result<Vec<(LanguageType, &Language)>, AllocError>
     ensures { IfOk result (λ v. languages_in v.items ≡ languages_of languages.entry.now) }
 {
-    let mut all = Vec::with_capacity(alloc, languages.len())?;
+    let mut all = Vec::new(alloc);
     for (language, value) in languages.iter() {
-        all.push((*language, value))?;
+        add(&mut all, *language, value)?;
     }
     Ok(all)
 }
@@ -42,6 +57,18 @@ pub(crate) fn sort_of(job: &Job) -> Option<Sort>
     ensures { result ≡ sort_of job.now }
 {
     job.sort.or(job.config.sort)
+}
+
+/// Writes the note above a report some of whose languages couldn't be counted whole.
+fn warn(printer: &mut Printer<Counted<Vec<u8>>>, languages: &Languages) -> Result<(), PrintError>
+    ensures bytes { OnOk result (printer.new.writer.inner.items
+        ≡ printer.old.writer.inner.items ++ warning_of (languages_of languages.now)) }
+    ensures layout { printer.new.layout ≡ printer.old.layout }
+{
+    if languages.is_inaccurate() {
+        return printer.print_inaccuracy_warning();
+    }
+    Ok(())
 }
 
 /// The report of languages, of which these are listed in this order.
@@ -60,9 +87,7 @@ fn shown(
     let format = job.numbers.get_format();
     let sorted = sort_of(job).is_some();
     let mut printer = Printer::new(alloc, columns(job.columns), job.files, buffer, format)?;
-    if languages.is_inaccurate() {
-        printer.print_inaccuracy_warning()?;
-    }
+    warn(&mut printer, languages)?;
     printer.print_header()?;
     printer.print_results(table, listed, job.compact, sorted)?;
     printer.print_total(languages)?;

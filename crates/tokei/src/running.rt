@@ -1,26 +1,24 @@
 //! A whole run: what is counted is written.
-ghost use Rattle.std.specs.Prelude.{◌≡◌, ◌≢◌, ◌<◌, Err, OnOk, IfOk};
+ghost use Rattle.std.specs.Prelude.{◌≡◌, ◌≢◌, ◌<◌, Err, OnOk};
 ghost use Rattle.std.specs.Io.KnownBytes.{Appends};
 ghost use Rattle.tokei_folders.specs.Answers.{Told};
-ghost use Rattle.tokei_languages.specs.Seen.{languages_of};
-ghost use Rattle.tokei_walk.specs.Notes.{Grows, notes_of_excludes};
-ghost use Rattle.tokei_walk.specs.Walks.{texts_of};
 ghost use Rattle.tokei.specs.declared.error.RunError.TheVariants.{Write as WriteFault};
-ghost use Rattle.tokei.specs.Output.{IsWanted, Writes};
+ghost use Rattle.tokei.specs.Output.{sort_of, Outputs, WritesDocument, WritesTable};
 
 use crate::counting::tally_of;
 use crate::error::RunError;
 use crate::job::{Job, Wanted};
 use crate::report::table_text;
+use crate::stream::stream;
 use std::alloc::Global;
 use tokei_folders::Folders;
 use tokei_io::Sink;
-use tokei_languages::Languages;
+use tokei_json::Format;
 use tokei_table::LanguageTable;
 use tokei_walk::Note;
 
 /// Puts a text behind what stands in the writer.
-fn put<W: Sink>(writer: &mut W, text: &[u8]) -> Result<(), RunError>
+pub(crate) fn put<W: Sink>(writer: &mut W, text: &[u8]) -> Result<(), RunError>
     ensures bytes { OnOk result (Appends (W.contents writer.old) (W.contents writer.new) text.now) }
     ensures fault { W.faults writer.old < u64.MAX → result ≡ Err WriteFault
         → W.faults writer.old < W.faults writer.new }
@@ -33,24 +31,52 @@ fn put<W: Sink>(writer: &mut W, text: &[u8]) -> Result<(), RunError>
     }
 }
 
-/// The text of what is wanted of languages.
-fn wanted(
+/// Counts the files of a job, and writes the document of what was counted.
+fn write_document<F: Folders, W: Sink>(
     alloc: Global,
     table: &LanguageTable,
+    folders: &mut F,
     job: &Job,
-    languages: Languages,
-) -> Result<Vec<u8>, RunError>
-    ensures text { IfOk result (λ v.
-        IsWanted job.now.wanted table.now job.now (languages_of languages) v.items) }
-    ensures unwritten { result ≢ Err WriteFault }
+    writer: &mut W,
+) -> Result<Vec<Note>, RunError>
+    ensures same { F.tree folders.new ≡ F.tree folders.old }
+    ensures told { Told (F.tree folders.old) (λ t. OnOk result (WritesDocument
+        table.now job.now t (W.contents writer.old) (W.contents writer.new))) }
+    ensures fault { W.faults writer.old < u64.MAX → result ≡ Err WriteFault
+        → W.faults writer.old < W.faults writer.new }
+    ensures no_fault { W.faults writer.old < u64.MAX → result ≢ Err WriteFault
+        → W.faults writer.new ≡ W.faults writer.old }
+    ensures honest { OnOk result (F.memory_faults folders.old < u64.MAX
+        → F.memory_faults folders.new ≡ F.memory_faults folders.old) }
 {
-    match job.wanted {
-        Wanted::Document(format) => {
-            let text = format.print(alloc, table, &languages)?;
-            Ok(text.into_bytes())
-        }
-        Wanted::Table => table_text(alloc, table, job, languages),
-    }
+    let tally = tally_of(alloc, table, folders, job)?;
+    let text = Format::Json.print(alloc, table, &tally.languages)?;
+    put(writer, text.as_bytes())?;
+    Ok(tally.notes)
+}
+
+/// Counts the files of a job, and writes the report of what was counted.
+fn write_table<F: Folders, W: Sink>(
+    alloc: Global,
+    table: &LanguageTable,
+    folders: &mut F,
+    job: &Job,
+    writer: &mut W,
+) -> Result<Vec<Note>, RunError>
+    ensures same { F.tree folders.new ≡ F.tree folders.old }
+    ensures told { Told (F.tree folders.old) (λ t. OnOk result (WritesTable (sort_of job.now)
+        table.now job.now t (W.contents writer.old) (W.contents writer.new))) }
+    ensures fault { W.faults writer.old < u64.MAX → result ≡ Err WriteFault
+        → W.faults writer.old < W.faults writer.new }
+    ensures no_fault { W.faults writer.old < u64.MAX → result ≢ Err WriteFault
+        → W.faults writer.new ≡ W.faults writer.old }
+    ensures honest { OnOk result (F.memory_faults folders.old < u64.MAX
+        → F.memory_faults folders.new ≡ F.memory_faults folders.old) }
+{
+    let tally = tally_of(alloc, table, folders, job)?;
+    let text = table_text(alloc, table, job, tally.languages)?;
+    put(writer, &text)?;
+    Ok(tally.notes)
 }
 
 /// Counts the files of a job, beside the results of earlier runs, and writes what is wanted of them. What the walk passed
@@ -66,8 +92,8 @@ pub fn run<F: Folders, W: Sink>(
     writer: &mut W,
 ) -> Result<Vec<Note>, RunError>
     ensures same { F.tree folders.new ≡ F.tree folders.old }
-    ensures told { Told (F.tree folders.old) (λ t. OnOk result
-        (Writes table.now job.now t (W.contents writer.old) (W.contents writer.new))) }
+    ensures told { Told (F.tree folders.old) (λ t. OnOk result (Outputs job.now.wanted
+        table.now job.now t (W.contents writer.old) (W.contents writer.new))) }
     ensures fault { W.faults writer.old < u64.MAX → result ≡ Err WriteFault
         → W.faults writer.old < W.faults writer.new }
     ensures no_fault { W.faults writer.old < u64.MAX → result ≢ Err WriteFault
@@ -75,8 +101,9 @@ pub fn run<F: Folders, W: Sink>(
     ensures honest { OnOk result (F.memory_faults folders.old < u64.MAX
         → F.memory_faults folders.new ≡ F.memory_faults folders.old) }
 {
-    let tally = tally_of(alloc, table, folders, job)?;
-    let text = wanted(alloc, table, job, tally.languages)?;
-    put(writer, &text)?;
-    Ok(tally.notes)
+    match &job.wanted {
+        Wanted::Stream(form) => stream(alloc, table, folders, job, *form, writer),
+        Wanted::Document(Format::Json) => write_document(alloc, table, folders, job, writer),
+        Wanted::Table => write_table(alloc, table, folders, job, writer),
+    }
 }

@@ -9,7 +9,7 @@ use Rattle.tokei_stats.specs.Statistics.{Statistics, Blobs}
 use Rattle.tokei_stats.specs.Statistics.Statistics.{node}
 use Rattle.tokei_stats.specs.Statistics.Blobs.{none, blob}
 use Rattle.tokei_table.specs.Row.{Row}
-use Rattle.tokei_json.specs.Document.{name_of, statistics_data, blobs_data, report_data, reports_data, named_data, language_data, document}
+use Rattle.tokei_json.specs.Document.{name_of, statistics_data, blobs_data, report_data, reports_data, named_data, language_data, line_data, document}
 use Rattle.tokei_json.proofs.Members.{AllMembers, all_put, all_named}
 
 neither : (a b : Bool) → a ≡ false → b ≡ false → (a || b) ≡ false
@@ -50,3 +50,6 @@ unfolding document
 whole_document rows es =
     whole_members _ (all_put IsWhole (codes "Total") (language_data rows (total_of es)) _ (whole_language rows (total_of es))
     (all_named IsWhole rows (language_data rows) es no_members (λ k l. whole_language rows l) tt))
+
+pub whole_line : (rows : List Row) (language : ℕ) (r : ReportValue) → has_float (line_data rows language r) ≡ false
+whole_line rows language r = neither (has_float (report_data rows r)) false (whole_report rows r) refl

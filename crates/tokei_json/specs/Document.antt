@@ -35,6 +35,12 @@ report_data rows r = object
     (member (codes "name") (string r.name)
     (member (codes "stats") (statistics_data rows r.stats) no_members))
 
+-- a file's report beside the name of its language
+abbrev pub line_data : List Row → ℕ → ReportValue → Data
+line_data rows language r = object
+    (member (codes "language") (string (name_of rows language))
+    (member (codes "stats") (report_data rows r) no_members))
+
 -- the reports in their order
 abbrev pub reports_data : List Row → List ReportValue → Data
 reports_data rows rs = array (items_of (map (report_data rows) rs))

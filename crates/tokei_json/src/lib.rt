@@ -17,4 +17,4 @@ pub use document::from_value;
 pub use error::InputError;
 pub use format::{Format, FormatError};
 pub use input::add_input;
-pub use write::to_value;
+pub use write::{report_line, to_value};

@@ -219,3 +219,37 @@ pub fn to_value(
     let value = document_of_total(alloc, table, languages, total)?;
     Ok(value)
 }
+
+ghost use Rattle.std.specs.Prelude.{string_bytes};
+ghost use Rattle.serde_json.specs.Written.{compact_text};
+ghost use Rattle.tokei_json.specs.Document.{line_data};
+
+/// A file's report beside the name of its language.
+fn line_value(
+    alloc: Global,
+    table: &LanguageTable,
+    language: LanguageType,
+    report: &Report,
+) -> Result<Value, AllocError>
+    ensures { IfOk result (λ v. view v ≡ line_data table.now language (report_of report.now)) }
+{
+    let name = String::from_str(alloc, name_of(table, language))?;
+    let stats = report_value(alloc, table, report)?;
+    json!(in alloc; {"language": name, "stats": stats})
+}
+
+/// A file's report beside the name of its language, as one compact JSON text with no newline: a line of a stream. Out of
+/// memory is the only refusal.
+pub fn report_line(
+    alloc: Global,
+    table: &LanguageTable,
+    language: LanguageType,
+    report: &Report,
+) -> Result<String, AllocError>
+    ensures { IfOk result (λ s. string_bytes s
+        ≡ compact_text (line_data table.now language (report_of report.now))) }
+{
+    let value = line_value(alloc, table, language, report)?;
+    let text = value.to_string(alloc)?;
+    Ok(text)
+}

@@ -18,4 +18,4 @@ pub use contents::Counting;
 pub use error::ParseFault;
 pub use parsing::parse_file;
 pub use paths::{from_path, from_shebang};
-pub use statistics::CountFiles;
+pub use statistics::{CountFiles, rules};

@@ -24,8 +24,8 @@ fn is_on(switch: Option<bool>) -> bool
     switch.unwrap_or(false)
 }
 
-/// Which ignore rules a configuration obeys.
-fn rules(config: &Config) -> Rules
+/// Which ignore rules a configuration obeys: a member that is `None` is off.
+pub fn rules(config: &Config) -> Rules
     ensures { result ≡ rules_of (settings_of config.now) }
 {
     let none = is_on(config.no_ignore);
