@@ -4,6 +4,7 @@ use Rattle.std.specs.Ordering.{nat_cmp, match_ordering}
 use Rattle.std.specs.declared.cmp.Ordering.{Ordering}
 use Rattle.std.specs.declared.cmp.Ordering.TheVariants.{Less, Equal, Greater}
 use Rattle.std.specs.BTreeMap.{insert_entry}
+use Rattle.std.specs.Map.{keys_of}
 use Rattle.tokei_stats.specs.Seen.{blobs_of, entries_of, stats_of}
 use Rattle.tokei_stats.specs.Statistics.{Statistics, Blobs, by_order, put}
 use Rattle.tokei_stats.specs.Statistics.Blobs.{blob}
@@ -38,3 +39,8 @@ blobs_of-insert (e ∷ es) k t = put_by (nat_cmp k e.0) k e.0 e.1 t es (insert_e
 -- an insertion into blobs is a `put`
 pub insert_blob : (es : List (ℕ × CodeStats)) (k : ℕ) (v : CodeStats) → blobs_of (entries_of (insert_entry nat_cmp es k v)) ≡ put (blobs_of (entries_of es)) k (stats_of v)
 insert_blob es k v = ap blobs_of (insert_seen stats_of es k v) ∙ blobs_of-insert (entries_of es) k (stats_of v)
+
+-- the keys stay as entries are seen
+pub keys_of-seen : {V S : Type 0} (seen : V → S) (es : List (ℕ × V)) → keys_of (map (λ e. (e.0, seen e.1)) es) ≡ keys_of es
+keys_of-seen seen [] = refl
+keys_of-seen seen (e ∷ es) = ap (λ ks. e.0 ∷ ks) (keys_of-seen seen es)

@@ -18,7 +18,8 @@ use Rattle.tokei_table.specs.WellFormed.{names_twice}
 use Rattle.tokei_json.specs.Document.{name_of, statistics_data, blobs_data, report_data, reports_data, named_data, language_data, document}
 use Rattle.tokei_json.specs.LanguageMaps.{language_named}
 use Rattle.tokei_json.specs.Reading.{put_named, put_blob, counts_in, statistics_in, with_blobs, report_in, all_reports_in, reports_in, with_children, language_in, with_languages, languages_in}
-use Rattle.tokei_json.specs.ReadingBack.{AreKnown, BlobsAreKnown, ReportsAreSound, ChildrenAreSound, IsSound, LanguagesAreSound}
+use Rattle.tokei_json.specs.Known.{AreKnown, BlobsAreKnown}
+use Rattle.tokei_json.proofs.Sound.{ReportsAreSound, ChildrenAreSound, IsSound, LanguagesAreSound}
 use Rattle.tokei_json.proofs.Insertions.{blobs_of-insert}
 use Rattle.tokei_json.proofs.Names.{named_by_name}
 use Rattle.tokei_json.proofs.ReadBack.{all_read, Returns, returned, passed}

@@ -1,0 +1,28 @@
+-- Values whose languages are all of a table with n languages.
+use Rattle.std.specs.Prelude.{ℕ, ◌<◌, List, [], ◌∷◌, ⊤}
+use Rattle.tokei_languages.specs.Values.{ReportValue, LanguageValue}
+use Rattle.tokei_stats.specs.Statistics.{Statistics, Blobs}
+use Rattle.tokei_stats.specs.Statistics.Statistics.{node}
+use Rattle.tokei_stats.specs.Statistics.Blobs.{none, blob}
+
+-- each language of the blobs is one of the first n, at every depth
+abbrev mutual
+  pub AreKnown : ℕ → Statistics → Type 0
+  AreKnown n (node c bs) = BlobsAreKnown n bs
+
+  pub BlobsAreKnown : ℕ → Blobs → Type 0
+  BlobsAreKnown n none = ⊤
+  BlobsAreKnown n (blob k t rest) = (k < n) × (AreKnown n t × BlobsAreKnown n rest)
+
+abbrev pub ReportsAreKnown : ℕ → List ReportValue → Type 0
+ReportsAreKnown n [] = ⊤
+ReportsAreKnown n (r ∷ rs) = AreKnown n r.stats × ReportsAreKnown n rs
+
+abbrev pub ChildrenAreKnown : ℕ → List (ℕ × List ReportValue) → Type 0
+ChildrenAreKnown n [] = ⊤
+ChildrenAreKnown n (e ∷ es) = (e.0 < n) × (ReportsAreKnown n e.1 × ChildrenAreKnown n es)
+
+-- each language is one of the first n, and so are those inside it
+abbrev pub LanguagesAreKnown : ℕ → List (ℕ × LanguageValue) → Type 0
+LanguagesAreKnown n [] = ⊤
+LanguagesAreKnown n (e ∷ es) = (e.0 < n) × (ReportsAreKnown n e.1.reports × (ChildrenAreKnown n e.1.children × LanguagesAreKnown n es))
