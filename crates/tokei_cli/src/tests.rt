@@ -12,7 +12,7 @@ fn refused(alloc: Global, words: &[&str]) -> Result<CliError, Fail> {
 }
 
 #[test]
-fn refused_command_lines(rt: HostRuntime) -> Result<(), Fail> {
+fn command_lines_that_are_refused(rt: HostRuntime) -> Result<(), Fail> {
     for words in [
         ["tokei", "-s", "code", "-r", "code"].as_slice(),
         ["tokei", "-r", "code", "-s", "code"].as_slice(),

@@ -415,7 +415,7 @@ Jupyter Notebooks ./n.ipynb                                                     
 }
 
 #[test]
-fn refused_rows(rt: HostRuntime) -> Result<(), Fail> {
+fn rows_that_are_refused(rt: HostRuntime) -> Result<(), Fail> {
     let alloc = rt.alloc();
     let greatest = large(alloc, (1, usize::MAX, 0), &[])?;
     let mut page = page(alloc, false, NumberFormatStyle::Plain)?;
