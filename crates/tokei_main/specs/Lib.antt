@@ -1,3 +1,2 @@
-pub mod CTable
-pub mod CountsAsC
-pub mod CountsLine
+pub mod Columns
+pub mod Statuses

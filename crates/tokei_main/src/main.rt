@@ -1,42 +1,47 @@
-//! Reads a text from standard input, counts it as C, and prints one line of its blank, code and comment lines.
+//! Counts the blank, code and comment lines of files and folders, by language, and prints them.
 #![tactic(auto)]
 
-#[cfg(test)]
-mod bench;
-mod c_table;
-mod count_input;
-#[cfg(test)]
-mod cut_rows;
-#[cfg(test)]
-mod every_call;
-#[cfg(test)]
-mod hostile_rows;
-mod input_error;
-#[cfg(test)]
-mod notebook_rows;
-#[cfg(test)]
-mod plain_rows;
-#[cfg(test)]
-mod refused_calls;
-#[cfg(test)]
-mod short_texts;
-#[cfg(test)]
-mod sum_rows;
+mod choices;
+mod ending;
+mod environment;
+mod preparing;
+mod program;
 #[cfg(test)]
 mod tests;
 
-use count_input::count_input;
-use std::io;
+use environment::Env;
+use program::program;
+use std::io::{BufWriter, Write};
 use std::process::ExitCode;
-use tokei_io::Counted;
+use std::{env, io};
+use tokei::Counted;
+use tokei_real::RealFolders;
 
 fn main(rt: HostRuntime) -> io::Result<ExitCode> {
-    let mut reader = Counted::new(rt.reader());
-    let mut writer = Counted::new(io::writer(&rt));
-    match count_input(rt.alloc(), &mut reader, &mut writer) {
-        Ok(()) => Ok(ExitCode::SUCCESS),
-        Err(fault) => {
-            eprintln!(rt; "Error: {fault}")?;
+    let words: Vec<String> = env::args(&rt)?.collect(rt.alloc())?;
+    let words: Vec<&str> = words.iter().map(|word| word.as_str()).collect(rt.alloc())?;
+    let variables = Env {
+        xdg_config_home: env::var(&rt, "XDG_CONFIG_HOME").ok(),
+        home: env::var(&rt, "HOME").ok(),
+    };
+    let mut folders = RealFolders::new(rt.clone()?);
+    let mut input = Counted::new(rt.reader());
+    let mut out = Counted::new(BufWriter::new(rt.alloc(), io::writer(&rt))?);
+    let stderr = rt.stderr();
+    let mut err = Counted::new(io::writer(&stderr));
+    let status = program(
+        rt.alloc(),
+        &words,
+        &variables,
+        &mut folders,
+        &mut input,
+        &mut out,
+        &mut err,
+    );
+    match out.inner.flush() {
+        Ok(()) => Ok(ExitCode::from(status)),
+        Err(_) => {
+            let _ = err.inner.write_all(b"Error: the output can't be written\n");
             Ok(ExitCode::FAILURE)
         }
     }

@@ -1,125 +1,448 @@
-//! Texts counted through `count_input`, from memory to memory, and its faults.
-use crate::count_input::count_input;
-use crate::input_error::InputError;
-use std::alloc::Global;
+//! Runs of the program over folders in memory: what it writes, and its exit status.
+use crate::environment::Env;
+use crate::program::program;
+use std::alloc::{AllocError, Global};
 use std::test::Fail;
-use tokei_io::{Counted, FailOnce};
+use tokei::{Counted, FailOnce, Fault, MemoryFolders};
+use tokei_bench::bench_json;
 
-/// What is written for a text, behind what stood there, to a writer that has room for the line.
-fn written(alloc: Global, text: &[u8], stood: &[u8]) -> Result<Vec<u8>, InputError> {
-    let mut reader = Counted::new(text);
-    let mut writer = Counted::new(Vec::with_capacity(alloc, 128)?);
-    writer.inner.extend_from_slice(stood)?;
-    count_input(alloc, &mut reader, &mut writer)?;
-    Ok(writer.inner)
+/// What a run wrote, and its status.
+#[derive(Drop)]
+struct Outcome {
+    status: u8,
+    out: String,
+    err: String,
+}
+
+/// Folders that hold the bench table and these files.
+fn folders(alloc: Global, files: &[(&str, &[u8])]) -> Result<MemoryFolders, Fault> {
+    let mut folders = MemoryFolders::new(alloc);
+    folders.add_file("languages.json", bench_json())?;
+    for (place, content) in files {
+        folders.add_file(place, content)?;
+    }
+    Ok(folders)
+}
+
+/// The bytes as a text.
+fn text(bytes: Vec<u8>) -> Result<String, Fail> {
+    match String::from_utf8(bytes) {
+        Ok(text) => Ok(text),
+        Err(_) => Err(Fail::from("the output isn't UTF-8")),
+    }
+}
+
+/// The text as an owned one, where there is one.
+fn owned(alloc: Global, text: Option<&str>) -> Result<Option<String>, AllocError> {
+    match text {
+        None => Ok(None),
+        Some(text) => Ok(Some(String::from_str(alloc, text)?)),
+    }
+}
+
+/// Runs the program in folders, with these variables and this standard input.
+fn ran_in(
+    alloc: Global,
+    folders: &mut MemoryFolders,
+    variables: (Option<&str>, Option<&str>),
+    input: &str,
+    words: &[&str],
+) -> Result<Outcome, Fail> {
+    let env = Env {
+        xdg_config_home: owned(alloc, variables.0)?,
+        home: owned(alloc, variables.1)?,
+    };
+    let mut input = Counted::new(input.as_bytes());
+    let mut out = Counted::new(Vec::new(alloc));
+    let mut err = Counted::new(Vec::new(alloc));
+    let status = program(alloc, words, &env, folders, &mut input, &mut out, &mut err);
+    Ok(Outcome {
+        status,
+        out: text(out.inner)?,
+        err: text(err.inner)?,
+    })
+}
+
+/// Runs the program over the bench table and `src/main.rs`.
+fn ran(alloc: Global, words: &[&str]) -> Result<Outcome, Fail> {
+    let Ok(mut folders) = folders(alloc, &[("src/main.rs", b"fn main() {}")]) else {
+        return Err(Fail::from("no folders"));
+    };
+    ran_in(alloc, &mut folders, (None, None), "", words)
+}
+
+/// Runs the program over the bench table and these files, with these variables.
+fn ran_over(
+    alloc: Global,
+    files: &[(&str, &[u8])],
+    variables: (Option<&str>, Option<&str>),
+    words: &[&str],
+) -> Result<Outcome, Fail> {
+    let Ok(mut folders) = folders(alloc, files) else {
+        return Err(Fail::from("no folders"));
+    };
+    ran_in(alloc, &mut folders, variables, "", words)
+}
+
+const NONE: &str =
+    r#"{"Total":{"blanks":0,"children":{},"code":0,"comments":0,"inaccurate":false,"reports":[]}}"#;
+
+const ONE: &str =
+    r#"{"Rust":{"blanks":0,"children":{},"code":1,"comments":0,"inaccurate":false,"reports":[{"name":"src/main.rs","stats":{"blanks":0,"blobs":{},"code":1,"comments":0}}]},"Total":{"blanks":0,"children":{"Rust":[{"name":"src/main.rs","stats":{"blanks":0,"blobs":{},"code":1,"comments":0}}]},"code":1,"comments":0,"inaccurate":false,"reports":[]}}"#;
+
+const ROWS: [&str; 3] = [
+    " Language              Files        Lines         Code     Comments       Blanks\n",
+    " Rust                      1            1            1            0            0\n",
+    " Total                     1            1            1            0            0\n",
+];
+
+/// The report of `src/main.rs` at 81 columns.
+fn report(alloc: Global) -> Result<String, AllocError> {
+    let mut row = String::new(alloc);
+    for _ in 0..81 {
+        row.push('━')?;
+    }
+    let [header, rust, total] = ROWS;
+    format!(in alloc; "{row}\n{header}{row}\n{rust}{row}\n{total}{row}\n")
 }
 
 #[test]
-fn c_texts(rt: HostRuntime) -> Result<(), Fail> {
-    for (text, line) in [
-        (b"".as_slice(), "blanks 0, code 0, comments 0\n"),
+fn documents(rt: HostRuntime) -> Result<(), Fail> {
+    for (words, expected) in [
+        (["tokei", "-o", "json", "src"].as_slice(), ONE),
         (
-            b"/* a /*/ b\nc */\nd\n".as_slice(),
-            "blanks 0, code 1, comments 2\n",
+            ["tokei", "-t", "rust,nope", "-o", "json", "src"].as_slice(),
+            ONE,
         ),
         (
-            b"let s = \"a\n// b\";\n".as_slice(),
-            "blanks 0, code 2, comments 0\n",
+            ["tokei", "-t", "nope", "-o", "json", "src"].as_slice(),
+            NONE,
         ),
         (
-            b"/* a */ x /* b */\n".as_slice(),
-            "blanks 0, code 0, comments 1\n",
+            ["tokei", "-o", "json", "-e", "*.rs", "src"].as_slice(),
+            NONE,
         ),
-        (b"\"a\n\nb".as_slice(), "blanks 0, code 3, comments 0\n"),
-        (b"/*\n\n".as_slice(), "blanks 0, code 0, comments 2\n"),
-        (b"\xff\n".as_slice(), "blanks 0, code 1, comments 0\n"),
     ] {
-        let got = written(rt.alloc(), text, b"")?;
-        assert_eq!(rt; got.as_slice(), line.as_bytes(), "at {text:?}");
+        let ran = ran(rt.alloc(), words)?;
+        assert_eq!(rt; ran.out.as_str(), expected, "at {words:?}");
+        assert_eq!(rt; ran.err.as_str(), "", "at {words:?}");
+        assert_eq!(rt; ran.status, 0, "at {words:?}");
     }
     Ok(())
 }
 
 #[test]
-fn what_stood_there_stays(rt: HostRuntime) -> Result<(), Fail> {
-    let got = written(rt.alloc(), b"x;\n", b"before\n")?;
+fn reports(rt: HostRuntime) -> Result<(), Fail> {
+    let expected = report(rt.alloc())?;
+    for words in [
+        ["tokei", "-c", "40", "src"].as_slice(),
+        ["tokei", "-c40", "src"].as_slice(),
+        ["tokei", "src"].as_slice(),
+        ["tokei", "-s=code", "src"].as_slice(),
+        ["tokei", "-C", "src"].as_slice(),
+        ["tokei", "-n", "commas", "src"].as_slice(),
+    ] {
+        let ran = ran(rt.alloc(), words)?;
+        assert_eq!(rt; ran.out.as_str(), expected.as_str(), "at {words:?}");
+        assert_eq!(rt; ran.err.as_str(), "", "at {words:?}");
+        assert_eq!(rt; ran.status, 0, "at {words:?}");
+    }
+    Ok(())
+}
+
+#[test]
+fn streams(rt: HostRuntime) -> Result<(), Fail> {
+    let line =
+        r#"{"language":"Rust","stats":{"name":"src/main.rs","stats":{"blanks":0,"blobs":{},"code":1,"comments":0}}}"#;
+    let expected = format!(in rt.alloc(); "{line}\n")?;
+    let ran = ran(
+        rt.alloc(),
+        &["tokei", "--streaming", "json", "-o", "json", "src"],
+    )?;
+    assert_eq!(rt; ran.out.as_str(), expected.as_str());
+    assert_eq!(rt; ran.status, 0);
+    Ok(())
+}
+
+#[test]
+fn help_and_version(rt: HostRuntime) -> Result<(), Fail> {
+    let version = ran(rt.alloc(), &["tokei", "--version"])?;
     assert_eq!(rt;
-        got.as_slice(),
-        b"before\nblanks 0, code 1, comments 0\n".as_slice()
+        version.out.as_str(),
+        "tokei 15.0.0 compiled with serialization support: json\n"
     );
-    Ok(())
-}
-
-/// A text of more bytes than one read takes: 40,000 lines of code.
-fn long_text(alloc: Global) -> Result<Vec<u8>, InputError> {
-    let mut text = Vec::new(alloc);
-    for _ in 0..40_000 {
-        text.extend_from_slice(b"x;\n")?;
-    }
-    Ok(text)
-}
-
-#[test]
-fn each_read_fails_once(rt: HostRuntime) -> Result<(), Fail> {
-    let text = long_text(rt.alloc())?;
-    for (call, fails) in [(0, true), (1, true), (2, true), (3, false)] {
-        let mut reader = FailOnce::new(Counted::new(text.as_slice()), call);
-        let mut writer = Counted::new(Vec::new(rt.alloc()));
-        let result = count_input(rt.alloc(), &mut reader, &mut writer);
-        assert_eq!(rt; reader.failed(), fails, "read {call}");
-        if fails {
-            assert_eq!(rt; result, Err(InputError::Unreadable), "read {call}");
-            assert!(rt; writer.inner.is_empty(), "read {call}");
-        } else {
-            assert_eq!(rt; result, Ok(()), "read {call}");
-            assert_eq!(rt;
-                writer.inner.as_slice(),
-                b"blanks 0, code 40000, comments 0\n".as_slice()
-            );
-        }
-    }
+    assert_eq!(rt; version.err.as_str(), "");
+    assert_eq!(rt; version.status, 0);
+    let help = ran(rt.alloc(), &["tokei", "--help"])?;
+    assert!(rt; help.out.as_str().contains("--num-format"));
+    assert_eq!(rt; help.err.as_str(), "");
+    assert_eq!(rt; help.status, 0);
     Ok(())
 }
 
 #[test]
-fn each_write_fails_once(rt: HostRuntime) -> Result<(), Fail> {
-    for (call, fails) in [(0, true), (1, false)] {
-        let mut reader = Counted::new(b"x;\n".as_slice());
-        let mut writer = FailOnce::new(Counted::new(Vec::new(rt.alloc())), call);
-        let result = count_input(rt.alloc(), &mut reader, &mut writer);
-        assert_eq!(rt; writer.failed(), fails, "write {call}");
-        if fails {
-            assert_eq!(rt; result, Err(InputError::Write), "write {call}");
-        } else {
-            assert_eq!(rt; result, Ok(()), "write {call}");
-        }
-    }
-    Ok(())
-}
-
-#[test]
-fn refused_count_input(rt: HostRuntime) -> Result<(), Fail> {
-    match written(rt.alloc(), b"/* a /*/ b\nc */\nd\n", b"") {
-        Err(refused) => assert_eq!(rt; refused, InputError::Memory),
-        Ok(got) => assert_eq!(rt;
-            got.as_slice(),
-            b"blanks 0, code 1, comments 2\n".as_slice()
+fn refused_command_lines(rt: HostRuntime) -> Result<(), Fail> {
+    for (words, named) in [
+        (["tokei", "-o", "yaml"].as_slice(), "yaml"),
+        (["tokei", "-o", "xml"].as_slice(), "xml"),
+        (["tokei", "-s", "code", "-r", "code"].as_slice(), "--rsort"),
+        (
+            ["tokei", "-n", "commas", "-o", "json"].as_slice(),
+            "--output",
         ),
+        (["tokei", "-l", "src"].as_slice(), "--languages"),
+        (["tokei", "-s", "size"].as_slice(), "size"),
+        (["tokei", "-r", "size"].as_slice(), "size"),
+        (["tokei", "-n", "spaces"].as_slice(), "spaces"),
+        (["tokei", "--streaming", "xml"].as_slice(), "xml"),
+        (["tokei", "-c", "wide"].as_slice(), "wide"),
+        (["tokei", "--nope"].as_slice(), "--nope"),
+    ] {
+        let ran = ran(rt.alloc(), words)?;
+        assert_eq!(rt; ran.status, 2, "at {words:?}");
+        assert_eq!(rt; ran.out.as_str(), "", "at {words:?}");
+        assert!(rt; ran.err.as_str().contains(named), "at {words:?}");
     }
     Ok(())
 }
 
 #[test]
-fn words_of_errors(rt: HostRuntime) -> Result<(), Fail> {
-    for (error, words) in [
-        (InputError::Unreadable, "the input can't be read"),
-        (InputError::Memory, "out of memory"),
-        (InputError::Table, "the table of languages has no C"),
-        (InputError::Overflow, "a count passes the greatest usize"),
-        (InputError::Write, "the output can't be written"),
+fn faults(rt: HostRuntime) -> Result<(), Fail> {
+    for (words, said) in [
+        (["tokei", "nope"].as_slice(), "Error: 'nope' not found.\n"),
+        (["tokei", "src", ""].as_slice(), "Error: '' not found.\n"),
+        (
+            ["tokei", "-i", "{}", "src"].as_slice(),
+            "Error:\n Failed to parse input file: {}\n",
+        ),
+        (
+            ["tokei", "-i", "src/main.rs", "src"].as_slice(),
+            "Error:\n Failed to parse input file: src/main.rs\n",
+        ),
+        (
+            ["tokei", "-i", "stdin", "src"].as_slice(),
+            "Error:\n Failed to parse input file: stdin\n",
+        ),
+        (
+            ["tokei", "--table", "nope.json", "src"].as_slice(),
+            "Error: the table of languages can't be read: nope.json\n",
+        ),
+        (
+            ["tokei", "--table", "src/main.rs", "src"].as_slice(),
+            "Error: the table is no JSON text\n",
+        ),
     ] {
-        let said = format!(in rt.alloc(); "{error}")?;
-        assert_eq!(rt; said.as_str(), words);
+        let ran = ran(rt.alloc(), words)?;
+        assert_eq!(rt; ran.err.as_str(), said, "at {words:?}");
+        assert_eq!(rt; ran.out.as_str(), "", "at {words:?}");
+        assert_eq!(rt; ran.status, 1, "at {words:?}");
     }
+    Ok(())
+}
+
+#[test]
+fn earlier_results(rt: HostRuntime) -> Result<(), Fail> {
+    let Ok(mut folders) = folders(rt.alloc(), &[("earlier", ONE.as_bytes()), ("empty/a", b"")])
+    else {
+        return Err(Fail::from("no folders"));
+    };
+    for name in ["earlier", "stdin", ONE] {
+        let words = ["tokei", "-o", "json", "-i", name, "empty"];
+        let ran = ran_in(rt.alloc(), &mut folders, (None, None), ONE, &words)?;
+        assert_eq!(rt; ran.out.as_str(), ONE, "at {name}");
+        assert_eq!(rt; ran.err.as_str(), "", "at {name}");
+        assert_eq!(rt; ran.status, 0, "at {name}");
+    }
+    Ok(())
+}
+
+#[test]
+fn listed_languages(rt: HostRuntime) -> Result<(), Fail> {
+    let ran = ran(rt.alloc(), &["tokei", "-l"])?;
+    let rust = "Rust                                     rs\n";
+    assert!(rt;
+        ran.out
+            .as_str()
+            .starts_with("Language                                 Extensions\n")
+    );
+    assert!(rt; ran.out.as_str().contains(rust));
+    assert_eq!(rt; ran.status, 0);
+    Ok(())
+}
+
+const HIDDEN: &str = r#"{"name":"src/.a.c""#;
+
+#[test]
+fn configuration_files(rt: HostRuntime) -> Result<(), Fail> {
+    let hidden = b"hidden = true\n".as_slice();
+    let shown = b"hidden = false\n".as_slice();
+    for (files, variables, counted) in [
+        (
+            [("tokei.toml", hidden), ("h/tokei.toml", shown)],
+            (None, Some("h")),
+            true,
+        ),
+        (
+            [("tokei.toml", shown), ("h/tokei.toml", hidden)],
+            (None, Some("h")),
+            false,
+        ),
+        (
+            [("x", shown), ("h/tokei.toml", hidden)],
+            (None, Some("h")),
+            true,
+        ),
+        (
+            [("x", shown), ("h/.config/tokei.toml", hidden)],
+            (None, Some("h")),
+            true,
+        ),
+        (
+            [("x", shown), ("h/.config/tokei.toml", hidden)],
+            (Some("h/.config"), None),
+            false,
+        ),
+        (
+            [("x", shown), ("d/tokei.toml", hidden)],
+            (Some("/d"), None),
+            true,
+        ),
+        (
+            [("x", shown), ("h/.config/tokei.toml", hidden)],
+            (Some("/d"), Some("h")),
+            false,
+        ),
+        (
+            [("tokei.toml", b"hidden ="), (".tokeirc", hidden)],
+            (None, None),
+            false,
+        ),
+        (
+            [("tokei.toml", b"\xff"), (".tokeirc", hidden)],
+            (None, None),
+            true,
+        ),
+        (
+            [("tokei.toml", b"hidden = true\ncolumns = -1"), ("x", shown)],
+            (None, None),
+            false,
+        ),
+    ] {
+        let [first, second] = files;
+        let files = [first, second, ("src/.a.c", b"x;\n".as_slice())];
+        let ran = ran_over(
+            rt.alloc(),
+            &files,
+            variables,
+            &["tokei", "-o", "json", "src"],
+        )?;
+        assert_eq!(rt; ran.out.as_str().contains(HIDDEN), counted, "at {files:?}");
+        assert_eq!(rt; ran.status, 0, "at {files:?}");
+    }
+    Ok(())
+}
+
+/// The document of `a.h` and `b.rs`, or of `a.h` alone, with this `tokei.toml`.
+fn with_config(alloc: Global, config: &str) -> Result<String, Fail> {
+    let files = [
+        ("tokei.toml", config.as_bytes()),
+        ("src/a.h", b"x;\n".as_slice()),
+        ("src/b.rs", b"fn f() {}\n".as_slice()),
+    ];
+    let ran = ran_over(alloc, &files, (None, None), &["tokei", "-o", "json", "src"])?;
+    Ok(ran.out)
+}
+
+const C_OF_A: &str =
+    r#"{"C":{"blanks":0,"children":{},"code":1,"comments":0,"inaccurate":false,"reports":[{"name":"src/a.h""#;
+
+const RUST_OF_B: &str =
+    r#""Rust":{"blanks":0,"children":{},"code":1,"comments":0,"inaccurate":false,"reports":[{"name":"src/b.rs""#;
+
+#[test]
+fn added_extensions(rt: HostRuntime) -> Result<(), Fail> {
+    for (config, counted) in [
+        ("[languages.C]\nextensions = [\"h\", \"rs\"]\n", true),
+        (
+            "[languages.D]\nextensions = [\"h\"]\n[languages.C]\nextensions = [\"h\"]\n",
+            true,
+        ),
+        ("[languages.C]\nextensions = [\"H\"]\n", false),
+        (
+            "[languages.C]\nextensions = [\"h\"]\n[languages.Nope]\nextensions = [\"x\"]\n",
+            false,
+        ),
+    ] {
+        let out = with_config(rt.alloc(), config)?;
+        assert_eq!(rt; out.as_str().starts_with(C_OF_A), counted, "at {config}");
+        assert!(rt; out.as_str().contains(RUST_OF_B), "at {config}");
+    }
+    Ok(())
+}
+
+#[test]
+fn notes_by_verbosity(rt: HostRuntime) -> Result<(), Fail> {
+    let files = [
+        ("src/.ignore", b"[a\n".as_slice()),
+        ("src/a.c", b"x;\n".as_slice()),
+    ];
+    for (words, said) in [
+        (["tokei", "-o", "json", "src"].as_slice(), ""),
+        (
+            ["tokei", "-v", "-o", "json", "src"].as_slice(),
+            "[WARN  bad line in ignore file] src/.ignore\n",
+        ),
+        (["tokei", "-vvvv", "-o", "json", "src"].as_slice(), ""),
+        (
+            ["tokei", "-o", "json", "-e", "[a", "src"].as_slice(),
+            "[ERROR exclude is no pattern] [a\n",
+        ),
+    ] {
+        let ran = ran_over(rt.alloc(), &files, (None, None), words)?;
+        assert_eq!(rt; ran.err.as_str(), said, "at {words:?}");
+        assert_eq!(rt; ran.status, 0, "at {words:?}");
+    }
+    Ok(())
+}
+
+/// The status of a run whose writer fails once, and what it says.
+fn with_fault(alloc: Global) -> Result<(u8, String), Fail> {
+    let Ok(mut folders) = folders(alloc, &[("src/main.rs", b"fn main() {}")]) else {
+        return Err(Fail::from("no folders"));
+    };
+    let env = Env {
+        xdg_config_home: None,
+        home: None,
+    };
+    let mut input = Counted::new(b"".as_slice());
+    let mut out = FailOnce::new(Counted::new(Vec::new(alloc)), 0);
+    let mut err = Counted::new(Vec::new(alloc));
+    let words = ["tokei", "src"];
+    let status = program(
+        alloc,
+        &words,
+        &env,
+        &mut folders,
+        &mut input,
+        &mut out,
+        &mut err,
+    );
+    Ok((status, text(err.inner)?))
+}
+
+#[test]
+fn write_fault(rt: HostRuntime) -> Result<(), Fail> {
+    let (status, said) = with_fault(rt.alloc())?;
+    assert_eq!(rt; status, 1);
+    assert_eq!(rt; said.as_str(), "Error: the output can't be written\n");
+    Ok(())
+}
+
+#[test]
+fn no_table(rt: HostRuntime) -> Result<(), Fail> {
+    let mut folders = MemoryFolders::new(rt.alloc());
+    let ran = ran_in(rt.alloc(), &mut folders, (None, None), "", &["tokei"])?;
+    assert_eq!(rt; ran.out.as_str(), "");
+    assert_eq!(rt; ran.status, 1);
     Ok(())
 }

@@ -1,0 +1,17 @@
+-- The exit statuses of the program.
+use Rattle.std.specs.Prelude.{ℕ}
+use Rattle.tokei_main.specs.declared.ending.Ending.{Ending}
+use Rattle.tokei_main.specs.declared.ending.Ending.TheVariants.{Asked, Refused, NoTable, Table, Input, Unreadable, Missing, Memory, Overflow, Write}
+
+-- the exit status of a run that doesn't succeed by counting
+abbrev pub status_of : Ending → ℕ
+status_of (Asked text) = 0
+status_of (Refused text) = 2
+status_of (NoTable name) = 1
+status_of (Table cause) = 1
+status_of (Input name) = 1
+status_of Unreadable = 1
+status_of (Missing root) = 1
+status_of Memory = 1
+status_of Overflow = 1
+status_of Write = 1
