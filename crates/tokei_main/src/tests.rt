@@ -181,7 +181,7 @@ fn help_and_version(rt: HostRuntime) -> Result<(), Fail> {
 }
 
 #[test]
-fn refused_command_lines(rt: HostRuntime) -> Result<(), Fail> {
+fn command_lines_that_are_refused(rt: HostRuntime) -> Result<(), Fail> {
     for (words, named) in [
         (["tokei", "-o", "yaml"].as_slice(), "yaml"),
         (["tokei", "-o", "xml"].as_slice(), "xml"),
