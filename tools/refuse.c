@@ -1,4 +1,4 @@
-// Preloaded before a program: refuses one of its growths, the one numbered REFUSE_AT, counted from 1.
+// Preloaded before a program: makes one of its allocations fail, the one numbered REFUSE_AT, counted from 1.
 // A refusal makes the file that REFUSE_TOLD names, by which the caller knows that there was one.
 #define _GNU_SOURCE
 #include <dlfcn.h>
@@ -9,7 +9,7 @@
 
 static unsigned long asked;
 
-// Whether the growth that is asked for now is the one to refuse.
+// Whether the allocation that is asked for now is the one to fail.
 static int refused(void) {
     static unsigned long at;
     static int known;
