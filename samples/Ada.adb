@@ -1,4 +1,4 @@
--- 9 lines 6 code 2 comments 1 blanks
+-- 13 lines 8 code 4 comments 1 blanks
 -- for people who read
 
 with Ada.Text_IO;
@@ -7,3 +7,7 @@ procedure Greet is
 begin
    Ada.Text_IO.Put_Line ("-- none"); -- once
 end Greet;
+-- a comment behind the procedure
+Path_Mark : constant String := "\";
+Quote : constant Character := '"';
+-- a comment, since no string is open

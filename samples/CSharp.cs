@@ -1,4 +1,4 @@
-// 11 lines 7 code 3 comments 1 blanks
+// 21 lines 15 code 5 comments 1 blanks
 /* a block
    of two lines */
 
@@ -8,4 +8,14 @@ class Greeter {
     static void Main() {
         Console.WriteLine("// no comment"); // said once
     }
+}
+class Texts {
+    char mark = '"';
+    // a comment, since the mark opens no string
+    string raw = """
+        a " mark
+        // code, since the text goes on
+        """;
+    string path = @$"C:\";
+    // a comment again
 }

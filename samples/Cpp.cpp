@@ -1,4 +1,4 @@
-// 9 lines 5 code 3 comments 1 blanks
+// 11 lines 6 code 4 comments 1 blanks
 /* a block
    of two lines */
 
@@ -7,3 +7,5 @@ std::string path() {
     auto raw = R"(a "quoted" // text \)";
     return "http://example.org/" + std::string(raw); // joined
 }
+char mark = '"';
+// a comment, since the mark opens no string

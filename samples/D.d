@@ -1,4 +1,4 @@
-// 9 lines 4 code 4 comments 1 blanks
+// 12 lines 6 code 5 comments 1 blanks
 /* a block */
 /+ a block /+ in a block +/
    and its end +/
@@ -7,3 +7,6 @@ import std.stdio;
 void main() {
     writeln("// none, /+ nor this"); // once
 }
+string raw = `a \ " mark`;
+char mark = '"';
+// a comment, since no string is open

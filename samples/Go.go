@@ -1,4 +1,4 @@
-// 10 lines 6 code 3 comments 1 blanks
+// 12 lines 7 code 4 comments 1 blanks
 /* a block
    of two lines */
 
@@ -8,3 +8,5 @@ func main() {
 	raw := `a \ "quoted" // text`
 	fmt.Println("/* no comment", raw) // said once
 }
+var mark = '"'
+// a comment, since the mark opens no string

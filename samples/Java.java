@@ -1,4 +1,4 @@
-// 9 lines 5 code 3 comments 1 blanks
+// 17 lines 12 code 4 comments 1 blanks
 /* a block
    of two lines */
 
@@ -6,4 +6,12 @@ class Greeter {
     public static void main(String[] names) {
         System.out.println("// no comment"); // said once
     }
+}
+class Texts {
+    char mark = '"';
+    // a comment, since the mark opens no string
+    String block = """
+        a " mark
+        // code, since the text goes on
+        """;
 }

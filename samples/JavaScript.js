@@ -1,4 +1,4 @@
-// 9 lines 5 code 3 comments 1 blanks
+// 12 lines 8 code 3 comments 1 blanks
 /* a block
    of two lines */
 
@@ -7,3 +7,6 @@ function greet(name) {
     console.log("/* no comment", name); // said once
 }
 greet(path);
+const text = `a ' mark
+// code, since the text goes on
+`;

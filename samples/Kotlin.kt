@@ -1,4 +1,4 @@
-// 9 lines 5 code 3 comments 1 blanks
+// 11 lines 6 code 4 comments 1 blanks
 /* a block /* in a block */
    and its end */
 
@@ -7,3 +7,5 @@ fun main() {
     println("/* no comment") // said once
     println(raw)
 }
+val mark = '"'
+// a comment, since the mark opens no string

@@ -1,4 +1,4 @@
-(* 8 lines 4 code 3 comments 1 blanks *)
+(* 10 lines 5 code 4 comments 1 blanks *)
 (* a block (* in a block *)
    and its end *)
 
@@ -6,3 +6,5 @@ let name = "a (* name"
 let quoted = {|a "quoted" (* text|}
 let rec poly : 'a -> 'a = fun x -> x (* same *)
 let () = print_endline (name ^ quoted)
+let mark = '"'
+(* a comment, since the mark opens no string *)

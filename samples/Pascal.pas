@@ -1,4 +1,4 @@
-// 9 lines 4 code 4 comments 1 blanks
+// 11 lines 5 code 5 comments 1 blanks
 // for people who read
 (* a block
    of two lines *)
@@ -7,3 +7,5 @@ program Greet;
 begin
   WriteLn('// none'); { once }
 end.
+const PathMark = '\';
+// a comment, since a backslash is a byte like others

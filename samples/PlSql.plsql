@@ -1,4 +1,4 @@
--- 8 lines 3 code 4 comments 1 blanks
+-- 10 lines 4 code 5 comments 1 blanks
 -- for people who read
 /* a block
    of two lines */
@@ -6,3 +6,5 @@
 BEGIN
   DBMS_OUTPUT.PUT_LINE('-- none'); -- once
 END;
+CREATE DIRECTORY work AS 'C:\work\';
+-- a comment, since a backslash is a byte like others

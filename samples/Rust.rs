@@ -1,4 +1,4 @@
-// 11 lines 5 code 5 comments 1 blanks
+// 16 lines 9 code 6 comments 1 blanks
 /* a block /* in a block */
    and its end */
 
@@ -9,3 +9,8 @@ fn twice<'a>(x: &'a u32) -> u32 {
     let _ = mark;
     2 * x
 }
+const MARK: char = '"';
+// a comment, since the mark opens no string
+const RAW: &str = r#"a " mark
+// code, since the string goes on
+"#;

@@ -1,4 +1,4 @@
-// 8 lines 4 code 3 comments 1 blanks
+// 10 lines 5 code 4 comments 1 blanks
 /* a block /* in a block */
    and its end */
 
@@ -6,3 +6,5 @@ object Greeter {
   val raw = """a "quoted" // text \"""
   def main(names: Array[String]): Unit = println("// no comment") // said once
 }
+val mark = '"'
+// a comment, since the mark opens no string

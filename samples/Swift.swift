@@ -1,4 +1,4 @@
-// 9 lines 5 code 3 comments 1 blanks
+// 13 lines 9 code 3 comments 1 blanks
 /* a block /* in a block */
    and its end */
 
@@ -7,3 +7,7 @@ func greet() {
     print("/* no comment", raw) // said once
 }
 greet()
+let text = """
+  a " mark
+  // code, since the text goes on
+  """
