@@ -1,0 +1,3 @@
+#!/bin/sh
+# What is run for each change.
+cargo test

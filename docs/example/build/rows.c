@@ -1,0 +1,2 @@
+/* Made by a program. */
+int rows[] = {3, 1, 2};
