@@ -11,7 +11,7 @@ use Rattle.tokei_count.specs.declared.choice.Choice as CodeChoice
 use Rattle.tokei_count.specs.declared.choice.Choice.TheVariants.{Closer, Escape, Child, Opener, PassedOpener, LineComment, Byte}
 use Rattle.tokei_count.specs.declared.items.Enclosure as CodeEnclosure
 use Rattle.tokei_count.specs.declared.openings.Block as CodeBlock
-use Rattle.tokei_count.specs.declared.config.CountConfig.{CountConfig}
+use Rattle.tokei_options.specs.declared.count_config.CountConfig.{CountConfig}
 
 -- the text of a child: a doc comment's lines are read without their marks, joined and trimmed
 abbrev pub contents_of : CodeBlock.Block → List ℕ

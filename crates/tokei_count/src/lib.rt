@@ -6,7 +6,6 @@
 
 mod choice;
 mod class;
-mod config;
 mod counter;
 mod file_context;
 mod glance;
@@ -21,16 +20,16 @@ mod plain_reading;
 mod reading;
 mod walk;
 
-pub use config::CountConfig;
 pub use counter::Counter;
 pub use file_context::{FileContext, LanguageContext};
 pub use matchers::SharedMatchers;
 pub use parse::{parse_counted, parse_from_slice, parse_from_str};
 pub use plain_reading::count_plain;
-pub use tokei_embedding::{
+pub use tokei_captures::{
     Capture, HtmlLike, SimpleCapture, end_lf, end_markdown, end_script, end_style, end_template,
     start_lf, start_markdown, start_script, start_style, start_template,
 };
+pub use tokei_options::CountConfig;
 pub use tokei_stats::{CodeStats, CountError, Report, ReportRow};
 pub use tokei_text::{decode_text, find_char_boundary};
 

@@ -15,11 +15,11 @@ ghost use Rattle.tokei_count.specs.WeightLaws.{HaveNoNotebook};
 ghost use Rattle.tokei_stats.specs.Seen.{stats_of};
 ghost use Rattle.tokei_stats.specs.Statistics.{lines_of, summary};
 
-use crate::config::CountConfig;
 use crate::counter::Counter;
 use crate::laws::lengths_fit;
 use crate::plain_reading::{OUTERMOST_LEVELS, read_text};
 use std::alloc::Global;
+use tokei_options::CountConfig;
 use tokei_stats::{CodeStats, CountError};
 use tokei_table::LanguageType;
 

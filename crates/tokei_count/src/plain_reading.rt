@@ -18,7 +18,6 @@ ghost use Rattle.tokei_count.specs.Steps.{steps, capped};
 ghost use Rattle.tokei_stats.specs.Seen.{stats_of, sums_of};
 
 use crate::class::{Class, class_by};
-use crate::config::CountConfig;
 use crate::counter::Counter;
 use crate::glance::is_glanced;
 use crate::line_ends::{line_end, line_len, line_stop};
@@ -30,6 +29,7 @@ use std::alloc::{AllocError, Global};
 use std::collections::BTreeMap;
 use tokei_embedding::{BlockSearch, doc_text};
 use tokei_notebook::cells;
+use tokei_options::CountConfig;
 use tokei_stats::{CodeStats, CountError, Sums, add_blob};
 use tokei_table::ext::trim;
 use tokei_table::{LanguageTable, LanguageType, Syntax};

@@ -1,6 +1,6 @@
 -- A blank before a doc comment.
 use Rattle.std.proofs.Common.{◌≡◌, ℕ, true, false, ◌==◌, cond, List, [], ◌∷◌, Option, None, Some, option_map, is_some, refl, sym, ◌∙◌, ap}
-use Rattle.tokei_table.specs.Bytes.{is_blank, trim_start}
+use Rattle.tokei_syntax.specs.Bytes.{is_blank, trim_start}
 use Rattle.tokei_embedding.specs.DocComments.{DocBlock, doc_block, doc_of, lines_of, first_line, front_mark, mark_of, marked_len}
 
 mark_behind : (b : ℕ) (t : List ℕ) → is_blank b ≡ true → (b == 10) ≡ false → mark_of (first_line (b ∷ t)) ≡ mark_of (first_line t)

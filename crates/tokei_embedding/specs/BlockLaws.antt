@@ -1,10 +1,8 @@
 -- Laws of the blocks: how far each reaches, and where none opens.
 use Rattle.std.specs.Prelude.{◌≡◌, ℕ, ◌+◌, ◌<◌, ◌≤◌, true, false, ◌==◌, is_some, List, ◌∷◌, ◌++◌, length, drop, codes, None, Some}
-use Rattle.tokei_table.specs.Bytes.{is_blank, begins}
-use Rattle.tokei_table.specs.FirstOpener.{first_opener}
-use Rattle.tokei_table.specs.Openers.{child_openers}
-use Rattle.tokei_table.specs.declared.family.Family.TheVariants.{Rust}
-use Rattle.tokei_embedding.specs.DocComments.{DocBlock, doc_block, first_line}
+use Rattle.tokei_syntax.specs.Bytes.{is_blank, begins}
+use Rattle.tokei_syntax.specs.FirstOpener.{first_opener}
+use Rattle.tokei_embedding.specs.DocComments.{DocBlock, doc_block, doc_marks, first_line}
 use Rattle.tokei_embedding.specs.Fences.{Fence, fence, fence_block}
 use Rattle.tokei_embedding.specs.Tags.{TagBlock, token_of, tag_block}
 use Rattle.tokei_embedding.specs.TargetBlocks.{TargetBlock, target_block}
@@ -51,7 +49,7 @@ DocsOpenBeforeBlanks = (b : ℕ) (t : List ℕ) → is_blank b ≡ true → (b =
 pub record BeginWithOpeners (part rest : List ℕ) (place : ℕ) : Type 0 where
   pub fences : begins fence (drop place part) ≡ false → fence_block part place rest ≡ None
   pub tags : (g : Tag) → begins (token_of g) (drop place part) ≡ false → tag_block g part place rest ≡ None
-  pub docs : first_opener (child_openers Rust) (first_line rest) ≡ None → doc_block rest ≡ None
+  pub docs : first_opener doc_marks (first_line rest) ≡ None → doc_block rest ≡ None
   pub targets : begins (codes "{=") (drop place part) ≡ false → target_block part place rest ≡ None
 
 abbrev pub BlocksBeginWithOpeners : Type 0

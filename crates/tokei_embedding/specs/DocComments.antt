@@ -1,6 +1,6 @@
 -- Rust's doc comments: lines that begin with `///` or `//!`.
 use Rattle.std.specs.Prelude.{ℕ, ◌+◌, ◌==◌, cond, List, [], ◌∷◌, ◌++◌, length, take, drop, codes, Option, None, Some, option_map}
-use Rattle.tokei_table.specs.Bytes.{trim_start, begins}
+use Rattle.tokei_syntax.specs.Bytes.{trim_start, begins}
 
 -- The byte before the first line of the others.
 abbrev pub in_front : ℕ → List (List ℕ) → List (List ℕ)
@@ -16,6 +16,10 @@ lines_of (b ∷ t) = cond (b == 10) ((b ∷ []) ∷ lines_of t) (in_front b (lin
 abbrev pub first_line : List ℕ → List ℕ
 first_line [] = []
 first_line (b ∷ t) = cond (b == 10) (b ∷ []) (b ∷ first_line t)
+
+-- The marks.
+abbrev pub doc_marks : List (List ℕ)
+doc_marks = codes "///" ∷ codes "//!" ∷ []
 
 -- The mark at the front of the text.
 abbrev pub front_mark : List ℕ → Option (List ℕ)

@@ -1,6 +1,6 @@
 -- Fences: code between three backticks and three backticks.
 use Rattle.std.specs.Prelude.{ℕ, suc, ◌+◌, Bool, true, false, ◌&&◌, ◌==◌, nat_lt, cond, List, [], ◌∷◌, length, take, drop, codes, Option, None, Some}
-use Rattle.tokei_table.specs.Bytes.{is_blank, begins}
+use Rattle.tokei_syntax.specs.Bytes.{is_blank, begins}
 use Rattle.tokei_embedding.specs.Searches.{first_where, first_of, is_at}
 
 -- A fence is three backticks.

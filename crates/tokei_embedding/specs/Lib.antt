@@ -1,5 +1,4 @@
 pub mod BlockLaws
-pub mod Captures
 pub mod DocComments
 pub mod Fences
 pub mod Remembered

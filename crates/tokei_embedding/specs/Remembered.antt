@@ -1,6 +1,6 @@
 -- What searches remember of a text.
 use Rattle.std.specs.Prelude.{◌≡◌, ℕ, ◌+◌, ◌<◌, ◌≤◌, true, false, List, length, slice_index, Option, None, Some}
-use Rattle.tokei_table.specs.Bytes.{is_blank}
+use Rattle.tokei_syntax.specs.Bytes.{is_blank}
 use Rattle.memchr.specs.Find.{OccursAt}
 
 -- A text, and the token that is sought in it.

@@ -1,6 +1,6 @@
 -- Script, style and template elements of HTML.
 use Rattle.std.specs.Prelude.{ℕ, ◌+◌, ◌-◌, cond, List, length, take, drop, codes, Option, None, Some, option_map}
-use Rattle.tokei_table.specs.Bytes.{all_blank}
+use Rattle.tokei_syntax.specs.Bytes.{all_blank}
 use Rattle.tokei_embedding.specs.Searches.{first_of, last_of, is_at}
 use Rattle.tokei_embedding.specs.Spans.{Span, shifted, bytes_of}
 use Rattle.tokei_embedding.specs.declared.tags.Tag.{Tag}
@@ -61,6 +61,15 @@ opening_at tag part p =
     let n = p + length (token_of tag) in
     let inside = drop n part in
     opening_before (attribute_of tag) p n inside (last_of (codes ">") inside)
+
+-- The opening of the tag at the place where its token was found.
+abbrev pub opening_found : Tag → List ℕ → Option ℕ → Option Opening
+opening_found tag part None = None
+opening_found tag part (Some i) = opening_at tag part i
+
+-- The part's opening of the tag, at the first place of its token.
+abbrev pub first_opening : Tag → List ℕ → Option Opening
+first_opening tag part = opening_found tag part (first_of (token_of tag) part)
 
 -- An element: the value in its opening, its contents, and the length from the opening to before the closing tag.
 pub record TagBlock : Type 0 where

@@ -1,6 +1,6 @@
 -- Lingua Franca's blocks of the target language, and the target itself.
 use Rattle.std.specs.Prelude.{ℕ, suc, ◌+◌, Bool, true, false, ◌&&◌, ◌||◌, ◌==◌, nat_le, nat_lt, cond, List, [], ◌∷◌, length, take, drop, codes, Option, None, Some}
-use Rattle.tokei_table.specs.Bytes.{is_blank, trim_start, begins}
+use Rattle.tokei_syntax.specs.Bytes.{is_blank, trim_start, begins}
 use Rattle.tokei_embedding.specs.Searches.{first_of, is_at}
 
 -- A block: its contents, and the length from its opener to before its closer.

@@ -4,7 +4,7 @@ ghost use Rattle.tokei_embedding.specs.DocComments.{first_line, front_mark, mark
 
 use memchr::memchr;
 use std::alloc::{AllocError, Global};
-use tokei_table::ext::{is_whitespace, trim_start};
+use tokei_syntax::ext::{is_whitespace, trim_start};
 
 /// The text through its first newline.
 pub fn first_line(text: &[u8]) -> &[u8]

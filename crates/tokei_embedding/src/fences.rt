@@ -4,9 +4,9 @@ ghost use Rattle.tokei_embedding.specs.Fences.{solid_len, opens_fence, is_solid_
 ghost use Rattle.tokei_embedding.specs.Seen.{fence_seen};
 
 use crate::searches::{first_of, is_at};
-use tokei_table::ext::is_whitespace;
+use tokei_syntax::ext::is_whitespace;
 
-pub(crate) const FENCE: &[u8] = b"```";
+const FENCE: &[u8] = b"```";
 
 /// A block of code in fences.
 #[derive(Clone, Copy)]
@@ -58,16 +58,17 @@ fn is_solid_fence(text: &[u8]) -> bool
     solid_len(behind) == behind.len()
 }
 
-/// The length of the info in the fence opening at the front.
-pub(crate) fn info_len(opening: &[u8]) -> usize
+/// The length of the info in the fence opening at the front: how many bytes stand behind its backticks before the first
+/// blank.
+pub fn info_len(opening: &[u8]) -> usize
     requires { 3 ≤ length opening.now }
     ensures { result ≡ info_len opening.now }
 {
     solid_len(&opening[3..])
 }
 
-/// The part's first fence opening.
-pub(crate) fn first_fence(part: &[u8]) -> Option<usize>
+/// The place of the part's first fence opening: three backticks, bytes that aren't blank, and one blank.
+pub fn first_fence(part: &[u8]) -> Option<usize>
     ensures value { result ≡ first_fence part.now }
     ensures within { IfSome result (λ i. i + (info_len (drop i part.now) + 4) ≤ length part.now) }
 {
@@ -83,8 +84,8 @@ pub(crate) fn first_fence(part: &[u8]) -> Option<usize>
     None
 }
 
-/// How long a closing fence is, by the bytes behind its backticks.
-pub(crate) fn closing_len(behind: &[u8]) -> usize
+/// How many bytes a closing fence has, by those behind its backticks: a blank there belongs to it.
+pub fn closing_len(behind: &[u8]) -> usize
     ensures value { result ≡ closing_len behind.now }
     ensures within { result ≤ 3 + length behind.now }
 {

@@ -5,16 +5,13 @@
 
 mod blank_search;
 mod block_search;
-mod captures;
 mod doc_comments;
 mod fences;
 mod first_search;
-mod html_like;
 mod last_search;
 pub mod laws;
 mod next_openings;
 mod opening_search;
-mod openings;
 mod searches;
 mod spans;
 mod tag_search;
@@ -22,14 +19,11 @@ mod tags;
 mod target_blocks;
 
 pub use block_search::BlockSearch;
-pub use captures::{Capture, SimpleCapture};
 pub use doc_comments::{doc_at, doc_text, first_line};
-pub use fences::{FenceAt, fence_at};
-pub use html_like::HtmlLike;
+pub use fences::{FenceAt, closing_len, fence_at, first_fence, info_len};
 pub use next_openings::{next_doc, next_fence, next_target};
-pub use openings::{
-    end_lf, end_markdown, end_script, end_style, end_template, start_lf, start_markdown,
-    start_script, start_style, start_template,
-};
-pub use tags::{Tag, TagAt};
+pub use opening_search::first_opening;
+pub use searches::first_of;
+pub use spans::Span;
+pub use tags::{Opening, Tag, TagAt, closer_of};
 pub use target_blocks::{TargetAt, target_at};

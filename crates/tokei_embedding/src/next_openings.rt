@@ -9,7 +9,7 @@ use crate::doc_comments::front_mark;
 use crate::fences::first_fence;
 use crate::searches::first_of;
 use crate::target_blocks::OPENER;
-use tokei_table::ext::is_whitespace;
+use tokei_syntax::ext::is_whitespace;
 
 /// The place in the text of what was found in the part that begins at `start`, where it stands at `at` or behind it;
 /// else `to`.

@@ -2,10 +2,11 @@
 ghost use Rattle.std.specs.Prelude.{◌≡◌, ◌+◌, ◌-◌, ◌≤◌, ◌<◌, IfSome, length, take, drop, option_map};
 ghost use Rattle.tokei_embedding.specs.Seen.{span_seen, opening_seen};
 ghost use Rattle.tokei_embedding.specs.TagSearches.{TagSought, SeeksOpenings};
-ghost use Rattle.tokei_embedding.specs.Tags.{token_of, attribute_of, value_in, value_end, opening_past, opening_at};
+ghost use Rattle.tokei_embedding.specs.Tags.{token_of, attribute_of, value_in, value_end, opening_past, opening_at, first_opening};
 
 use crate::first_search::FirstSearch;
 use crate::last_search::LastSearch;
+use crate::searches::first_of;
 use crate::spans::{Span, shifted};
 use crate::tags::{Opening, Tag, attribute_of, token_of};
 use std::marker::Model;
@@ -121,4 +122,14 @@ impl<'a> OpeningSearch<'a> {
         let value = self.value_in(start, start + last);
         self.opening_past(at, inside, start, to, value)
     }
+}
+
+/// The opening of the tag at the first place of its token in the part.
+pub fn first_opening(tag: Tag, part: &[u8]) -> Option<Opening>
+    ensures value { option_map opening_seen result ≡ first_opening tag part.now }
+    ensures whole { IfSome result (λ o. (o.whole.start ≤ o.whole.stop) × (o.whole.stop ≤ length part.now)) }
+    ensures value_within { IfSome result (λ o. IfSome o.value (λ v. (v.start ≤ v.stop) × (v.stop ≤ length part.now))) }
+{
+    let at = first_of(part, token_of(tag))?;
+    OpeningSearch::new(tag, part).opening_at(0, at, part.len())
 }

@@ -5,7 +5,7 @@ ghost use Rattle.tokei_embedding.specs.Searches.{first_of, is_at};
 use memchr::memmem;
 
 /// The first place in the text at which the token stands.
-pub(crate) fn first_of(text: &[u8], token: &[u8]) -> Option<usize>
+pub fn first_of(text: &[u8], token: &[u8]) -> Option<usize>
     requires { 0 < length token.now }
     ensures value { result ≡ first_of token.now text.now }
     ensures within { IfSome result (λ i. i + length token.now ≤ length text.now) }

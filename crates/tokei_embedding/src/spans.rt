@@ -5,9 +5,9 @@ ghost use Rattle.tokei_embedding.specs.Seen.{span_seen};
 
 /// The bytes from `start` to before `stop`.
 #[derive(Clone, Copy)]
-pub(crate) struct Span {
-    pub(crate) start: usize,
-    pub(crate) stop: usize,
+pub struct Span {
+    pub start: usize,
+    pub stop: usize,
 }
 
 /// The span so many bytes further on.

@@ -26,11 +26,11 @@ pub struct TagAt<'a> {
     pub size: usize,
 }
 
-/// An opening tag: all of it, and the value in it.
+/// An opening tag: all of it, and the value in it. Places count from the front of the part.
 #[derive(Clone, Copy)]
-pub(crate) struct Opening {
-    pub(crate) whole: Span,
-    pub(crate) value: Option<Span>,
+pub struct Opening {
+    pub whole: Span,
+    pub value: Option<Span>,
 }
 
 /// What an opening tag begins with.
@@ -45,7 +45,7 @@ pub(crate) fn token_of(tag: Tag) -> &'static [u8]
 }
 
 /// The closing tag.
-pub(crate) fn closer_of(tag: Tag) -> &'static [u8]
+pub fn closer_of(tag: Tag) -> &'static [u8]
     ensures { result.now ≡ closer_of tag }
 {
     match tag {

@@ -4,11 +4,11 @@ ghost use Rattle.tokei_embedding.specs.TargetBlocks.{target_from, target_block, 
 ghost use Rattle.tokei_embedding.specs.Seen.{target_seen};
 
 use crate::searches::{first_of, is_at};
-use tokei_table::ext::{is_whitespace, trim_start};
+use tokei_syntax::ext::{is_whitespace, trim_start};
 
 pub(crate) const OPENER: &[u8] = b"{=";
 
-pub(crate) const CLOSER: &[u8] = b"=}";
+const CLOSER: &[u8] = b"=}";
 
 /// A block of the target language.
 #[derive(Clone, Copy)]

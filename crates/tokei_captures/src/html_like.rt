@@ -1,6 +1,6 @@
 //! The openings of the three tags in a part.
 ghost use Rattle.std.specs.Prelude.{◌≡◌, ◌≤◌, length, option_map};
-ghost use Rattle.tokei_embedding.specs.Captures.{TagOpenings, tag_openings, opens_in, captures_in};
+ghost use Rattle.tokei_captures.specs.Captures.{TagOpenings, tag_openings, opens_in, captures_in};
 
 use crate::captures::{Capture, lies_in};
 use crate::openings::{start_script, start_style, start_template};

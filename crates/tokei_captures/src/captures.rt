@@ -1,10 +1,10 @@
 //! Captures: bytes of a text, and where they stand in it.
 ghost use Rattle.std.specs.Prelude.{◌≡◌, ◌+◌, ◌≤◌, ◌<◌, ◌^◌, Option, length, option_map};
-ghost use Rattle.tokei_embedding.specs.Captures.{Captured, end_of, captured, lies_in, capture_in};
+ghost use Rattle.tokei_captures.specs.Captures.{Captured, end_of, captured, lies_in, capture_in};
 ghost use Rattle.tokei_embedding.specs.Seen.{span_seen};
 
-use crate::spans::Span;
 use std::marker::Model;
+use tokei_embedding::Span;
 
 /// Bytes of the caller's text, and where they stand in it.
 #[derive(Debug, Drop)]

@@ -1,26 +1,14 @@
 //! The openings and closings of a part, as captures.
 ghost use Rattle.std.specs.Prelude.{◌≡◌, ◌+◌, ◌≤◌, ◌<◌, ◌^◌, length, option_map, codes, IfSome};
-ghost use Rattle.tokei_embedding.specs.Captures.{captured, part_of, token_span, fence_opening, fence_closing, first_opening, start_tag};
-ghost use Rattle.tokei_embedding.specs.Seen.{span_seen, opening_seen};
-ghost use Rattle.tokei_embedding.specs.Tags.{closer_of};
+ghost use Rattle.tokei_captures.specs.Captures.{captured, part_of, token_span, fence_opening, fence_closing, start_tag};
 ghost use Rattle.tokei_embedding.specs.declared.tags.Tag.TheVariants.{Script, Style, Template};
 
 use crate::captures::{Capture, captured};
-use crate::fences::{FENCE, closing_len, first_fence, info_len};
-use crate::opening_search::OpeningSearch;
-use crate::searches::first_of;
-use crate::spans::Span;
-use crate::tags::{Opening, Tag, closer_of, token_of};
-use crate::target_blocks::{CLOSER, OPENER};
+use tokei_embedding::{
+    Span, Tag, closer_of, closing_len, first_fence, first_of, first_opening, info_len,
+};
 
-fn first_opening(tag: Tag, part: &[u8]) -> Option<Opening>
-    ensures value { option_map opening_seen result ≡ first_opening tag part.now }
-    ensures whole { IfSome result (λ o. (o.whole.start ≤ o.whole.stop) × (o.whole.stop ≤ length part.now)) }
-    ensures value_within { IfSome result (λ o. IfSome o.value (λ v. (v.start ≤ v.stop) × (v.stop ≤ length part.now))) }
-{
-    let at = first_of(part, token_of(tag))?;
-    OpeningSearch::new(tag, part).opening_at(0, at, part.len())
-}
+const FENCE: &[u8] = b"```";
 
 fn start_tag<'a>(
     tag: Tag,
@@ -153,7 +141,7 @@ pub fn start_lf(text: &[u8], from: usize, to: usize) -> Option<Capture<'_>>
     requires ends { to ≤ length text.now }
     ensures { result ≡ option_map (captured text.now from) (token_span (codes "{=") (part_of text.now from to)) }
 {
-    first_token(text, from, to, OPENER)
+    first_token(text, from, to, b"{=")
 }
 
 /// The first `=}` of the part `text[from..to]`.
@@ -162,5 +150,5 @@ pub fn end_lf(text: &[u8], from: usize, to: usize) -> Option<Capture<'_>>
     requires ends { to ≤ length text.now }
     ensures { result ≡ option_map (captured text.now from) (token_span (codes "=}") (part_of text.now from to)) }
 {
-    first_token(text, from, to, CLOSER)
+    first_token(text, from, to, b"=}")
 }

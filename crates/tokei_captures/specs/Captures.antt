@@ -3,7 +3,7 @@ use Rattle.std.specs.Prelude.{ℕ, ◌+◌, ◌-◌, Bool, false, ◌&&◌, ◌=
 use Rattle.tokei_embedding.specs.Fences.{fence, first_fence, info_len, closing_len}
 use Rattle.tokei_embedding.specs.Searches.{first_of}
 use Rattle.tokei_embedding.specs.Spans.{Span, shifted, bytes_of}
-use Rattle.tokei_embedding.specs.Tags.{Opening, token_of, opening_at}
+use Rattle.tokei_embedding.specs.Tags.{Opening, first_opening}
 use Rattle.tokei_embedding.specs.declared.tags.Tag.{Tag}
 use Rattle.tokei_embedding.specs.declared.tags.Tag.TheVariants.{Script, Style, Template}
 
@@ -35,15 +35,6 @@ fence_opening part = option_map (λ i. record { start = i; stop = i + (info_len 
 -- The part's first closing fence, with one blank behind it where one stands there.
 abbrev pub fence_closing : List ℕ → Option Span
 fence_closing part = option_map (λ i. record { start = i; stop = i + closing_len (drop (i + 3) part) }) (first_of fence part)
-
--- The opening of the tag at the place where its token was found.
-abbrev pub opening_found : Tag → List ℕ → Option ℕ → Option Opening
-opening_found tag part None = None
-opening_found tag part (Some i) = opening_at tag part i
-
--- The part's opening of the tag, at the first place of its token.
-abbrev pub first_opening : Tag → List ℕ → Option Opening
-first_opening tag part = opening_found tag part (first_of (token_of tag) part)
 
 -- The capture of a whole opening, and that of the value in it.
 abbrev pub opening_captured : List ℕ → ℕ → Opening → List (Option Captured)
