@@ -1,4 +1,4 @@
-// 12 lines 6 code 5 comments 1 blanks
+// 14 lines 8 code 5 comments 1 blanks
 /* a block /* in a block */
    and its end */
 
@@ -7,6 +7,8 @@ fn twice(x: u8) -> u8
     requires { x ≤ 100 }
     ensures { result ≡ 2 * x }
 {
-    // "none
+    let mark = "// none"; // a text
+    // a comment
+    let _ = mark;
     2 * x
 }
