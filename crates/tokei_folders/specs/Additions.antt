@@ -1,4 +1,4 @@
--- What a told tree is after a place is added to it, or is none where the place can't be added.
+-- What a known tree is after a place is added to it, or is none where the place can't be added.
 use Rattle.std.specs.Prelude.{ℕ, List, [], ◌∷◌, ◌++◌, Bool, true, false, ◌||◌, if◌then◌else◌, Option, Some, None, is_some, map}
 use Rattle.std.specs.Ordering.{match_ordering}
 use Rattle.std.specs.List.{list_any}
@@ -44,4 +44,6 @@ with_folder t p = if is_below_file t p || is_file (node_at t p) then None else S
 
 -- a file is added, with the folders above it that are missing, unless something stands there or a file above
 unfoldable pub with_file : Tree → Names → List ℕ → Option Tree
-with_file t p content = if is_below_file t p || is_some (node_at t p) then None else Some (with_all t (folders_to p ++ new_file p content ∷ []))
+with_file t p content =
+    if is_below_file t p || is_some (node_at t p) then None
+    else Some (with_all t (folders_to p ++ new_file p content ∷ []))

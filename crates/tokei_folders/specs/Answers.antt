@@ -1,4 +1,4 @@
--- What the calls on a told tree answer.
+-- What the calls on a known tree answer.
 use Rattle.std.specs.Prelude.{◌≡◌, ◌≢◌, ℕ, ◌+◌, List, [], ◌∷◌, Bool, true, false, Option, Some, None, Result, Ok, Err, take, map, reverse, if◌then◌else◌, cond, MatchResult, IfOk, ◌≤◌}
 use Rattle.std.specs.Global.{Vec}
 use Rattle.tokei_folders.specs.declared.fs.Kind.{Kind}
@@ -71,15 +71,17 @@ list_answer t p = if can_list (node_at t p) then Ok (entries_in p t) else Err Re
 abbrev pub above_view : Above → Names × List ℕ
 above_view a = (names_of a.place, a.name)
 
--- in a told tree these are the folders above a place
+-- in a known tree these are the folders above a place
 abbrev pub AboveTells : Option Tree → Names → Result (Vec Above) Fault → Type 0
-AboveTells o p r = (t : Tree) → o ≡ Some t → r ≢ Err Memory → MatchResult r (λ found. map above_view (reverse found.items) ≡ folders_above [] p) (λ e. ⊥)
+AboveTells o p r =
+    (t : Tree) → o ≡ Some t → r ≢ Err Memory
+    → MatchResult r (λ found. map above_view (reverse found.items) ≡ folders_above [] p) (λ e. ⊥)
 
--- a fact of the told tree, where one is told
+-- a fact of the known tree, where folders tell one
 abbrev pub Told : Option Tree → (Tree → Type 0) → Type 0
 Told o P = (t : Tree) → o ≡ Some t → P t
 
--- where a tree is told, an answer other than want of memory is the tree's own
+-- where a tree is told, an answer, unless it is out of memory, is the tree's own
 abbrev pub Tells : {A : Type 0} → Option Tree → (Tree → Result A Fault) → Result A Fault → Type 0
 Tells o f r = Told o (λ t. r ≢ Err Memory → r ≡ f t)
 
@@ -88,7 +90,7 @@ abbrev pub bytes_of : Result (Vec ℕ) Fault → Result (List ℕ) Fault
 bytes_of (Ok v) = Ok v.items
 bytes_of (Err e) = Err e
 
--- where a tree is told, the bytes other than want of memory are the tree's own
+-- where a tree is told, the bytes, unless the answer is out of memory, are the tree's own
 abbrev pub BytesTell : Option Tree → (Tree → Result (List ℕ) Fault) → Result (Vec ℕ) Fault → Type 0
 BytesTell o f r = Told o (λ t. r ≢ Err Memory → bytes_of r ≡ f t)
 
@@ -100,7 +102,7 @@ entries_of (Err e) = Err e
 abbrev pub ListTells : Option Tree → Names → Result Listing Fault → Type 0
 ListTells o p r = Told o (λ t. r ≢ Err Memory → entries_of r ≡ list_answer t p)
 
--- in a told tree each name is UTF-8
+-- in a known tree each name is UTF-8
 abbrev pub NamesTell : Option Tree → Result Listing Fault → Type 0
 NamesTell o r = Told o (λ t. IfOk r (λ l. l.unnamed ≡ 0))
 
@@ -108,7 +110,7 @@ NamesTell o r = Told o (λ t. IfOk r (λ l. l.unnamed ≡ 0))
 abbrev pub StaysFull : ℕ → ℕ → Type 0
 StaysFull old new = 18446744073709551615 ≤ old → 18446744073709551615 ≤ new
 
--- how many faults for want of memory there were
+-- how many answers were out of memory
 abbrev pub counted : {A : Type 0} → Result A Fault → ℕ → ℕ
 counted (Ok a) n = n
 counted (Err Refused) n = n

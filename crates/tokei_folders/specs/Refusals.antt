@@ -1,4 +1,4 @@
--- What a told tree is after a place is to refuse calls, or is none where nothing stands there.
+-- What a known tree is after a place is to refuse calls, or is none where nothing stands there.
 use Rattle.std.specs.Prelude.{[], ◌∷◌, true, if◌then◌else◌, Option, Some, None, is_some}
 use Rattle.std.specs.Ordering.{is_eq}
 use Rattle.tokei_folders.specs.declared.nodes.Call.{Call}

@@ -1,4 +1,4 @@
--- A told folder tree: its places in order, and what stands at each.
+-- A known folder tree: its places in order, and what stands at each.
 use Rattle.std.specs.Prelude.{◌≡◌, ℕ, ◌==◌, List, [], ◌∷◌, ◌++◌, Bool, true, false, not, ◌&&◌, if◌then◌else◌, Option, Some, None, filter, ⊤}
 use Rattle.std.specs.Ordering.{nat_cmp, is_lt, is_eq}
 use Rattle.std.specs.declared.cmp.Ordering.{Ordering}
@@ -54,7 +54,7 @@ has_names e = list_all is_whole_name e.names
 unfoldable pub is_sound : Tree → Bool
 is_sound t = is_in_order t && list_all has_names t
 
--- a told tree is sound
+-- a known tree is sound
 abbrev pub IsSound : Option Tree → Type 0
 IsSound None = ⊤
 IsSound (Some t) = is_sound t ≡ true

@@ -4,7 +4,7 @@ ghost use Rattle.tokei_folders.specs.Failing.{calls_left, inside};
 
 use crate::fs::{Above, Fault, Folders, Kind, Listing};
 
-/// Folders whose calls all fail for want of memory once a number of calls has passed. They tell
+/// Folders whose calls all fail out of memory once a number of calls has passed. They tell
 /// the tree of the folders inside.
 #[derive(Drop)]
 pub struct FailingFolders<F> {

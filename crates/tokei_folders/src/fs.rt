@@ -123,6 +123,6 @@ pub trait Folders {
             → memory_faults self.new ≡ counted result (memory_faults self.old) }
         ensures full { StaysFull (memory_faults self.old) (memory_faults self.new) };
 
-    /// A told tree has each place once, in order.
+    /// A known tree has each place once, in order.
     ghost sound: { (s : Self) → IsSound (tree s) };
 }

@@ -143,7 +143,7 @@ impl MemoryFolders {
         Ok(())
     }
 
-    /// Counts an answer that is want of memory.
+    /// Counts an answer that is out of memory.
     fn counted<T>(&mut self, answer: Result<T, Fault>) -> Result<T, Fault>
         ensures same { result ≡ answer }
         ensures tree { tree_of self.new ≡ tree_of self.old }

@@ -2,7 +2,7 @@
 use crate::lists::Items;
 use crate::texts::Text;
 
-/// What stands at a place of a told tree, and which of its calls are refused.
+/// What stands at a place of a known tree, and which of its calls are refused.
 #[derive(Drop)]
 pub enum Node {
     File {
@@ -15,7 +15,7 @@ pub enum Node {
     },
 }
 
-/// A place of a told tree.
+/// A place of a known tree.
 #[derive(Drop)]
 pub struct PlacedNode {
     /// The names from the top down to it.

@@ -1,4 +1,4 @@
-//! A tree that is told, and what can be added to it.
+//! A known tree, and what can be added to it.
 ghost use Rattle.std.specs.Prelude.{◌≡◌, ◌≢◌, ◌≤◌, ◌+◌, ◌||◌, true, not, is_some, ◌<◌, ◌++◌, [], ◌∷◌, insert, length, vec_len, vec_capacity, option_map, OnOk, OnErr, IfOk, IsOk, MatchOption};
 ghost use Rattle.std.specs.List.{list_all};
 ghost use Rattle.tokei_folders.specs.declared.nodes.Node.{Node};
@@ -17,7 +17,7 @@ use std::alloc::{AllocError, Global};
 use std::cmp::Ordering;
 use std::marker::Model;
 
-/// A told tree, which contracts see as its places in order. Its top is always there.
+/// A known tree, which contracts see as its places in order. Its top is always there.
 #[derive(Drop)]
 pub struct ToldTree {
     top: Node,

@@ -25,4 +25,6 @@ is_empty (x ∷ xs) = false
 -- the signs take all the items in their order: a sign that spans any number of them, another one that it fits
 abbrev pub fits : {P X : Type 0} → (P → Bool) → (P → X → Bool) → List P → List X → Bool
 fits spans fits_one [] xs = is_empty xs
-fits spans fits_one (p ∷ ps) xs = cond (spans p) (at_some_end (fits spans fits_one ps) xs) (first_and_rest (fits_one p) (fits spans fits_one ps) xs)
+fits spans fits_one (p ∷ ps) xs =
+    cond (spans p) (at_some_end (fits spans fits_one ps) xs)
+    (first_and_rest (fits_one p) (fits spans fits_one ps) xs)

@@ -68,4 +68,5 @@ verdict_of p = if p.negated then Keep else Ignore
 -- the last pattern that fits decides; none does where none fits
 unfoldable pub last_fitting : List Pattern → List (List ℕ) → Bool → Option Verdict
 last_fitting [] names folder = None
-last_fitting (p ∷ ps) names folder = or_else (last_fitting ps names folder) (if fits_entry p names folder then Some (verdict_of p) else None)
+last_fitting (p ∷ ps) names folder =
+    or_else (last_fitting ps names folder) (if fits_entry p names folder then Some (verdict_of p) else None)

@@ -46,7 +46,9 @@ unanchored anchored cs = if anchored || list_any is_slash cs then [] else AnyNam
 
 unfoldable pub from_rest : Bool → Bool → Bool → List ℕ → Result (Option Pattern) PatternError
 from_rest negated folders_only anchored cs =
-    if is_empty cs then Ok None else and_then (segments_from (unanchored anchored cs) (slice_split is_slash cs)) (λ ss. Ok (Some (record { negated = negated; folders_only = folders_only; segments = closed ss })))
+    if is_empty cs then Ok None
+    else and_then (segments_from (unanchored anchored cs) (slice_split is_slash cs))
+    (λ ss. Ok (Some (record { negated = negated; folders_only = folders_only; segments = closed ss })))
 
 -- one slash at the front anchors and is taken away
 unfoldable pub from_front : Bool → Bool → List ℕ → Result (Option Pattern) PatternError
@@ -58,7 +60,9 @@ from_end negated cs = from_front negated (ends_in 47 cs) (if ends_in 47 cs then 
 
 -- an empty line, or one that begins with `#`, is none; a `!` at the front negates and is taken away
 unfoldable pub from_line : List ℕ → Result (Option Pattern) PatternError
-from_line cs = if is_empty cs || begins_with 35 cs then Ok None else from_end (begins_with 33 cs) (if begins_with 33 cs then without_first cs else cs)
+from_line cs =
+    if is_empty cs || begins_with 35 cs then Ok None
+    else from_end (begins_with 33 cs) (if begins_with 33 cs then without_first cs else cs)
 
 -- the pattern of a line of an ignore file, by its characters
 abbrev pub line_pattern : List ℕ → Result (Option Pattern) PatternError

@@ -27,7 +27,12 @@ names_class quoted c colon = not quoted && (c == 91) && colon
 
 -- a character outside a class; one behind a backslash is itself
 abbrev pub outside : Reading → Bool → ℕ → Reading
-outside r quoted c = if quoted then after_piece r (Exactly c) else (if c == 42 then after_piece r AnyRun else (if c == 63 then after_piece r AnyOne else (if c == 91 then record r { place = Opened } else after_piece r (Exactly c))))
+outside r quoted c =
+    if quoted then after_piece r (Exactly c)
+    else (if c == 42 then after_piece r AnyRun
+    else (if c == 63 then after_piece r AnyOne
+    else (if c == 91 then record r { place = Opened }
+    else after_piece r (Exactly c))))
 
 -- a member of a class is read, but for `[:`
 abbrev pub member : Reading → Bool → Bool → ℕ → Bool → Result Reading PatternError
@@ -39,15 +44,22 @@ inside r turned quoted c colon = if not quoted && (c == 93) then Ok (after_class
 
 -- a mark that turns a class round, or its first member
 abbrev pub opened : Reading → Bool → ℕ → Bool → Result Reading PatternError
-opened r quoted c colon = if not quoted && ((c == 33) || (c == 94)) then Ok (record r { place = First true }) else member r false quoted c colon
+opened r quoted c colon =
+    if not quoted && ((c == 33) || (c == 94)) then Ok (record r { place = First true })
+    else member r false quoted c colon
 
 -- a `-` behind a member, or what follows a member that stands for itself
 abbrev pub behind : Reading → Bool → ℕ → Bool → ℕ → Bool → Result Reading PatternError
-behind r turned low quoted c colon = if not quoted && (c == 45) then Ok (record r { place = Dash turned low }) else inside (with_range r low low) turned quoted c colon
+behind r turned low quoted c colon =
+    if not quoted && (c == 45) then Ok (record r { place = Dash turned low })
+    else inside (with_range r low low) turned quoted c colon
 
 -- the range's high end, not below its low one; before the class's end the `-` is a member
 abbrev pub dash : Reading → Bool → ℕ → Bool → ℕ → Bool → Result Reading PatternError
-dash r turned low quoted c colon = if not quoted && (c == 93) then Ok (after_class (with_range (with_range r low low) 45 45) turned) else (if names_class quoted c colon || nat_lt c low then Err Bad else Ok (record (with_range r low c) { place = Inside turned }))
+dash r turned low quoted c colon =
+    if not quoted && (c == 93) then Ok (after_class (with_range (with_range r low low) 45 45) turned)
+    else (if names_class quoted c colon || nat_lt c low then Err Bad
+    else Ok (record (with_range r low c) { place = Inside turned }))
 
 -- a character, at the place where it stands
 abbrev pub at_place : Reading → Place → Bool → ℕ → Bool → Result Reading PatternError
@@ -60,7 +72,9 @@ at_place r (Dash turned low) quoted c colon = dash r turned low quoted c colon
 
 -- one character more, `colon` saying whether a colon follows; a backslash quotes the next one
 unfoldable pub taken : Reading → ℕ → Bool → Result Reading PatternError
-taken r c colon = if not r.quoted && (c == 92) then Ok (record r { quoted = true }) else at_place (record r { quoted = false }) r.place r.quoted c colon
+taken r c colon =
+    if not r.quoted && (c == 92) then Ok (record r { quoted = true })
+    else at_place (record r { quoted = false }) r.place r.quoted c colon
 
 abbrev pub and_then : {A B : Type 0} → Result A PatternError → (A → Result B PatternError) → Result B PatternError
 and_then (Ok a) f = f a

@@ -18,4 +18,6 @@ is_escaped odd (c ∷ cs) = is_escaped (c == 92 && not odd) cs
 
 -- without its spaces at the end, but for one that a backslash quotes
 unfoldable pub trimmed : List ℕ → List ℕ
-trimmed cs = if nat_lt (length (without_spaces cs)) (length cs) && is_escaped false (without_spaces cs) then without_spaces cs ++ 32 ∷ [] else without_spaces cs
+trimmed cs =
+    if nat_lt (length (without_spaces cs)) (length cs) && is_escaped false (without_spaces cs) then without_spaces cs ++ 32 ∷ []
+    else without_spaces cs

@@ -37,6 +37,16 @@ pub struct Reading {
     pub quoted: bool,
 }
 
+/// The character that is read.
+#[derive(Clone, Copy)]
+struct Sign {
+    c: char,
+    /// Whether a backslash quotes it.
+    quoted: bool,
+    /// Whether a colon follows it.
+    colon: bool,
+}
+
 /// One more piece, outside a class.
 fn with_piece(mut reading: Reading, piece: Piece) -> Result<Reading, PatternError>
     ensures { result ≢ Err MemoryError → result ≡ Ok (after_piece reading piece) }
@@ -63,10 +73,10 @@ fn with_range(mut reading: Reading, low: char, high: char) -> Result<Reading, Pa
 }
 
 /// Whether a `[` and a colon begin a named class, which no pattern has.
-fn names_class(quoted: bool, c: char, colon: bool) -> bool
-    ensures { result ≡ names_a_class quoted c colon }
+fn names_class(sign: Sign) -> bool
+    ensures { result ≡ names_a_class sign.quoted sign.c sign.colon }
 {
-    !quoted && c == '[' && colon
+    !sign.quoted && sign.c == '[' && sign.colon
 }
 
 fn outside(mut reading: Reading, quoted: bool, c: char) -> Result<Reading, PatternError>
@@ -86,85 +96,69 @@ fn outside(mut reading: Reading, quoted: bool, c: char) -> Result<Reading, Patte
     }
 }
 
-fn member(
-    mut reading: Reading,
-    turned: bool,
-    quoted: bool,
-    c: char,
-    colon: bool,
-) -> Result<Reading, PatternError>
-    ensures { result ≡ read_member reading turned quoted c colon }
+fn member(mut reading: Reading, turned: bool, sign: Sign) -> Result<Reading, PatternError>
+    ensures { result ≡ read_member reading turned sign.quoted sign.c sign.colon }
 {
-    if names_class(quoted, c, colon) {
+    if names_class(sign) {
         return Err(PatternError::Bad);
     }
-    reading.place = Place::Behind { turned, low: c };
+    reading.place = Place::Behind {
+        turned,
+        low: sign.c,
+    };
     Ok(reading)
 }
 
-fn inside(
-    reading: Reading,
-    turned: bool,
-    quoted: bool,
-    c: char,
-    colon: bool,
-) -> Result<Reading, PatternError>
-    ensures { result ≢ Err MemoryError → result ≡ read_inside reading turned quoted c colon }
+fn inside(reading: Reading, turned: bool, sign: Sign) -> Result<Reading, PatternError>
+    ensures { result ≢ Err MemoryError
+        → result ≡ read_inside reading turned sign.quoted sign.c sign.colon }
 {
-    if !quoted && c == ']' {
+    if !sign.quoted && sign.c == ']' {
         return closed(reading, turned);
     }
-    member(reading, turned, quoted, c, colon)
+    member(reading, turned, sign)
 }
 
-fn opened(mut reading: Reading, quoted: bool, c: char, colon: bool) -> Result<Reading, PatternError>
-    ensures { result ≡ read_opened reading quoted c colon }
+fn opened(mut reading: Reading, sign: Sign) -> Result<Reading, PatternError>
+    ensures { result ≡ read_opened reading sign.quoted sign.c sign.colon }
 {
-    if !quoted && (c == '!' || c == '^') {
+    if !sign.quoted && (sign.c == '!' || sign.c == '^') {
         reading.place = Place::First { turned: true };
         return Ok(reading);
     }
-    member(reading, false, quoted, c, colon)
+    member(reading, false, sign)
 }
 
 fn behind(
     mut reading: Reading,
     turned: bool,
     low: char,
-    quoted: bool,
-    c: char,
-    colon: bool,
+    sign: Sign,
 ) -> Result<Reading, PatternError>
     ensures { result ≢ Err MemoryError
-        → result ≡ read_behind reading turned low quoted c colon }
+        → result ≡ read_behind reading turned low sign.quoted sign.c sign.colon }
 {
-    if !quoted && c == '-' {
+    if !sign.quoted && sign.c == '-' {
         reading.place = Place::Dash { turned, low };
         return Ok(reading);
     }
     let reading = with_range(reading, low, low)?;
-    inside(reading, turned, quoted, c, colon)
+    inside(reading, turned, sign)
 }
 
-fn dash(
-    reading: Reading,
-    turned: bool,
-    low: char,
-    quoted: bool,
-    c: char,
-    colon: bool,
-) -> Result<Reading, PatternError>
-    ensures { result ≢ Err MemoryError → result ≡ read_dash reading turned low quoted c colon }
+fn dash(reading: Reading, turned: bool, low: char, sign: Sign) -> Result<Reading, PatternError>
+    ensures { result ≢ Err MemoryError
+        → result ≡ read_dash reading turned low sign.quoted sign.c sign.colon }
 {
-    if !quoted && c == ']' {
+    if !sign.quoted && sign.c == ']' {
         let reading = with_range(reading, low, low)?;
         let reading = with_range(reading, '-', '-')?;
         return closed(reading, turned);
     }
-    if names_class(quoted, c, colon) || c < low {
+    if names_class(sign) || sign.c < low {
         return Err(PatternError::Bad);
     }
-    let mut reading = with_range(reading, low, c)?;
+    let mut reading = with_range(reading, low, sign.c)?;
     reading.place = Place::Inside { turned };
     Ok(reading)
 }
@@ -180,13 +174,14 @@ fn taken(mut reading: Reading, c: char, colon: bool) -> Result<Reading, PatternE
     }
     let quoted = reading.quoted;
     reading.quoted = false;
+    let sign = Sign { c, quoted, colon };
     match reading.place {
         Place::Outside => outside(reading, quoted, c),
-        Place::Opened => opened(reading, quoted, c, colon),
-        Place::First { turned } => member(reading, turned, quoted, c, colon),
-        Place::Inside { turned } => inside(reading, turned, quoted, c, colon),
-        Place::Behind { turned, low } => behind(reading, turned, low, quoted, c, colon),
-        Place::Dash { turned, low } => dash(reading, turned, low, quoted, c, colon),
+        Place::Opened => opened(reading, sign),
+        Place::First { turned } => member(reading, turned, sign),
+        Place::Inside { turned } => inside(reading, turned, sign),
+        Place::Behind { turned, low } => behind(reading, turned, low, sign),
+        Place::Dash { turned, low } => dash(reading, turned, low, sign),
     }
 }
 

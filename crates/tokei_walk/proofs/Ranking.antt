@@ -4,7 +4,7 @@ use Rattle.std.proofs.Math.Nat.{mul-lt-mul_of_pos_right, mul-le-mul_right}
 use Rattle.std.proofs.lemmas.List.{reverse-append, length-reverse, length-append}
 use Rattle.tokei_walk.specs.declared.levels.Context.{Context}
 use Rattle.tokei_walk.specs.declared.stack.Frame.{Frame}
-use Rattle.tokei_walk.specs.declared.stack.Item.{Item}
+use Rattle.tokei_folders.specs.declared.fs.Entry.{Entry}
 use Rattle.tokei_walk.specs.declared.stack.Step.{Step}
 use Rattle.tokei_walk.specs.declared.stack.Step.TheVariants.{Found, Passed, Ended}
 use Rattle.std.specs.declared.alloc.AllocError.{AllocError}
@@ -33,12 +33,12 @@ stays_rank s v stays fewer =
     omega arith
 
 -- an entry that is taken takes its weight
-pub popped : (s u : Stack) (item : Item) → Pops s u (Some item) → stack_rank s ≡ stack_rank u + weight (256 - length s.holders)
+pub popped : (s u : Stack) (entry : Entry) → Pops s u (Some entry) → stack_rank s ≡ stack_rank u + weight (256 - length s.holders)
 unfolding stack_rank
-popped s u item h =
+popped s u entry h =
     let w = weight (256 - length s.holders) in
     let one : length s.left ≡ suc (length u.left) = sym (length-reverse s.left) ∙ ap length h.0 ∙ ap suc (length-reverse u.left) in
-    let same = ap (λ (v : Stack). length u.left * weight (256 - length v.holders) + frames_rank (reverse v.holders)) h.2 in
+    let same = ap (λ (v : Stack). length u.left * weight (256 - length v.holders) + frames_rank (reverse v.holders)) h.1 in
     let product : length s.left * w ≡ length u.left * w + w = ap (λ n. n * w) one ∙ omega arith in
     omega arith
 
@@ -79,15 +79,15 @@ root_rank s below few =
     omega arith
 
 -- a file that is met takes its weight
-pub file_falls : (s u v : Stack) (item : Item) (q : Result Step AllocError) → Pops s u (Some item) → OnOk q (v ≡ u) → IfOk q (λ st. FoundFalls s v st)
-file_falls s u v item (Ok (Found k)) h same =
-    let p = popped s u item h in
+pub file_falls : (s u v : Stack) (entry : Entry) (q : Result Step AllocError) → Pops s u (Some entry) → OnOk q (v ≡ u) → IfOk q (λ st. FoundFalls s v st)
+file_falls s u v entry (Ok (Found k)) h same =
+    let p = popped s u entry h in
     let w = weight-pos (256 - length s.holders) in
     let e = ap stack_rank same in
     omega arith
-file_falls s u v item (Ok Passed) h same = tt
-file_falls s u v item (Ok Ended) h same = tt
-file_falls s u v item (Err x) h same = tt
+file_falls s u v entry (Ok Passed) h same = tt
+file_falls s u v entry (Ok Ended) h same = tt
+file_falls s u v entry (Err x) h same = tt
 
 -- a stack that stays, or one whose root is passed over
 pub below_root : (s : Stack) → stack_rank s < stack_rank s + weight 257

@@ -12,7 +12,6 @@ use Rattle.tokei_walk.specs.declared.levels.Level.{Level}
 use Rattle.tokei_walk.specs.declared.levels.Rules.{Rules}
 use Rattle.tokei_ignore.specs.declared.patterns.Pattern.{Pattern}
 use Rattle.tokei_walk.specs.declared.stack.Frame.{Frame}
-use Rattle.tokei_walk.specs.declared.stack.Item.{Item}
 use Rattle.tokei_walk.specs.declared.stack.Stack.{Stack}
 use Rattle.tokei_walk.specs.declared.stack.Step.{Step}
 use Rattle.tokei_folders.specs.Answers.{list_answer}
@@ -49,49 +48,47 @@ top_ends xs r t s e = ap (of_entries xs r (descend xs r t (256 - length s.holder
 abbrev entry_of : List Pattern → Rules → Tree → Stack → Entry → List KeptFile
 entry_of xs r t s e = of_entry xs r (descend xs r t (256 - length s.holders)) s.context s.place e
 
-top_step : (xs : List Pattern) (r : Rules) (t : Tree) (s u : Stack) (item : Item) → Pops s u (Some item) → of_top xs r t s ≡ entry_of xs r t u item.entry ++ of_top xs r t u
+top_step : (xs : List Pattern) (r : Rules) (t : Tree) (s u : Stack) (entry : Entry) → Pops s u (Some entry) → of_top xs r t s ≡ entry_of xs r t u entry ++ of_top xs r t u
 unfolding of_entries
-top_step xs r t s u item h =
-    ap (of_entries xs r (descend xs r t (256 - length s.holders)) s.context s.place) h.0 ∙ ap (λ (v : Stack). entry_of xs r t v item.entry ++ of_top xs r t v) (sym h.2)
+top_step xs r t s u entry h =
+    ap (of_entries xs r (descend xs r t (256 - length s.holders)) s.context s.place) h.0 ∙ ap (λ (v : Stack). entry_of xs r t v entry ++ of_top xs r t v) (sym h.1)
 
-entry_is : (xs : List Pattern) (r : Rules) (t : Tree) (s u : Stack) (item : Item) (k : Kind) → Pops s u (Some item) → item.entry.kind ≡ k
-    → entry_of xs r t u item.entry ≡ of_kind k (drops xs r u.context item.entry.name (is_folder k)) item.place (descend xs r t (256 - length u.holders) (under u.context item.entry.name) item.place)
+entry_is : (xs : List Pattern) (r : Rules) (t : Tree) (u : Stack) (entry : Entry) (k : Kind) → entry.kind ≡ k
+    → entry_of xs r t u entry ≡ of_kind k (drops xs r u.context entry.name (is_folder k)) (joined u.place entry.name) (descend xs r t (256 - length u.holders) (under u.context entry.name) (joined u.place entry.name))
 unfolding of_entry
-entry_is xs r t s u item k h e =
-    let at : joined u.place item.entry.name ≡ item.place = ap (λ (v : Stack). joined v.place item.entry.name) h.2 ∙ sym h.1 in
-    ap (λ (j : Kind). of_kind j (drops xs r u.context item.entry.name (is_folder j)) (joined u.place item.entry.name) (descend xs r t (256 - length u.holders) (under u.context item.entry.name) (joined u.place item.entry.name))) e
-    ∙ ap (λ (p : List ℕ). of_kind k (drops xs r u.context item.entry.name (is_folder k)) p (descend xs r t (256 - length u.holders) (under u.context item.entry.name) p)) at
+entry_is xs r t u entry k e =
+    ap (λ (j : Kind). of_kind j (drops xs r u.context entry.name (is_folder j)) (joined u.place entry.name) (descend xs r t (256 - length u.holders) (under u.context entry.name) (joined u.place entry.name))) e
 
-pub tells_other : (xs : List Pattern) (r : Rules) (t : Tree) (s u : Stack) (item : Item) → Pops s u (Some item) → item.entry.kind ≡ Other → of_top xs r t s ≡ of_top xs r t u
-tells_other xs r t s u item h e = top_step xs r t s u item h ∙ ap (λ (q : List KeptFile). q ++ of_top xs r t u) (entry_is xs r t s u item Other h e)
+pub tells_other : (xs : List Pattern) (r : Rules) (t : Tree) (s u : Stack) (entry : Entry) → Pops s u (Some entry) → entry.kind ≡ Other → of_top xs r t s ≡ of_top xs r t u
+tells_other xs r t s u entry h e = top_step xs r t s u entry h ∙ ap (λ (q : List KeptFile). q ++ of_top xs r t u) (entry_is xs r t u entry Other e)
 
 -- the folders that hold the walked one give the same
-same_frames : (xs : List Pattern) (r : Rules) (t : Tree) (s u : Stack) (item : Item) → Pops s u (Some item) → of_frames xs r t (outer s.context) (reverse s.holders) ≡ of_frames xs r t (outer u.context) (reverse u.holders)
-same_frames xs r t s u item h = ap (λ (v : Stack). of_frames xs r t (outer v.context) (reverse v.holders)) (sym h.2)
+same_frames : (xs : List Pattern) (r : Rules) (t : Tree) (s u : Stack) (entry : Entry) → Pops s u (Some entry) → of_frames xs r t (outer s.context) (reverse s.holders) ≡ of_frames xs r t (outer u.context) (reverse u.holders)
+same_frames xs r t s u entry h = ap (λ (v : Stack). of_frames xs r t (outer v.context) (reverse v.holders)) (sym h.1)
 
-stack_step : (xs : List Pattern) (r : Rules) (t : Tree) (s u : Stack) (item : Item) → Pops s u (Some item) → of_stack xs r t s ≡ entry_of xs r t u item.entry ++ of_stack xs r t u
-stack_step xs r t s u item h =
-    ap₂ (λ (a b : List KeptFile). a ++ b) (top_step xs r t s u item h) (same_frames xs r t s u item h) ∙ append_assoc (entry_of xs r t u item.entry) (of_top xs r t u) (of_frames xs r t (outer u.context) (reverse u.holders))
+stack_step : (xs : List Pattern) (r : Rules) (t : Tree) (s u : Stack) (entry : Entry) → Pops s u (Some entry) → of_stack xs r t s ≡ entry_of xs r t u entry ++ of_stack xs r t u
+stack_step xs r t s u entry h =
+    ap₂ (λ (a b : List KeptFile). a ++ b) (top_step xs r t s u entry h) (same_frames xs r t s u entry h) ∙ append_assoc (entry_of xs r t u entry) (of_top xs r t u) (of_frames xs r t (outer u.context) (reverse u.holders))
 
 file_tells : (xs : List Pattern) (r : Rules) (t : Tree) (s u : Stack) (place : List ℕ) (b : Bool) → of_top xs r t s ≡ cond b [] (kept place) ++ of_top xs r t u → of_stack xs r t s ≡ cond b [] (kept place) ++ of_stack xs r t u → StepTells xs r t s u (file_kept b place)
 file_tells xs r t s u place true top all = top
 file_tells xs r t s u place false top all = all
 
-pub tells_file : (xs : List Pattern) (r : Rules) (t : Tree) (s u v : Stack) (item : Item) (st : Step) → Pops s u (Some item) → item.entry.kind ≡ File → v ≡ u → st ≡ file_kept (drops xs r u.context item.entry.name false) item.place → StepTells xs r t s v st
-tells_file xs r t s u v item st h e same is =
-    let own = entry_is xs r t s u item File h e in
-    let top = top_step xs r t s u item h ∙ ap (λ (q : List KeptFile). q ++ of_top xs r t u) own in
-    let all = stack_step xs r t s u item h ∙ ap (λ (q : List KeptFile). q ++ of_stack xs r t u) own in
+pub tells_file : (xs : List Pattern) (r : Rules) (t : Tree) (s u v : Stack) (entry : Entry) (st : Step) → Pops s u (Some entry) → entry.kind ≡ File → v ≡ u → st ≡ file_kept (drops xs r u.context entry.name false) (joined u.place entry.name) → StepTells xs r t s v st
+tells_file xs r t s u v entry st h e same is =
+    let own = entry_is xs r t u entry File e in
+    let top = top_step xs r t s u entry h ∙ ap (λ (q : List KeptFile). q ++ of_top xs r t u) own in
+    let all = stack_step xs r t s u entry h ∙ ap (λ (q : List KeptFile). q ++ of_stack xs r t u) own in
     let P : Stack → Step → Type 0 = λ w x. StepTells xs r t s w x in
-    subst (λ (x : Step). P v x) (sym is) (subst (λ (w : Stack). P w (file_kept (drops xs r u.context item.entry.name false) item.place)) (sym same) (file_tells xs r t s u item.place (drops xs r u.context item.entry.name false) top all))
+    subst (λ (x : Step). P v x) (sym is) (subst (λ (w : Stack). P w (file_kept (drops xs r u.context entry.name false) (joined u.place entry.name))) (sym same) (file_tells xs r t s u (joined u.place entry.name) (drops xs r u.context entry.name false) top all))
 
-pub tells_folder_none : (xs : List Pattern) (r : Rules) (t : Tree) (s u v : Stack) (item : Item) → Pops s u (Some item) → item.entry.kind ≡ Folder → v ≡ u → of_folder xs r t u item.entry.name item.place ≡ [] → of_top xs r t s ≡ of_top xs r t v
-tells_folder_none xs r t s u v item h e same none =
-    top_step xs r t s u item h ∙ ap (λ (q : List KeptFile). q ++ of_top xs r t u) (entry_is xs r t s u item Folder h e ∙ none) ∙ ap (of_top xs r t) (sym same)
+pub tells_folder_none : (xs : List Pattern) (r : Rules) (t : Tree) (s u v : Stack) (entry : Entry) → Pops s u (Some entry) → entry.kind ≡ Folder → v ≡ u → of_folder xs r t u entry.name (joined u.place entry.name) ≡ [] → of_top xs r t s ≡ of_top xs r t v
+tells_folder_none xs r t s u v entry h e same none =
+    top_step xs r t s u entry h ∙ ap (λ (q : List KeptFile). q ++ of_top xs r t u) (entry_is xs r t u entry Folder e ∙ none) ∙ ap (of_top xs r t) (sym same)
 
-pub tells_folder_some : (xs : List Pattern) (r : Rules) (t : Tree) (s u v : Stack) (item : Item) (k : KeptFile) → Pops s u (Some item) → item.entry.kind ≡ Folder → of_folder xs r t u item.entry.name item.place ++ of_stack xs r t u ≡ k ∷ of_stack xs r t v → of_stack xs r t s ≡ k ∷ of_stack xs r t v
-tells_folder_some xs r t s u v item k h e some =
-    stack_step xs r t s u item h ∙ ap (λ (q : List KeptFile). q ++ of_stack xs r t u) (entry_is xs r t s u item Folder h e) ∙ some
+pub tells_folder_some : (xs : List Pattern) (r : Rules) (t : Tree) (s u v : Stack) (entry : Entry) (k : KeptFile) → Pops s u (Some entry) → entry.kind ≡ Folder → of_folder xs r t u entry.name (joined u.place entry.name) ++ of_stack xs r t u ≡ k ∷ of_stack xs r t v → of_stack xs r t s ≡ k ∷ of_stack xs r t v
+tells_folder_some xs r t s u v entry k h e some =
+    stack_step xs r t s u entry h ∙ ap (λ (q : List KeptFile). q ++ of_stack xs r t u) (entry_is xs r t u entry Folder e) ∙ some
 
 pub same_stack : (xs : List Pattern) (r : Rules) (t : Tree) (s u : Stack) → Stays s u → of_top xs r t s ≡ of_top xs r t u → of_stack xs r t s ≡ of_stack xs r t u
 same_stack xs r t s u h e =
@@ -171,9 +168,9 @@ pub refused_stack : (s u : Stack) (d e : Context) (name : List ℕ) → u ≡ wi
 refused_stack s u d e name same is took =
     ap (λ (v : Stack). with_context v e) same ∙ forgotten_stack s d e name is (took ∙ ap (λ (v : Stack). without_name v.context) same)
 
-pub file_told : (xs : List Pattern) (r : Rules) (t : Tree) (s u v : Stack) (item : Item) (q : Result Step AllocError) → Pops s u (Some item) → item.entry.kind ≡ File → OnOk q (v ≡ u) → IfOk q (λ st. st ≡ file_kept (drops xs r u.context item.entry.name false) item.place) → IfOk q (λ st. StepTells xs r t s v st)
-file_told xs r t s u v item (Ok st) h e same is = tells_file xs r t s u v item st h e same is
-file_told xs r t s u v item (Err x) h e same is = tt
+pub file_told : (xs : List Pattern) (r : Rules) (t : Tree) (s u v : Stack) (entry : Entry) (q : Result Step AllocError) → Pops s u (Some entry) → entry.kind ≡ File → OnOk q (v ≡ u) → IfOk q (λ st. st ≡ file_kept (drops xs r u.context entry.name false) (joined u.place entry.name)) → IfOk q (λ st. StepTells xs r t s v st)
+file_told xs r t s u v entry (Ok st) h e same is = tells_file xs r t s u v entry st h e same is
+file_told xs r t s u v entry (Err x) h e same is = tt
 
 -- a root that is walked
 pub root_entered : (xs : List Pattern) (r : Rules) (t : Tree) (s : Stack) (c d : Context) (l : Level) (root : List ℕ) → list_answer t (names_of root) ≡ Ok (reverse s.left) → c ≡ d → l ≡ level_at t r (names_of root) → s.context ≡ with_level c l → s.place ≡ root → s.holders ≡ [] → descend xs r t 257 d root ≡ of_stack xs r t s

@@ -1,4 +1,4 @@
--- The files that one descent through a told tree meets.
+-- The files that one descent through a known tree meets.
 use Rattle.std.specs.Prelude.{ℕ, zero, suc, ◌-◌, List, [], ◌∷◌, ◌++◌, Bool, true, false, Option, Some, None, Result, Ok, Err, map, reverse, length, if◌then◌else◌, cond}
 use Rattle.std.specs.List.{flat_map}
 use Rattle.tokei_folders.specs.declared.nodes.Node.{Node}
@@ -41,7 +41,9 @@ is_folder Folder = true
 is_folder Other = false
 
 unfoldable pub of_entry : List Pattern → Rules → (Context → List ℕ → List KeptFile) → Context → List ℕ → Entry → List KeptFile
-of_entry excludes rules inside c place e = of_kind e.kind (drops excludes rules c e.name (is_folder e.kind)) (joined place e.name) (inside (under c e.name) (joined place e.name))
+of_entry excludes rules inside c place e =
+    of_kind e.kind (drops excludes rules c e.name (is_folder e.kind)) (joined place e.name)
+    (inside (under c e.name) (joined place e.name))
 
 unfoldable pub of_entries : List Pattern → Rules → (Context → List ℕ → List KeptFile) → Context → List ℕ → List Entry → List KeptFile
 of_entries excludes rules inside c place es = flat_map (of_entry excludes rules inside c place) es
@@ -55,7 +57,9 @@ of_listing entries c place (Err e) = []
 unfoldable pub descend : List Pattern → Rules → Tree → ℕ → Context → List ℕ → List KeptFile
 descend excludes rules t zero c place = []
 descend excludes rules t (suc n) c place =
-    of_listing (λ d at es. of_entries excludes rules (descend excludes rules t n) (with_level d (level_at t rules (names_of at))) at es) c place (list_answer t (names_of place))
+    of_listing
+    (λ d at es. of_entries excludes rules (descend excludes rules t n) (with_level d (level_at t rules (names_of at))) at es)
+    c place (list_answer t (names_of place))
 
 -- the rules of the folders above a root, from the top down
 unfoldable pub levels_above : Tree → Rules → Names → List Level
@@ -63,7 +67,11 @@ levels_above t rules p = map (λ a. level_at t rules a.0) (folders_above [] p)
 
 -- the context of a root's entries, before the rules of the root itself
 unfoldable pub root_context : Tree → Rules → Names → Context
-root_context t rules p = record { levels = if rules.parents then levels_above t rules p else []; names = if rules.parents then p else []; shown = p }
+root_context t rules p = record {
+  levels = if rules.parents then levels_above t rules p else [];
+  names = if rules.parents then p else [];
+  shown = p;
+}
 
 -- a root that is a file is kept; one that is missing gives nothing
 abbrev pub of_node : List Pattern → Rules → Tree → List ℕ → Option Node → List KeptFile
@@ -85,7 +93,9 @@ outer c = record { levels = without_last c.levels; names = without_last c.names;
 -- what the folders give that are entered and not left, the innermost first
 unfoldable pub of_frames : List Pattern → Rules → Tree → Context → List Frame → List KeptFile
 of_frames excludes rules t c [] = []
-of_frames excludes rules t c (f ∷ fs) = of_entries excludes rules (descend excludes rules t (256 - length fs)) c f.place (reverse f.left) ++ of_frames excludes rules t (outer c) fs
+of_frames excludes rules t c (f ∷ fs) =
+    of_entries excludes rules (descend excludes rules t (256 - length fs)) c f.place (reverse f.left)
+    ++ of_frames excludes rules t (outer c) fs
 
 -- what the folder that is walked still gives
 abbrev pub of_top : List Pattern → Rules → Tree → Stack → List KeptFile

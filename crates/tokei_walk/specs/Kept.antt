@@ -1,4 +1,4 @@
--- The files of a told tree that the ignore rules keep: a filter of all its places.
+-- The files of a known tree that the ignore rules keep: a filter of all its places.
 use Rattle.std.specs.Prelude.{ℕ, ◌&&◌, List, [], ◌∷◌, ◌++◌, Bool, true, false, not, nat_le, if◌then◌else◌, Option, Some, None, map, filter, length}
 use Rattle.std.specs.List.{flat_map, list_all}
 use Rattle.tokei_walk.specs.declared.kept_file.KeptFile.{KeptFile}
@@ -51,7 +51,10 @@ is_entered excludes rules t root inner = can_list (node_at t (root ++ inner)) &&
 -- lies at most 256 below the root, and the file isn't dropped
 unfoldable pub is_kept_below : List Pattern → Rules → Tree → Names → Names → Bool
 is_kept_below excludes rules t root inner =
-    nat_le (length inner) 257 && (can_list (node_at t root) && (list_all (is_entered excludes rules t root) (between [] inner) && not (is_dropped excludes rules t root inner false)))
+    nat_le (length inner) 257
+    && (can_list (node_at t root)
+    && (list_all (is_entered excludes rules t root) (between [] inner)
+    && not (is_dropped excludes rules t root inner false)))
 
 -- the names from a root down to a place; none where it doesn't lie below the root
 abbrev pub names_from : Option Names → Names
@@ -63,7 +66,9 @@ names_below root e = names_from (below root e.names)
 
 -- a place of the tree is kept where it is a file below the root that is kept
 unfoldable pub is_kept : List Pattern → Rules → Tree → Names → PlacedNode → Bool
-is_kept excludes rules t root e = not (is_empty (names_below root e)) && (is_file (Some e.node) && is_kept_below excludes rules t root (names_below root e))
+is_kept excludes rules t root e =
+    not (is_empty (names_below root e))
+    && (is_file (Some e.node) && is_kept_below excludes rules t root (names_below root e))
 
 -- the place to which these names lead
 unfoldable pub place_below : List ℕ → Names → List ℕ

@@ -50,7 +50,9 @@ patterns_from GitExclude l = l.git_exclude
 -- names are those from the first folder down to the entry
 abbrev pub decision : Source → List Level → Names → Bool → Option Verdict → Option Verdict
 decision source [] names entered found = found
-decision source (l ∷ ls) names entered found = decision source ls (without_first names) entered (or_else (last_fitting (patterns_from source l) names entered) found)
+decision source (l ∷ ls) names entered found =
+    decision source ls (without_first names) entered
+    (or_else (last_fitting (patterns_from source l) names entered) found)
 
 -- the folders from the nearest one with an entry `.git` on, with the names from there; none without one
 abbrev pub in_repository : List Level → Names → List Level × Names → List Level × Names
@@ -63,7 +65,10 @@ repository ls names = in_repository ls names ([], [])
 -- the kinds of ignore files, in their order; git's two hold in the repository alone
 unfoldable pub decided : List Level → Names → Bool → Option Verdict
 decided ls names entered =
-    or_else (decision Tokeignore ls names entered None) (or_else (decision Plain ls names entered None) (or_else (decision Gitignore (repository ls names).0 (repository ls names).1 entered None) (decision GitExclude (repository ls names).0 (repository ls names).1 entered None)))
+    or_else (decision Tokeignore ls names entered None)
+    (or_else (decision Plain ls names entered None)
+    (or_else (decision Gitignore (repository ls names).0 (repository ls names).1 entered None)
+    (decision GitExclude (repository ls names).0 (repository ls names).1 entered None)))
 
 -- where no ignore file decides, a name that begins with a dot is dropped
 abbrev pub is_dropped_by : Option Verdict → Bool → Bool
@@ -81,7 +86,9 @@ under c name = record c { names = c.names ++ name ∷ []; shown = c.shown ++ nam
 
 -- whether the entry that the context's names lead to is dropped, and its own name
 unfoldable pub drops_last : List Pattern → Rules → Context → List ℕ → Bool → Bool
-drops_last excludes rules c name entered = if is_excluded excludes c.shown entered then true else is_dropped_by (decided c.levels c.names entered) (rules.hidden && begins_with 46 name)
+drops_last excludes rules c name entered =
+    if is_excluded excludes c.shown entered then true
+    else is_dropped_by (decided c.levels c.names entered) (rules.hidden && begins_with 46 name)
 
 -- whether an entry of a folder is dropped, by its name and whether it is a folder
 abbrev pub drops : List Pattern → Rules → Context → List ℕ → Bool → Bool

@@ -1,4 +1,4 @@
--- A measure of a walk: it falls with each file that is answered, in told folders and in others.
+-- A measure of a walk: it falls with each file that is answered, in folders that tell a tree and in others.
 use Rattle.std.specs.Prelude.{ℕ, zero, suc, ◌+◌, ◌*◌, ◌-◌, ◌<◌, ◌^◌, List, [], ◌∷◌, length, reverse}
 use Rattle.tokei_walk.specs.declared.stack.Frame.{Frame}
 use Rattle.tokei_walk.specs.declared.stack.Stack.{Stack}

@@ -1,6 +1,6 @@
 -- How a step changes the folders that are walked.
 use Rattle.std.specs.Prelude.{◌≡◌, ◌<◌, ◌-◌, ◌^◌, ℕ, List, [], ◌∷◌, ◌++◌, Bool, true, false, cond, Option, Some, None, Ok, reverse, length}
-use Rattle.tokei_walk.specs.declared.stack.Item.{Item}
+use Rattle.tokei_folders.specs.declared.fs.Entry.{Entry}
 use Rattle.tokei_walk.specs.declared.stack.Stack.{Stack}
 use Rattle.tokei_walk.specs.declared.stack.Step.{Step}
 use Rattle.tokei_walk.specs.declared.stack.Step.TheVariants.{Found, Passed, Ended}
@@ -8,16 +8,15 @@ use Rattle.tokei_walk.specs.declared.kept_file.KeptFile.{KeptFile}
 use Rattle.tokei_walk.specs.declared.levels.Rules.{Rules}
 use Rattle.tokei_ignore.specs.declared.patterns.Pattern.{Pattern}
 use Rattle.tokei_folders.specs.Answers.{list_answer}
-use Rattle.tokei_folders.specs.Places.{joined}
 use Rattle.tokei_walk.specs.Descent.{outer, descend, of_top, of_stack}
 use Rattle.tokei_folders.specs.Ends.{without_last}
 use Rattle.tokei_walk.specs.Levels.{level_at, drops, under}
 use Rattle.tokei_folders.specs.Tree.{Tree, names_of}
 
 -- the next entry is taken from those that are left
-abbrev pub Pops : Stack → Stack → Option Item → Type 0
+abbrev pub Pops : Stack → Stack → Option Entry → Type 0
 Pops old new None = (old.left ≡ []) × (new ≡ old)
-Pops old new (Some item) = (reverse old.left ≡ item.entry ∷ reverse new.left) × (item.place ≡ joined old.place item.entry.name) × (new ≡ record old { left = new.left })
+Pops old new (Some e) = (reverse old.left ≡ e ∷ reverse new.left) × (new ≡ record old { left = new.left })
 
 -- the folder that holds the walked one is walked again
 abbrev pub Leaves : Stack → Stack → Bool → Type 0
@@ -33,14 +32,16 @@ pub record Enters (old new : Stack) (place : List ℕ) : Type 0 where
   pub levels_is : without_last new.context.levels ≡ old.context.levels
   pub few : length new.left < 2 ^ 64
 
--- in a told tree its entries and its rules are the tree's
+-- in a known tree its entries and its rules are the tree's
 pub record EntersTold (t : Tree) (rules : Rules) (old new : Stack) (place : List ℕ) : Type 0 where
   pub entries_are : list_answer t (names_of place) ≡ Ok (reverse new.left)
   pub levels_are : new.context.levels ≡ old.context.levels ++ level_at t rules (names_of place) ∷ []
 
 -- what an entry that is a folder gives
 abbrev pub of_folder : List Pattern → Rules → Tree → Stack → List ℕ → List ℕ → List KeptFile
-of_folder excludes rules t s name place = cond (drops excludes rules s.context name true) [] (descend excludes rules t (256 - length s.holders) (under s.context name) place)
+of_folder excludes rules t s name place =
+    cond (drops excludes rules s.context name true) []
+    (descend excludes rules t (256 - length s.holders) (under s.context name) place)
 
 -- a file that isn't dropped is found
 abbrev pub file_kept : Bool → List ℕ → Step
@@ -73,7 +74,8 @@ NoneIsSame old new (Some k) = Unit {0}
 -- what a visit of a folder's entry leaves
 abbrev pub VisitTells : List Pattern → Rules → Tree → Stack → Stack → List ℕ → List ℕ → Option KeptFile → Type 0
 VisitTells excludes rules t old new name place None = of_folder excludes rules t old name place ≡ []
-VisitTells excludes rules t old new name place (Some k) = of_folder excludes rules t old name place ++ of_stack excludes rules t old ≡ k ∷ of_stack excludes rules t new
+VisitTells excludes rules t old new name place (Some k) =
+    of_folder excludes rules t old name place ++ of_stack excludes rules t old ≡ k ∷ of_stack excludes rules t new
 
 -- what the exploring of the walked folder leaves
 abbrev pub ExploreTells : List Pattern → Rules → Tree → Stack → Stack → Option KeptFile → Type 0

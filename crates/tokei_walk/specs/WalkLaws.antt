@@ -13,7 +13,9 @@ use Rattle.tokei_walk.specs.Walks.{descended}
 
 -- a descent through a sound tree meets the files that the filter of all its places keeps, in their order
 abbrev pub DescentMeetsKept : Type 0
-DescentMeetsKept = (excludes : List Pattern) (rules : Rules) (t : Tree) (roots : List (List ℕ)) → is_sound t ≡ true → descended excludes rules t roots ≡ kept_in excludes rules t roots
+DescentMeetsKept =
+    (excludes : List Pattern) (rules : Rules) (t : Tree) (roots : List (List ℕ)) → is_sound t ≡ true
+    → descended excludes rules t roots ≡ kept_in excludes rules t roots
 
 -- a file stands at a kept file's place
 abbrev pub is_file_of : Tree → KeptFile → Bool
@@ -21,7 +23,9 @@ is_file_of t k = is_file (node_at t (names_of k.place))
 
 -- each kept file of a sound tree is a file of the tree
 abbrev pub KeptAreFiles : Type 0
-KeptAreFiles = (excludes : List Pattern) (rules : Rules) (t : Tree) (roots : List (List ℕ)) → is_sound t ≡ true → list_all (is_file_of t) (kept_in excludes rules t roots) ≡ true
+KeptAreFiles =
+    (excludes : List Pattern) (rules : Rules) (t : Tree) (roots : List (List ℕ)) → is_sound t ≡ true
+    → list_all (is_file_of t) (kept_in excludes rules t roots) ≡ true
 
 -- notes that stay have grown, and those that grow twice have grown
 pub record GrowthLasts : Type 0 where

@@ -1,8 +1,9 @@
 //! What the rules of folders inside one another decide.
-ghost use Rattle.std.specs.Prelude.{◌≡◌, None, drop};
+ghost use Rattle.std.specs.Prelude.{◌≡◌, ◌++◌, [], ◌∷◌, None, OnOk, IfOk, drop};
 ghost use Rattle.tokei_folders.specs.Ends.{without_first as rest_of, begins_with};
-ghost use Rattle.tokei_walk.specs.Levels.{patterns_from as level_patterns, decision as level_decision, repository as repository_of, decided as level_decided, is_excluded as excluded_by, drops_last};
+ghost use Rattle.tokei_walk.specs.Levels.{patterns_from as level_patterns, decision as level_decision, repository as repository_of, decided as level_decided, is_excluded as excluded_by, is_dropped_by as dropped_by, drops};
 
+use std::alloc::AllocError;
 use tokei_folders::{Items, Text};
 use tokei_ignore::{Pattern, Verdict, verdict_among};
 
@@ -151,23 +152,69 @@ fn begins_dotted(name: &str) -> bool
     }
 }
 
-/// Whether the entry that the context's names lead to is dropped; its own name is the last.
-#[tactic(auto, unfolding(crate::specs::Levels::drops_last))]
-pub fn is_dropped(
+/// Whether an exclude drops the entry of this name. The name is lent to the shown path and given back, so that nothing is
+/// copied.
+fn is_excluded_under(
     excludes: &[Pattern],
-    rules: &Rules,
-    context: &Context,
-    name: &str,
+    shown: &mut Items<Text>,
+    name: Text,
     entered: bool,
-) -> bool
-    ensures { result ≡ drops_last excludes.now rules.now context.now name.now entered }
+) -> Result<(bool, Text), AllocError>
+    ensures shown { OnOk result (shown.new ≡ shown.old) }
+    ensures excluded { IfOk result (λ p. p.0 ≡ excluded_by excludes.now (shown.old ++ name ∷ []) entered) }
+    ensures name { IfOk result (λ p. p.1 ≡ name) }
 {
-    if is_excluded(excludes, context.shown.as_slice(), entered) {
-        return true;
-    }
-    match decided(context.levels.as_slice(), context.names.as_slice(), entered) {
+    shown.push(name)?;
+    let excluded = is_excluded(excludes, shown.as_slice(), entered);
+    Ok((excluded, shown.take_last()))
+}
+
+/// What the ignore files decide about the entry of this name, which is lent to the names and given back.
+fn decided_under(
+    levels: &[Level],
+    names: &mut Items<Text>,
+    name: Text,
+    entered: bool,
+) -> Result<(Option<Verdict>, Text), AllocError>
+    ensures names { OnOk result (names.new ≡ names.old) }
+    ensures verdict { IfOk result (λ p. p.0 ≡ level_decided levels.now (names.old ++ name ∷ []) entered) }
+    ensures name { IfOk result (λ p. p.1 ≡ name) }
+{
+    names.push(name)?;
+    let verdict = decided(levels, names.as_slice(), entered);
+    Ok((verdict, names.take_last()))
+}
+
+/// Whether an entry is dropped about which the ignore files decide this.
+fn is_dropped_by(verdict: Option<Verdict>, dotted: bool) -> bool
+    ensures { result ≡ dropped_by verdict dotted }
+{
+    match verdict {
         Some(Verdict::Ignore) => true,
         Some(Verdict::Keep) => false,
-        None => rules.hidden && begins_dotted(name),
+        None => dotted,
     }
+}
+
+/// Whether an entry of a folder is dropped, and its name, which is given back.
+#[tactic(auto, unfolding(crate::specs::Levels::drops_last))]
+pub fn judged(
+    excludes: &[Pattern],
+    rules: &Rules,
+    context: &mut Context,
+    name: Text,
+    entered: bool,
+) -> Result<(bool, Text), AllocError>
+    ensures context { OnOk result (context.new ≡ context.old) }
+    ensures dropped { IfOk result (λ p. p.0 ≡ drops excludes.now rules.now context.old name entered) }
+    ensures name { IfOk result (λ p. p.1 ≡ name) }
+{
+    let (excluded, name) = is_excluded_under(excludes, &mut context.shown, name, entered)?;
+    if excluded {
+        return Ok((true, name));
+    }
+    let levels = context.levels.as_slice();
+    let (verdict, name) = decided_under(levels, &mut context.names, name, entered)?;
+    let dotted = rules.hidden && begins_dotted(name.as_str());
+    Ok((is_dropped_by(verdict, dotted), name))
 }

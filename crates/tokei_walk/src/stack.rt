@@ -4,6 +4,7 @@ ghost use Rattle.std.specs.Bool.{MatchBool};
 ghost use Rattle.tokei_walk.specs.Notes.{Grows};
 ghost use Rattle.tokei_folders.specs.Answers.{Told, list_answer};
 ghost use Rattle.tokei_folders.specs.declared.fs.Fault.TheVariants.{Refused as RefusedFault};
+ghost use Rattle.tokei_folders.specs.Places.{joined as joined_places};
 ghost use Rattle.tokei_folders.specs.Tree.{names_of};
 ghost use Rattle.tokei_walk.specs.Levels.{drops, under};
 ghost use Rattle.tokei_walk.specs.Descent.{without_name};
@@ -12,7 +13,7 @@ ghost use Rattle.tokei_walk.specs.Ranks.{weight, stack_rank, FoundFalls};
 ghost use Rattle.tokei_walk.specs.Stacks.{Pops, Leaves, Enters, EntersTold, StepTells, StepStays, NoneStays, NoneIsSame, file_kept, VisitTells, ExploreTells};
 
 use crate::kept_file::{KeptFile, Note, NoteKind};
-use crate::levels::{Context, Level, Rules, is_dropped};
+use crate::levels::{Context, Level, Rules, judged};
 use crate::rules_files::{note, read_sought, sought_among};
 use std::alloc::{AllocError, Global};
 use std::mem;
@@ -40,13 +41,6 @@ pub struct Stack {
     pub holders: Items<Frame>,
 }
 
-/// An entry and its place.
-#[derive(Drop)]
-pub struct Item {
-    pub entry: Entry,
-    pub place: Text,
-}
-
 /// What every step of a walk goes by.
 #[derive(Drop)]
 pub struct Settings {
@@ -65,14 +59,10 @@ impl Stack {
 }
 
 /// Takes the next entry of the walked folder.
-pub fn next_item(alloc: Global, stack: &mut Stack) -> Result<Option<Item>, AllocError>
-    ensures { IfOk result (λ o. Pops stack.old stack.new o) }
+fn next_entry(stack: &mut Stack) -> Option<Entry>
+    ensures { Pops stack.old stack.new result }
 {
-    let Some(entry) = stack.left.pop() else {
-        return Ok(None);
-    };
-    let place = joined(alloc, stack.place.as_str(), entry.name.as_str())?;
-    Ok(Some(Item { entry, place }))
+    stack.left.pop()
 }
 
 /// Goes back to the folder that holds the walked one; whether there was one.
@@ -91,33 +81,33 @@ pub fn leave(stack: &mut Stack) -> bool
 }
 
 /// Adds an entry's name to the context.
-fn push_name(alloc: Global, context: &mut Context, name: &Text) -> Result<(), AllocError>
-    ensures { OnOk result (context.new ≡ under context.old name.now) }
+fn push_name(alloc: Global, context: &mut Context, name: Text) -> Result<(), AllocError>
+    ensures { OnOk result (context.new ≡ under context.old name) }
 {
-    context.names.push(Text::from_str(alloc, name.as_str())?)?;
     context.shown.push(Text::from_str(alloc, name.as_str())?)?;
+    context.names.push(name)?;
     Ok(())
 }
 
-/// Adds an entry's name to the context, and says whether the entry is dropped.
-pub fn consider(
+/// Whether an entry of the walked folder is dropped, and its name, which is given back.
+fn consider(
     settings: &Settings,
     context: &mut Context,
-    name: &Text,
+    name: Text,
     entered: bool,
-) -> Result<bool, AllocError>
-    ensures context { OnOk result (context.new ≡ under context.old name.now) }
-    ensures dropped { IfOk result (λ b.
-        b ≡ drops settings.now.excludes settings.now.rules context.old name.now entered) }
+) -> Result<(bool, Text), AllocError>
+    ensures context { OnOk result (context.new ≡ context.old) }
+    ensures dropped { IfOk result (λ p.
+        p.0 ≡ drops settings.now.excludes settings.now.rules context.old name entered) }
+    ensures name { IfOk result (λ p. p.1 ≡ name) }
 {
-    push_name(settings.alloc, context, name)?;
-    Ok(is_dropped(
+    judged(
         settings.excludes.as_slice(),
         &settings.rules,
         context,
-        name.as_str(),
+        name,
         entered,
-    ))
+    )
 }
 
 /// Takes an entry's name off the context.
@@ -219,8 +209,7 @@ fn push_folder(
     Ok(())
 }
 
-/// Explores the folder of an entry, whose name and place these are, and leaves it again where it
-/// gives no file.
+/// Explores the folder of an entry, whose name this is, and leaves it again where it gives no file.
 #[tactic(auto, using(crate::proofs::Growing::grows_same, crate::proofs::Growing::grows_on))]
 #[cycle(exploring)]
 fn visit<F: Folders>(
@@ -228,7 +217,7 @@ fn visit<F: Folders>(
     folders: &mut F,
     notes: &mut Items<Note>,
     stack: &mut Stack,
-    item: Item,
+    name: Text,
 ) -> Result<Option<KeptFile>, AllocError>
     ensures same { F.tree folders.new ≡ F.tree folders.old }
     ensures notes { Grows notes.old notes.new }
@@ -239,23 +228,20 @@ fn visit<F: Folders>(
         < stack_rank stack.old + weight (256 - length stack.old.holders))) }
     ensures told { Told (F.tree folders.old) (λ t. IfOk result (λ o.
         VisitTells settings.now.excludes settings.now.rules t stack.old stack.new
-        item.entry.name item.place o)) }
+        name (joined_places stack.old.place name) o)) }
 {
-    if consider(settings, &mut stack.context, &item.entry.name, true)? {
-        forget(&mut stack.context);
+    let alloc = settings.alloc;
+    let (dropped, name) = consider(settings, &mut stack.context, name, true)?;
+    if dropped {
         return Ok(None);
     }
+    let place = joined(alloc, stack.place.as_str(), name.as_str())?;
     if stack.holders.as_slice().len() >= 256 {
-        note(
-            settings.alloc,
-            notes,
-            NoteKind::TooDeep,
-            item.place.as_str(),
-        )?;
-        forget(&mut stack.context);
+        note(alloc, notes, NoteKind::TooDeep, place.as_str())?;
         return Ok(None);
     }
-    if !enter(settings, folders, notes, stack, item.place)? {
+    push_name(alloc, &mut stack.context, name)?;
+    if !enter(settings, folders, notes, stack, place)? {
         forget(&mut stack.context);
         return Ok(None);
     }
@@ -286,14 +272,13 @@ fn meet_next<F: Folders>(
     ensures told { Told (F.tree folders.old) (λ t. IfOk result (λ s.
         StepTells settings.now.excludes settings.now.rules t stack.old stack.new s)) }
 {
-    let item = match next_item(settings.alloc, stack)? {
-        None => return Ok(Step::Ended),
-        Some(item) => item,
+    let Some(entry) = next_entry(stack) else {
+        return Ok(Step::Ended);
     };
-    match item.entry.kind {
+    match entry.kind {
         Kind::Other => Ok(Step::Passed),
-        Kind::File => file_step(settings, stack, item),
-        Kind::Folder => match visit(settings, folders, notes, stack, item)? {
+        Kind::File => file_step(settings, stack, entry.name),
+        Kind::Folder => match visit(settings, folders, notes, stack, entry.name)? {
             Some(file) => Ok(Step::Found(file)),
             None => Ok(Step::Passed),
         },
@@ -328,19 +313,16 @@ pub fn explore<F: Folders>(
 }
 
 /// Keeps a file, unless it is dropped.
-fn file_step(settings: &Settings, stack: &mut Stack, item: Item) -> Result<Step, AllocError>
+fn file_step(settings: &Settings, stack: &mut Stack, name: Text) -> Result<Step, AllocError>
     ensures stays { OnOk result (stack.new ≡ stack.old) }
-    ensures kept { IfOk result (λ s. s ≡ file_kept (drops settings.now.excludes
-        settings.now.rules stack.old.context item.entry.name false) item.place) }
+    ensures kept { IfOk result (λ s. s ≡ file_kept (drops settings.now.excludes settings.now.rules
+        stack.old.context name false) (joined_places stack.old.place name)) }
 {
-    let dropped = consider(settings, &mut stack.context, &item.entry.name, false)?;
-    forget(&mut stack.context);
+    let (dropped, name) = consider(settings, &mut stack.context, name, false)?;
     if dropped {
         return Ok(Step::Passed);
     }
-    let path = Text::from_str(settings.alloc, item.place.as_str())?;
-    Ok(Step::Found(KeptFile {
-        path,
-        place: item.place,
-    }))
+    let place = joined(settings.alloc, stack.place.as_str(), name.as_str())?;
+    let path = Text::from_str(settings.alloc, place.as_str())?;
+    Ok(Step::Found(KeptFile { path, place }))
 }

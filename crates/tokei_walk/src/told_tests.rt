@@ -1,4 +1,4 @@
-//! What the tests of the walk share: told trees, and the files and notes of a walk as one text.
+//! What the tests of the walk share: known trees, and the files and notes of a walk as one text.
 use crate::collect::kept_files;
 use crate::kept_file::{KeptFile, Note, NoteKind};
 use crate::levels::Rules;
