@@ -17,8 +17,6 @@ pub mod printer;
 mod results;
 pub mod stream_rows;
 pub mod streaming;
-#[cfg(test)]
-mod tests;
 mod total;
 
 pub use error::PrintError;
