@@ -32,3 +32,7 @@ entries_of es = map (λ e. (e.0, language_of e.1)) es
 
 abbrev pub languages_of : Languages → List (ℕ × LanguageValue)
 languages_of s = entries_of s.languages.entries
+
+-- what the languages grow with
+abbrev pub allocator_of : Languages → Global
+allocator_of s = s.alloc

@@ -29,16 +29,24 @@ impl Languages {
     ghost use Rattle.tokei_languages.specs.Maps.{put_at};
     ghost use Rattle.tokei_languages.specs.Merging.{merged_languages, with_report, MergeFits};
     ghost use Rattle.tokei_languages.specs.Values.{empty_language, marked, IsInOrder, language_at};
-    ghost use Rattle.tokei_languages.specs.Seen.{entries_of, language_of, languages_of, report_of};
+    ghost use Rattle.tokei_languages.specs.Seen.{allocator_of, entries_of, language_of, languages_of, report_of};
 
     /// No language; takes no memory.
     pub fn new(alloc: Global) -> Languages
-        ensures { languages_of result ≡ [] }
+        ensures empty { languages_of result ≡ [] }
+        ensures allocator { allocator_of result ≡ alloc }
     {
         Languages {
             languages: BTreeMap::new(alloc),
             alloc,
         }
+    }
+
+    /// What the languages grow with.
+    pub fn allocator(&self) -> Global
+        ensures { result ≡ allocator_of self.now }
+    {
+        self.alloc
     }
 
     /// What was counted of the language, if anything was.

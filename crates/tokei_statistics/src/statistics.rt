@@ -10,7 +10,6 @@ ghost use Rattle.tokei_statistics.specs.Runs.{AddsFiles, AddsFirst, AddsRun, Rea
 
 use crate::contents::Counting;
 use crate::parsing::count_config;
-use std::alloc::Global;
 use tokei_config::Config;
 use tokei_count::{CountError, Counter};
 use tokei_folders::Folders;
@@ -58,7 +57,6 @@ pub trait CountFiles {
     /// from before with those of the first files, so many as were counted, and the folders keep their tree.
     fn get_all_files<F: Folders>(
         &mut self,
-        alloc: Global,
         table: &LanguageTable,
         folders: &mut F,
         paths: &[String],
@@ -72,7 +70,6 @@ pub trait CountFiles {
     /// are renewed.
     fn get_statistics<F: Folders>(
         &mut self,
-        alloc: Global,
         table: &LanguageTable,
         folders: &mut F,
         paths: &[String],
@@ -84,7 +81,6 @@ pub trait CountFiles {
 impl CountFiles for Languages {
     fn get_all_files<F: Folders>(
         &mut self,
-        alloc: Global,
         table: &LanguageTable,
         folders: &mut F,
         paths: &[String],
@@ -107,6 +103,7 @@ impl CountFiles for Languages {
         ensures honest { OnOk result (F.memory_faults folders.old < u64.MAX
             → F.memory_faults folders.new ≡ F.memory_faults folders.old) }
     {
+        let alloc = self.allocator();
         let extended = config.extended_table(alloc, table)?;
         let counter = Counter::new(alloc, &extended)?;
         let counting = Counting {
@@ -120,7 +117,6 @@ impl CountFiles for Languages {
 
     fn get_statistics<F: Folders>(
         &mut self,
-        alloc: Global,
         table: &LanguageTable,
         folders: &mut F,
         paths: &[String],
@@ -144,7 +140,7 @@ impl CountFiles for Languages {
         ensures honest { OnOk result (F.memory_faults folders.old < u64.MAX
             → F.memory_faults folders.new ≡ F.memory_faults folders.old) }
     {
-        let notes = self.get_all_files(alloc, table, folders, paths, ignored, config)?;
+        let notes = self.get_all_files(table, folders, paths, ignored, config)?;
         self.renew_counts()?;
         Ok(notes)
     }

@@ -63,7 +63,7 @@ fn counted<F: Folders>(
     let mut languages = Languages::new(alloc);
     let roots = owned(alloc, &[root])?;
     let none = Vec::new(alloc);
-    let _notes = languages.get_statistics(alloc, table, folders, &roots, &none, config)?;
+    let _notes = languages.get_statistics(table, folders, &roots, &none, config)?;
     Ok(languages)
 }
 
@@ -80,7 +80,7 @@ fn earlier_counts_are_renewed(rt: HostRuntime) -> Result<(), Fail> {
     languages.insert(c, earlier)?;
     let none = Vec::new(alloc);
     let mut folders = MemoryFolders::new(alloc);
-    languages.get_statistics(alloc, &table, &mut folders, &none, &none, &Config::new())?;
+    languages.get_statistics(&table, &mut folders, &none, &none, &Config::new())?;
     assert_eq!(rt; row(&table, &languages, "C"), Some((0, 0, 0, 0, false)));
     Ok(())
 }
@@ -111,7 +111,7 @@ fn a_run_adds_to_the_one_before(rt: HostRuntime) -> Result<(), Fail> {
     let config = Config::new();
     let mut languages = Languages::new(alloc);
     for _ in 0..2 {
-        languages.get_statistics(alloc, &table, &mut folders, &roots, &none, &config)?;
+        languages.get_statistics(&table, &mut folders, &roots, &none, &config)?;
     }
     assert_eq!(rt; row(&table, &languages, "Rust"), Some((0, 2, 0, 2, false)));
     Ok(())
@@ -271,7 +271,7 @@ fn what_is_refused_is_passed_over(rt: HostRuntime) -> Result<(), Fail> {
     let roots = owned(alloc, &["."])?;
     let none = Vec::new(alloc);
     let mut languages = Languages::new(alloc);
-    let notes = languages.get_statistics(alloc, &table, &mut folders, &roots, &none, &config)?;
+    let notes = languages.get_statistics(&table, &mut folders, &roots, &none, &config)?;
     assert_eq!(rt; notes.len(), 1);
     assert_eq!(rt; row(&table, &languages, "C"), Some((0, 1, 0, 1, false)));
     let mut folders = files(alloc, &[MAIN, (".ignore", b"*.rs\n")])?;
@@ -332,7 +332,7 @@ fn a_refused_run_leaves_the_first_files(rt: HostRuntime) -> Result<(), Fail> {
         )?;
         let mut folders = FailingFolders::new(told, passes);
         let mut languages = Languages::new(alloc);
-        let run = languages.get_statistics(alloc, &table, &mut folders, &roots, &none, &config);
+        let run = languages.get_statistics(&table, &mut folders, &roots, &none, &config);
         let reports = row(&table, &languages, "C").map_or(0, |r| r.3);
         assert!(rt; most <= reports);
         most = reports;
