@@ -14,6 +14,7 @@ use crate::error::InputError;
 use crate::format::Format;
 use crate::language_maps::{all_known, all_once};
 use crate::layout::has_layout;
+use crate::named_table::NamedTable;
 use crate::read::languages_in;
 use crate::write::to_value;
 use serde_json::Value;
@@ -59,13 +60,14 @@ pub fn from_value(
     if !has_layout(value) {
         return Err(InputError::Layout);
     }
-    if !all_known(table, value) {
+    let table = NamedTable::new(alloc, table)?;
+    if !all_known(&table, value) {
         return Err(InputError::UnknownLanguage);
     }
-    if !all_once(table, value) {
+    if !all_once(&table, value) {
         return Err(InputError::NamedTwice);
     }
-    match languages_in(alloc, table, value) {
+    match languages_in(alloc, &table, value) {
         Ok(languages) => Ok(languages),
         Err(_) => Err(InputError::Memory),
     }

@@ -4,8 +4,8 @@ ghost use Rattle.serde_json.specs.View.{view, items_view, members_view};
 ghost use Rattle.tokei_table.specs.Layout.{all_items};
 ghost use Rattle.tokei_json.specs.LanguageMaps.{all_names, language_named, has_both, knows_names, names_once, passes, statistics_pass, blobs_at_pass, blobs_pass, each_passes, report_passes, reports_pass, lists_pass, children_pass, language_passes, languages_pass, all_known, all_once};
 
+use crate::named_table::NamedTable;
 use serde_json::{Map, Value};
-use tokei_table::{LanguageTable, LanguageType};
 
 /// What is asked of the names.
 #[derive(Clone, Copy)]
@@ -16,31 +16,31 @@ pub(crate) enum MapTest {
     Once,
 }
 
-fn has_both(table: &LanguageTable, value: &Value, name: &str) -> bool
+fn has_both(table: &NamedTable, value: &Value, name: &str) -> bool
     ensures { result ≡ has_both table.now (view value.now) (language_named table.now name.now) }
 {
-    match LanguageType::from_name(table, name) {
+    match table.language(name) {
         Some(language) => {
-            let key = language.key(table);
-            let name = language.name(table);
+            let key = language.key(table.as_table());
+            let name = language.name(table.as_table());
             key != name && value.get(key).is_some() && value.get(name).is_some()
         }
         None => false,
     }
 }
 
-fn all_are_known(table: &LanguageTable, members: &Map<String, Value>) -> bool
+fn all_are_known(table: &NamedTable, members: &Map<String, Value>) -> bool
     ensures { result ≡ all_names (λ k. is_some (language_named table.now k)) (members_view members.now.entries) }
 {
     for (name, _) in members.iter() {
-        if LanguageType::from_name(table, name.as_str()).is_none() {
+        if table.language(name.as_str()).is_none() {
             return false;
         }
     }
     true
 }
 
-fn knows_names(table: &LanguageTable, value: &Value) -> bool
+fn knows_names(table: &NamedTable, value: &Value) -> bool
     ensures { result ≡ knows_names table.now (view value.now) }
 {
     match value {
@@ -50,7 +50,7 @@ fn knows_names(table: &LanguageTable, value: &Value) -> bool
 }
 
 /// Whether none of the members' languages stands in the value by its key and by its name.
-fn none_has_both(table: &LanguageTable, value: &Value, members: &Map<String, Value>) -> bool
+fn none_has_both(table: &NamedTable, value: &Value, members: &Map<String, Value>) -> bool
     ensures { result ≡ all_names (λ k. not (has_both table.now (view value.now) (language_named table.now k)))
         (members_view members.now.entries) }
 {
@@ -62,7 +62,7 @@ fn none_has_both(table: &LanguageTable, value: &Value, members: &Map<String, Val
     true
 }
 
-fn names_once(table: &LanguageTable, value: &Value) -> bool
+fn names_once(table: &NamedTable, value: &Value) -> bool
     ensures { result ≡ names_once table.now (view value.now) }
 {
     match value {
@@ -71,7 +71,7 @@ fn names_once(table: &LanguageTable, value: &Value) -> bool
     }
 }
 
-fn passes(table: &LanguageTable, test: MapTest, value: &Value) -> bool
+fn passes(table: &NamedTable, test: MapTest, value: &Value) -> bool
     ensures { result ≡ passes table.now test (view value.now) }
 {
     match test {
@@ -81,7 +81,7 @@ fn passes(table: &LanguageTable, test: MapTest, value: &Value) -> bool
 }
 
 #[cycle(statistics)]
-fn statistics_pass(table: &LanguageTable, test: MapTest, value: &Value) -> bool
+fn statistics_pass(table: &NamedTable, test: MapTest, value: &Value) -> bool
     ensures { result ≡ statistics_pass (passes table.now test) (view value.now) }
 {
     match value {
@@ -92,7 +92,7 @@ fn statistics_pass(table: &LanguageTable, test: MapTest, value: &Value) -> bool
 
 /// Whether the blobs pass that stand among the members.
 #[cycle(statistics)]
-fn blobs_at_pass(table: &LanguageTable, test: MapTest, members: &Map<String, Value>) -> bool
+fn blobs_at_pass(table: &NamedTable, test: MapTest, members: &Map<String, Value>) -> bool
     ensures { result ≡ blobs_at_pass (passes table.now test) (members_view members.now.entries) }
 {
     for (key, member) in members.iter() {
@@ -104,7 +104,7 @@ fn blobs_at_pass(table: &LanguageTable, test: MapTest, members: &Map<String, Val
 }
 
 #[cycle(statistics)]
-fn blobs_pass(table: &LanguageTable, test: MapTest, value: &Value) -> bool
+fn blobs_pass(table: &NamedTable, test: MapTest, value: &Value) -> bool
     ensures { result ≡ blobs_pass (passes table.now test) (view value.now) }
 {
     match value {
@@ -114,7 +114,7 @@ fn blobs_pass(table: &LanguageTable, test: MapTest, value: &Value) -> bool
 }
 
 #[cycle(statistics)]
-fn each_passes(table: &LanguageTable, test: MapTest, members: &Map<String, Value>) -> bool
+fn each_passes(table: &NamedTable, test: MapTest, members: &Map<String, Value>) -> bool
     ensures { result ≡ each_passes (passes table.now test) (members_view members.now.entries) }
 {
     for (_name, member) in members.iter() {
@@ -125,7 +125,7 @@ fn each_passes(table: &LanguageTable, test: MapTest, members: &Map<String, Value
     true
 }
 
-fn report_passes(table: &LanguageTable, test: MapTest, value: &Value) -> bool
+fn report_passes(table: &NamedTable, test: MapTest, value: &Value) -> bool
     ensures { result ≡ report_passes (passes table.now test) (view value.now) }
 {
     match value.get("stats") {
@@ -134,7 +134,7 @@ fn report_passes(table: &LanguageTable, test: MapTest, value: &Value) -> bool
     }
 }
 
-fn all_items_pass(table: &LanguageTable, test: MapTest, items: &Vec<Value>) -> bool
+fn all_items_pass(table: &NamedTable, test: MapTest, items: &Vec<Value>) -> bool
     ensures { result ≡ all_items (report_passes (passes table.now test)) (items_view items.now.items) }
 {
     for item in items {
@@ -145,7 +145,7 @@ fn all_items_pass(table: &LanguageTable, test: MapTest, items: &Vec<Value>) -> b
     true
 }
 
-fn reports_pass(table: &LanguageTable, test: MapTest, value: &Value) -> bool
+fn reports_pass(table: &NamedTable, test: MapTest, value: &Value) -> bool
     ensures { result ≡ reports_pass (passes table.now test) (view value.now) }
 {
     match value {
@@ -154,7 +154,7 @@ fn reports_pass(table: &LanguageTable, test: MapTest, value: &Value) -> bool
     }
 }
 
-fn lists_pass(table: &LanguageTable, test: MapTest, members: &Map<String, Value>) -> bool
+fn lists_pass(table: &NamedTable, test: MapTest, members: &Map<String, Value>) -> bool
     ensures { result ≡ lists_pass (passes table.now test) (members_view members.now.entries) }
 {
     for (_name, member) in members.iter() {
@@ -165,7 +165,7 @@ fn lists_pass(table: &LanguageTable, test: MapTest, members: &Map<String, Value>
     true
 }
 
-fn children_pass(table: &LanguageTable, test: MapTest, value: &Value) -> bool
+fn children_pass(table: &NamedTable, test: MapTest, value: &Value) -> bool
     ensures { result ≡ children_pass (passes table.now test) (view value.now) }
 {
     match value {
@@ -174,7 +174,7 @@ fn children_pass(table: &LanguageTable, test: MapTest, value: &Value) -> bool
     }
 }
 
-fn language_passes(table: &LanguageTable, test: MapTest, value: &Value) -> bool
+fn language_passes(table: &NamedTable, test: MapTest, value: &Value) -> bool
     ensures { result ≡ language_passes (passes table.now test) (view value.now) }
 {
     if let Some(reports) = value.get("reports") {
@@ -188,7 +188,7 @@ fn language_passes(table: &LanguageTable, test: MapTest, value: &Value) -> bool
     }
 }
 
-fn languages_pass(table: &LanguageTable, test: MapTest, members: &Map<String, Value>) -> bool
+fn languages_pass(table: &NamedTable, test: MapTest, members: &Map<String, Value>) -> bool
     ensures { result ≡ languages_pass (passes table.now test) (members_view members.now.entries) }
 {
     for (name, member) in members.iter() {
@@ -199,13 +199,13 @@ fn languages_pass(table: &LanguageTable, test: MapTest, members: &Map<String, Va
     true
 }
 
-fn knows_languages(table: &LanguageTable, members: &Map<String, Value>) -> bool
+fn knows_languages(table: &NamedTable, members: &Map<String, Value>) -> bool
     ensures { result ≡ all_names (λ k. bytes_eq k (codes "Total") || is_some (language_named table.now k))
         (members_view members.now.entries) }
 {
     for (name, _) in members.iter() {
         let name = name.as_str();
-        if name != "Total" && LanguageType::from_name(table, name).is_none() {
+        if name != "Total" && table.language(name).is_none() {
             return false;
         }
     }
@@ -214,7 +214,7 @@ fn knows_languages(table: &LanguageTable, members: &Map<String, Value>) -> bool
 
 /// Whether every name is that of a language, save `Total` among the document's own members.
 #[tactic(auto, unfolding(crate::specs::LanguageMaps::all_known))]
-pub(crate) fn all_known(table: &LanguageTable, value: &Value) -> bool
+pub(crate) fn all_known(table: &NamedTable, value: &Value) -> bool
     ensures { result ≡ all_known table.now (view value.now) }
 {
     match value {
@@ -227,7 +227,7 @@ pub(crate) fn all_known(table: &LanguageTable, value: &Value) -> bool
 
 /// Whether no language stands twice in one object.
 #[tactic(auto, unfolding(crate::specs::LanguageMaps::all_once))]
-pub(crate) fn all_once(table: &LanguageTable, value: &Value) -> bool
+pub(crate) fn all_once(table: &NamedTable, value: &Value) -> bool
     ensures { result ≡ all_once table.now (view value.now) }
 {
     match value {

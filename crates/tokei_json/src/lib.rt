@@ -8,6 +8,7 @@ pub mod input;
 mod language_maps;
 pub mod laws;
 mod layout;
+mod named_table;
 mod read;
 #[cfg(test)]
 mod tests;

@@ -6,12 +6,13 @@ ghost use Rattle.tokei_languages.specs.Seen.{children_of, language_of, languages
 ghost use Rattle.tokei_stats.specs.Seen.{blobs_of, entries_of, stats_of, sums_of};
 ghost use Rattle.tokei_stats.specs.Statistics.Blobs.{none};
 
+use crate::named_table::NamedTable;
 use serde_json::{Map, Value};
 use std::alloc::{AllocError, Global};
 use std::collections::BTreeMap;
 use tokei_languages::{CountError, Language, Languages};
 use tokei_stats::{CodeStats, Report, Sums};
-use tokei_table::{LanguageTable, LanguageType};
+use tokei_table::LanguageType;
 
 fn count_in(member: Option<&Value>) -> usize
     ensures { result ≡ count_in (option_map (λ v. view v.now) member.entry) }
@@ -34,11 +35,7 @@ fn counts_in(value: &Value) -> Sums
 }
 
 #[cycle(statistics)]
-fn statistics_in(
-    alloc: Global,
-    table: &LanguageTable,
-    value: &Value,
-) -> Result<CodeStats, AllocError>
+fn statistics_in(alloc: Global, table: &NamedTable, value: &Value) -> Result<CodeStats, AllocError>
     ensures { IfOk result (λ s. stats_of s ≡ statistics_in table.now (view value.now)) }
 {
     match value {
@@ -54,7 +51,7 @@ fn statistics_in(
 #[cycle(statistics)]
 fn blobs_at(
     alloc: Global,
-    table: &LanguageTable,
+    table: &NamedTable,
     members: &Map<String, Value>,
 ) -> Result<BTreeMap<LanguageType, CodeStats>, AllocError>
     ensures { IfOk result (λ m. blobs_of (entries_of m.entries)
@@ -71,7 +68,7 @@ fn blobs_at(
 #[cycle(statistics)]
 fn blobs_in(
     alloc: Global,
-    table: &LanguageTable,
+    table: &NamedTable,
     value: &Value,
 ) -> Result<BTreeMap<LanguageType, CodeStats>, AllocError>
     ensures { IfOk result (λ m. blobs_of (entries_of m.entries) ≡ blobs_in table.now (view value.now)) }
@@ -85,7 +82,7 @@ fn blobs_in(
 #[cycle(statistics)]
 fn blobs_of_members(
     alloc: Global,
-    table: &LanguageTable,
+    table: &NamedTable,
     members: &Map<String, Value>,
 ) -> Result<BTreeMap<LanguageType, CodeStats>, AllocError>
     ensures { IfOk result (λ m. blobs_of (entries_of m.entries)
@@ -94,11 +91,7 @@ fn blobs_of_members(
     let mut blobs = BTreeMap::new(alloc);
     for (name, member) in members.iter() {
         let stats = statistics_in(alloc, table, member)?;
-        put_blob(
-            &mut blobs,
-            LanguageType::from_name(table, name.as_str()),
-            stats,
-        )?;
+        put_blob(&mut blobs, table.language(name.as_str()), stats)?;
     }
     Ok(blobs)
 }
@@ -129,7 +122,7 @@ fn text_in(alloc: Global, member: Option<&Value>) -> Result<String, AllocError>
 
 fn statistics_at(
     alloc: Global,
-    table: &LanguageTable,
+    table: &NamedTable,
     member: Option<&Value>,
 ) -> Result<CodeStats, AllocError>
     ensures { IfOk result (λ s. stats_of s ≡ statistics_at table.now (option_map (λ v. view v.now) member.entry)) }
@@ -140,7 +133,7 @@ fn statistics_at(
     }
 }
 
-fn report_in(alloc: Global, table: &LanguageTable, value: &Value) -> Result<Report, AllocError>
+fn report_in(alloc: Global, table: &NamedTable, value: &Value) -> Result<Report, AllocError>
     ensures { IfOk result (λ r. report_of r ≡ report_in table.now (view value.now)) }
 {
     Ok(Report {
@@ -151,7 +144,7 @@ fn report_in(alloc: Global, table: &LanguageTable, value: &Value) -> Result<Repo
 
 fn all_reports_in(
     alloc: Global,
-    table: &LanguageTable,
+    table: &NamedTable,
     items: &Vec<Value>,
 ) -> Result<Vec<Report>, AllocError>
     ensures { IfOk result (λ v. map report_of v.items ≡ all_reports_in table.now (items_view items.now.items)) }
@@ -165,7 +158,7 @@ fn all_reports_in(
 
 fn reports_in(
     alloc: Global,
-    table: &LanguageTable,
+    table: &NamedTable,
     member: Option<&Value>,
 ) -> Result<Vec<Report>, AllocError>
     ensures { IfOk result (λ v. reports_of v ≡ reports_in table.now (option_map (λ w. view w.now) member.entry)) }
@@ -193,7 +186,7 @@ fn put_children(
 
 fn with_children(
     alloc: Global,
-    table: &LanguageTable,
+    table: &NamedTable,
     members: &Map<String, Value>,
 ) -> Result<BTreeMap<LanguageType, Vec<Report>>, AllocError>
     ensures { IfOk result (λ m. children_of m.entries
@@ -202,18 +195,14 @@ fn with_children(
     let mut children = BTreeMap::new(alloc);
     for (name, member) in members.iter() {
         let reports = reports_in(alloc, table, Some(member))?;
-        put_children(
-            &mut children,
-            LanguageType::from_name(table, name.as_str()),
-            reports,
-        )?;
+        put_children(&mut children, table.language(name.as_str()), reports)?;
     }
     Ok(children)
 }
 
 fn children_in(
     alloc: Global,
-    table: &LanguageTable,
+    table: &NamedTable,
     member: Option<&Value>,
 ) -> Result<BTreeMap<LanguageType, Vec<Report>>, AllocError>
     ensures { IfOk result (λ m. children_of m.entries
@@ -235,7 +224,7 @@ fn truth_in(member: Option<&Value>) -> bool
 }
 
 #[tactic(auto, unfolding(crate::specs::Reading::language_in, crate::specs::Reading::counts_in))]
-fn language_in(alloc: Global, table: &LanguageTable, value: &Value) -> Result<Language, AllocError>
+fn language_in(alloc: Global, table: &NamedTable, value: &Value) -> Result<Language, AllocError>
     ensures { IfOk result (λ l. language_of l ≡ language_in table.now (view value.now)) }
 {
     let reports = reports_in(alloc, table, value.get("reports"))?;
@@ -268,7 +257,7 @@ fn put_language(
 
 fn with_languages(
     alloc: Global,
-    table: &LanguageTable,
+    table: &NamedTable,
     members: &Map<String, Value>,
 ) -> Result<Languages, CountError>
     ensures ok { IfOk result (λ ls. languages_of ls
@@ -278,11 +267,7 @@ fn with_languages(
     let mut languages = Languages::new(alloc);
     for (name, member) in members.iter() {
         let value = language_in(alloc, table, member)?;
-        put_language(
-            &mut languages,
-            LanguageType::from_name(table, name.as_str()),
-            value,
-        )?;
+        put_language(&mut languages, table.language(name.as_str()), value)?;
     }
     Ok(languages)
 }
@@ -290,7 +275,7 @@ fn with_languages(
 /// The languages of the document, by the names that the table knows. It fails where memory runs out.
 pub(crate) fn languages_in(
     alloc: Global,
-    table: &LanguageTable,
+    table: &NamedTable,
     value: &Value,
 ) -> Result<Languages, CountError>
     ensures ok { IfOk result (λ ls. languages_of ls ≡ languages_in table.now (view value.now)) }
