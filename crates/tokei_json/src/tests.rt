@@ -151,14 +151,6 @@ fn texts_and_causes(rt: HostRuntime) -> Result<(), Fail> {
             format!(in rt.alloc(); "{{\"Nope\":{L}}}")?,
             Some(InputError::Layout),
         ),
-        (
-            format!(in rt.alloc(); "{{\"C#\":{L},\"CSharp\":{L}}}")?,
-            Some(InputError::Layout),
-        ),
-        (
-            format!(in rt.alloc(); "{{\"C#\":{{}},\"CSharp\":{L},\"Nope\":{L}")?,
-            Some(InputError::NotJson),
-        ),
         (format!(in rt.alloc(); "[{L}]")?, Some(InputError::Layout)),
         (format!(in rt.alloc(); " ")?, Some(InputError::NotJson)),
         (
