@@ -11,7 +11,7 @@ abbrev pub error_of_count : CountError → RunError
 error_of_count NoMemory = Memory
 error_of_count SumOverflow = Overflow
 
--- a report is made in memory, so a fault of its writer is a growth that was refused
+-- a report is made in memory, so a fault of its writer is an allocation that failed
 abbrev pub error_of_print : PrintError → RunError
 error_of_print NoRoom = Memory
 error_of_print RowOverflow = Overflow

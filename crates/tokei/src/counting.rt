@@ -66,7 +66,6 @@ pub(crate) fn tally_of<F: Folders>(
         → F.memory_faults folders.new ≡ F.memory_faults folders.old) }
 {
     let mut languages = earlier(alloc, job)?;
-    let notes =
-        languages.get_statistics(table, folders, &job.paths, &job.ignored, &job.config)?;
+    let notes = languages.get_statistics(table, folders, &job.paths, &job.ignored, &job.config)?;
     Ok(Tally { languages, notes })
 }

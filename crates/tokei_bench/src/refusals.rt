@@ -1,4 +1,4 @@
-//! Calls whose growths are refused in turn: want of memory is fine, else the answer is the right one.
+//! Calls whose allocations are made to fail in turn: out of memory is fine, else the answer is the right one.
 use crate::shown::{are_texts, bench, key_of};
 use std::alloc::Global;
 use std::test::Fail;

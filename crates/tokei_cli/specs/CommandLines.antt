@@ -12,7 +12,7 @@ status_of Memory = 1
 status_of (Refused text) = 2
 status_of (Asked text) = 0
 
--- help and the version were asked for, everything else is a refusal; memory may be wanting for either
+-- help and the version were asked for, everything else is a refusal; memory may run out for either
 abbrev pub Answers : ErrorKind → CliError → Type 0
 Answers kind Memory = ⊤
 Answers DisplayHelp (Refused text) = ⊥

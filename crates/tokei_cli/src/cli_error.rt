@@ -11,7 +11,7 @@ use thiserror::Error as ThisError;
 /// Why a command line isn't run.
 #[derive(Debug, Drop, ThisError)]
 pub enum CliError {
-    /// A growth was refused.
+    /// An allocation failed.
     #[error("out of memory")]
     Memory,
     /// The words are refused. The text is for standard error.

@@ -7,7 +7,7 @@ use thiserror::Error;
 /// Why something wasn't printed.
 #[derive(Clone, Copy, Debug, PartialEq, Eq, Error)]
 pub enum OutputError {
-    /// A growth was refused.
+    /// An allocation failed.
     #[error("out of memory")]
     Memory,
     /// The writer failed.

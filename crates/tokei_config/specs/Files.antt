@@ -1,4 +1,4 @@
--- The configuration files of a told tree.
+-- The configuration files of a known tree.
 use Rattle.std.specs.Prelude.{ℕ, List, ◌++◌, Option, Some, None, option_and_then, string_bytes, String, if◌then◌else◌, codes}
 use Rattle.std.specs.Option.{option_or}
 use Rattle.std.specs.Global.{Global}

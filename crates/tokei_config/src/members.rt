@@ -12,7 +12,7 @@ use toml::{Table, Value};
 /// Why a member isn't read.
 #[derive(Clone, Copy, Debug, PartialEq, Eq)]
 pub(crate) enum MemberError {
-    /// A growth was refused.
+    /// An allocation failed.
     Memory,
     /// It is of a wrong kind, or names what isn't known.
     Unreadable,

@@ -1,4 +1,4 @@
--- Which parts are walked: a part that begins plain and holds no opener is decided at a glance.
+-- Which parts are walked: a part that begins plain and holds no opener is skipped.
 use Rattle.std.specs.Prelude.{ℕ, Bool, ◌||◌, not, List, length, is_some, unwrap_or}
 use Rattle.tokei_table.specs.FirstOpener.{first_opener}
 use Rattle.tokei_count.specs.Items.{Mode}

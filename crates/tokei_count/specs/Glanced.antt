@@ -1,4 +1,4 @@
--- What a reading that looks at lines at a glance knows.
+-- What a reading that skips lines knows.
 use Rattle.std.specs.Prelude.{◌≡◌, ℕ, ◌+◌, ◌<◌, true, List, drop}
 use Rattle.std.specs.List.{list_all}
 use Rattle.tokei_table.specs.Sound.{no_newline}

@@ -1,4 +1,4 @@
--- The law behind the glance, by the parts of a text alone: a part that isn't walked begins and ends in plain text, and no
+-- The law behind skipping, by the parts of a text alone: a part that isn't walked begins and ends in plain text, and no
 -- child breaks it off.
 use Rattle.std.specs.Prelude.{◌≡◌, ℕ, false, List, [], length, None}
 use Rattle.std.specs.List.{AllByRecursion}

@@ -1,4 +1,4 @@
-//! Which parts are decided at a glance.
+//! Which parts are skipped.
 ghost use Rattle.std.specs.Prelude.{◌≡◌, ◌≢◌, ◌+◌, ◌<◌, ◌≤◌, true, false, [], None, drop, length};
 ghost use Rattle.tokei_count.specs.Glance.{holds, is_walked, opener_place};
 ghost use Rattle.tokei_count.specs.Lines.{first_line};
@@ -25,7 +25,7 @@ fn next_opener(matchers: &SharedMatchers, text: &[u8], start: usize, next: usize
     }
 }
 
-/// Whether the part that begins at `start`, and whose line goes through `stop`, is decided at a glance: it begins plain, and
+/// Whether the part that begins at `start`, and whose line goes through `stop`, is skipped: it begins plain, and
 /// its reach holds no opener. `next` is where an earlier search came to, and becomes where this one does.
 pub(crate) fn is_glanced(
     skips: bool,

@@ -24,10 +24,10 @@ use tokei_stats::{CodeStats, CountError};
 use tokei_table::LanguageType;
 
 /// Counts a text in a language of the counter's table: the statistics of its plain reading, and the steps that the
-/// reading took. A line that begins plain and holds no opener of its language is decided at a glance, and takes none.
+/// reading took. A line that begins plain and holds no opener of its language is skipped, and takes none.
 ///
 /// `Overflow` comes only where a count of the plain reading, at some depth, passes the greatest `usize`; `Memory` only
-/// where a growth was refused. A text without opener, in a language other than notebooks, takes no memory.
+/// where an allocation failed. A text without opener, in a language other than notebooks, takes no memory.
 pub fn parse_counted(
     alloc: Global,
     counter: &Counter,
@@ -67,8 +67,8 @@ pub fn parse_counted(
 
 /// Counts a text in a language of the counter's table: the statistics of its plain reading.
 ///
-/// `Overflow` comes only where a count of the reading, at some depth, passes the greatest `usize`; `Memory` only where a
-/// growth was refused. A text without opener, in a language other than notebooks, takes no memory.
+/// `Overflow` comes only where a count of the reading, at some depth, passes the greatest `usize`; `Memory` only where
+/// an allocation failed. A text without opener, in a language other than notebooks, takes no memory.
 pub fn parse_from_slice(
     alloc: Global,
     counter: &Counter,

@@ -1,4 +1,4 @@
-//! Texts are read part by part: each is walked, or decided at a glance where lines are skipped.
+//! Texts are read part by part: each is walked, or skipped where nothing can open in it.
 ghost use Rattle.std.specs.Prelude.{◌≡◌, ◌+◌, ◌-◌, ◌<◌, true, false, None, Some, is_some, drop, length, map, cond, IfOk, IsErrOf, IsOk};
 ghost use Rattle.tokei_table.specs.FirstOpener.{first_opener};
 ghost use Rattle.tokei_table.specs.Lookups.{row_at};
@@ -162,9 +162,9 @@ fn read_notebook(
     Ok(TextRead { stats, steps })
 }
 
-/// The statistics of a text, part by part; `docs` says whether doc strings are treated as comments, `skips` whether parts
-/// that begin plain and hold no opener are decided at a glance, by the matchers of the table's languages, or walked as
-/// the others are. Its children are read with one level less.
+/// The statistics of a text, part by part; `docs` says whether doc strings are treated as comments, `skips` whether
+/// parts that begin plain and hold no opener are skipped, by the matchers of the table's languages, or walked as the
+/// others are. Its children are read with one level less.
 #[cycle(read_text)]
 pub(crate) fn read_text<'a>(
     alloc: Global,
@@ -263,8 +263,8 @@ pub(crate) fn read_text<'a>(
 
 /// Counts a text in a language of the counter's table by the plain reading, in which no line is skipped.
 ///
-/// `Overflow` comes only where a count of the reading, at some depth, passes the greatest `usize`; `Memory` only where a
-/// growth was refused. Children are read 50 levels deep.
+/// `Overflow` comes only where a count of the reading, at some depth, passes the greatest `usize`; `Memory` only where
+/// an allocation failed. Children are read 50 levels deep.
 pub fn count_plain(
     alloc: Global,
     counter: &Counter,

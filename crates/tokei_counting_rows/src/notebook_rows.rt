@@ -127,7 +127,7 @@ fn cells_have_children(rt: HostRuntime) -> Result<(), Fail> {
     Ok(())
 }
 
-// Under a refused growth memory may be wanting; no other answer may change.
+// Under a failed allocation memory may run out; no other answer may change.
 #[test]
 fn refused_notebook(rt: HostRuntime) -> Result<(), Fail> {
     let text =

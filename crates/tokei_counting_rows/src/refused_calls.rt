@@ -1,5 +1,5 @@
-//! The calls that count a text, with each of their growths refused in turn: want of memory is fine, else the answer is
-//! the right one.
+//! The calls that count a text, with each of their allocations made to fail in turn: out of memory is fine, else the
+//! answer is the right one.
 ghost use Rattle.std.specs.Prelude.{◌<◌, length};
 
 use crate::bench::bench;
@@ -47,7 +47,7 @@ fn stats_by(
     }
 }
 
-/// The language of the first text of which the call tells neither the lines nor that memory is wanting, if there is
+/// The language of the first text of which the call tells neither the lines nor that memory ran out, if there is
 /// such a text.
 fn wrong_language(alloc: Global, call: Call) -> Option<&'static str> {
     let table = bench(alloc).ok()?;
@@ -118,7 +118,7 @@ fn refused_parse_counted(rt: HostRuntime) {
     assert_eq!(rt; wrong_language(rt.alloc(), Call::ParseCounted), None);
 }
 
-// Where the counter is made a text without opener takes no memory, so the growth refused next changes no answer.
+// Where the counter is made a text without opener takes no memory, so the allocation that fails next changes no answer.
 #[test]
 fn refused_behind_the_counter(rt: HostRuntime) -> Result<(), Fail> {
     if let Ok(table) = bench(rt.alloc()) {

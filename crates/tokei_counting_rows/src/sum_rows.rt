@@ -65,7 +65,7 @@ fn is_one_fence(table: &LanguageTable, stats: CodeStats) -> bool {
     are(table, &Some(stats), (0, 0, 3), &[("Rust", (0, 1, 0))])
 }
 
-// Under a refused growth memory may be wanting; no other answer may change.
+// Under a failed allocation memory may run out; no other answer may change.
 #[test]
 fn refused_add(rt: HostRuntime) -> Result<(), Fail> {
     if let Ok(table) = bench(rt.alloc()) {

@@ -81,7 +81,7 @@ AboveTells o p r =
 abbrev pub Told : Option Tree → (Tree → Type 0) → Type 0
 Told o P = (t : Tree) → o ≡ Some t → P t
 
--- where a tree is told, an answer, unless it is out of memory, is the tree's own
+-- where a tree is known, an answer, unless it is out of memory, is the tree's own
 abbrev pub Tells : {A : Type 0} → Option Tree → (Tree → Result A Fault) → Result A Fault → Type 0
 Tells o f r = Told o (λ t. r ≢ Err Memory → r ≡ f t)
 
@@ -90,7 +90,7 @@ abbrev pub bytes_of : Result (Vec ℕ) Fault → Result (List ℕ) Fault
 bytes_of (Ok v) = Ok v.items
 bytes_of (Err e) = Err e
 
--- where a tree is told, the bytes, unless the answer is out of memory, are the tree's own
+-- where a tree is known, the bytes, unless the answer is out of memory, are the tree's own
 abbrev pub BytesTell : Option Tree → (Tree → Result (List ℕ) Fault) → Result (Vec ℕ) Fault → Type 0
 BytesTell o f r = Told o (λ t. r ≢ Err Memory → bytes_of r ≡ f t)
 

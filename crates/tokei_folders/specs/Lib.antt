@@ -1,6 +1,5 @@
 pub mod Additions
 pub mod Answers
-pub mod AsTheyWere
 pub mod Ends
 pub mod Failing
 pub mod FolderLaws

@@ -1,4 +1,4 @@
--- What becomes of earlier results: their languages, or the first cause for which they are refused. Want of memory comes
+-- What becomes of earlier results: their languages, or the first cause for which they are refused. Out of memory comes
 -- beside it.
 use Rattle.std.specs.Prelude.{ℕ, List, [], ◌∷◌, not, Option, None, Some, Result, Ok, Err, if◌then◌else◌}
 use Rattle.std.specs.Str.{is_utf8}

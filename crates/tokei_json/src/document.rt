@@ -44,8 +44,8 @@ impl Format {
     }
 }
 
-/// The languages of a value. Refused is exactly what has a cause of `InputError` from `Layout` to `NamedTwice`, and of those
-/// that apply the first is answered; `Memory` comes only where a growth was refused.
+/// The languages of a value. Refused is exactly what has a cause of `InputError` from `Layout` to `NamedTwice`, and of
+/// those that apply the first is answered; `Memory` comes only where an allocation failed.
 #[tactic(auto, unfolding(crate::specs::Outcome::outcome_of_value))]
 pub fn from_value(
     alloc: Global,
@@ -88,8 +88,8 @@ fn read(alloc: Global, text: &str) -> Result<Value, InputError>
 }
 
 impl Format {
-    /// The languages of a text. Refused is exactly what has a cause of `InputError` from `Empty` to `NamedTwice`, and of
-    /// those that apply the first is answered; `Memory` comes only where a growth was refused.
+    /// The languages of a text. Refused is exactly what has a cause of `InputError` from `Empty` to `NamedTwice`, and
+    /// of those that apply the first is answered; `Memory` comes only where an allocation failed.
     pub fn parse(alloc: Global, table: &LanguageTable, text: &str) -> Result<Languages, InputError>
         ensures languages { IfOk result (λ ls. outcome_of_text table.now text.now ≡ Ok (languages_of ls)) }
         ensures refused { IfErr result (λ e. e ≢ InputError.Memory → outcome_of_text table.now text.now ≡ Err e) }

@@ -20,7 +20,7 @@ pub enum InputError {
     /// A language stands in one object by its key and by its name.
     #[error("earlier results name a language twice")]
     NamedTwice,
-    /// A growth was refused.
+    /// An allocation failed.
     #[error("out of memory")]
     Memory,
     /// The reader had a fault, or didn't end within 4,294,967,296 reads.

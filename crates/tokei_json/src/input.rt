@@ -62,10 +62,10 @@ fn add_bytes(
     }
 }
 
-/// Reads all of the reader as earlier results, and adds their languages. Refused as `Format::parse` refuses a text, bytes
-/// that aren't UTF-8 as `NotJson`; `Unreadable` where the reader had a fault or didn't end within 4,294,967,296 reads;
-/// `Overflow` only where a sum of two counts passes the greatest `usize`; `Memory` where a growth was refused. A refusal
-/// leaves the languages as they were, and of the reader's place nothing is said.
+/// Reads all of the reader as earlier results, and adds their languages. Refused as `Format::parse` refuses a text,
+/// bytes that aren't UTF-8 as `NotJson`; `Unreadable` where the reader had a fault or didn't end within 4,294,967,296
+/// reads; `Overflow` only where a sum of two counts passes the greatest `usize`; `Memory` where an allocation failed. A
+/// refusal leaves the languages as they were, and of the reader's place nothing is said.
 pub fn add_input<S: Source>(
     alloc: Global,
     table: &LanguageTable,

@@ -303,7 +303,7 @@ fn words_of_formats(rt: HostRuntime) {
     assert_eq!(rt; Format::not_supported(), ["cbor", "yaml"].as_slice());
 }
 
-// Each growth is refused in turn from outside: want of memory is fine, else the answer is the right one.
+// Each allocation is made to fail in turn from outside: out of memory is fine, else the answer is the right one.
 #[test]
 fn refused_print(rt: HostRuntime) {
     if let Ok(table) = table(rt.alloc()) {

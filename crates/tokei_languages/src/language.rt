@@ -120,7 +120,7 @@ impl Language {
     }
 
     /// Puts the report behind the others, and one of the same name for each of its blobs behind those of the blob's
-    /// language; the counts stay until `total` renews them. A refusal, for want of memory alone, changes nothing.
+    /// language; the counts stay until `total` renews them. A refusal, only when out of memory, changes nothing.
     pub fn add_report(&mut self, report: Report) -> Result<(), CountError>
         ensures ok { OnOk result
             (language_of self.new ≡ with_report (language_of self.old) (report_of report)) }
@@ -198,7 +198,7 @@ impl Language {
         })
     }
 
-    /// A copy, equal by `==`, which differs from a clone in that it may be refused for want of memory.
+    /// A copy, equal by `==`, which differs from a clone in that it may be refused when out of memory.
     pub fn try_clone(&self) -> Result<Language, CountError>
         ensures ok { IfOk result (λ copy. language_of copy ≡ language_of self.now) }
         ensures equal { IfOk result (λ copy. IsTrue (⟦<Language as PartialEq>⟧.eq copy self.now)) }

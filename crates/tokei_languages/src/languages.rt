@@ -88,7 +88,7 @@ impl Languages {
         Ok(self.languages.insert(language, value)?)
     }
 
-    /// Adds the report to the language, which is put there where it is missing. A refusal, for want of memory alone,
+    /// Adds the report to the language, which is put there where it is missing. A refusal, only when out of memory,
     /// changes nothing.
     pub fn add_report(&mut self, language: LanguageType, report: Report) -> Result<(), CountError>
         ensures ok { OnOk result (languages_of self.new
@@ -106,8 +106,8 @@ impl Languages {
         Ok(())
     }
 
-    /// Marks the language, which is put there where it is missing, as counted without all of its files. A refusal, for
-    /// want of memory alone, changes nothing.
+    /// Marks the language, which is put there where it is missing, as counted without all of its files. A refusal,
+    /// only when out of memory, changes nothing.
     pub fn mark_inaccurate(&mut self, language: LanguageType) -> Result<(), CountError>
         ensures ok { OnOk result (languages_of self.new
             ≡ put_at marked (marked empty_language) (languages_of self.old) language) }

@@ -209,7 +209,7 @@ fn all_reports_are_sorted(rt: HostRuntime) -> Result<(), Fail> {
     Ok(())
 }
 
-/// Want of memory, or both; a refusal changes nothing.
+/// Out of memory, or both; a refusal changes nothing.
 #[test]
 fn refused_languages_add(rt: HostRuntime) {
     if let Some((c, json, rust)) = three(rt.alloc()) {
@@ -233,7 +233,7 @@ fn refused_languages_add(rt: HostRuntime) {
     }
 }
 
-/// Want of memory, or the report; a refusal changes nothing.
+/// Out of memory, or the report; a refusal changes nothing.
 #[test]
 fn refused_add_report(rt: HostRuntime) {
     if let Some((c, json, _)) = three(rt.alloc()) {

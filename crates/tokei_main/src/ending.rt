@@ -29,7 +29,7 @@ pub enum Ending {
     /// Nothing stands at this root.
     #[error("'{0}' not found.")]
     Missing(String),
-    /// A growth was refused.
+    /// An allocation failed.
     #[error("out of memory")]
     Memory,
     /// A sum passes the greatest `usize`.

@@ -8,7 +8,7 @@ use tokei_stats::CountError;
 /// Why a row wasn't printed.
 #[derive(Clone, Copy, Debug, PartialEq, Eq, Error)]
 pub enum PrintError {
-    /// A growth was refused.
+    /// An allocation failed.
     #[error("out of memory")]
     Memory,
     /// A sum that the row shows passes the greatest `usize`.

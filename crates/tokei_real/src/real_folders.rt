@@ -28,7 +28,7 @@ impl<R: Files + AllocGlobal + Clone + Drop> RealFolders<R> {
         }
     }
 
-    /// The answer, or why there is none; want of memory is counted.
+    /// The answer, or why there is none; out of memory is counted.
     fn answered<T>(&mut self, given: io::Result<T>) -> Result<T, Fault>
         ensures counts { self.old.memory_faults < u64.MAX
             → self.new.memory_faults ≡ counted result (self.old.memory_faults) }

@@ -31,6 +31,6 @@ rows_by rows s = extended rows (additions_in s)
 abbrev pub counting_by : List Row → Settings → Counting
 counting_by rows s = record { rows = rows_by rows s; docs = is_on s.treat_doc_strings_as_comments; types = s.types }
 
--- the files of a told tree that are counted: those below the roots that the rules keep
+-- the files of a known tree that are counted: those below the roots that the rules keep
 unfoldable pub kept_by : Settings → Tree → List (List ℕ) → List (List ℕ) → List KeptFile
 kept_by s t roots excludes = kept_in (excludes_of excludes) (rules_of s) t roots

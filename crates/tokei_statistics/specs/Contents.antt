@@ -1,4 +1,4 @@
--- What a file of a told tree counts: the plain reading of its content, decoded.
+-- What a file of a known tree counts: the plain reading of its content, decoded.
 use Rattle.std.specs.Prelude.{ℕ, Bool, List, Option, option_map}
 use Rattle.tokei_count.specs.Openings.{languages_of}
 use Rattle.tokei_count.specs.PlainReading.{reading, outermost_levels}

@@ -1,5 +1,5 @@
--- The language of a path in a told tree: by the path's name, and by the head of the file where the name decides nothing
--- and has no extension.
+-- The language of a path in a known tree: by the path's name, and by the head of the file where the name decides
+-- nothing and has no extension.
 use Rattle.std.specs.Prelude.{ℕ, List, [], Option, None, is_some, unwrap_or, Result, Ok, Err, if◌then◌else◌}
 use Rattle.std.specs.List.{last_or}
 use Rattle.tokei_table.specs.Lookups.{or_else, extension_of, from_file_name}

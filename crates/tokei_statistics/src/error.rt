@@ -10,7 +10,7 @@ pub enum ParseFault {
     /// The file is missing, is no file, or can't be read.
     #[error("the file can't be read")]
     Refused,
-    /// A growth was refused, by the allocator or in a call on folders.
+    /// An allocation failed, by the allocator or in a call on folders.
     #[error("out of memory")]
     Memory,
     /// A count of the file passes the greatest `usize`.

@@ -7,7 +7,7 @@ use thiserror::Error;
 /// Why statistics were refused.
 #[derive(Clone, Copy, Debug, PartialEq, Eq, Error)]
 pub enum CountError {
-    /// A growth was refused.
+    /// An allocation failed.
     #[error("out of memory")]
     Memory,
     /// A sum passes the greatest `usize`.

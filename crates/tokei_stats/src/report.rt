@@ -42,7 +42,7 @@ impl Report {
         self.stats.add(&stats)
     }
 
-    /// A copy, equal by `==`, which differs from a clone in that it may be refused for want of memory.
+    /// A copy, equal by `==`, which differs from a clone in that it may be refused when out of memory.
     pub fn try_clone(&self) -> Result<Report, CountError>
         ensures stats { IfOk result (λ r. stats_of r.stats ≡ stats_of self.now.stats) }
         ensures name { IfOk result (λ r. string_bytes r.name ≡ string_bytes self.now.name) }

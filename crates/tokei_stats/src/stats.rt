@@ -60,7 +60,7 @@ impl CodeStats {
         }
     }
 
-    /// A copy, equal by `==`, which differs from a clone in that it may be refused for want of memory.
+    /// A copy, equal by `==`, which differs from a clone in that it may be refused when out of memory.
     pub fn try_clone(&self) -> Result<CodeStats, CountError>
         ensures ok { IfOk result (λ s. stats_of s ≡ stats_of self.now) }
         ensures equal { IfOk result (λ s. IsTrue (⟦<CodeStats as PartialEq>⟧.eq s self.now)) }

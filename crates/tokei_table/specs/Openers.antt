@@ -1,4 +1,4 @@
--- The texts that a line has to hold for more than a glance at it.
+-- The texts that a line has to hold to be walked.
 use Rattle.std.specs.Prelude.{ℕ, List, [], ◌∷◌, ◌++◌, map, codes}
 use Rattle.tokei_table.specs.Families.{family_of}
 use Rattle.tokei_syntax.specs.Row.{Pair, Row}

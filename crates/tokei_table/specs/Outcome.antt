@@ -38,6 +38,6 @@ abbrev pub outcome_of : Option Data → Result (List Row) TableError
 outcome_of None = Err NotJson
 outcome_of (Some d) = outcome_of_value d
 
--- Want of memory aside, this is what reading a table answers.
+-- Out of memory aside, this is what reading a table answers.
 abbrev pub outcome : List ℕ → Result (List Row) TableError
 outcome bytes = outcome_of (data_of bytes)

@@ -1,4 +1,4 @@
-//! The texts that a line has to hold for more than a glance at it.
+//! The texts that a line has to hold to be walked.
 ghost use Rattle.std.specs.Prelude.{◌≡◌, ◌<◌, ◌++◌, [], ◌∷◌, length, true, IfOk, OnOk, string_bytes};
 ghost use Rattle.tokei_syntax.specs.RowOf.{tokens_of, pairs_of, row_of};
 ghost use Rattle.std.specs.List.{list_all};

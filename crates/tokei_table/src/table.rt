@@ -58,7 +58,7 @@ fn data(alloc: Global, bytes: &[u8]) -> Result<Value, TableError>
 
 impl LanguageTable {
     /// Reads a table from its JSON text. Refused is exactly what has a cause of `TableError`, and of those that apply
-    /// the first is answered; `Memory` comes only where a growth was refused.
+    /// the first is answered; `Memory` comes only where an allocation failed.
     #[tactic(auto, unfolding(crate::specs::Outcome::outcome_of_value, crate::specs::Outcome::tested))]
     pub fn from_json(alloc: Global, bytes: &[u8]) -> Result<LanguageTable, TableError>
         ensures { result ≢ Err MemoryFault → result ≡ outcome bytes.now }

@@ -116,7 +116,7 @@ fn sums_and_equality(rt: HostRuntime) -> Result<(), Fail> {
     Ok(())
 }
 
-/// Want of memory, or the sum; a refusal changes nothing.
+/// Out of memory, or the sum; a refusal changes nothing.
 #[test]
 fn refused_report_add(rt: HostRuntime) {
     if let Some(language) = language(rt.alloc()) {
@@ -137,7 +137,7 @@ fn refused_report_add(rt: HostRuntime) {
     }
 }
 
-/// Want of memory, or an equal report.
+/// Out of memory, or an equal report.
 #[test]
 fn refused_report_try_clone(rt: HostRuntime) {
     if let Some(language) = language(rt.alloc()) {

@@ -30,7 +30,7 @@ fn boundaries_are_the_next(rt: HostRuntime) {
     assert_eq!(rt; find_char_boundary("", 0), 0);
 }
 
-/// Want of memory, or the text.
+/// Out of memory, or the text.
 #[test]
 fn refused_decoding(rt: HostRuntime) {
     if let Ok(contents) = b"\xFF\xFE\x3D\xD8\x00\xDEa".to_vec(rt.alloc()) {
