@@ -1,7 +1,6 @@
 //! The report of one file.
 ghost use Rattle.std.specs.Prelude.{◌≡◌, ◌≢◌, ◌<◌, None, Some, length, OnOk, IfOk, IfErr, IsSomeAnd, string_bytes};
 ghost use Rattle.tokei_config.specs.Seen.{settings_of};
-ghost use Rattle.tokei_count.specs.Seen.{docs_of};
 ghost use Rattle.tokei_folders.specs.Answers.{Told};
 ghost use Rattle.tokei_stats.specs.Overflow.{Fits};
 ghost use Rattle.tokei_stats.specs.Seen.{stats_of};
@@ -13,18 +12,9 @@ use crate::contents::Counting;
 use crate::error::ParseFault;
 use std::alloc::Global;
 use tokei_config::Config;
-use tokei_count::{CountConfig, Counter, Report};
+use tokei_count::{Counter, Report};
 use tokei_folders::Folders;
 use tokei_table::LanguageType;
-
-/// How a configuration counts texts.
-pub(crate) fn count_config(config: &Config) -> CountConfig
-    ensures { docs_of result ≡ is_on (settings_of config.now).treat_doc_strings_as_comments }
-{
-    CountConfig {
-        treat_doc_strings_as_comments: config.treat_doc_strings_as_comments,
-    }
-}
 
 /// The report of the file at a path, in a language of the counter's table: what its content counts, once it is decoded,
 /// under that path. The path comes back with each refusal, and the folders keep their tree. `Overflow` comes only where
@@ -52,13 +42,13 @@ pub fn parse_file<F: Folders>(
     ensures counted { IfErr result (λ e. e.0 ≢ OutOfMemory → F.memory_faults folders.old < u64.MAX
         → F.memory_faults folders.new ≡ F.memory_faults folders.old) }
 {
-    let counting = Counting {
+    let reading = Counting {
         alloc,
         counter,
-        config: count_config(config),
+        config: config.counting(),
         types: None,
     };
-    match counting.read(folders, language, path.as_str()) {
+    match reading.read(folders, language, path.as_str()) {
         Ok(stats) => Ok(Report { stats, name: path }),
         Err(fault) => Err((fault, path)),
     }

@@ -9,7 +9,6 @@ ghost use Rattle.tokei_statistics.specs.Configs.{is_on as is_switched_on, rules_
 ghost use Rattle.tokei_statistics.specs.Runs.{AddsFiles, AddsFirst, AddsRun, ReadingsFit, RunFits};
 
 use crate::contents::Counting;
-use crate::parsing::count_config;
 use tokei_config::Config;
 use tokei_count::{CountError, Counter};
 use tokei_folders::Folders;
@@ -106,13 +105,13 @@ impl CountFiles for Languages {
         let alloc = self.allocator();
         let extended = config.extended_table(alloc, table)?;
         let counter = Counter::new(alloc, &extended)?;
-        let counting = Counting {
+        let run = Counting {
             alloc,
             counter: &counter,
-            config: count_config(config),
+            config: config.counting(),
             types: types(config),
         };
-        counting.count_roots(folders, paths, ignored, &rules(config), self)
+        run.count_roots(folders, paths, ignored, &rules(config), self)
     }
 
     fn get_statistics<F: Folders>(
