@@ -1,3 +1,6 @@
 pub mod Runs
 pub mod Errors
 pub mod Output
+pub mod Sorted
+pub mod Streams
+pub mod Sums

@@ -1,27 +1,29 @@
--- What a run writes: a document, or the printed report.
-use Rattle.std.specs.Prelude.{◌≡◌, ℕ, List, [], ◌++◌, Bool, true, false, Option, None, Some, is_some, length, nat_lt, if◌then◌else◌, ⊤}
+-- What a run writes: a document, the printed report, or a stream.
+use Rattle.std.specs.Prelude.{◌≡◌, ℕ, List, [], ◌++◌, Bool, true, false, Option, None, Some, is_some, nat_lt, if◌then◌else◌}
 use Rattle.std.specs.Option.{option_or}
 use Rattle.std.specs.Io.KnownBytes.{Appends}
 use Rattle.serde_json.specs.Written.{compact_text}
 use Rattle.tokei_config.specs.Seen.{settings_of}
 use Rattle.tokei_folders.specs.Tree.{Tree}
 use Rattle.tokei_json.specs.Document.{document}
+use Rattle.tokei_languages.specs.Sorting.{sorted_languages}
 use Rattle.tokei_languages.specs.Summaries.{any_inaccurate}
 use Rattle.tokei_languages.specs.Values.{LanguageValue}
 use Rattle.tokei_options.specs.declared.sort.Sort.{Sort}
-use Rattle.tokei_options.specs.declared.sort.Sort.TheVariants.{Blanks, Comments, Code, Files, Lines}
-use Rattle.tokei_stats.specs.Statistics.{lines_of}
 use Rattle.tokei_print.specs.Heading.{header, warning}
 use Rattle.tokei_print.specs.declared.layout.Layout.{Layout}
 use Rattle.tokei_print.specs.Names.{name_in}
 use Rattle.tokei_print.specs.Results.{results_text}
+use Rattle.tokei_print.specs.declared.streaming.Streaming.{Streaming}
 use Rattle.tokei_print.specs.Styles.{separator_of}
 use Rattle.tokei_print.specs.Total.{total_text}
 use Rattle.tokei_table.specs.Row.{Row}
 use Rattle.tokei.specs.declared.job.Job.{Job}
 use Rattle.tokei.specs.declared.job.Wanted.{Wanted}
 use Rattle.tokei.specs.declared.job.Wanted.TheVariants.{Stream, Document, Table}
-use Rattle.tokei.specs.Runs.{languages_after}
+use Rattle.tokei.specs.Runs.{counting_of, files_of, languages_after}
+use Rattle.tokei.specs.Sorted.{listed_by}
+use Rattle.tokei.specs.Streams.{stream_text}
 
 -- the width of a report: 81 at least, and 65,535 at most
 abbrev pub columns_of : ℕ → ℕ
@@ -51,36 +53,27 @@ pub record IsReport (rows : List Row) (job : Job) (listed languages : List (ℕ 
   pub format : layout.format.separator ≡ separator_of job.numbers
   pub shown : text ≡ report_text layout rows job listed languages
 
--- the count of a language by which a sort goes
-abbrev pub count_of : Sort → LanguageValue → ℕ
-count_of Blanks language = language.counts.blanks
-count_of Comments language = language.counts.comments
-count_of Code language = language.counts.code
-count_of Files language = length language.reports
-count_of Lines language = lines_of language.counts
-
 -- behind what stood there a writer has the document of a job's languages, and nothing else
 abbrev pub WritesDocument : List Row → Job → Tree → Option (List ℕ) → Option (List ℕ) → Type 0
 WritesDocument rows job t old new = Appends old new (compact_text (document rows (languages_after rows job t)))
 
--- a report of languages in the table's order is written
-pub record WritesReport (rows : List Row) (job : Job) (languages : List (ℕ × LanguageValue)) (old new : Option (List ℕ)) : Type 0 where
-  pub text : List ℕ
-  pub report : IsReport rows job languages languages text
-  pub appended : Appends old new text
-
--- without a sort languages stand in the table's order; of the order of a sorted report nothing is said
-abbrev pub WritesTable : Option Sort → List Row → Job → Tree → Option (List ℕ) → Option (List ℕ) → Type 0
-WritesTable None rows job t old new = WritesReport rows job (languages_after rows job t) old new
-WritesTable (Some sort) rows job t old new = ⊤
-
--- what a run writes; of a stream nothing is said
-abbrev pub Outputs : Wanted → List Row → Job → Tree → Option (List ℕ) → Option (List ℕ) → Type 0
-Outputs (Document format) rows job t old new = WritesDocument rows job t old new
-Outputs Table rows job t old new = WritesTable (sort_of job) rows job t old new
-Outputs (Stream form) rows job t old new = ⊤
-
--- without a sort the text is the report of languages in the table's order
+-- a text is the report of languages: in the table's order, or in the order of the sort
 abbrev pub IsTable : Option Sort → List Row → Job → List (ℕ × LanguageValue) → List ℕ → Type 0
 IsTable None rows job languages text = IsReport rows job languages languages text
-IsTable (Some sort) rows job languages text = ⊤
+IsTable (Some sort) rows job languages text = IsReport rows job (listed_by sort job.reverse languages) (sorted_languages sort languages) text
+
+-- the report of a job's languages is written
+pub record WritesTable (rows : List Row) (job : Job) (t : Tree) (old new : Option (List ℕ)) : Type 0 where
+  pub text : List ℕ
+  pub report : IsTable (sort_of job) rows job (languages_after rows job t) text
+  pub appended : Appends old new text
+
+-- behind what stood there a writer has the stream of a job's files, and nothing else
+abbrev pub WritesStream : Streaming → List Row → Job → Tree → Option (List ℕ) → Option (List ℕ) → Type 0
+WritesStream form rows job t old new = Appends old new (stream_text form rows (counting_of rows job) t (files_of job t))
+
+-- what a run writes
+abbrev pub Outputs : Wanted → List Row → Job → Tree → Option (List ℕ) → Option (List ℕ) → Type 0
+Outputs (Document format) rows job t old new = WritesDocument rows job t old new
+Outputs Table rows job t old new = WritesTable rows job t old new
+Outputs (Stream form) rows job t old new = WritesStream form rows job t old new

@@ -4,8 +4,9 @@ ghost use Rattle.tokei_folders.specs.Answers.{Told};
 ghost use Rattle.tokei_languages.specs.Seen.{languages_of};
 ghost use Rattle.tokei_walk.specs.Notes.{Grows, notes_of_excludes};
 ghost use Rattle.tokei_walk.specs.Walks.{texts_of};
-ghost use Rattle.tokei.specs.declared.error.RunError.TheVariants.{Write};
+ghost use Rattle.tokei.specs.declared.error.RunError.TheVariants.{Overflow as SumOverflow, Write};
 ghost use Rattle.tokei.specs.Runs.{earlier_of, languages_after};
+ghost use Rattle.tokei.specs.Sums.{TallyFits};
 
 use crate::error::RunError;
 use crate::job::Job;
@@ -31,7 +32,7 @@ fn copied(alloc: Global, languages: &Languages) -> Result<Languages, CountError>
 }
 
 /// The languages of earlier runs.
-fn earlier(alloc: Global, job: &Job) -> Result<Languages, CountError>
+pub(crate) fn earlier(alloc: Global, job: &Job) -> Result<Languages, CountError>
     ensures ok { IfOk result (λ languages. languages_of languages ≡ earlier_of job.now.earlier) }
     ensures memory { IfErr result (λ e. e ≡ CountError.Memory) }
 {
@@ -60,6 +61,7 @@ pub(crate) fn tally_of<F: Folders>(
     ensures told { Told (F.tree folders.old) (λ t. IfOk result (λ tally.
         languages_of tally.languages ≡ languages_after table.now job.now t)) }
     ensures unwritten { result ≢ Err Write }
+    ensures overflow { result ≡ Err SumOverflow → Told (F.tree folders.old) (λ t. ¬ TallyFits table.now job.now t) }
     ensures notes { IfOk result (λ tally.
         Grows (notes_of_excludes (texts_of job.now.ignored.items)) tally.notes.items) }
     ensures honest { OnOk result (F.memory_faults folders.old < u64.MAX

@@ -1,13 +1,18 @@
 //! The printed report of a run.
 ghost use Rattle.std.specs.Prelude.{◌≡◌, ◌≢◌, ◌≤◌, ◌++◌, ◌∷◌, [], Err, IfOk, OnOk};
+ghost use Rattle.std.specs.Ordering.{is_lt};
 ghost use Rattle.tokei_languages.specs.Seen.{language_of, languages_of};
+ghost use Rattle.tokei_languages.specs.Sorting.{sorted_languages};
 ghost use Rattle.tokei_print.specs.Listed.{languages_in};
-ghost use Rattle.tokei.specs.declared.error.RunError.TheVariants.{Write};
-ghost use Rattle.tokei.specs.Output.{columns_of, count_of, sort_of, warning_of, IsReport, IsTable};
+ghost use Rattle.tokei.specs.declared.error.RunError.TheVariants.{Overflow, Write};
+ghost use Rattle.tokei.specs.Output.{columns_of, sort_of, warning_of, IsReport, IsTable};
+ghost use Rattle.tokei.specs.Sorted.{count_of, in_list_order, language_goes_first, languages_sorted, listed_by};
+ghost use Rattle.tokei.specs.Sums.{ReportFits, TableFits};
 
 use crate::error::RunError;
 use crate::job::Job;
 use std::alloc::{AllocError, Global};
+use std::cmp::Ordering;
 use tokei_io::Counted;
 use tokei_languages::{Language, Languages};
 use tokei_options::Sort;
@@ -64,6 +69,7 @@ fn warn(printer: &mut Printer<Counted<Vec<u8>>>, languages: &Languages) -> Resul
     ensures bytes { OnOk result (printer.new.writer.inner.items
         ≡ printer.old.writer.inner.items ++ warning_of (languages_of languages.now)) }
     ensures layout { printer.new.layout ≡ printer.old.layout }
+    ensures overflow { result ≢ Err PrintError.Overflow }
 {
     if languages.is_inaccurate() {
         return printer.print_inaccuracy_warning();
@@ -81,6 +87,8 @@ fn shown(
 ) -> Result<Vec<u8>, RunError>
     ensures text { IfOk result (λ v.
         IsReport table.now job.now (languages_in listed.now) (languages_of languages.now) v.items) }
+    ensures overflow { result ≡ Err Overflow
+        → ¬ ReportFits job.now (languages_in listed.now) (languages_of languages.now) }
     ensures unwritten { result ≢ Err Write }
 {
     let buffer = Counted::new(Vec::new(alloc));
@@ -103,6 +111,8 @@ fn report(
 ) -> Result<Vec<u8>, RunError>
     ensures text { IfOk result (λ v.
         IsReport table.now job.now (languages_of languages.now) (languages_of languages.now) v.items) }
+    ensures overflow { result ≡ Err Overflow
+        → ¬ ReportFits job.now (languages_of languages.now) (languages_of languages.now) }
     ensures unwritten { result ≢ Err Write }
 {
     let all = listed(alloc, languages)?;
@@ -124,6 +134,42 @@ fn count_of(sort: Sort, language: &Language) -> u128
     }
 }
 
+/// How the sort puts the first language to the second.
+fn order_of(sort: Sort, first: &Language, second: &Language) -> Ordering
+    ensures { is_lt result ≡ language_goes_first sort (language_of first.now) (language_of second.now) }
+{
+    count_of(sort, second).cmp(&count_of(sort, first))
+}
+
+/// The languages in the order of the sort; those of equal counts stay in the table's order.
+fn sorted(
+    alloc: Global,
+    sort: Sort,
+    languages: &Languages,
+) -> Result<Vec<(LanguageType, &Language)>, AllocError>
+    ensures { IfOk result (λ v. languages_in v.items ≡ languages_sorted sort (languages_of languages.entry.now)) }
+{
+    let mut all = listed(alloc, languages)?;
+    all.sort_by(|first, second| order_of(sort, first.1, second.1))?;
+    Ok(all)
+}
+
+/// The languages as a sorted report lists them.
+fn in_list_order(
+    alloc: Global,
+    sort: Sort,
+    reversed: bool,
+    languages: &Languages,
+) -> Result<Vec<(LanguageType, &Language)>, AllocError>
+    ensures { IfOk result (λ v. languages_in v.items ≡ in_list_order sort reversed (languages_of languages.entry.now)) }
+{
+    let mut all = sorted(alloc, sort, languages)?;
+    if reversed {
+        all.reverse();
+    }
+    Ok(all)
+}
+
 /// The report of languages in the order of the sort.
 fn sorted_report(
     alloc: Global,
@@ -132,14 +178,16 @@ fn sorted_report(
     sort: Sort,
     languages: Languages,
 ) -> Result<Vec<u8>, RunError>
+    ensures text { IfOk result (λ v. IsReport table.now job.now
+        (listed_by sort job.now.reverse (languages_of languages))
+        (sorted_languages sort (languages_of languages)) v.items) }
+    ensures overflow { result ≡ Err Overflow → ¬ ReportFits job.now
+        (listed_by sort job.now.reverse (languages_of languages))
+        (sorted_languages sort (languages_of languages)) }
     ensures unwritten { result ≢ Err Write }
 {
     let languages = languages.with_sorted_reports(sort)?;
-    let mut all = listed(alloc, &languages)?;
-    all.sort_by(|a, b| count_of(sort, b.1).cmp(&count_of(sort, a.1)))?;
-    if job.reverse {
-        all.reverse();
-    }
+    let all = in_list_order(alloc, sort, job.reverse, &languages)?;
     shown(alloc, table, job, &all, &languages)
 }
 
@@ -152,6 +200,8 @@ pub(crate) fn table_text(
 ) -> Result<Vec<u8>, RunError>
     ensures text { IfOk result (λ v.
         IsTable (sort_of job.now) table.now job.now (languages_of languages) v.items) }
+    ensures overflow { result ≡ Err Overflow
+        → ¬ TableFits (sort_of job.now) job.now (languages_of languages) }
     ensures unwritten { result ≢ Err Write }
 {
     match sort_of(job) {

@@ -2,8 +2,9 @@
 ghost use Rattle.std.specs.Prelude.{◌≡◌, ◌≢◌, ◌<◌, Err, OnOk};
 ghost use Rattle.std.specs.Io.KnownBytes.{Appends};
 ghost use Rattle.tokei_folders.specs.Answers.{Told};
-ghost use Rattle.tokei.specs.declared.error.RunError.TheVariants.{Write as WriteFault};
-ghost use Rattle.tokei.specs.Output.{sort_of, Outputs, WritesDocument, WritesTable};
+ghost use Rattle.tokei.specs.declared.error.RunError.TheVariants.{Overflow as SumOverflow, Write as WriteFault};
+ghost use Rattle.tokei.specs.Output.{Outputs, WritesDocument, WritesTable};
+ghost use Rattle.tokei.specs.Sums.{DocumentFits, EarlierFits, Fits, RunTableFits};
 
 use crate::counting::tally_of;
 use crate::error::RunError;
@@ -24,6 +25,7 @@ pub(crate) fn put<W: Sink>(writer: &mut W, text: &[u8]) -> Result<(), RunError>
         → W.faults writer.old < W.faults writer.new }
     ensures no_fault { W.faults writer.old < u64.MAX → result ≢ Err WriteFault
         → W.faults writer.new ≡ W.faults writer.old }
+    ensures overflow { result ≢ Err SumOverflow }
 {
     match writer.put(text) {
         Ok(()) => Ok(()),
@@ -42,6 +44,8 @@ fn write_document<F: Folders, W: Sink>(
     ensures same { F.tree folders.new ≡ F.tree folders.old }
     ensures told { Told (F.tree folders.old) (λ t. OnOk result (WritesDocument
         table.now job.now t (W.contents writer.old) (W.contents writer.new))) }
+    ensures overflow { result ≡ Err SumOverflow → Told (F.tree folders.old) (λ t.
+        ¬ DocumentFits table.now job.now t) }
     ensures fault { W.faults writer.old < u64.MAX → result ≡ Err WriteFault
         → W.faults writer.old < W.faults writer.new }
     ensures no_fault { W.faults writer.old < u64.MAX → result ≢ Err WriteFault
@@ -64,8 +68,10 @@ fn write_table<F: Folders, W: Sink>(
     writer: &mut W,
 ) -> Result<Vec<Note>, RunError>
     ensures same { F.tree folders.new ≡ F.tree folders.old }
-    ensures told { Told (F.tree folders.old) (λ t. OnOk result (WritesTable (sort_of job.now)
+    ensures told { Told (F.tree folders.old) (λ t. OnOk result (WritesTable
         table.now job.now t (W.contents writer.old) (W.contents writer.new))) }
+    ensures overflow { result ≡ Err SumOverflow → Told (F.tree folders.old) (λ t.
+        ¬ RunTableFits table.now job.now t) }
     ensures fault { W.faults writer.old < u64.MAX → result ≡ Err WriteFault
         → W.faults writer.old < W.faults writer.new }
     ensures no_fault { W.faults writer.old < u64.MAX → result ≢ Err WriteFault
@@ -94,6 +100,9 @@ pub fn run<F: Folders, W: Sink>(
     ensures same { F.tree folders.new ≡ F.tree folders.old }
     ensures told { Told (F.tree folders.old) (λ t. OnOk result (Outputs job.now.wanted
         table.now job.now t (W.contents writer.old) (W.contents writer.new))) }
+    ensures overflow { result ≡ Err SumOverflow → Told (F.tree folders.old) (λ t.
+        ¬ Fits job.now.wanted table.now job.now t) }
+    ensures earlier { OnOk result (EarlierFits job.now.wanted job.now) }
     ensures fault { W.faults writer.old < u64.MAX → result ≡ Err WriteFault
         → W.faults writer.old < W.faults writer.new }
     ensures no_fault { W.faults writer.old < u64.MAX → result ≢ Err WriteFault

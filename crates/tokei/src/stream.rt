@@ -1,20 +1,94 @@
 //! A row for each file, written as it is counted.
-ghost use Rattle.std.specs.Prelude.{◌≡◌, ◌≢◌, ◌<◌, Err, OnOk};
-ghost use Rattle.tokei.specs.declared.error.RunError.TheVariants.{Write as WriteFault};
+ghost use Rattle.std.specs.Prelude.{◌≡◌, ◌≢◌, ◌<◌, Err, IfOk, IsErrOf, OnOk, option_map};
+ghost use Rattle.std.specs.Io.KnownBytes.{Appends};
+ghost use Rattle.tokei_config.specs.Seen.{settings_of};
+ghost use Rattle.tokei_count.specs.Seen.{docs_of};
+ghost use Rattle.tokei_folders.specs.Answers.{Told};
+ghost use Rattle.tokei_languages.specs.Renewing.{RenewalFits};
+ghost use Rattle.tokei_languages.specs.Seen.{report_of as report_value};
+ghost use Rattle.tokei_print.specs.Names.{name_in};
+ghost use Rattle.tokei_print.specs.declared.streaming.Streaming.TheVariants.{Simple, Json};
+ghost use Rattle.tokei_statistics.specs.Configs.{is_on};
+ghost use Rattle.tokei_statistics.specs.Runs.{FileFits, ReadingsFit};
+ghost use Rattle.tokei_statistics.specs.Seen.{counting_of as counting_value};
+ghost use Rattle.tokei_walk.specs.Walks.{to_come};
+ghost use Rattle.tokei.specs.declared.error.RunError.TheVariants.{Overflow as SumOverflow, Write as WriteFault};
+ghost use Rattle.tokei.specs.Output.{WritesStream};
+ghost use Rattle.tokei.specs.Runs.{earlier_of, files_of};
+ghost use Rattle.tokei.specs.Streams.{file_row, heading_of, report_of_file, report_row, rows_of, stream_text};
+ghost use Rattle.tokei.specs.Sums.{StreamFits};
 
+use crate::counting::earlier;
 use crate::error::RunError;
 use crate::job::Job;
 use crate::running::put;
 use std::alloc::Global;
+use tokei_config::Config;
 use tokei_count::{CountConfig, Counter};
 use tokei_folders::Folders;
 use tokei_io::Sink;
 use tokei_json::report_line;
 use tokei_print::{PrintError, Streaming, print_stream_heading, print_stream_row};
 use tokei_statistics::{Counting, ParseFault, rules};
-use tokei_stats::Report;
+use tokei_stats::{CountError, Report};
 use tokei_table::{LanguageTable, LanguageType};
 use tokei_walk::{KeptFile, Note, Walk};
+
+/// The name of a language; one that isn't of the table has an empty name.
+fn name_of(table: &LanguageTable, language: LanguageType) -> &str
+    ensures { result.now ≡ name_in table.entry.now language }
+{
+    if table.has(language) {
+        language.name(table)
+    } else {
+        ""
+    }
+}
+
+/// Writes the columns of a report.
+fn write_columns<W: Sink>(
+    alloc: Global,
+    table: &LanguageTable,
+    language: LanguageType,
+    report: &Report,
+    writer: &mut W,
+) -> Result<(), RunError>
+    ensures bytes { OnOk result (Appends (W.contents writer.old) (W.contents writer.new)
+        (report_row Simple table.now language (report_value report.now))) }
+    ensures fault { W.faults writer.old < u64.MAX → result ≡ Err WriteFault
+        → W.faults writer.old < W.faults writer.new }
+    ensures no_fault { W.faults writer.old < u64.MAX → result ≢ Err WriteFault
+        → W.faults writer.new ≡ W.faults writer.old }
+    ensures overflow { result ≢ Err SumOverflow }
+{
+    match print_stream_row(alloc, writer, name_of(table, language), report) {
+        Ok(()) => Ok(()),
+        Err(PrintError::Memory) => Err(RunError::Memory),
+        Err(PrintError::Overflow) => Err(RunError::Overflow),
+        Err(PrintError::Write) => Err(RunError::Write),
+    }
+}
+
+/// Writes a report as one line of JSON.
+fn write_line<W: Sink>(
+    alloc: Global,
+    table: &LanguageTable,
+    language: LanguageType,
+    report: &Report,
+    writer: &mut W,
+) -> Result<(), RunError>
+    ensures bytes { OnOk result (Appends (W.contents writer.old) (W.contents writer.new)
+        (report_row Json table.now language (report_value report.now))) }
+    ensures fault { W.faults writer.old < u64.MAX → result ≡ Err WriteFault
+        → W.faults writer.old < W.faults writer.new }
+    ensures no_fault { W.faults writer.old < u64.MAX → result ≢ Err WriteFault
+        → W.faults writer.new ≡ W.faults writer.old }
+    ensures overflow { result ≢ Err SumOverflow }
+{
+    let mut line = report_line(alloc, table, language, report)?;
+    line.push('\n')?;
+    put(writer, line.as_bytes())
+}
 
 /// Writes the row of a report.
 fn write_row<W: Sink>(
@@ -25,38 +99,32 @@ fn write_row<W: Sink>(
     report: &Report,
     writer: &mut W,
 ) -> Result<(), RunError>
+    ensures bytes { OnOk result (Appends (W.contents writer.old) (W.contents writer.new)
+        (report_row form table.now language (report_value report.now))) }
     ensures fault { W.faults writer.old < u64.MAX → result ≡ Err WriteFault
         → W.faults writer.old < W.faults writer.new }
     ensures no_fault { W.faults writer.old < u64.MAX → result ≢ Err WriteFault
         → W.faults writer.new ≡ W.faults writer.old }
+    ensures overflow { result ≢ Err SumOverflow }
 {
     match form {
-        Streaming::Simple if table.has(language) => {
-            let name = language.name(table);
-            match print_stream_row(alloc, writer, name, report) {
-                Ok(()) => Ok(()),
-                Err(PrintError::Memory) => Err(RunError::Memory),
-                Err(PrintError::Overflow) => Err(RunError::Overflow),
-                Err(PrintError::Write) => Err(RunError::Write),
-            }
-        }
-        Streaming::Simple => Ok(()),
-        Streaming::Json => {
-            let line = report_line(alloc, table, language, report)?;
-            put(writer, line.as_bytes())?;
-            put(writer, b"\n")
-        }
+        Streaming::Simple => write_columns(alloc, table, language, report, writer),
+        Streaming::Json => write_line(alloc, table, language, report, writer),
     }
 }
 
-/// The report of a file, where it counts in a language and can be read.
+/// The report of a file beside its language, where it counts in one and can be read.
 fn report_of<F: Folders>(
     counting: &Counting,
     folders: &mut F,
     file: KeptFile,
 ) -> Result<Option<(LanguageType, Report)>, RunError>
     ensures same { F.tree folders.new ≡ F.tree folders.old }
+    ensures told { Told (F.tree folders.old) (λ t. IfOk result (λ o.
+        option_map (λ r. (r.0, report_value r.1)) o ≡ report_of_file (counting_value counting.now) t file)) }
     ensures unwritten { result ≢ Err WriteFault }
+    ensures overflow { result ≡ Err SumOverflow → Told (F.tree folders.old) (λ t.
+        ¬ FileFits (counting_value counting.now) t file) }
     ensures honest { OnOk result (F.memory_faults folders.old < u64.MAX
         → F.memory_faults folders.new ≡ F.memory_faults folders.old) }
 {
@@ -75,8 +143,38 @@ fn report_of<F: Folders>(
     }
 }
 
-/// Writes a row for each file that a walk still gives.
+/// Counts a file, and writes its row, where it has one, under the name of a language of the table.
+fn write_file<F: Folders, W: Sink>(
+    table: &LanguageTable,
+    counting: &Counting,
+    form: Streaming,
+    folders: &mut F,
+    file: KeptFile,
+    writer: &mut W,
+) -> Result<(), RunError>
+    ensures same { F.tree folders.new ≡ F.tree folders.old }
+    ensures told { Told (F.tree folders.old) (λ t. OnOk result (Appends (W.contents writer.old) (W.contents writer.new)
+        (file_row form table.now (counting_value counting.now) t file))) }
+    ensures overflow { result ≡ Err SumOverflow → Told (F.tree folders.old) (λ t.
+        ¬ FileFits (counting_value counting.now) t file) }
+    ensures fault { W.faults writer.old < u64.MAX → result ≡ Err WriteFault
+        → W.faults writer.old < W.faults writer.new }
+    ensures no_fault { W.faults writer.old < u64.MAX → result ≢ Err WriteFault
+        → W.faults writer.new ≡ W.faults writer.old }
+    ensures honest { OnOk result (F.memory_faults folders.old < u64.MAX
+        → F.memory_faults folders.new ≡ F.memory_faults folders.old) }
+{
+    match report_of(counting, folders, file)? {
+        None => Ok(()),
+        Some((language, report)) => {
+            write_row(counting.alloc, table, form, language, &report, writer)
+        }
+    }
+}
+
+/// Writes a row for each file that a walk still gives, as it gives it.
 fn write_rows<F: Folders, W: Sink>(
+    table: &LanguageTable,
     counting: &Counting,
     form: Streaming,
     folders: &mut F,
@@ -84,6 +182,10 @@ fn write_rows<F: Folders, W: Sink>(
     writer: &mut W,
 ) -> Result<(), RunError>
     ensures same { F.tree folders.new ≡ F.tree folders.old }
+    ensures told { Told (F.tree folders.old) (λ t. OnOk result (Appends (W.contents writer.old) (W.contents writer.new)
+        (rows_of form table.now (counting_value counting.now) t (to_come t walk.old)))) }
+    ensures overflow { result ≡ Err SumOverflow → Told (F.tree folders.old) (λ t.
+        ¬ ReadingsFit (counting_value counting.now) t (to_come t walk.old)) }
     ensures fault { W.faults writer.old < u64.MAX → result ≡ Err WriteFault
         → W.faults writer.old < W.faults writer.new }
     ensures no_fault { W.faults writer.old < u64.MAX → result ≢ Err WriteFault
@@ -92,20 +194,19 @@ fn write_rows<F: Folders, W: Sink>(
         → F.memory_faults folders.new ≡ F.memory_faults folders.old) }
 {
     while let Some(file) = walk.next(folders)? {
-        if let Some((language, report)) = report_of(counting, folders, file)? {
-            let table = counting.counter.table();
-            write_row(counting.alloc, table, form, language, &report, writer)?;
-        }
+        write_file(table, counting, form, folders, file, writer)?;
     }
     Ok(())
 }
 
 /// Writes the heading of a stream, where it has one.
 fn write_heading<W: Sink>(form: Streaming, writer: &mut W) -> Result<(), RunError>
+    ensures bytes { OnOk result (Appends (W.contents writer.old) (W.contents writer.new) (heading_of form)) }
     ensures fault { W.faults writer.old < u64.MAX → result ≡ Err WriteFault
         → W.faults writer.old < W.faults writer.new }
     ensures no_fault { W.faults writer.old < u64.MAX → result ≢ Err WriteFault
         → W.faults writer.new ≡ W.faults writer.old }
+    ensures overflow { result ≢ Err SumOverflow }
 {
     match form {
         Streaming::Json => Ok(()),
@@ -118,7 +219,64 @@ fn write_heading<W: Sink>(form: Streaming, writer: &mut W) -> Result<(), RunErro
     }
 }
 
-/// Writes a row for each file of a job, as it is counted, and answers what the walk passed over. No report is kept.
+/// Renews the counts of earlier results, which a stream doesn't show: it only asks whether they fit.
+fn test_earlier(alloc: Global, job: &Job) -> Result<(), CountError>
+    ensures overflow { IsErrOf result CountError.Overflow → ¬ RenewalFits (earlier_of job.now.earlier) }
+    ensures fits { OnOk result (RenewalFits (earlier_of job.now.earlier)) }
+{
+    let mut languages = earlier(alloc, job)?;
+    languages.renew_counts()
+}
+
+/// Writes the heading of a stream, and a row for each file of a job.
+fn write_stream<F: Folders, W: Sink>(
+    table: &LanguageTable,
+    counting: &Counting,
+    form: Streaming,
+    folders: &mut F,
+    job: &Job,
+    writer: &mut W,
+) -> Result<Vec<Note>, RunError>
+    ensures same { F.tree folders.new ≡ F.tree folders.old }
+    ensures told { Told (F.tree folders.old) (λ t. OnOk result (Appends (W.contents writer.old) (W.contents writer.new)
+        (stream_text form table.now (counting_value counting.now) t (files_of job.now t)))) }
+    ensures overflow { result ≡ Err SumOverflow → Told (F.tree folders.old) (λ t.
+        ¬ ReadingsFit (counting_value counting.now) t (files_of job.now t)) }
+    ensures fault { W.faults writer.old < u64.MAX → result ≡ Err WriteFault
+        → W.faults writer.old < W.faults writer.new }
+    ensures no_fault { W.faults writer.old < u64.MAX → result ≢ Err WriteFault
+        → W.faults writer.new ≡ W.faults writer.old }
+    ensures honest { OnOk result (F.memory_faults folders.old < u64.MAX
+        → F.memory_faults folders.new ≡ F.memory_faults folders.old) }
+{
+    let obeyed = rules(&job.config);
+    let mut walk = Walk::new(counting.alloc, &job.paths, &job.ignored, &obeyed)?;
+    write_heading(form, writer)?;
+    write_rows(table, counting, form, folders, &mut walk, writer)?;
+    Ok(walk.into_notes())
+}
+
+/// How a configuration counts texts.
+fn count_config(config: &Config) -> CountConfig
+    ensures { docs_of result ≡ is_on (settings_of config.now).treat_doc_strings_as_comments }
+{
+    CountConfig {
+        treat_doc_strings_as_comments: config.treat_doc_strings_as_comments,
+    }
+}
+
+/// The languages that a configuration counts; `None` means all.
+fn types(config: &Config) -> Option<&[LanguageType]>
+    ensures { option_map (λ types. types.now) result ≡ (settings_of config.entry.now).types }
+{
+    match &config.types {
+        Some(types) => Some(types.as_slice()),
+        None => None,
+    }
+}
+
+/// Writes a row for each file of a job, as it is counted, and answers what the walk passed over. No report is kept, and no
+/// file is counted where the renewed counts of earlier results don't fit.
 pub(crate) fn stream<F: Folders, W: Sink>(
     alloc: Global,
     table: &LanguageTable,
@@ -128,6 +286,11 @@ pub(crate) fn stream<F: Folders, W: Sink>(
     writer: &mut W,
 ) -> Result<Vec<Note>, RunError>
     ensures same { F.tree folders.new ≡ F.tree folders.old }
+    ensures told { Told (F.tree folders.old) (λ t. OnOk result (WritesStream form
+        table.now job.now t (W.contents writer.old) (W.contents writer.new))) }
+    ensures overflow { result ≡ Err SumOverflow → Told (F.tree folders.old) (λ t.
+        ¬ StreamFits table.now job.now t) }
+    ensures earlier { OnOk result (RenewalFits (earlier_of job.now.earlier)) }
     ensures fault { W.faults writer.old < u64.MAX → result ≡ Err WriteFault
         → W.faults writer.old < W.faults writer.new }
     ensures no_fault { W.faults writer.old < u64.MAX → result ≢ Err WriteFault
@@ -135,21 +298,14 @@ pub(crate) fn stream<F: Folders, W: Sink>(
     ensures honest { OnOk result (F.memory_faults folders.old < u64.MAX
         → F.memory_faults folders.new ≡ F.memory_faults folders.old) }
 {
+    test_earlier(alloc, job)?;
     let extended = job.config.extended_table(alloc, table)?;
     let counter = Counter::new(alloc, &extended)?;
     let counting = Counting {
         alloc,
         counter: &counter,
-        config: CountConfig {
-            treat_doc_strings_as_comments: job.config.treat_doc_strings_as_comments,
-        },
-        types: match &job.config.types {
-            Some(types) => Some(types.as_slice()),
-            None => None,
-        },
+        config: count_config(&job.config),
+        types: types(&job.config),
     };
-    let mut walk = Walk::new(alloc, &job.paths, &job.ignored, &rules(&job.config))?;
-    write_heading(form, writer)?;
-    write_rows(&counting, form, folders, &mut walk, writer)?;
-    Ok(walk.into_notes())
+    write_stream(table, &counting, form, folders, job, writer)
 }

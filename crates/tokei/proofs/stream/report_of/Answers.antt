@@ -1,0 +1,25 @@
+use Rattle.std.proofs.Common.{Err, ap, sym, ◌∙◌}
+use Rattle.tokei_stats.specs.Seen.{stats_of}
+use Rattle.tokei_statistics.specs.Contents.{content_at, stats_at}
+use Rattle.tokei_statistics.specs.Seen.{counting_of}
+use Rattle.tokei.proofs.FileReports.{in_no_language, was_read, was_refused}
+use Rattle.tokei.proofs.stream.report_of.Goals as goal
+
+pub returns-in-None-clause-told : goal.returns-in-None-clause-told
+returns-in-None-clause-told g c = λ t e.
+    in_no_language (counting_of c.args.counting.now) t c.args.file c.in_ok-language.field-0 (c.in_ok-language.ensures.told t e) c.in-None.is
+
+pub returns-in-Ok-clause-told : goal.returns-in-Ok-clause-told
+returns-in-Ok-clause-told g c = λ t e.
+    let by = counting_of c.args.counting.now in
+    let here = c.language.ensures.same ∙ e in
+    let read = c.in-Ok.ensures.told t here ∙ ap (stats_at t by.rows by.docs c.in-Some.language) c.as_str.ensures in
+    was_read by t c.args.file c.in_ok-language.field-0 (c.in_ok-language.ensures.told t e) c.in-Some.language (stats_of c.in-Ok.stats) _ c.in-Some.is read
+    (λ i. record { name = c.into_string-name.ensures i; stats = stats_of c.in-Ok.stats })
+
+pub returns-in-Err-Refused-clause-told : goal.returns-in-Err-Refused-clause-told
+returns-in-Err-Refused-clause-told g c = λ t e.
+    let by = counting_of c.args.counting.now in
+    let here = c.language.ensures.same ∙ e in
+    let refused = c.in-Err-Refused.ensures.refused (ap (λ x. Err x) c.in-Err-Refused.field-0-is) t here in
+    was_refused by t c.args.file c.in_ok-language.field-0 (c.in_ok-language.ensures.told t e) c.in-Some.language c.in-Some.is (sym (ap (content_at t) c.as_str.ensures) ∙ refused)

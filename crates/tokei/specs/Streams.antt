@@ -1,0 +1,54 @@
+-- A stream: a row for each file that counts in a language and can be read, in the order of the walk, and nothing behind
+-- the last one.
+use Rattle.std.specs.Prelude.{ℕ, List, [], ◌∷◌, ◌++◌, Option, None, Some, option_and_then, option_map}
+use Rattle.std.specs.List.{flat_map}
+use Rattle.serde_json.specs.Written.{compact_text}
+use Rattle.tokei_folders.specs.Tree.{Tree}
+use Rattle.tokei_json.specs.Document.{line_data}
+use Rattle.tokei_languages.specs.Values.{ReportValue}
+use Rattle.tokei_print.specs.Names.{name_in}
+use Rattle.tokei_print.specs.StreamRows.{stream_heading, stream_row}
+use Rattle.tokei_print.specs.Rules.{newline}
+use Rattle.tokei_print.specs.declared.streaming.Streaming.{Streaming}
+use Rattle.tokei_print.specs.declared.streaming.Streaming.TheVariants.{Simple, Json}
+use Rattle.tokei_statistics.specs.Contents.{stats_at}
+use Rattle.tokei_statistics.specs.Runs.{Counting, language_of_file}
+use Rattle.tokei_stats.specs.Statistics.{own}
+use Rattle.tokei_table.specs.Row.{Row}
+use Rattle.tokei_walk.specs.declared.kept_file.KeptFile.{KeptFile}
+
+-- what stands above the rows
+abbrev pub heading_of : Streaming → List ℕ
+heading_of Simple = stream_heading
+heading_of Json = []
+
+-- the row of a file's report, under the name of its language
+abbrev pub report_row : Streaming → List Row → ℕ → ReportValue → List ℕ
+report_row Simple rows language r = stream_row (name_in rows language) r.name (own r.stats)
+report_row Json rows language r = compact_text (line_data rows language r) ++ newline
+
+-- the report of a file in a language, where the file can be read
+abbrev pub report_in : Counting → Tree → KeptFile → ℕ → Option (ℕ × ReportValue)
+report_in c t file language =
+    option_map (λ s. (language, record { name = file.path; stats = s })) (stats_at t c.rows c.docs language file.place)
+
+-- the report of a file beside its language, where it counts in one and can be read
+unfoldable pub report_of_file : Counting → Tree → KeptFile → Option (ℕ × ReportValue)
+report_of_file c t file = option_and_then (report_in c t file) (language_of_file c t file)
+
+-- the row of a report, if there is one
+abbrev pub row_of : Streaming → List Row → Option (ℕ × ReportValue) → List ℕ
+row_of form rows None = []
+row_of form rows (Some report) = report_row form rows report.0 report.1
+
+-- the row of a file
+abbrev pub file_row : Streaming → List Row → Counting → Tree → KeptFile → List ℕ
+file_row form rows c t file = row_of form rows (report_of_file c t file)
+
+-- the rows of files, in their order
+abbrev pub rows_of : Streaming → List Row → Counting → Tree → List KeptFile → List ℕ
+rows_of form rows c t files = flat_map (file_row form rows c t) files
+
+-- the rows below their heading
+abbrev pub stream_text : Streaming → List Row → Counting → Tree → List KeptFile → List ℕ
+stream_text form rows c t files = heading_of form ++ rows_of form rows c t files
