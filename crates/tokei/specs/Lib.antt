@@ -4,3 +4,4 @@ pub mod Output
 pub mod Sorted
 pub mod Streams
 pub mod Sums
+pub mod Refused

@@ -13,17 +13,31 @@ pub use error::RunError;
 pub use job::{Job, Wanted};
 pub use running::run;
 pub use tokei_config::{Config, ConfigDirs, LanguageConfig};
+pub use tokei_count::{
+    Capture, CountConfig, Counter, FileContext, HtmlLike, LanguageContext, SharedMatchers,
+    SimpleCapture, count_plain, decode_text, end_lf, end_markdown, end_script, end_style,
+    end_template, find_char_boundary, parse_counted, parse_from_slice, parse_from_str, start_lf,
+    start_markdown, start_script, start_style, start_template,
+};
 pub use tokei_folders::{
     Above, Call, Entry, FailingFolders, Fault, Folders, Items, Kind, Listing, MemoryFolders, Text,
 };
 pub use tokei_ignore::{IgnoreFile, Pattern, PatternError, Verdict};
 pub use tokei_io::{Counted, FailOnce, Sink, Source};
-pub use tokei_json::{Format, FormatError, InputError, add_input, from_value, to_value};
+pub use tokei_json::{
+    Format, FormatError, InputError, add_input, from_value, report_line, to_value,
+};
 pub use tokei_languages::{Language, Languages};
 pub use tokei_options::{Sort, SortError};
 pub use tokei_print::{
     NumberFormat, NumberFormatStyle, PrintError, Printer, Streaming, StreamingError, StyleError,
+    print_stream_heading, print_stream_row,
 };
+pub use tokei_statistics::{CountFiles, ParseFault, from_path, from_shebang, parse_file};
 pub use tokei_stats::{CodeStats, CountError, Report, ReportRow};
-pub use tokei_table::{LanguageTable, LanguageType, TableError};
+pub use tokei_table::{
+    LanguageTable, LanguageType, OpenerIndex, Syntax, TableError, contains_slice, has_extension,
+    is_blank_text, is_line_ending_whitespace, is_whitespace, trim,
+    trim_first_and_last_line_of_whitespace, trim_start,
+};
 pub use tokei_walk::{Kept, KeptFile, Note, NoteKind, Rules, Walk, kept_files};

@@ -1,16 +1,17 @@
 //! A whole run: what is counted is written.
-ghost use Rattle.std.specs.Prelude.{◌≡◌, ◌≢◌, ◌<◌, Err, OnOk};
+ghost use Rattle.std.specs.Prelude.{◌≡◌, ◌≢◌, ◌<◌, Err, IfErr, OnOk};
 ghost use Rattle.std.specs.Io.KnownBytes.{Appends};
 ghost use Rattle.tokei_folders.specs.Answers.{Told};
 ghost use Rattle.tokei.specs.declared.error.RunError.TheVariants.{Overflow as SumOverflow, Write as WriteFault};
 ghost use Rattle.tokei.specs.Output.{Outputs, WritesDocument, WritesTable};
+ghost use Rattle.tokei.specs.Refused.{IsUntouched};
 ghost use Rattle.tokei.specs.Sums.{DocumentFits, EarlierFits, Fits, RunTableFits};
 
 use crate::counting::tally_of;
 use crate::error::RunError;
 use crate::job::{Job, Wanted};
 use crate::report::table_text;
-use crate::stream::stream;
+use crate::stream::{Rows, stream};
 use std::alloc::Global;
 use tokei_folders::Folders;
 use tokei_io::Sink;
@@ -25,6 +26,7 @@ pub(crate) fn put<W: Sink>(writer: &mut W, text: &[u8]) -> Result<(), RunError>
         → W.faults writer.old < W.faults writer.new }
     ensures no_fault { W.faults writer.old < u64.MAX → result ≢ Err WriteFault
         → W.faults writer.new ≡ W.faults writer.old }
+    ensures untouched { IfErr result (λ e. e ≢ WriteFault → W.contents writer.new ≡ W.contents writer.old) }
     ensures overflow { result ≢ Err SumOverflow }
 {
     match writer.put(text) {
@@ -46,6 +48,7 @@ fn write_document<F: Folders, W: Sink>(
         table.now job.now t (W.contents writer.old) (W.contents writer.new))) }
     ensures overflow { result ≡ Err SumOverflow → Told (F.tree folders.old) (λ t.
         ¬ DocumentFits table.now job.now t) }
+    ensures untouched { IfErr result (λ e. e ≢ WriteFault → W.contents writer.new ≡ W.contents writer.old) }
     ensures fault { W.faults writer.old < u64.MAX → result ≡ Err WriteFault
         → W.faults writer.old < W.faults writer.new }
     ensures no_fault { W.faults writer.old < u64.MAX → result ≢ Err WriteFault
@@ -72,6 +75,7 @@ fn write_table<F: Folders, W: Sink>(
         table.now job.now t (W.contents writer.old) (W.contents writer.new))) }
     ensures overflow { result ≡ Err SumOverflow → Told (F.tree folders.old) (λ t.
         ¬ RunTableFits table.now job.now t) }
+    ensures untouched { IfErr result (λ e. e ≢ WriteFault → W.contents writer.new ≡ W.contents writer.old) }
     ensures fault { W.faults writer.old < u64.MAX → result ≡ Err WriteFault
         → W.faults writer.old < W.faults writer.new }
     ensures no_fault { W.faults writer.old < u64.MAX → result ≢ Err WriteFault
@@ -88,8 +92,9 @@ fn write_table<F: Folders, W: Sink>(
 /// Counts the files of a job, beside the results of earlier runs, and writes what is wanted of them. What the walk passed
 /// over is answered.
 ///
-/// `Overflow` comes only where a sum passes the greatest `usize`, and `Write` only where the writer had a fault; nothing is
-/// said then of what was written. The folders keep their tree.
+/// `Overflow` comes only where a sum passes the greatest `usize`, and `Write` only where the writer had a fault; after
+/// `Write` nothing is said of what was written. After `Memory` and `Overflow` nothing of a document or a report is written;
+/// of a stream nothing is said then. The folders keep their tree.
 pub fn run<F: Folders, W: Sink>(
     alloc: Global,
     table: &LanguageTable,
@@ -102,6 +107,8 @@ pub fn run<F: Folders, W: Sink>(
         table.now job.now t (W.contents writer.old) (W.contents writer.new))) }
     ensures overflow { result ≡ Err SumOverflow → Told (F.tree folders.old) (λ t.
         ¬ Fits job.now.wanted table.now job.now t) }
+    ensures untouched { IfErr result (λ e. e ≢ WriteFault
+        → IsUntouched job.now.wanted (W.contents writer.old) (W.contents writer.new)) }
     ensures earlier { OnOk result (EarlierFits job.now.wanted job.now) }
     ensures fault { W.faults writer.old < u64.MAX → result ≡ Err WriteFault
         → W.faults writer.old < W.faults writer.new }
@@ -111,7 +118,14 @@ pub fn run<F: Folders, W: Sink>(
         → F.memory_faults folders.new ≡ F.memory_faults folders.old) }
 {
     match &job.wanted {
-        Wanted::Stream(form) => stream(alloc, table, folders, job, *form, writer),
+        Wanted::Stream(form) => {
+            let rows = Rows {
+                alloc,
+                table,
+                form: *form,
+            };
+            stream(&rows, folders, job, writer)
+        }
         Wanted::Document(Format::Json) => write_document(alloc, table, folders, job, writer),
         Wanted::Table => write_table(alloc, table, folders, job, writer),
     }

@@ -2,13 +2,11 @@
 ghost use Rattle.std.specs.Prelude.{◌≡◌, ◌≢◌, ◌<◌, Err, IfOk, IsErrOf, OnOk, option_map};
 ghost use Rattle.std.specs.Io.KnownBytes.{Appends};
 ghost use Rattle.tokei_config.specs.Seen.{settings_of};
-ghost use Rattle.tokei_count.specs.Seen.{docs_of};
 ghost use Rattle.tokei_folders.specs.Answers.{Told};
 ghost use Rattle.tokei_languages.specs.Renewing.{RenewalFits};
 ghost use Rattle.tokei_languages.specs.Seen.{report_of as report_value};
 ghost use Rattle.tokei_print.specs.Names.{name_in};
 ghost use Rattle.tokei_print.specs.declared.streaming.Streaming.TheVariants.{Simple, Json};
-ghost use Rattle.tokei_statistics.specs.Configs.{is_on};
 ghost use Rattle.tokei_statistics.specs.Runs.{FileFits, ReadingsFit};
 ghost use Rattle.tokei_statistics.specs.Seen.{counting_of as counting_value};
 ghost use Rattle.tokei_walk.specs.Walks.{to_come};
@@ -24,7 +22,7 @@ use crate::job::Job;
 use crate::running::put;
 use std::alloc::Global;
 use tokei_config::Config;
-use tokei_count::{CountConfig, Counter};
+use tokei_count::Counter;
 use tokei_folders::Folders;
 use tokei_io::Sink;
 use tokei_json::report_line;
@@ -33,6 +31,15 @@ use tokei_statistics::{Counting, ParseFault, rules};
 use tokei_stats::{CountError, Report};
 use tokei_table::{LanguageTable, LanguageType};
 use tokei_walk::{KeptFile, Note, Walk};
+
+/// How the rows of a stream are written.
+#[derive(Drop)]
+pub(crate) struct Rows<'a> {
+    pub alloc: Global,
+    /// The table that names the languages.
+    pub table: &'a LanguageTable,
+    pub form: Streaming,
+}
 
 /// The name of a language; one that isn't of the table has an empty name.
 fn name_of(table: &LanguageTable, language: LanguageType) -> &str
@@ -47,21 +54,21 @@ fn name_of(table: &LanguageTable, language: LanguageType) -> &str
 
 /// Writes the columns of a report.
 fn write_columns<W: Sink>(
-    alloc: Global,
-    table: &LanguageTable,
+    rows: &Rows,
     language: LanguageType,
     report: &Report,
     writer: &mut W,
 ) -> Result<(), RunError>
     ensures bytes { OnOk result (Appends (W.contents writer.old) (W.contents writer.new)
-        (report_row Simple table.now language (report_value report.now))) }
+        (report_row Simple rows.now.table.now language (report_value report.now))) }
     ensures fault { W.faults writer.old < u64.MAX → result ≡ Err WriteFault
         → W.faults writer.old < W.faults writer.new }
     ensures no_fault { W.faults writer.old < u64.MAX → result ≢ Err WriteFault
         → W.faults writer.new ≡ W.faults writer.old }
     ensures overflow { result ≢ Err SumOverflow }
 {
-    match print_stream_row(alloc, writer, name_of(table, language), report) {
+    let name = name_of(rows.table, language);
+    match print_stream_row(rows.alloc, writer, name, report) {
         Ok(()) => Ok(()),
         Err(PrintError::Memory) => Err(RunError::Memory),
         Err(PrintError::Overflow) => Err(RunError::Overflow),
@@ -71,45 +78,42 @@ fn write_columns<W: Sink>(
 
 /// Writes a report as one line of JSON.
 fn write_line<W: Sink>(
-    alloc: Global,
-    table: &LanguageTable,
+    rows: &Rows,
     language: LanguageType,
     report: &Report,
     writer: &mut W,
 ) -> Result<(), RunError>
     ensures bytes { OnOk result (Appends (W.contents writer.old) (W.contents writer.new)
-        (report_row Json table.now language (report_value report.now))) }
+        (report_row Json rows.now.table.now language (report_value report.now))) }
     ensures fault { W.faults writer.old < u64.MAX → result ≡ Err WriteFault
         → W.faults writer.old < W.faults writer.new }
     ensures no_fault { W.faults writer.old < u64.MAX → result ≢ Err WriteFault
         → W.faults writer.new ≡ W.faults writer.old }
     ensures overflow { result ≢ Err SumOverflow }
 {
-    let mut line = report_line(alloc, table, language, report)?;
+    let mut line = report_line(rows.alloc, rows.table, language, report)?;
     line.push('\n')?;
     put(writer, line.as_bytes())
 }
 
 /// Writes the row of a report.
 fn write_row<W: Sink>(
-    alloc: Global,
-    table: &LanguageTable,
-    form: Streaming,
+    rows: &Rows,
     language: LanguageType,
     report: &Report,
     writer: &mut W,
 ) -> Result<(), RunError>
     ensures bytes { OnOk result (Appends (W.contents writer.old) (W.contents writer.new)
-        (report_row form table.now language (report_value report.now))) }
+        (report_row rows.now.form rows.now.table.now language (report_value report.now))) }
     ensures fault { W.faults writer.old < u64.MAX → result ≡ Err WriteFault
         → W.faults writer.old < W.faults writer.new }
     ensures no_fault { W.faults writer.old < u64.MAX → result ≢ Err WriteFault
         → W.faults writer.new ≡ W.faults writer.old }
     ensures overflow { result ≢ Err SumOverflow }
 {
-    match form {
-        Streaming::Simple => write_columns(alloc, table, language, report, writer),
-        Streaming::Json => write_line(alloc, table, language, report, writer),
+    match rows.form {
+        Streaming::Simple => write_columns(rows, language, report, writer),
+        Streaming::Json => write_line(rows, language, report, writer),
     }
 }
 
@@ -143,18 +147,17 @@ fn report_of<F: Folders>(
     }
 }
 
-/// Counts a file, and writes its row, where it has one, under the name of a language of the table.
+/// Counts a file, and writes its row, where it has one.
 fn write_file<F: Folders, W: Sink>(
-    table: &LanguageTable,
+    rows: &Rows,
     counting: &Counting,
-    form: Streaming,
     folders: &mut F,
     file: KeptFile,
     writer: &mut W,
 ) -> Result<(), RunError>
     ensures same { F.tree folders.new ≡ F.tree folders.old }
     ensures told { Told (F.tree folders.old) (λ t. OnOk result (Appends (W.contents writer.old) (W.contents writer.new)
-        (file_row form table.now (counting_value counting.now) t file))) }
+        (file_row rows.now.form rows.now.table.now (counting_value counting.now) t file))) }
     ensures overflow { result ≡ Err SumOverflow → Told (F.tree folders.old) (λ t.
         ¬ FileFits (counting_value counting.now) t file) }
     ensures fault { W.faults writer.old < u64.MAX → result ≡ Err WriteFault
@@ -166,24 +169,21 @@ fn write_file<F: Folders, W: Sink>(
 {
     match report_of(counting, folders, file)? {
         None => Ok(()),
-        Some((language, report)) => {
-            write_row(counting.alloc, table, form, language, &report, writer)
-        }
+        Some((language, report)) => write_row(rows, language, &report, writer),
     }
 }
 
 /// Writes a row for each file that a walk still gives, as it gives it.
 fn write_rows<F: Folders, W: Sink>(
-    table: &LanguageTable,
+    rows: &Rows,
     counting: &Counting,
-    form: Streaming,
     folders: &mut F,
     walk: &mut Walk,
     writer: &mut W,
 ) -> Result<(), RunError>
     ensures same { F.tree folders.new ≡ F.tree folders.old }
     ensures told { Told (F.tree folders.old) (λ t. OnOk result (Appends (W.contents writer.old) (W.contents writer.new)
-        (rows_of form table.now (counting_value counting.now) t (to_come t walk.old)))) }
+        (rows_of rows.now.form rows.now.table.now (counting_value counting.now) t (to_come t walk.old)))) }
     ensures overflow { result ≡ Err SumOverflow → Told (F.tree folders.old) (λ t.
         ¬ ReadingsFit (counting_value counting.now) t (to_come t walk.old)) }
     ensures fault { W.faults writer.old < u64.MAX → result ≡ Err WriteFault
@@ -194,7 +194,7 @@ fn write_rows<F: Folders, W: Sink>(
         → F.memory_faults folders.new ≡ F.memory_faults folders.old) }
 {
     while let Some(file) = walk.next(folders)? {
-        write_file(table, counting, form, folders, file, writer)?;
+        write_file(rows, counting, folders, file, writer)?;
     }
     Ok(())
 }
@@ -230,16 +230,15 @@ fn test_earlier(alloc: Global, job: &Job) -> Result<(), CountError>
 
 /// Writes the heading of a stream, and a row for each file of a job.
 fn write_stream<F: Folders, W: Sink>(
-    table: &LanguageTable,
+    rows: &Rows,
     counting: &Counting,
-    form: Streaming,
     folders: &mut F,
     job: &Job,
     writer: &mut W,
 ) -> Result<Vec<Note>, RunError>
     ensures same { F.tree folders.new ≡ F.tree folders.old }
     ensures told { Told (F.tree folders.old) (λ t. OnOk result (Appends (W.contents writer.old) (W.contents writer.new)
-        (stream_text form table.now (counting_value counting.now) t (files_of job.now t)))) }
+        (stream_text rows.now.form rows.now.table.now (counting_value counting.now) t (files_of job.now t)))) }
     ensures overflow { result ≡ Err SumOverflow → Told (F.tree folders.old) (λ t.
         ¬ ReadingsFit (counting_value counting.now) t (files_of job.now t)) }
     ensures fault { W.faults writer.old < u64.MAX → result ≡ Err WriteFault
@@ -251,18 +250,9 @@ fn write_stream<F: Folders, W: Sink>(
 {
     let obeyed = rules(&job.config);
     let mut walk = Walk::new(counting.alloc, &job.paths, &job.ignored, &obeyed)?;
-    write_heading(form, writer)?;
-    write_rows(table, counting, form, folders, &mut walk, writer)?;
+    write_heading(rows.form, writer)?;
+    write_rows(rows, counting, folders, &mut walk, writer)?;
     Ok(walk.into_notes())
-}
-
-/// How a configuration counts texts.
-fn count_config(config: &Config) -> CountConfig
-    ensures { docs_of result ≡ is_on (settings_of config.now).treat_doc_strings_as_comments }
-{
-    CountConfig {
-        treat_doc_strings_as_comments: config.treat_doc_strings_as_comments,
-    }
 }
 
 /// The languages that a configuration counts; `None` means all.
@@ -278,18 +268,16 @@ fn types(config: &Config) -> Option<&[LanguageType]>
 /// Writes a row for each file of a job, as it is counted, and answers what the walk passed over. No report is kept, and no
 /// file is counted where the renewed counts of earlier results don't fit.
 pub(crate) fn stream<F: Folders, W: Sink>(
-    alloc: Global,
-    table: &LanguageTable,
+    rows: &Rows,
     folders: &mut F,
     job: &Job,
-    form: Streaming,
     writer: &mut W,
 ) -> Result<Vec<Note>, RunError>
     ensures same { F.tree folders.new ≡ F.tree folders.old }
-    ensures told { Told (F.tree folders.old) (λ t. OnOk result (WritesStream form
-        table.now job.now t (W.contents writer.old) (W.contents writer.new))) }
+    ensures told { Told (F.tree folders.old) (λ t. OnOk result (WritesStream rows.now.form
+        rows.now.table.now job.now t (W.contents writer.old) (W.contents writer.new))) }
     ensures overflow { result ≡ Err SumOverflow → Told (F.tree folders.old) (λ t.
-        ¬ StreamFits table.now job.now t) }
+        ¬ StreamFits rows.now.table.now job.now t) }
     ensures earlier { OnOk result (RenewalFits (earlier_of job.now.earlier)) }
     ensures fault { W.faults writer.old < u64.MAX → result ≡ Err WriteFault
         → W.faults writer.old < W.faults writer.new }
@@ -298,14 +286,14 @@ pub(crate) fn stream<F: Folders, W: Sink>(
     ensures honest { OnOk result (F.memory_faults folders.old < u64.MAX
         → F.memory_faults folders.new ≡ F.memory_faults folders.old) }
 {
-    test_earlier(alloc, job)?;
-    let extended = job.config.extended_table(alloc, table)?;
-    let counter = Counter::new(alloc, &extended)?;
+    test_earlier(rows.alloc, job)?;
+    let extended = job.config.extended_table(rows.alloc, rows.table)?;
+    let counter = Counter::new(rows.alloc, &extended)?;
     let counting = Counting {
-        alloc,
+        alloc: rows.alloc,
         counter: &counter,
-        config: count_config(&job.config),
+        config: job.config.counting(),
         types: types(&job.config),
     };
-    write_stream(table, &counting, form, folders, job, writer)
+    write_stream(rows, &counting, folders, job, writer)
 }

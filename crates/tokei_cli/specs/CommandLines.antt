@@ -1,7 +1,5 @@
 -- A command line as read, and what it answers where nothing is counted.
-use Rattle.std.specs.Prelude.{ℕ, List, Option, option_map, map, string_bytes, ⊤}
-use Rattle.clap.specs.declared.error.kind.ErrorKind.{ErrorKind}
-use Rattle.clap.specs.declared.error.kind.ErrorKind.TheVariants.{DisplayHelp, DisplayVersion}
+use Rattle.std.specs.Prelude.{ℕ, List, Option, option_map, map, string_bytes}
 use Rattle.tokei_cli.specs.declared.cli.Cli.{Cli}
 use Rattle.tokei_cli.specs.declared.cli_error.CliError.{CliError}
 use Rattle.tokei_cli.specs.declared.cli_error.CliError.TheVariants.{Memory, Refused, Asked}
@@ -11,16 +9,6 @@ abbrev pub status_of : CliError → ℕ
 status_of Memory = 1
 status_of (Refused text) = 2
 status_of (Asked text) = 0
-
--- help and the version were asked for, everything else is a refusal; memory may run out for either
-abbrev pub Answers : ErrorKind → CliError → Type 0
-Answers kind Memory = ⊤
-Answers DisplayHelp (Refused text) = ⊥
-Answers DisplayVersion (Refused text) = ⊥
-Answers kind (Refused text) = ⊤
-Answers DisplayHelp (Asked text) = ⊤
-Answers DisplayVersion (Asked text) = ⊤
-Answers kind (Asked text) = ⊥
 
 -- the files and folders to be counted
 abbrev pub inputs_of : Cli → List (List ℕ)

@@ -1,3 +1,4 @@
 pub mod CommandLines
 pub mod Printing
 pub mod Overriding
+pub mod Texts

@@ -1,6 +1,7 @@
 //! A command line as read.
-ghost use Rattle.std.specs.Prelude.{◌≡◌, ◌≢◌, [], ◌++◌, option_map, string_bytes, map, IfOk, IsSome, true};
+ghost use Rattle.std.specs.Prelude.{◌≡◌, ◌≢◌, [], ◌++◌, option_map, string_bytes, map, IfOk, IfErr, IsSome, true};
 ghost use Rattle.tokei_cli.specs.CommandLines.{inputs_of, excludes_of, file_input_of, table_of};
+ghost use Rattle.tokei_cli.specs.Texts.{IsShown};
 
 use crate::cli_error::{CliError, answer};
 use crate::options::{DEFAULT_TABLE, command};
@@ -96,10 +97,11 @@ fn order(alloc: Global, matches: &ArgMatches<'_>) -> Result<(Option<String>, boo
 
 impl Cli {
     /// Reads the words of a command line, of which the first is the program's name. A refused command line, and one that
-    /// asks for help or the version, are errors with the text to be shown.
+    /// asks for help or the version, are errors with the text to be shown: for these two `HELP` or `VERSION_LINE`.
     pub fn from_words<'a>(alloc: Global, words: &'a [&'a str]) -> Result<Cli, CliError>
         ensures inputs { IfOk result (λ c. inputs_of c ≢ []) }
         ensures reverse { IfOk result (λ c. c.sort_reverse ≡ true → IsSome c.sort) }
+        ensures shown { IfErr result IsShown }
     {
         match command(alloc)?.try_get_matches_from(words) {
             Ok(matches) => Ok(Cli::of(alloc, &matches)?),

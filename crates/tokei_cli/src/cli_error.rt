@@ -1,8 +1,10 @@
 //! What a command line answers where nothing is counted.
 ghost use Rattle.std.specs.Prelude.{◌≡◌};
 ghost use Rattle.clap.specs.Values.{kind_of};
-ghost use Rattle.tokei_cli.specs.CommandLines.{status_of, Answers};
+ghost use Rattle.tokei_cli.specs.CommandLines.{status_of};
+ghost use Rattle.tokei_cli.specs.Texts.{Answers, IsShown, Refuses, Shows, help_text, version_line};
 
+use crate::help::{HELP, VERSION_LINE};
 use clap::Error;
 use clap::error::ErrorKind;
 use std::alloc::{AllocError, AllocFailed, Global};
@@ -57,16 +59,49 @@ impl<T: Drop> From<AllocFailed<T>> for CliError {
     }
 }
 
+/// The text that was asked for.
+fn asked(alloc: Global, text: &str) -> CliError
+    ensures { Shows text.now result }
+{
+    match String::from_str(alloc, text) {
+        Ok(text) => CliError::Asked(text),
+        Err(_) => CliError::Memory,
+    }
+}
+
+/// The text of help.
+fn help(alloc: Global) -> CliError
+    ensures { Shows help_text result }
+{
+    asked(alloc, HELP)
+}
+
+/// The line of the version.
+fn version(alloc: Global) -> CliError
+    ensures { Shows version_line result }
+{
+    asked(alloc, VERSION_LINE)
+}
+
+/// Why the words are refused.
+fn refused(alloc: Global, error: &Error) -> CliError
+    ensures { Refuses result }
+{
+    match format!(in alloc; "{error}") {
+        Ok(text) => CliError::Refused(text),
+        Err(_) => CliError::Memory,
+    }
+}
+
 /// What an error of the parse answers: its text, for the output that it belongs to.
 pub(crate) fn answer(alloc: Global, error: &Error) -> CliError
-    ensures { Answers (kind_of error.now) result }
+    ensures kind { Answers (kind_of error.now) result }
+    ensures shown { IsShown result }
 {
-    let Ok(text) = format!(in alloc; "{error}") else {
-        return CliError::Memory;
-    };
     match error.kind() {
         ErrorKind::OutOfMemory => CliError::Memory,
-        ErrorKind::DisplayHelp | ErrorKind::DisplayVersion => CliError::Asked(text),
-        _ => CliError::Refused(text),
+        ErrorKind::DisplayHelp => help(alloc),
+        ErrorKind::DisplayVersion => version(alloc),
+        _ => refused(alloc, error),
     }
 }

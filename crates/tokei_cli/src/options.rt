@@ -143,8 +143,8 @@ fn with_files<'a>(alloc: Global, command: Command<'a>) -> Result<Command<'a>, Al
     command.arg(exclude)?.arg(hidden)?.arg(earlier)?.arg(table)
 }
 
-/// The whole command line.
-pub(crate) fn command<'a>(alloc: Global) -> Result<Command<'a>, AllocError> {
+/// The whole command line, as its parser takes it.
+pub fn command<'a>(alloc: Global) -> Result<Command<'a>, AllocError> {
     let verbose = Arg::new(alloc, "verbose")
         .long("verbose")
         .short('v')

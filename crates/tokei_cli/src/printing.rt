@@ -1,5 +1,5 @@
 //! What the program prints beside reports: the list of languages, and that earlier results were refused.
-ghost use Rattle.std.specs.Prelude.{◌≡◌, ◌<◌, IfOk, OnOk, string_bytes};
+ghost use Rattle.std.specs.Prelude.{◌≡◌, ◌≢◌, ◌<◌, Err, IfOk, OnOk, string_bytes};
 ghost use Rattle.std.specs.Io.KnownBytes.{Appends};
 ghost use Rattle.tokei_syntax.specs.RowOf.{tokens_of};
 ghost use Rattle.tokei_cli.specs.Printing.{list_line, extensions_text, languages_text, failure_text, faults_after_printing};
@@ -14,6 +14,7 @@ fn put<S: Sink>(writer: &mut S, text: &str) -> Result<(), OutputError>
     ensures bytes { OnOk result (Appends (S.contents writer.old) (S.contents writer.new) text.now) }
     ensures faults { S.faults writer.old < u64.MAX
         → S.faults writer.new ≡ faults_after_printing result (S.faults writer.old) }
+    ensures memory { result ≢ Err OutputError.Memory }
 {
     match writer.put(text.as_bytes()) {
         Ok(()) => Ok(()),
@@ -54,7 +55,8 @@ fn languages_text(alloc: Global, table: &LanguageTable) -> Result<String, AllocE
     Ok(text)
 }
 
-/// Prints the languages with their extensions. After a refusal nothing is said of the bytes that were written.
+/// Prints the languages with their extensions. After a fault of the writer nothing is said of the bytes that were
+/// written; where memory runs out none are.
 pub fn print_supported_languages<S: Sink>(
     alloc: Global,
     table: &LanguageTable,
@@ -63,13 +65,14 @@ pub fn print_supported_languages<S: Sink>(
     ensures bytes { OnOk result (Appends (S.contents writer.old) (S.contents writer.new) (languages_text table.now)) }
     ensures faults { S.faults writer.old < u64.MAX
         → S.faults writer.new ≡ faults_after_printing result (S.faults writer.old) }
+    ensures memory { result ≡ Err OutputError.Memory → writer.new ≡ writer.old }
 {
     let text = languages_text(alloc, table)?;
     put(writer, text.as_str())
 }
 
-/// Prints that the earlier results of this name were refused. After a refusal nothing is said of the bytes that were
-/// written.
+/// Prints that the earlier results of this name were refused. After a fault of the writer nothing is said of the bytes
+/// that were written; where memory runs out none are.
 pub fn print_input_parse_failure<S: Sink>(
     alloc: Global,
     name: &str,
@@ -78,6 +81,7 @@ pub fn print_input_parse_failure<S: Sink>(
     ensures bytes { OnOk result (Appends (S.contents writer.old) (S.contents writer.new) (failure_text name.now)) }
     ensures faults { S.faults writer.old < u64.MAX
         → S.faults writer.new ≡ faults_after_printing result (S.faults writer.old) }
+    ensures memory { result ≡ Err OutputError.Memory → writer.new ≡ writer.old }
 {
     let text = format!(in alloc; "Error:\n Failed to parse input file: {name}\n")?;
     put(writer, text.as_str())

@@ -7,8 +7,6 @@ pub mod files;
 pub mod language_config;
 mod languages;
 mod members;
-#[cfg(test)]
-mod tests;
 
 pub use config::Config;
 pub use files::ConfigDirs;

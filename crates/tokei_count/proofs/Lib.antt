@@ -32,6 +32,7 @@ pub mod Summaries
 pub mod LineWeight
 pub mod GlanceReading
 pub mod PlainBytes
+pub mod ByteFlags
 pub mod CodeHeads
 pub mod TableBounds
 pub mod StepsBetween

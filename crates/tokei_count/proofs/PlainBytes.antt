@@ -22,7 +22,7 @@ use Rattle.tokei_count.specs.declared.items.Kind.TheVariants.{DocString, Verbati
 use Rattle.tokei_count.proofs.Fits.{and_left, and_right}
 
 -- the flag of a byte below n
-length-flags : (f : ℕ → Bool) (n : ℕ) → length (flags f n) ≡ n
+pub length-flags : (f : ℕ → Bool) (n : ℕ) → length (flags f n) ≡ n
 length-flags f zero = refl
 length-flags f (suc n) = length-append (flags f n) (f n ∷ []) ∙ omega (arith, length-flags f n)
 

@@ -1,5 +1,5 @@
 -- What the texts of a language are searched and walked with.
-use Rattle.std.specs.Prelude.{ℕ, zero, suc, Bool, true, false, ◌||◌, ◌==◌, List, [], ◌∷◌, ◌++◌}
+use Rattle.std.specs.Prelude.{ℕ, zero, suc, Bool, ◌||◌, ◌==◌, List, [], ◌∷◌, ◌++◌}
 use Rattle.std.specs.List.{list_any}
 use Rattle.tokei_table.specs.FirstOpener.{is_first_of}
 use Rattle.tokei_table.specs.Openers.{openers}
@@ -18,11 +18,6 @@ begins_choice r b =
 -- In a comment one can begin: it is a backslash, or the first byte of a multi-line or nested opener.
 abbrev pub begins_in_comment : Row → ℕ → Bool
 begins_in_comment r b = (b == 92) || (begins_opener r.multi_line_comments b || begins_opener r.nested_comments b)
-
--- in a comment, or in plain text
-abbrev pub begins_within : Row → Bool → ℕ → Bool
-begins_within r true = begins_in_comment r
-begins_within r false = begins_choice r
 
 -- the test's answers for the bytes below n
 abbrev pub flags : (ℕ → Bool) → ℕ → List Bool

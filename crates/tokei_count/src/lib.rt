@@ -4,6 +4,7 @@
 //! the class of a part, where a child opens in a language of each family, the plain reading.
 #![tactic(auto)]
 
+mod beginnings;
 mod choice;
 mod class;
 mod counter;
@@ -32,6 +33,3 @@ pub use tokei_captures::{
 pub use tokei_options::CountConfig;
 pub use tokei_stats::{CodeStats, CountError, Report, ReportRow};
 pub use tokei_text::{decode_text, find_char_boundary};
-
-#[cfg(test)]
-mod tests;

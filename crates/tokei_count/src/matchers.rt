@@ -1,17 +1,16 @@
 //! What the texts of a language are searched and walked with.
 ghost use Rattle.std.specs.Prelude.{◌≡◌, ℕ, ◌<◌, ◌≤◌, ◌==◌, false, length, map, IfOk, slice_index, slice_index_or};
-ghost use Rattle.std.specs.List.{list_any};
 ghost use Rattle.tokei_bytes.specs.ByteSets.{IsOutside};
-ghost use Rattle.tokei_table.specs.FirstOpener.{first_opener, is_first_of};
+ghost use Rattle.tokei_table.specs.FirstOpener.{first_opener};
 ghost use Rattle.tokei_table.specs.Lookups.{row_at};
 ghost use Rattle.tokei_table.specs.WellFormed.{IsWellFormed};
-ghost use Rattle.tokei_table.specs.RowOf.{row_of, pairs_of, tokens_of};
-ghost use Rattle.tokei_count.specs.Matchers.{begins_opener, begins_choice, begins_in_comment, begins_within, flags, matchers_of};
+ghost use Rattle.tokei_count.specs.Matchers.{matchers_of};
 
+use crate::beginnings::{beginnings, beginnings_in_comment};
 use std::alloc::{AllocError, Global};
 use std::marker::Model;
 use tokei_bytes::ByteSet;
-use tokei_table::{LanguageTable, LanguageType, OpenerIndex, Syntax};
+use tokei_table::{LanguageTable, LanguageType, OpenerIndex};
 
 /// What the texts of a language are searched and walked with: its openers, and the bytes at which a choice other than the
 /// byte itself, a closer and a child can begin, in plain text and in a comment. Contracts see all three.
@@ -28,75 +27,6 @@ impl Model for SharedMatchers {
     ghost Value = { Matchers };
 
     ghost view = { λ m. record { openers = m.openers; begins = m.begins; begins_in_comment = m.begins_in_comment } };
-}
-
-fn is_first_of(byte: u8, token: &str) -> bool
-    ensures { result ≡ is_first_of byte token.now }
-{
-    match token.as_bytes() {
-        [] => false,
-        [first, ..] => byte == *first,
-    }
-}
-
-fn begins_opener(pairs: &[(String, String)], byte: u8) -> bool
-    ensures { result ≡ begins_opener (pairs_of pairs.now) byte }
-{
-    for pair in pairs {
-        if is_first_of(byte, &pair.0) {
-            return true;
-        }
-    }
-    false
-}
-
-fn begins_token(tokens: &[String], byte: u8) -> bool
-    ensures { result ≡ list_any (is_first_of byte) (tokens_of tokens.now) }
-{
-    for token in tokens {
-        if is_first_of(byte, token) {
-            return true;
-        }
-    }
-    false
-}
-
-/// Whether a choice other than the byte itself, a closer and a child can begin at the byte.
-fn begins_choice(syntax: &Syntax, byte: u8) -> bool
-    ensures { result ≡ begins_choice (row_of syntax.now) byte }
-{
-    byte == b'\\'
-        || begins_opener(&syntax.quotes, byte)
-        || begins_opener(&syntax.verbatim_quotes, byte)
-        || begins_opener(&syntax.doc_quotes, byte)
-        || begins_opener(&syntax.multi_line_comments, byte)
-        || begins_opener(&syntax.nested_comments, byte)
-        || begins_token(&syntax.line_comment, byte)
-}
-
-/// The same in a comment.
-fn begins_in_comment(syntax: &Syntax, byte: u8) -> bool
-    ensures { result ≡ begins_in_comment (row_of syntax.now) byte }
-{
-    byte == b'\\'
-        || begins_opener(&syntax.multi_line_comments, byte)
-        || begins_opener(&syntax.nested_comments, byte)
-}
-
-/// The bytes at which a choice can begin, in a comment or in plain text.
-fn beginnings(alloc: Global, syntax: &Syntax, in_comment: bool) -> Result<ByteSet, AllocError>
-    ensures { IfOk result (λ s. s ≡ flags (begins_within (row_of syntax.now) in_comment) 256) }
-{
-    let mut flags = Vec::new(alloc);
-    for byte in 0..256usize {
-        let begins = if in_comment {
-            begins_in_comment(syntax, byte as u8)
-        } else {
-            begins_choice(syntax, byte as u8)
-        };
-        flags.push(begins)?;
-    }
-    Ok(ByteSet::new(flags))
 }
 
 impl SharedMatchers {
@@ -124,8 +54,8 @@ impl SharedMatchers {
         let texts = language.openers(alloc, table)?;
         let openers = OpenerIndex::of_texts(alloc, texts)?;
         let syntax = table.syntax(language);
-        let begins = beginnings(alloc, syntax, false)?;
-        let begins_in_comment = beginnings(alloc, syntax, true)?;
+        let begins = beginnings(alloc, syntax)?;
+        let begins_in_comment = beginnings_in_comment(alloc, syntax)?;
         Ok(SharedMatchers {
             openers,
             begins,

@@ -19,4 +19,6 @@ mod refused_calls;
 #[cfg(test)]
 mod short_texts;
 #[cfg(test)]
+mod steps;
+#[cfg(test)]
 mod sum_rows;

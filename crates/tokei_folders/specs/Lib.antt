@@ -1,5 +1,6 @@
 pub mod Additions
 pub mod Answers
+pub mod AsTheyWere
 pub mod Ends
 pub mod Failing
 pub mod FolderLaws

@@ -9,8 +9,6 @@ mod fs;
 pub mod laws;
 mod lists;
 mod memory;
-#[cfg(test)]
-mod memory_tests;
 pub mod names;
 mod nodes;
 pub mod places;

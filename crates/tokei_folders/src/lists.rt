@@ -1,5 +1,5 @@
 //! A list that contracts see as its items.
-ghost use Rattle.std.specs.Prelude.{◌≡◌, ◌≤◌, ◌<◌, ◌==◌, length, [], ◌∷◌, ◌++◌, OnOk, OnErr, MatchOption, reverse as turned};
+ghost use Rattle.std.specs.Prelude.{◌≡◌, ◌≤◌, ◌==◌, length, [], ◌∷◌, ◌++◌, OnOk, OnErr, MatchOption, reverse as turned};
 ghost use Rattle.std.specs.Slice.Iter.{iter_rest};
 ghost use Rattle.tokei_folders.specs.Ends.{without_last};
 
@@ -103,14 +103,6 @@ impl<T> Items<T> {
             (λ last. self.old ≡ self.new ++ last ∷ []) }
     {
         self.inner.pop()
-    }
-
-    /// Takes the last item, of which there is one at least.
-    pub fn take_last(&mut self) -> T
-        requires { 0 < length self.now }
-        ensures { self.old ≡ self.new ++ result ∷ [] }
-    {
-        self.inner.pop().unwrap()
     }
 
     /// Turns the items round.

@@ -10,8 +10,6 @@ mod matching;
 mod patterns;
 mod pieces;
 mod reading;
-#[cfg(test)]
-mod tests;
 
 pub use ignore_files::{IgnoreFile, Verdict, verdict_among};
 pub use patterns::{Pattern, PatternError};

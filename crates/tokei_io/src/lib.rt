@@ -6,8 +6,6 @@ pub mod counted;
 pub mod fail_once;
 pub mod sink;
 pub mod source;
-#[cfg(test)]
-mod tests;
 
 pub use counted::Counted;
 pub use fail_once::FailOnce;

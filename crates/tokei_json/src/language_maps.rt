@@ -2,7 +2,10 @@
 ghost use Rattle.std.specs.Prelude.{◌≡◌, ◌||◌, bytes_eq, codes, is_some, not};
 ghost use Rattle.serde_json.specs.View.{view, items_view, members_view};
 ghost use Rattle.tokei_table.specs.Layout.{all_items};
-ghost use Rattle.tokei_json.specs.LanguageMaps.{all_names, language_named, has_both, knows_names, names_once, passes, statistics_pass, blobs_at_pass, blobs_pass, each_passes, report_passes, reports_pass, lists_pass, children_pass, language_passes, languages_pass, all_known, all_once};
+ghost use Rattle.tokei_json.specs.LanguageMaps.{all_names, language_named, has_both, knows_names, names_once, passes};
+ghost use Rattle.tokei_json.specs.LanguageMaps.{statistics_pass, blobs_at_pass, blobs_pass, each_passes, report_passes};
+ghost use Rattle.tokei_json.specs.LanguageMaps.{reports_pass, lists_pass, children_pass, language_passes};
+ghost use Rattle.tokei_json.specs.LanguageMaps.{languages_pass, all_known, all_once};
 
 use crate::named_table::NamedTable;
 use serde_json::{Map, Value};

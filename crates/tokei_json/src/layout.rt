@@ -1,9 +1,12 @@
 //! Whether a JSON value has the layout of a document.
 ghost use Rattle.std.specs.Prelude.{◌≡◌, option_map};
 ghost use Rattle.serde_json.specs.View.{view, items_view, members_view};
-ghost use Rattle.serde_json.specs.Written.{has_float as data_has_float, items_have_float as data_items_have_float, members_have_float as data_members_have_float};
+ghost use Rattle.serde_json.specs.Written.{has_float as data_has_float, items_have_float as data_items_have_float};
+ghost use Rattle.serde_json.specs.Written.{members_have_float as data_members_have_float};
 ghost use Rattle.tokei_table.specs.Layout.{all_items, is_text, is_truth_value, stands_and};
-ghost use Rattle.tokei_json.specs.Layout.{is_count, has_counts, is_statistics, blobs_stand, are_blobs, all_statistics, is_report, are_reports, all_reports, are_children, is_language, are_languages, is_document, has_layout};
+ghost use Rattle.tokei_json.specs.Layout.{is_count, has_counts, is_statistics, blobs_stand, are_blobs, all_statistics};
+ghost use Rattle.tokei_json.specs.Layout.{is_report, are_reports, all_reports, are_children, is_language};
+ghost use Rattle.tokei_json.specs.Layout.{are_languages, is_document, has_layout};
 
 use serde_json::{Map, Value};
 

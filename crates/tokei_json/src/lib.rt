@@ -10,8 +10,6 @@ pub mod laws;
 mod layout;
 mod named_table;
 mod read;
-#[cfg(test)]
-mod tests;
 pub mod write;
 
 pub use document::from_value;

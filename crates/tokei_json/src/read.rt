@@ -1,7 +1,10 @@
 //! The languages of a document that has its layout.
 ghost use Rattle.std.specs.Prelude.{◌≡◌, map, option_map, string_bytes, [], IfOk, OnOk, IfErr};
 ghost use Rattle.serde_json.specs.View.{view, items_view, members_view};
-ghost use Rattle.tokei_json.specs.Reading.{count_in, counts_in, put_blob, put_named, statistics_in, blobs_at, blobs_in, with_blobs, text_in, statistics_at, report_in, all_reports_in, reports_in, with_children, children_in, truth_in, language_in, with_languages, languages_in};
+ghost use Rattle.tokei_json.specs.Reading.{count_in, counts_in, put_blob, put_named, statistics_in, blobs_at, blobs_in};
+ghost use Rattle.tokei_json.specs.Reading.{with_blobs, text_in, statistics_at, report_in, all_reports_in, reports_in};
+ghost use Rattle.tokei_json.specs.Reading.{with_children, children_in, truth_in, language_in, with_languages};
+ghost use Rattle.tokei_json.specs.Reading.{languages_in};
 ghost use Rattle.tokei_languages.specs.Seen.{children_of, language_of, languages_of, report_of, reports_of};
 ghost use Rattle.tokei_stats.specs.Seen.{blobs_of, entries_of, stats_of, sums_of};
 ghost use Rattle.tokei_stats.specs.Statistics.Blobs.{none};

@@ -2,7 +2,8 @@
 ghost use Rattle.std.specs.Prelude.{◌≡◌, IfOk, IsErrOf, map};
 ghost use Rattle.serde_json.specs.Data.{no_members, object};
 ghost use Rattle.serde_json.specs.View.{view, items_view, members_view};
-ghost use Rattle.tokei_json.specs.Document.{name_of as name_in, statistics_data, blobs_data, report_data, reports_data, named_data, language_data, document};
+ghost use Rattle.tokei_json.specs.Document.{name_of as name_in, statistics_data, blobs_data, report_data, reports_data};
+ghost use Rattle.tokei_json.specs.Document.{named_data, language_data, document};
 ghost use Rattle.tokei_languages.specs.Seen.{children_of, entries_of as languages_seen, language_of, languages_of, report_of, reports_of};
 ghost use Rattle.tokei_languages.specs.Summaries.{languages_summary, reports_by_language, total_of};
 ghost use Rattle.tokei_stats.specs.Overflow.{CountsFit};

@@ -11,8 +11,6 @@ pub mod laws;
 mod merge;
 mod sorting;
 mod sums;
-#[cfg(test)]
-mod tests;
 mod totals;
 
 pub use language::Language;

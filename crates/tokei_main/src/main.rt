@@ -1,22 +1,13 @@
 //! Counts the blank, code and comment lines of files and folders, by language, and prints them.
 #![tactic(auto)]
 
-mod choices;
-mod ending;
-mod environment;
-mod preparing;
-mod program;
-#[cfg(test)]
-mod tests;
-
-use environment::Env;
-use program::program;
 use std::alloc::AllocError;
 use std::env::VarError;
 use std::io::{BufWriter, Write};
 use std::process::ExitCode;
 use std::{env, io};
-use tokei::Counted;
+use tokei_io::Counted;
+use tokei_program::{Env, program};
 use tokei_real::RealFolders;
 
 /// The text of an environment variable; none where it isn't set or is no text. It fails where memory runs out.

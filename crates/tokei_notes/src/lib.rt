@@ -4,9 +4,6 @@
 ghost use Rattle.std.specs.Prelude.{◌≡◌, ◌++◌, ◌∷◌, [], OnOk, OnErr};
 ghost use Rattle.tokei_notes.specs.NoteLines.{level_of, words_of, filter_of, note_line, lines_of, IsBeginning};
 
-#[cfg(test)]
-mod tests;
-
 use log::sink::Lines;
 use log::{Level, LevelFilter, Record};
 use std::alloc::AllocError;

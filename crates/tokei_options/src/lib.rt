@@ -3,8 +3,6 @@
 
 pub mod count_config;
 pub mod sort;
-#[cfg(test)]
-mod tests;
 
 pub use count_config::CountConfig;
 pub use sort::{Sort, SortError};

@@ -4,9 +4,7 @@
 mod folders_above;
 mod limited;
 mod listing;
-mod reading;
+pub mod reading;
 mod real_folders;
-#[cfg(test)]
-mod tests;
 
 pub use real_folders::RealFolders;

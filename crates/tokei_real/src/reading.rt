@@ -13,7 +13,7 @@ const HEAD: u64 = 128;
 
 /// All that a reader has left. Room is made once for the number of bytes that it is said to have; where it has more or
 /// fewer, all of them are read.
-pub(crate) fn all_of<R: Read + Drop>(alloc: Global, reader: R, said: usize) -> io::Result<Vec<u8>>
+pub fn all_of<R: Read + Drop>(alloc: Global, reader: R, said: usize) -> io::Result<Vec<u8>>
     ensures { IfOk result (λ v. IfSome (R.remaining reader) (λ text. v.items ≡ text)) }
 {
     // One byte more, so that the read that meets the end needs no further room.
@@ -23,7 +23,7 @@ pub(crate) fn all_of<R: Read + Drop>(alloc: Global, reader: R, said: usize) -> i
 }
 
 /// The first 128 bytes of what a reader has left, or all where there are fewer.
-pub(crate) fn head_of<R: Read + Drop>(alloc: Global, reader: R) -> io::Result<Vec<u8>>
+pub fn head_of<R: Read + Drop>(alloc: Global, reader: R) -> io::Result<Vec<u8>>
     ensures { IfOk result (λ v. IfSome (R.remaining reader) (λ text. v.items ≡ take 128 text)) }
 {
     let mut bytes = Vec::with_capacity(alloc, 129)?;

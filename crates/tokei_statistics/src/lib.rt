@@ -11,8 +11,6 @@ pub mod laws;
 mod parsing;
 mod paths;
 mod statistics;
-#[cfg(test)]
-mod tests;
 
 pub use contents::Counting;
 pub use error::ParseFault;

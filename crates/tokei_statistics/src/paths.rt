@@ -75,6 +75,7 @@ pub fn from_path<F: Folders>(
     ensures same { F.tree folders.new ≡ F.tree folders.old }
     ensures told { Told (F.tree folders.old) (λ t. IfOk result (λ o.
         o ≡ language_by_path t (rows_by table.now (settings_of config.now)) path.now)) }
+    ensures of_table { IfOk result (λ o. IfSome o (λ l. l < length table.now)) }
     ensures honest { OnOk result (F.memory_faults folders.old < u64.MAX
         → F.memory_faults folders.new ≡ F.memory_faults folders.old) }
 {

@@ -1,7 +1,9 @@
 pub use Rattle.tokei_syntax.proofs.Finds
 pub mod Dots
 pub mod ExtendedRows
+pub mod MetNames
 pub mod Nonempty
 pub mod OfTable
 pub mod RowSound
+pub mod TextIndex
 pub mod Utf8

@@ -16,7 +16,10 @@ pub mod Extended
 pub mod Families
 pub mod Listed
 pub mod Lookups
+pub mod MetNames
 pub mod Openers
 pub mod Outcome
 pub mod Shebangs
+pub mod TableLaws
+pub mod TextIndex
 pub mod WellFormed

@@ -88,6 +88,9 @@ fn listed_for(
 fn gained(alloc: Global, known: &[String], listed: &[String]) -> Result<Vec<String>, AllocError>
     ensures { IfOk result (λ v. tokens_of v.items ≡ gained (tokens_of known.now) (tokens_of listed.now)) }
 {
+    if listed.is_empty() {
+        return Ok(Vec::new(alloc));
+    }
     let mut seen = texts(alloc, known)?;
     let mut out = Vec::new(alloc);
     for extension in listed {

@@ -6,8 +6,11 @@ mod extend;
 pub mod family;
 pub mod language_type;
 pub mod lookups;
+mod names;
 mod openers;
 pub mod table;
+pub mod table_laws;
+mod text_index;
 mod well_formed;
 
 pub use error::TableError;

@@ -1,10 +1,11 @@
 //! Which language of a table a word, a MIME type, a file's name or a script's head stands for. Of two languages the
 //! first in the table is answered.
-ghost use Rattle.std.specs.Prelude.{◌≡◌, ◌≤◌, ◌<◌, length, map, take, is_some, option_map, bytes_eq, IfOk, IfSome};
+ghost use Rattle.std.specs.Prelude.{◌≡◌, ℕ, ◌≤◌, ◌<◌, length, map, take, is_some, option_map, bytes_eq, slice_index, IfOk, IfSome};
 ghost use Rattle.std.specs.Str.{is_utf8, str_to_ascii_lowercase};
 ghost use Rattle.tokei_syntax.specs.RowOf.{row_of, tokens_of};
-ghost use Rattle.tokei_table.specs.Lookups.{first_where, holds, has_name, has_name_in_any_case, has_mime, has_extension, has_filename, ends_with_one, has_path_suffix, extension_of, from_lowered_name, from_file_name};
+ghost use Rattle.tokei_table.specs.Lookups.{first_where, holds, has_name, has_name_in_any_case, has_mime, has_extension, has_filename, ends_with_one, has_path_suffix, extension_of, from_lowered_name, from_file_name, row_at};
 ghost use Rattle.tokei_table.specs.Shebangs.{line_len, word_len, first_word, behind_word, has_env, from_env, has_shebang, from_words, head_line, from_shebang};
+ghost use Rattle.tokei_table.specs.TextIndex.{first_among};
 
 use crate::language_type::LanguageType;
 use crate::table::LanguageTable;
@@ -75,26 +76,48 @@ fn with_mime(rows: &[Syntax], mime: &[u8]) -> Option<usize>
     None
 }
 
-fn with_extension(rows: &[Syntax], extension: &[u8]) -> Option<usize>
-    ensures { result ≡ first_where (has_extension extension.now) (map row_of rows.now) }
+/// The row at one of the table's places.
+fn row(rows: &[Syntax], place: usize) -> &Syntax
+    requires { place < length rows.now }
+    ensures { row_of result.now ≡ row_at (map row_of rows.entry.now) place }
 {
-    for (i, row) in rows.iter().enumerate() {
-        if holds(&row.extensions, extension) {
-            return Some(i);
+    &rows[place]
+}
+
+fn first_with_extension(rows: &[Syntax], places: &[usize], extension: &[u8]) -> Option<usize>
+    requires { (k : ℕ) → k < length places.now → slice_index places.now k < length rows.now }
+    ensures { result ≡ first_among (has_extension extension.now) (map row_of rows.now) places.now }
+{
+    for place in places {
+        if holds(&row(rows, *place).extensions, extension) {
+            return Some(*place);
         }
     }
     None
 }
 
-fn with_filename(rows: &[Syntax], name: &[u8]) -> Option<usize>
-    ensures { result ≡ first_where (has_filename name.now) (map row_of rows.now) }
+fn with_extension(table: &LanguageTable, extension: &[u8]) -> Option<usize>
+    ensures { result ≡ first_where (has_extension extension.now) table.now }
 {
-    for (i, row) in rows.iter().enumerate() {
-        if holds(&row.filenames, name) {
-            return Some(i);
+    first_with_extension(table.rows(), table.extension_places(extension), extension)
+}
+
+fn first_with_filename(rows: &[Syntax], places: &[usize], name: &[u8]) -> Option<usize>
+    requires { (k : ℕ) → k < length places.now → slice_index places.now k < length rows.now }
+    ensures { result ≡ first_among (has_filename name.now) (map row_of rows.now) places.now }
+{
+    for place in places {
+        if holds(&row(rows, *place).filenames, name) {
+            return Some(*place);
         }
     }
     None
+}
+
+fn with_filename(table: &LanguageTable, name: &[u8]) -> Option<usize>
+    ensures { result ≡ first_where (has_filename name.now) table.now }
+{
+    first_with_filename(table.rows(), table.filename_places(name), name)
 }
 
 fn with_path_suffix(rows: &[Syntax], name: &[u8]) -> Option<usize>
@@ -147,16 +170,16 @@ pub fn has_extension(name: &str) -> bool
     extension(name.as_bytes()).is_some()
 }
 
-fn in_lowered_name(rows: &[Syntax], name: &[u8]) -> Option<usize>
-    ensures { result ≡ from_lowered_name (map row_of rows.now) name.now }
+fn in_lowered_name(table: &LanguageTable, name: &[u8]) -> Option<usize>
+    ensures { result ≡ from_lowered_name table.now name.now }
 {
-    if let Some(at) = with_filename(rows, name) {
+    if let Some(at) = with_filename(table, name) {
         return Some(at);
     }
-    if let Some(at) = with_path_suffix(rows, name) {
+    if let Some(at) = with_path_suffix(table.rows(), name) {
         return Some(at);
     }
-    with_extension(rows, extension(name)?)
+    with_extension(table, extension(name)?)
 }
 
 fn line_len(text: &[u8]) -> usize
@@ -288,7 +311,7 @@ impl LanguageType {
         ensures value { result ≡ first_where (has_extension extension.now) table.now }
         ensures of_table { IfSome result (λ l. l < length table.now) }
     {
-        language(with_extension(table.rows(), extension.as_bytes()))
+        language(with_extension(table, extension.as_bytes()))
     }
 
     /// The language of a file of that name, whatever it holds: by the whole name, else by a suffix of it, else by its
@@ -303,7 +326,7 @@ impl LanguageType {
     {
         let mut lowered = String::from_str(alloc, name)?;
         lowered.make_ascii_lowercase();
-        Ok(language(in_lowered_name(table.rows(), lowered.as_bytes())))
+        Ok(language(in_lowered_name(table, lowered.as_bytes())))
     }
 
     /// The language of a script with that head, of which the first line of the first 128 bytes is looked at: its first

@@ -7,12 +7,15 @@ ghost use Rattle.tokei_table.specs.WellFormed.{IsWellFormed, has_tokens};
 ghost use Rattle.tokei_syntax.specs.Sound.{IsSound};
 ghost use Rattle.tokei_syntax.specs.RowOf.{row_of};
 ghost use Rattle.tokei_table.specs.Lookups.{row_at};
+ghost use Rattle.tokei_table.specs.TextIndex.{entries_from, group_of, in_group};
 ghost use Rattle.tokei_table.specs.declared.error.TableError.TheVariants.{NotJson as NotJsonFault, Memory as MemoryFault};
 
 use crate::error::TableError;
 use crate::extend::extended_rows;
 use crate::language_type::LanguageType;
-use crate::well_formed::{all_have_fallbacks, all_have_tokens, names_total, names_twice};
+use crate::names::names_twice;
+use crate::text_index::TextIndex;
+use crate::well_formed::{all_have_fallbacks, all_have_tokens, names_total};
 use serde_json::Value;
 use std::alloc::{AllocError, Global};
 use std::marker::Model;
@@ -23,19 +26,24 @@ use tokei_syntax::Syntax;
 #[derive(Drop)]
 pub struct LanguageTable {
     rows: Vec<Syntax>,
+    by_extension: TextIndex,
+    by_filename: TextIndex,
 }
 
 impl Model for LanguageTable {
     ghost use Rattle.std.specs.Prelude.{List, map};
     ghost use Rattle.tokei_syntax.specs.Row.{Row};
     ghost use Rattle.tokei_syntax.specs.RowOf.{row_of};
+    ghost use Rattle.tokei_table.specs.TextIndex.{AreGroups, entries_from};
     ghost use Rattle.tokei_table.specs.WellFormed.{IsWellFormed};
 
     ghost Value = { List Row };
 
     ghost view = { λ t. map row_of t.rows.items };
 
-    ghost invariant = { λ t. IsWellFormed (map row_of t.rows.items) };
+    ghost invariant = { λ t. IsWellFormed (map row_of t.rows.items)
+        × AreGroups (entries_from (λ r. r.extensions) 0 (map row_of t.rows.items)) t.by_extension
+        × AreGroups (entries_from (λ r. r.filenames) 0 (map row_of t.rows.items)) t.by_filename };
 }
 
 #[tactic(auto, unfolding(crate::specs::Outcome::data_of))]
@@ -56,6 +64,20 @@ fn data(alloc: Global, bytes: &[u8]) -> Result<Value, TableError>
     }
 }
 
+/// The table of these rows, with an index of their extensions and of whole names of files.
+fn indexed(alloc: Global, rows: Vec<Syntax>) -> Result<LanguageTable, AllocError>
+    requires { IsWellFormed (map row_of rows.items) }
+    ensures { IfOk result (λ t. t ≡ map row_of rows.items) }
+{
+    let by_extension = TextIndex::of_extensions(alloc, &rows)?;
+    let by_filename = TextIndex::of_filenames(alloc, &rows)?;
+    Ok(LanguageTable {
+        rows,
+        by_extension,
+        by_filename,
+    })
+}
+
 impl LanguageTable {
     /// Reads a table from its JSON text. Refused is exactly what has a cause of `TableError`, and of those that apply
     /// the first is answered; `Memory` comes only where an allocation failed.
@@ -74,7 +96,7 @@ impl LanguageTable {
         if !all_have_tokens(&rows) {
             return Err(TableError::Token);
         }
-        if names_twice(&rows) {
+        if names_twice(alloc, &rows)? {
             return Err(TableError::NamedTwice);
         }
         if names_total(&rows) {
@@ -83,7 +105,7 @@ impl LanguageTable {
         if !all_have_fallbacks(&rows) {
             return Err(TableError::Fallback);
         }
-        Ok(LanguageTable { rows })
+        Ok(indexed(alloc, rows)?)
     }
 
     /// The rows as read.
@@ -91,6 +113,20 @@ impl LanguageTable {
         ensures { map row_of result.now ≡ self.entry.now }
     {
         self.rows.as_slice()
+    }
+
+    /// Places of rows, in their order, among which are those of the rows with that extension.
+    pub(crate) fn extension_places(&self, extension: &[u8]) -> &[usize]
+        ensures { result.now ≡ in_group (group_of extension.now) (entries_from (λ r. r.extensions) 0 self.entry.now) }
+    {
+        self.by_extension.places(extension)
+    }
+
+    /// The same of a whole name of a file.
+    pub(crate) fn filename_places(&self, name: &[u8]) -> &[usize]
+        ensures { result.now ≡ in_group (group_of name.now) (entries_from (λ r. r.filenames) 0 self.entry.now) }
+    {
+        self.by_filename.places(name)
     }
 
     /// How many languages there are.
@@ -135,6 +171,6 @@ impl LanguageTable {
         ensures { IfOk result (λ t. t ≡ extended self.now (map addition_of additions.now)) }
     {
         let rows = extended_rows(alloc, &self.rows, additions)?;
-        Ok(LanguageTable { rows })
+        indexed(alloc, rows)
     }
 }

@@ -2,7 +2,7 @@
 ghost use Rattle.std.specs.Prelude.{◌≡◌, map};
 ghost use Rattle.std.specs.List.{list_all, list_any};
 ghost use Rattle.tokei_syntax.specs.RowOf.{row_of};
-ghost use Rattle.tokei_table.specs.WellFormed.{has_tokens, shares_name, names_twice, is_total, has_key, has_fallbacks};
+ghost use Rattle.tokei_table.specs.WellFormed.{has_tokens, is_total, has_key, has_fallbacks};
 
 use crate::family::Family;
 use tokei_syntax::Syntax;
@@ -32,40 +32,6 @@ pub(crate) fn all_have_tokens(rows: &[Syntax]) -> bool
         }
     }
     true
-}
-
-fn shares_name(row: &Syntax, other: &Syntax) -> bool
-    ensures { result ≡ shares_name (row_of row.now) (row_of other.now) }
-{
-    row.key.as_str() == other.key.as_str()
-        || row.key.as_str() == other.name.as_str()
-        || row.name.as_str() == other.key.as_str()
-        || row.name.as_str() == other.name.as_str()
-}
-
-fn shares_a_name(row: &Syntax, others: &[Syntax]) -> bool
-    ensures { result ≡ list_any (shares_name (row_of row.now)) (map row_of others.now) }
-{
-    for other in others {
-        if shares_name(row, other) {
-            return true;
-        }
-    }
-    false
-}
-
-/// Whether a text is key or name of two rows.
-pub(crate) fn names_twice(rows: &[Syntax]) -> bool
-    ensures { result ≡ names_twice (map row_of rows.now) }
-{
-    let mut rest = rows;
-    while let [first, others @ ..] = rest {
-        if shares_a_name(first, others) {
-            return true;
-        }
-        rest = others;
-    }
-    false
 }
 
 fn is_total(row: &Syntax) -> bool

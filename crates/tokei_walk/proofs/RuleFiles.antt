@@ -30,6 +30,11 @@ level_with a b c d g = record { tokeignore = a; ignore = b; gitignore = c; git_e
 pub same_level : {a a' b b' c c' d d' : List Pattern} {g g' : Bool} → a ≡ a' → b ≡ b' → c ≡ c' → d ≡ d' → g ≡ g' → level_with a b c d g ≡ level_with a' b' c' d' g'
 same_level ea eb ec ed eg = λ i. level_with (ea i) (eb i) (ec i) (ed i) (eg i)
 
+-- the patterns of a file are told by its parts
+pub file_told : {ps : List Pattern} {on on' : Bool} {p p' n n' : List ℕ} (t : Tree) → on ≡ on' → p ≡ p' → n ≡ n'
+    → ps ≡ cond on (patterns_at (node_at t (names_of p ++ names_of n))) [] → ps ≡ cond on' (patterns_at (node_at t (names_of p' ++ names_of n'))) []
+file_told t eo ep en h = h ∙ (λ i. cond (eo i) (patterns_at (node_at t (names_of (ep i) ++ names_of (en i)))) [])
+
 -- the rules of the files that are sought, file by file
 pub level_told : (t : Tree) (s : Sought) (p : Names) (a b c d : List Pattern)
     → a ≡ cond s.tokeignore (patterns_at (node_at t (p ++ names_of (codes ".tokeignore")))) []

@@ -1,5 +1,6 @@
 pub use Rattle.tokei_folders.specs.Additions
 pub use Rattle.tokei_folders.specs.Answers
+pub use Rattle.tokei_folders.specs.AsTheyWere
 pub use Rattle.tokei_folders.specs.Ends
 pub use Rattle.tokei_folders.specs.Failing
 pub use Rattle.tokei_folders.specs.Memory

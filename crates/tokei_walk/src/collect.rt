@@ -1,6 +1,7 @@
 //! All kept files at once.
-ghost use Rattle.std.specs.Prelude.{◌≡◌, ◌<◌, OnOk, IfOk};
+ghost use Rattle.std.specs.Prelude.{◌≡◌, IfOk};
 ghost use Rattle.tokei_folders.specs.Answers.{Told};
+ghost use Rattle.tokei_folders.specs.AsTheyWere.{SameTree, NoFault};
 ghost use Rattle.tokei_walk.specs.Kept.{kept_in};
 ghost use Rattle.tokei_walk.specs.Notes.{Grows, notes_of_excludes};
 ghost use Rattle.tokei_walk.specs.Walks.{excludes_of, texts_of};
@@ -29,12 +30,11 @@ pub fn kept_files<F: Folders>(
     excludes: &[String],
     rules: &Rules,
 ) -> Result<Kept, AllocError>
-    ensures same { F.tree folders.new ≡ F.tree folders.old }
+    ensures same { SameTree F.tree folders.old folders.new }
     ensures told { Told (F.tree folders.old) (λ t. IfOk result (λ k.
         k.files.items ≡ kept_in (excludes_of (texts_of excludes.now)) rules.now t (texts_of roots.now))) }
     ensures notes { IfOk result (λ k. Grows (notes_of_excludes (texts_of excludes.now)) k.notes.items) }
-    ensures honest { OnOk result (F.memory_faults folders.old < u64.MAX
-        → F.memory_faults folders.new ≡ F.memory_faults folders.old) }
+    ensures honest { NoFault F.memory_faults folders.old folders.new result }
 {
     let mut walk = Walk::new(alloc, roots, excludes, rules)?;
     let mut files = Items::new(alloc);

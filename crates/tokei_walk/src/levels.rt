@@ -166,7 +166,7 @@ fn is_excluded_under(
 {
     shown.push(name)?;
     let excluded = is_excluded(excludes, shown.as_slice(), entered);
-    Ok((excluded, shown.take_last()))
+    Ok((excluded, shown.pop().unwrap()))
 }
 
 /// What the ignore files decide about the entry of this name, which is lent to the names and given back.
@@ -182,7 +182,7 @@ fn decided_under(
 {
     names.push(name)?;
     let verdict = decided(levels, names.as_slice(), entered);
-    Ok((verdict, names.take_last()))
+    Ok((verdict, names.pop().unwrap()))
 }
 
 /// Whether an entry is dropped about which the ignore files decide this.

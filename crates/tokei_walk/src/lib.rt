@@ -13,12 +13,6 @@ mod parents;
 mod roots;
 mod rules_files;
 mod stack;
-#[cfg(test)]
-mod test_folders;
-#[cfg(test)]
-mod told_tests;
-#[cfg(test)]
-mod walk_tests;
 mod walking;
 
 pub use collect::{Kept, kept_files};

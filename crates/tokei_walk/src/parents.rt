@@ -1,6 +1,7 @@
 //! The folders above a root, and what their rules decide.
-ghost use Rattle.std.specs.Prelude.{◌≡◌, ◌<◌, ◌++◌, [], reverse, map, OnOk, IfOk};
+ghost use Rattle.std.specs.Prelude.{◌≡◌, ◌++◌, [], reverse, map, OnOk, IfOk};
 ghost use Rattle.tokei_folders.specs.Answers.{Told, above_view};
+ghost use Rattle.tokei_folders.specs.AsTheyWere.{AsTheyWere};
 ghost use Rattle.tokei_folders.specs.Tree.{names_of, folders_above};
 ghost use Rattle.tokei_walk.specs.Descent.{root_context};
 ghost use Rattle.tokei_walk.specs.Notes.{Grows};
@@ -20,11 +21,9 @@ fn folders_over<F: Folders>(
     folders: &mut F,
     place: &str,
 ) -> Result<Items<Above>, AllocError>
-    ensures same { F.tree folders.new ≡ F.tree folders.old }
+    ensures folders { AsTheyWere F.tree F.memory_faults folders.old folders.new result }
     ensures told { Told (F.tree folders.old) (λ t. IfOk result (λ found.
         map above_view (reverse found) ≡ folders_above [] (names_of place.now))) }
-    ensures honest { OnOk result (F.memory_faults folders.old < u64.MAX
-        → F.memory_faults folders.new ≡ F.memory_faults folders.old) }
 {
     match folders.above(place) {
         Ok(found) => Ok(Items::from_vec(found)),
@@ -42,14 +41,12 @@ fn read_over<F: Folders>(
     mut found: Items<Above>,
     context: &mut Context,
 ) -> Result<(), AllocError>
-    ensures same { F.tree folders.new ≡ F.tree folders.old }
+    ensures folders { AsTheyWere F.tree F.memory_faults folders.old folders.new result }
     ensures notes { Grows notes.old notes.new }
     ensures shown { OnOk result (context.new.shown ≡ context.old.shown) }
     ensures names { OnOk result (context.new.names ≡ context.old.names ++ names_over found) }
     ensures levels { Told (F.tree folders.old) (λ t. OnOk result (context.new.levels
         ≡ context.old.levels ++ levels_over t settings.now.rules found)) }
-    ensures honest { OnOk result (F.memory_faults folders.old < u64.MAX
-        → F.memory_faults folders.new ≡ F.memory_faults folders.old) }
 {
     while let Some(above) = found.pop() {
         let place = above.place.as_str();
@@ -68,12 +65,10 @@ pub fn context_of_root<F: Folders>(
     notes: &mut Items<Note>,
     root: &str,
 ) -> Result<Context, AllocError>
-    ensures same { F.tree folders.new ≡ F.tree folders.old }
+    ensures folders { AsTheyWere F.tree F.memory_faults folders.old folders.new result }
     ensures notes { Grows notes.old notes.new }
     ensures told { Told (F.tree folders.old) (λ t. IfOk result
         (λ c. c ≡ root_context t settings.now.rules (names_of root.now))) }
-    ensures honest { OnOk result (F.memory_faults folders.old < u64.MAX
-        → F.memory_faults folders.new ≡ F.memory_faults folders.old) }
 {
     let alloc = settings.alloc;
     let shown = names(alloc, root)?;

@@ -1,6 +1,7 @@
 //! The beginning of a root.
 ghost use Rattle.std.specs.Prelude.{◌≡◌, ◌<◌, ◌≤◌, ◌+◌, [], length, OnOk, IfOk};
 ghost use Rattle.tokei_folders.specs.Answers.{Told};
+ghost use Rattle.tokei_folders.specs.AsTheyWere.{AsTheyWere};
 ghost use Rattle.tokei_folders.specs.Tree.{names_of};
 ghost use Rattle.tokei_ignore.specs.Fits.{is_empty};
 ghost use Rattle.tokei_walk.specs.Descent.{root_context, of_root, of_stack, descend};
@@ -35,7 +36,7 @@ fn enter_root<F: Folders>(
     stack: &mut Stack,
     root: Text,
 ) -> Result<(), AllocError>
-    ensures same { F.tree folders.new ≡ F.tree folders.old }
+    ensures folders { AsTheyWere F.tree F.memory_faults folders.old folders.new result }
     ensures notes { Grows notes.old notes.new }
     ensures holders { OnOk result (length stack.new.holders ≤ length stack.old.holders) }
     ensures bounded { OnOk result (stack_rank stack.new < stack_rank stack.old + weight 257) }
@@ -44,8 +45,6 @@ fn enter_root<F: Folders>(
         descend settings.now.excludes settings.now.rules t 257
         (root_context t settings.now.rules (names_of root)) root
         ≡ of_stack settings.now.excludes settings.now.rules t stack.new)) }
-    ensures honest { OnOk result (F.memory_faults folders.old < u64.MAX
-        → F.memory_faults folders.new ≡ F.memory_faults folders.old) }
 {
     let alloc = settings.alloc;
     let listing = match listing(folders, root.as_str())? {
@@ -84,7 +83,7 @@ pub fn begin_root<F: Folders>(
     stack: &mut Stack,
     root: Text,
 ) -> Result<Option<KeptFile>, AllocError>
-    ensures same { F.tree folders.new ≡ F.tree folders.old }
+    ensures folders { AsTheyWere F.tree F.memory_faults folders.old folders.new result }
     ensures notes { Grows notes.old notes.new }
     ensures holders { OnOk result (length stack.new.holders ≤ length stack.old.holders) }
     ensures bounded { OnOk result (stack_rank stack.new < stack_rank stack.old + weight 257) }
@@ -92,8 +91,6 @@ pub fn begin_root<F: Folders>(
         stack.old.left ≡ [] → stack.old.holders ≡ [] → RootGives
         (of_root settings.now.excludes settings.now.rules t root)
         (of_stack settings.now.excludes settings.now.rules t stack.new) o)) }
-    ensures honest { OnOk result (F.memory_faults folders.old < u64.MAX
-        → F.memory_faults folders.new ≡ F.memory_faults folders.old) }
 {
     let alloc = settings.alloc;
     if is_blank(&root) {

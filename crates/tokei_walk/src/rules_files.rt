@@ -1,7 +1,8 @@
 //! The rules of a folder, read from its ignore files.
-ghost use Rattle.std.specs.Prelude.{◌≡◌, ◌<◌, ◌++◌, ◌&&◌, [], ◌∷◌, OnOk, OnErr, IfOk, option_map, cond, is_some, codes};
+ghost use Rattle.std.specs.Prelude.{◌≡◌, ◌++◌, ◌&&◌, [], ◌∷◌, OnOk, OnErr, IfOk, option_map, cond, is_some, codes};
 ghost use Rattle.tokei_walk.specs.Notes.{Grows};
 ghost use Rattle.tokei_folders.specs.Answers.{Told, node_kind, node_content};
+ghost use Rattle.tokei_folders.specs.AsTheyWere.{AsTheyWere};
 ghost use Rattle.tokei_folders.specs.Tree.{names_of, node_at};
 ghost use Rattle.tokei_walk.specs.Sought.{level_of, listed, lists as is_listed};
 ghost use Rattle.tokei_walk.specs.Levels.{patterns_at, level_at};
@@ -34,11 +35,9 @@ pub fn note(
 
 /// What stands at a place, where anything does.
 pub fn kind_at<F: Folders>(folders: &mut F, place: &str) -> Result<Option<Kind>, AllocError>
-    ensures same { F.tree folders.new ≡ F.tree folders.old }
+    ensures folders { AsTheyWere F.tree F.memory_faults folders.old folders.new result }
     ensures told { Told (F.tree folders.old) (λ t. IfOk result
         (λ k. k ≡ node_kind (node_at t (names_of place.now)))) }
-    ensures honest { OnOk result (F.memory_faults folders.old < u64.MAX
-        → F.memory_faults folders.new ≡ F.memory_faults folders.old) }
 {
     match folders.kind(place) {
         Ok(kind) => Ok(Some(kind)),
@@ -49,11 +48,9 @@ pub fn kind_at<F: Folders>(folders: &mut F, place: &str) -> Result<Option<Kind>,
 
 /// The content of a file, where it can be read.
 fn content<F: Folders>(folders: &mut F, place: &str) -> Result<Option<Vec<u8>>, AllocError>
-    ensures same { F.tree folders.new ≡ F.tree folders.old }
+    ensures folders { AsTheyWere F.tree F.memory_faults folders.old folders.new result }
     ensures told { Told (F.tree folders.old) (λ t. IfOk result
         (λ c. option_map (λ v. v.items) c ≡ node_content (node_at t (names_of place.now)))) }
-    ensures honest { OnOk result (F.memory_faults folders.old < u64.MAX
-        → F.memory_faults folders.new ≡ F.memory_faults folders.old) }
 {
     match folders.read(place) {
         Ok(bytes) => Ok(Some(bytes)),
@@ -70,12 +67,10 @@ fn patterns_of_file<F: Folders>(
     notes: &mut Items<Note>,
     place: &str,
 ) -> Result<Items<Pattern>, AllocError>
-    ensures same { F.tree folders.new ≡ F.tree folders.old }
+    ensures folders { AsTheyWere F.tree F.memory_faults folders.old folders.new result }
     ensures notes { Grows notes.old notes.new }
     ensures told { Told (F.tree folders.old) (λ t. IfOk result
         (λ ps. ps ≡ patterns_at (node_at t (names_of place.now)))) }
-    ensures honest { OnOk result (F.memory_faults folders.old < u64.MAX
-        → F.memory_faults folders.new ≡ F.memory_faults folders.old) }
 {
     match kind_at(folders, place)? {
         Some(Kind::File) => {}
@@ -92,27 +87,43 @@ fn patterns_of_file<F: Folders>(
     Ok(file.patterns)
 }
 
-/// The patterns of the ignore file that a path leads to from a folder; none where it is off.
+/// An ignore file, by its folder's place and the path that leads to it from there.
+#[derive(Drop)]
+struct IgnoreName<'a> {
+    /// Whether it is read; one that isn't has no patterns.
+    on: bool,
+    place: &'a str,
+    name: &'a str,
+}
+
+impl<'a> IgnoreName<'a> {
+    fn new(on: bool, place: &'a str, name: &'a str) -> IgnoreName<'a>
+        ensures on { result.on ≡ on }
+        ensures place { result.place.now ≡ place.now }
+        ensures name { result.name.now ≡ name.now }
+    {
+        IgnoreName { on, place, name }
+    }
+}
+
+/// The patterns of an ignore file; none where it is off.
 #[tactic(auto, using(crate::proofs::Growing::grows_same, crate::proofs::Growing::grows_on))]
 fn patterns_of_name<F: Folders>(
     alloc: Global,
     folders: &mut F,
     notes: &mut Items<Note>,
-    on: bool,
-    place: &str,
-    name: &str,
+    file: &IgnoreName,
 ) -> Result<Items<Pattern>, AllocError>
-    ensures same { F.tree folders.new ≡ F.tree folders.old }
+    ensures folders { AsTheyWere F.tree F.memory_faults folders.old folders.new result }
     ensures notes { Grows notes.old notes.new }
-    ensures told { Told (F.tree folders.old) (λ t. IfOk result
-        (λ ps. ps ≡ cond on (patterns_at (node_at t (names_of place.now ++ names_of name.now))) [])) }
-    ensures honest { OnOk result (F.memory_faults folders.old < u64.MAX
-        → F.memory_faults folders.new ≡ F.memory_faults folders.old) }
+    ensures told { Told (F.tree folders.old) (λ t. IfOk result (λ ps. ps
+        ≡ cond file.now.on (patterns_at (node_at t
+        (names_of file.now.place.now ++ names_of file.now.name.now))) [])) }
 {
-    if !on {
+    if !file.on {
         return Ok(Items::new(alloc));
     }
-    let whole = joined(alloc, place, name)?;
+    let whole = joined(alloc, file.place, file.name)?;
     patterns_of_file(alloc, folders, notes, whole.as_str())
 }
 
@@ -123,11 +134,9 @@ fn is_repository<F: Folders>(
     on: bool,
     place: &str,
 ) -> Result<bool, AllocError>
-    ensures same { F.tree folders.new ≡ F.tree folders.old }
+    ensures folders { AsTheyWere F.tree F.memory_faults folders.old folders.new result }
     ensures told { Told (F.tree folders.old) (λ t. IfOk result
         (λ b. b ≡ (on && is_some (node_at t (names_of place.now ++ names_of (codes ".git")))))) }
-    ensures honest { OnOk result (F.memory_faults folders.old < u64.MAX
-        → F.memory_faults folders.new ≡ F.memory_faults folders.old) }
 {
     if !on {
         return Ok(false);
@@ -179,26 +188,25 @@ pub fn read_sought<F: Folders>(
     sought: Sought,
     place: &str,
 ) -> Result<Level, AllocError>
-    ensures same { F.tree folders.new ≡ F.tree folders.old }
+    ensures folders { AsTheyWere F.tree F.memory_faults folders.old folders.new result }
     ensures notes { Grows notes.old notes.new }
     ensures told { Told (F.tree folders.old) (λ t. IfOk result
         (λ l. l ≡ level_of t sought (names_of place.now))) }
-    ensures honest { OnOk result (F.memory_faults folders.old < u64.MAX
-        → F.memory_faults folders.new ≡ F.memory_faults folders.old) }
 {
-    let dot = sought.tokeignore;
-    let tokeignore = patterns_of_name(alloc, folders, notes, dot, place, ".tokeignore")?;
-    let ignore = patterns_of_name(alloc, folders, notes, sought.ignore, place, ".ignore")?;
-    let git = sought.gitignore;
-    let gitignore = patterns_of_name(alloc, folders, notes, git, place, ".gitignore")?;
-    let git = sought.git;
-    let git_exclude = patterns_of_name(alloc, folders, notes, git, place, ".git/info/exclude")?;
+    let tokeignore = IgnoreName::new(sought.tokeignore, place, ".tokeignore");
+    let tokeignore = patterns_of_name(alloc, folders, notes, &tokeignore)?;
+    let ignore = IgnoreName::new(sought.ignore, place, ".ignore");
+    let ignore = patterns_of_name(alloc, folders, notes, &ignore)?;
+    let gitignore = IgnoreName::new(sought.gitignore, place, ".gitignore");
+    let gitignore = patterns_of_name(alloc, folders, notes, &gitignore)?;
+    let git_exclude = IgnoreName::new(sought.git, place, ".git/info/exclude");
+    let git_exclude = patterns_of_name(alloc, folders, notes, &git_exclude)?;
     Ok(Level {
         tokeignore,
         ignore,
         gitignore,
         git_exclude,
-        git,
+        git: sought.git,
     })
 }
 
@@ -211,12 +219,10 @@ pub fn read_level<F: Folders>(
     rules: &Rules,
     place: &str,
 ) -> Result<Level, AllocError>
-    ensures same { F.tree folders.new ≡ F.tree folders.old }
+    ensures folders { AsTheyWere F.tree F.memory_faults folders.old folders.new result }
     ensures notes { Grows notes.old notes.new }
     ensures told { Told (F.tree folders.old) (λ t. IfOk result
         (λ l. l ≡ level_at t rules.now (names_of place.now))) }
-    ensures honest { OnOk result (F.memory_faults folders.old < u64.MAX
-        → F.memory_faults folders.new ≡ F.memory_faults folders.old) }
 {
     let git = is_repository(alloc, folders, rules.git, place)?;
     let sought = Sought {

@@ -3,6 +3,7 @@ ghost use Rattle.std.specs.Prelude.{◌≡◌, ◌<◌, ◌+◌, ◌-◌, ◌++�
 ghost use Rattle.std.specs.Bool.{MatchBool};
 ghost use Rattle.tokei_walk.specs.Notes.{Grows};
 ghost use Rattle.tokei_folders.specs.Answers.{Told, list_answer};
+ghost use Rattle.tokei_folders.specs.AsTheyWere.{AsTheyWere};
 ghost use Rattle.tokei_folders.specs.declared.fs.Fault.TheVariants.{Refused as RefusedFault};
 ghost use Rattle.tokei_folders.specs.Places.{joined as joined_places};
 ghost use Rattle.tokei_folders.specs.Tree.{names_of};
@@ -129,12 +130,10 @@ pub enum Step {
 
 /// What a folder holds, where it can be listed.
 pub fn listing<F: Folders>(folders: &mut F, place: &str) -> Result<Option<Listing>, AllocError>
-    ensures same { F.tree folders.new ≡ F.tree folders.old }
+    ensures folders { AsTheyWere F.tree F.memory_faults folders.old folders.new result }
     ensures told { Told (F.tree folders.old) (λ t. IfOk result (λ o. MatchOption o
         (list_answer t (names_of place.now) ≡ Err RefusedFault)
         (λ l. list_answer t (names_of place.now) ≡ Ok l.entries.items))) }
-    ensures honest { OnOk result (F.memory_faults folders.old < u64.MAX
-        → F.memory_faults folders.new ≡ F.memory_faults folders.old) }
 {
     match folders.list(place) {
         Ok(listing) => Ok(Some(listing)),
@@ -168,10 +167,8 @@ pub fn enter<F: Folders>(
     stack: &mut Stack,
     place: Text,
 ) -> Result<bool, AllocError>
-    ensures same { F.tree folders.new ≡ F.tree folders.old }
+    ensures folders { AsTheyWere F.tree F.memory_faults folders.old folders.new result }
     ensures notes { Grows notes.old notes.new }
-    ensures honest { OnOk result (F.memory_faults folders.old < u64.MAX
-        → F.memory_faults folders.new ≡ F.memory_faults folders.old) }
     ensures refused { IfOk result (λ b. b ≡ false → stack.new ≡ stack.old) }
     ensures entered { IfOk result (λ b. b ≡ true → Enters stack.old stack.new place) }
     ensures told { Told (F.tree folders.old) (λ t. IfOk result (λ b. MatchBool b
@@ -219,10 +216,8 @@ fn visit<F: Folders>(
     stack: &mut Stack,
     name: Text,
 ) -> Result<Option<KeptFile>, AllocError>
-    ensures same { F.tree folders.new ≡ F.tree folders.old }
+    ensures folders { AsTheyWere F.tree F.memory_faults folders.old folders.new result }
     ensures notes { Grows notes.old notes.new }
-    ensures honest { OnOk result (F.memory_faults folders.old < u64.MAX
-        → F.memory_faults folders.new ≡ F.memory_faults folders.old) }
     ensures stays { IfOk result (λ o. NoneIsSame stack.old stack.new o) }
     ensures falls { IfOk result (λ o. OnSome o (stack_rank stack.new
         < stack_rank stack.old + weight (256 - length stack.old.holders))) }
@@ -263,10 +258,8 @@ fn meet_next<F: Folders>(
     notes: &mut Items<Note>,
     stack: &mut Stack,
 ) -> Result<Step, AllocError>
-    ensures same { F.tree folders.new ≡ F.tree folders.old }
+    ensures folders { AsTheyWere F.tree F.memory_faults folders.old folders.new result }
     ensures notes { Grows notes.old notes.new }
-    ensures honest { OnOk result (F.memory_faults folders.old < u64.MAX
-        → F.memory_faults folders.new ≡ F.memory_faults folders.old) }
     ensures stays { IfOk result (λ s. StepStays stack.old stack.new s) }
     ensures falls { IfOk result (λ s. FoundFalls stack.old stack.new s) }
     ensures told { Told (F.tree folders.old) (λ t. IfOk result (λ s.
@@ -294,10 +287,8 @@ pub fn explore<F: Folders>(
     notes: &mut Items<Note>,
     stack: &mut Stack,
 ) -> Result<Option<KeptFile>, AllocError>
-    ensures same { F.tree folders.new ≡ F.tree folders.old }
+    ensures folders { AsTheyWere F.tree F.memory_faults folders.old folders.new result }
     ensures notes { Grows notes.old notes.new }
-    ensures honest { OnOk result (F.memory_faults folders.old < u64.MAX
-        → F.memory_faults folders.new ≡ F.memory_faults folders.old) }
     ensures stays { IfOk result (λ o. NoneStays stack.old stack.new o) }
     ensures falls { IfOk result (λ o. OnSome o (stack_rank stack.new < stack_rank stack.old)) }
     ensures told { Told (F.tree folders.old) (λ t. IfOk result (λ o.

@@ -1,6 +1,7 @@
 //! A walk that answers one kept file at a time.
 ghost use Rattle.std.specs.Prelude.{◌≡◌, ◌<◌, [], true, false, None, Ok, OnOk, OnErr, OnSome, IfOk};
 ghost use Rattle.tokei_folders.specs.Answers.{Told};
+ghost use Rattle.tokei_folders.specs.AsTheyWere.{AsTheyWere, SameTree, NoFault};
 ghost use Rattle.tokei_folders.specs.Tree.{Tree, is_sound};
 ghost use Rattle.tokei_walk.specs.Kept.{kept_in};
 ghost use Rattle.tokei_walk.specs.Notes.{Grows, notes_of, notes_of_excludes};
@@ -24,7 +25,7 @@ fn advance<F: Folders>(
     stack: &mut Stack,
     roots: &mut Items<Text>,
 ) -> Result<Option<KeptFile>, AllocError>
-    ensures same { F.tree folders.new ≡ F.tree folders.old }
+    ensures folders { AsTheyWere F.tree F.memory_faults folders.old folders.new result }
     ensures notes { Grows notes.old notes.new }
     ensures fewer { IfOk result (λ o. OnSome o
         (all_rank stack.new roots.new < all_rank stack.old roots.old)) }
@@ -33,8 +34,6 @@ fn advance<F: Folders>(
     ensures told { Told (F.tree folders.old) (λ t. IfOk result (λ o. Advances
         (of_all settings.now.excludes settings.now.rules t stack.old roots.old)
         (of_all settings.now.excludes settings.now.rules t stack.new roots.new) o)) }
-    ensures honest { OnOk result (F.memory_faults folders.old < u64.MAX
-        → F.memory_faults folders.new ≡ F.memory_faults folders.old) }
 {
     loop {
         match explore(settings, folders, notes, stack)? {
@@ -127,7 +126,7 @@ impl Walk {
     /// alone, ends the walk: later calls answer `None`.
     #[tactic(auto, unfolding(crate::specs::Walks::has_failed))]
     pub fn next<F: Folders>(&mut self, folders: &mut F) -> Result<Option<KeptFile>, AllocError>
-        ensures same { F.tree folders.new ≡ F.tree folders.old }
+        ensures same { SameTree F.tree folders.old folders.new }
         ensures told { Told (F.tree folders.old) (λ t. IfOk result
             (λ o. Advances (to_come t self.old) (to_come t self.new) o)) }
         ensures fewer { IfOk result (λ o. OnSome o (rank self.new < rank self.old)) }
@@ -138,8 +137,7 @@ impl Walk {
         ensures notes { Grows (notes_of self.old) (notes_of self.new) }
         ensures refused { OnErr result (walk_failed self.new ≡ true) }
         ensures failed { walk_failed self.old ≡ true → result ≡ Ok None }
-        ensures honest { OnOk result (F.memory_faults folders.old < u64.MAX
-            → F.memory_faults folders.new ≡ F.memory_faults folders.old) }
+        ensures honest { NoFault F.memory_faults folders.old folders.new result }
     {
         if self.is_over() {
             return Ok(None);

@@ -1,4 +1,4 @@
-use Rattle.std.proofs.Common.{◌≡◌, List, option_map, OnOk, ◌∙◌, subst}
+use Rattle.std.proofs.Common.{◌≡◌, false, unwrap_or, List, option_map, OnOk, ◌∙◌, subst}
 use Rattle.std.specs.Io.KnownBytes.{Appends}
 use Rattle.tokei_config.specs.Seen.{settings_of}
 use Rattle.tokei_count.specs.Seen.{docs_of}
@@ -11,16 +11,16 @@ use Rattle.tokei.proofs.stream.stream.Goals as goal
 pub returns-clause-told : goal.returns-clause-told
 returns-clause-told g c = λ t e.
     let job = c.args.job.now in
-    let code : Counting = record { rows = c.in_ok-counter.counter; docs = docs_of c.count_config.result; types = option_map (λ types. types.now) c.types.result } in
-    let same : code ≡ counting_by c.args.table.now (settings_of job.config) =
-    λ i. record { rows = (c.in_ok-counter.ensures ∙ c.in_ok-extended.ensures) i; docs = c.count_config.ensures i; types = c.types.ensures i } in
+    let code : Counting = record { rows = c.in_ok-counter.counter; docs = docs_of c.counting.result; types = option_map (λ types. types.now) c.types.result } in
+    let same : code ≡ counting_by c.args.rows.now.table.now (settings_of job.config) =
+    λ i. record { rows = (c.in_ok-counter.ensures ∙ c.in_ok-extended.ensures) i; docs = unwrap_or (c.counting.ensures i) false; types = c.types.ensures i } in
     subst (λ (b : Counting). OnOk c.write_stream.result (Appends (g.W.Sink.contents c.args.writer.now) (g.W.Sink.contents c.write_stream.new.writer)
-    (stream_text c.args.form c.args.table.now b t (files_of job t)))) same (c.write_stream.ensures.told t e)
+    (stream_text c.args.rows.now.form c.args.rows.now.table.now b t (files_of job t)))) same (c.write_stream.ensures.told t e)
 
 pub returns-clause-overflow : goal.returns-clause-overflow
 returns-clause-overflow g c = λ q t e fits.
     let job = c.args.job.now in
-    let code : Counting = record { rows = c.in_ok-counter.counter; docs = docs_of c.count_config.result; types = option_map (λ types. types.now) c.types.result } in
-    let same : code ≡ counting_by c.args.table.now (settings_of job.config) =
-    λ i. record { rows = (c.in_ok-counter.ensures ∙ c.in_ok-extended.ensures) i; docs = c.count_config.ensures i; types = c.types.ensures i } in
+    let code : Counting = record { rows = c.in_ok-counter.counter; docs = docs_of c.counting.result; types = option_map (λ types. types.now) c.types.result } in
+    let same : code ≡ counting_by c.args.rows.now.table.now (settings_of job.config) =
+    λ i. record { rows = (c.in_ok-counter.ensures ∙ c.in_ok-extended.ensures) i; docs = unwrap_or (c.counting.ensures i) false; types = c.types.ensures i } in
     subst (λ (b : Counting). ReadingsFit b t (files_of job t) → ⊥) same (c.write_stream.ensures.overflow q t e) fits.readings

@@ -11,7 +11,7 @@ use Rattle.tokei.proofs.stream.write_rows.Goals as goal
 pub loop-file-init : goal.loop-file-init
 loop-file-init g c = record {
   same = refl;
-  told = λ t e. no_row_yet (file_row c.args.form c.args.table.now (counting_of c.args.counting.now) t) (to_come t c.args.walk.now) _;
+  told = λ t e. no_row_yet (file_row c.args.rows.now.form c.args.rows.now.table.now (counting_of c.args.counting.now) t) (to_come t c.args.walk.now) _;
   fits = λ t e f. f;
   no_fault = λ h. refl;
   honest = λ h. refl;
@@ -25,7 +25,7 @@ loop-file-preserved g c =
       told = λ t e.
           let here = inv.same ∙ e in
           let given = subst (λ (o : Option KeptFile). Advances (to_come t c.loop-file.walk) (to_come t c.next.new.self) o) c.in-Some.is (c.in_ok-file.ensures.told t here) in
-          one_row_more (file_row c.args.form c.args.table.now by t) _ _ _ c.in-Some.file _ _ _ (inv.told t e) given (c.in_ok-write_file.ensures.told t (c.next.ensures.same ∙ here));
+          one_row_more (file_row c.args.rows.now.form c.args.rows.now.table.now by t) _ _ _ c.in-Some.file _ _ _ (inv.told t e) given (c.in_ok-write_file.ensures.told t (c.next.ensures.same ∙ here));
       fits = λ t e f.
           let here = inv.same ∙ e in
           let given = subst (λ (o : Option KeptFile). Advances (to_come t c.loop-file.walk) (to_come t c.next.new.self) o) c.in-Some.is (c.in_ok-file.ensures.told t here) in

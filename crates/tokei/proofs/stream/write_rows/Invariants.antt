@@ -12,7 +12,7 @@ abbrev pub invariant-loop-file : goal.invariant-loop-file
 invariant-loop-file g l = record {
   same : g.F.Folders.tree l.folders ≡ g.F.Folders.tree l.initial.folders;
   told : Told (g.F.Folders.tree l.initial.folders) (λ t.
-      RowsSoFar (file_row l.form l.table (counting_of l.counting) t) (to_come t l.initial.walk) (to_come t l.walk) (g.W.Sink.contents l.initial.writer) (g.W.Sink.contents l.writer));
+      RowsSoFar (file_row l.rows.form l.rows.table.now (counting_of l.counting) t) (to_come t l.initial.walk) (to_come t l.walk) (g.W.Sink.contents l.initial.writer) (g.W.Sink.contents l.writer));
   fits : Told (g.F.Folders.tree l.initial.folders) (λ t.
       ReadingsFit (counting_of l.counting) t (to_come t l.initial.walk) → ReadingsFit (counting_of l.counting) t (to_come t l.walk));
   no_fault : g.W.Sink.faults l.initial.writer < 18446744073709551615 → g.W.Sink.faults l.writer ≡ g.W.Sink.faults l.initial.writer;

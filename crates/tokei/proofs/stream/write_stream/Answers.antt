@@ -27,10 +27,10 @@ returns-clause-told g c = λ t e.
     ∙ ap (λ (r : Rules). kept_in (excludes_of (texts_of c.deref-2.result.now)) r t (texts_of c.deref.result.now)) c.rules-obeyed.ensures
     ∙ ap (λ (xs : List (String Global)). kept_in (excludes_of (texts_of xs)) (rules_of (settings_of job.config)) t (texts_of c.deref.result.now)) c.deref-2.ensures.value
     ∙ ap (λ (xs : List (String Global)). kept_in (excludes_of (texts_of job.ignored.items)) (rules_of (settings_of job.config)) t (texts_of xs)) c.deref.ensures.value in
-    let rows : List KeptFile → List ℕ = λ ks. rows_of c.args.form c.args.table.now (counting_of c.args.counting.now) t ks in
+    let rows : List KeptFile → List ℕ = λ ks. rows_of c.args.rows.now.form c.args.rows.now.table.now (counting_of c.args.counting.now) t ks in
     let moved : (old new : Option (List ℕ)) → Appends old new (rows (to_come t c.in_ok-walk.walk)) → Appends old new (rows (files_of job t)) =
     λ old new. subst (λ (ks : List KeptFile). Appends old new (rows ks)) files in
-    Appends-trans _ _ _ (heading_of c.args.form) (rows (files_of job t)) c.in_ok-write_heading.ensures.bytes (moved _ _ (c.in_ok-write_rows.ensures.told t e))
+    Appends-trans _ _ _ (heading_of c.args.rows.now.form) (rows (files_of job t)) c.in_ok-write_heading.ensures.bytes (moved _ _ (c.in_ok-write_rows.ensures.told t e))
 
 pub returns-in_err-write_rows-clause-overflow : goal.returns-in_err-write_rows-clause-overflow
 unfolding kept_by

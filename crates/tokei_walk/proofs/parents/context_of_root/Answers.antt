@@ -8,7 +8,7 @@ use Rattle.tokei_walk.proofs.parents.context_of_root.Goals as goal
 pub returns-clause-told : goal.returns-clause-told
 returns-clause-told g c = λ t e.
     let r = c.args.settings.now.rules in let found = c.in_ok-found.found in let cx = c.read_over.new.context in
-    let levels = c.in_ok-read_over.ensures.levels t (c.folders_over.ensures.same ∙ e) ∙ ap (λ (q : List Level). q ++ levels_over t r found) c.new.ensures in
+    let levels = c.in_ok-read_over.ensures.levels t (c.folders_over.ensures.folders.same ∙ e) ∙ ap (λ (q : List Level). q ++ levels_over t r found) c.new.ensures in
     let names = c.in_ok-read_over.ensures.names ∙ ap (λ (q : List (List ℕ)). q ++ names_over found) c.new-2.ensures in
     context_told t r (names_of c.args.root.now) found cx c.if-not-settings.false (c.in_ok-found.ensures.told t e) levels names (c.in_ok-read_over.ensures.shown ∙ c.in_ok-shown.ensures)
 

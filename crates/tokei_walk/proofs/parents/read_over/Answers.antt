@@ -8,7 +8,7 @@ pub loop-above-preserved : goal.loop-above-preserved
 loop-above-preserved g c =
     let inv = c.loop-above.invariant in let cx = c.loop-above.context in let a = c.in-Some.above in let front = c.pop.new.self in let r = c.args.settings.now.rules in record {
       notes = grows_on _ _ _ inv.notes c.read_level.ensures.notes;
-      same = c.read_level.ensures.same ∙ inv.same;
+      same = c.read_level.ensures.folders.same ∙ inv.same;
       honest = search rules;
       shown = inv.shown;
       names = more cx.names c.push-in-Some.new.self (names_over c.loop-above.found) (names_over front) _ a.name c.in_ok-push-2.ensures.ok (names_over_pop c.loop-above.found front a c.in-Some.ensures) inv.names;

@@ -30,7 +30,7 @@ returns-in_ok-enter_root-in-Some-Folder-clause-told g c = λ t e left below.
     let x = c.args.settings.now in
     let named = sym c.is_blank.ensures ∙ c.if-is_blank.false in
     let kind = sym (c.in-Some-Folder.is ∙ ap Some c.in-Some-Folder.field-0-is) ∙ c.in_ok-kind_at.ensures.told t e ∙ ap (λ p. node_kind (node_at t (names_of p))) c.as_str-2.ensures in
-    root_folder x.excludes x.rules t c.args.root named kind ∙ c.in_ok-enter_root-in-Some-Folder.ensures.told t (c.kind_at.ensures.same ∙ e) left below
+    root_folder x.excludes x.rules t c.args.root named kind ∙ c.in_ok-enter_root-in-Some-Folder.ensures.told t (c.kind_at.ensures.folders.same ∙ e) left below
 
 pub returns-in-Some-Other-clause-told : goal.returns-in-Some-Other-clause-told
 returns-in-Some-Other-clause-told g c = λ t e left below.

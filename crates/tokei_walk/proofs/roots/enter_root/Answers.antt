@@ -25,7 +25,7 @@ returns-in-None-clause-told g c = λ t e.
 pub returns-clause-told : goal.returns-clause-told
 returns-clause-told g c = λ t e left below.
     let x = c.args.settings.now in let root = c.args.root in let place = c.as_str.result.now in
-    let first = c.listing.ensures.same ∙ e in let second = c.context_of_root.ensures.same ∙ first in
+    let first = c.listing.ensures.folders.same ∙ e in let second = c.context_of_root.ensures.folders.same ∙ first in
     let told = subst (λ (o : Option Listing). MatchOption o (list_answer t (names_of place) ≡ Err Refused) (λ l. list_answer t (names_of place) ≡ Ok l.entries.items)) c.in-Some.is (c.in_ok-listing.ensures.told t e) in
     let entries = ap (λ p. list_answer t (names_of p)) (sym c.as_str.ensures) ∙ told ∙ ap Ok (sym (reverse-reverse c.in-Some.listing.entries.items) ∙ ap reverse (sym (c.reverse.ensures.turned ∙ ap reverse c.from_vec-left.ensures))) in
     let is = c.in_ok-context.ensures.told t first ∙ ap (λ p. root_context t x.rules (names_of p)) c.as_str-3.ensures in

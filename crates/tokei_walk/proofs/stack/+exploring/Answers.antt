@@ -59,7 +59,7 @@ explore-loop-file-preserved g t c =
     let stays = subst (λ (o : Step). StepStays s v o) c.in-Passed.is c.in_ok-file.ensures.stays in
     let fewer : length v.left ≤ length s.left = omega (arith, stays.1) in record {
       notes = grows_on _ _ _ inv.notes c.meet_next.ensures.notes;
-      same = c.meet_next.ensures.same ∙ inv.same;
+      same = c.meet_next.ensures.folders.same ∙ inv.same;
       honest = search rules;
       stays = (stays.0.0 ∙ inv.stays.0, stays.0.1 ∙ inv.stays.1, stays.0.2 ∙ inv.stays.2);
       falls = omega (arith, stays_rank s v stays.0 fewer, inv.falls);
@@ -120,7 +120,7 @@ visit-returns-in-Some-clause-told g t c = λ t' e.
     let stays = sym c.in_ok-dropped.ensures.dropped ∙ c.if-dropped.false in
     let enters = c.in_ok-enter.ensures.entered c.if-not-branch.false in
     let told = subst (λ (b : Bool). MatchBool b (EntersTold t' x.rules (with_context s d) u place) (list_answer t' (names_of place) ≡ Err Refused)) c.if-not-branch.false (c.in_ok-enter.ensures.told t' e) in
-    let explored = subst (λ (o : Option KeptFile). ExploreTells x.excludes x.rules t' u c.explore.new.stack o) c.in-Some.is (c.in_ok-file.ensures.told t' (c.enter.ensures.same ∙ e)) in
+    let explored = subst (λ (o : Option KeptFile). ExploreTells x.excludes x.rules t' u c.explore.new.stack o) c.in-Some.is (c.in_ok-file.ensures.told t' (c.enter.ensures.folders.same ∙ e)) in
     ap (λ (p : List ℕ). of_folder x.excludes x.rules t' s name p ++ of_stack x.excludes x.rules t' s) (sym at)
     ∙ ap (λ (q : List KeptFile). q ++ of_stack x.excludes x.rules t' s) (visit_entered x.excludes x.rules t' s u d name place is stays shallow enters told)
     ∙ sym (stack_entered x.excludes x.rules t' s u d name place is enters) ∙ explored
@@ -149,5 +149,5 @@ visit-returns-in-None-clause-told g t c = λ t' e.
     let stays = sym c.in_ok-dropped.ensures.dropped ∙ c.if-dropped.false in
     let enters = c.in_ok-enter.ensures.entered c.if-not-branch.false in
     let told = subst (λ (b : Bool). MatchBool b (EntersTold t' x.rules (with_context s d) u place) (list_answer t' (names_of place) ≡ Err Refused)) c.if-not-branch.false (c.in_ok-enter.ensures.told t' e) in
-    let explored = subst (λ (o : Option KeptFile). ExploreTells x.excludes x.rules t' u c.explore.new.stack o) c.in-None.is (c.in_ok-file.ensures.told t' (c.enter.ensures.same ∙ e)) in
+    let explored = subst (λ (o : Option KeptFile). ExploreTells x.excludes x.rules t' u c.explore.new.stack o) c.in-None.is (c.in_ok-file.ensures.told t' (c.enter.ensures.folders.same ∙ e)) in
     ap (λ (p : List ℕ). of_folder x.excludes x.rules t' s name p) (sym at) ∙ visit_entered x.excludes x.rules t' s u d name place is stays shallow enters told ∙ explored

@@ -13,7 +13,7 @@ use Rattle.tokei_walk.proofs.stack.enter.Goals as goal
 pub returns-clause-told : goal.returns-clause-told
 returns-clause-told g c = λ t e.
     let x = c.args.settings.now in let place = c.args.place in
-    let first = c.listing.ensures.same ∙ e in
+    let first = c.listing.ensures.folders.same ∙ e in
     let told = subst (λ (o : Option Listing). MatchOption o (list_answer t (names_of c.as_str.result.now) ≡ Err Refused) (λ l. list_answer t (names_of c.as_str.result.now) ≡ Ok l.entries.items)) c.in-Some.is (c.in_ok-listing.ensures.told t e) in
     let listed_here = ap (λ p. list_answer t (names_of p)) (sym c.as_str.ensures) ∙ told in
     let sought = c.sought_among-sought.ensures ∙ ap (listed x.rules) c.as_slice.ensures.value in

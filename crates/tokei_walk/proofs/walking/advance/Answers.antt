@@ -17,7 +17,7 @@ loop-file-preserved-then-leave g c =
     let stays = subst (λ (o : Option KeptFile). NoneStays s v o) c.in-None.is c.in_ok-file.ensures.stays in record {
       notes = grows_on _ _ _ inv.notes c.explore.ensures.notes;
       falls = omega (arith, all_stays s c.leave.new.stack c.loop-file.roots (omega (arith, explored_rank s v stays.0 stays.1, left_rank v c.leave.new.stack (subst (λ (b : Bool). Leaves v c.leave.new.stack b) c.if-leave.true c.leave.ensures))), inv.falls);
-      same = c.explore.ensures.same ∙ inv.same;
+      same = c.explore.ensures.folders.same ∙ inv.same;
       honest = search rules;
       told = λ t e.
           let top = subst (λ (o : Option KeptFile). ExploreTells x.excludes x.rules t s v o) c.in-None.is (c.in_ok-file.ensures.told t (inv.same ∙ e)) in
@@ -42,7 +42,7 @@ returns-in-Some-2-clause-told g c = λ t e.
     let top = subst (λ (o : Option KeptFile). ExploreTells x.excludes x.rules t s v o) c.in-None.is (c.in_ok-file.ensures.told t (inv.same ∙ e)) in
     let left = subst (λ (b : Bool). Leaves v c.leave.new.stack b) c.if-leave.false c.leave.ensures in
     let root = c.in-Some-pop.root in let front = c.pop.new.self in let w = c.begin_root.new.stack in
-    let given = subst (λ (o : Option KeptFile). RootGives (of_root x.excludes x.rules t root) (of_stack x.excludes x.rules t w) o) c.in-Some-2.is (c.in_ok-file-2.ensures.told t (c.explore.ensures.same ∙ inv.same ∙ e) (ap (λ (u : Stack). u.left) left.1 ∙ stays.1) (ap (λ (u : Stack). u.holders) left.1 ∙ left.0)) in
+    let given = subst (λ (o : Option KeptFile). RootGives (of_root x.excludes x.rules t root) (of_stack x.excludes x.rules t w) o) c.in-Some-2.is (c.in_ok-file-2.ensures.told t (c.explore.ensures.folders.same ∙ inv.same ∙ e) (ap (λ (u : Stack). u.left) left.1 ∙ stays.1) (ap (λ (u : Stack). u.holders) left.1 ∙ left.0)) in
     inv.told t e ∙ root_begins x.excludes x.rules t s v c.loop-file.roots front root stays.0 stays.1 left.0 top c.in-Some-pop.ensures
     ∙ ap (λ (q : List KeptFile). q ++ of_roots x.excludes x.rules t front) given
 
@@ -54,11 +54,11 @@ loop-file-preserved g c =
     let root = c.in-Some-pop.root in let front = c.pop.new.self in let w = c.begin_root.new.stack in record {
       notes = grows_on _ _ _ (grows_on _ _ _ inv.notes c.explore.ensures.notes) c.begin_root.ensures.notes;
       falls = omega (arith, root_falls s w c.loop-file.roots front root c.in-Some-pop.ensures (omega (arith, explored_rank s v stays.0 stays.1, ap stack_rank left.1, c.in_ok-file-2.ensures.bounded)), inv.falls);
-      same = c.begin_root.ensures.same ∙ c.explore.ensures.same ∙ inv.same;
+      same = c.begin_root.ensures.folders.same ∙ c.explore.ensures.folders.same ∙ inv.same;
       honest = search rules;
       told = λ t e.
           let top = subst (λ (o : Option KeptFile). ExploreTells x.excludes x.rules t s v o) c.in-None.is (c.in_ok-file.ensures.told t (inv.same ∙ e)) in
-          let given = subst (λ (o : Option KeptFile). RootGives (of_root x.excludes x.rules t root) (of_stack x.excludes x.rules t w) o) c.in-None-2.is (c.in_ok-file-2.ensures.told t (c.explore.ensures.same ∙ inv.same ∙ e) (ap (λ (u : Stack). u.left) left.1 ∙ stays.1) (ap (λ (u : Stack). u.holders) left.1 ∙ left.0)) in
+          let given = subst (λ (o : Option KeptFile). RootGives (of_root x.excludes x.rules t root) (of_stack x.excludes x.rules t w) o) c.in-None-2.is (c.in_ok-file-2.ensures.told t (c.explore.ensures.folders.same ∙ inv.same ∙ e) (ap (λ (u : Stack). u.left) left.1 ∙ stays.1) (ap (λ (u : Stack). u.holders) left.1 ∙ left.0)) in
           inv.told t e ∙ root_begins x.excludes x.rules t s v c.loop-file.roots front root stays.0 stays.1 left.0 top c.in-Some-pop.ensures ∙ ap (λ (q : List KeptFile). q ++ of_roots x.excludes x.rules t front) given;
     }
 

@@ -1,0 +1,22 @@
+-- What was asked for is shown.
+use Rattle.std.proofs.Common.{◌≡◌, sym, ◌∙◌}
+use Rattle.clap.specs.Values.{kind_of}
+use Rattle.clap.specs.declared.error.kind.ErrorKind.TheVariants.{DisplayHelp, DisplayVersion}
+use Rattle.tokei_cli.proofs.Shown.{help_is_shown, version_is_shown}
+use Rattle.tokei_cli.proofs.cli_error.answer.Goals as goal
+
+pub returns-in-DisplayHelp-clause-kind : goal.returns-in-DisplayHelp-clause-kind
+returns-in-DisplayHelp-clause-kind c =
+    let is : DisplayHelp ≡ kind_of c.args.error.now = sym c.in-DisplayHelp.is ∙ c.kind.ensures in
+    rw (← is) c.help.ensures
+
+pub returns-in-DisplayHelp-clause-shown : goal.returns-in-DisplayHelp-clause-shown
+returns-in-DisplayHelp-clause-shown c = help_is_shown c.help.result c.help.ensures
+
+pub returns-in-DisplayVersion-clause-kind : goal.returns-in-DisplayVersion-clause-kind
+returns-in-DisplayVersion-clause-kind c =
+    let is : DisplayVersion ≡ kind_of c.args.error.now = sym c.in-DisplayVersion.is ∙ c.kind.ensures in
+    rw (← is) c.version.ensures
+
+pub returns-in-DisplayVersion-clause-shown : goal.returns-in-DisplayVersion-clause-shown
+returns-in-DisplayVersion-clause-shown c = version_is_shown c.version.result c.version.ensures

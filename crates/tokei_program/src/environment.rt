@@ -1,0 +1,47 @@
+//! The variables that the program asks for, and the folders of configuration files that they name.
+use std::alloc::{AllocError, Global};
+use tokei::ConfigDirs;
+
+/// The variables that the program asks for, where they are set.
+#[derive(Drop)]
+pub struct Env {
+    /// `XDG_CONFIG_HOME`
+    pub xdg_config_home: Option<String>,
+    /// `HOME`
+    pub home: Option<String>,
+}
+
+/// The text as an owned one, where there is one.
+fn owned(alloc: Global, text: &Option<String>) -> Result<Option<String>, AllocError> {
+    match text {
+        None => Ok(None),
+        Some(text) => Ok(Some(String::from_str(alloc, text.as_str())?)),
+    }
+}
+
+/// Whether a place begins with `/`.
+fn is_absolute(place: &str) -> bool {
+    place.as_bytes().starts_with(b"/")
+}
+
+/// The user's folder for configuration: `XDG_CONFIG_HOME` where it begins with `/`, else `.config` in `HOME`.
+fn config_folder(alloc: Global, env: &Env) -> Result<Option<String>, AllocError> {
+    if let Some(folder) = &env.xdg_config_home {
+        if is_absolute(folder.as_str()) {
+            return Ok(Some(String::from_str(alloc, folder.as_str())?));
+        }
+    }
+    match &env.home {
+        None => Ok(None),
+        Some(home) => Ok(Some(format!(in alloc; "{home}/.config")?)),
+    }
+}
+
+/// The folders in which configuration files are looked for.
+pub fn config_dirs(alloc: Global, env: &Env) -> Result<ConfigDirs, AllocError> {
+    Ok(ConfigDirs {
+        config: config_folder(alloc, env)?,
+        home: owned(alloc, &env.home)?,
+        current: Some(String::from_str(alloc, ".")?),
+    })
+}

@@ -1,0 +1,189 @@
+//! What a run counts, made of the command line, the environment and the files that they name.
+ghost use Rattle.std.specs.Prelude.{◌≡◌, IfErr};
+ghost use Rattle.tokei_program.specs.Columns.{columns_of};
+ghost use Rattle.tokei_program.specs.Statuses.{status_of};
+
+use crate::choices::Choices;
+use crate::ending::Ending;
+use crate::environment::{Env, config_dirs};
+use std::alloc::{AllocError, Global};
+use tokei::{
+    Config, Counted, Fault, Folders, InputError, Job, LanguageTable, Languages, Source, add_input,
+};
+use tokei_cli::Cli;
+
+/// The table that the command line names.
+pub fn table_of<F: Folders>(
+    alloc: Global,
+    cli: &Cli,
+    folders: &mut F,
+) -> Result<LanguageTable, Ending>
+    ensures same { F.tree folders.new ≡ F.tree folders.old }
+    ensures failed { IfErr result (λ e. status_of e ≡ 1) }
+{
+    match folders.read(cli.table()) {
+        Ok(bytes) => Ok(LanguageTable::from_json(alloc, &bytes)?),
+        Err(Fault::Memory) => Err(Ending::Memory),
+        Err(Fault::Refused) => Err(Ending::NoTable(String::from_str(alloc, cli.table())?)),
+    }
+}
+
+/// The configuration of the user's files, below the options of the command line.
+fn configuration<F: Folders>(
+    alloc: Global,
+    cli: &Cli,
+    env: &Env,
+    table: &LanguageTable,
+    folders: &mut F,
+) -> Result<Config, Ending>
+    ensures same { F.tree folders.new ≡ F.tree folders.old }
+    ensures failed { IfErr result (λ e. status_of e ≡ 1) }
+{
+    let dirs = config_dirs(alloc, env)?;
+    let mut config = Config::from_config_files(alloc, table, folders, &dirs)?;
+    cli.override_config(alloc, table, &mut config)?;
+    Ok(config)
+}
+
+/// The languages of earlier results that are read from a source.
+fn languages_of<S: Source>(
+    alloc: Global,
+    table: &LanguageTable,
+    name: &str,
+    source: &mut S,
+) -> Result<Languages, Ending>
+    ensures failed { IfErr result (λ e. status_of e ≡ 1) }
+{
+    let mut languages = Languages::new(alloc);
+    match add_input(alloc, table, source, &mut languages) {
+        Ok(()) => Ok(languages),
+        Err(InputError::Memory) => Err(Ending::Memory),
+        Err(InputError::Overflow) => Err(Ending::Overflow),
+        Err(InputError::Unreadable) => Err(Ending::Unreadable),
+        Err(_) => Err(Ending::Input(String::from_str(alloc, name)?)),
+    }
+}
+
+/// The earlier results of that name: the file's; where it can't be read those on standard input, if the name is
+/// `stdin`; and else the name is their text.
+fn earlier_of<F: Folders, S: Source>(
+    alloc: Global,
+    table: &LanguageTable,
+    name: &str,
+    folders: &mut F,
+    input: &mut S,
+) -> Result<Languages, Ending>
+    ensures same { F.tree folders.new ≡ F.tree folders.old }
+    ensures failed { IfErr result (λ e. status_of e ≡ 1) }
+{
+    match folders.read(name) {
+        Ok(bytes) => languages_of(alloc, table, name, &mut Counted::new(bytes.as_slice())),
+        Err(Fault::Memory) => Err(Ending::Memory),
+        Err(Fault::Refused) if name == "stdin" => languages_of(alloc, table, name, input),
+        Err(Fault::Refused) => {
+            languages_of(alloc, table, name, &mut Counted::new(name.as_bytes()))
+        }
+    }
+}
+
+/// The earlier results that the command line names, if it names any.
+fn earlier<F: Folders, S: Source>(
+    alloc: Global,
+    table: &LanguageTable,
+    cli: &Cli,
+    folders: &mut F,
+    input: &mut S,
+) -> Result<Option<Languages>, Ending>
+    ensures same { F.tree folders.new ≡ F.tree folders.old }
+    ensures failed { IfErr result (λ e. status_of e ≡ 1) }
+{
+    match cli.file_input() {
+        None => Ok(None),
+        Some(name) => Ok(Some(earlier_of(alloc, table, name, folders, input)?)),
+    }
+}
+
+/// Refuses a root at which nothing stands; the empty one is such.
+fn check_root<F: Folders>(alloc: Global, folders: &mut F, root: &str) -> Result<(), Ending>
+    ensures same { F.tree folders.new ≡ F.tree folders.old }
+    ensures failed { IfErr result (λ e. status_of e ≡ 1) }
+{
+    if root.is_empty() {
+        return Err(Ending::Missing(String::new(alloc)));
+    }
+    match folders.kind(root) {
+        Ok(_) => Ok(()),
+        Err(Fault::Memory) => Err(Ending::Memory),
+        Err(Fault::Refused) => Err(Ending::Missing(String::from_str(alloc, root)?)),
+    }
+}
+
+/// Refuses the first root at which nothing stands.
+fn check_roots<F: Folders>(alloc: Global, folders: &mut F, roots: &[String]) -> Result<(), Ending>
+    ensures same { F.tree folders.new ≡ F.tree folders.old }
+    ensures failed { IfErr result (λ e. status_of e ≡ 1) }
+{
+    for root in roots {
+        check_root(alloc, folders, root.as_str())?;
+    }
+    Ok(())
+}
+
+/// The texts as owned ones.
+fn all_owned(alloc: Global, texts: &[String]) -> Result<Vec<String>, AllocError> {
+    let mut all = Vec::with_capacity(alloc, texts.len())?;
+    for text in texts {
+        all.push(String::from_str(alloc, text.as_str())?)?;
+    }
+    Ok(all)
+}
+
+/// The width of the report: that of the option, else that of the configuration, else 81.
+fn columns(option: Option<usize>, configured: Option<usize>) -> usize
+    ensures { result ≡ columns_of option configured }
+{
+    option.or(configured).unwrap_or(81)
+}
+
+/// The run of a command line.
+fn job_of(
+    alloc: Global,
+    cli: &Cli,
+    choices: Choices,
+    config: Config,
+    earlier: Option<Languages>,
+) -> Result<Job, AllocError> {
+    Ok(Job {
+        paths: all_owned(alloc, cli.input())?,
+        ignored: all_owned(alloc, cli.ignored_directories())?,
+        columns: columns(cli.columns, config.columns),
+        config,
+        earlier,
+        wanted: choices.wanted,
+        files: cli.files,
+        compact: cli.compact,
+        sort: choices.sort,
+        reverse: cli.sort_reverse,
+        numbers: choices.numbers,
+    })
+}
+
+/// What is counted, where all that the command line names is there.
+pub fn prepared<F: Folders, S: Source>(
+    alloc: Global,
+    cli: &Cli,
+    choices: Choices,
+    env: &Env,
+    table: &LanguageTable,
+    folders: &mut F,
+    input: &mut S,
+) -> Result<Job, Ending>
+    ensures same { F.tree folders.new ≡ F.tree folders.old }
+    ensures failed { IfErr result (λ e. status_of e ≡ 1) }
+{
+    let config = configuration(alloc, cli, env, table, folders)?;
+    let earlier = earlier(alloc, table, cli, folders, input)?;
+    check_roots(alloc, folders, cli.input())?;
+    let job = job_of(alloc, cli, choices, config, earlier)?;
+    Ok(job)
+}

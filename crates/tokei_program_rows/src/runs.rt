@@ -1,0 +1,466 @@
+//! Runs of the program over folders in memory: what it writes, and its exit status.
+
+use std::alloc::{AllocError, Global};
+use std::test::Fail;
+use tokei::{Counted, Fault, MemoryFolders};
+use tokei_bench::bench_json;
+use tokei_program::{Env, program};
+
+/// What a run wrote, and its status.
+#[derive(Drop)]
+struct Outcome {
+    status: u8,
+    out: String,
+    err: String,
+}
+
+/// Folders that hold the bench table and these files.
+pub(crate) fn folders(alloc: Global, files: &[(&str, &[u8])]) -> Result<MemoryFolders, Fault> {
+    let mut folders = MemoryFolders::new(alloc);
+    folders.add_file("languages.json", bench_json())?;
+    for (place, content) in files {
+        folders.add_file(place, content)?;
+    }
+    Ok(folders)
+}
+
+/// The bytes as a text.
+pub(crate) fn text(bytes: Vec<u8>) -> Result<String, Fail> {
+    match String::from_utf8(bytes) {
+        Ok(text) => Ok(text),
+        Err(_) => Err(Fail::from("the output isn't UTF-8")),
+    }
+}
+
+/// The text as an owned one, where there is one.
+fn owned(alloc: Global, text: Option<&str>) -> Result<Option<String>, AllocError> {
+    match text {
+        None => Ok(None),
+        Some(text) => Ok(Some(String::from_str(alloc, text)?)),
+    }
+}
+
+/// Runs the program in folders, with these variables and this standard input.
+fn ran_in(
+    alloc: Global,
+    folders: &mut MemoryFolders,
+    variables: (Option<&str>, Option<&str>),
+    input: &str,
+    words: &[&str],
+) -> Result<Outcome, Fail> {
+    let env = Env {
+        xdg_config_home: owned(alloc, variables.0)?,
+        home: owned(alloc, variables.1)?,
+    };
+    let mut input = Counted::new(input.as_bytes());
+    let mut out = Counted::new(Vec::new(alloc));
+    let mut err = Counted::new(Vec::new(alloc));
+    let status = program(alloc, words, &env, folders, &mut input, &mut out, &mut err);
+    Ok(Outcome {
+        status,
+        out: text(out.inner)?,
+        err: text(err.inner)?,
+    })
+}
+
+/// Runs the program over the bench table and `src/main.rs`.
+fn ran(alloc: Global, words: &[&str]) -> Result<Outcome, Fail> {
+    let Ok(mut folders) = folders(alloc, &[("src/main.rs", b"fn main() {}")]) else {
+        return Err(Fail::from("no folders"));
+    };
+    ran_in(alloc, &mut folders, (None, None), "", words)
+}
+
+/// Runs the program over the bench table and these files, with these variables.
+fn ran_over(
+    alloc: Global,
+    files: &[(&str, &[u8])],
+    variables: (Option<&str>, Option<&str>),
+    words: &[&str],
+) -> Result<Outcome, Fail> {
+    let Ok(mut folders) = folders(alloc, files) else {
+        return Err(Fail::from("no folders"));
+    };
+    ran_in(alloc, &mut folders, variables, "", words)
+}
+
+const NONE: &str =
+    r#"{"Total":{"blanks":0,"children":{},"code":0,"comments":0,"inaccurate":false,"reports":[]}}"#;
+
+pub(crate) const ONE: &str =
+    r#"{"Rust":{"blanks":0,"children":{},"code":1,"comments":0,"inaccurate":false,"reports":[{"name":"src/main.rs","stats":{"blanks":0,"blobs":{},"code":1,"comments":0}}]},"Total":{"blanks":0,"children":{"Rust":[{"name":"src/main.rs","stats":{"blanks":0,"blobs":{},"code":1,"comments":0}}]},"code":1,"comments":0,"inaccurate":false,"reports":[]}}"#;
+
+const ROWS: [&str; 3] = [
+    " Language              Files        Lines         Code     Comments       Blanks\n",
+    " Rust                      1            1            1            0            0\n",
+    " Total                     1            1            1            0            0\n",
+];
+
+/// The report of `src/main.rs` at 81 columns.
+fn report(alloc: Global) -> Result<String, AllocError> {
+    let mut row = String::new(alloc);
+    for _ in 0..81 {
+        row.push('━')?;
+    }
+    let [header, rust, total] = ROWS;
+    format!(in alloc; "{row}\n{header}{row}\n{rust}{row}\n{total}{row}\n")
+}
+
+#[test]
+fn documents(rt: HostRuntime) -> Result<(), Fail> {
+    for (words, expected) in [
+        (["tokei", "-o", "json", "src"].as_slice(), ONE),
+        (
+            ["tokei", "-t", "rust,nope", "-o", "json", "src"].as_slice(),
+            ONE,
+        ),
+        (
+            ["tokei", "-t", "nope", "-o", "json", "src"].as_slice(),
+            NONE,
+        ),
+        (
+            ["tokei", "-o", "json", "-e", "*.rs", "src"].as_slice(),
+            NONE,
+        ),
+    ] {
+        let ran = ran(rt.alloc(), words)?;
+        assert_eq!(rt; ran.out.as_str(), expected, "at {words:?}");
+        assert_eq!(rt; ran.err.as_str(), "", "at {words:?}");
+        assert_eq!(rt; ran.status, 0, "at {words:?}");
+    }
+    Ok(())
+}
+
+#[test]
+fn reports(rt: HostRuntime) -> Result<(), Fail> {
+    let expected = report(rt.alloc())?;
+    for words in [
+        ["tokei", "-c", "40", "src"].as_slice(),
+        ["tokei", "-c40", "src"].as_slice(),
+        ["tokei", "src"].as_slice(),
+        ["tokei", "-s=code", "src"].as_slice(),
+        ["tokei", "-C", "src"].as_slice(),
+        ["tokei", "-n", "commas", "src"].as_slice(),
+    ] {
+        let ran = ran(rt.alloc(), words)?;
+        assert_eq!(rt; ran.out.as_str(), expected.as_str(), "at {words:?}");
+        assert_eq!(rt; ran.err.as_str(), "", "at {words:?}");
+        assert_eq!(rt; ran.status, 0, "at {words:?}");
+    }
+    Ok(())
+}
+
+#[test]
+fn streams(rt: HostRuntime) -> Result<(), Fail> {
+    let line =
+        r#"{"language":"Rust","stats":{"name":"src/main.rs","stats":{"blanks":0,"blobs":{},"code":1,"comments":0}}}"#;
+    let expected = format!(in rt.alloc(); "{line}\n")?;
+    let ran = ran(
+        rt.alloc(),
+        &["tokei", "--streaming", "json", "-o", "json", "src"],
+    )?;
+    assert_eq!(rt; ran.out.as_str(), expected.as_str());
+    assert_eq!(rt; ran.status, 0);
+    Ok(())
+}
+
+#[test]
+fn help_and_version(rt: HostRuntime) -> Result<(), Fail> {
+    let version = ran(rt.alloc(), &["tokei", "--version"])?;
+    assert_eq!(rt;
+        version.out.as_str(),
+        "tokei 15.0.0 compiled with serialization support: json\n"
+    );
+    assert_eq!(rt; version.err.as_str(), "");
+    assert_eq!(rt; version.status, 0);
+    let help = ran(rt.alloc(), &["tokei", "--help"])?;
+    assert!(rt; help.out.as_str().contains("--num-format"));
+    assert_eq!(rt; help.err.as_str(), "");
+    assert_eq!(rt; help.status, 0);
+    Ok(())
+}
+
+#[test]
+fn command_lines_that_are_refused(rt: HostRuntime) -> Result<(), Fail> {
+    for (words, named) in [
+        (["tokei", "-o", "yaml"].as_slice(), "yaml"),
+        (["tokei", "-o", "xml"].as_slice(), "xml"),
+        (["tokei", "-s", "code", "-r", "code"].as_slice(), "--rsort"),
+        (
+            ["tokei", "-n", "commas", "-o", "json"].as_slice(),
+            "--output",
+        ),
+        (["tokei", "-l", "src"].as_slice(), "--languages"),
+        (["tokei", "-s", "size"].as_slice(), "size"),
+        (["tokei", "-r", "size"].as_slice(), "size"),
+        (["tokei", "-n", "spaces"].as_slice(), "spaces"),
+        (["tokei", "--streaming", "xml"].as_slice(), "xml"),
+        (["tokei", "-c", "wide"].as_slice(), "wide"),
+        (["tokei", "--nope"].as_slice(), "--nope"),
+    ] {
+        let ran = ran(rt.alloc(), words)?;
+        assert_eq!(rt; ran.status, 2, "at {words:?}");
+        assert_eq!(rt; ran.out.as_str(), "", "at {words:?}");
+        assert!(rt; ran.err.as_str().contains(named), "at {words:?}");
+    }
+    Ok(())
+}
+
+#[test]
+fn faults(rt: HostRuntime) -> Result<(), Fail> {
+    for (words, said) in [
+        (["tokei", "nope"].as_slice(), "Error: 'nope' not found.\n"),
+        (["tokei", "src", ""].as_slice(), "Error: '' not found.\n"),
+        (
+            ["tokei", "-i", "{}", "src"].as_slice(),
+            "Error:\n Failed to parse input file: {}\n",
+        ),
+        (
+            ["tokei", "-i", "src/main.rs", "src"].as_slice(),
+            "Error:\n Failed to parse input file: src/main.rs\n",
+        ),
+        (
+            ["tokei", "-i", "stdin", "src"].as_slice(),
+            "Error:\n Failed to parse input file: stdin\n",
+        ),
+        (
+            ["tokei", "--table", "nope.json", "src"].as_slice(),
+            "Error: the table of languages can't be read: nope.json\n",
+        ),
+        (
+            ["tokei", "--table", "src/main.rs", "src"].as_slice(),
+            "Error: the table is no JSON text\n",
+        ),
+    ] {
+        let ran = ran(rt.alloc(), words)?;
+        assert_eq!(rt; ran.err.as_str(), said, "at {words:?}");
+        assert_eq!(rt; ran.out.as_str(), "", "at {words:?}");
+        assert_eq!(rt; ran.status, 1, "at {words:?}");
+    }
+    Ok(())
+}
+
+#[test]
+fn earlier_results(rt: HostRuntime) -> Result<(), Fail> {
+    let Ok(mut folders) = folders(rt.alloc(), &[("earlier", ONE.as_bytes()), ("empty/a", b"")])
+    else {
+        return Err(Fail::from("no folders"));
+    };
+    for name in ["earlier", "stdin", ONE] {
+        let words = ["tokei", "-o", "json", "-i", name, "empty"];
+        let ran = ran_in(rt.alloc(), &mut folders, (None, None), ONE, &words)?;
+        assert_eq!(rt; ran.out.as_str(), ONE, "at {name}");
+        assert_eq!(rt; ran.err.as_str(), "", "at {name}");
+        assert_eq!(rt; ran.status, 0, "at {name}");
+    }
+    Ok(())
+}
+
+#[test]
+fn listed_languages(rt: HostRuntime) -> Result<(), Fail> {
+    let ran = ran(rt.alloc(), &["tokei", "-l"])?;
+    let rust = "Rust                                     rs\n";
+    assert!(rt;
+        ran.out
+            .as_str()
+            .starts_with("Language                                 Extensions\n")
+    );
+    assert!(rt; ran.out.as_str().contains(rust));
+    assert_eq!(rt; ran.status, 0);
+    Ok(())
+}
+
+const HIDDEN: &str = r#"{"name":"src/.a.c""#;
+
+const HIDE: &[u8] = b"hidden = false\n";
+
+const SHOW: &[u8] = b"hidden = true\n";
+
+/// Whether a hidden file is counted with these two files in the folders, and these variables.
+fn counts_hidden(
+    alloc: Global,
+    files: [(&str, &[u8]); 2],
+    variables: (Option<&str>, Option<&str>),
+) -> Result<bool, Fail> {
+    let [first, second] = files;
+    let files = [first, second, ("src/.a.c", b"x;\n".as_slice())];
+    let ran = ran_over(alloc, &files, variables, &["tokei", "-o", "json", "src"])?;
+    if ran.status != 0 {
+        return Err(Fail::from("another status than 0"));
+    }
+    Ok(ran.out.as_str().contains(HIDDEN))
+}
+
+#[test]
+fn configuration_by_folder(rt: HostRuntime) -> Result<(), Fail> {
+    let config = "h/.config/tokei.toml";
+    for (files, variables, counted) in [
+        (
+            [("tokei.toml", SHOW), ("h/tokei.toml", HIDE)],
+            (None, Some("h")),
+            true,
+        ),
+        (
+            [("tokei.toml", HIDE), ("h/tokei.toml", SHOW)],
+            (None, Some("h")),
+            false,
+        ),
+        (
+            [("x", HIDE), ("h/tokei.toml", SHOW)],
+            (None, Some("h")),
+            true,
+        ),
+        ([("x", HIDE), (config, SHOW)], (None, Some("h")), true),
+        (
+            [("x", HIDE), (config, SHOW)],
+            (Some("h/.config"), None),
+            false,
+        ),
+        (
+            [("x", HIDE), ("d/tokei.toml", SHOW)],
+            (Some("/d"), None),
+            true,
+        ),
+        (
+            [("x", HIDE), (config, SHOW)],
+            (Some("/d"), Some("h")),
+            false,
+        ),
+    ] {
+        let hidden = counts_hidden(rt.alloc(), files, variables)?;
+        assert_eq!(rt; hidden, counted, "at {files:?} with {variables:?}");
+    }
+    Ok(())
+}
+
+#[test]
+fn configuration_that_counts_as_empty(rt: HostRuntime) -> Result<(), Fail> {
+    for (files, counted) in [
+        (
+            [("tokei.toml", b"hidden =".as_slice()), (".tokeirc", SHOW)],
+            false,
+        ),
+        (
+            [("tokei.toml", b"\xff".as_slice()), (".tokeirc", SHOW)],
+            true,
+        ),
+        (
+            [
+                ("tokei.toml", b"hidden = true\ncolumns = -1".as_slice()),
+                ("x", HIDE),
+            ],
+            false,
+        ),
+    ] {
+        let hidden = counts_hidden(rt.alloc(), files, (None, None))?;
+        assert_eq!(rt; hidden, counted, "at {files:?}");
+    }
+    Ok(())
+}
+
+/// The document of `a.h` and `b.rs`, or of `a.h` alone, with this `tokei.toml`.
+fn with_config(alloc: Global, config: &str) -> Result<String, Fail> {
+    let files = [
+        ("tokei.toml", config.as_bytes()),
+        ("src/a.h", b"x;\n".as_slice()),
+        ("src/b.rs", b"fn f() {}\n".as_slice()),
+    ];
+    let ran = ran_over(alloc, &files, (None, None), &["tokei", "-o", "json", "src"])?;
+    Ok(ran.out)
+}
+
+const C_OF_A: &str =
+    r#"{"C":{"blanks":0,"children":{},"code":1,"comments":0,"inaccurate":false,"reports":[{"name":"src/a.h""#;
+
+const RUST_OF_B: &str =
+    r#""Rust":{"blanks":0,"children":{},"code":1,"comments":0,"inaccurate":false,"reports":[{"name":"src/b.rs""#;
+
+#[test]
+fn added_extensions(rt: HostRuntime) -> Result<(), Fail> {
+    for (config, counted) in [
+        ("[languages.C]\nextensions = [\"h\", \"rs\"]\n", true),
+        (
+            "[languages.D]\nextensions = [\"h\"]\n[languages.C]\nextensions = [\"h\"]\n",
+            true,
+        ),
+        ("[languages.C]\nextensions = [\"H\"]\n", false),
+        (
+            "[languages.C]\nextensions = [\"h\"]\n[languages.Nope]\nextensions = [\"x\"]\n",
+            false,
+        ),
+    ] {
+        let out = with_config(rt.alloc(), config)?;
+        assert_eq!(rt; out.as_str().starts_with(C_OF_A), counted, "at {config}");
+        assert!(rt; out.as_str().contains(RUST_OF_B), "at {config}");
+    }
+    Ok(())
+}
+
+#[test]
+fn notes_by_verbosity(rt: HostRuntime) -> Result<(), Fail> {
+    let files = [
+        ("src/.ignore", b"[a\n".as_slice()),
+        ("src/a.c", b"x;\n".as_slice()),
+    ];
+    for (words, said) in [
+        (["tokei", "-o", "json", "src"].as_slice(), ""),
+        (
+            ["tokei", "-v", "-o", "json", "src"].as_slice(),
+            "[WARN  bad line in ignore file] src/.ignore\n",
+        ),
+        (["tokei", "-vvvv", "-o", "json", "src"].as_slice(), ""),
+        (
+            ["tokei", "-o", "json", "-e", "[a", "src"].as_slice(),
+            "[ERROR exclude is no pattern] [a\n",
+        ),
+    ] {
+        let ran = ran_over(rt.alloc(), &files, (None, None), words)?;
+        assert_eq!(rt; ran.err.as_str(), said, "at {words:?}");
+        assert_eq!(rt; ran.status, 0, "at {words:?}");
+    }
+    Ok(())
+}
+
+#[test]
+fn no_table(rt: HostRuntime) -> Result<(), Fail> {
+    let mut folders = MemoryFolders::new(rt.alloc());
+    let ran = ran_in(rt.alloc(), &mut folders, (None, None), "", &["tokei"])?;
+    assert_eq!(rt; ran.out.as_str(), "");
+    assert_eq!(rt; ran.status, 1);
+    Ok(())
+}
+
+#[test]
+fn statuses(rt: HostRuntime) -> Result<(), Fail> {
+    for (words, status) in [
+        (["tokei", "src"].as_slice(), 0),
+        (["tokei", "--version", "--nope"].as_slice(), 0),
+        (["tokei", "-h"].as_slice(), 0),
+        (["tokei", "-l"].as_slice(), 0),
+        (["tokei", "-i", "stdin", "src"].as_slice(), 1),
+        (["tokei", "src", "nope"].as_slice(), 1),
+        (["tokei", "--table", "src", "src"].as_slice(), 1),
+        (["tokei", "--table", "nope", "-s", "size"].as_slice(), 2),
+        (["tokei", "-s", "size", "nope"].as_slice(), 2),
+        (["tokei", "-i", "{}", "--nope"].as_slice(), 2),
+    ] {
+        let ran = ran(rt.alloc(), words)?;
+        assert_eq!(rt; ran.status, status, "at {words:?}");
+    }
+    Ok(())
+}
+
+const MOST: &str =
+    r#"{"Rust":{"blanks":0,"children":{},"code":18446744073709551615,"comments":0,"inaccurate":false,"reports":[{"name":"old.rs","stats":{"blanks":0,"blobs":{},"code":18446744073709551615,"comments":0}}]},"Total":0}"#;
+
+#[test]
+fn a_sum_past_usize(rt: HostRuntime) -> Result<(), Fail> {
+    let ran = ran(rt.alloc(), &["tokei", "-i", MOST, "src"])?;
+    assert_eq!(rt; ran.status, 1);
+    assert_eq!(rt; ran.out.as_str(), "");
+    assert_eq!(rt;
+        ran.err.as_str(),
+        "Error: a sum passes the greatest usize\n"
+    );
+    Ok(())
+}
