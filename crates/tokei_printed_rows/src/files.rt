@@ -1,29 +1,42 @@
 //! The rows of files.
-use crate::pages::{bytes, framed, page, report, report_with, table};
+use crate::pages::{Page, key, page, report, report_with, shows, table, with_results};
+use std::alloc::Global;
 use std::test::Fail;
-use tokei_languages::Languages;
+use tokei_languages::{CountError, Languages};
 use tokei_print::NumberFormatStyle;
-use tokei_table::LanguageType;
+use tokei_table::{LanguageTable, LanguageType};
 
-#[test]
-fn listed_files(rt: HostRuntime) -> Result<(), Fail> {
-    let alloc = rt.alloc();
-    let table = table(alloc)?;
-    let rust = LanguageType::from_name(&table, "Rust").ok_or("no Rust")?;
-    let markdown = LanguageType::from_name(&table, "Markdown").ok_or("no Markdown")?;
+/// Four files of Markdown, two of them with Rust inside.
+fn four_files(
+    alloc: Global,
+    markdown: LanguageType,
+    rust: LanguageType,
+) -> Result<Languages, CountError> {
     let mut languages = Languages::new(alloc);
     languages.add_report(markdown, report_with(alloc, "./b.md", 1, (rust, 1))?)?;
     languages.add_report(markdown, report(alloc, "./c.md", (0, 0, 1))?)?;
     languages.add_report(markdown, report(alloc, "./a.md", (2, 0, 1))?)?;
     languages.add_report(markdown, report_with(alloc, "./a.md", 3, (rust, 4))?)?;
     languages.renew_counts()?;
-    let value = languages.get(markdown).ok_or("not counted")?;
-    let mut page = page(alloc, true, NumberFormatStyle::Plain)?;
-    page.print_results(&table, &[(markdown, value)], false, false)?;
-    page.print_results(&table, &[(markdown, value)], true, true)?;
-    let rows = framed(
-        alloc,
-        " Markdown                  4            8            0            6            2
+    Ok(languages)
+}
+
+/// The rows of the four files; compact and sorted where that is asked for.
+fn listed(alloc: Global, table: &LanguageTable, compact: bool) -> Result<Page, Fail> {
+    let markdown = key(table, "Markdown")?;
+    let languages = four_files(alloc, markdown, key(table, "Rust")?)?;
+    let Some(value) = languages.get(markdown) else {
+        return Err(Fail::from("not counted"));
+    };
+    let page = page(alloc, true, NumberFormatStyle::Plain)?;
+    Ok(with_results(page, table, &[(markdown, value)], compact, compact)?)
+}
+
+#[test]
+fn listed_files(rt: HostRuntime) -> Result<(), Fail> {
+    let table = table(rt.alloc())?;
+    let page = listed(rt.alloc(), &table, false)?;
+    let rows = " Markdown                  4            8            0            6            2
  |- Rust                   2            5            5            0            0
  (Total)                               13            5            6            2
 -
@@ -37,14 +50,16 @@ fn listed_files(rt: HostRuntime) -> Result<(), Fail> {
  |- Markdown                            1            0            1            0
  |- Rust                                1            1            0            0
  |- (Total)                             2            1            1            0
- Markdown                  4            8            0            6            2
+";
+    assert!(rt; shows(rt.alloc(), page, rows)?);
+    let page = listed(rt.alloc(), &table, true)?;
+    let rows = " Markdown                  4            8            0            6            2
 -
  ./b.md                                 1            0            1            0
  ./c.md                                 1            0            1            0
  ./a.md                                 3            0            1            2
  ./a.md                                 3            0            3            0
-",
-    )?;
-    assert_eq!(rt; bytes(page).as_slice(), rows.as_bytes());
+";
+    assert!(rt; shows(rt.alloc(), page, rows)?);
     Ok(())
 }

@@ -1,47 +1,56 @@
 //! The rows of languages and of those inside others.
-use crate::pages::{bytes, framed, page, report, table, whole};
+use crate::pages::{Page, key, page, report, shows, table, with_results, with_total};
 use std::alloc::Global;
 use std::test::Fail;
-use tokei_languages::{Language, Languages};
+use tokei_languages::{CountError, Language, Languages};
 use tokei_print::{NumberFormatStyle, PrintError};
-use tokei_table::LanguageType;
+use tokei_table::{LanguageTable, LanguageType};
 
-#[test]
-fn inaccurate_languages(rt: HostRuntime) -> Result<(), Fail> {
-    let alloc = rt.alloc();
-    let table = table(alloc)?;
-    let c = LanguageType::from_name(&table, "C").ok_or("no C")?;
+/// The languages of C alone, which is marked; with one file of one line where that is asked for.
+fn marked(alloc: Global, c: LanguageType, counted: bool) -> Result<Languages, CountError> {
     let mut languages = Languages::new(alloc);
     languages.mark_inaccurate(c)?;
-    let mut page = page(alloc, false, NumberFormatStyle::Plain)?;
+    if counted {
+        languages.add_report(c, report(alloc, "./a.c", (0, 1, 0))?)?;
+        languages.renew_counts()?;
+    }
+    Ok(languages)
+}
+
+#[test]
+fn a_marked_language_without_a_file(rt: HostRuntime) -> Result<(), Fail> {
+    let table = table(rt.alloc())?;
+    let c = key(&table, "C")?;
+    let languages = marked(rt.alloc(), c, false)?;
+    let mut page = page(rt.alloc(), false, NumberFormatStyle::Plain)?;
     page.print_inaccuracy_warning()?;
-    let value = languages.get(c).ok_or("not counted")?;
-    page.print_results(&table, &[(c, value)], false, false)?;
-    page.print_total(&languages)?;
-    let rows = framed(
-        alloc,
-        "Note: results can be inaccurate for languages marked with '(!)'
+    let page = with_total(page, &table, c, &languages)?;
+    let rows = "Note: results can be inaccurate for languages marked with '(!)'
 =
  Total          (!)        0            0            0            0            0
 =
-",
-    )?;
-    assert_eq!(rt; bytes(page).as_slice(), rows.as_bytes());
-    languages.add_report(c, report(alloc, "./a.c", (0, 1, 0))?)?;
-    languages.renew_counts()?;
-    let got = whole(alloc, &table, c, &languages, false)?;
-    let rows = framed(
-        alloc,
-        "=
+";
+    assert!(rt; shows(rt.alloc(), page, rows)?);
+    Ok(())
+}
+
+#[test]
+fn inaccurate_languages(rt: HostRuntime) -> Result<(), Fail> {
+    let table = table(rt.alloc())?;
+    let c = key(&table, "C")?;
+    let languages = marked(rt.alloc(), c, true)?;
+    let mut page = page(rt.alloc(), false, NumberFormatStyle::Plain)?;
+    page.print_header()?;
+    let page = with_total(page, &table, c, &languages)?;
+    let rows = "=
  Language              Files        Lines         Code     Comments       Blanks
 =
  C              (!)        1            1            1            0            0
 =
  Total          (!)        1            1            1            0            0
 =
-",
-    )?;
-    assert_eq!(rt; got.as_slice(), rows.as_bytes());
+";
+    assert!(rt; shows(rt.alloc(), page, rows)?);
     Ok(())
 }
 
@@ -63,26 +72,32 @@ pub fn large(
     Ok(language)
 }
 
+/// The rows of Markdown, which has three languages inside, and of Rust, which has one; compact where that is asked for.
+fn two_with_others_inside(
+    alloc: Global,
+    table: &LanguageTable,
+    compact: bool,
+) -> Result<Page, Fail> {
+    let (c, markdown) = (key(table, "C")?, key(table, "Markdown")?);
+    let (python, rust) = (key(table, "Python")?, key(table, "Rust")?);
+    let inside = [(c, (0, 41, 0)), (python, (4, 18, 0)), (rust, (5, 42, 6))];
+    let first = large(alloc, (281, 0, 1074), &inside)?;
+    let second = large(alloc, (460, 2840, 116), &[(markdown, (51, 5, 295))])?;
+    let page = page(alloc, false, NumberFormatStyle::Commas)?;
+    Ok(with_results(
+        page,
+        table,
+        &[(markdown, &first), (rust, &second)],
+        compact,
+        false,
+    )?)
+}
+
 #[test]
 fn subtotals(rt: HostRuntime) -> Result<(), Fail> {
-    let alloc = rt.alloc();
-    let table = table(alloc)?;
-    let markdown = LanguageType::from_name(&table, "Markdown").ok_or("no Markdown")?;
-    let python = LanguageType::from_name(&table, "Python").ok_or("no Python")?;
-    let rust = LanguageType::from_name(&table, "Rust").ok_or("no Rust")?;
-    let c = LanguageType::from_name(&table, "C").ok_or("no C")?;
-    let first = large(
-        alloc,
-        (281, 0, 1074),
-        &[(c, (0, 41, 0)), (python, (4, 18, 0)), (rust, (5, 42, 6))],
-    )?;
-    let second = large(alloc, (460, 2840, 116), &[(markdown, (51, 5, 295))])?;
-    let mut page = page(alloc, false, NumberFormatStyle::Commas)?;
-    page.print_results(&table, &[(markdown, &first), (rust, &second)], false, false)?;
-    page.print_results(&table, &[(markdown, &first), (rust, &second)], true, false)?;
-    let rows = framed(
-        alloc,
-        " Markdown                  0        1,355            0        1,074          281
+    let table = table(rt.alloc())?;
+    let page = two_with_others_inside(rt.alloc(), &table, false)?;
+    let rows = " Markdown                  0        1,355            0        1,074          281
  |- C                      1           41           41            0            0
  |- Python                 1           22           18            0            4
  |- Rust                   1           53           42            6            5
@@ -91,10 +106,12 @@ fn subtotals(rt: HostRuntime) -> Result<(), Fail> {
  Rust                      0        3,416        2,840          116          460
  |- Markdown               1          351            5          295           51
  (Total)                            3,767        2,845          411          511
- Markdown                  0        1,355            0        1,074          281
+";
+    assert!(rt; shows(rt.alloc(), page, rows)?);
+    let page = two_with_others_inside(rt.alloc(), &table, true)?;
+    let rows = " Markdown                  0        1,355            0        1,074          281
  Rust                      0        3,416        2,840          116          460
-",
-    )?;
-    assert_eq!(rt; bytes(page).as_slice(), rows.as_bytes());
+";
+    assert!(rt; shows(rt.alloc(), page, rows)?);
     Ok(())
 }

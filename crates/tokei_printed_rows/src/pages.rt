@@ -1,8 +1,8 @@
 //! Printed pages, and the values that they show.
-use std::alloc::Global;
+use std::alloc::{AllocError, Global};
 use std::test::Fail;
 use tokei_io::Counted;
-use tokei_languages::Languages;
+use tokei_languages::{Language, Languages};
 use tokei_print::{NumberFormatStyle, PrintError, Printer};
 use tokei_stats::{CodeStats, Report};
 use tokei_table::{LanguageTable, LanguageType};
@@ -27,7 +27,7 @@ pub fn report(
     alloc: Global,
     name: &str,
     counts: (usize, usize, usize),
-) -> Result<Report, PrintError> {
+) -> Result<Report, AllocError> {
     let mut report = Report::new(alloc, String::from_str(alloc, name)?);
     report.stats.blanks = counts.0;
     report.stats.code = counts.1;
@@ -41,7 +41,7 @@ pub fn report_with(
     name: &str,
     comments: usize,
     inner: (LanguageType, usize),
-) -> Result<Report, PrintError> {
+) -> Result<Report, AllocError> {
     let mut report = report(alloc, name, (0, 0, comments))?;
     let mut stats = CodeStats::new(alloc);
     stats.code = inner.1;
@@ -59,24 +59,49 @@ pub fn table(alloc: Global) -> Result<LanguageTable, Fail> {
     }
 }
 
-/// The header, the rows of the language, and the total.
-pub fn whole(
-    alloc: Global,
+/// The language of that key.
+pub fn key(table: &LanguageTable, name: &str) -> Result<LanguageType, Fail> {
+    match LanguageType::from_name(table, name) {
+        Some(key) => Ok(key),
+        None => Err(Fail::from("no such language")),
+    }
+}
+
+/// The page with the rows of these languages behind what it holds.
+pub fn with_results(
+    mut page: Page,
+    table: &LanguageTable,
+    languages: &[(LanguageType, &Language)],
+    compact: bool,
+    sorted: bool,
+) -> Result<Page, PrintError> {
+    page.print_results(table, languages, compact, sorted)?;
+    Ok(page)
+}
+
+/// The page with the rows of one language behind what it holds, and the total of all.
+pub fn with_total(
+    page: Page,
     table: &LanguageTable,
     key: LanguageType,
     languages: &Languages,
-    files: bool,
-) -> Result<Vec<u8>, Fail> {
-    let mut page = page(alloc, files, NumberFormatStyle::Plain)?;
-    page.print_header()?;
-    let value = languages.get(key).ok_or("not counted")?;
-    page.print_results(table, &[(key, value)], false, false)?;
+) -> Result<Page, Fail> {
+    let Some(value) = languages.get(key) else {
+        return Err(Fail::from("not counted"));
+    };
+    let mut page = with_results(page, table, &[(key, value)], false, false)?;
     page.print_total(languages)?;
-    Ok(bytes(page))
+    Ok(page)
 }
 
-/// What is expected of `whole`, with `━` and `─` for their rows.
-pub fn framed(alloc: Global, rows: &str) -> Result<String, Fail> {
+/// Whether the page holds these rows, with `=` and `-` for heavy and light lines.
+pub fn shows(alloc: Global, page: Page, rows: &str) -> Result<bool, Fail> {
+    let rows = framed(alloc, rows)?;
+    Ok(bytes(page).as_slice() == rows.as_bytes())
+}
+
+/// The rows, with `━` and `─` for their heavy and light lines.
+fn framed(alloc: Global, rows: &str) -> Result<String, Fail> {
     let heavy = "━".repeat(alloc, 81)?;
     let light = "─".repeat(alloc, 81)?;
     let mut text = String::new(alloc);
