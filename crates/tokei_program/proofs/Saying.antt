@@ -1,5 +1,5 @@
 -- The texts that name a cause.
-use Rattle.std.proofs.Common.{◌≡◌, ℕ, List, [], ◌∷◌, ◌++◌, Option, refl, sym, ap, codes, append_assoc}
+use Rattle.std.proofs.Common.{ℕ, List, [], ◌∷◌, ◌++◌, Option, refl, sym, ap, codes, append_assoc}
 use Rattle.std.specs.Io.KnownBytes.{Appends}
 use Rattle.tokei_cli.specs.Printing.{failure_text}
 use Rattle.tokei_program.specs.declared.entry.TheConstants.{NO_MEMORY}

@@ -1,4 +1,8 @@
 //! The words of a command line that are read by the types that they name.
+ghost use Rattle.std.specs.Prelude.{◌≡◌, IfOk};
+ghost use Rattle.tokei_program.specs.Choices.{Chooses, wanted_of};
+ghost use Rattle.tokei_program.specs.Words.{ReadsAs};
+
 use crate::ending::Ending;
 use std::alloc::Global;
 use std::str::FromStr;
@@ -17,6 +21,7 @@ pub struct Choices {
 fn read<T: FromStr>(alloc: Global, option: &str, word: &Option<String>) -> Result<Option<T>, Ending>
 where
     T::Err: Drop,
+    ensures { IfOk result (ReadsAs T.from_str_gives word.now) }
 {
     let Some(word) = word else {
         return Ok(None);
@@ -33,7 +38,9 @@ where
 }
 
 /// What is written: a stream before a document, and a document before the report.
-fn wanted(streaming: Option<Streaming>, output: Option<Format>) -> Wanted {
+fn wanted(streaming: Option<Streaming>, output: Option<Format>) -> Wanted
+    ensures { result ≡ wanted_of streaming output }
+{
     match (streaming, output) {
         (Some(form), _) => Wanted::Stream(form),
         (None, Some(format)) => Wanted::Document(format),
@@ -43,7 +50,9 @@ fn wanted(streaming: Option<Streaming>, output: Option<Format>) -> Wanted {
 
 impl Choices {
     /// Reads the words of output, streaming, sort and num-format. One that isn't known is a refused command line.
-    pub fn of(alloc: Global, cli: &Cli) -> Result<Choices, Ending> {
+    pub fn of(alloc: Global, cli: &Cli) -> Result<Choices, Ending>
+        ensures { IfOk result (λ c. Chooses cli.now c.wanted c.sort c.numbers) }
+    {
         let output = read::<Format>(alloc, "output", &cli.output)?;
         let streaming = read::<Streaming>(alloc, "streaming", &cli.streaming)?;
         let option = if cli.sort_reverse { "rsort" } else { "sort" };

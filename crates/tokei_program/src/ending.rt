@@ -41,12 +41,13 @@ pub enum Ending {
 }
 
 impl Ending {
-    ghost use Rattle.std.specs.Prelude.{◌≡◌};
+    ghost use Rattle.std.specs.Prelude.{◌≡◌, ◌≢◌};
     ghost use Rattle.tokei_program.specs.Statuses.{status_of};
 
     /// The exit status: 2 where the command line is refused, else 1.
     pub fn status(&self) -> u8
-        ensures { result ≡ status_of self.now }
+        ensures is { result ≡ status_of self.now }
+        ensures failed { result ≢ 0 }
     {
         match self {
             Ending::Refused(_) => 2,

@@ -1,9 +1,13 @@
 //! The whole program but for its real ends.
-ghost use Rattle.std.specs.Prelude.{◌≡◌, ◌≢◌, ◌<◌, ◌≤◌, IfErr, OnOk};
+ghost use Rattle.std.specs.Prelude.{◌≡◌, ◌≢◌, ◌<◌, ◌≤◌, [], IfErr, OnOk};
+ghost use Rattle.tokei_cli.specs.CommandLines.{inputs_of};
 ghost use Rattle.std.specs.Io.KnownBytes.{Appends};
+ghost use Rattle.tokei_folders.specs.Answers.{Told};
 ghost use Rattle.tokei_io.specs.Faults.{faults_after};
+ghost use Rattle.tokei_program.specs.Choices.{Chooses};
 ghost use Rattle.tokei_program.specs.Messages.{Says};
 ghost use Rattle.tokei_program.specs.Statuses.{status_of};
+ghost use Rattle.tokei_program.specs.Writing.{Writes, WritesAsked, WritesCounts, WritesList};
 
 use crate::choices::Choices;
 use crate::ending::Ending;
@@ -53,7 +57,10 @@ fn counted<F: Folders, S: Source, W: Sink>(
     input: &mut S,
     out: &mut W,
 ) -> Result<String, Ending>
+    requires chosen { Chooses cli.now choices.wanted choices.sort choices.numbers }
     ensures same { F.tree folders.new ≡ F.tree folders.old }
+    ensures told { Told (F.tree folders.old) (λ t. OnOk result (WritesCounts
+        cli.now env.now t (S.remaining input.old) (W.contents out.old) (W.contents out.new))) }
     ensures fault { W.faults out.old < u64.MAX → OnOk result (W.faults out.new ≡ W.faults out.old) }
     ensures failed { IfErr result (λ e. status_of e ≡ 1) }
 {
@@ -72,6 +79,8 @@ fn listed<F: Folders, W: Sink>(
     out: &mut W,
 ) -> Result<String, Ending>
     ensures same { F.tree folders.new ≡ F.tree folders.old }
+    ensures told { Told (F.tree folders.old) (λ t. OnOk result (WritesList
+        cli.now t (W.contents out.old) (W.contents out.new))) }
     ensures fault { W.faults out.old < u64.MAX → OnOk result (W.faults out.new ≡ W.faults out.old) }
     ensures failed { IfErr result (λ e. status_of e ≡ 1) }
 {
@@ -90,7 +99,10 @@ fn followed<F: Folders, S: Source, W: Sink>(
     input: &mut S,
     out: &mut W,
 ) -> Result<String, Ending>
+    requires named { inputs_of cli.now ≢ [] }
     ensures same { F.tree folders.new ≡ F.tree folders.old }
+    ensures told { Told (F.tree folders.old) (λ t. OnOk result (WritesAsked
+        env.now t (S.remaining input.old) (W.contents out.old) (W.contents out.new))) }
     ensures fault { W.faults out.old < u64.MAX → OnOk result (W.faults out.new ≡ W.faults out.old) }
     ensures unwritten { IfErr result (λ e. status_of e ≡ 2 → out.new ≡ out.old) }
     ensures unread { IfErr result (λ e. status_of e ≡ 2 → (folders.new ≡ folders.old) × (input.new ≡ input.old)) }
@@ -113,6 +125,8 @@ fn answered<F: Folders, S: Source, W: Sink>(
     out: &mut W,
 ) -> Result<String, Ending>
     ensures same { F.tree folders.new ≡ F.tree folders.old }
+    ensures told { Told (F.tree folders.old) (λ t. OnOk result (Writes
+        env.now t (S.remaining input.old) (W.contents out.old) (W.contents out.new))) }
     ensures fault { W.faults out.old < u64.MAX → OnOk result (W.faults out.new ≡ W.faults out.old) }
     ensures unwritten { IfErr result (λ e. status_of e ≡ 2 → out.new ≡ out.old) }
     ensures unread { IfErr result (λ e. status_of e ≡ 2 → (folders.new ≡ folders.old) × (input.new ≡ input.old)) }
@@ -163,8 +177,9 @@ fn say<E: Sink>(alloc: Global, ending: &Ending, err: &mut E) -> Result<(), Endin
 /// asked, 2 where the command line is refused, 1 where something failed. What is asked for goes to `out`, and what is to be
 /// said beside it to `err`.
 ///
-/// A refused command line is seen before anything is read or written. Any other status than 1 says that neither writer had
-/// a fault. Where the status is 1 and `err` had no fault, one message stands in it.
+/// With status 0 `out` has gained what a command line asks for, over a known tree: help, the version, the list of languages,
+/// or what `run` writes for its job. A refused command line is seen before anything is read or written. Any other status
+/// than 1 says that neither writer had a fault. Where the status is 1 and `err` had no fault, one message stands in it.
 pub fn program<F: Folders, S: Source, W: Sink, E: Sink>(
     alloc: Global,
     words: &[&str],
@@ -175,6 +190,8 @@ pub fn program<F: Folders, S: Source, W: Sink, E: Sink>(
     err: &mut E,
 ) -> u8
     ensures same { F.tree folders.new ≡ F.tree folders.old }
+    ensures written { Told (F.tree folders.old) (λ t. result ≡ 0 → Writes
+        env.now t (S.remaining input.old) (W.contents out.old) (W.contents out.new)) }
     ensures status { result ≤ 2 }
     ensures refused { result ≡ 2 → out.new ≡ out.old }
     ensures unread { result ≡ 2 → (folders.new ≡ folders.old) × (input.new ≡ input.old) }

@@ -1,4 +1,7 @@
 //! The variables that the program asks for, and the folders of configuration files that they name.
+ghost use Rattle.std.specs.Prelude.{◌≡◌, IfOk};
+ghost use Rattle.tokei_program.specs.Directories.{AreDirs, config_folder_of, is_absolute, text_of};
+
 use std::alloc::{AllocError, Global};
 use tokei::ConfigDirs;
 
@@ -12,7 +15,9 @@ pub struct Env {
 }
 
 /// The text as an owned one, where there is one.
-fn owned(alloc: Global, text: &Option<String>) -> Result<Option<String>, AllocError> {
+fn owned(alloc: Global, text: &Option<String>) -> Result<Option<String>, AllocError>
+    ensures { IfOk result (λ o. text_of o ≡ text_of text.now) }
+{
     match text {
         None => Ok(None),
         Some(text) => Ok(Some(String::from_str(alloc, text.as_str())?)),
@@ -20,12 +25,20 @@ fn owned(alloc: Global, text: &Option<String>) -> Result<Option<String>, AllocEr
 }
 
 /// Whether a place begins with `/`.
-fn is_absolute(place: &str) -> bool {
-    place.as_bytes().starts_with(b"/")
+fn is_absolute(place: &str) -> bool
+    ensures { result ≡ is_absolute place.now }
+{
+    match place.as_bytes() {
+        [] => false,
+        [first, ..] => *first == b'/',
+    }
 }
 
 /// The user's folder for configuration: `XDG_CONFIG_HOME` where it begins with `/`, else `.config` in `HOME`.
-fn config_folder(alloc: Global, env: &Env) -> Result<Option<String>, AllocError> {
+fn config_folder(alloc: Global, env: &Env) -> Result<Option<String>, AllocError>
+    ensures { IfOk result (λ o. text_of o
+        ≡ config_folder_of (text_of env.now.xdg_config_home) (text_of env.now.home)) }
+{
     if let Some(folder) = &env.xdg_config_home {
         if is_absolute(folder.as_str()) {
             return Ok(Some(String::from_str(alloc, folder.as_str())?));
@@ -38,7 +51,9 @@ fn config_folder(alloc: Global, env: &Env) -> Result<Option<String>, AllocError>
 }
 
 /// The folders in which configuration files are looked for.
-pub fn config_dirs(alloc: Global, env: &Env) -> Result<ConfigDirs, AllocError> {
+pub fn config_dirs(alloc: Global, env: &Env) -> Result<ConfigDirs, AllocError>
+    ensures { IfOk result (AreDirs env.now) }
+{
     Ok(ConfigDirs {
         config: config_folder(alloc, env)?,
         home: owned(alloc, &env.home)?,

@@ -1,7 +1,7 @@
 //! The program as a call: it takes the words of a command line, the environment, folders, and three ends to read from and
 //! write to, and answers the exit status.
 //!
-//! `specs/` holds the exit statuses, the messages and the columns.
+//! `specs/` holds what the program writes, of which job it writes it, the exit statuses and the messages.
 #![tactic(auto)]
 
 mod choices;

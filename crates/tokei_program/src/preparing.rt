@@ -1,7 +1,15 @@
 //! What a run counts, made of the command line, the environment and the files that they name.
-ghost use Rattle.std.specs.Prelude.{◌≡◌, IfErr};
+ghost use Rattle.std.specs.Prelude.{◌≡◌, true, IfErr, IfOk, OnOk, Some, Ok, map, option_map, string_bytes};
+ghost use Rattle.tokei_cli.specs.CommandLines.{file_input_of, inputs_of, table_of as table_named};
+ghost use Rattle.tokei_folders.specs.Answers.{Told};
+ghost use Rattle.tokei_program.specs.Choices.{Chooses};
 ghost use Rattle.tokei_program.specs.Columns.{columns_of};
+ghost use Rattle.tokei_program.specs.Earlier.{AreEarlier, AreRead, bytes_named};
+ghost use Rattle.tokei_program.specs.Jobs.{IsConfig, IsJob, IsJobOf};
+ghost use Rattle.tokei_program.specs.Roots.{AllStand, stands};
 ghost use Rattle.tokei_program.specs.Statuses.{status_of};
+ghost use Rattle.tokei_program.specs.Tables.{table_at};
+ghost use Rattle.tokei_walk.specs.Walks.{texts_of};
 
 use crate::choices::Choices;
 use crate::ending::Ending;
@@ -19,6 +27,7 @@ pub fn table_of<F: Folders>(
     folders: &mut F,
 ) -> Result<LanguageTable, Ending>
     ensures same { F.tree folders.new ≡ F.tree folders.old }
+    ensures told { Told (F.tree folders.old) (λ t. IfOk result (λ rows. table_at t (table_named cli.now) ≡ Some (Ok rows))) }
     ensures failed { IfErr result (λ e. status_of e ≡ 1) }
 {
     match folders.read(cli.table()) {
@@ -37,6 +46,7 @@ fn configuration<F: Folders>(
     folders: &mut F,
 ) -> Result<Config, Ending>
     ensures same { F.tree folders.new ≡ F.tree folders.old }
+    ensures told { Told (F.tree folders.old) (λ t. IfOk result (IsConfig table.now cli.now env.now t)) }
     ensures failed { IfErr result (λ e. status_of e ≡ 1) }
 {
     let dirs = config_dirs(alloc, env)?;
@@ -52,6 +62,7 @@ fn languages_of<S: Source>(
     name: &str,
     source: &mut S,
 ) -> Result<Languages, Ending>
+    ensures read { IfOk result (AreRead table.now (S.remaining source.old)) }
     ensures failed { IfErr result (λ e. status_of e ≡ 1) }
 {
     let mut languages = Languages::new(alloc);
@@ -74,6 +85,8 @@ fn earlier_of<F: Folders, S: Source>(
     input: &mut S,
 ) -> Result<Languages, Ending>
     ensures same { F.tree folders.new ≡ F.tree folders.old }
+    ensures told { Told (F.tree folders.old) (λ t. IfOk result (AreRead
+        table.now (bytes_named t (S.remaining input.old) name.now))) }
     ensures failed { IfErr result (λ e. status_of e ≡ 1) }
 {
     match folders.read(name) {
@@ -95,6 +108,8 @@ fn earlier<F: Folders, S: Source>(
     input: &mut S,
 ) -> Result<Option<Languages>, Ending>
     ensures same { F.tree folders.new ≡ F.tree folders.old }
+    ensures told { Told (F.tree folders.old) (λ t. IfOk result (AreEarlier
+        table.now t (S.remaining input.old) (file_input_of cli.now))) }
     ensures failed { IfErr result (λ e. status_of e ≡ 1) }
 {
     match cli.file_input() {
@@ -106,6 +121,7 @@ fn earlier<F: Folders, S: Source>(
 /// Refuses a root at which nothing stands; the empty one is such.
 fn check_root<F: Folders>(alloc: Global, folders: &mut F, root: &str) -> Result<(), Ending>
     ensures same { F.tree folders.new ≡ F.tree folders.old }
+    ensures told { Told (F.tree folders.old) (λ t. OnOk result (stands t root.now ≡ true)) }
     ensures failed { IfErr result (λ e. status_of e ≡ 1) }
 {
     if root.is_empty() {
@@ -121,6 +137,7 @@ fn check_root<F: Folders>(alloc: Global, folders: &mut F, root: &str) -> Result<
 /// Refuses the first root at which nothing stands.
 fn check_roots<F: Folders>(alloc: Global, folders: &mut F, roots: &[String]) -> Result<(), Ending>
     ensures same { F.tree folders.new ≡ F.tree folders.old }
+    ensures told { Told (F.tree folders.old) (λ t. OnOk result (AllStand t (texts_of roots.now))) }
     ensures failed { IfErr result (λ e. status_of e ≡ 1) }
 {
     for root in roots {
@@ -130,7 +147,9 @@ fn check_roots<F: Folders>(alloc: Global, folders: &mut F, roots: &[String]) -> 
 }
 
 /// The texts as owned ones.
-fn all_owned(alloc: Global, texts: &[String]) -> Result<Vec<String>, AllocError> {
+fn all_owned(alloc: Global, texts: &[String]) -> Result<Vec<String>, AllocError>
+    ensures { IfOk result (λ v. texts_of v.items ≡ texts_of texts.now) }
+{
     let mut all = Vec::with_capacity(alloc, texts.len())?;
     for text in texts {
         all.push(String::from_str(alloc, text.as_str())?)?;
@@ -152,7 +171,12 @@ fn job_of(
     choices: Choices,
     config: Config,
     earlier: Option<Languages>,
-) -> Result<Job, AllocError> {
+) -> Result<Job, AllocError>
+    ensures members { IfOk result (IsJob cli.now) }
+    ensures chosen { IfOk result (λ j. (j.wanted ≡ choices.wanted) × (j.sort ≡ choices.sort)
+        × (j.numbers ≡ choices.numbers)) }
+    ensures found { IfOk result (λ j. (j.config ≡ config) × (j.earlier ≡ earlier)) }
+{
     Ok(Job {
         paths: all_owned(alloc, cli.input())?,
         ignored: all_owned(alloc, cli.ignored_directories())?,
@@ -178,7 +202,10 @@ pub fn prepared<F: Folders, S: Source>(
     folders: &mut F,
     input: &mut S,
 ) -> Result<Job, Ending>
+    requires chosen { Chooses cli.now choices.wanted choices.sort choices.numbers }
     ensures same { F.tree folders.new ≡ F.tree folders.old }
+    ensures told { Told (F.tree folders.old) (λ t. IfOk result (IsJobOf
+        table.now cli.now env.now t (S.remaining input.old))) }
     ensures failed { IfErr result (λ e. status_of e ≡ 1) }
 {
     let config = configuration(alloc, cli, env, table, folders)?;

@@ -1,0 +1,49 @@
+-- What the program writes where it did what was asked.
+use Rattle.std.specs.Prelude.{◌≡◌, ◌≢◌, ℕ, List, [], Bool, true, false, Option, Some, Ok, ◌⊎◌}
+use Rattle.std.specs.Io.KnownBytes.{Appends}
+use Rattle.tokei.specs.declared.job.Job.{Job}
+use Rattle.tokei.specs.Output.{Outputs}
+use Rattle.tokei_cli.specs.CommandLines.{inputs_of, table_of}
+use Rattle.tokei_cli.specs.declared.cli.Cli.{Cli}
+use Rattle.tokei_cli.specs.Printing.{languages_text}
+use Rattle.tokei_cli.specs.Texts.{IsAskedFor}
+use Rattle.tokei_folders.specs.Tree.{Tree}
+use Rattle.tokei_program.specs.declared.environment.Env.{Env}
+use Rattle.tokei_program.specs.Jobs.{IsJobOf}
+use Rattle.tokei_program.specs.Tables.{table_at}
+use Rattle.tokei_table.specs.Row.{Row}
+
+-- behind what stood there a writer has what the run of a command line outputs
+pub record WritesCounts (c : Cli) (env : Env) (t : Tree) (input old new : Option (List ℕ)) : Type 0 where
+  pub rows : List Row
+  pub table : table_at t (table_of c) ≡ Some (Ok rows)
+  pub job : Job
+  pub is : IsJobOf rows c env t input job
+  pub outputs : Outputs job.wanted rows job t old new
+
+-- behind what stood there a writer has the list of the table's languages
+pub record WritesList (c : Cli) (t : Tree) (old new : Option (List ℕ)) : Type 0 where
+  pub rows : List Row
+  pub table : table_at t (table_of c) ≡ Some (Ok rows)
+  pub appended : Appends old new (languages_text rows)
+
+-- the list, where it is asked for, and else the counts
+abbrev pub WritesBy : Bool → Cli → Env → Tree → Option (List ℕ) → Option (List ℕ) → Option (List ℕ) → Type 0
+WritesBy true c env t input old new = WritesList c t old new
+WritesBy false c env t input old new = WritesCounts c env t input old new
+
+-- what a command line asks for is written
+pub record WritesAsked (env : Env) (t : Tree) (input old new : Option (List ℕ)) : Type 0 where
+  pub line : Cli
+  pub inputs : inputs_of line ≢ []
+  pub written : WritesBy line.print_languages line env t input old new
+
+-- the text of help or of the version is written
+pub record WritesText (old new : Option (List ℕ)) : Type 0 where
+  pub text : List ℕ
+  pub asked : IsAskedFor text
+  pub appended : Appends old new text
+
+-- either of them
+abbrev pub Writes : Env → Tree → Option (List ℕ) → Option (List ℕ) → Option (List ℕ) → Type 0
+Writes env t input old new = WritesText old new ⊎ WritesAsked env t input old new
