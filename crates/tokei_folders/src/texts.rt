@@ -1,8 +1,10 @@
 //! A text that contracts see as its bytes.
-ghost use Rattle.std.specs.Prelude.{◌≡◌, [], ◌++◌, IfOk, OnOk, OnErr, string_bytes};
+ghost use Rattle.std.specs.Prelude.{◌≡◌, ◌==◌, length, [], ◌++◌, IfOk, OnOk, OnErr, string_bytes};
+ghost use Rattle.std.specs.Slice.Iter.{iter_rest};
 
 use std::alloc::{AllocError, Global};
 use std::marker::Model;
+use std::slice::Iter;
 
 /// An owned text, which contracts see as its bytes.
 #[derive(Drop)]
@@ -55,6 +57,27 @@ impl Text {
         ensures err { OnErr result (self.new ≡ self.old) }
     {
         self.inner.push_str(text)
+    }
+
+    /// How many bytes there are.
+    pub fn len(&self) -> usize
+        ensures { result ≡ length self.now }
+    {
+        self.inner.as_bytes().len()
+    }
+
+    /// Whether there is no byte.
+    pub fn is_empty(&self) -> bool
+        ensures { result ≡ (length self.now == 0) }
+    {
+        self.inner.as_bytes().is_empty()
+    }
+
+    /// The bytes in order.
+    pub fn iter(&self) -> Iter<'_, u8>
+        ensures { iter_rest result ≡ self.now }
+    {
+        self.inner.as_bytes().iter()
     }
 
     /// The text.
