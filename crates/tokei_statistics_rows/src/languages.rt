@@ -7,7 +7,7 @@ use tokei_stats::{CodeStats, Report};
 use tokei_table::{LanguageTable, LanguageType};
 
 /// Three languages of a table, in its order.
-fn three(alloc: Global) -> Option<(LanguageType, LanguageType, LanguageType)> {
+pub fn three(alloc: Global) -> Option<(LanguageType, LanguageType, LanguageType)> {
     match LanguageTable::from_json(
         alloc,
         br#"{"languages":{"C":{},"JSON":{},"Markdown":{},"Rust":{}}}"#,
@@ -22,7 +22,11 @@ fn three(alloc: Global) -> Option<(LanguageType, LanguageType, LanguageType)> {
 }
 
 /// A report of these blank, code and comment lines.
-fn report(alloc: Global, name: &str, counts: (usize, usize, usize)) -> Result<Report, AllocError> {
+pub fn report(
+    alloc: Global,
+    name: &str,
+    counts: (usize, usize, usize),
+) -> Result<Report, AllocError> {
     let mut report = Report::new(alloc, String::from_str(alloc, name)?);
     (
         report.stats.blanks,
@@ -33,7 +37,7 @@ fn report(alloc: Global, name: &str, counts: (usize, usize, usize)) -> Result<Re
 }
 
 /// A report of one line of each class, with a blob of these lines of code.
-fn report_with_blob(
+pub fn report_with_blob(
     alloc: Global,
     name: &str,
     inside: LanguageType,
@@ -47,7 +51,7 @@ fn report_with_blob(
 }
 
 /// A language of these blank, code and comment lines.
-fn counted(alloc: Global, counts: (usize, usize, usize)) -> Language {
+pub fn counted(alloc: Global, counts: (usize, usize, usize)) -> Language {
     let mut language = Language::new(alloc);
     (language.blanks, language.code, language.comments) = counts;
     language
@@ -67,7 +71,7 @@ fn put_child(
 }
 
 /// One file of the language, with a blob of the other.
-fn one_file(
+pub fn one_file(
     alloc: Global,
     language: LanguageType,
     inside: LanguageType,
@@ -147,6 +151,43 @@ fn a_language_that_is_not_there_is_merged(rt: HostRuntime) -> Result<(), Fail> {
     assert_eq!(rt; total.lines(), Ok(7));
     assert_eq!(rt; total.children.len(), 2);
     assert!(rt; total.inaccurate);
+    Ok(())
+}
+
+/// The names of reports and their lines of code.
+fn names_and_code(alloc: Global, reports: &[Report]) -> Result<String, Fail> {
+    let mut shown = String::new(alloc);
+    for report in reports {
+        shown.push_str(&report.name)?;
+        shown.push_str(&format!(in alloc; " {} ", report.stats.code)?)?;
+    }
+    Ok(shown)
+}
+
+#[test]
+fn both_sides_of_a_merge_stay(rt: HostRuntime) -> Result<(), Fail> {
+    let alloc = rt.alloc();
+    let (c, json, rust) = three(alloc).ok_or("no languages")?;
+    let mut left = Languages::new(alloc);
+    left.add_report(c, report_with_blob(alloc, "b", json, 2)?)?;
+    left.renew_counts()?;
+    let mut right = Languages::new(alloc);
+    right.add_report(c, report_with_blob(alloc, "a", json, 3)?)?;
+    right.add_report(c, report_with_blob(alloc, "c", rust, 4)?)?;
+    right.add_report(rust, report(alloc, "d", (0, 5, 0))?)?;
+    right.mark_inaccurate(c)?;
+    right.renew_counts()?;
+    left.add(right)?;
+    assert_eq!(rt; left.len(), 2);
+    let merged = left.get(c).ok_or("no C")?;
+    assert_eq!(rt; (merged.blanks, merged.code, merged.comments), (3, 3, 3));
+    assert!(rt; merged.inaccurate);
+    let shown = names_and_code(alloc, &merged.reports)?;
+    assert_eq!(rt; shown.as_str(), "b 1 a 1 c 1 ");
+    let shown = names_and_code(alloc, merged.children.get(&json).ok_or("no JSON")?)?;
+    assert_eq!(rt; shown.as_str(), "b 2 a 3 ");
+    let shown = names_and_code(alloc, merged.children.get(&rust).ok_or("no Rust")?)?;
+    assert_eq!(rt; shown.as_str(), "c 4 ");
     Ok(())
 }
 

@@ -3,6 +3,16 @@
 #![tactic(auto)]
 
 #[cfg(test)]
+mod few_languages;
+#[cfg(test)]
 mod languages;
+#[cfg(test)]
+mod notebooks;
+#[cfg(test)]
+mod one_file;
+#[cfg(test)]
+mod refused_languages;
+#[cfg(test)]
+mod refused_runs;
 #[cfg(test)]
 mod statistics;

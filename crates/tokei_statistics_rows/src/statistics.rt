@@ -8,17 +8,17 @@ use tokei_count::CountError;
 use tokei_languages::{Language, Languages};
 use tokei_statistics::{CountFiles, from_path};
 use tokei_table::{LanguageTable, LanguageType};
-use tokei_walk::{Call, FailingFolders, Fault, Folders, MemoryFolders};
+use tokei_walk::{Call, Fault, Folders, MemoryFolders};
 
 /// Blanks, code and comments of a language, how many reports it has, and whether it is marked.
-type Row = (usize, usize, usize, usize, bool);
+pub type Row = (usize, usize, usize, usize, bool);
 
 /// The bench table.
-fn bench_table(alloc: Global) -> Result<LanguageTable, &'static str> {
+pub fn bench_table(alloc: Global) -> Result<LanguageTable, &'static str> {
     LanguageTable::from_json(alloc, bench_json()).map_err(|_| "the bench table is refused")
 }
 
-fn row_of(language: &Language) -> Row {
+pub fn row_of(language: &Language) -> Row {
     (
         language.blanks,
         language.code,
@@ -29,13 +29,13 @@ fn row_of(language: &Language) -> Row {
 }
 
 /// What was counted of the language with that name, if anything was.
-fn row(table: &LanguageTable, languages: &Languages, name: &str) -> Option<Row> {
+pub fn row(table: &LanguageTable, languages: &Languages, name: &str) -> Option<Row> {
     let language = LanguageType::from_name(table, name)?;
     languages.get(language).map(|l| row_of(l))
 }
 
 /// The texts as owned ones.
-fn owned(alloc: Global, texts: &[&str]) -> Result<Vec<String>, CountError> {
+pub fn owned(alloc: Global, texts: &[&str]) -> Result<Vec<String>, CountError> {
     let mut strings = Vec::new(alloc);
     for text in texts {
         strings.push(String::from_str(alloc, text)?)?;
@@ -43,8 +43,16 @@ fn owned(alloc: Global, texts: &[&str]) -> Result<Vec<String>, CountError> {
     Ok(strings)
 }
 
+/// The language of that name.
+pub fn key(table: &LanguageTable, name: &str) -> Result<LanguageType, Fail> {
+    match LanguageType::from_name(table, name) {
+        Some(key) => Ok(key),
+        None => Err(Fail::from("no such language")),
+    }
+}
+
 /// Files of these places and contents.
-fn files(alloc: Global, contents: &[(&str, &[u8])]) -> Result<MemoryFolders, Fault> {
+pub fn files(alloc: Global, contents: &[(&str, &[u8])]) -> Result<MemoryFolders, Fault> {
     let mut folders = MemoryFolders::new(alloc);
     for (place, content) in contents {
         folders.add_file(place, content)?;
@@ -52,236 +60,258 @@ fn files(alloc: Global, contents: &[(&str, &[u8])]) -> Result<MemoryFolders, Fau
     Ok(folders)
 }
 
+/// Files of these places and contents, where some places refuse a call.
+fn refusing(
+    alloc: Global,
+    contents: &[(&str, &[u8])],
+    refused: &[(&str, Call)],
+) -> Result<MemoryFolders, Fault> {
+    let mut folders = files(alloc, contents)?;
+    for (place, call) in refused {
+        folders.refuse_call(place, *call)?;
+    }
+    Ok(folders)
+}
+
+/// The languages and those of all files below the roots.
+fn with_counts<F: Folders>(
+    mut languages: Languages,
+    table: &LanguageTable,
+    folders: &mut F,
+    roots: &[&str],
+    config: &Config,
+) -> Result<Languages, CountError> {
+    let alloc = languages.allocator();
+    let roots = owned(alloc, roots)?;
+    let none = Vec::new(alloc);
+    let _notes = languages.get_statistics(table, folders, &roots, &none, config)?;
+    Ok(languages)
+}
+
 /// The languages of all files below a root.
-fn counted<F: Folders>(
+pub fn counted<F: Folders>(
     alloc: Global,
     table: &LanguageTable,
     folders: &mut F,
     root: &str,
     config: &Config,
 ) -> Result<Languages, CountError> {
-    let mut languages = Languages::new(alloc);
-    let roots = owned(alloc, &[root])?;
-    let none = Vec::new(alloc);
-    let _notes = languages.get_statistics(table, folders, &roots, &none, config)?;
-    Ok(languages)
+    with_counts(Languages::new(alloc), table, folders, &[root], config)
+}
+
+/// How many languages these files have, and the row of one of them.
+fn rows_of(
+    alloc: Global,
+    contents: &[(&str, &[u8])],
+    refused: &[(&str, Call)],
+    name: &str,
+) -> Result<(usize, Option<Row>), Fail> {
+    let table = bench_table(alloc)?;
+    let mut folders = refusing(alloc, contents, refused)?;
+    let languages = counted(alloc, &table, &mut folders, ".", &Config::new())?;
+    Ok((languages.len(), row(&table, &languages, name)))
 }
 
 const MAIN: (&str, &[u8]) = ("main.rs", b"fn main() {}");
 
-#[test]
-fn earlier_counts_are_renewed(rt: HostRuntime) -> Result<(), Fail> {
-    let alloc = rt.alloc();
-    let table = bench_table(alloc)?;
-    let c = LanguageType::from_name(&table, "C").ok_or("no C")?;
+/// The row of C, which had five lines of code, after a run over nothing.
+fn renewed(alloc: Global, table: &LanguageTable) -> Result<Option<Row>, Fail> {
     let mut earlier = Language::new(alloc);
     earlier.code = 5;
     let mut languages = Languages::new(alloc);
-    languages.insert(c, earlier)?;
-    let none = Vec::new(alloc);
+    let _none = languages.insert(key(table, "C")?, earlier)?;
     let mut folders = MemoryFolders::new(alloc);
-    languages.get_statistics(&table, &mut folders, &none, &none, &Config::new())?;
-    assert_eq!(rt; row(&table, &languages, "C"), Some((0, 0, 0, 0, false)));
+    let languages = with_counts(languages, table, &mut folders, &[], &Config::new())?;
+    Ok(row(table, &languages, "C"))
+}
+
+#[test]
+fn earlier_counts_are_renewed(rt: HostRuntime) -> Result<(), Fail> {
+    let table = bench_table(rt.alloc())?;
+    assert_eq!(rt; renewed(rt.alloc(), &table)?, Some((0, 0, 0, 0, false)));
     Ok(())
+}
+
+/// A configuration by which one language alone is counted.
+fn one_type(alloc: Global, table: &LanguageTable, name: &str) -> Result<Config, Fail> {
+    let mut types = Vec::new(alloc);
+    types.push(key(table, name)?)?;
+    let mut config = Config::new();
+    config.types = Some(types);
+    Ok(config)
+}
+
+/// How many languages a file of C and one of Rust have where Rust alone is counted, and its row.
+fn rust_alone(alloc: Global, table: &LanguageTable) -> Result<(usize, Option<Row>), Fail> {
+    let mut folders = files(alloc, &[("a.c", b"x;\n"), MAIN])?;
+    let config = one_type(alloc, table, "Rust")?;
+    let languages = counted(alloc, table, &mut folders, ".", &config)?;
+    Ok((languages.len(), row(table, &languages, "Rust")))
 }
 
 #[test]
 fn types_count_alone(rt: HostRuntime) -> Result<(), Fail> {
-    let alloc = rt.alloc();
-    let table = bench_table(alloc)?;
-    let rust = LanguageType::from_name(&table, "Rust").ok_or("no Rust")?;
-    let mut folders = files(alloc, &[("a.c", b"x;\n"), MAIN])?;
-    let mut config = Config::new();
-    let mut types = Vec::new(alloc);
-    types.push(rust)?;
-    config.types = Some(types);
-    let languages = counted(alloc, &table, &mut folders, ".", &config)?;
-    assert_eq!(rt; languages.len(), 1);
-    assert_eq!(rt; row(&table, &languages, "Rust"), Some((0, 1, 0, 1, false)));
+    let table = bench_table(rt.alloc())?;
+    assert_eq!(rt;
+        rust_alone(rt.alloc(), &table)?,
+        (1, Some((0, 1, 0, 1, false)))
+    );
     Ok(())
+}
+
+/// The row of Rust after two runs over one file.
+fn counted_twice(alloc: Global, table: &LanguageTable) -> Result<Option<Row>, Fail> {
+    let mut folders = files(alloc, &[MAIN])?;
+    let once = counted(alloc, table, &mut folders, ".", &Config::new())?;
+    let twice = with_counts(once, table, &mut folders, &["."], &Config::new())?;
+    Ok(row(table, &twice, "Rust"))
 }
 
 #[test]
 fn a_run_adds_to_the_one_before(rt: HostRuntime) -> Result<(), Fail> {
-    let alloc = rt.alloc();
-    let table = bench_table(alloc)?;
-    let mut folders = files(alloc, &[MAIN])?;
-    let roots = owned(alloc, &["."])?;
-    let none = Vec::new(alloc);
-    let config = Config::new();
-    let mut languages = Languages::new(alloc);
-    for _ in 0..2 {
-        languages.get_statistics(&table, &mut folders, &roots, &none, &config)?;
-    }
-    assert_eq!(rt; row(&table, &languages, "Rust"), Some((0, 2, 0, 2, false)));
+    let table = bench_table(rt.alloc())?;
+    assert_eq!(rt;
+        counted_twice(rt.alloc(), &table)?,
+        Some((0, 2, 0, 2, false))
+    );
     Ok(())
 }
 
 #[test]
 fn an_unreadable_file_marks_its_language(rt: HostRuntime) -> Result<(), Fail> {
-    let alloc = rt.alloc();
-    let table = bench_table(alloc)?;
-    let mut folders = files(alloc, &[("a.c", b"x;\n"), ("b.c", b"y;\n")])?;
-    folders.refuse_call("b.c", Call::Read)?;
-    let languages = counted(alloc, &table, &mut folders, ".", &Config::new())?;
-    assert_eq!(rt; languages.len(), 1);
-    assert_eq!(rt; row(&table, &languages, "C"), Some((0, 1, 0, 1, true)));
+    let two: &[(&str, &[u8])] = &[("a.c", b"x;\n"), ("b.c", b"y;\n")];
+    let told = rows_of(rt.alloc(), two, &[("b.c", Call::Read)], "C")?;
+    assert_eq!(rt; told, (1, Some((0, 1, 0, 1, true))));
     Ok(())
 }
 
 #[test]
 fn a_script_has_the_language_of_its_head(rt: HostRuntime) -> Result<(), Fail> {
-    let alloc = rt.alloc();
-    let table = bench_table(alloc)?;
-    let mut folders = files(alloc, &[("tool", b"#!/bin/bash\n")])?;
-    let languages = counted(alloc, &table, &mut folders, ".", &Config::new())?;
-    assert_eq!(rt; row(&table, &languages, "BASH"), Some((0, 0, 1, 1, false)));
-    folders.refuse_call("tool", Call::Head)?;
-    let languages = counted(alloc, &table, &mut folders, ".", &Config::new())?;
-    assert_eq!(rt; languages.len(), 0);
+    let tool: &[(&str, &[u8])] = &[("tool", b"#!/bin/bash\n")];
+    let told = rows_of(rt.alloc(), tool, &[], "BASH")?;
+    assert_eq!(rt; told, (1, Some((0, 0, 1, 1, false))));
+    let told = rows_of(rt.alloc(), tool, &[("tool", Call::Head)], "BASH")?;
+    assert_eq!(rt; told, (0, None));
     Ok(())
 }
 
 #[test]
 fn a_name_decides_before_a_head(rt: HostRuntime) -> Result<(), Fail> {
-    let alloc = rt.alloc();
-    let table = bench_table(alloc)?;
-    let mut folders = files(
-        alloc,
-        &[("a.c", b"#!/bin/bash\n"), ("b.unknown", b"#!/bin/bash\n")],
-    )?;
-    folders.refuse_call("a.c", Call::Head)?;
-    let languages = counted(alloc, &table, &mut folders, ".", &Config::new())?;
-    assert_eq!(rt; languages.len(), 1);
-    assert_eq!(rt; row(&table, &languages, "C"), Some((0, 1, 0, 1, false)));
+    let two: &[(&str, &[u8])] = &[("a.c", b"#!/bin/bash\n"), ("b.unknown", b"#!/bin/bash\n")];
+    let told = rows_of(rt.alloc(), two, &[("a.c", Call::Head)], "C")?;
+    assert_eq!(rt; told, (1, Some((0, 1, 0, 1, false))));
     Ok(())
 }
 
 #[test]
 fn contents_are_decoded(rt: HostRuntime) -> Result<(), Fail> {
-    let alloc = rt.alloc();
-    let table = bench_table(alloc)?;
-    let mut folders = files(alloc, &[("a.c", b"\xFF\xFE\x61\x00\x0A\x00")])?;
-    let languages = counted(alloc, &table, &mut folders, ".", &Config::new())?;
-    assert_eq!(rt; row(&table, &languages, "C"), Some((0, 1, 0, 1, false)));
-    let mut folders = files(alloc, &[("b.c", b"")])?;
-    let languages = counted(alloc, &table, &mut folders, ".", &Config::new())?;
-    assert_eq!(rt; row(&table, &languages, "C"), Some((0, 0, 0, 1, false)));
+    let wide: &[(&str, &[u8])] = &[("a.c", b"\xFF\xFE\x61\x00\x0A\x00")];
+    assert_eq!(rt;
+        rows_of(rt.alloc(), wide, &[], "C")?,
+        (1, Some((0, 1, 0, 1, false)))
+    );
+    let none: &[(&str, &[u8])] = &[("b.c", b"")];
+    assert_eq!(rt;
+        rows_of(rt.alloc(), none, &[], "C")?,
+        (1, Some((0, 0, 0, 1, false)))
+    );
     Ok(())
 }
 
-#[test]
-fn a_notebook_counts_its_cells_as_children(rt: HostRuntime) -> Result<(), Fail> {
-    let alloc = rt.alloc();
-    let table = bench_table(alloc)?;
-    let notebook =
-        br#"{"cells":[{"cell_type":"code","source":["x = 1\n","y = 2"]}],"metadata":{"kernelspec":{},"language_info":{}}}"#;
-    let mut folders = files(alloc, &[("n.ipynb", notebook)])?;
-    let languages = counted(alloc, &table, &mut folders, ".", &Config::new())?;
-    let jupyter = LanguageType::from_name(&table, "Jupyter").ok_or("no Jupyter")?;
-    let python = LanguageType::from_name(&table, "Python").ok_or("no Python")?;
-    let language = languages.get(jupyter).ok_or("not counted")?;
-    assert_eq!(rt; row_of(language), (0, 0, 0, 1, false));
-    let cells = language.children.get(&python).ok_or("no cells")?;
-    assert_eq!(rt; cells.len(), 1);
-    assert_eq!(rt;
-        (
-            cells[0].stats.blanks,
-            cells[0].stats.code,
-            cells[0].stats.comments
-        ),
-        (0, 2, 0)
-    );
-    assert!(rt; cells[0].name.as_str() == "./n.ipynb");
-    Ok(())
+/// Files, a root, the switch that is on, and how many reports Rust has below that root.
+type Switched = (
+    &'static [(&'static str, &'static [u8])],
+    &'static str,
+    &'static str,
+    usize,
+);
+
+const IGNORED: &[(&str, &[u8])] = &[MAIN, (".ignore", b"*.rs\n")];
+
+const NO_GIT: &[(&str, &[u8])] = &[MAIN, (".gitignore", b"*.rs\n")];
+
+const GIT: &[(&str, &[u8])] = &[MAIN, (".gitignore", b"*.rs\n"), (".git/HEAD", b"")];
+
+const HIDDEN: &[(&str, &[u8])] = &[(".hidden.rs", b"fn main() {}")];
+
+const FOLDER: &[(&str, &[u8])] = &[("directory.rs/a", b"")];
+
+const CHILD: &[(&str, &[u8])] = &[("child/main.rs", b"fn main() {}"), (".ignore", b"*.rs\n")];
+
+const SWITCHED: [Switched; 13] = [
+    (IGNORED, ".", "none", 0),
+    (IGNORED, ".", "dot", 1),
+    (IGNORED, ".", "all", 1),
+    (NO_GIT, ".", "none", 1),
+    (GIT, ".", "none", 0),
+    (GIT, ".", "dot", 0),
+    (GIT, ".", "vcs", 1),
+    (HIDDEN, ".", "none", 0),
+    (HIDDEN, ".", "all", 0),
+    (HIDDEN, ".", "hidden", 1),
+    (FOLDER, ".", "none", 0),
+    (CHILD, "child", "none", 0),
+    (CHILD, "child", "parent", 1),
+];
+
+/// A configuration in which one switch is on.
+fn switched(on: &str) -> Config {
+    let mut config = Config::new();
+    config.no_ignore = Some(on == "all");
+    config.no_ignore_parent = Some(on == "parent");
+    config.no_ignore_dot = Some(on == "dot");
+    config.no_ignore_vcs = Some(on == "vcs");
+    config.hidden = Some(on == "hidden");
+    config
 }
 
 /// How many reports Rust has below a root.
 fn rust_reports(
     alloc: Global,
-    table: &LanguageTable,
-    folders: &mut MemoryFolders,
+    contents: &[(&str, &[u8])],
     root: &str,
-    config: &Config,
-) -> Result<usize, CountError> {
-    let languages = counted(alloc, table, folders, root, config)?;
-    Ok(row(table, &languages, "Rust").map_or(0, |r| r.3))
-}
-
-fn switched(parent: bool, dot: bool, vcs: bool, hidden: bool) -> Config {
-    let mut config = Config::new();
-    config.no_ignore_parent = Some(parent);
-    config.no_ignore_dot = Some(dot);
-    config.no_ignore_vcs = Some(vcs);
-    config.hidden = Some(hidden);
-    config
+    on: &str,
+) -> Result<usize, Fail> {
+    let table = bench_table(alloc)?;
+    let mut folders = files(alloc, contents)?;
+    let languages = counted(alloc, &table, &mut folders, root, &switched(on))?;
+    Ok(row(&table, &languages, "Rust").map_or(0, |r| r.3))
 }
 
 #[test]
 fn switches_leave_out_rules(rt: HostRuntime) -> Result<(), Fail> {
-    let alloc = rt.alloc();
-    let table = bench_table(alloc)?;
-    let all = switched(false, false, false, false);
-    let no_parent = switched(true, false, false, false);
-    let no_dot = switched(false, true, false, false);
-    let no_vcs = switched(false, false, true, false);
-    let hidden = switched(false, false, false, true);
-    let mut none = Config::new();
-    none.no_ignore = Some(true);
-
-    let mut folders = files(alloc, &[MAIN, (".ignore", b"*.rs\n")])?;
-    assert_eq!(rt; rust_reports(alloc, &table, &mut folders, ".", &all)?, 0);
-    assert_eq!(rt; rust_reports(alloc, &table, &mut folders, ".", &no_dot)?, 1);
-    assert_eq!(rt; rust_reports(alloc, &table, &mut folders, ".", &none)?, 1);
-    let mut folders = files(alloc, &[MAIN, (".gitignore", b"*.rs\n")])?;
-    assert_eq!(rt; rust_reports(alloc, &table, &mut folders, ".", &all)?, 1);
-    folders.add_folder(".git")?;
-    assert_eq!(rt; rust_reports(alloc, &table, &mut folders, ".", &all)?, 0);
-    assert_eq!(rt; rust_reports(alloc, &table, &mut folders, ".", &no_dot)?, 0);
-    assert_eq!(rt; rust_reports(alloc, &table, &mut folders, ".", &no_vcs)?, 1);
-    let mut folders = files(alloc, &[(".hidden.rs", b"fn main() {}")])?;
-    assert_eq!(rt; rust_reports(alloc, &table, &mut folders, ".", &all)?, 0);
-    assert_eq!(rt; rust_reports(alloc, &table, &mut folders, ".", &none)?, 0);
-    assert_eq!(rt; rust_reports(alloc, &table, &mut folders, ".", &hidden)?, 1);
-    let mut folders = MemoryFolders::new(alloc);
-    folders.add_folder("directory.rs")?;
-    assert_eq!(rt; rust_reports(alloc, &table, &mut folders, ".", &all)?, 0);
-    let mut folders = files(
-        alloc,
-        &[("child/main.rs", b"fn main() {}"), (".ignore", b"*.rs\n")],
-    )?;
-    assert_eq!(rt;
-        rust_reports(alloc, &table, &mut folders, "child", &all)?,
-        0
-    );
-    assert_eq!(rt;
-        rust_reports(alloc, &table, &mut folders, "child", &no_parent)?,
-        1
-    );
+    for (contents, root, on, count) in &SWITCHED {
+        let reports = rust_reports(rt.alloc(), contents, root, on)?;
+        assert_eq!(rt; reports, *count, "below {root} with {on}");
+    }
     Ok(())
+}
+
+/// How many notes a run has whose folder `d` can't be listed, and the row of C.
+fn unlisted(alloc: Global, table: &LanguageTable) -> Result<(usize, Option<Row>), Fail> {
+    let two: &[(&str, &[u8])] = &[("a.c", b"x;\n"), ("d/b.c", b"y;\n")];
+    let mut folders = refusing(alloc, two, &[("d", Call::List)])?;
+    let roots = owned(alloc, &["."])?;
+    let none = Vec::new(alloc);
+    let mut languages = Languages::new(alloc);
+    let notes = languages.get_statistics(table, &mut folders, &roots, &none, &Config::new())?;
+    Ok((notes.len(), row(table, &languages, "C")))
 }
 
 #[test]
 fn what_is_refused_is_passed_over(rt: HostRuntime) -> Result<(), Fail> {
-    let alloc = rt.alloc();
-    let table = bench_table(alloc)?;
-    let config = Config::new();
-    let mut folders = files(alloc, &[("a.c", b"x;\n"), ("d/b.c", b"y;\n")])?;
-    folders.refuse_call("d", Call::List)?;
-    let roots = owned(alloc, &["."])?;
-    let none = Vec::new(alloc);
-    let mut languages = Languages::new(alloc);
-    let notes = languages.get_statistics(&table, &mut folders, &roots, &none, &config)?;
-    assert_eq!(rt; notes.len(), 1);
-    assert_eq!(rt; row(&table, &languages, "C"), Some((0, 1, 0, 1, false)));
-    let mut folders = files(alloc, &[MAIN, (".ignore", b"*.rs\n")])?;
-    folders.refuse_call(".ignore", Call::Read)?;
-    assert_eq!(rt; rust_reports(alloc, &table, &mut folders, ".", &config)?, 1);
+    let table = bench_table(rt.alloc())?;
+    assert_eq!(rt;
+        unlisted(rt.alloc(), &table)?,
+        (1, Some((0, 1, 0, 1, false)))
+    );
+    let told = rows_of(rt.alloc(), IGNORED, &[(".ignore", Call::Read)], "Rust")?;
+    assert_eq!(rt; told, (1, Some((0, 1, 0, 1, false))));
     Ok(())
 }
 
 /// A configuration by which languages gain extensions.
-fn gains(
+pub fn gains(
     alloc: Global,
     table: &LanguageTable,
     additions: &[(&str, &[&str])],
@@ -299,54 +329,57 @@ fn gains(
     Ok(config)
 }
 
+/// The languages of three files, by a configuration that adds extensions, where there is one.
+fn with_additions(
+    alloc: Global,
+    table: &LanguageTable,
+    additions: Option<&[(&str, &[&str])]>,
+) -> Result<Languages, Fail> {
+    let mut folders = files(alloc, &[("a.h", b"x;\n"), ("b.c", b"y;\n"), MAIN])?;
+    let config = match additions {
+        None => Config::new(),
+        Some(additions) => gains(alloc, table, additions)?,
+    };
+    Ok(counted(alloc, table, &mut folders, ".", &config)?)
+}
+
+/// The language of `a.h` by a configuration that adds extensions.
+fn language_of_h(
+    alloc: Global,
+    table: &LanguageTable,
+    additions: &[(&str, &[&str])],
+) -> Result<Option<LanguageType>, Fail> {
+    let config = gains(alloc, table, additions)?;
+    let mut folders = files(alloc, &[("a.h", b"x;\n")])?;
+    Ok(from_path(alloc, table, &mut folders, "a.h", &config)?)
+}
+
 #[test]
 fn languages_gain_extensions(rt: HostRuntime) -> Result<(), Fail> {
-    let alloc = rt.alloc();
-    let table = bench_table(alloc)?;
-    let mut folders = files(alloc, &[("a.h", b"x;\n"), ("b.rs", b"fn f() {}\n")])?;
-    let config = gains(alloc, &table, &[("C", &["h", "rs"])])?;
-    let languages = counted(alloc, &table, &mut folders, ".", &config)?;
-    assert_eq!(rt; row(&table, &languages, "C"), Some((0, 1, 0, 1, false)));
+    let table = bench_table(rt.alloc())?;
+    let languages = with_additions(rt.alloc(), &table, Some(&[("C", &["h", "rs"])]))?;
+    assert_eq!(rt; row(&table, &languages, "C"), Some((0, 2, 0, 2, false)));
     assert_eq!(rt; row(&table, &languages, "Rust"), Some((0, 1, 0, 1, false)));
-    let c = LanguageType::from_name(&table, "C");
-    let both = gains(alloc, &table, &[("D", &["h"]), ("C", &["h"])])?;
-    assert!(rt; from_path(alloc, &table, &mut folders, "a.h", &both)? == c);
-    let upper = gains(alloc, &table, &[("C", &["H"])])?;
-    assert!(rt; from_path(alloc, &table, &mut folders, "a.h", &upper)? == None);
-    assert!(rt; from_path(alloc, &table, &mut folders, "a.h", &Config::new())? == None);
     Ok(())
 }
 
 #[test]
-fn a_refused_run_leaves_the_first_files(rt: HostRuntime) -> Result<(), Fail> {
-    let alloc = rt.alloc();
-    let table = bench_table(alloc)?;
-    let roots = owned(alloc, &["."])?;
-    let none = Vec::new(alloc);
-    let config = Config::new();
-    let mut most = 0;
-    for passes in 0..40 {
-        let told = files(
-            alloc,
-            &[("a.c", b"x;\n"), ("b.c", b"y;\n"), ("c.c", b"z;\n")],
-        )?;
-        let mut folders = FailingFolders::new(told, passes);
-        let mut languages = Languages::new(alloc);
-        let run = languages.get_statistics(&table, &mut folders, &roots, &none, &config);
-        let reports = row(&table, &languages, "C").map_or(0, |r| r.3);
-        assert!(rt; most <= reports);
-        most = reports;
-        match run {
-            Ok(_) => {
-                assert_eq!(rt; row(&table, &languages, "C"), Some((0, 3, 0, 3, false)));
-                return Ok(());
-            }
-            Err(fault) => {
-                assert!(rt; fault == CountError::Memory);
-                assert!(rt; row(&table, &languages, "C").is_none_or(|r| r.1 == 0 && !r.4));
-            }
-        }
-    }
-    assert!(rt; false, "no run ended");
+fn a_gained_extension_has_the_first_language(rt: HostRuntime) -> Result<(), Fail> {
+    let table = bench_table(rt.alloc())?;
+    let c = LanguageType::from_name(&table, "C");
+    let both = language_of_h(rt.alloc(), &table, &[("D", &["h"]), ("C", &["h"])])?;
+    assert_eq!(rt; both, c);
+    assert_eq!(rt; language_of_h(rt.alloc(), &table, &[("C", &["H"])])?, None);
+    assert_eq!(rt; language_of_h(rt.alloc(), &table, &[])?, None);
+    Ok(())
+}
+
+#[test]
+fn an_empty_addition_changes_nothing(rt: HostRuntime) -> Result<(), Fail> {
+    let table = bench_table(rt.alloc())?;
+    let plain = with_additions(rt.alloc(), &table, None)?;
+    assert_eq!(rt; plain.len(), 2);
+    assert!(rt; with_additions(rt.alloc(), &table, Some(&[]))? == plain);
+    assert!(rt; with_additions(rt.alloc(), &table, Some(&[("C", &[])]))? == plain);
     Ok(())
 }
