@@ -105,10 +105,25 @@ TEXTS = {
     "target blocks, no target": ("LinguaFranca", "", lambda: "{=a=}\n" * SHARE),
 }
 
+# further hostile texts, of which `bench/instructions` counts instructions
+HOSTILE = {
+    "slashes and blanks in one line": ("C", "", lambda: "/ " * SHARE),
+    "lines of 79 slashes": ("C", "", lambda: ("/" * 79 + "\n") * 10_000),
+    "a string of backslashes": ("C", '"', lambda: "\\" * SHARE),
+    "single and double backquotes": ("Markdown", "", lambda: "` `` " * SHARE),
+    "`/// a` and `x` in turn": ("Rust", "", lambda: "/// a\nx\n" * SHARE),
+    "long doc comments": ("Rust", "", lambda: ("/// the caller keeps the table, and its rows stay as they were\n" * 200 + "x\n") * 100),
+}
+
+
+def key_of(name):
+    """The key of a text's language."""
+    return (TEXTS | HOSTILE)[name][0]
+
 
 def write(file, name, size):
     """Writes so many bytes of the text."""
-    _, front, repeated = TEXTS[name]
+    _, front, repeated = (TEXTS | HOSTILE)[name]
     left = size - file.write(front[:size].encode("ascii"))
     share = repeated().encode("ascii")
     while left > 0:
@@ -117,8 +132,8 @@ def write(file, name, size):
 
 def main():
     if len(sys.argv) == 1:
-        print("\n".join(TEXTS))
-    elif len(sys.argv) == 3 and sys.argv[1] in TEXTS:
+        print("\n".join([*TEXTS, *HOSTILE]))
+    elif len(sys.argv) == 3 and sys.argv[1] in TEXTS | HOSTILE:
         write(sys.stdout.buffer, sys.argv[1], int(sys.argv[2]))
     else:
         sys.exit(__doc__)
