@@ -12,44 +12,46 @@ fn fits(alloc: Global, line: &str, path: &str, folder: bool) -> Option<bool> {
     Some(pattern.fits(names.as_slice(), folder))
 }
 
+/// A line, a path, whether the path leads to a folder, and whether the line's pattern fits.
+const FITTING: [(&str, &str, bool, bool); 33] = [
+    ("*.rs", "a/b.rs", false, true),
+    ("*.rs", ".x.rs", false, true),
+    ("/a.rs", "a.rs", false, true),
+    ("/a.rs", "b/a.rs", false, false),
+    ("a/b", "a/b", false, true),
+    ("a/b", "c/a/b", false, false),
+    ("a/**", "a/b", false, true),
+    ("a/**", "a/b/c", false, true),
+    ("a/**", "a", true, false),
+    ("a/**/b", "a/b", false, true),
+    ("a/**/b", "a/x/b", false, true),
+    ("**/b", "b", false, true),
+    ("**/b", "a/b", false, true),
+    ("**", "a", false, true),
+    ("x/", "a/x", true, true),
+    ("x/", "a/x", false, false),
+    ("\\#a", "#a", false, true),
+    ("[!a-c]", "d", false, true),
+    ("[!a-c]", "b", false, false),
+    ("[]]", "]", false, true),
+    ("[--a]", "a", false, true),
+    ("[:]", ":", false, true),
+    ("[\\[:]", "[", false, true),
+    ("{a,b}", "{a,b}", false, true),
+    ("{a,b}", "a", false, false),
+    ("a\\  ", "a ", false, true),
+    ("a  ", "a", false, true),
+    ("?", "é", false, true),
+    ("[\\]]", "]", false, true),
+    ("[\\]]", "a", false, false),
+    ("a**b", "ab", false, true),
+    ("a**b", "axyb", false, true),
+    ("a**b", "a/b", false, false),
+];
+
 #[test]
 fn patterns_fit(rt: HostRuntime) -> Result<(), Fail> {
-    let rows = [
-        ("*.rs", "a/b.rs", false, true),
-        ("*.rs", ".x.rs", false, true),
-        ("/a.rs", "a.rs", false, true),
-        ("/a.rs", "b/a.rs", false, false),
-        ("a/b", "a/b", false, true),
-        ("a/b", "c/a/b", false, false),
-        ("a/**", "a/b", false, true),
-        ("a/**", "a/b/c", false, true),
-        ("a/**", "a", true, false),
-        ("a/**/b", "a/b", false, true),
-        ("a/**/b", "a/x/b", false, true),
-        ("**/b", "b", false, true),
-        ("**/b", "a/b", false, true),
-        ("**", "a", false, true),
-        ("x/", "a/x", true, true),
-        ("x/", "a/x", false, false),
-        ("\\#a", "#a", false, true),
-        ("[!a-c]", "d", false, true),
-        ("[!a-c]", "b", false, false),
-        ("[]]", "]", false, true),
-        ("[--a]", "a", false, true),
-        ("[:]", ":", false, true),
-        ("[\\[:]", "[", false, true),
-        ("{a,b}", "{a,b}", false, true),
-        ("{a,b}", "a", false, false),
-        ("a\\  ", "a ", false, true),
-        ("a  ", "a", false, true),
-        ("?", "é", false, true),
-        ("[\\]]", "]", false, true),
-        ("[\\]]", "a", false, false),
-        ("a**b", "ab", false, true),
-        ("a**b", "axyb", false, true),
-        ("a**b", "a/b", false, false),
-    ];
-    for (line, path, folder, want) in rows {
+    for (line, path, folder, want) in FITTING {
         let found = fits(rt.alloc(), line, path, folder);
         assert!(rt; found == Some(want), "{line} over {path}");
     }
@@ -69,51 +71,72 @@ fn bad_lines_are_bad(rt: HostRuntime) -> Result<(), Fail> {
     Ok(())
 }
 
+/// How many lines of an ignore file are bad, how many names a path has, and what the file decides about the file there.
+fn decided(
+    alloc: Global,
+    bytes: &[u8],
+    path: &str,
+) -> Result<(usize, usize, Option<Verdict>), AllocError> {
+    let names = names(alloc, path)?;
+    let file = IgnoreFile::parse(alloc, bytes)?;
+    let verdict = if names.is_empty() {
+        None
+    } else {
+        file.verdict(names.as_slice(), false)
+    };
+    Ok((file.bad_lines, names.len(), verdict))
+}
+
 #[test]
 fn the_last_line_decides(rt: HostRuntime) -> Result<(), Fail> {
-    let names = names(rt.alloc(), "a.rs")?;
-    let file = IgnoreFile::parse(rt.alloc(), b"\xEF\xBB\xBF*.rs\r\n[a\n!a.rs\n")?;
-    assert!(rt; file.bad_lines == 1);
-    assert!(rt; names.as_slice().len() > 0);
-    assert!(rt; file.verdict(names.as_slice(), false) == Some(Verdict::Keep));
+    let found = decided(rt.alloc(), b"\xEF\xBB\xBF*.rs\r\n[a\n!a.rs\n", "a.rs")?;
+    assert_eq!(rt; found, (1, 1, Some(Verdict::Keep)));
     Ok(())
+}
+
+/// Whether the pattern of a line, or of an exclude, matches a file; `None` where there is none.
+fn matches(
+    alloc: Global,
+    line: &str,
+    exclude: bool,
+    path: &str,
+) -> Result<Option<bool>, AllocError> {
+    let names = names(alloc, path)?;
+    let parsed = if exclude {
+        Pattern::parse_exclude(alloc, line)
+    } else {
+        Pattern::parse(alloc, line)
+    };
+    Ok(match parsed {
+        Ok(Some(pattern)) if !names.is_empty() => Some(pattern.matches(names.as_slice(), false)),
+        _ => None,
+    })
 }
 
 #[test]
 fn a_pattern_matches_an_entry(rt: HostRuntime) -> Result<(), Fail> {
-    let names = names(rt.alloc(), "d/a.rs")?;
-    assert!(rt; names.as_slice().len() > 0);
-    match Pattern::parse(rt.alloc(), "d/*.rs") {
-        Ok(Some(pattern)) => assert!(rt; pattern.matches(names.as_slice(), false)),
-        Ok(None) | Err(_) => assert!(rt; false),
-    }
-    match Pattern::parse_exclude(rt.alloc(), "#a") {
-        Ok(Some(pattern)) => assert!(rt; !pattern.matches(names.as_slice(), false)),
-        Ok(None) | Err(_) => assert!(rt; false),
-    }
+    assert_eq!(rt; matches(rt.alloc(), "d/*.rs", false, "d/a.rs")?, Some(true));
+    assert_eq!(rt; matches(rt.alloc(), "#a", true, "d/a.rs")?, Some(false));
     Ok(())
 }
 
-/// What an ignore file decides about a file at the top.
-fn verdict(alloc: Global, bytes: &[u8], name: &str) -> Result<Option<Verdict>, AllocError> {
-    let names = names(alloc, name)?;
-    let file = IgnoreFile::parse(alloc, bytes)?;
-    if names.is_empty() {
-        return Ok(None);
-    }
-    Ok(file.verdict(names.as_slice(), false))
-}
+/// What an ignore file of lines that end in several ways, or are no text, decides about a file.
+const VERDICTS: [(&[u8], &str, Option<Verdict>); 5] = [
+    (b"*.a\r", "x.a", Some(Verdict::Ignore)),
+    (b"*.a\r\n*.b", "x.a", Some(Verdict::Ignore)),
+    (b"*.a\r\r", "x.a", None),
+    (b"\xFF*.a\n*.b", "x.a", None),
+    (b"\xFF*.a\n*.b", "x.b", Some(Verdict::Ignore)),
+];
 
 #[test]
 fn line_ends_and_lines_that_are_no_text(rt: HostRuntime) -> Result<(), Fail> {
-    let dropped = Some(Verdict::Ignore);
-    assert!(rt; verdict(rt.alloc(), b"*.a\r", "x.a")? == dropped);
-    assert!(rt; verdict(rt.alloc(), b"*.a\r\n*.b", "x.a")? == dropped);
-    assert!(rt; verdict(rt.alloc(), b"*.a\r\r", "x.a")? == None);
-    assert!(rt; verdict(rt.alloc(), b"\xFF*.a\n*.b", "x.a")? == None);
-    assert!(rt; verdict(rt.alloc(), b"\xFF*.a\n*.b", "x.b")? == dropped);
-    let file = IgnoreFile::parse(rt.alloc(), b"#\xFF\n\xFF\n#a\n")?;
-    assert_eq!(rt; file.bad_lines, 2);
+    for (bytes, name, want) in VERDICTS {
+        let (_, _, verdict) = decided(rt.alloc(), bytes, name)?;
+        assert!(rt; verdict == want, "{bytes:?} about {name}");
+    }
+    let (bad_lines, _, _) = decided(rt.alloc(), b"#\xFF\n\xFF\n#a\n", "a")?;
+    assert_eq!(rt; bad_lines, 2);
     Ok(())
 }
 
@@ -128,21 +151,31 @@ fn long_name(alloc: Global, length: usize) -> Result<Items<Text>, AllocError> {
     Ok(names)
 }
 
+/// Whether a line's pattern fits a file whose name is so many `a`; `None` where there is no pattern.
+fn fits_long_name(alloc: Global, line: &str, length: usize) -> Result<Option<bool>, AllocError> {
+    let names = long_name(alloc, length)?;
+    Ok(match Pattern::parse(alloc, line) {
+        Ok(Some(pattern)) => Some(pattern.fits(names.as_slice(), false)),
+        Ok(None) | Err(_) => None,
+    })
+}
+
+const HOSTILE: [(&str, usize); 4] = [
+    ("*a*a*a*a*b", 10_000),
+    ("*a*a*a*a*b", 1_000_000),
+    ("*aaaaaaaab*aaaaaaaab", 1_000_000),
+    ("**/*a*/**/*a*/b", 1_000_000),
+];
+
 /// A match that went back to every star would not end within a test's time.
 #[test]
 fn a_hostile_pattern_ends(rt: HostRuntime) -> Result<(), Fail> {
-    let rows = [
-        ("*a*a*a*a*b", 10_000),
-        ("*a*a*a*a*b", 1_000_000),
-        ("*aaaaaaaab*aaaaaaaab", 1_000_000),
-        ("**/*a*/**/*a*/b", 1_000_000),
-    ];
-    for (line, length) in rows {
-        let names = long_name(rt.alloc(), length)?;
-        match Pattern::parse(rt.alloc(), line) {
-            Ok(Some(pattern)) => assert!(rt; !pattern.fits(names.as_slice(), false), "{line}"),
-            Ok(None) | Err(_) => assert!(rt; false, "{line}"),
-        }
+    for (line, length) in HOSTILE {
+        assert_eq!(rt;
+            fits_long_name(rt.alloc(), line, length)?,
+            Some(false),
+            "{line}"
+        );
     }
     Ok(())
 }

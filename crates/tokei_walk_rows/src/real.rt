@@ -1,4 +1,5 @@
 //! Folders of the system, made for each test, and readers that fail.
+use crate::told::{ALONE, shown, texts};
 use std::io::{Error, ErrorKind, Read};
 use std::os::unix::fs::symlink;
 use std::test::Fail;
@@ -6,6 +7,7 @@ use std::{env, fs, io, process};
 use tokei_folders::{Fault, Folders, Kind};
 use tokei_real::RealFolders;
 use tokei_real::reading::{all_of, head_of};
+use tokei_walk::kept_files;
 
 /// A reader that gives a text, two bytes a read at most, and has then ended or fails.
 #[derive(Clone, Copy)]
@@ -55,6 +57,39 @@ fn folder(rt: &HostRuntime, name: &str) -> io::Result<String> {
     Ok(folder)
 }
 
+/// What is made in a folder.
+#[derive(Clone, Copy)]
+enum Made {
+    File(&'static [u8]),
+    Folder,
+    /// A link to this place.
+    Link(&'static str),
+}
+
+/// Makes an entry of a folder.
+fn make(rt: &HostRuntime, top: &str, name: &str, made: Made) -> io::Result<()> {
+    let place = format!(in rt.alloc(); "{top}/{name}")?;
+    match made {
+        Made::File(content) => fs::write(rt, place.as_str(), content),
+        Made::Folder => fs::create_dir(rt, place.as_str()),
+        Made::Link(target) => symlink(rt, target, place.as_str()),
+    }
+}
+
+/// A folder of its own for a test, with these entries.
+fn folder_of(rt: &HostRuntime, name: &str, entries: &[(&str, Made)]) -> io::Result<String> {
+    let top = folder(rt, name)?;
+    for (name, made) in entries {
+        make(rt, top.as_str(), name, *made)?;
+    }
+    Ok(top)
+}
+
+/// The place for which a text stands: `~` is the folder of a test.
+fn place_in(rt: &HostRuntime, top: &str, text: &str) -> Result<String, Fail> {
+    Ok(text.replace(rt.alloc(), "~", top)?)
+}
+
 /// The text of a listing: its names with their kinds, and how many names are left out.
 fn shown_listing(rt: &HostRuntime, place: &str) -> Result<String, Fail> {
     let mut folders = RealFolders::new(rt.clone()?);
@@ -69,109 +104,251 @@ fn shown_listing(rt: &HostRuntime, place: &str) -> Result<String, Fail> {
     Ok(shown)
 }
 
+const LISTED: [(&str, Made); 10] = [
+    ("b.c", Made::File(b"x")),
+    ("a", Made::File(b"x")),
+    ("é", Made::File(b"x")),
+    ("B", Made::File(b"x")),
+    (".git", Made::File(b"x")),
+    ("a.c", Made::File(b"x")),
+    ("ab", Made::File(b"x")),
+    ("a.d", Made::Folder),
+    ("link", Made::Link("b.c")),
+    ("linked", Made::Link("a.d")),
+];
+
+/// The listings of a folder and of a linked one in it, each on its line.
+fn shown_listings(rt: &HostRuntime) -> Result<String, Fail> {
+    let top = folder_of(rt, "listings", &LISTED)?;
+    let linked = place_in(rt, top.as_str(), "~/linked")?;
+    let one = shown_listing(rt, top.as_str())?;
+    let other = shown_listing(rt, linked.as_str())?;
+    fs::remove_dir_all(rt, top.as_str())?;
+    Ok(format!(in rt.alloc(); "{one}\n{other}")?)
+}
+
+const LISTINGS: &str =
+    ".git File, B File, a File, a.c File, a.d Folder, ab File, b.c File, link Other, linked Other, é File, 0
+0";
+
 #[test]
 fn listings_are_in_byte_order(rt: HostRuntime) -> Result<(), Fail> {
-    let top = folder(&rt, "listings")?;
-    let inside = |name: &str| format!(in rt.alloc(); "{top}/{name}");
-    for name in ["b.c", "a", "é", "B", ".git", "a.c", "ab"] {
-        fs::write(&rt, inside(name)?, b"x")?;
+    let shown = shown_listings(&rt)?;
+    assert_eq!(rt; shown.as_str(), LISTINGS);
+    Ok(())
+}
+
+const KINDS: [(&str, Result<Kind, Fault>); 7] = [
+    ("~/link", Ok(Kind::File)),
+    ("~", Ok(Kind::Folder)),
+    ("/dev/null", Ok(Kind::Other)),
+    ("~/none", Err(Fault::Refused)),
+    ("~/loop", Err(Fault::Refused)),
+    ("", Err(Fault::Refused)),
+    ("a\0b", Err(Fault::Refused)),
+];
+
+/// What stands at a place.
+fn kind(rt: &HostRuntime, top: &str, text: &str) -> Result<Result<Kind, Fault>, Fail> {
+    let place = place_in(rt, top, text)?;
+    let mut folders = RealFolders::new(rt.clone()?);
+    Ok(folders.kind(place.as_str()))
+}
+
+/// The place of which another kind is answered than is wanted, where there is one.
+fn wrong_kind(rt: &HostRuntime, top: &str) -> Result<Option<&'static str>, Fail> {
+    for (text, want) in KINDS {
+        if kind(rt, top, text)? != want {
+            return Ok(Some(text));
+        }
     }
-    fs::create_dir(&rt, inside("a.d")?)?;
-    symlink(&rt, "b.c", inside("link")?.as_str())?;
-    symlink(&rt, "a.d", inside("linked")?.as_str())?;
-    let shown = shown_listing(&rt, top.as_str())?;
-    let expected =
-        ".git File, B File, a File, a.c File, a.d Folder, ab File, b.c File, link Other, linked Other, é File, 0";
-    assert_eq!(rt; shown.as_str(), expected);
-    let shown = shown_listing(&rt, inside("linked")?.as_str())?;
-    assert_eq!(rt; shown.as_str(), "0");
+    Ok(None)
+}
+
+/// What is asked of a place.
+#[derive(Clone, Copy)]
+enum Asked {
+    Read,
+    Head,
+    List,
+    Above,
+}
+
+/// Calls that are refused.
+const REFUSED: [(&str, &[Asked]); 6] = [
+    ("~/none", &[Asked::Read, Asked::List, Asked::Above]),
+    ("~/loop", &[Asked::Read, Asked::List, Asked::Above]),
+    ("", &[Asked::Read, Asked::List, Asked::Above]),
+    ("a\0b", &[Asked::Read, Asked::List, Asked::Above]),
+    ("/dev/zero", &[Asked::Read, Asked::Head]),
+    ("~", &[Asked::Read, Asked::Head]),
+];
+
+/// Whether a call is refused.
+fn is_refused(rt: &HostRuntime, top: &str, text: &str, asked: Asked) -> Result<bool, Fail> {
+    let place = place_in(rt, top, text)?;
+    let mut folders = RealFolders::new(rt.clone()?);
+    let place = place.as_str();
+    Ok(match asked {
+        Asked::Read => matches!(folders.read(place), Err(Fault::Refused)),
+        Asked::Head => matches!(folders.head(place), Err(Fault::Refused)),
+        Asked::List => matches!(folders.list(place), Err(Fault::Refused)),
+        Asked::Above => matches!(folders.above(place), Err(Fault::Refused)),
+    })
+}
+
+/// The place of which a call isn't refused that must be, where there is one.
+fn wrong_refusal(rt: &HostRuntime, top: &str) -> Result<Option<&'static str>, Fail> {
+    for (text, calls) in REFUSED {
+        for asked in calls {
+            if !is_refused(rt, top, text, *asked)? {
+                return Ok(Some(text));
+            }
+        }
+    }
+    Ok(None)
+}
+
+/// Files, whether the whole or the head is read, and the bytes.
+const CONTENTS: [(&str, bool, &[u8]); 2] = [("~/link", true, b"ab"), ("~/short", false, b"ab")];
+
+/// The bytes of a file or of its head.
+fn bytes_at(rt: &HostRuntime, top: &str, text: &str, whole: bool) -> Result<Vec<u8>, Fail> {
+    let place = place_in(rt, top, text)?;
+    let mut folders = RealFolders::new(rt.clone()?);
+    Ok(if whole {
+        folders.read(place.as_str())?
+    } else {
+        folders.head(place.as_str())?
+    })
+}
+
+/// The file of which other bytes are answered than are wanted, where there is one.
+fn wrong_content(rt: &HostRuntime, top: &str) -> Result<Option<&'static str>, Fail> {
+    for (text, whole, want) in CONTENTS {
+        let bytes = bytes_at(rt, top, text, whole)?;
+        if bytes.as_slice() != want {
+            return Ok(Some(text));
+        }
+    }
+    Ok(None)
+}
+
+const SHORT: [(&str, Made); 3] = [
+    ("short", Made::File(b"ab")),
+    ("link", Made::Link("short")),
+    ("loop", Made::Link("loop")),
+];
+
+#[test]
+fn kinds_and_contents(rt: HostRuntime) -> Result<(), Fail> {
+    let top = folder_of(&rt, "contents", &SHORT)?;
+    assert_eq!(rt; wrong_kind(&rt, top.as_str())?, None);
+    assert_eq!(rt; wrong_refusal(&rt, top.as_str())?, None);
+    assert_eq!(rt; wrong_content(&rt, top.as_str())?, None);
     fs::remove_dir_all(&rt, top.as_str())?;
     Ok(())
 }
 
-#[test]
-fn kinds_and_contents(rt: HostRuntime) -> Result<(), Fail> {
-    let top = folder(&rt, "contents")?;
-    let inside = |name: &str| format!(in rt.alloc(); "{top}/{name}");
+/// How many bytes a long file has and its head, where all of them are its own.
+fn long_lengths(rt: &HostRuntime) -> Result<Option<(usize, usize)>, Fail> {
+    let top = folder(rt, "long")?;
     let long = vec![in rt.alloc(); b'x'; 300_000]?;
-    fs::write(&rt, inside("long")?, long.as_slice())?;
-    fs::write(&rt, inside("short")?, b"ab")?;
-    symlink(&rt, "short", inside("link")?.as_str())?;
-    symlink(&rt, "loop", inside("loop")?.as_str())?;
-    let mut folders = RealFolders::new(rt.clone()?);
-    assert_eq!(rt; folders.kind(inside("link")?.as_str()), Ok(Kind::File));
-    assert_eq!(rt; folders.kind(top.as_str()), Ok(Kind::Folder));
-    assert_eq!(rt; folders.kind("/dev/null"), Ok(Kind::Other));
-    for missing in [
-        inside("none")?.as_str(),
-        inside("loop")?.as_str(),
-        "",
-        "a\0b",
-    ] {
-        assert_eq!(rt; folders.kind(missing), Err(Fault::Refused), "of {missing}");
-        assert!(rt;
-            matches!(folders.read(missing), Err(Fault::Refused)),
-            "of {missing}"
-        );
-        assert!(rt;
-            matches!(folders.list(missing), Err(Fault::Refused)),
-            "of {missing}"
-        );
-        assert!(rt;
-            matches!(folders.above(missing), Err(Fault::Refused)),
-            "of {missing}"
-        );
-    }
-    assert_eq!(rt;
-        folders.read(inside("long")?.as_str())?.as_slice(),
-        long.as_slice()
-    );
-    assert_eq!(rt;
-        folders.read(inside("link")?.as_str())?.as_slice(),
-        b"ab".as_slice()
-    );
-    assert_eq!(rt;
-        folders.head(inside("short")?.as_str())?.as_slice(),
-        b"ab".as_slice()
-    );
-    assert_eq!(rt;
-        folders.head(inside("long")?.as_str())?.as_slice().len(),
-        128
-    );
-    for no_file in ["/dev/zero", top.as_str()] {
-        assert!(rt;
-            matches!(folders.read(no_file), Err(Fault::Refused)),
-            "of {no_file}"
-        );
-        assert!(rt;
-            matches!(folders.head(no_file), Err(Fault::Refused)),
-            "of {no_file}"
-        );
-    }
-    fs::remove_dir_all(&rt, top.as_str())?;
+    let place = place_in(rt, top.as_str(), "~/long")?;
+    fs::write(rt, place.as_str(), long.as_slice())?;
+    let read = bytes_at(rt, top.as_str(), "~/long", true)?;
+    let head = bytes_at(rt, top.as_str(), "~/long", false)?;
+    fs::remove_dir_all(rt, top.as_str())?;
+    let own = read.as_slice() == long.as_slice() && long.as_slice().starts_with(head.as_slice());
+    Ok(if own {
+        Some((read.as_slice().len(), head.as_slice().len()))
+    } else {
+        None
+    })
+}
+
+#[test]
+fn a_long_file_and_its_head(rt: HostRuntime) -> Result<(), Fail> {
+    assert_eq!(rt; long_lengths(&rt)?, Some((300_000, 128)));
     Ok(())
+}
+
+/// The folders above a place, each with the name that leads down from it.
+fn shown_above(rt: &HostRuntime, place: &str) -> Result<String, Fail> {
+    let mut folders = RealFolders::new(rt.clone()?);
+    let mut shown = String::new(rt.alloc());
+    for above in folders.above(place)?.as_slice() {
+        let more = format!(in rt.alloc(); "{} {}, ", above.place.as_str(), above.name.as_str())?;
+        shown.push_str(more.as_str())?;
+    }
+    Ok(shown)
+}
+
+const INSIDE: [(&str, Made); 3] = [
+    ("a", Made::Folder),
+    ("a/b", Made::Folder),
+    ("link", Made::Link("a/b")),
+];
+
+/// The folders above a linked one, where the test's folder stands at `~`.
+fn above_link(rt: &HostRuntime) -> Result<String, Fail> {
+    let top = folder_of(rt, "above", &INSIDE)?;
+    let link = place_in(rt, top.as_str(), "~/link/.")?;
+    let real = fs::canonicalize(rt, top.as_str())?;
+    let real = format!(in rt.alloc(); "{}", real.as_path().display())?;
+    let shown = shown_above(rt, link.as_str())?;
+    fs::remove_dir_all(rt, top.as_str())?;
+    Ok(shown.replace(rt.alloc(), real.as_str(), "~")?)
 }
 
 #[test]
 fn folders_above_by_the_real_path(rt: HostRuntime) -> Result<(), Fail> {
-    let top = folder(&rt, "above")?;
-    let inside = |name: &str| format!(in rt.alloc(); "{top}/{name}");
-    fs::create_dir(&rt, inside("a")?)?;
-    fs::create_dir(&rt, inside("a/b")?)?;
-    symlink(&rt, "a/b", inside("link")?.as_str())?;
-    let mut folders = RealFolders::new(rt.clone()?);
-    let above = folders.above(inside("link/.")?.as_str())?;
-    let real = fs::canonicalize(&rt, top.as_str())?;
-    let real = real.as_path().display();
-    let nearest = format!(in rt.alloc(); "{real}/a b, {real} a, ")?;
-    let mut shown = String::new(rt.alloc());
-    for above in &above {
-        let more = format!(in rt.alloc(); "{} {}, ", above.place.as_str(), above.name.as_str())?;
-        shown.push_str(more.as_str())?;
-    }
-    assert!(rt; shown.as_str().starts_with(nearest.as_str()), "{shown}");
+    let shown = above_link(&rt)?;
+    assert!(rt; shown.as_str().starts_with("~/a b, ~ a, "), "{shown}");
     assert!(rt; shown.as_str().contains(", / "), "{shown}");
-    assert!(rt; folders.above("/")?.is_empty());
-    fs::remove_dir_all(&rt, top.as_str())?;
+    assert_eq!(rt; shown_above(&rt, "/")?.as_str(), "");
+    Ok(())
+}
+
+const IGNORED: [(&str, Made); 7] = [
+    (".gitignore", Made::File(b"*.rs")),
+    (".own", Made::Folder),
+    (".own/info", Made::Folder),
+    (".own/info/exclude", Made::File(b"*.h")),
+    ("a.c", Made::File(b"")),
+    ("b.h", Made::File(b"")),
+    ("c.rs", Made::File(b"")),
+];
+
+/// The files that are kept below the test's folder `~` and the notes, where a link named `.git` leads to a place, or there is
+/// none.
+fn kept_beside(rt: &HostRuntime, name: &str, target: Option<&'static str>) -> Result<String, Fail> {
+    let top = folder_of(rt, name, &IGNORED)?;
+    if let Some(target) = target {
+        make(rt, top.as_str(), ".git", Made::Link(target))?;
+    }
+    let roots = texts(rt.alloc(), &[top.as_str()])?;
+    let mut folders = RealFolders::new(rt.clone()?);
+    let kept = kept_files(rt.alloc(), &mut folders, roots.as_slice(), &[], &ALONE)?;
+    fs::remove_dir_all(rt, top.as_str())?;
+    let shown = shown(rt.alloc(), &kept)?;
+    Ok(shown.replace(rt.alloc(), top.as_str(), "~")?)
+}
+
+/// Where the link leads: nowhere, to a file, to a repository's own folder.
+const LINKS: [(&str, Option<&str>, &str); 4] = [
+    ("no_link", None, " ~/a.c ~/b.h ~/c.rs"),
+    ("link_to_nothing", Some("none"), " ~/a.c ~/b.h"),
+    ("link_to_a_file", Some("a.c"), " ~/a.c ~/b.h"),
+    ("link_to_a_folder", Some(".own"), " ~/a.c"),
+];
+
+// A link is neither a file nor a folder, and yet by this name it begins a repository.
+#[test]
+fn a_link_named_git_begins_a_repository(rt: HostRuntime) -> Result<(), Fail> {
+    for (name, target, want) in LINKS {
+        let kept = kept_beside(&rt, name, target)?;
+        assert_eq!(rt; kept.as_str(), want, "of {name}");
+    }
     Ok(())
 }

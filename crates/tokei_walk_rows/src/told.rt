@@ -1,11 +1,35 @@
 //! What the tests of the walk share: known trees, and the files and notes of a walk as one text.
 use std::alloc::{AllocError, Global};
 use tokei_folders::{Fault, Folders, Items, MemoryFolders, Text};
-use tokei_walk::{KeptFile, Note, NoteKind, Rules, Walk, kept_files};
+use tokei_walk::{Kept, KeptFile, Note, NoteKind, Rules, Walk, kept_files};
 
 /// All rules apply.
 pub const ALL: Rules = Rules {
     parents: true,
+    dot: true,
+    git: true,
+    hidden: true,
+};
+
+/// All rules apply but those of `.ignore` and `.tokeignore`.
+pub const NO_DOT: Rules = Rules {
+    parents: true,
+    dot: false,
+    git: true,
+    hidden: true,
+};
+
+/// All rules apply, and names that begin with a dot are seen.
+pub const SEEN: Rules = Rules {
+    parents: true,
+    dot: true,
+    git: true,
+    hidden: false,
+};
+
+/// All rules apply but those of the folders above a root.
+pub const ALONE: Rules = Rules {
+    parents: false,
     dot: true,
     git: true,
     hidden: true,
@@ -77,6 +101,16 @@ pub fn push_notes(text: &mut String, notes: &[Note]) -> Result<(), AllocError> {
     Ok(())
 }
 
+/// The files and notes as one text.
+pub fn shown(alloc: Global, kept: &Kept) -> Result<String, AllocError> {
+    let mut text = String::new(alloc);
+    for file in kept.files.as_slice() {
+        push_file(&mut text, file)?;
+    }
+    push_notes(&mut text, kept.notes.as_slice())?;
+    Ok(text)
+}
+
 /// The files and notes that `kept_files` answers.
 pub fn collected<F: Folders>(
     alloc: Global,
@@ -92,12 +126,7 @@ pub fn collected<F: Folders>(
         excludes.as_slice(),
         &row.rules,
     )?;
-    let mut text = String::new(alloc);
-    for file in kept.files.as_slice() {
-        push_file(&mut text, file)?;
-    }
-    push_notes(&mut text, kept.notes.as_slice())?;
-    Ok(text)
+    shown(alloc, &kept)
 }
 
 /// A walk over a row's roots.
