@@ -323,7 +323,7 @@ pub(crate) fn next_child<'a>(
     if reading.levels < 1 {
         return to;
     }
-    match Family::of_key(reading.syntax().key.as_str()) {
+    match reading.family {
         Family::Plain | Family::Jupyter => to,
         Family::Markdown => next_fence(reading.text, start, at, to),
         Family::HtmlLike => next_element(search, start, at, to),
@@ -354,7 +354,7 @@ pub(crate) fn block_at<'a>(
         return None;
     }
     let to = line_stop(reading.text, end);
-    match Family::of_key(reading.syntax().key.as_str()) {
+    match reading.family {
         Family::Plain | Family::Jupyter => None,
         Family::Markdown => markdown_block(reading, start, at, to),
         Family::HtmlLike => html_block(reading, search, start, at, to),

@@ -32,6 +32,7 @@ use tokei_notebook::cells;
 use tokei_options::CountConfig;
 use tokei_stats::{CodeStats, CountError, Sums, add_blob};
 use tokei_table::ext::trim;
+use tokei_table::family::Family;
 use tokei_table::{LanguageTable, LanguageType, Syntax};
 
 /// How deep children of the outermost text are read.
@@ -191,6 +192,8 @@ pub(crate) fn read_text<'a>(
     let reading = Reading {
         table,
         language,
+        syntax,
+        family: Family::of_key(syntax.key.as_str()),
         text,
         docs,
         levels,

@@ -1,9 +1,12 @@
 //! A text that is read.
-ghost use Rattle.std.specs.Prelude.{◌≡◌, ◌<◌, length};
+ghost use Rattle.std.specs.Prelude.{◌≡◌};
+ghost use Rattle.tokei_table.specs.Families.{family_of};
+ghost use Rattle.tokei_table.specs.Lookups.{row_at};
+ghost use Rattle.tokei_table.specs.Row.{Row};
 ghost use Rattle.tokei_table.specs.RowOf.{row_of};
 ghost use Rattle.tokei_table.specs.Sound.{IsSound};
-ghost use Rattle.tokei_count.specs.ReadingOf.{row_in};
 
+use tokei_table::family::Family;
 use tokei_table::{LanguageTable, LanguageType, Syntax};
 
 /// A text that is read, and how.
@@ -11,20 +14,15 @@ use tokei_table::{LanguageTable, LanguageType, Syntax};
 pub(crate) struct Reading<'a> {
     pub table: &'a LanguageTable,
     pub language: LanguageType,
+    /// The row of the language, and how it opens children: both are asked for at each search.
+    pub syntax: &'a Syntax,
+    pub family: Family,
     pub text: &'a [u8],
     /// Whether doc strings are treated as comments.
     pub docs: bool,
     /// How deep children may still open.
     pub levels: u32,
-}
-
-impl<'a> Reading<'a> {
-    /// The row of the text's language.
-    pub fn syntax(&self) -> &'a Syntax
-        requires { self.now.language < length self.now.table.now }
-        ensures row { row_of result.now ≡ row_in self.now }
-        ensures sound { IsSound (row_in self.now) }
-    {
-        self.table.syntax(self.language)
-    }
+    ghost row: { row_of syntax.now ≡ row_at table.now language },
+    ghost sound: { IsSound (row_at table.now language) },
+    ghost opens: { family ≡ family_of (row_at table.now language).key },
 }

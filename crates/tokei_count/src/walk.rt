@@ -113,7 +113,7 @@ fn choice_at<'a>(
         return Choice::Byte;
     }
     let opens = child <= at && opens_at(reading, search, left, start, at, end);
-    choose(reading.syntax(), mode, opens, &reading.text[at..])
+    choose(reading.syntax, mode, opens, &reading.text[at..])
 }
 
 /// Takes the bytes from the place `at` on, in a line that goes to `end`, at which nothing but the byte itself can begin, and
@@ -308,7 +308,7 @@ pub(crate) fn read_part<'a>(
     }
     let class = class_by(
         matchers,
-        reading.syntax(),
+        reading.syntax,
         reading.docs,
         begun,
         reading.text,

@@ -1,6 +1,5 @@
-use Rattle.std.proofs.Common.{◌≡◌, ◌+◌, ◌∙◌, length, drop, sym, ap}
+use Rattle.std.proofs.Common.{◌≡◌, ◌+◌, ◌∙◌, length, drop, sym}
 use Rattle.tokei_table.specs.Families.{family_of}
-use Rattle.tokei_table.specs.Row.{Row}
 use Rattle.tokei_table.specs.declared.family.Family.TheVariants.{Markdown, HtmlLike, LinguaFranca}
 use Rattle.tokei_count.specs.Lines.{first_line}
 use Rattle.tokei_count.specs.ReadingOf.{row_in}
@@ -17,7 +16,7 @@ markdown_block-requires-clause-inside c = end_behind c.args.reading.now.text.now
 pub returns-in-Markdown-clause-block : goal.returns-in-Markdown-clause-block
 returns-in-Markdown-clause-block c =
     let line : c.line_stop-to.result ≡ c.args.at + length (first_line (drop c.args.at c.args.reading.now.text.now)) = end_is c.args.reading.now.text.now c.args.at c.args.end c.line_stop-to.result c.requires.part.high c.requires.line c.line_stop-to.ensures.more c.line_stop-to.ensures.last in
-    let family : family_of (row_in c.args.reading.now).key ≡ Markdown = ap (λ (r : Row). family_of r.key) (sym c.syntax.ensures.row) ∙ ap family_of (sym c.as_str.ensures.value) ∙ sym c.of_key.ensures ∙ c.in-Markdown.is in
+    let family : family_of (row_in c.args.reading.now).key ≡ Markdown = sym c.args.reading.now.opens ∙ c.in-Markdown.is in
     c.markdown_block.ensures ∙ block_is c.args.reading.now.text.now c.args.left c.args.start c.args.at c.line_stop-to.result c.requires.part line c.args.reading.now.table.now c.args.reading.now.language c.args.reading.now.levels Markdown family c.if-reading-eq0.false
 
 pub html_block-requires-clause-inside : goal.html_block-requires-clause-inside
@@ -26,7 +25,7 @@ html_block-requires-clause-inside c = end_behind c.args.reading.now.text.now c.a
 pub returns-in-HtmlLike-clause-block : goal.returns-in-HtmlLike-clause-block
 returns-in-HtmlLike-clause-block c =
     let line : c.line_stop-to.result ≡ c.args.at + length (first_line (drop c.args.at c.args.reading.now.text.now)) = end_is c.args.reading.now.text.now c.args.at c.args.end c.line_stop-to.result c.requires.part.high c.requires.line c.line_stop-to.ensures.more c.line_stop-to.ensures.last in
-    let family : family_of (row_in c.args.reading.now).key ≡ HtmlLike = ap (λ (r : Row). family_of r.key) (sym c.syntax.ensures.row) ∙ ap family_of (sym c.as_str.ensures.value) ∙ sym c.of_key.ensures ∙ c.in-HtmlLike.is in
+    let family : family_of (row_in c.args.reading.now).key ≡ HtmlLike = sym c.args.reading.now.opens ∙ c.in-HtmlLike.is in
     c.html_block.ensures.block ∙ block_is c.args.reading.now.text.now c.args.left c.args.start c.args.at c.line_stop-to.result c.requires.part line c.args.reading.now.table.now c.args.reading.now.language c.args.reading.now.levels HtmlLike family c.if-reading-eq0.false
 
 pub franca_block-requires-clause-inside : goal.franca_block-requires-clause-inside
@@ -35,5 +34,5 @@ franca_block-requires-clause-inside c = end_behind c.args.reading.now.text.now c
 pub returns-in-LinguaFranca-clause-block : goal.returns-in-LinguaFranca-clause-block
 returns-in-LinguaFranca-clause-block c =
     let line : c.line_stop-to.result ≡ c.args.at + length (first_line (drop c.args.at c.args.reading.now.text.now)) = end_is c.args.reading.now.text.now c.args.at c.args.end c.line_stop-to.result c.requires.part.high c.requires.line c.line_stop-to.ensures.more c.line_stop-to.ensures.last in
-    let family : family_of (row_in c.args.reading.now).key ≡ LinguaFranca = ap (λ (r : Row). family_of r.key) (sym c.syntax.ensures.row) ∙ ap family_of (sym c.as_str.ensures.value) ∙ sym c.of_key.ensures ∙ c.in-LinguaFranca.is in
+    let family : family_of (row_in c.args.reading.now).key ≡ LinguaFranca = sym c.args.reading.now.opens ∙ c.in-LinguaFranca.is in
     c.franca_block.ensures.block ∙ block_is c.args.reading.now.text.now c.args.left c.args.start c.args.at c.line_stop-to.result c.requires.part line c.args.reading.now.table.now c.args.reading.now.language c.args.reading.now.levels LinguaFranca family c.if-reading-eq0.false

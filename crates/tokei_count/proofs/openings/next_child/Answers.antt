@@ -1,7 +1,6 @@
 use Rattle.std.proofs.Common.{◌≡◌, ℕ, ◌-◌, ◌<◌, None, List, length, take, drop, sym, ap, subst, ◌∙◌, arith, length-drop, option_map}
 use Rattle.std.specs.Prelude.{option_and_then}
 use Rattle.tokei_table.specs.Families.{family_of}
-use Rattle.tokei_table.specs.Row.{Row}
 use Rattle.tokei_table.specs.declared.family.Family.TheVariants.{Markdown, HtmlLike, LinguaFranca}
 use Rattle.tokei_embedding.specs.Tags.{tag_block}
 use Rattle.tokei_embedding.specs.declared.tags.Tag.{Tag}
@@ -27,19 +26,19 @@ next_target-requires-clause-ends c = omega (arith, c.requires.line, first_within
 
 pub returns-in-Markdown-clause-childless : goal.returns-in-Markdown-clause-childless
 returns-in-Markdown-clause-childless c = λ p low high.
-    let family : family_of (row_in c.args.reading.now).key ≡ Markdown = ap (λ (r : Row). family_of r.key) (sym c.syntax.ensures.row) ∙ ap family_of (sym c.as_str.ensures.value) ∙ sym c.of_key.ensures ∙ c.in-Markdown.is in
+    let family : family_of (row_in c.args.reading.now).key ≡ Markdown = sym c.args.reading.now.opens ∙ c.in-Markdown.is in
     let inside : p < c.args.to = omega (arith, high, c.next_fence.ensures.high) in
     sym (block_later c.args.reading.now.text.now c.args.left c.args.start c.args.at c.args.to p c.requires.part c.requires.line low inside c.args.reading.now.table.now c.args.reading.now.language c.args.reading.now.levels Markdown family (λ e. omega (arith, e, c.if-reading-lt1.false))) ∙ ap (option_and_then (fence_child c.args.reading.now.table.now)) (c.next_fence.ensures.none p low high)
 
 pub returns-in-HtmlLike-clause-childless : goal.returns-in-HtmlLike-clause-childless
 returns-in-HtmlLike-clause-childless c = λ p low high.
-    let family : family_of (row_in c.args.reading.now).key ≡ HtmlLike = ap (λ (r : Row). family_of r.key) (sym c.syntax.ensures.row) ∙ ap family_of (sym c.as_str.ensures.value) ∙ sym c.of_key.ensures ∙ c.in-HtmlLike.is in
+    let family : family_of (row_in c.args.reading.now).key ≡ HtmlLike = sym c.args.reading.now.opens ∙ c.in-HtmlLike.is in
     let none = λ (tag : Tag). subst (λ (t : List ℕ). tag_block tag (take (c.args.to - c.args.start) (drop c.args.start t)) (p - c.args.start) (drop p t) ≡ None) c.requires.searched (c.next_element.ensures.none tag p low high) in
     let inside : p < c.args.to = omega (arith, high, c.next_element.ensures.high) in
     sym (block_later c.args.reading.now.text.now c.args.left c.args.start c.args.at c.args.to p c.requires.part c.requires.line low inside c.args.reading.now.table.now c.args.reading.now.language c.args.reading.now.levels HtmlLike family (λ e. omega (arith, e, c.if-reading-lt1.false))) ∙ none_of_three c.args.reading.now.table.now c.args.reading.now.language (take (c.args.to - c.args.start) (drop c.args.start c.args.reading.now.text.now)) (p - c.args.start) (drop p c.args.reading.now.text.now) (none Script) (none Style) (none Template)
 
 pub returns-in-LinguaFranca-clause-childless : goal.returns-in-LinguaFranca-clause-childless
 returns-in-LinguaFranca-clause-childless c = λ p low high.
-    let family : family_of (row_in c.args.reading.now).key ≡ LinguaFranca = ap (λ (r : Row). family_of r.key) (sym c.syntax.ensures.row) ∙ ap family_of (sym c.as_str.ensures.value) ∙ sym c.of_key.ensures ∙ c.in-LinguaFranca.is in
+    let family : family_of (row_in c.args.reading.now).key ≡ LinguaFranca = sym c.args.reading.now.opens ∙ c.in-LinguaFranca.is in
     let inside : p < c.args.to = omega (arith, high, c.next_target.ensures.high) in
     sym (block_later c.args.reading.now.text.now c.args.left c.args.start c.args.at c.args.to p c.requires.part c.requires.line low inside c.args.reading.now.table.now c.args.reading.now.language c.args.reading.now.levels LinguaFranca family (λ e. omega (arith, e, c.if-reading-lt1.false))) ∙ ap (option_map (target_child c.args.reading.now.table.now c.args.reading.now.language c.args.reading.now.text.now)) (c.next_target.ensures.none p low high)

@@ -17,8 +17,8 @@ pub returns-clause-choice : goal.returns-clause-choice
 returns-clause-choice c =
     let text : List ℕ = c.args.reading.now.text.now in
     let u : List ℕ = drop c.args.at text in
-    let here : (o : Option Block) → choice (row_of c.syntax.result.now) (mode_of c.args.mode) o (take (length text - c.args.at) u) ≡ choice (row_in c.args.reading.now) (mode_of c.args.mode) o u = λ o.
-    ap (λ r. choice r (mode_of c.args.mode) o (take (length text - c.args.at) u)) c.syntax.ensures.row
+    let here : (o : Option Block) → choice (row_of c.args.reading.now.syntax.now) (mode_of c.args.mode) o (take (length text - c.args.at) u) ≡ choice (row_in c.args.reading.now) (mode_of c.args.mode) o u = λ o.
+    ap (λ r. choice r (mode_of c.args.mode) o (take (length text - c.args.at) u)) c.args.reading.now.row
     ∙ ap (choice (row_in c.args.reading.now) (mode_of c.args.mode) o) (rest_is c.args.at text) in
     elim c.if-child-at.branch [
       | then-child-at w ↦ c.choose.ensures.choice (blocks_of c.args.reading.now c.args.left u) (sym (w.opens-is ∙ w.opens_at-opens.ensures.opens)) ∙ here (blocks_of c.args.reading.now c.args.left u)

@@ -187,7 +187,7 @@ returns-clause-reads c =
     let begun_is = c.innermost-begun.ensures ∙ ap (λ w. innermost (chain_of w)) c.deref.ensures.value in
     let ended_is = c.innermost.ensures ∙ ap (λ w. innermost (chain_of w)) c.deref-2.ensures.value in
     let class_is : c.class_by-class.result ≡ class_of (row_in c.args.reading.now) c.args.reading.now.docs (record { begun = innermost (chain_of c.args.stack.now.items); bytes = first_line u; ended = innermost (chain_of c.loop-at.stack.items) }) =
-    c.class_by-class.ensures ∙ ap (λ g. class_of g c.args.reading.now.docs (record { begun = mode_of c.innermost-begun.result; bytes = take (stop - c.args.start) u; ended = mode_of c.innermost.result })) c.syntax.ensures.row
+    c.class_by-class.ensures ∙ ap (λ g. class_of g c.args.reading.now.docs (record { begun = mode_of c.innermost-begun.result; bytes = take (stop - c.args.start) u; ended = mode_of c.innermost.result })) c.args.reading.now.row
     ∙ ap (λ b. class_of (row_in c.args.reading.now) c.args.reading.now.docs (record { begun = b; bytes = take (stop - c.args.start) u; ended = mode_of c.innermost.result })) begun_is
     ∙ ap (λ b. class_of (row_in c.args.reading.now) c.args.reading.now.docs (record { begun = innermost (chain_of c.args.stack.now.items); bytes = b; ended = mode_of c.innermost.result })) bytes_is
     ∙ ap (λ b. class_of (row_in c.args.reading.now) c.args.reading.now.docs (record { begun = innermost (chain_of c.args.stack.now.items); bytes = first_line u; ended = b })) ended_is in
@@ -334,4 +334,4 @@ choice_at-newline-requires-clause-plain c = λ ahead.
     ]
 
 pub class_by-class-requires-clause-matched : goal.class_by-class-requires-clause-matched
-class_by-class-requires-clause-matched c = c.requires.matched ∙ ap matchers_of (sym c.syntax.ensures.row)
+class_by-class-requires-clause-matched c = c.requires.matched ∙ ap matchers_of (sym c.args.reading.now.row)
