@@ -6,10 +6,11 @@ use Rattle.std.specs.declared.cmp.Ordering.{Ordering}
 use Rattle.std.specs.declared.cmp.Ordering.TheVariants.{Less, Equal, Greater}
 use Rattle.tokei_stats.specs.Ordered.{AreOrdered, IsOrdered}
 use Rattle.tokei_stats.specs.Statistics.{Counts, Statistics, Blobs, no_lines, empty, plus, by_order, at, put, joined, sum, add_all, summary, summaries}
+use Rattle.tokei_stats.specs.SumLaws.{both}
 use Rattle.tokei_stats.specs.Statistics.Statistics.{node}
 use Rattle.tokei_stats.specs.Statistics.Blobs.{none, blob}
 use Rattle.tokei_stats.proofs.BlobsAt.{OrderedAt, at_ordered, same_blobs, none_behind, behind_less, put_ordered}
-use Rattle.tokei_stats.proofs.SumsOrdered.{both, both_none, add_at, sum_ordered, add_ordered}
+use Rattle.tokei_stats.proofs.SumsOrdered.{both_none, add_at, sum_ordered, add_ordered}
 
 pub same_counts : (a b : Counts) → a.blanks ≡ b.blanks → a.code ≡ b.code → a.comments ≡ b.comments → a ≡ b
 same_counts a b e f g =

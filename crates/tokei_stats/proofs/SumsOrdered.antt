@@ -5,6 +5,7 @@ use Rattle.std.specs.Ordering.{nat_cmp}
 use Rattle.std.proofs.lemmas.Cmp.{by_ranked}
 use Rattle.tokei_stats.specs.Ordered.{AreOrdered, IsOrdered}
 use Rattle.tokei_stats.specs.Statistics.{Statistics, Blobs, at, put, joined, sum, add_all}
+use Rattle.tokei_stats.specs.SumLaws.{both}
 use Rattle.tokei_stats.specs.Statistics.Statistics.{node}
 use Rattle.tokei_stats.specs.Statistics.Blobs.{none, blob}
 use Rattle.tokei_stats.proofs.BlobsAt.{at_head, at_tail, none_behind, put_same, put_other, put_ordered, OrderedAt, at_ordered}
@@ -21,12 +22,6 @@ mutual
   add_ordered old none h k = h
   add_ordered old (blob j t rest) h k = add_ordered (put old j (joined (at old j) (λ s. sum s t) t)) rest
       (put_ordered old j (joined (at old j) (λ s. sum s t) t) h (joined_ordered (at old j) (λ s. sum s t) t (at_ordered old j h) (λ s o. sum_ordered s t o k.0) k.0)) k.1.1
-
--- the statistics of one language, if any, of two sides, added up
-abbrev pub both : Option Statistics → Option Statistics → Option Statistics
-both None y = y
-both (Some s) None = Some s
-both (Some s) (Some t) = Some (sum s t)
 
 pub both_none : (o : Option Statistics) → both o None ≡ o
 both_none None = refl

@@ -2,7 +2,7 @@
 ghost use Rattle.std.specs.Prelude.{◌≡◌, ◌↔◌, IsTrue, string_bytes};
 ghost use Rattle.tokei_stats.specs.Ordered.{IsOrdered};
 ghost use Rattle.tokei_stats.specs.Seen.{stats_of};
-ghost use Rattle.tokei_stats.specs.SumLaws.{SumsStayOrdered, SumsCommute, SumsAssociate, EmptyIsNeutral, SummariesAdd, SummarisingOnceSuffices};
+ghost use Rattle.tokei_stats.specs.SumLaws.{SumsStayOrdered, SumsCommute, SumsAssociate, EmptyIsNeutral, SummariesAdd, SummarisingOnceSuffices, SumsHoldBoth, PutsChangeOne};
 
 use crate::report::Report;
 use crate::stats::CodeStats;
@@ -25,6 +25,17 @@ pub fn sums_associate()
 /// Empty statistics change no sum.
 pub fn empty_is_neutral()
     ensures { EmptyIsNeutral }
+{}
+
+/// The sum of two statistics has their numbers added up, and at each language the sum of both, or the one that is there;
+/// the second side is in the table's order.
+pub fn sums_hold_both()
+    ensures { SumsHoldBoth }
+{}
+
+/// Of blobs into which statistics are put, that language has them, and each other one what it had.
+pub fn puts_change_one()
+    ensures { PutsChangeOne }
 {}
 
 /// The summary of a sum is the sum of the summaries.
