@@ -1,17 +1,15 @@
 -- The first place of a line at which a block of doc comments opens.
-use Rattle.std.proofs.Common.{◌≡◌, ℕ, suc, zero, ◌+◌, ◌-◌, ◌<◌, ◌≤◌, Bool, true, false, ◌==◌, cond, List, [], ◌∷◌, length, take, drop, get_or, ◌⊎◌, inl, inr, Option, None, Some, option_map, is_some, refl, sym, ◌∙◌, ap, subst, arith}
+use Rattle.std.proofs.Common.{◌≡◌, ℕ, suc, zero, ◌+◌, ◌-◌, ◌<◌, ◌≤◌, Bool, true, false, ◌&&◌, ◌==◌, cond, List, [], ◌∷◌, length, take, drop, codes, get_or, ◌⊎◌, inl, inr, Option, None, Some, option_map, is_some, refl, sym, ◌∙◌, ap, arith, length-take, length-drop, get_or-drop}
 use Rattle.std.proofs.Math.Seq.{drop-cons}
 use Rattle.std.proofs.lemmas.Bool.{cases_lt}
-use Rattle.std.proofs.lemmas.List.{drop-drop, drop_all}
-use Rattle.tokei_syntax.specs.Bytes.{is_blank, trim_start}
+use Rattle.std.proofs.lemmas.List.{drop-drop, drop_all, get_or-take}
+use Rattle.tokei_syntax.specs.Bytes.{is_blank, trim_start, begins}
+use Rattle.tokei_embedding.proofs.Places.{part_from}
 use Rattle.tokei_embedding.specs.DocComments.{doc_block, doc_of, lines_of, first_line, front_mark, mark_of, marked_len}
 
--- no mark stands in the line before the place i, and the bytes from `front` to there are blank
-pub record NoMarkBefore (line : List ℕ) (front i : ℕ) : Type 0 where
-  pub order : front ≤ i
-  pub within : i ≤ length line
-  pub none : (j : ℕ) → j < front → mark_of (drop j line) ≡ None
-  pub same : (j : ℕ) → front ≤ j → j ≤ i → mark_of (drop j line) ≡ mark_of (drop i line)
+-- no mark stands in the line at a place before i
+abbrev pub NoMarks : List ℕ → ℕ → Type 0
+NoMarks line i = (j : ℕ) → j < i → j < length line → front_mark (drop j line) ≡ None
 
 take_step : (x : Bool) (b : ℕ) (t : List ℕ) → take (length (first_line t)) t ≡ first_line t → take (length (cond x (b ∷ []) (b ∷ first_line t))) (b ∷ t) ≡ cond x (b ∷ []) (b ∷ first_line t)
 take_step true b t h = refl
@@ -63,23 +61,17 @@ mark_behind line i l h = mark_from line i l ∙ ap (λ x. front_mark (cond x (tr
 mark_here : (line : List ℕ) (i : ℕ) → i < length line → is_blank (get_or line i 0) ≡ false → mark_of (drop i line) ≡ front_mark (drop i line)
 mark_here line i l h = mark_from line i l ∙ ap (λ x. front_mark (cond x (trim_start (drop (suc i) line)) (drop i line))) h
 
-same_over : (line : List ℕ) (front i j : ℕ) → NoMarkBefore line front i → mark_of (drop i line) ≡ mark_of (drop (suc i) line) → front ≤ j → (j < suc i) ⊎ (suc i ≤ j) → j ≤ suc i → mark_of (drop j line) ≡ mark_of (drop (suc i) line)
-same_over line front i j n e f (inl l) m = n.same j f (omega arith) ∙ e
-same_over line front i j n e f (inr l) m = let here : j ≡ suc i = omega arith in ap (λ k. mark_of (drop k line)) here
-
-none_over : (line : List ℕ) (front i j : ℕ) → NoMarkBefore line front i → mark_of (drop i line) ≡ None → (j < front) ⊎ (front ≤ j) → j < suc i → mark_of (drop j line) ≡ None
-none_over line front i j n e (inl l) m = n.none j l
-none_over line front i j n e (inr l) m = n.same j l (omega arith) ∙ e
-
--- the next byte is a blank
-pub over_blank : (line : List ℕ) (front i k : ℕ) → k ≡ i + 1 → NoMarkBefore line front i → i < length line → is_blank (get_or line i 0) ≡ true → NoMarkBefore line front k
-over_blank line front i zero s n l h = absurd (omega (arith, s))
-over_blank line front i (suc k) s n l h = let one : i ≡ k = omega (arith, s) in subst (λ j. NoMarkBefore line front (suc j)) one (record {
-  order = omega (arith, n.order);
-  within = omega arith;
-  none = n.none;
-  same = λ j f m. same_over line front i j n (mark_behind line i l h) f (cases_lt j (suc i)) m;
-})
+-- a mark begins with a slash
+no_slash : (line : List ℕ) (j : ℕ) → j < length line → (get_or line j 0 == 47) ≡ false → front_mark (drop j line) ≡ None
+no_slash line j l h =
+    let other : (47 == get_or line j 0) ≡ false = flipped (get_or line j 0) h in
+    let b = get_or line j 0 in
+    let t = drop (suc j) line in
+    ap front_mark (drop-cons line j 0 l)
+    ∙ ap (λ x. cond (x && begins (codes "//") t) (Some (codes "///")) (cond (x && begins (codes "/!") t) (Some (codes "//!")) None)) other
+  where
+    flipped : (b : ℕ) → (b == 47) ≡ false → (47 == b) ≡ false
+    flipped b h = grind arith
 
 none_is : (o : Option (List ℕ)) → is_some o ≡ false → o ≡ None
 none_is None h = refl
@@ -90,27 +82,100 @@ some_mapped f None = refl
 some_mapped f (Some m) = refl
 
 -- whether a mark was found, by what the code calls a mark
-pub mark_found : {A : Type 0} (f : A → List ℕ) (o : Option A) (here t : List ℕ) (x : Bool) → option_map f o ≡ front_mark here → here ≡ t → is_some o ≡ x → is_some (front_mark t) ≡ x
-mark_found f o here t x e s h = ap (λ w. is_some (front_mark w)) (sym s) ∙ ap is_some (sym e) ∙ some_mapped f o ∙ h
+pub mark_found : {A : Type 0} (f : A → List ℕ) (o : Option A) (t : List ℕ) (x : Bool) → option_map f o ≡ front_mark t → is_some o ≡ x → is_some (front_mark t) ≡ x
+mark_found f o t x e h = ap is_some (sym e) ∙ some_mapped f o ∙ h
 
--- the next byte is none, and begins no mark
-pub over_solid : (line : List ℕ) (front i k : ℕ) → k ≡ i + 1 → NoMarkBefore line front i → i < length line → is_blank (get_or line i 0) ≡ false → is_some (front_mark (drop i line)) ≡ false → NoMarkBefore line k k
-over_solid line front i zero s n l h e = absurd (omega (arith, s))
-over_solid line front i (suc k) s n l h e = let one : i ≡ k = omega (arith, s) in subst (λ j. NoMarkBefore line (suc j) (suc j)) one (record {
-  order = omega arith;
-  within = omega arith;
-  none = λ j m. none_over line front i j n (mark_here line i l h ∙ none_is (front_mark (drop i line)) e) (cases_lt j front) m;
-  same = λ j f m. let here : j ≡ suc i = omega arith in ap (λ k. mark_of (drop k line)) here;
-})
+-- the byte of a line is that of its text
+byte_of_line : (t : List ℕ) (at to j : ℕ) → at + j < to → get_or (take (to - at) (drop at t)) j 0 ≡ get_or t (at + j) 0
+byte_of_line t at to j l = get_or-take (to - at) (drop at t) j 0 (omega arith) ∙ get_or-drop at t j 0
 
--- the next byte is none, and begins a mark
-pub at_mark : (line : List ℕ) (front i : ℕ) → NoMarkBefore line front i → i < length line → is_blank (get_or line i 0) ≡ false → is_some (front_mark (drop i line)) ≡ true → is_some (mark_of (drop front line)) ≡ true
-at_mark line front i n l h e = ap is_some (n.same front (omega arith) n.order ∙ mark_here line i l h) ∙ e
-
--- no mark stands in a line that was read to its end
-pub none_in_line : (line : List ℕ) (front j : ℕ) → NoMarkBefore line front (length line) → j < length line → mark_of (drop j line) ≡ None
-none_in_line line front j n l = by (cases_lt j front)
+-- no mark stands before a slash, where none does before a place and no slash between
+pub marks_to : (t : List ℕ) (at to from slash : ℕ) → at ≤ from → slash ≤ to → to ≤ length t → NoMarks (take (to - at) (drop at t)) (from - at)
+    → ((p : ℕ) → from ≤ p → p < slash → (get_or t p 0 == 47) ≡ false) → NoMarks (take (to - at) (drop at t)) (slash - at)
+marks_to t at to from slash a b c none apart j l m = by (cases_lt j (from - at))
   where
-    by : (j < front) ⊎ (front ≤ j) → mark_of (drop j line) ≡ None
-    by (inl m) = n.none j m
-    by (inr m) = n.same j m (omega arith) ∙ ap mark_of (drop_all (length line) line (omega arith))
+    line : List ℕ
+    line = take (to - at) (drop at t)
+
+    by : (j < from - at) ⊎ (from - at ≤ j) → front_mark (drop j line) ≡ None
+    by (inl k) = none j k m
+    by (inr k) = no_slash line j m (ap (λ b. b == 47) (byte_of_line t at to j (omega arith)) ∙ apart (at + j) (omega arith) (omega arith))
+
+-- nor at the slash, where none was found there
+pub marks_over : (t : List ℕ) (at to slash next : ℕ) → next ≡ slash + 1 → at ≤ slash → slash < to → NoMarks (take (to - at) (drop at t)) (slash - at)
+    → is_some (front_mark (take (to - slash) (drop slash t))) ≡ false → NoMarks (take (to - at) (drop at t)) (next - at)
+marks_over t at to slash next n a b none h j l m = by (cases_lt j (slash - at))
+  where
+    line : List ℕ
+    line = take (to - at) (drop at t)
+
+    by : (j < slash - at) ⊎ (slash - at ≤ j) → front_mark (drop j line) ≡ None
+    by (inl k) = none j k m
+    by (inr k) =
+        let here : j ≡ slash - at = omega (arith, n) in
+        ap (λ i. front_mark (drop i line)) here ∙ ap front_mark (part_from t at slash to a (omega arith)) ∙ none_is (front_mark (take (to - slash) (drop slash t))) h
+
+-- where no mark stands from a place on to a later one, and none behind blanks there
+none_over : (n k i : ℕ) (line : List ℕ) → i ≡ k + n → i ≤ length line → NoMarks line i → mark_of (drop i line) ≡ None → mark_of (drop k line) ≡ None
+none_over zero k i line e l none h = let here : k ≡ i = omega (arith, e) in ap (λ j. mark_of (drop j line)) here ∙ h
+none_over (suc n) k i line e l none h = by (is_blank (get_or line k 0)) refl (none_over n (suc k) i line (omega (arith, e)) l none h)
+  where
+    by : (x : Bool) → is_blank (get_or line k 0) ≡ x → mark_of (drop (suc k) line) ≡ None → mark_of (drop k line) ≡ None
+    by true b rest = mark_behind line k (omega (arith, e, l)) b ∙ rest
+    by false b rest = mark_here line k (omega (arith, e, l)) b ∙ none k (omega (arith, e)) (omega (arith, e, l))
+
+same_over : (n k i : ℕ) (line : List ℕ) → i ≡ k + n → i ≤ length line → ((j : ℕ) → k ≤ j → j < i → is_blank (get_or line j 0) ≡ true) → mark_of (drop k line) ≡ mark_of (drop i line)
+same_over zero k i line e l blank = let here : k ≡ i = omega (arith, e) in ap (λ j. mark_of (drop j line)) here
+same_over (suc n) k i line e l blank =
+    mark_behind line k (omega (arith, e, l)) (blank k (omega arith) (omega (arith, e)))
+    ∙ same_over n (suc k) i line (omega (arith, e)) l (λ j a b. blank j (omega arith) b)
+
+-- no mark stands behind blanks before a place behind a byte that isn't blank
+pub none_before : (t : List ℕ) (at to slash start p : ℕ) → at ≤ p → p < start → start ≤ slash → slash ≤ to → to ≤ length t → NoMarks (take (to - at) (drop at t)) (slash - at)
+    → is_blank (get_or t (start - 1) 0) ≡ false → mark_of (drop (p - at) (take (to - at) (drop at t))) ≡ None
+none_before t at to slash start p a b c d e none h =
+    none_over (i - (p - at)) (p - at) i line (omega arith) (omega (arith, long)) (λ j l m. none j (omega arith) m)
+    (mark_here line i (omega (arith, long)) (ap is_blank (byte_of_line t at to i (omega arith)) ∙ ap (λ q. is_blank (get_or t q 0)) place ∙ h) ∙ none i (omega arith) (omega (arith, long)))
+  where
+    line : List ℕ
+    line = take (to - at) (drop at t)
+
+    i : ℕ
+    i = start - 1 - at
+
+    place : at + i ≡ start - 1
+    place = omega arith
+
+    long : length line ≡ to - at
+    long = omega (arith, length-take (to - at) (drop at t), length-drop at t)
+
+-- the mark at a slash stands behind the blanks before it
+pub mark_behind_blanks : (t : List ℕ) (at to slash start : ℕ) → at ≤ start → start ≤ slash → slash < to → to ≤ length t → ((p : ℕ) → start ≤ p → p < slash → is_blank (get_or t p 0) ≡ true)
+    → get_or t slash 0 ≡ 47 → is_some (front_mark (take (to - slash) (drop slash t))) ≡ true → is_some (mark_of (drop (start - at) (take (to - at) (drop at t)))) ≡ true
+mark_behind_blanks t at to slash start a b c d blank found h =
+    ap is_some (same_over (slash - start) (start - at) i line (omega arith) (omega (arith, long)) (λ j l m. ap is_blank (byte_of_line t at to j (omega arith)) ∙ blank (at + j) (omega arith) (omega arith)))
+    ∙ ap is_some (mark_here line i (omega (arith, long)) (ap is_blank (byte_of_line t at to i (omega arith) ∙ ap (λ q. get_or t q 0) place ∙ found)))
+    ∙ ap (λ w. is_some (front_mark w)) (part_from t at slash to (omega arith) (omega arith)) ∙ h
+  where
+    line : List ℕ
+    line = take (to - at) (drop at t)
+
+    i : ℕ
+    i = slash - at
+
+    place : at + i ≡ slash
+    place = omega arith
+
+    long : length line ≡ to - at
+    long = omega (arith, length-take (to - at) (drop at t), length-drop at t)
+
+-- no mark stands in a line that was searched to its end
+pub none_in_line : (t : List ℕ) (at to p : ℕ) → at ≤ p → p < to → to ≤ length t → NoMarks (take (to - at) (drop at t)) (to - at) → mark_of (drop (p - at) (take (to - at) (drop at t))) ≡ None
+none_in_line t at to p a b c none =
+    none_over (to - p) (p - at) (to - at) line (omega arith) (omega (arith, long)) none (ap mark_of (drop_all (to - at) line (omega (arith, long))))
+  where
+    line : List ℕ
+    line = take (to - at) (drop at t)
+
+    long : length line ≡ to - at
+    long = omega (arith, length-take (to - at) (drop at t), length-drop at t)

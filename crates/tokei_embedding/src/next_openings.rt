@@ -1,5 +1,6 @@
 //! The next place at which a block can open, so that a walk of a part looks for its children once.
-ghost use Rattle.std.specs.Prelude.{◌≡◌, ℕ, ◌+◌, ◌-◌, ◌≤◌, ◌<◌, true, false, is_some, IfSome, None, length, take, drop, codes};
+ghost use Rattle.std.specs.Prelude.{◌≡◌, ℕ, ◌+◌, ◌-◌, ◌≤◌, ◌<◌, true, false, is_some, IfSome, None, length, take, drop, codes, slice_index};
+ghost use Rattle.tokei_syntax.specs.Bytes.{is_blank};
 ghost use Rattle.tokei_embedding.specs.DocComments.{first_line, front_mark, doc_block};
 ghost use Rattle.tokei_embedding.specs.Fences.{first_fence, fence_block};
 ghost use Rattle.tokei_embedding.specs.Searches.{first_of, is_at};
@@ -9,6 +10,7 @@ use crate::doc_comments::front_mark;
 use crate::fences::first_fence;
 use crate::searches::first_of;
 use crate::target_blocks::OPENER;
+use tokei_bytes::first_of_one;
 use tokei_syntax::ext::is_whitespace;
 
 /// The place in the text of what was found in the part that begins at `start`, where it stands at `at` or behind it;
@@ -56,6 +58,22 @@ pub fn next_target(text: &[u8], start: usize, at: usize, to: usize) -> usize
     next_of(first_of(&text[start..to], OPENER), start, at, to)
 }
 
+/// Where the blanks begin that stand right before the place `end`, but no earlier than `from`.
+fn blanks_start(text: &[u8], from: usize, end: usize) -> usize
+    requires order { from ≤ end }
+    requires within { end ≤ length text.now }
+    ensures low { from ≤ result }
+    ensures high { result ≤ end }
+    ensures blank { (p : ℕ) → result ≤ p → p < end → is_blank (slice_index text.now p) ≡ true }
+    ensures first { from < result → is_blank (slice_index text.now (result - 1)) ≡ false }
+{
+    let mut start = end;
+    while from < start && is_whitespace(text[start - 1]) {
+        start -= 1;
+    }
+    start
+}
+
 /// The first place from `at` on at which a block of doc comments opens in the rest of a line `text[at..to]`: the first
 /// mark, or the first of the blanks right before it. `to` where no mark stands there.
 pub fn next_doc(text: &[u8], at: usize, to: usize) -> usize
@@ -67,16 +85,12 @@ pub fn next_doc(text: &[u8], at: usize, to: usize) -> usize
     ensures none { (p : ℕ) → at ≤ p → p < result → doc_block (drop p text.now) ≡ None }
     ensures exact { result < to → is_some (doc_block (drop result text.now)) ≡ true }
 {
-    let line = &text[at..to];
-    let mut front = 0;
-    for (i, byte) in line.iter().enumerate() {
-        if is_whitespace(*byte) {
-            continue;
+    let mut slash = first_of_one(b'/', text, at, to);
+    while slash < to {
+        if front_mark(&text[slash..to]).is_some() {
+            return blanks_start(text, at, slash);
         }
-        if front_mark(&line[i..]).is_some() {
-            return at + front;
-        }
-        front = i + 1;
+        slash = first_of_one(b'/', text, slash + 1, to);
     }
     to
 }

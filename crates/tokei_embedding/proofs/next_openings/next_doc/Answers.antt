@@ -1,41 +1,58 @@
-use Rattle.std.proofs.Common.{◌≡◌, ◌∙◌, ◌+◌, ◌-◌, ◌<◌, ◌≤◌, length, take, drop, sym, subst, true, false, is_some, arith, length-take, length-drop}
-use Rattle.std.proofs.lemmas.List.{take_rest}
-use Rattle.tokei_embedding.proofs.NextDocs.{NoMarkBefore, no_doc, a_doc, over_blank, over_solid, mark_found, at_mark, none_in_line}
-use Rattle.tokei_embedding.specs.DocComments.{mark_of}
+use Rattle.std.proofs.Common.{◌≡◌, ◌∙◌, ◌+◌, ◌-◌, take, drop, subst, sym, true, false, is_some, arith}
+use Rattle.tokei_embedding.proofs.NextDocs.{NoMarks, no_doc, a_doc, mark_found, marks_to, marks_over, none_before, mark_behind_blanks, none_in_line}
+use Rattle.tokei_embedding.specs.DocComments.{front_mark}
 use Rattle.tokei_embedding.proofs.next_openings.next_doc.Goals as goal
 
-pub loop-i-preserved-then-is_whitespace : goal.loop-i-preserved-then-is_whitespace
-loop-i-preserved-then-is_whitespace c =
-    let line = take (c.args.to - c.args.at) (drop c.args.at c.args.text.now) in
-    over_blank line c.loop-i.front c.loop-i.i (c.loop-i.i + 1) (omega arith) c.loop-i.invariant c.loop-i-test.true (sym c.is_whitespace.ensures ∙ c.if-is_whitespace.true)
+pub loop-slash-init : goal.loop-slash-init
+loop-slash-init c =
+    let a = c.args in
+    let e = c.first_of_one-slash.ensures in
+    record {
+      low = e.low;
+      high = e.high;
+      found = e.found;
+      none = marks_to a.text.now a.at a.to a.at c.first_of_one-slash.result (omega arith) e.high c.requires.ends (λ j l m. absurd (omega (arith, l))) e.passed;
+    }
 
-pub loop-i-preserved : goal.loop-i-preserved
-loop-i-preserved c =
-    let line = take (c.args.to - c.args.at) (drop c.args.at c.args.text.now) in
-    over_solid line c.loop-i.front c.loop-i.i (c.loop-i.i + 1) (omega arith) c.loop-i.invariant c.loop-i-test.true (sym c.is_whitespace.ensures ∙ c.if-is_whitespace.false)
-    (mark_found (λ m. m.now) c.front_mark.result _ (drop c.loop-i.i line) false c.front_mark.ensures (take_rest line c.loop-i.i) (sym c.is_some.ensures ∙ c.if-is_some.false))
+pub loop-slash-preserved : goal.loop-slash-preserved
+loop-slash-preserved c =
+    let a = c.args in
+    let i = c.loop-slash.invariant in
+    let slash = c.loop-slash.slash in
+    let e = c.first_of_one-slash-in-loop-slash.ensures in
+    let none_there : is_some (front_mark (take (a.to - slash) (drop slash a.text.now))) ≡ false =
+    mark_found (λ m. m.now) c.front_mark.result (take (a.to - slash) (drop slash a.text.now)) false c.front_mark.ensures (sym c.is_some.ensures ∙ c.if-is_some.false) in
+    record {
+      low = omega (arith, i.low, e.low);
+      high = e.high;
+      found = e.found;
+      none = marks_to a.text.now a.at a.to (slash + 1) c.first_of_one-slash-in-loop-slash.result (omega (arith, i.low)) e.high c.requires.ends
+          (marks_over a.text.now a.at a.to slash (slash + 1) (omega arith) i.low c.loop-slash-test.true i.none none_there) e.passed;
+    }
 
 pub returns-then-is_some-clause-none : goal.returns-then-is_some-clause-none
 returns-then-is_some-clause-none c = λ p l m.
-    let line = take (c.args.to - c.args.at) (drop c.args.at c.args.text.now) in
-    let short : length line ≤ c.args.to - c.args.at = omega (arith, length-take (c.args.to - c.args.at) (drop c.args.at c.args.text.now)) in
-    let before : p < c.args.to = omega (arith, short, l, m, c.loop-i.invariant.order, c.loop-i.invariant.within) in
-    no_doc c.args.text.now c.args.at c.args.to p (c.requires.line (omega arith)) l before (c.loop-i.invariant.none (p - c.args.at) (omega arith))
+    let a = c.args in
+    let b = c.blanks_start in
+    let i = c.loop-slash.invariant in
+    no_doc a.text.now a.at a.to p (c.requires.line (omega (arith, l, m, b.ensures.high, i.high))) l (omega (arith, m, b.ensures.high, i.high))
+    (none_before a.text.now a.at a.to c.loop-slash.slash b.result p l m b.ensures.high i.high c.requires.ends i.none (b.ensures.first (omega (arith, l, m))))
 
 pub returns-then-is_some-clause-exact : goal.returns-then-is_some-clause-exact
 returns-then-is_some-clause-exact c = λ l.
-    let line = take (c.args.to - c.args.at) (drop c.args.at c.args.text.now) in
-    let p = c.args.at + c.loop-i.front in
-    let here : c.loop-i.front ≡ p - c.args.at = omega arith in
-    let mark : is_some (mark_of (drop c.loop-i.front line)) ≡ true =
-    at_mark line c.loop-i.front c.loop-i.i c.loop-i.invariant c.loop-i-test.true (sym c.is_whitespace.ensures ∙ c.if-is_whitespace.false)
-    (mark_found (λ m. m.now) c.front_mark.result _ (drop c.loop-i.i line) true c.front_mark.ensures (take_rest line c.loop-i.i) (sym c.is_some.ensures ∙ c.if-is_some.true)) in
-    a_doc c.args.text.now c.args.at c.args.to p (c.requires.line (omega arith)) (omega arith) l (subst (λ k. is_some (mark_of (drop k line)) ≡ true) here mark)
+    let a = c.args in
+    let b = c.blanks_start in
+    let i = c.loop-slash.invariant in
+    let slash = c.loop-slash.slash in
+    let there : is_some (front_mark (take (a.to - slash) (drop slash a.text.now))) ≡ true =
+    mark_found (λ m. m.now) c.front_mark.result (take (a.to - slash) (drop slash a.text.now)) true c.front_mark.ensures (sym c.is_some.ensures ∙ c.if-is_some.true) in
+    a_doc a.text.now a.at a.to b.result (c.requires.line (omega (arith, l, b.ensures.low))) b.ensures.low l
+    (mark_behind_blanks a.text.now a.at a.to slash b.result b.ensures.low b.ensures.high c.loop-slash-test.true c.requires.ends b.ensures.blank (i.found c.loop-slash-test.true) there)
 
 pub returns-clause-none : goal.returns-clause-none
 returns-clause-none c = λ p l m.
-    let line = take (c.args.to - c.args.at) (drop c.args.at c.args.text.now) in
-    let long : length line ≡ c.args.to - c.args.at = omega (arith, length-take (c.args.to - c.args.at) (drop c.args.at c.args.text.now), length-drop c.args.at c.args.text.now) in
-    let whole : c.loop-i.i ≡ length line = omega (arith, c.loop-i.invariant.within, c.loop-i-test.false) in
-    no_doc c.args.text.now c.args.at c.args.to p (c.requires.line (omega arith)) l m
-    (none_in_line line c.loop-i.front (p - c.args.at) (subst (NoMarkBefore line c.loop-i.front) whole c.loop-i.invariant) (omega (arith, long, l, m)))
+    let a = c.args in
+    let i = c.loop-slash.invariant in
+    let whole : c.loop-slash.slash ≡ a.to = omega (arith, i.high, c.loop-slash-test.false) in
+    no_doc a.text.now a.at a.to p (c.requires.line (omega (arith, l, m))) l m
+    (none_in_line a.text.now a.at a.to p l m c.requires.ends (subst (λ k. NoMarks (take (a.to - a.at) (drop a.at a.text.now)) (k - a.at)) whole i.none))
