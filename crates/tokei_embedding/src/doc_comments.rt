@@ -72,12 +72,12 @@ pub fn doc_at(text: &[u8], place: usize) -> Option<usize>
     Some(marked_len(mark, rest))
 }
 
-/// What a block of doc comments says: its lines joined, each without its front blanks and its mark. Fails where memory
-/// is refused.
+/// What a block of doc comments says: its lines joined, each without its front blanks and its mark. Memory is taken once,
+/// as much as the block has bytes. Fails where it is refused.
 pub fn doc_text(alloc: Global, block: &[u8]) -> Result<Vec<u8>, AllocError>
     ensures { IfOk result (λ v. v.items ≡ doc_text block.now) }
 {
-    let mut said = Vec::new(alloc);
+    let mut said = Vec::with_capacity(alloc, block.len())?;
     let mut rest = block;
     while !rest.is_empty() {
         let line = first_line(rest);
