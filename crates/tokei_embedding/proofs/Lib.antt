@@ -14,3 +14,4 @@ pub mod SolidFences
 pub mod TagOpenings
 pub mod TagPlaces
 pub mod TargetPlaces
+mod Backticks

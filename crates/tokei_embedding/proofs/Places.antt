@@ -39,7 +39,7 @@ last_where-found test (b ∷ t) (suc k) l h after =
     let rest : last_where test t ≡ Some k = last_where-found test t k (omega arith) h (λ j i m. after (suc j) (omega arith) (omega arith)) in
     ap (later_or (test (b ∷ t))) rest
 
-begins-at : (token t : List ℕ) (k : ℕ) → 0 < length token → begins token (drop k t) ≡ true → OccursAt t token k
+pub begins-at : (token t : List ℕ) (k : ℕ) → 0 < length token → begins token (drop k t) ≡ true → OccursAt t token k
 begins-at token t k l h =
     let o = begins-occurs token (drop k t) h in
     record { fits = omega (arith, o.fits, length-drop k t, l); reads = λ j i. sym (get_or-drop k t j 0) ∙ ap (λ n. get_or (drop k t) n 0) (from_zero j) ∙ o.reads j i }

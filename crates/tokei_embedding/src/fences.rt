@@ -1,9 +1,11 @@
 //! The fences of Markdown.
-ghost use Rattle.std.specs.Prelude.{◌≡◌, ◌+◌, ◌-◌, ◌≤◌, ◌<◌, IfSome, length, take, drop, option_map};
-ghost use Rattle.tokei_embedding.specs.Fences.{solid_len, opens_fence, is_solid_fence, info_len, first_fence, closing_len, fence_from, fence_block};
+ghost use Rattle.std.specs.Prelude.{◌≡◌, ℕ, ◌+◌, ◌-◌, ◌≤◌, ◌<◌, false, IfSome, length, take, drop, option_map};
+ghost use Rattle.tokei_syntax.specs.Bytes.{begins};
+ghost use Rattle.tokei_embedding.specs.Fences.{fence, solid_len, opens_fence, is_solid_fence, info_len, first_fence, closing_len, fence_from, fence_block};
 ghost use Rattle.tokei_embedding.specs.Seen.{fence_seen};
 
 use crate::searches::{first_of, is_at};
+use tokei_bytes::first_of_one;
 use tokei_syntax::ext::is_whitespace;
 
 const FENCE: &[u8] = b"```";
@@ -67,12 +69,38 @@ pub fn info_len(opening: &[u8]) -> usize
     solid_len(&opening[3..])
 }
 
+/// The first place from `from` on at which three backticks stand, or the text's length.
+fn next_backticks(text: &[u8], from: usize) -> usize
+    requires { from ≤ length text.now }
+    ensures low { from ≤ result }
+    ensures high { result ≤ length text.now }
+    ensures none { (p : ℕ) → from ≤ p → p < result → begins fence (drop p text.now) ≡ false }
+{
+    let mut at = from;
+    while text.len() - at > 2 {
+        // no fence begins two places or more before the next backtick behind it
+        let third = first_of_one(b'`', text, at + 2, text.len());
+        if third == text.len() {
+            return third;
+        }
+        if text[third - 1] != b'`' {
+            at = third;
+        } else if text[third - 2] != b'`' {
+            at = third - 1;
+        } else {
+            return third - 2;
+        }
+    }
+    text.len()
+}
+
 /// The place of the part's first fence opening: three backticks, bytes that aren't blank, and one blank.
 pub fn first_fence(part: &[u8]) -> Option<usize>
     ensures value { result ≡ first_fence part.now }
     ensures within { IfSome result (λ i. i + (info_len (drop i part.now) + 4) ≤ length part.now) }
 {
-    for i in 0..part.len() {
+    let mut i = next_backticks(part, 0);
+    while i < part.len() {
         let rest = &part[i..];
         if opens_fence(rest) {
             return Some(i);
@@ -80,6 +108,7 @@ pub fn first_fence(part: &[u8]) -> Option<usize>
         if is_solid_fence(rest) {
             return None;
         }
+        i = next_backticks(part, i + 1);
     }
     None
 }

@@ -9,10 +9,10 @@ use Rattle.tokei_embedding.proofs.fences.first_fence.Goals as goal
 pub returns-then-opens_fence-clause-value : goal.returns-then-opens_fence-clause-value
 returns-then-opens_fence-clause-value c =
     sym (first_where-found opens_fence c.args.part.now c.loop-i.i (omega arith)
-    (ap opens_fence (sym (take_rest c.args.part.now c.loop-i.i)) ∙ sym c.opens_fence.ensures ∙ c.if-opens_fence.true) c.loop-i.invariant)
+    (ap opens_fence (sym (take_rest c.args.part.now c.loop-i.i)) ∙ sym c.opens_fence.ensures ∙ c.if-opens_fence.true) c.loop-i.invariant.1)
 
 pub returns-clause-value : goal.returns-clause-value
-returns-clause-value c = sym (first_where-none opens_fence c.args.part.now (λ j l. c.loop-i.invariant j (omega arith)))
+returns-clause-value c = sym (first_where-none opens_fence c.args.part.now (λ j l. c.loop-i.invariant.1 j (omega arith)))
 
 pub returns-then-opens_fence-clause-within : goal.returns-then-opens_fence-clause-within
 returns-then-opens_fence-clause-within c =
@@ -23,4 +23,4 @@ returns-then-opens_fence-clause-within c =
 pub returns-then-is_solid_fence-clause-value : goal.returns-then-is_solid_fence-clause-value
 returns-then-is_solid_fence-clause-value c =
     let solid : is_solid_fence (drop c.loop-i.i c.args.part.now) ≡ true = ap is_solid_fence (sym (take_rest c.args.part.now c.loop-i.i)) ∙ sym c.is_solid_fence.ensures ∙ c.if-is_solid_fence.true in
-    sym (first_where-none opens_fence c.args.part.now (λ j l. none_at_all c.args.part.now c.loop-i.i c.loop-i.invariant solid j))
+    sym (first_where-none opens_fence c.args.part.now (λ j l. none_at_all c.args.part.now c.loop-i.i c.loop-i.invariant.1 solid j))
