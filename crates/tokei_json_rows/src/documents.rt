@@ -31,9 +31,14 @@ fn table(alloc: Global) -> Result<LanguageTable, InputError> {
     }
 }
 
+/// How many languages a text names, or what it is refused for.
+fn named(alloc: Global, table: &LanguageTable, text: &str) -> Result<usize, InputError> {
+    Ok(Format::parse(alloc, table, text)?.len())
+}
+
 /// What a text is refused for, if it is.
 fn cause(alloc: Global, table: &LanguageTable, text: &str) -> Option<InputError> {
-    Format::parse(alloc, table, text).err()
+    named(alloc, table, text).err()
 }
 
 /// Rust's one file, counted.
@@ -51,50 +56,82 @@ fn one_file(alloc: Global, table: &LanguageTable) -> Result<Languages, CountErro
 #[test]
 fn no_languages(rt: HostRuntime) -> Result<(), Fail> {
     let table = table(rt.alloc())?;
+    assert_eq!(rt; named(rt.alloc(), &table, EMPTY), Ok(0));
+    assert_eq!(rt; cause(rt.alloc(), &table, "{}"), Some(InputError::Layout));
+    assert_eq!(rt; cause(rt.alloc(), &table, ""), Some(InputError::Empty));
     let none = Languages::new(rt.alloc());
     let text = Format::Json.print(rt.alloc(), &table, &none)?;
     assert_eq!(rt; text.as_str(), EMPTY);
-    assert_eq!(rt; Format::parse(rt.alloc(), &table, EMPTY)?.len(), 0);
-    assert_eq!(rt; cause(rt.alloc(), &table, "{}"), Some(InputError::Layout));
-    assert_eq!(rt; cause(rt.alloc(), &table, ""), Some(InputError::Empty));
     Ok(())
+}
+
+/// Whether the document of one file is printed of these languages.
+fn is_printed(alloc: Global, table: &LanguageTable, languages: &Languages) -> Result<bool, Fail> {
+    let text = Format::Json.print(alloc, table, languages)?;
+    Ok(text.as_str() == ONE_FILE)
+}
+
+/// Whether these languages are read from the document of one file.
+fn is_read(alloc: Global, table: &LanguageTable, languages: &Languages) -> Result<bool, Fail> {
+    let read = Format::parse(alloc, table, ONE_FILE)?;
+    Ok(read == *languages)
+}
+
+/// Whether these languages are read from their own value.
+fn is_its_value(alloc: Global, table: &LanguageTable, languages: &Languages) -> Result<bool, Fail> {
+    let value = to_value(alloc, table, languages)?;
+    let read = from_value(alloc, table, &value)?;
+    Ok(read == *languages)
 }
 
 #[test]
 fn one_file_there_and_back(rt: HostRuntime) -> Result<(), Fail> {
     let table = table(rt.alloc())?;
     let languages = one_file(rt.alloc(), &table)?;
-    let text = Format::Json.print(rt.alloc(), &table, &languages)?;
-    assert_eq!(rt; text.as_str(), ONE_FILE);
-    let read = Format::parse(rt.alloc(), &table, ONE_FILE)?;
-    assert!(rt; read == languages);
-    let value = to_value(rt.alloc(), &table, &languages)?;
-    assert!(rt; from_value(rt.alloc(), &table, &value)? == languages);
+    assert!(rt; is_printed(rt.alloc(), &table, &languages)?);
+    assert!(rt; is_read(rt.alloc(), &table, &languages)?);
+    assert!(rt; is_its_value(rt.alloc(), &table, &languages)?);
     Ok(())
+}
+
+/// Whether languages that were none are those of one file after these earlier results.
+fn is_added(alloc: Global, table: &LanguageTable, text: &str) -> Result<bool, Fail> {
+    let mut languages = Languages::new(alloc);
+    let mut reader = Counted::new(text.as_bytes());
+    add_input(alloc, table, &mut reader, &mut languages)?;
+    Ok(languages == one_file(alloc, table)?)
 }
 
 #[test]
 fn earlier_results_into_no_languages(rt: HostRuntime) -> Result<(), Fail> {
     let table = table(rt.alloc())?;
-    let mut languages = Languages::new(rt.alloc());
-    let mut reader = Counted::new(ONE_FILE.as_bytes());
-    add_input(rt.alloc(), &table, &mut reader, &mut languages)?;
-    assert!(rt; languages == one_file(rt.alloc(), &table)?);
+    assert!(rt; is_added(rt.alloc(), &table, ONE_FILE)?);
     Ok(())
+}
+
+/// The languages of a document that names one alone.
+fn of_one_name(alloc: Global, table: &LanguageTable, name: &str) -> Result<Languages, Fail> {
+    let text = format!(in alloc; "{{\"{name}\":{L},\"Total\":0}}")?;
+    Ok(Format::parse(alloc, table, text.as_str())?)
+}
+
+/// Whether a document that names one language alone by this name holds C#, and is printed with the name of C#.
+fn names_c_sharp(alloc: Global, table: &LanguageTable, name: &str) -> Result<(bool, bool), Fail> {
+    let read = of_one_name(alloc, table, name)?;
+    let Some(language) = LanguageType::from_name(table, "CSharp") else {
+        return Err(Fail::from(InputError::Layout));
+    };
+    let printed = Format::Json.print(alloc, table, &read)?;
+    let held = read.get(language).is_some();
+    Ok((held, printed.as_str().starts_with("{\"C#\":")))
 }
 
 #[test]
 fn languages_by_key_and_by_name(rt: HostRuntime) -> Result<(), Fail> {
     let table = table(rt.alloc())?;
     for name in ["CSharp", "C#"] {
-        let text = format!(in rt.alloc(); "{{\"{name}\":{L},\"Total\":0}}")?;
-        let read = Format::parse(rt.alloc(), &table, text.as_str())?;
-        match LanguageType::from_name(&table, "CSharp") {
-            Some(language) => assert!(rt; read.get(language).is_some(), "{name}"),
-            None => return Err(Fail::from(InputError::Layout)),
-        }
-        let printed = Format::Json.print(rt.alloc(), &table, &read)?;
-        assert!(rt; printed.as_str().starts_with("{\"C#\":"), "{name}");
+        let found = names_c_sharp(rt.alloc(), &table, name)?;
+        assert_eq!(rt; found, (true, true), "{name}");
     }
     Ok(())
 }
@@ -117,14 +154,14 @@ const CHILDREN: [&str; 2] = [
 
 /// Texts that are read. Here and below `@` stands for the value of a language without lines, `~` for `NO_COUNT`, `?` for
 /// `UNKNOWN_INSIDE`, `<` and `>` for the two of `CHILDREN`.
-const READ: [&str; 3] = [
+const READ: &[&str] = &[
     r#"{"Total":0}"#,
     r#"{"C":@,"Total":18446744073709551615}"#,
     r#"{"C":@,"C#":@,"Total":{"Nope":0}}"#,
 ];
 
 /// Texts that are no JSON: alone, and beside each cause that comes after it.
-const NO_JSON: [&str; 7] = [
+const NO_JSON: &[&str] = &[
     " ",
     r#"{"C":@,"Total":0"#,
     r#"{"C":@,"Total":1e999}"#,
@@ -135,7 +172,7 @@ const NO_JSON: [&str; 7] = [
 ];
 
 /// Texts of another layout: alone, beside an unknown language, beside one that is named twice, and beside both.
-const OTHER_LAYOUT: [&str; 12] = [
+const OTHER_LAYOUT: &[&str] = &[
     "[@]",
     r#"{"C":~,"Total":0}"#,
     r#"{"C":@,"Total":1.5}"#,
@@ -151,7 +188,7 @@ const OTHER_LAYOUT: [&str; 12] = [
 ];
 
 /// Texts that name an unknown language: alone, and beside one that is named twice.
-const UNKNOWN: [&str; 6] = [
+const UNKNOWN: &[&str] = &[
     r#"{"Nope":@,"Total":0}"#,
     r#"{"C":?,"Total":0}"#,
     r#"{"C":<,"Total":0}"#,
@@ -161,7 +198,7 @@ const UNKNOWN: [&str; 6] = [
 ];
 
 /// Texts that name a language twice.
-const TWICE: [&str; 2] = [r#"{"C#":@,"CSharp":@,"Total":0}"#, r#"{"C":>,"Total":0}"#];
+const TWICE: &[&str] = &[r#"{"C#":@,"CSharp":@,"Total":0}"#, r#"{"C":>,"Total":0}"#];
 
 /// The text with the values for which its signs stand.
 fn spelled(alloc: Global, text: &str) -> Result<String, AllocError> {
@@ -179,21 +216,34 @@ fn spelled(alloc: Global, text: &str) -> Result<String, AllocError> {
     Ok(spelled)
 }
 
+/// The texts of each cause.
+const CAUSES: [(&[&str], Option<InputError>); 6] = [
+    (READ, None),
+    (&[""], Some(InputError::Empty)),
+    (NO_JSON, Some(InputError::NotJson)),
+    (OTHER_LAYOUT, Some(InputError::Layout)),
+    (UNKNOWN, Some(InputError::UnknownLanguage)),
+    (TWICE, Some(InputError::NamedTwice)),
+];
+
+/// What the text with the values of its signs is refused for, if it is.
+fn cause_of_spelled(
+    alloc: Global,
+    table: &LanguageTable,
+    text: &str,
+) -> Result<Option<InputError>, AllocError> {
+    let text = spelled(alloc, text)?;
+    Ok(cause(alloc, table, text.as_str()))
+}
+
 // The first cause that applies is answered.
 #[test]
 fn texts_and_causes(rt: HostRuntime) -> Result<(), Fail> {
     let table = table(rt.alloc())?;
-    for (texts, want) in [
-        (READ.as_slice(), None),
-        (&[""], Some(InputError::Empty)),
-        (&NO_JSON, Some(InputError::NotJson)),
-        (&OTHER_LAYOUT, Some(InputError::Layout)),
-        (&UNKNOWN, Some(InputError::UnknownLanguage)),
-        (&TWICE, Some(InputError::NamedTwice)),
-    ] {
+    for (texts, want) in CAUSES {
         for text in texts {
-            let text = spelled(rt.alloc(), text)?;
-            assert_eq!(rt; cause(rt.alloc(), &table, text.as_str()), want, "{text}");
+            let found = cause_of_spelled(rt.alloc(), &table, text)?;
+            assert_eq!(rt; found, want, "{text}");
         }
     }
     Ok(())
@@ -203,7 +253,7 @@ fn texts_and_causes(rt: HostRuntime) -> Result<(), Fail> {
 fn nested(alloc: Global, levels: usize) -> Result<String, Fail> {
     let mut text = String::from_str(
         alloc,
-        "{\"C\":{\"blanks\":0,\"children\":{},\"code\":0,\"comments\":0,\"inaccurate\":false,\"reports\":[{\"name\":\"a\",\"stats\":",
+        r#"{"C":{"blanks":0,"children":{},"code":0,"comments":0,"inaccurate":false,"reports":[{"name":"a","stats":"#,
     )?;
     for _ in 0..levels {
         text.push_str("{\"blanks\":0,\"blobs\":{\"C\":")?;
@@ -216,18 +266,32 @@ fn nested(alloc: Global, levels: usize) -> Result<String, Fail> {
     Ok(text)
 }
 
+/// Whether what is printed of a text's languages is read back as the same, or what the text is refused for.
+fn is_read_back(alloc: Global, table: &LanguageTable, text: &str) -> Result<bool, InputError> {
+    let read = Format::parse(alloc, table, text)?;
+    let Ok(printed) = Format::Json.print(alloc, table, &read) else {
+        return Ok(false);
+    };
+    Ok(Format::parse(alloc, table, printed.as_str())? == read)
+}
+
+/// The same of a document of one report whose blobs are so many levels deep.
+fn is_deep_read_back(
+    alloc: Global,
+    table: &LanguageTable,
+    levels: usize,
+) -> Result<Result<bool, InputError>, Fail> {
+    let text = nested(alloc, levels)?;
+    Ok(is_read_back(alloc, table, text.as_str()))
+}
+
 #[test]
 fn sixty_levels_of_blobs(rt: HostRuntime) -> Result<(), Fail> {
     let table = table(rt.alloc())?;
-    let text = nested(rt.alloc(), 60)?;
-    let read = Format::parse(rt.alloc(), &table, text.as_str())?;
-    let printed = Format::Json.print(rt.alloc(), &table, &read)?;
-    assert!(rt; Format::parse(rt.alloc(), &table, printed.as_str())? == read);
-    let text = nested(rt.alloc(), 61)?;
-    assert_eq!(rt;
-        cause(rt.alloc(), &table, text.as_str()),
-        Some(InputError::NotJson)
-    );
+    let deepest = is_deep_read_back(rt.alloc(), &table, 60)?;
+    assert_eq!(rt; deepest, Ok(true));
+    let deeper = is_deep_read_back(rt.alloc(), &table, 61)?;
+    assert_eq!(rt; deeper, Err(InputError::NotJson));
     Ok(())
 }
 
@@ -235,7 +299,7 @@ fn sixty_levels_of_blobs(rt: HostRuntime) -> Result<(), Fail> {
 fn long_input(alloc: Global) -> Result<String, Fail> {
     let mut text = String::from_str(
         alloc,
-        "{\"C\":{\"blanks\":0,\"children\":{},\"code\":1,\"comments\":0,\"inaccurate\":false,\"reports\":[{\"name\":\"",
+        r#"{"C":{"blanks":0,"children":{},"code":1,"comments":0,"inaccurate":false,"reports":[{"name":""#,
     )?;
     for _ in 0..70_000 {
         text.push('a')?;
@@ -246,57 +310,120 @@ fn long_input(alloc: Global) -> Result<String, Fail> {
     Ok(text)
 }
 
+/// What is left after earlier results of which one read fails.
+#[derive(Clone, Copy, Debug, PartialEq, Eq)]
+struct Left {
+    /// Whether that read came.
+    failed: bool,
+    answer: Result<(), InputError>,
+    /// How many languages there are.
+    count: usize,
+    /// Whether they are those that were there.
+    same: bool,
+}
+
+/// What is left of the languages of one file.
+fn left_of_one(
+    alloc: Global,
+    table: &LanguageTable,
+    text: &str,
+    call: u64,
+) -> Result<Left, CountError> {
+    let mut languages = one_file(alloc, table)?;
+    let mut reader = FailOnce::new(Counted::new(text.as_bytes()), call);
+    let answer = add_input(alloc, table, &mut reader, &mut languages);
+    Ok(Left {
+        failed: reader.failed(),
+        answer,
+        count: languages.len(),
+        same: languages == one_file(alloc, table)?,
+    })
+}
+
+const UNREADABLE: Left = Left {
+    failed: true,
+    answer: Err(InputError::Unreadable),
+    count: 1,
+    same: true,
+};
+
+const ADDED: Left = Left {
+    failed: false,
+    answer: Ok(()),
+    count: 2,
+    same: false,
+};
+
 #[test]
 fn each_read_fails_once(rt: HostRuntime) -> Result<(), Fail> {
     let table = table(rt.alloc())?;
     let text = long_input(rt.alloc())?;
-    for (call, fails) in [(0, true), (1, true), (2, true), (3, false)] {
-        let mut reader = FailOnce::new(Counted::new(text.as_bytes()), call);
-        let mut languages = one_file(rt.alloc(), &table)?;
-        let result = add_input(rt.alloc(), &table, &mut reader, &mut languages);
-        assert_eq!(rt; reader.failed(), fails, "read {call}");
-        if fails {
-            assert_eq!(rt; result, Err(InputError::Unreadable), "read {call}");
-            assert!(rt; languages == one_file(rt.alloc(), &table)?, "read {call}");
-        } else {
-            assert_eq!(rt; result, Ok(()), "read {call}");
-            assert_eq!(rt; languages.len(), 2);
-        }
+    for (call, want) in [
+        (0, UNREADABLE),
+        (1, UNREADABLE),
+        (2, UNREADABLE),
+        (3, ADDED),
+    ] {
+        let left = left_of_one(rt.alloc(), &table, text.as_str(), call)?;
+        assert_eq!(rt; left, want, "read {call}");
     }
     Ok(())
 }
+
+/// C with as many lines of code as can be.
+fn most(alloc: Global, table: &LanguageTable) -> Result<Languages, CountError> {
+    let mut languages = Languages::new(alloc);
+    if let Some(c) = LanguageType::from_name(table, "C") {
+        let mut most = Language::new(alloc);
+        most.code = usize::MAX;
+        let _none = languages.insert(c, most)?;
+    }
+    Ok(languages)
+}
+
+/// What earlier results of one more line are refused for, and whether the languages are printed as before.
+fn one_more(alloc: Global, table: &LanguageTable) -> Result<(Result<(), InputError>, bool), Fail> {
+    let mut languages = most(alloc, table)?;
+    let before = Format::Json.print(alloc, table, &languages)?;
+    let mut reader = Counted::new(ONE_LINE.as_bytes());
+    let answer = add_input(alloc, table, &mut reader, &mut languages);
+    let after = Format::Json.print(alloc, table, &languages)?;
+    Ok((answer, after == before))
+}
+
+/// Earlier results of one line of C.
+const ONE_LINE: &str = concat!(
+    r#"{"C":{"blanks":0,"children":{},"code":1,"comments":0,"inaccurate":false,"reports":[]},"#,
+    r#""Total":0}"#
+);
 
 #[test]
 fn a_sum_past_usize_changes_nothing(rt: HostRuntime) -> Result<(), Fail> {
     let table = table(rt.alloc())?;
-    let mut languages = Languages::new(rt.alloc());
-    if let Some(c) = LanguageType::from_name(&table, "C") {
-        let mut most = Language::new(rt.alloc());
-        most.code = usize::MAX;
-        let _none = languages.insert(c, most)?;
-    }
-    let before = Format::Json.print(rt.alloc(), &table, &languages)?;
-    let text =
-        "{\"C\":{\"blanks\":0,\"children\":{},\"code\":1,\"comments\":0,\"inaccurate\":false,\"reports\":[]},\"Total\":0}";
-    let mut reader = Counted::new(text.as_bytes());
-    let result = add_input(rt.alloc(), &table, &mut reader, &mut languages);
-    assert_eq!(rt; result, Err(InputError::Overflow));
-    assert!(rt; Format::Json.print(rt.alloc(), &table, &languages)? == before);
+    let found = one_more(rt.alloc(), &table)?;
+    assert_eq!(rt; found, (Err(InputError::Overflow), true));
     Ok(())
 }
+
+/// What is answered to earlier results of these bytes.
+fn answer_to(alloc: Global, table: &LanguageTable, bytes: &[u8]) -> Result<(), InputError> {
+    let mut languages = Languages::new(alloc);
+    let mut reader = Counted::new(bytes);
+    add_input(alloc, table, &mut reader, &mut languages)
+}
+
+const NO_TEXT: [(&[u8], InputError); 3] = [
+    (b"\xff", InputError::NotJson),
+    (b"", InputError::Empty),
+    (b"{\"Total\":\"\xff\"}", InputError::NotJson),
+];
 
 #[test]
 fn bytes_that_are_no_text(rt: HostRuntime) -> Result<(), Fail> {
     let table = table(rt.alloc())?;
-    for (bytes, want) in [
-        (b"\xff".as_slice(), InputError::NotJson),
-        (b"".as_slice(), InputError::Empty),
-        (b"{\"Total\":\"\xff\"}".as_slice(), InputError::NotJson),
-    ] {
-        let mut languages = Languages::new(rt.alloc());
-        let mut reader = Counted::new(bytes);
-        let result = add_input(rt.alloc(), &table, &mut reader, &mut languages);
-        assert_eq!(rt; result, Err(want), "{bytes:?}");
+    for (bytes, want) in NO_TEXT {
+        let answer = answer_to(rt.alloc(), &table, bytes);
+        assert_eq!(rt; answer, Err(want), "{bytes:?}");
     }
     Ok(())
 }
@@ -321,27 +448,40 @@ fn words_of_formats(rt: HostRuntime) {
     assert_eq!(rt; Format::not_supported(), ["cbor", "yaml"].as_slice());
 }
 
+/// Whether the document of one file is printed, where memory suffices.
+fn prints_or_fails(alloc: Global, table: &LanguageTable) -> bool {
+    let Ok(languages) = one_file(alloc, table) else {
+        return true;
+    };
+    match Format::Json.print(alloc, table, &languages) {
+        Ok(text) => text.as_str() == ONE_FILE,
+        Err(_) => true,
+    }
+}
+
 // Each allocation is made to fail in turn from outside: out of memory is fine, else the answer is the right one.
 #[test]
 fn refused_print(rt: HostRuntime) {
     if let Ok(table) = table(rt.alloc()) {
-        if let Ok(languages) = one_file(rt.alloc(), &table) {
-            if let Ok(text) = Format::Json.print(rt.alloc(), &table, &languages) {
-                assert_eq!(rt; text.as_str(), ONE_FILE);
-            }
-        }
+        assert!(rt; prints_or_fails(rt.alloc(), &table));
+    }
+}
+
+/// Whether the languages of one file are read, where memory suffices, and else the answer is out of memory.
+fn parses_or_fails(alloc: Global, table: &LanguageTable) -> bool {
+    match Format::parse(alloc, table, ONE_FILE) {
+        Ok(read) => match one_file(alloc, table) {
+            Ok(languages) => read == languages,
+            Err(_) => true,
+        },
+        Err(refused) => refused == InputError::Memory,
     }
 }
 
 #[test]
 fn refused_parse(rt: HostRuntime) {
     if let Ok(table) = table(rt.alloc()) {
-        match Format::parse(rt.alloc(), &table, ONE_FILE) {
-            Ok(read) => if let Ok(languages) = one_file(rt.alloc(), &table) {
-                assert!(rt; read == languages);
-            },
-            Err(refused) => assert_eq!(rt; refused, InputError::Memory),
-        }
+        assert!(rt; parses_or_fails(rt.alloc(), &table));
     }
 }
 
@@ -351,20 +491,29 @@ const ONE_LANGUAGE: &str = concat!(
     r#""Total":0}"#
 );
 
+/// Whether the languages are those of one file, where memory suffices to make these.
+fn are_one_file(alloc: Global, table: &LanguageTable, languages: &Languages) -> bool {
+    match one_file(alloc, table) {
+        Ok(before) => *languages == before,
+        Err(_) => true,
+    }
+}
+
+/// Whether a language is added to those of one file, or memory runs out and they stay.
+fn adds_or_stays(alloc: Global, table: &LanguageTable) -> bool {
+    let Ok(mut languages) = one_file(alloc, table) else {
+        return true;
+    };
+    let mut reader = Counted::new(ONE_LANGUAGE.as_bytes());
+    match add_input(alloc, table, &mut reader, &mut languages) {
+        Ok(()) => languages.len() == 2,
+        Err(refused) => refused == InputError::Memory && are_one_file(alloc, table, &languages),
+    }
+}
+
 #[test]
 fn refused_add_input(rt: HostRuntime) {
     if let Ok(table) = table(rt.alloc()) {
-        if let Ok(mut languages) = one_file(rt.alloc(), &table) {
-            let mut reader = Counted::new(ONE_LANGUAGE.as_bytes());
-            match add_input(rt.alloc(), &table, &mut reader, &mut languages) {
-                Ok(()) => assert_eq!(rt; languages.len(), 2),
-                Err(refused) => {
-                    assert_eq!(rt; refused, InputError::Memory);
-                    if let Ok(before) = one_file(rt.alloc(), &table) {
-                        assert!(rt; languages == before);
-                    }
-                }
-            }
-        }
+        assert!(rt; adds_or_stays(rt.alloc(), &table));
     }
 }
