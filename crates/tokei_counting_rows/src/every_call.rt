@@ -1,6 +1,7 @@
 //! A text counted by every call that counts texts: all tell the same statistics.
 ghost use Rattle.std.specs.Prelude.{◌<◌, length};
 
+use crate::lines::{Lines, own_of};
 use std::alloc::Global;
 use std::str::from_utf8;
 use tokei_count::{
@@ -8,6 +9,30 @@ use tokei_count::{
     parse_from_str,
 };
 use tokei_table::{LanguageTable, LanguageType};
+
+/// Whether what a call answers are these statistics.
+fn is_same(told: Result<CodeStats, CountError>, stats: &CodeStats) -> Result<bool, CountError> {
+    match told {
+        Ok(told) => Ok(told == *stats),
+        Err(refused) => Err(refused),
+    }
+}
+
+/// What `parse_from_str` answers of a text that is UTF-8, and `parse_from_slice` of another.
+fn parse_text(
+    alloc: Global,
+    counter: &Counter,
+    language: LanguageType,
+    text: &[u8],
+    config: &CountConfig,
+) -> Result<CodeStats, CountError>
+    requires { language < length counter.now }
+{
+    match from_utf8(text) {
+        Ok(text) => parse_from_str(alloc, counter, language, text, config),
+        Err(_) => parse_from_slice(alloc, counter, language, text, config),
+    }
+}
 
 /// The statistics of a text and its steps, or `None` where the statistics of two calls differ.
 pub fn agreed(
@@ -19,19 +44,18 @@ pub fn agreed(
 ) -> Result<Option<(CodeStats, u128)>, CountError>
     requires { language < length counter.now }
 {
-    let plain = count_plain(alloc, counter, language, text, config)?;
     let (stats, steps) = parse_counted(alloc, counter, language, text, config)?;
-    let sliced = parse_from_slice(alloc, counter, language, text, config)?;
-    if stats != plain || sliced != plain {
-        return Ok(None);
-    }
-    if let Ok(text) = from_utf8(text) {
-        let read = parse_from_str(alloc, counter, language, text, config)?;
-        if read != plain {
-            return Ok(None);
-        }
-    }
-    Ok(Some((stats, steps)))
+    let plain = is_same(count_plain(alloc, counter, language, text, config), &stats)?;
+    let sliced = is_same(
+        parse_from_slice(alloc, counter, language, text, config),
+        &stats,
+    )?;
+    let read = is_same(parse_text(alloc, counter, language, text, config), &stats)?;
+    Ok(if plain && sliced && read {
+        Some((stats, steps))
+    } else {
+        None
+    })
 }
 
 /// The statistics of a text and its steps, or `None` where the table hasn't the language, or two calls differ.
@@ -66,16 +90,20 @@ pub fn counted(
     }
 }
 
-/// The steps of a text, or `None` where the table hasn't the language, or two calls differ.
-pub fn steps_of(
+/// The lines of a text that has no blobs, and its steps.
+pub fn read_alone(
     alloc: Global,
     table: &LanguageTable,
     key: &str,
     treat_doc_strings_as_comments: Option<bool>,
     text: &[u8],
-) -> Result<Option<u128>, CountError> {
+) -> Result<Option<(Lines, u128)>, CountError> {
     match told(alloc, table, key, treat_doc_strings_as_comments, text)? {
-        Some((_, steps)) => Ok(Some(steps)),
+        Some((stats, steps)) => Ok(if stats.blobs.is_empty() {
+            Some((own_of(&stats), steps))
+        } else {
+            None
+        }),
         None => Ok(None),
     }
 }

@@ -11,6 +11,8 @@ mod every_call;
 #[cfg(test)]
 mod hostile_rows;
 #[cfg(test)]
+mod lines;
+#[cfg(test)]
 mod notebook_rows;
 #[cfg(test)]
 mod plain_rows;

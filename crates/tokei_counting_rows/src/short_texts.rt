@@ -1,4 +1,6 @@
 //! Every text of a few pieces, in languages of all families: every call tells the same of it.
+ghost use Rattle.std.specs.Prelude.{◌<◌, length};
+
 use crate::bench::bench;
 use crate::every_call::agreed;
 use std::alloc::{AllocError, Global};
@@ -25,104 +27,130 @@ fn text_at(alloc: Global, pieces: &[&str], number: usize) -> Result<Vec<u8>, All
     Ok(text)
 }
 
-/// Of the texts with the first numbers, how many there are before the first of which two calls differ.
-fn alike(
+/// Whether two calls differ in what they tell of a text.
+fn is_unlike(
     alloc: Global,
-    table: &LanguageTable,
-    key: &str,
-    docs: Option<bool>,
-    pieces: &[&str],
-    numbers: usize,
-) -> Result<usize, CountError> {
+    counter: &Counter,
+    language: LanguageType,
+    text: Vec<u8>,
+    config: &CountConfig,
+) -> Result<bool, CountError>
+    requires { language < length counter.now }
+{
+    Ok(agreed(alloc, counter, language, &text, config)?.is_none())
+}
+
+/// A language, whether its doc strings are comments, and the six pieces of its texts.
+type Texts = (&'static str, Option<bool>, &'static [&'static str]);
+
+/// How many texts have at most five pieces of six kinds.
+const COUNT: usize = 9_331;
+
+/// How many texts there are before the first of which two calls differ.
+fn alike(alloc: Global, table: &LanguageTable, row: &Texts) -> Result<usize, CountError> {
+    let (key, treat_doc_strings_as_comments, pieces) = *row;
     let config = CountConfig {
-        treat_doc_strings_as_comments: docs,
+        treat_doc_strings_as_comments,
+    };
+    let Some(language) = LanguageType::from_name(table, key) else {
+        return Ok(0);
     };
     let counter = Counter::new(alloc, table)?;
-    let language = match LanguageType::from_name(table, key) {
-        Some(language) => language,
-        None => return Ok(0),
-    };
-    for number in 0..numbers {
-        let text = text_at(alloc, pieces, number)?;
-        if agreed(alloc, &counter, language, &text, &config)?.is_none() {
+    for number in 0..COUNT {
+        if is_unlike(
+            alloc,
+            &counter,
+            language,
+            text_at(alloc, pieces, number)?,
+            &config,
+        )? {
             return Ok(number);
         }
     }
-    Ok(numbers)
+    Ok(COUNT)
 }
 
-// There are 9,331 texts of at most five pieces of six kinds.
+/// The first text of which two calls differ, if there is one.
+fn first_unlike(
+    alloc: Global,
+    table: &LanguageTable,
+    row: &Texts,
+) -> Result<Option<Vec<u8>>, CountError> {
+    let same = alike(alloc, table, row)?;
+    Ok(if same == COUNT {
+        None
+    } else {
+        Some(text_at(alloc, row.2, same)?)
+    })
+}
+
+/// The pieces of languages that have comments and strings.
+const PLAIN: &[&str] = &["/", "*", "\"", "\\", "a", "\n"];
+
+const TEXTS: [Texts; 3] = [
+    ("C", None, PLAIN),
+    ("Rust", None, PLAIN),
+    ("D", None, PLAIN),
+];
+
 #[test]
 fn short_texts(rt: HostRuntime) -> Result<(), Fail> {
     let table = bench(rt.alloc())?;
-    let pieces = ["/", "*", "\"", "\\", "a", "\n"];
-    let last = text_at(rt.alloc(), &pieces, 9_330)?;
-    assert_eq!(rt; last.as_slice(), b"\n\n\n\n\n".as_slice());
-    for key in ["C", "Rust", "D"] {
-        let same = alike(rt.alloc(), &table, key, None, &pieces, 9_331)?;
-        let next = text_at(rt.alloc(), &pieces, same)?;
-        assert_eq!(rt; same, 9_331, "{key} at {next:?}");
+    for row in &TEXTS {
+        let unlike = first_unlike(rt.alloc(), &table, row)?;
+        assert_eq!(rt; unlike, None, "of {}", row.0);
     }
     Ok(())
 }
 
 #[test]
+fn the_last_text_is_five_pieces_long(rt: HostRuntime) -> Result<(), Fail> {
+    let last = text_at(rt.alloc(), PLAIN, COUNT - 1)?;
+    assert_eq!(rt; last.as_slice(), b"\n\n\n\n\n".as_slice());
+    Ok(())
+}
+
+const FAMILIES: [Texts; 9] = [
+    ("Markdown", None, &["```c", "```", " ", "\n", ",", "`"]),
+    (
+        "Html",
+        None,
+        &["<script", " type=\"", "\"", ">x", "</script>", "\n"],
+    ),
+    (
+        "Vue",
+        None,
+        &[
+            "<style>",
+            "<template>",
+            "</template>",
+            "</style>",
+            "x",
+            "\n",
+        ],
+    ),
+    ("Rust", None, &["///", "//!", " ", "\n", "\"", "/*"]),
+    (
+        "LinguaFranca",
+        None,
+        &["{=", "=}", "\n", "target C;", " ", "\""],
+    ),
+    ("CSharp", None, &["@\"", "\"", "\\", "\n", "/*", "*/"]),
+    ("D", None, &["/+", "+/", "/*", "*/", "\n", "\""]),
+    (
+        "Python",
+        Some(true),
+        &["\"\"\"", "\"", "'", "\\", "#", "\n"],
+    ),
+    ("FortranLegacy", None, &["c", " ", "\"", "'", "\\", "\n"]),
+];
+
+#[test]
 fn short_texts_of_families(rt: HostRuntime) -> Result<(), Fail> {
     let table = bench(rt.alloc())?;
-    for (key, docs, pieces) in [
-        (
-            "Markdown",
-            None,
-            ["```c", "```", " ", "\n", ",", "`"].as_slice(),
-        ),
-        (
-            "Html",
-            None,
-            ["<script", " type=\"", "\"", ">x", "</script>", "\n"].as_slice(),
-        ),
-        (
-            "Vue",
-            None,
-            [
-                "<style>",
-                "<template>",
-                "</template>",
-                "</style>",
-                "x",
-                "\n",
-            ]
-            .as_slice(),
-        ),
-        (
-            "Rust",
-            None,
-            ["///", "//!", " ", "\n", "\"", "/*"].as_slice(),
-        ),
-        (
-            "LinguaFranca",
-            None,
-            ["{=", "=}", "\n", "target C;", " ", "\""].as_slice(),
-        ),
-        (
-            "CSharp",
-            None,
-            ["@\"", "\"", "\\", "\n", "/*", "*/"].as_slice(),
-        ),
-        ("D", None, ["/+", "+/", "/*", "*/", "\n", "\""].as_slice()),
-        (
-            "Python",
-            Some(true),
-            ["\"\"\"", "\"", "'", "\\", "#", "\n"].as_slice(),
-        ),
-        (
-            "FortranLegacy",
-            None,
-            ["c", " ", "\"", "'", "\\", "\n"].as_slice(),
-        ),
-    ] {
-        let same = alike(rt.alloc(), &table, key, docs, pieces, 9_331)?;
-        let next = text_at(rt.alloc(), pieces, same)?;
-        assert_eq!(rt; same, 9_331, "{key} at {next:?}");
+    for row in &FAMILIES {
+        let unlike = first_unlike(rt.alloc(), &table, row)?;
+        assert_eq!(rt; unlike, None, "of {}", row.0);
     }
     Ok(())
 }

@@ -1,5 +1,6 @@
 //! How many steps a counted reading takes: one for each choice that it makes, none in what it skips.
-use std::alloc::{AllocError, Global};
+use crate::plain_rows::long_text;
+use std::alloc::Global;
 use std::test::Fail;
 use tokei_count::{CountConfig, Counter, parse_counted};
 use tokei_stats::CountError;
@@ -25,28 +26,24 @@ fn steps(alloc: Global, text: &[u8]) -> Result<Option<u128>, CountError> {
     }
 }
 
-/// So many lines of two bytes, and then three lines of which two are in a comment.
-fn long_text(alloc: Global, lines: usize) -> Result<Vec<u8>, AllocError> {
-    let mut text = Vec::new(alloc);
-    for _ in 0..lines {
-        text.extend_from_slice(b"x\n")?;
-    }
-    text.extend_from_slice(b"/* a /*/ b\nc */\nd\n")?;
-    Ok(text)
+const WALKED: [(&[u8], u128); 4] = [
+    (b"// \"a\nb\n", 1),
+    (b"x\n\n// y\n", 0),
+    (b"// y", 0),
+    (b"\"a\\\"\n\n", 5),
+];
+
+/// The steps of a thousand lines and those behind them.
+fn long_steps(alloc: Global) -> Result<Option<u128>, CountError> {
+    let text = long_text(alloc, 1_000)?;
+    steps(alloc, &text)
 }
 
 #[test]
 fn choices_of_what_is_walked_count(rt: HostRuntime) -> Result<(), Fail> {
-    let text = long_text(rt.alloc(), 1000)?;
-    assert!(rt; steps(rt.alloc(), &text)? == Some(13));
-    let rows = [
-        (b"// \"a\nb\n".as_slice(), 1),
-        (b"x\n\n// y\n".as_slice(), 0),
-        (b"// y".as_slice(), 0),
-        (b"\"a\\\"\n\n".as_slice(), 5),
-    ];
-    for (text, wanted) in &rows {
-        assert!(rt; steps(rt.alloc(), text)? == Some(*wanted));
+    assert_eq!(rt; long_steps(rt.alloc())?, Some(13));
+    for (text, wanted) in &WALKED {
+        assert_eq!(rt; steps(rt.alloc(), text)?, Some(*wanted), "at {text:?}");
     }
     Ok(())
 }

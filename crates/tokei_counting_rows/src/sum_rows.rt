@@ -1,7 +1,7 @@
 //! Sums of statistics, and what stands after a refused one.
-use crate::bench::bench;
+use crate::bench::{bench, bench_or_memory};
 use crate::every_call::counted;
-use crate::plain_rows::{are, own_of};
+use crate::lines::{Blob, Lines, are, own_of};
 use std::alloc::Global;
 use std::test::Fail;
 use tokei_count::{CodeStats, CountError};
@@ -24,86 +24,115 @@ fn one_fence(alloc: Global, table: &LanguageTable) -> Result<CodeStats, CountErr
     }
 }
 
+/// The blobs of the one fence.
+const OF_ONE: &[Blob] = &[("Rust", (0, 1, 0))];
+
+/// The blobs of the sum of the two texts.
+const OF_BOTH: &[Blob] = &[("Rust", (0, 2, 0)), ("Python", (1, 2, 0))];
+
+/// The sum of the two texts.
+fn sum_of_both(alloc: Global, table: &LanguageTable) -> Result<CodeStats, CountError> {
+    let mut sum = one_fence(alloc, table)?;
+    sum.add(&two_fences(alloc, table)?)?;
+    Ok(sum)
+}
+
+/// Whether the sum has the blobs of both texts.
+fn is_of_both(alloc: Global, table: &LanguageTable) -> Result<bool, CountError> {
+    let sum = sum_of_both(alloc, table)?;
+    Ok(are(table, &sum, (0, 0, 7), OF_BOTH))
+}
+
+/// The lines of the sum's summary, and whether that has no blobs.
+fn summary_of_both(alloc: Global, table: &LanguageTable) -> Result<(Lines, bool), CountError> {
+    let summary = sum_of_both(alloc, table)?.summarise()?;
+    Ok((own_of(&summary), summary.blobs.is_empty()))
+}
+
 #[test]
 fn sums_by_number_and_language(rt: HostRuntime) -> Result<(), Fail> {
     let table = bench(rt.alloc())?;
-    let mut sum = one_fence(rt.alloc(), &table)?;
-    sum.add(&two_fences(rt.alloc(), &table)?)?;
-    let summary = sum.summarise()?;
-    assert_eq!(rt; own_of(&summary), (1, 4, 7));
-    assert!(rt; summary.blobs.is_empty());
-    assert!(rt;
-        are(
-            &table,
-            &Some(sum),
-            (0, 0, 7),
-            &[("Rust", (0, 2, 0)), ("Python", (1, 2, 0))]
-        )
-    );
+    let summary = summary_of_both(rt.alloc(), &table)?;
+    assert_eq!(rt; summary, ((1, 4, 7), true));
+    let right = is_of_both(rt.alloc(), &table)?;
+    assert!(rt; right);
     Ok(())
+}
+
+/// Statistics of these blank and code lines.
+fn of_lines(alloc: Global, blanks: usize, code: usize) -> CodeStats {
+    let mut stats = CodeStats::new(alloc);
+    stats.blanks = blanks;
+    stats.code = code;
+    stats
+}
+
+/// What adding some statistics to others answers, and the own lines of the sum or of what stands then.
+fn sum_of(mut sum: CodeStats, more: CodeStats) -> (Result<(), CountError>, Lines) {
+    let answer = sum.add(&more);
+    (answer, own_of(&sum))
+}
+
+/// All lines of statistics of these blank and code lines.
+fn lines_of(alloc: Global, blanks: usize, code: usize) -> Result<usize, CountError> {
+    let stats = of_lines(alloc, blanks, code);
+    stats.lines()
 }
 
 #[test]
-fn sum_past_usize_changes_nothing(rt: HostRuntime) -> Result<(), Fail> {
-    let mut full = CodeStats::new(rt.alloc());
-    full.code = usize::MAX;
-    let mut more = CodeStats::new(rt.alloc());
-    more.blanks = 1;
-    more.code = 1;
-    assert_eq!(rt; full.add(&more), Err(CountError::Overflow));
-    assert_eq!(rt; own_of(&full), (0, usize::MAX, 0));
-    assert_eq!(rt; more.add(&full), Err(CountError::Overflow));
-    assert_eq!(rt; own_of(&more), (1, 1, 0));
-    assert_eq!(rt; full.lines(), Ok(usize::MAX));
-    full.blanks = 1;
-    assert_eq!(rt; full.lines(), Err(CountError::Overflow));
-    Ok(())
+fn sum_past_usize_changes_nothing(rt: HostRuntime) {
+    let alloc = rt.alloc();
+    let full = sum_of(of_lines(alloc, 0, usize::MAX), of_lines(alloc, 1, 1));
+    assert_eq!(rt; full, (Err(CountError::Overflow), (0, usize::MAX, 0)));
+    let more = sum_of(of_lines(alloc, 1, 1), of_lines(alloc, 0, usize::MAX));
+    assert_eq!(rt; more, (Err(CountError::Overflow), (1, 1, 0)));
+    assert_eq!(rt; lines_of(alloc, 0, usize::MAX), Ok(usize::MAX));
+    assert_eq!(rt; lines_of(alloc, 1, usize::MAX), Err(CountError::Overflow));
 }
 
-/// Whether the statistics are those of the one fence.
-fn is_one_fence(table: &LanguageTable, stats: CodeStats) -> bool {
-    are(table, &Some(stats), (0, 0, 3), &[("Rust", (0, 1, 0))])
+/// Whether an addition answers the sum, or is refused and leaves what was there.
+fn adds_or_stays(
+    table: &LanguageTable,
+    mut sum: CodeStats,
+    more: CodeStats,
+) -> Result<bool, CountError> {
+    match sum.add(&more) {
+        Ok(()) => Ok(are(table, &sum, (0, 0, 7), OF_BOTH)),
+        Err(refused) => if are(table, &sum, (0, 0, 3), OF_ONE) {
+            Err(refused)
+        } else {
+            Ok(false)
+        },
+    }
+}
+
+/// Whether an addition is as it should be, or that memory ran out before it.
+fn adds(alloc: Global) -> Result<bool, CountError> {
+    let table = bench_or_memory(alloc)?;
+    let sum = one_fence(alloc, &table)?;
+    adds_or_stays(&table, sum, two_fences(alloc, &table)?)
 }
 
 // Under a failed allocation memory may run out; no other answer may change.
 #[test]
-fn refused_add(rt: HostRuntime) -> Result<(), Fail> {
-    if let Ok(table) = bench(rt.alloc()) {
-        match (
-            one_fence(rt.alloc(), &table),
-            two_fences(rt.alloc(), &table),
-        ) {
-            (Ok(mut sum), Ok(more)) => match sum.add(&more) {
-                Err(refused) => {
-                    assert_eq!(rt; refused, CountError::Memory);
-                    assert!(rt; is_one_fence(&table, sum));
-                }
-                Ok(()) => assert!(rt;
-                    are(
-                        &table,
-                        &Some(sum),
-                        (0, 0, 7),
-                        &[("Rust", (0, 2, 0)), ("Python", (1, 2, 0))]
-                    )
-                ),
-            },
-            (Err(refused), _) => assert_eq!(rt; refused, CountError::Memory),
-            (_, Err(refused)) => assert_eq!(rt; refused, CountError::Memory),
-        }
+fn refused_add(rt: HostRuntime) {
+    match adds(rt.alloc()) {
+        Err(refused) => assert_eq!(rt; refused, CountError::Memory),
+        Ok(right) => assert!(rt; right),
     }
-    Ok(())
+}
+
+/// Whether a copy has what was copied.
+fn copies(alloc: Global) -> Result<bool, CountError> {
+    let table = bench_or_memory(alloc)?;
+    let copy = one_fence(alloc, &table)?.try_clone()?;
+    Ok(are(&table, &copy, (0, 0, 3), OF_ONE))
 }
 
 #[test]
-fn refused_try_clone(rt: HostRuntime) -> Result<(), Fail> {
-    if let Ok(table) = bench(rt.alloc()) {
-        match one_fence(rt.alloc(), &table) {
-            Ok(stats) => match stats.try_clone() {
-                Err(refused) => assert_eq!(rt; refused, CountError::Memory),
-                Ok(copy) => assert!(rt; is_one_fence(&table, copy)),
-            },
-            Err(refused) => assert_eq!(rt; refused, CountError::Memory),
-        }
+fn refused_try_clone(rt: HostRuntime) {
+    match copies(rt.alloc()) {
+        Err(refused) => assert_eq!(rt; refused, CountError::Memory),
+        Ok(right) => assert!(rt; right),
     }
-    Ok(())
 }
