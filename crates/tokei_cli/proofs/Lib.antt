@@ -1,3 +1,4 @@
 pub mod Listing
 pub mod NamedTypes
 pub mod Shown
+pub mod Reading

@@ -1,6 +1,11 @@
 //! A command line as read.
-ghost use Rattle.std.specs.Prelude.{◌≡◌, ◌≢◌, [], ◌++◌, option_map, string_bytes, map, IfOk, IfErr, IsSome, true};
+ghost use Rattle.std.specs.Prelude.{◌≡◌, ◌≢◌, [], IfErr, IfOk, IsSome, codes, is_some, map, option_map, string_bytes};
+ghost use Rattle.std.specs.Prelude.{true, unwrap_or};
+ghost use Rattle.std.specs.Option.{option_or};
+ghost use Rattle.clap.specs.Words.{all_of, first_of, found_of, one_of, rows_of};
 ghost use Rattle.tokei_cli.specs.CommandLines.{inputs_of, excludes_of, file_input_of, table_of};
+ghost use Rattle.tokei_cli.specs.Lines.{IsLine, IsNumber, inputs_given, is_on};
+ghost use Rattle.tokei_cli.specs.Options.{default_table};
 ghost use Rattle.tokei_cli.specs.Texts.{IsShown};
 
 use crate::cli_error::{CliError, answer};
@@ -70,16 +75,74 @@ fn all_owned(alloc: Global, texts: &[&str]) -> Result<Vec<String>, AllocError>
     Ok(all)
 }
 
+/// Whether an option without a value is given.
+fn flag(matches: &ArgMatches<'_>, id: &str) -> bool
+    ensures { result ≡ is_on (one_of id.now (rows_of (found_of matches.now))) }
+{
+    matches.get_one::<bool>(id).unwrap_or(false)
+}
+
+/// The number that an option is given, where it is.
+fn number(matches: &ArgMatches<'_>, id: &str) -> Option<usize>
+    ensures { IsNumber (one_of id.now (rows_of (found_of matches.now))) result }
+{
+    matches.get_one::<usize>(id)
+}
+
+/// The first value of an option as text, where it is given.
+fn text<'a>(matches: &ArgMatches<'a>, id: &str) -> Option<&'a str>
+    ensures { option_map (λ t. t.now) result ≡ first_of id.now (rows_of (found_of matches.now)) }
+{
+    matches.get_str(id)
+}
+
+/// All values of an option as texts, where it is given.
+fn texts<'m, 'a>(matches: &'m ArgMatches<'a>, id: &str) -> Option<&'m [&'a str]>
+    ensures { option_map (λ ts. map (λ t. t.now) ts.now) result ≡ all_of id.now (rows_of (found_of matches.now)) }
+{
+    matches.get_strs(id)
+}
+
+/// The first value of an option as an owned text, where it is given.
+fn value(alloc: Global, matches: &ArgMatches<'_>, id: &str) -> Result<Option<String>, AllocError>
+    ensures { IfOk result (λ o. option_map string_bytes o ≡ first_of id.now (rows_of (found_of matches.now))) }
+{
+    owned(alloc, text(matches, id))
+}
+
+/// All values of an option, where it is given.
+fn given(
+    alloc: Global,
+    matches: &ArgMatches<'_>,
+    id: &str,
+) -> Result<Option<Vec<String>>, AllocError>
+    ensures { IfOk result (λ o. option_map (λ v. map string_bytes v.items) o
+        ≡ all_of id.now (rows_of (found_of matches.now))) }
+{
+    match texts(matches, id) {
+        Some(texts) => Ok(Some(all_owned(alloc, texts)?)),
+        None => Ok(None),
+    }
+}
+
 /// All values of an option, or none where it wasn't given.
-fn values(alloc: Global, matches: &ArgMatches<'_>, id: &str) -> Result<Vec<String>, AllocError> {
-    all_owned(alloc, matches.get_strs(id).unwrap_or(&[]))
+fn values(alloc: Global, matches: &ArgMatches<'_>, id: &str) -> Result<Vec<String>, AllocError>
+    ensures { IfOk result (λ v. map string_bytes v.items
+        ≡ unwrap_or (all_of id.now (rows_of (found_of matches.now))) []) }
+{
+    match texts(matches, id) {
+        Some(texts) => all_owned(alloc, texts),
+        None => all_owned(alloc, &[]),
+    }
 }
 
 /// The inputs of a command line that may name none: then the current folder.
 fn inputs(alloc: Global, matches: &ArgMatches<'_>) -> Result<Vec<String>, AllocError>
-    ensures { IfOk result (λ v. map string_bytes v.items ≢ []) }
+    ensures given { IfOk result (λ v. map string_bytes v.items
+        ≡ inputs_given (all_of (codes "input") (rows_of (found_of matches.now)))) }
+    ensures some { IfOk result (λ v. map string_bytes v.items ≢ []) }
 {
-    match matches.get_strs("input") {
+    match texts(matches, "input") {
         Some(texts) if !texts.is_empty() => all_owned(alloc, texts),
         _ => all_owned(alloc, &["."]),
     }
@@ -87,12 +150,24 @@ fn inputs(alloc: Global, matches: &ArgMatches<'_>) -> Result<Vec<String>, AllocE
 
 /// The column to sort by, where one is asked for, and whether the order is reversed.
 fn order(alloc: Global, matches: &ArgMatches<'_>) -> Result<(Option<String>, bool), AllocError>
-    ensures { IfOk result (λ o. o.1 ≡ true → IsSome o.0) }
+    ensures column { IfOk result (λ o. option_map string_bytes o.0 ≡ option_or
+        (first_of (codes "rsort") (rows_of (found_of matches.now)))
+        (first_of (codes "sort") (rows_of (found_of matches.now)))) }
+    ensures reversed { IfOk result (λ o. o.1 ≡ is_some (first_of (codes "rsort") (rows_of (found_of matches.now)))) }
+    ensures some { IfOk result (λ o. o.1 ≡ true → IsSome o.0) }
 {
-    match matches.get_str("rsort") {
+    match text(matches, "rsort") {
         Some(word) => Ok((Some(String::from_str(alloc, word)?), true)),
-        None => Ok((owned(alloc, matches.get_str("sort"))?, false)),
+        None => Ok((owned(alloc, text(matches, "sort"))?, false)),
     }
+}
+
+/// The file of the table of languages.
+fn table(alloc: Global, matches: &ArgMatches<'_>) -> Result<String, AllocError>
+    ensures { IfOk result (λ t. string_bytes t
+        ≡ unwrap_or (first_of (codes "table") (rows_of (found_of matches.now))) default_table) }
+{
+    String::from_str(alloc, text(matches, "table").unwrap_or(DEFAULT_TABLE))
 }
 
 impl Cli {
@@ -111,35 +186,32 @@ impl Cli {
 
     /// What the parse found.
     fn of(alloc: Global, matches: &ArgMatches<'_>) -> Result<Cli, AllocError>
+        ensures line { IfOk result (IsLine (rows_of (found_of matches.now))) }
         ensures inputs { IfOk result (λ c. inputs_of c ≢ []) }
         ensures reverse { IfOk result (λ c. c.sort_reverse ≡ true → IsSome c.sort) }
     {
         let (sort, sort_reverse) = order(alloc, matches)?;
-        let types = match matches.get_strs("types") {
-            Some(words) => Some(all_owned(alloc, words)?),
-            None => None,
-        };
         Ok(Cli {
-            columns: matches.get_one::<usize>("columns"),
-            files: matches.get_flag("files"),
-            hidden: matches.get_flag("hidden"),
-            no_ignore: matches.get_flag("no-ignore"),
-            no_ignore_parent: matches.get_flag("no-ignore-parent"),
-            no_ignore_dot: matches.get_flag("no-ignore-dot"),
-            no_ignore_vcs: matches.get_flag("no-ignore-vcs"),
-            output: owned(alloc, matches.get_str("output"))?,
-            streaming: owned(alloc, matches.get_str("streaming"))?,
-            print_languages: matches.get_flag("languages"),
+            columns: number(matches, "columns"),
+            files: flag(matches, "files"),
+            hidden: flag(matches, "hidden"),
+            no_ignore: flag(matches, "no-ignore"),
+            no_ignore_parent: flag(matches, "no-ignore-parent"),
+            no_ignore_dot: flag(matches, "no-ignore-dot"),
+            no_ignore_vcs: flag(matches, "no-ignore-vcs"),
+            output: value(alloc, matches, "output")?,
+            streaming: value(alloc, matches, "streaming")?,
+            print_languages: flag(matches, "languages"),
             sort,
             sort_reverse,
-            types,
-            compact: matches.get_flag("compact"),
-            number_format: owned(alloc, matches.get_str("num-format"))?,
+            types: given(alloc, matches, "types")?,
+            compact: flag(matches, "compact"),
+            number_format: value(alloc, matches, "num-format")?,
             verbose: matches.get_count("verbose"),
             exclude: values(alloc, matches, "exclude")?,
-            file_input: owned(alloc, matches.get_str("file_input"))?,
+            file_input: value(alloc, matches, "file_input")?,
             input: inputs(alloc, matches)?,
-            table: String::from_str(alloc, matches.get_str("table").unwrap_or(DEFAULT_TABLE))?,
+            table: table(alloc, matches)?,
         })
     }
 

@@ -1,0 +1,13 @@
+-- A flag is on where the text that the rows have is true.
+use Rattle.std.proofs.Common.{◌∙◌}
+use Rattle.clap.proofs.WalkLemmas.{one_text-rows}
+use Rattle.clap.specs.Words.{found_of, one_of, rows_of}
+use Rattle.tokei_cli.proofs.Reading.{on_is}
+use Rattle.tokei_cli.proofs.cli.flag.Goals as goal
+
+pub returns : goal.returns
+returns c =
+    let same = one_text-rows (found_of c.args.matches.now) c.args.id.now in
+    let on = on_is (one_of c.args.id.now (rows_of (found_of c.args.matches.now))) c.get_one.result
+    (λ e. c.get_one.ensures.none (same ∙ e)) (λ t e. c.get_one.ensures.value t (same ∙ e)) in
+    c.unwrap_or.ensures ∙ on
