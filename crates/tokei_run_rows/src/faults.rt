@@ -1,13 +1,13 @@
 //! Runs in which a call of the writer or of the folders fails.
-use crate::outputs::{FORMS, Form, Known, TREES, files, known_job, output};
+use crate::outputs::{FORMS, Form, Known, KnownRun, TREES, files, known_run};
 use crate::runs::few_languages;
 use crate::trees::folders;
 use std::alloc::Global;
 use std::test::Fail;
-use tokei::{Counted, FailOnce, FailingFolders, LanguageTable, RunError, run};
+use tokei::{Counted, FailOnce, FailingFolders, Fault, LanguageTable, RunError, run};
 
 /// What fails.
-#[derive(Clone, Copy)]
+#[derive(Clone, Copy, Debug)]
 enum Failing {
     /// One write.
     Write,
@@ -20,23 +20,20 @@ enum Failing {
 fn refused_write(
     alloc: Global,
     table: &LanguageTable,
-    known: Known,
-    form: Form,
+    known: &KnownRun,
     call: u64,
-) -> Result<Option<bool>, Fail> {
-    let (tree, unread) = files(known);
+) -> Result<Option<bool>, Fault> {
+    let (tree, unread) = files(known.known);
     let mut folders = folders(alloc, tree, unread)?;
-    let job = known_job(alloc, table, known, form)?;
     let mut out = FailOnce::new(Counted::new(Vec::new(alloc)), call);
-    let ran = run(alloc, table, &mut folders, &job, &mut out);
+    let ran = run(alloc, table, &mut folders, &known.job, &mut out);
     let failed = out.failed();
-    let expected = output(alloc, known, form)?;
-    let (text, expected) = (out.inner.inner.as_slice(), expected.as_bytes());
-    match ran {
-        Ok(_) if !failed && text == expected => Ok(None),
-        Err(RunError::Write) if failed => Ok(Some(expected.starts_with(text))),
-        _ => Ok(Some(false)),
-    }
+    let (text, expected) = (out.inner.inner.as_slice(), known.output.as_bytes());
+    Ok(match ran {
+        Ok(_) if !failed && text == expected => None,
+        Err(RunError::Write) if failed => Some(expected.starts_with(text)),
+        _ => Some(false),
+    })
 }
 
 /// Whether the run whose folders fail behind so many calls is out of memory, and what it wrote until then is the
@@ -44,22 +41,19 @@ fn refused_write(
 fn refused_call(
     alloc: Global,
     table: &LanguageTable,
-    known: Known,
-    form: Form,
+    known: &KnownRun,
     call: u64,
-) -> Result<Option<bool>, Fail> {
-    let (tree, unread) = files(known);
+) -> Result<Option<bool>, Fault> {
+    let (tree, unread) = files(known.known);
     let mut folders = FailingFolders::new(folders(alloc, tree, unread)?, call);
-    let job = known_job(alloc, table, known, form)?;
     let mut out = Counted::new(Vec::new(alloc));
-    let ran = run(alloc, table, &mut folders, &job, &mut out);
-    let expected = output(alloc, known, form)?;
-    let (text, expected) = (out.inner.as_slice(), expected.as_bytes());
-    match ran {
-        Ok(_) if text == expected => Ok(None),
-        Err(RunError::Memory) => Ok(Some(expected.starts_with(text))),
-        _ => Ok(Some(false)),
-    }
+    let ran = run(alloc, table, &mut folders, &known.job, &mut out);
+    let (text, expected) = (out.inner.as_slice(), known.output.as_bytes());
+    Ok(match ran {
+        Ok(_) if text == expected => None,
+        Err(RunError::Memory) => Some(expected.starts_with(text)),
+        _ => Some(false),
+    })
 }
 
 /// How many calls fail in turn before a run writes the right output; `None` where one that fails isn't refused as it must.
@@ -67,13 +61,12 @@ fn refusals(
     alloc: Global,
     table: &LanguageTable,
     failing: Failing,
-    known: Known,
-    form: Form,
-) -> Result<Option<u64>, Fail> {
+    known: &KnownRun,
+) -> Result<Option<u64>, Fault> {
     for call in 0..1_000 {
         let refused = match failing {
-            Failing::Write => refused_write(alloc, table, known, form, call)?,
-            Failing::Folders => refused_call(alloc, table, known, form, call)?,
+            Failing::Write => refused_write(alloc, table, known, call)?,
+            Failing::Folders => refused_call(alloc, table, known, call)?,
         };
         match refused {
             Some(true) => {}
@@ -84,15 +77,29 @@ fn refusals(
     Ok(None)
 }
 
+/// The same of the run that writes a tree's output.
+fn refusals_of(
+    alloc: Global,
+    table: &LanguageTable,
+    failing: Failing,
+    known: Known,
+    form: Form,
+) -> Result<Option<u64>, Fail> {
+    let known = known_run(alloc, table, known, form)?;
+    Ok(refusals(alloc, table, failing, &known)?)
+}
+
 #[test]
 fn each_write_and_each_call_that_fails_refuses_the_run(rt: HostRuntime) -> Result<(), Fail> {
-    let alloc = rt.alloc();
-    let table = few_languages(alloc)?;
+    let table = few_languages(rt.alloc())?;
     for known in TREES {
         for form in FORMS {
             for failing in [Failing::Write, Failing::Folders] {
-                let calls = refusals(alloc, &table, failing, known, form)?;
-                assert!(rt; matches!(calls, Some(1..)), "{known:?} as {form:?}");
+                let calls = refusals_of(rt.alloc(), &table, failing, known, form)?;
+                assert!(rt;
+                    matches!(calls, Some(1..)),
+                    "{known:?} as {form:?}, of {failing:?}"
+                );
             }
         }
     }

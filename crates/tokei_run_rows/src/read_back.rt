@@ -72,6 +72,15 @@ fn unread(files: Files) -> &'static [&'static str] {
     }
 }
 
+/// A list of one text.
+fn only(alloc: Global, text: &str) -> Result<Vec<String>, AllocError> {
+    let mut texts = Vec::with_capacity(alloc, 1)?;
+    if texts.push(String::from_str(alloc, text)?).is_err() {
+        return Err(AllocError);
+    }
+    Ok(texts)
+}
+
 /// The languages of a tree.
 fn counted(
     alloc: Global,
@@ -80,11 +89,9 @@ fn counted(
     config: &Config,
 ) -> Result<Languages, Fail> {
     let (root, files, exclude, _) = row;
+    let roots = only(alloc, root)?;
+    let excludes = only(alloc, exclude)?;
     let mut folders = folders(alloc, files, unread(files))?;
-    let mut roots = Vec::new(alloc);
-    roots.push(String::from_str(alloc, root)?)?;
-    let mut excludes = Vec::new(alloc);
-    excludes.push(String::from_str(alloc, exclude)?)?;
     let mut languages = Languages::new(alloc);
     let _notes = languages.get_statistics(table, &mut folders, &roots, &excludes, config)?;
     Ok(languages)
@@ -106,23 +113,53 @@ fn is_read_back(alloc: Global, table: &LanguageTable, languages: &Languages) -> 
     Ok(read == *languages)
 }
 
+/// Which ignore files are obeyed.
+#[derive(Clone, Copy, Debug)]
+enum Obeyed {
+    All,
+    OfGit,
+    /// None, and names that begin with a dot are counted.
+    None,
+}
+
+/// The configuration by which these are obeyed.
+fn obeying(obeyed: Obeyed) -> Config {
+    let mut config = Config::new();
+    match obeyed {
+        Obeyed::All => {}
+        Obeyed::OfGit => config.no_ignore_dot = Some(true),
+        Obeyed::None => {
+            config.no_ignore = Some(true);
+            config.hidden = Some(true);
+        }
+    }
+    config
+}
+
+/// How many reports there are of a tree, and whether its languages are read back.
+fn reports_read_back(
+    alloc: Global,
+    table: &LanguageTable,
+    row: Row,
+    obeyed: Obeyed,
+) -> Result<(usize, bool), Fail> {
+    let languages = counted(alloc, table, row, &obeying(obeyed))?;
+    let same = is_read_back(alloc, table, &languages)?;
+    Ok((reports(&languages), same))
+}
+
 #[test]
 fn formatting_print_matches_parse(rt: HostRuntime) -> Result<(), Fail> {
-    let alloc = rt.alloc();
-    let table = bench(alloc)?;
-    let obeyed = Config::new();
-    let mut of_git = Config::new();
-    of_git.no_ignore_dot = Some(true);
-    let mut all = Config::new();
-    all.no_ignore = Some(true);
-    all.hidden = Some(true);
+    let table = bench(rt.alloc())?;
     for row in TREES {
         let (_, files, _, [many, more, most]) = row;
-        for (config, wanted) in [(&obeyed, many), (&of_git, more), (&all, most)] {
-            let languages = counted(alloc, &table, row, config)?;
-            assert_eq!(rt; reports(&languages), wanted, "of {files:?}");
-            let same = is_read_back(alloc, &table, &languages)?;
-            assert!(rt; same, "of {files:?}");
+        for (obeyed, wanted) in [
+            (Obeyed::All, many),
+            (Obeyed::OfGit, more),
+            (Obeyed::None, most),
+        ] {
+            let found = reports_read_back(rt.alloc(), &table, row, obeyed)?;
+            assert_eq!(rt; found, (wanted, true), "{obeyed:?} of {files:?}");
         }
     }
     Ok(())
@@ -155,20 +192,30 @@ fn large(
     Ok(language)
 }
 
-#[test]
-fn large_counts_are_read_back(rt: HostRuntime) -> Result<(), Fail> {
-    let alloc = rt.alloc();
-    let table = bench(alloc)?;
-    let markdown = LanguageType::from_name(&table, "Markdown").ok_or("no Markdown")?;
-    let rust = LanguageType::from_name(&table, "Rust").ok_or("no Rust")?;
-    let json = LanguageType::from_name(&table, "Json").ok_or("no JSON")?;
-    let python = LanguageType::from_name(&table, "Python").ok_or("no Python")?;
-    let mut languages = Languages::new(alloc);
+/// The language of that key.
+fn key(table: &LanguageTable, name: &str) -> Result<LanguageType, Fail> {
+    match LanguageType::from_name(table, name) {
+        Some(key) => Ok(key),
+        None => Err(Fail::from("no such language")),
+    }
+}
+
+/// Markdown, which has three languages inside, and Rust, which has one.
+fn two_large(alloc: Global, table: &LanguageTable) -> Result<Languages, Fail> {
+    let (markdown, rust) = (key(table, "Markdown")?, key(table, "Rust")?);
+    let (json, python) = (key(table, "Json")?, key(table, "Python")?);
     let inside = [(json, (0, 41, 0)), (python, (4, 18, 0)), (rust, (5, 42, 6))];
+    let mut languages = Languages::new(alloc);
     languages.insert(markdown, large(alloc, (281, 0, 1074), &inside)?)?;
     let inside = [(markdown, (51, 5, 295))];
     languages.insert(rust, large(alloc, (460, 2840, 116), &inside)?)?;
-    let same = is_read_back(alloc, &table, &languages)?;
-    assert!(rt; same);
+    Ok(languages)
+}
+
+#[test]
+fn large_counts_are_read_back(rt: HostRuntime) -> Result<(), Fail> {
+    let table = bench(rt.alloc())?;
+    let languages = two_large(rt.alloc(), &table)?;
+    assert!(rt; is_read_back(rt.alloc(), &table, &languages)?);
     Ok(())
 }

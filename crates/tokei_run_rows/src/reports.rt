@@ -1,8 +1,9 @@
 //! Printed reports and the document of small trees.
-use crate::runs::{bench, framed, job, written};
+use crate::runs::{bench, framed, job, writes};
 use crate::trees::{Files, MAIN, MARKDOWN, NOTEBOOK, TWO};
+use std::alloc::Global;
 use std::test::Fail;
-use tokei::{Format, Wanted};
+use tokei::{Format, Job, LanguageTable, RunError, Wanted};
 
 const ONE_LINE: &str = "#
  Rust                      1            1            1            0            0
@@ -84,38 +85,81 @@ const REPORTS: [(Files, &[&str], bool, bool, &str); 9] = [
     (&[("README", "")], &[], false, false, NONE),
 ];
 
+/// The job of a report; fewer columns than 81 mean 81.
+fn narrow_job(alloc: Global, by_file: bool, compact: bool) -> Result<Job, RunError> {
+    let mut job = job(alloc, Wanted::Table)?;
+    job.files = by_file;
+    job.compact = compact;
+    job.columns = 40;
+    Ok(job)
+}
+
+/// Whether the job writes the report of these rows.
+fn reports(
+    alloc: Global,
+    table: &LanguageTable,
+    tree: (Files, &[&str]),
+    job: &Job,
+    rows: &str,
+) -> Result<bool, Fail> {
+    let expected = framed(alloc, rows)?;
+    writes(alloc, table, tree, job, expected.as_str())
+}
+
+/// Whether a report of these rows is written, by file or not, compact or not.
+fn is_written(
+    alloc: Global,
+    table: &LanguageTable,
+    tree: (Files, &[&str]),
+    kind: (bool, bool),
+    rows: &str,
+) -> Result<bool, Fail> {
+    let job = narrow_job(alloc, kind.0, kind.1)?;
+    reports(alloc, table, tree, &job, rows)
+}
+
 #[test]
 fn small_reports(rt: HostRuntime) -> Result<(), Fail> {
-    let alloc = rt.alloc();
-    let table = bench(alloc)?;
+    let table = bench(rt.alloc())?;
     for (files, unread, by_file, compact, rows) in REPORTS {
-        let mut job = job(alloc, Wanted::Table)?;
-        job.files = by_file;
-        job.compact = compact;
-        // Fewer columns than 81 mean 81.
-        job.columns = 40;
-        let text = written(alloc, &table, files, unread, &job)?;
-        let expected = framed(alloc, rows)?;
-        assert_eq!(rt; text.as_str(), expected.as_str());
+        let kind = (by_file, compact);
+        let holds = is_written(rt.alloc(), &table, (files, unread), kind, rows)?;
+        assert!(rt;
+            holds,
+            "of {files:?}, by file: {by_file}, compact: {compact}"
+        );
     }
     Ok(())
 }
 
-const DOCUMENT: &str =
-    r#"{"Rust":{"blanks":0,"children":{},"code":1,"comments":0,"inaccurate":false,"reports":[{"name":"./main.rs","stats":{"blanks":0,"blobs":{},"code":1,"comments":0}}]},"Total":{"blanks":0,"children":{"Rust":[{"name":"./main.rs","stats":{"blanks":0,"blobs":{},"code":1,"comments":0}}]},"code":1,"comments":0,"inaccurate":false,"reports":[]}}"#;
+const DOCUMENT: &str = concat!(
+    r#"{"Rust":{"blanks":0,"children":{},"code":1,"comments":0,"inaccurate":false,"reports":[{"name":"./main.rs","#,
+    r#""stats":{"blanks":0,"blobs":{},"code":1,"comments":0}}]},"Total":{"blanks":0,"children":{"Rust":[{"name":"./main.rs","#,
+    r#""stats":{"blanks":0,"blobs":{},"code":1,"comments":0}}]},"code":1,"comments":0,"inaccurate":false,"reports":[]}}"#
+);
 
 const EMPTY: &str =
     r#"{"Total":{"blanks":0,"children":{},"code":0,"comments":0,"inaccurate":false,"reports":[]}}"#;
 
+/// Whether a document is written of these files.
+fn is_document(
+    alloc: Global,
+    table: &LanguageTable,
+    files: Files,
+    document: &str,
+) -> Result<bool, Fail> {
+    let job = job(alloc, Wanted::Document(Format::Json))?;
+    writes(alloc, table, (files, &[]), &job, document)
+}
+
+const DOCUMENTS: [(Files, &str); 2] = [(MAIN, DOCUMENT), (&[("README", "")], EMPTY)];
+
 #[test]
 fn small_documents(rt: HostRuntime) -> Result<(), Fail> {
-    let alloc = rt.alloc();
-    let table = bench(alloc)?;
-    let job = job(alloc, Wanted::Document(Format::Json))?;
-    let none: Files = &[("README", "")];
-    for (files, expected) in [(MAIN, DOCUMENT), (none, EMPTY)] {
-        let text = written(alloc, &table, files, &[], &job)?;
-        assert_eq!(rt; text.as_str(), expected);
+    let table = bench(rt.alloc())?;
+    for (files, document) in DOCUMENTS {
+        let holds = is_document(rt.alloc(), &table, files, document)?;
+        assert!(rt; holds, "of {files:?}");
     }
     Ok(())
 }

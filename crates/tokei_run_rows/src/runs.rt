@@ -13,8 +13,13 @@ pub fn bench(alloc: Global) -> Result<LanguageTable, TableError> {
 }
 
 /// The languages of the trees in `outputs.rt`, so that few allocations and calls fail in turn.
-const FEW: &str =
-    r##"{"languages":{"C":{"line_comment":["//"],"extensions":["c"]},"Jupyter":{"name":"Jupyter Notebooks","extensions":["ipynb"]},"Markdown":{"literate":true,"extensions":["md"]},"Python":{"line_comment":["#"],"extensions":["py"]},"Rust":{"line_comment":["//"],"extensions":["rs"]}}}"##;
+const FEW: &str = concat!(
+    r##"{"languages":{"C":{"line_comment":["//"],"extensions":["c"]},"##,
+    r##""Jupyter":{"name":"Jupyter Notebooks","extensions":["ipynb"]},"##,
+    r##""Markdown":{"literate":true,"extensions":["md"]},"##,
+    r##""Python":{"line_comment":["#"],"extensions":["py"]},"##,
+    r##""Rust":{"line_comment":["//"],"extensions":["rs"]}}}"##
+);
 
 /// A table of few languages.
 pub fn few_languages(alloc: Global) -> Result<LanguageTable, TableError> {
@@ -55,6 +60,19 @@ pub fn written(
         Ok(text) => Ok(text),
         Err(_) => Err(Fail::from("the output isn't UTF-8")),
     }
+}
+
+/// Whether the job writes this text of these files, of which some refuse to be read.
+pub fn writes(
+    alloc: Global,
+    table: &LanguageTable,
+    tree: (&[(&str, &str)], &[&str]),
+    job: &Job,
+    expected: &str,
+) -> Result<bool, Fail> {
+    let (files, unread) = tree;
+    let text = written(alloc, table, files, unread, job)?;
+    Ok(text.as_str() == expected)
 }
 
 const HEADER: &str =

@@ -6,8 +6,10 @@ use std::test::Fail;
 use tokei::{LanguageTable, Wanted};
 
 /// Two languages whose names have 16 and 20 characters.
-const TABLE: &str =
-    r#"{"languages":{"C":{"name":"éééééééééééééééé","line_comment":["//"],"extensions":["c"]},"Markdown":{"name":"éééééééééééééééééééé","literate":true,"extensions":["md"]}}}"#;
+const TABLE: &str = concat!(
+    r#"{"languages":{"C":{"name":"éééééééééééééééé","line_comment":["//"],"extensions":["c"]},"#,
+    r#""Markdown":{"name":"éééééééééééééééééééé","literate":true,"extensions":["md"]}}}"#
+);
 
 const FILES: Files = &[
     ("zéééééééééé.md", "```éééééééééééééééé\nx\n```\n"),
@@ -89,19 +91,42 @@ const ROWS: [(usize, [&str; 5]); 7] = [
     ),
 ];
 
+/// What is written of these files in so many columns.
+fn in_columns(
+    alloc: Global,
+    table: &LanguageTable,
+    files: Files,
+    by_file: bool,
+    columns: usize,
+) -> Result<String, Fail> {
+    let mut job = job(alloc, Wanted::Table)?;
+    job.columns = columns;
+    job.files = by_file;
+    written(alloc, table, files, &[], &job)
+}
+
+/// The row that isn't written as it is wanted in so many columns, where there is one.
+fn wrong_row(
+    alloc: Global,
+    table: &LanguageTable,
+    columns: usize,
+    rows: [&'static str; 5],
+) -> Result<Option<&'static str>, Fail> {
+    let text = in_columns(alloc, table, FILES, true, columns)?;
+    for (at, expected) in [3, 4, 7, 8, 9].into_iter().zip(rows) {
+        if text.lines().nth(at) != Some(expected) {
+            return Ok(Some(expected));
+        }
+    }
+    Ok(None)
+}
+
 #[test]
 fn names_of_two_bytes_a_character(rt: HostRuntime) -> Result<(), Fail> {
-    let alloc = rt.alloc();
-    let table = LanguageTable::from_json(alloc, TABLE.as_bytes())?;
+    let table = LanguageTable::from_json(rt.alloc(), TABLE.as_bytes())?;
     for (columns, rows) in ROWS {
-        let mut job = job(alloc, Wanted::Table)?;
-        job.columns = columns;
-        job.files = true;
-        let text = written(alloc, &table, FILES, &[], &job)?;
-        let [language, child, file, line, own] = rows;
-        for (at, expected) in [(3, language), (4, child), (7, file), (8, line), (9, own)] {
-            assert_eq!(rt; text.lines().nth(at), Some(expected), "at {columns}");
-        }
+        let wrong = wrong_row(rt.alloc(), &table, columns, rows)?;
+        assert_eq!(rt; wrong, None, "at {columns}");
     }
     Ok(())
 }
@@ -135,24 +160,34 @@ fn widened(alloc: Global, report: &str, more: usize) -> Result<String, Fail> {
     Ok(wide)
 }
 
+/// Whether the report of one file in so many columns is as wide as this.
+fn is_as_wide(
+    alloc: Global,
+    table: &LanguageTable,
+    columns: usize,
+    width: usize,
+) -> Result<bool, Fail> {
+    let narrow = framed(alloc, ONE_LINE)?;
+    let expected = widened(alloc, &narrow, width.saturating_sub(81))?;
+    Ok(in_columns(alloc, table, MAIN, false, columns)? == expected)
+}
+
+/// How many columns are asked for, and how many there are.
+const WIDTHS: [(usize, usize); 6] = [
+    (0, 81),
+    (81, 81),
+    (82, 82),
+    (65_535, 65_535),
+    (65_536, 65_535),
+    (usize::MAX, 65_535),
+];
+
 #[test]
 fn reports_as_wide_as_can_be(rt: HostRuntime) -> Result<(), Fail> {
-    let alloc = rt.alloc();
-    let table = bench(alloc)?;
-    let narrow = framed(alloc, ONE_LINE)?;
-    for (columns, width) in [
-        (0, 81),
-        (81, 81),
-        (82, 82),
-        (65_535, 65_535),
-        (65_536, 65_535),
-        (usize::MAX, 65_535),
-    ] {
-        let mut job = job(alloc, Wanted::Table)?;
-        job.columns = columns;
-        let text = written(alloc, &table, MAIN, &[], &job)?;
-        let expected = widened(alloc, &narrow, width - 81)?;
-        assert!(rt; text == expected, "at {columns}");
+    let table = bench(rt.alloc())?;
+    for (columns, width) in WIDTHS {
+        let wide = is_as_wide(rt.alloc(), &table, columns, width)?;
+        assert!(rt; wide, "at {columns}");
     }
     Ok(())
 }
