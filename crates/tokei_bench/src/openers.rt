@@ -1,112 +1,153 @@
 //! Openers of languages, and searches for them.
 use crate::shown::{are_texts, bench};
-use std::alloc::Global;
+use std::alloc::{AllocError, Global};
 use std::test::Fail;
-use tokei_table::{LanguageTable, LanguageType, OpenerIndex, TableError};
+use tokei_table::{LanguageTable, LanguageType, OpenerIndex};
 
-/// The openers of the language with that key, or none of them where the table hasn't it.
-fn openers_of(alloc: Global, table: &LanguageTable, key: &str) -> Result<Vec<String>, TableError> {
-    match LanguageType::from_name(table, key) {
-        Some(language) => Ok(language.openers(alloc, table)?),
-        None => Ok(Vec::new(alloc)),
+/// Whether the important syntax of Python is this.
+fn is_important(alloc: Global, table: &LanguageTable, wanted: &[&str]) -> Result<bool, AllocError> {
+    match LanguageType::from_name(table, "Python") {
+        Some(python) => Ok(are_texts(&python.important_syntax(alloc, table)?, wanted)),
+        None => Ok(false),
     }
 }
 
 #[test]
 fn important_syntax(rt: HostRuntime) -> Result<(), Fail> {
     let table = bench(rt.alloc())?;
-    let found = LanguageType::from_name(&table, "Python");
-    assert!(rt; found.is_some());
-    if let Some(python) = found {
-        let important = python.important_syntax(rt.alloc(), &table)?;
-        assert!(rt; are_texts(&important, &["\"", "'", "\"\"\"", "'''"]));
-    }
+    let right = is_important(rt.alloc(), &table, &["\"", "'", "\"\"\"", "'''"])?;
+    assert!(rt; right);
     Ok(())
+}
+
+/// A language, and its openers.
+const OPENERS: [(&str, &[&str]); 6] = [
+    ("CSharp", &["\"", "/*", "@\""]),
+    (
+        "Html",
+        &[
+            "\"",
+            "'",
+            "<!--",
+            "<script",
+            "<style",
+            "<script",
+            "<style",
+            "<template",
+        ],
+    ),
+    ("Rust", &["\"", "/*", "///", "//!", "///", "//!"]),
+    ("LinguaFranca", &["\"", "/*", "{=", "{="]),
+    ("Markdown", &["```", "```"]),
+    ("Json", &[]),
+];
+
+/// Whether the openers of the language with that key are these.
+fn opens_with(
+    alloc: Global,
+    table: &LanguageTable,
+    key: &str,
+    wanted: &[&str],
+) -> Result<bool, AllocError> {
+    match LanguageType::from_name(table, key) {
+        Some(language) => Ok(are_texts(&language.openers(alloc, table)?, wanted)),
+        None => Ok(false),
+    }
 }
 
 #[test]
 fn openers(rt: HostRuntime) -> Result<(), Fail> {
     let table = bench(rt.alloc())?;
-    for (key, wanted) in [
-        ("CSharp", ["\"", "/*", "@\""].as_slice()),
-        (
-            "Html",
-            [
-                "\"",
-                "'",
-                "<!--",
-                "<script",
-                "<style",
-                "<script",
-                "<style",
-                "<template",
-            ]
-            .as_slice(),
-        ),
-        ("Rust", ["\"", "/*", "///", "//!", "///", "//!"].as_slice()),
-        ("LinguaFranca", ["\"", "/*", "{=", "{="].as_slice()),
-        ("Markdown", ["```", "```"].as_slice()),
-        ("Json", [].as_slice()),
-    ] {
-        let listed = openers_of(rt.alloc(), &table, key)?;
-        assert!(rt; are_texts(&listed, wanted), "of {key}");
+    for (key, wanted) in &OPENERS {
+        let right = opens_with(rt.alloc(), &table, key, wanted)?;
+        assert!(rt; right, "of {key}");
     }
     Ok(())
+}
+
+/// A language, a text, and the first place of an opener.
+const OF_LANGUAGES: [(&str, &str, Option<usize>); 6] = [
+    ("Rust", "// x", None),
+    ("Rust", "/ ///", Some(2)),
+    ("Rust", "//! x", Some(0)),
+    ("Python", "a'''", Some(1)),
+    ("Vue", "a / < b @ <s <!- <template", Some(17)),
+    ("Json", "\"/*", None),
+];
+
+/// The first place of an opener of the language with that key, or `None` where the table hasn't it.
+fn first_of_language(
+    alloc: Global,
+    table: &LanguageTable,
+    key: &str,
+    text: &str,
+) -> Result<Option<Option<usize>>, AllocError> {
+    let Some(language) = LanguageType::from_name(table, key) else {
+        return Ok(None);
+    };
+    let index = OpenerIndex::of_texts(alloc, language.openers(alloc, table)?)?;
+    Ok(Some(index.first_in(text.as_bytes())))
 }
 
 #[test]
 fn searches_for_those_of_a_language(rt: HostRuntime) -> Result<(), Fail> {
     let table = bench(rt.alloc())?;
-    for (key, text, want) in [
-        ("Rust", "// x", None),
-        ("Rust", "/ ///", Some(2)),
-        ("Rust", "//! x", Some(0)),
-        ("Python", "a'''", Some(1)),
-        ("Vue", "a / < b @ <s <!- <template", Some(17)),
-        ("Json", "\"/*", None),
-    ] {
-        let Some(language) = LanguageType::from_name(&table, key) else {
-            assert!(rt; false, "no {key}");
-            return Ok(());
-        };
-        let index = OpenerIndex::of_texts(rt.alloc(), language.openers(rt.alloc(), &table)?)?;
-        assert_eq!(rt; index.first_in(text.as_bytes()), want, "{key} in {text}");
+    for (key, text, want) in &OF_LANGUAGES {
+        let first = first_of_language(rt.alloc(), &table, key, text)?;
+        assert_eq!(rt; first, Some(*want), "{key} in {text}");
     }
     Ok(())
 }
 
+const MARKS: &[&str] = &["\"", "\"\"\"", "'", "'''"];
+
+const COMMENT: &[&str] = &["/*"];
+
+const DOCS: &[&str] = &["\"", "/*", "//!"];
+
+const LETTERS: &[&str] = &["a", "b", "c"];
+
+const MANY: &[&str] = &["\"", "'", "<!--", "<script", "/*"];
+
+const LONG: &[&str] = &["abcde", "abd", "x"];
+
+/// Openers, a text, and the first place of one.
+const SEARCHES: [(&[&str], &str, Option<usize>); 15] = [
+    (MARKS, "a'''", Some(1)),
+    (MARKS, "abc", None),
+    (MARKS, "", None),
+    (COMMENT, "a / b /* c", Some(6)),
+    (COMMENT, "/////", None),
+    (COMMENT, "/////////////////////////////////////*", Some(36)),
+    (DOCS, "// //! x \"", Some(3)),
+    (LETTERS, "xyzcb", Some(3)),
+    (MANY, "a < b <!- <script", Some(10)),
+    (MANY, "plain", None),
+    (MANY, "", None),
+    (LONG, "abcd abd", Some(5)),
+    (LONG, "abc", None),
+    (&[], "any", None),
+    (&[], "", None),
+];
+
+/// The first place of an opener, or `None` where one of them is empty.
+fn first_of(
+    alloc: Global,
+    openers: &[&str],
+    text: &str,
+) -> Result<Option<Option<usize>>, AllocError> {
+    if !OpenerIndex::are_nonempty(openers) {
+        return Ok(None);
+    }
+    let index = OpenerIndex::new(alloc, openers)?;
+    Ok(Some(index.first_in(text.as_bytes())))
+}
+
 #[test]
 fn searches(rt: HostRuntime) -> Result<(), Fail> {
-    let marks = ["\"", "\"\"\"", "'", "'''"];
-    let comment = ["/*"];
-    let docs = ["\"", "/*", "//!"];
-    let letters = ["a", "b", "c"];
-    let many = ["\"", "'", "<!--", "<script", "/*"];
-    let long = ["abcde", "abd", "x"];
-    for (openers, text, want) in [
-        (marks.as_slice(), "a'''", Some(1)),
-        (marks.as_slice(), "abc", None),
-        (marks.as_slice(), "", None),
-        (comment.as_slice(), "a / b /* c", Some(6)),
-        (comment.as_slice(), "/////", None),
-        (
-            comment.as_slice(),
-            "/////////////////////////////////////*",
-            Some(36),
-        ),
-        (docs.as_slice(), "// //! x \"", Some(3)),
-        (letters.as_slice(), "xyzcb", Some(3)),
-        (many.as_slice(), "a < b <!- <script", Some(10)),
-        (many.as_slice(), "plain", None),
-        (many.as_slice(), "", None),
-        (long.as_slice(), "abcd abd", Some(5)),
-        (long.as_slice(), "abc", None),
-        ([].as_slice(), "any", None),
-        ([].as_slice(), "", None),
-    ] {
-        assert!(rt; OpenerIndex::are_nonempty(openers));
-        let index = OpenerIndex::new(rt.alloc(), openers)?;
-        assert_eq!(rt; index.first_in(text.as_bytes()), want, "in {text}");
+    for (openers, text, want) in &SEARCHES {
+        let first = first_of(rt.alloc(), openers, text)?;
+        assert_eq!(rt; first, Some(*want), "in {text}");
     }
     assert!(rt; !OpenerIndex::are_nonempty(&["a", ""]));
     Ok(())

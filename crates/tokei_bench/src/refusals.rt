@@ -1,50 +1,62 @@
 //! Calls whose allocations are made to fail in turn: out of memory is fine, else the answer is the right one.
 use crate::shown::{are_texts, bench, key_of};
-use std::alloc::Global;
-use std::test::Fail;
+use std::alloc::{AllocError, Global};
 use tokei_table::{LanguageTable, LanguageType, OpenerIndex, TableError};
 
+/// How many languages the bench table has.
+fn size_of_bench(alloc: Global) -> Result<usize, TableError> {
+    let table = bench(alloc)?;
+    Ok(table.len())
+}
+
 #[test]
-fn refused_from_json(rt: HostRuntime) -> Result<(), Fail> {
-    match bench(rt.alloc()) {
+fn refused_from_json(rt: HostRuntime) {
+    match size_of_bench(rt.alloc()) {
         Err(refused) => assert_eq!(rt; refused, TableError::Memory),
-        Ok(table) => assert_eq!(rt; table.len(), 20),
+        Ok(size) => assert_eq!(rt; size, 20),
     }
-    Ok(())
+}
+
+/// A text that is no table, and why.
+const BAD_TABLES: [(&str, TableError); 7] = [
+    (r#"{"languages":{"X":{"name":"Y"}}"#, TableError::NotJson),
+    (r#"{"languages":{"X":{"name":7}}}"#, TableError::Layout),
+    (r#"{"languages":{"X":{"name":"\\q"}}}"#, TableError::Escape),
+    (
+        r#"{"languages":{"X":{"quotes":[["a",""]]}}}"#,
+        TableError::Token,
+    ),
+    (
+        r#"{"languages":{"X":{},"Y":{"name":"X"}}}"#,
+        TableError::NamedTwice,
+    ),
+    (
+        r#"{"languages":{"X":{"name":"Total"}}}"#,
+        TableError::NamedTotal,
+    ),
+    (r#"{"languages":{"Rust":{}}}"#, TableError::Fallback),
+];
+
+/// Why the text is refused, if it is.
+fn cause_of(alloc: Global, text: &str) -> Option<TableError> {
+    match LanguageTable::from_json(alloc, text.as_bytes()) {
+        Err(refused) => Some(refused),
+        Ok(_table) => None,
+    }
 }
 
 #[test]
-fn refused_from_json_of_a_bad_table(rt: HostRuntime) -> Result<(), Fail> {
-    for (text, cause) in [
-        (r#"{"languages":{"X":{"name":"Y"}}"#, TableError::NotJson),
-        (r#"{"languages":{"X":{"name":7}}}"#, TableError::Layout),
-        (r#"{"languages":{"X":{"name":"\\q"}}}"#, TableError::Escape),
-        (
-            r#"{"languages":{"X":{"quotes":[["a",""]]}}}"#,
-            TableError::Token,
-        ),
-        (
-            r#"{"languages":{"X":{},"Y":{"name":"X"}}}"#,
-            TableError::NamedTwice,
-        ),
-        (
-            r#"{"languages":{"X":{"name":"Total"}}}"#,
-            TableError::NamedTotal,
-        ),
-        (r#"{"languages":{"Rust":{}}}"#, TableError::Fallback),
-    ] {
-        match LanguageTable::from_json(rt.alloc(), text.as_bytes()) {
-            Err(refused) => assert!(rt;
-                refused == cause || refused == TableError::Memory,
-                "{refused:?} at {text}"
-            ),
-            Ok(_table) => assert!(rt; false, "accepted {text}"),
-        }
+fn refused_from_json_of_a_bad_table(rt: HostRuntime) {
+    for (text, cause) in &BAD_TABLES {
+        let refused = cause_of(rt.alloc(), text);
+        assert!(rt;
+            refused == Some(*cause) || refused == Some(TableError::Memory),
+            "{refused:?} at {text}"
+        );
     }
-    Ok(())
 }
 
-/// A table of two languages, of which the second is to gain an extension, and that extension.
+/// A table of two languages.
 fn small_table(alloc: Global) -> Result<LanguageTable, TableError> {
     LanguageTable::from_json(
         alloc,
@@ -52,59 +64,98 @@ fn small_table(alloc: Global) -> Result<LanguageTable, TableError> {
     )
 }
 
-fn gains(alloc: Global, table: &LanguageTable) -> Result<LanguageTable, TableError> {
-    let more = vec![in alloc;
+/// The extensions that the second language is to gain.
+fn more(alloc: Global) -> Result<Vec<String>, AllocError> {
+    Ok(vec![in alloc;
         String::from_str(alloc, "a")?,
         String::from_str(alloc, "b")?,
-    ]?;
-    match LanguageType::from_name(table, "B") {
-        Some(language) => Ok(table.extended(alloc, &[(language, more.as_slice())])?),
-        None => Err(TableError::Layout),
-    }
+    ]?)
+}
+
+/// The table in which the second language has gained them.
+fn gains(alloc: Global, table: &LanguageTable) -> Result<LanguageTable, TableError> {
+    let Some(language) = LanguageType::from_name(table, "B") else {
+        return Err(TableError::Layout);
+    };
+    let more = more(alloc)?;
+    Ok(table.extended(alloc, &[(language, more.as_slice())])?)
+}
+
+/// Whether the second language has what it gained, and the first what was its own.
+fn has_gained(alloc: Global) -> Result<bool, TableError> {
+    let table = small_table(alloc)?;
+    let extended = gains(alloc, &table)?;
+    let second = LanguageType::from_file_extension(&extended, "b");
+    let first = LanguageType::from_file_extension(&extended, "a");
+    Ok(key_of(&extended, second) == "B" && key_of(&extended, first) == "A")
 }
 
 #[test]
-fn refused_extended(rt: HostRuntime) -> Result<(), Fail> {
-    let Ok(table) = small_table(rt.alloc()) else {
-        return Ok(());
-    };
-    match gains(rt.alloc(), &table) {
+fn refused_extended(rt: HostRuntime) {
+    match has_gained(rt.alloc()) {
         Err(refused) => assert_eq!(rt; refused, TableError::Memory),
-        Ok(extended) => {
-            let found = LanguageType::from_file_extension(&extended, "b");
-            assert_eq!(rt; key_of(&extended, found), "B");
-            let first = LanguageType::from_file_extension(&extended, "a");
-            assert_eq!(rt; key_of(&extended, first), "A");
-        }
+        Ok(right) => assert!(rt; right),
     }
-    Ok(())
 }
 
-#[test]
-fn refused_look_ups(rt: HostRuntime) -> Result<(), Fail> {
-    let Ok(table) = small_table(rt.alloc()) else {
-        return Ok(());
+/// Whether the first language is found by a file's name, or memory runs out.
+fn finds_a_file(alloc: Global, table: &LanguageTable) -> bool {
+    match LanguageType::from_file_name(alloc, table, "X.A") {
+        Ok(found) => key_of(table, found) == "A",
+        Err(_memory) => true,
+    }
+}
+
+/// Whether both languages are listed, or memory runs out.
+fn lists_both(alloc: Global, table: &LanguageTable) -> bool {
+    match LanguageType::list(alloc, table) {
+        Ok(listed) => listed.len() == 2,
+        Err(_memory) => true,
+    }
+}
+
+/// Whether the first language opens with its quote, or memory runs out.
+fn opens_with_its_quote(alloc: Global, table: &LanguageTable) -> bool {
+    let Some(language) = LanguageType::from_name(table, "A") else {
+        return false;
     };
-    if let Ok(found) = LanguageType::from_file_name(rt.alloc(), &table, "X.A") {
-        assert_eq!(rt; key_of(&table, found), "A");
+    match language.openers(alloc, table) {
+        Ok(openers) => are_texts(&openers, &["q"]),
+        Err(_memory) => true,
     }
-    if let Ok(listed) = LanguageType::list(rt.alloc(), &table) {
-        assert_eq!(rt; listed.len(), 2);
-    }
-    let found = LanguageType::from_name(&table, "A");
-    assert!(rt; found.is_some());
-    if let Some(language) = found {
-        if let Ok(openers) = language.openers(rt.alloc(), &table) {
-            assert!(rt; are_texts(&openers, &["q"]));
-        }
-    }
-    Ok(())
+}
+
+/// The look-up that tells something else, if there is one.
+fn wrong_look_up(alloc: Global) -> Result<Option<&'static str>, TableError> {
+    let table = small_table(alloc)?;
+    Ok(if !finds_a_file(alloc, &table) {
+        Some("from_file_name")
+    } else if !lists_both(alloc, &table) {
+        Some("list")
+    } else if !opens_with_its_quote(alloc, &table) {
+        Some("openers")
+    } else {
+        None
+    })
 }
 
 #[test]
-fn refused_opener_index(rt: HostRuntime) -> Result<(), Fail> {
-    if let Ok(index) = OpenerIndex::new(rt.alloc(), &["/*", "\"", "/+"]) {
-        assert_eq!(rt; index.first_in(b"a / b /+"), Some(6));
+fn refused_look_ups(rt: HostRuntime) {
+    match wrong_look_up(rt.alloc()) {
+        Err(refused) => assert_eq!(rt; refused, TableError::Memory),
+        Ok(wrong) => assert_eq!(rt; wrong, None),
     }
-    Ok(())
+}
+
+/// The first place of an opener.
+fn first_place(alloc: Global) -> Result<Option<usize>, AllocError> {
+    let index = OpenerIndex::new(alloc, &["/*", "\"", "/+"])?;
+    Ok(index.first_in(b"a / b /+"))
+}
+
+#[test]
+fn refused_opener_index(rt: HostRuntime) {
+    if let Ok(first) = first_place(rt.alloc()) {
+        assert_eq!(rt; first, Some(6));
+    }
 }

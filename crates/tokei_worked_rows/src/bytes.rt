@@ -35,7 +35,9 @@ fn text_with(alloc: Global, length: usize, place: usize, byte: u8) -> Result<Vec
 }
 
 /// Length, place of the only hit, `from`, `to`, answer. A hit at 99 stands in no text.
-const ROWS: [(usize, usize, usize, usize, usize); 30] = [
+type Row = (usize, usize, usize, usize, usize);
+
+const ROWS: [Row; 30] = [
     (70, 0, 0, 70, 0),
     (70, 1, 0, 70, 1),
     (70, 31, 0, 70, 31),
@@ -71,27 +73,31 @@ const ROWS: [(usize, usize, usize, usize, usize); 30] = [
     (70, 99, 70, 70, 70),
 ];
 
+/// What the search answers in the row's text with that byte.
+fn found_in(alloc: Global, row: &Row, byte: u8) -> Result<Option<usize>, Fail> {
+    let (length, place, from, to, _) = *row;
+    let text = text_with(alloc, length, place, byte)?;
+    Ok(search(&text, from, to))
+}
+
 #[test]
 fn hits_are_found_in_their_places(rt: HostRuntime) -> Result<(), Fail> {
-    for (length, place, from, to, want) in ROWS {
-        for byte in FOUR {
-            let text = text_with(rt.alloc(), length, place, byte)?;
-            let found = search(&text, from, to);
-            assert_eq!(rt;
-                found,
-                Some(want),
-                "of {length}, {place}, {from}, {to}, {byte}"
-            );
+    for row in &ROWS {
+        for byte in &FOUR {
+            let found = found_in(rt.alloc(), row, *byte)?;
+            assert_eq!(rt; found, Some(row.4), "of {row:?}, {byte}");
         }
     }
     Ok(())
 }
 
+const OTHERS: [u8; 6] = [0, b'`', b'e', b'A', 0xE1, 0xFF];
+
 #[test]
 fn other_bytes_are_no_hits(rt: HostRuntime) -> Result<(), Fail> {
-    for byte in [0, b'`', b'e', b'A', 0xE1, 0xFF] {
-        let text = text_with(rt.alloc(), 70, 5, byte)?;
-        assert_eq!(rt; search(&text, 0, 70), Some(70), "of {byte}");
+    for byte in &OTHERS {
+        let found = found_in(rt.alloc(), &(70, 5, 0, 70, 70), *byte)?;
+        assert_eq!(rt; found, Some(70), "of {byte}");
     }
     Ok(())
 }
@@ -105,21 +111,30 @@ fn fewer_bytes_are_named_more_than_once(rt: HostRuntime) {
     assert_eq!(rt; first_of_four(*b"zzzz", text, 0, 40), 40);
 }
 
+/// Texts of 70 bytes.
+const TEXTS: [&[u8]; 3] = [
+    b".....a..........................b......cd........................d....",
+    b"d....................................................................a",
+    b"......................................................................",
+];
+
+/// The first pair of places between which the search and the plain loop differ, if there is one.
+fn first_unlike(text: &[u8]) -> Option<(usize, usize)> {
+    for from in 0..71 {
+        for to in from..71 {
+            if search(text, from, to) != plain_search(text, from, to) {
+                return Some((from, to));
+            }
+        }
+    }
+    None
+}
+
 /// At every pair of places, among them those whose block goes on past `to`.
 #[test]
 fn each_search_answers_as_a_plain_loop(rt: HostRuntime) {
-    let texts: [&[u8]; 3] = [
-        b".....a..........................b......cd........................d....",
-        b"d....................................................................a",
-        b"......................................................................",
-    ];
-    for text in texts {
-        for from in 0..71 {
-            for to in from..71 {
-                let want = plain_search(text, from, to);
-                assert_eq!(rt; search(text, from, to), want, "from {from} to {to}");
-            }
-        }
+    for text in &TEXTS {
+        assert_eq!(rt; first_unlike(text), None, "in {text:?}");
     }
 }
 
@@ -149,33 +164,55 @@ fn other_plain_searches(text: &[u8], from: usize, to: usize) -> Option<(usize, u
     Some((one, other))
 }
 
+/// The first pair of places between which one of the searches and its plain loop differ, if there is one.
+fn first_other_unlike(text: &[u8]) -> Option<(usize, usize)> {
+    for from in 0..=text.len() {
+        for to in from..=text.len() {
+            if other_searches(text, from, to) != other_plain_searches(text, from, to) {
+                return Some((from, to));
+            }
+        }
+    }
+    None
+}
+
+/// The text with a byte of the four for each dot, and a dot for each other byte.
+fn opposite_of(alloc: Global, text: &[u8]) -> Result<Vec<u8>, Fail> {
+    let mut opposite = Vec::new(alloc);
+    for byte in text {
+        opposite.push(if *byte == b'.' { b'c' } else { b'.' })?;
+    }
+    Ok(opposite)
+}
+
+/// The same in a text of that length with an `a` at that place, and in its opposite.
+fn unlike_in(
+    alloc: Global,
+    length: usize,
+    place: usize,
+) -> Result<(Option<(usize, usize)>, Option<(usize, usize)>), Fail> {
+    let text = text_with(alloc, length, place, b'a')?;
+    let opposite = opposite_of(alloc, &text)?;
+    Ok((first_other_unlike(&text), first_other_unlike(&opposite)))
+}
+
+/// Lengths of more than one block, and places.
+const LENGTHS: [(usize, usize); 7] = [
+    (100, 99),
+    (100, 63),
+    (100, 64),
+    (100, 9),
+    (64, 63),
+    (40, 33),
+    (40, 50),
+];
+
 /// At every pair of places of texts of more than one block.
 #[test]
 fn the_other_searches_answer_as_a_plain_loop(rt: HostRuntime) -> Result<(), Fail> {
-    for (length, place, byte) in [
-        (100, 99, b'a'),
-        (100, 63, b'a'),
-        (100, 64, b'a'),
-        (100, 9, b'a'),
-        (64, 63, b'a'),
-        (40, 33, b'a'),
-        (40, 50, b'a'),
-    ] {
-        let text = text_with(rt.alloc(), length, place, byte)?;
-        let mut opposite = Vec::new(rt.alloc());
-        for byte in text.iter() {
-            opposite.push(if *byte == b'.' { b'c' } else { b'.' })?;
-        }
-        for from in 0..length + 1 {
-            for to in from..length + 1 {
-                let found = other_searches(&text, from, to);
-                let want = other_plain_searches(&text, from, to);
-                assert_eq!(rt; found, want, "in {length} from {from} to {to}");
-                let found = other_searches(&opposite, from, to);
-                let want = other_plain_searches(&opposite, from, to);
-                assert_eq!(rt; found, want, "in {length} from {from} to {to}");
-            }
-        }
+    for (length, place) in &LENGTHS {
+        let unlike = unlike_in(rt.alloc(), *length, *place)?;
+        assert_eq!(rt; unlike, (None, None), "of {length}, {place}");
     }
     Ok(())
 }
@@ -211,18 +248,29 @@ const SETS: [(&[u8], u8, &[u8], usize, usize); 8] = [
     ),
 ];
 
+/// How far a text has none of the set, how far nor the other byte either, and whether the set has `/`.
+fn ends_of(
+    alloc: Global,
+    bytes: &[u8],
+    other: u8,
+    text: &[u8],
+) -> Result<Option<(usize, usize, bool)>, Fail> {
+    match set_of(alloc, bytes)? {
+        Some(set) => Ok(Some((
+            set.clear_end(text, 0, text.len()),
+            set.clear_end_with(other, text, 0, text.len()),
+            set.has(b'/'),
+        ))),
+        None => Ok(None),
+    }
+}
+
 #[test]
 fn texts_are_clear_up_to_a_byte_of_the_set(rt: HostRuntime) -> Result<(), Fail> {
-    for (bytes, other, text, clear, apart) in SETS {
-        let set = set_of(rt.alloc(), bytes)?;
-        let found = set.as_ref().map(|set| set.clear_end(text, 0, text.len()));
-        assert_eq!(rt; found, Some(clear), "of {bytes:?}");
-        let found = set
-            .as_ref()
-            .map(|set| set.clear_end_with(other, text, 0, text.len()));
-        assert_eq!(rt; found, Some(apart), "of {bytes:?}");
-        let has = set.as_ref().map(|set| set.has(b'/'));
-        assert_eq!(rt; has, Some(bytes.contains(&b'/')), "of {bytes:?}");
+    for (bytes, other, text, clear, apart) in &SETS {
+        let found = ends_of(rt.alloc(), bytes, *other, text)?;
+        let want = Some((*clear, *apart, bytes.contains(&b'/')));
+        assert_eq!(rt; found, want, "of {bytes:?}");
     }
     Ok(())
 }
