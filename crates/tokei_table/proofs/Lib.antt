@@ -4,6 +4,7 @@ pub mod ExtendedRows
 pub mod MetNames
 pub mod Nonempty
 pub mod OfTable
+pub mod PathSuffixes
 pub mod RowSound
 pub mod TextIndex
 pub mod Utf8

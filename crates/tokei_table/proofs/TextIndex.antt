@@ -53,11 +53,11 @@ module _ (test : Row → Bool) (t : List ℕ) (all : List Row) where
   miss [] n rest e = refl
   miss (u ∷ ts) n rest e = miss_step u ts n rest e (miss ts n rest e) (group_of u == group_of t) refl
 
-shift : (n : ℕ) (o : Option ℕ) → option_map (λ k. n + 1 + k) o ≡ option_map (λ k. n + k) (option_map suc o)
+pub shift : (n : ℕ) (o : Option ℕ) → option_map (λ k. n + 1 + k) o ≡ option_map (λ k. n + k) (option_map suc o)
 shift n None = refl
 shift n (Some k) = let e : n + 1 + k ≡ n + suc k = omega arith in ap Some e
 
-unmoved : (o : Option ℕ) → option_map (λ k. 0 + k) o ≡ o
+pub unmoved : (o : Option ℕ) → option_map (λ k. 0 + k) o ≡ o
 unmoved None = refl
 unmoved (Some k) = let e : 0 + k ≡ k = omega arith in ap Some e
 
@@ -95,7 +95,7 @@ below_more : (m p : ℕ) (ps : List ℕ) → p < m → Below m ps → Below m (p
 below_more m p ps l b zero h = l
 below_more m p ps l b (suc k) h = b k (omega (arith, h))
 
-below_chosen : (m n : ℕ) (ps : List ℕ) → n < m → Below m ps → (c : Bool) → Below m (cond c (n ∷ ps) ps)
+pub below_chosen : (m n : ℕ) (ps : List ℕ) → n < m → Below m ps → (c : Bool) → Below m (cond c (n ∷ ps) ps)
 below_chosen m n ps l b true = below_more m n ps l b
 below_chosen m n ps l b false = b
 

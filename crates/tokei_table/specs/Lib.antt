@@ -19,6 +19,7 @@ pub mod Lookups
 pub mod MetNames
 pub mod Openers
 pub mod Outcome
+pub mod PathSuffixes
 pub mod Shebangs
 pub mod TableLaws
 pub mod TextIndex

@@ -8,6 +8,7 @@ pub mod language_type;
 pub mod lookups;
 mod names;
 mod openers;
+mod path_suffixes;
 pub mod table;
 pub mod table_laws;
 mod text_index;

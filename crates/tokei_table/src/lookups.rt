@@ -120,15 +120,22 @@ fn with_filename(table: &LanguageTable, name: &[u8]) -> Option<usize>
     first_with_filename(table.rows(), table.filename_places(name), name)
 }
 
-fn with_path_suffix(rows: &[Syntax], name: &[u8]) -> Option<usize>
-    ensures { result ≡ first_where (has_path_suffix name.now) (map row_of rows.now) }
+fn first_with_path_suffix(rows: &[Syntax], places: &[usize], name: &[u8]) -> Option<usize>
+    requires { (k : ℕ) → k < length places.now → slice_index places.now k < length rows.now }
+    ensures { result ≡ first_among (has_path_suffix name.now) (map row_of rows.now) places.now }
 {
-    for (i, row) in rows.iter().enumerate() {
-        if ends_with_one(&row.path_suffixes, name) {
-            return Some(i);
+    for place in places {
+        if ends_with_one(&row(rows, *place).path_suffixes, name) {
+            return Some(*place);
         }
     }
     None
+}
+
+fn with_path_suffix(table: &LanguageTable, name: &[u8]) -> Option<usize>
+    ensures { result ≡ first_where (has_path_suffix name.now) table.now }
+{
+    first_with_path_suffix(table.rows(), table.suffixed(), name)
 }
 
 fn with_shebang(rows: &[Syntax], word: &[u8]) -> Option<usize>
@@ -176,7 +183,7 @@ fn in_lowered_name(table: &LanguageTable, name: &[u8]) -> Option<usize>
     if let Some(at) = with_filename(table, name) {
         return Some(at);
     }
-    if let Some(at) = with_path_suffix(table.rows(), name) {
+    if let Some(at) = with_path_suffix(table, name) {
         return Some(at);
     }
     with_extension(table, extension(name)?)

@@ -7,6 +7,7 @@ ghost use Rattle.tokei_table.specs.WellFormed.{IsWellFormed, has_tokens};
 ghost use Rattle.tokei_syntax.specs.Sound.{IsSound};
 ghost use Rattle.tokei_syntax.specs.RowOf.{row_of};
 ghost use Rattle.tokei_table.specs.Lookups.{row_at};
+ghost use Rattle.tokei_table.specs.PathSuffixes.{suffixed_from};
 ghost use Rattle.tokei_table.specs.TextIndex.{entries_from, group_of, in_group};
 ghost use Rattle.tokei_table.specs.declared.error.TableError.TheVariants.{NotJson as NotJsonFault, Memory as MemoryFault};
 
@@ -14,6 +15,7 @@ use crate::error::TableError;
 use crate::extend::extended_rows;
 use crate::language_type::LanguageType;
 use crate::names::names_twice;
+use crate::path_suffixes::suffixed_places;
 use crate::text_index::TextIndex;
 use crate::well_formed::{all_have_fallbacks, all_have_tokens, names_total};
 use serde_json::Value;
@@ -28,12 +30,14 @@ pub struct LanguageTable {
     rows: Vec<Syntax>,
     by_extension: TextIndex,
     by_filename: TextIndex,
+    suffixed: Vec<usize>,
 }
 
 impl Model for LanguageTable {
-    ghost use Rattle.std.specs.Prelude.{List, map};
+    ghost use Rattle.std.specs.Prelude.{◌≡◌, List, map};
     ghost use Rattle.tokei_syntax.specs.Row.{Row};
     ghost use Rattle.tokei_syntax.specs.RowOf.{row_of};
+    ghost use Rattle.tokei_table.specs.PathSuffixes.{suffixed_from};
     ghost use Rattle.tokei_table.specs.TextIndex.{AreGroups, entries_from};
     ghost use Rattle.tokei_table.specs.WellFormed.{IsWellFormed};
 
@@ -43,7 +47,8 @@ impl Model for LanguageTable {
 
     ghost invariant = { λ t. IsWellFormed (map row_of t.rows.items)
         × AreGroups (entries_from (λ r. r.extensions) 0 (map row_of t.rows.items)) t.by_extension
-        × AreGroups (entries_from (λ r. r.filenames) 0 (map row_of t.rows.items)) t.by_filename };
+        × AreGroups (entries_from (λ r. r.filenames) 0 (map row_of t.rows.items)) t.by_filename
+        × (t.suffixed.items ≡ suffixed_from 0 (map row_of t.rows.items)) };
 }
 
 #[tactic(auto, unfolding(crate::specs::Outcome::data_of))]
@@ -64,17 +69,20 @@ fn data(alloc: Global, bytes: &[u8]) -> Result<Value, TableError>
     }
 }
 
-/// The table of these rows, with an index of their extensions and of whole names of files.
+/// The table of these rows, with an index of their extensions and of whole names of files, and with the places of those
+/// that have path suffixes.
 fn indexed(alloc: Global, rows: Vec<Syntax>) -> Result<LanguageTable, AllocError>
     requires { IsWellFormed (map row_of rows.items) }
     ensures { IfOk result (λ t. t ≡ map row_of rows.items) }
 {
     let by_extension = TextIndex::of_extensions(alloc, &rows)?;
     let by_filename = TextIndex::of_filenames(alloc, &rows)?;
+    let suffixed = suffixed_places(alloc, &rows)?;
     Ok(LanguageTable {
         rows,
         by_extension,
         by_filename,
+        suffixed,
     })
 }
 
@@ -127,6 +135,13 @@ impl LanguageTable {
         ensures { result.now ≡ in_group (group_of name.now) (entries_from (λ r. r.filenames) 0 self.entry.now) }
     {
         self.by_filename.places(name)
+    }
+
+    /// The places of the rows that have a path suffix, in their order.
+    pub(crate) fn suffixed(&self) -> &[usize]
+        ensures { result.now ≡ suffixed_from 0 self.entry.now }
+    {
+        self.suffixed.as_slice()
     }
 
     /// How many languages there are.

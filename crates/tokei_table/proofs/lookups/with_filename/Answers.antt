@@ -1,4 +1,4 @@
-use Rattle.std.proofs.Common.{◌≡◌, ℕ, ◌+◌, ◌≤◌, ◌<◌, ◌∙◌, ap, sym, subst, refl, length, map, arith}
+use Rattle.std.proofs.Common.{◌∙◌, ap, sym, subst, refl, length, arith}
 use Rattle.std.proofs.lemmas.List.{length-map}
 use Rattle.tokei_syntax.specs.RowOf.{row_of}
 use Rattle.tokei_table.specs.Lookups.{has_filename}
