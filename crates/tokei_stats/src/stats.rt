@@ -185,13 +185,14 @@ fn put(
     stats: CodeStats,
 ) -> Result<(), CountError>
     ensures ok { OnOk result (blobs.new.entries ≡ insert_entry nat_cmp blobs.old.entries language stats) }
+    ensures err { OnErr result (blobs.new.entries ≡ blobs.old.entries) }
     ensures memory { IfErr result (λ e. e ≡ CountError.Memory) }
 {
     let _old = blobs.insert(language, stats)?;
     Ok(())
 }
 
-/// Adds the statistics to those of the language.
+/// Adds the statistics to those of the language. A refusal leaves the map as it was.
 pub fn add_blob(
     blobs: &mut BTreeMap<LanguageType, CodeStats>,
     language: LanguageType,
@@ -200,6 +201,7 @@ pub fn add_blob(
     ensures ok { OnOk result (blobs_of (entries_of blobs.new.entries)
         ≡ put (blobs_of (entries_of blobs.old.entries)) language
         (joined (at (blobs_of (entries_of blobs.old.entries)) language) (λ s. sum s (stats_of stats.now)) (stats_of stats.now))) }
+    ensures err { OnErr result (blobs.new.entries ≡ blobs.old.entries) }
     ensures overflow { IsErrOf result CountError.Overflow
         → fit_at (at (blobs_of (entries_of blobs.old.entries)) language) (λ s. sum_fits s (stats_of stats.now)) ≡ false }
 {

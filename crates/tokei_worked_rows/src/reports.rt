@@ -1,7 +1,7 @@
 //! Worked rows of reports, and what stands after a refused call.
 use std::alloc::{AllocError, Global};
 use std::test::Fail;
-use tokei_stats::{CodeStats, CountError, Report};
+use tokei_stats::{CodeStats, CountError, Report, add_blob};
 use tokei_table::{LanguageTable, LanguageType, TableError};
 
 /// A report of these blank, code and comment lines.
@@ -148,6 +148,45 @@ fn a_refused_sum_changes_nothing(rt: HostRuntime) -> Result<(), Fail> {
     let refused = (Err(CountError::Overflow), true);
     assert_eq!(rt; refused_sums(rt.alloc())?, (refused, refused));
     Ok(())
+}
+
+/// Whether a further blob of so many lines of code is added to a report's blob of others, or is refused and changes nothing.
+fn adds_blob(alloc: Global, there: usize, code: usize) -> Result<bool, CountError> {
+    let language = language(alloc)?;
+    let old = report_with_blob(alloc, language, there)?;
+    let mut blobs = old.try_clone()?.stats.blobs;
+    let mut more = CodeStats::new(alloc);
+    more.code = code;
+    match add_blob(&mut blobs, language, &more) {
+        Ok(()) => Ok(
+            blobs
+                == report_with_blob(alloc, language, there.wrapping_add(code))?
+                    .stats
+                    .blobs,
+        ),
+        Err(refused) => if blobs == old.stats.blobs {
+            Err(refused)
+        } else {
+            Ok(false)
+        },
+    }
+}
+
+#[test]
+fn a_refused_blob_changes_nothing(rt: HostRuntime) {
+    assert_eq!(rt;
+        adds_blob(rt.alloc(), usize::MAX, 1),
+        Err(CountError::Overflow)
+    );
+}
+
+/// Out of memory, or the sum; a refusal changes nothing.
+#[test]
+fn refused_add_blob(rt: HostRuntime) {
+    match adds_blob(rt.alloc(), 4, 5) {
+        Err(refused) => assert_eq!(rt; refused, CountError::Memory),
+        Ok(right) => assert!(rt; right),
+    }
 }
 
 /// The sum of two reports with a blob of 4 and of 5 lines of code.
