@@ -301,14 +301,12 @@ fn next_element(search: &mut BlockSearch, start: usize, at: usize, to: usize) ->
 pub(crate) fn next_child<'a>(
     reading: &Reading<'a>,
     search: &mut BlockSearch<'a>,
-    skips: bool,
     left: usize,
     start: usize,
     at: usize,
     to: usize,
     child: usize,
 ) -> usize
-    requires known { reading.now.language < length reading.now.table.now }
     requires part { IsPart reading.now.text.now left start at }
     requires inside { at < to }
     requires line { to ≡ at + length (first_line (drop at reading.now.text.now)) }
@@ -317,7 +315,7 @@ pub(crate) fn next_child<'a>(
     ensures same { search.new ≡ search.old }
     ensures childless { (p : ℕ) → at ≤ p → p < result → blocks_of reading.now left (drop p reading.now.text.now) ≡ None }
 {
-    if at < child || !skips {
+    if at < child || !reading.skips {
         return child;
     }
     if reading.levels < 1 {
@@ -342,7 +340,6 @@ pub(crate) fn block_at<'a>(
     at: usize,
     end: usize,
 ) -> Option<Block<'a>>
-    requires known { reading.now.language < length reading.now.table.now }
     requires part { IsPart reading.now.text.now left start at }
     requires line { end ≡ at + line_len (drop at reading.now.text.now) }
     requires some { at < end }

@@ -70,7 +70,6 @@ fn child_at<'a>(
     at: usize,
     end: usize,
 ) -> Block<'a>
-    requires known { reading.now.language < length reading.now.table.now }
     requires part { IsPart reading.now.text.now left start at }
     requires opens { is_some (blocks_of reading.now left (drop at reading.now.text.now)) ≡ true }
     requires line { end ≡ at + line_len (drop at reading.now.text.now) }
@@ -170,7 +169,7 @@ fn read_notebook(
 pub(crate) fn read_text<'a>(
     alloc: Global,
     table: &'a LanguageTable,
-    matchers: &[SharedMatchers],
+    matchers: &'a [SharedMatchers],
     language: LanguageType,
     text: &'a [u8],
     docs: bool,
@@ -194,9 +193,11 @@ pub(crate) fn read_text<'a>(
         language,
         syntax,
         family: Family::of_key(syntax.key.as_str()),
+        matchers: own_matchers,
         text,
         docs,
         levels,
+        skips,
     };
     let mut search = BlockSearch::new(text);
     let mut stack = Vec::new(alloc);
@@ -217,16 +218,7 @@ pub(crate) fn read_text<'a>(
             start = stop;
             continue;
         }
-        let part = read_part(
-            &reading,
-            &mut search,
-            own_matchers,
-            skips,
-            &mut stack,
-            left,
-            start,
-            end,
-        )?;
+        let part = read_part(&reading, &mut search, &mut stack, left, start, end)?;
         own_steps += part.steps;
         match part.end {
             PartEnd::Line(class, behind) => {

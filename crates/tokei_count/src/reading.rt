@@ -1,11 +1,13 @@
 //! A text that is read.
-ghost use Rattle.std.specs.Prelude.{◌≡◌};
+ghost use Rattle.std.specs.Prelude.{◌≡◌, ◌<◌, length};
 ghost use Rattle.tokei_table.specs.Families.{family_of};
 ghost use Rattle.tokei_table.specs.Lookups.{row_at};
 ghost use Rattle.tokei_table.specs.Row.{Row};
 ghost use Rattle.tokei_table.specs.RowOf.{row_of};
 ghost use Rattle.tokei_table.specs.Sound.{IsSound};
+ghost use Rattle.tokei_count.specs.Matchers.{matchers_of};
 
+use crate::matchers::SharedMatchers;
 use tokei_table::family::Family;
 use tokei_table::{LanguageTable, LanguageType, Syntax};
 
@@ -17,12 +19,18 @@ pub(crate) struct Reading<'a> {
     /// The row of the language, and how it opens children: both are asked for at each search.
     pub syntax: &'a Syntax,
     pub family: Family,
+    /// What texts of the language are searched and walked with.
+    pub matchers: &'a SharedMatchers,
     pub text: &'a [u8],
     /// Whether doc strings are treated as comments.
     pub docs: bool,
     /// How deep children may still open.
     pub levels: u32,
+    /// Whether parts that begin plain and hold no opener are skipped, and children looked for ahead.
+    pub skips: bool,
+    ghost known: { language < length table.now },
     ghost row: { row_of syntax.now ≡ row_at table.now language },
     ghost sound: { IsSound (row_at table.now language) },
+    ghost matched: { matchers.now ≡ matchers_of (row_at table.now language) },
     ghost opens: { family ≡ family_of (row_at table.now language).key },
 }

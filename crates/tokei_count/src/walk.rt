@@ -1,10 +1,8 @@
 //! A part is walked with a stack of the items that enclose the place.
 ghost use Rattle.std.specs.Prelude.{◌≡◌, ℕ, ◌+◌, ◌-◌, ◌<◌, ◌≤◌, true, None, is_some, IfOk, drop, length};
-ghost use Rattle.tokei_table.specs.Sound.{IsSound};
 ghost use Rattle.tokei_count.specs.Choice.{choice};
 ghost use Rattle.tokei_count.specs.Choice.Choice.{takes_byte};
 ghost use Rattle.tokei_count.specs.Lines.{first_line, line_len};
-ghost use Rattle.tokei_count.specs.Matchers.{matchers_of};
 ghost use Rattle.tokei_count.specs.Modes.{innermost};
 ghost use Rattle.tokei_count.specs.ReadingOf.{row_in, blocks_of};
 ghost use Rattle.tokei_count.specs.Progress.{IsPart, IsClosable, Leads};
@@ -15,7 +13,6 @@ use crate::choice::{Choice, choose};
 use crate::class::{Class, class_by};
 use crate::items::{Enclosure, Kind};
 use crate::line_ends::line_stop;
-use crate::matchers::SharedMatchers;
 use crate::openings::{block_at, next_child};
 use crate::plain_bytes::{is_plain_byte, plain_end};
 use crate::reading::Reading;
@@ -68,7 +65,6 @@ fn opens_at<'a>(
     at: usize,
     end: usize,
 ) -> bool
-    requires known { reading.now.language < length reading.now.table.now }
     requires part { IsPart reading.now.text.now left start at }
     requires line { end ≡ at + line_len (drop at reading.now.text.now) }
     requires some { at < length reading.now.text.now }
@@ -95,7 +91,6 @@ fn choice_at<'a>(
     plain: usize,
     steps: &mut usize,
 ) -> Choice<'a>
-    requires known { reading.now.language < length reading.now.table.now }
     requires part { IsPart reading.now.text.now left start at }
     requires line { end ≡ at + line_len (drop at reading.now.text.now) }
     requires some { at < length reading.now.text.now }
@@ -123,7 +118,6 @@ fn choice_at<'a>(
 fn take_bytes<'a>(
     reading: &Reading<'a>,
     search: &mut BlockSearch<'a>,
-    matchers: &SharedMatchers,
     stack: &[Enclosure<'a>],
     left: usize,
     start: usize,
@@ -132,13 +126,10 @@ fn take_bytes<'a>(
     child: usize,
     steps: &mut usize,
 ) -> usize
-    requires sound { IsSound (row_in reading.now) }
     requires closable { IsClosable (chain_of stack.now) }
-    requires known { reading.now.language < length reading.now.table.now }
     requires part { IsPart reading.now.text.now left start at }
     requires line { end ≡ at + line_len (drop at reading.now.text.now) }
     requires few { steps.old ≤ at - start }
-    requires matched { matchers.now ≡ matchers_of (row_in reading.now) }
     requires childless { (p : ℕ) → at ≤ p → p < child → innermost (chain_of stack.now) ≡ None → blocks_of reading.now left (drop p reading.now.text.now) ≡ None }
     requires searched { search.old ≡ reading.now.text.now }
     ensures same { search.new ≡ search.old }
@@ -150,7 +141,7 @@ fn take_bytes<'a>(
     ensures leads { Leads (row_in reading.now) (blocks_of reading.now) left (chain_of stack.now) (result - at) (result - at) (chain_of stack.now) (drop at reading.now.text.now) }
 {
     let mode = innermost(stack);
-    let plain = plain_end(matchers, mode, reading.text, at, end.min(child));
+    let plain = plain_end(reading.matchers, mode, reading.text, at, end.min(child));
     let mut next = at;
     while next < plain {
         let _byte = choice_at(
@@ -174,9 +165,7 @@ fn take_choice<'a>(
     child: usize,
     steps: &mut usize,
 ) -> Result<Step, AllocError>
-    requires sound { IsSound (row_in reading.now) }
     requires closable { IsClosable (chain_of stack.old.items) }
-    requires known { reading.now.language < length reading.now.table.now }
     requires part { IsPart reading.now.text.now left start at }
     requires line { end ≡ at + line_len (drop at reading.now.text.now) }
     requires some { at < end }
@@ -218,7 +207,6 @@ fn take_choice<'a>(
 fn look_ahead<'a>(
     reading: &Reading<'a>,
     search: &mut BlockSearch<'a>,
-    skips: bool,
     stack: &[Enclosure],
     left: usize,
     start: usize,
@@ -226,7 +214,6 @@ fn look_ahead<'a>(
     to: usize,
     child: &mut usize,
 ) -> usize
-    requires known { reading.now.language < length reading.now.table.now }
     requires part { IsPart reading.now.text.now left start at }
     requires inside { at < to }
     requires line { to ≡ at + length (first_line (drop at reading.now.text.now)) }
@@ -236,33 +223,28 @@ fn look_ahead<'a>(
     ensures childless { (p : ℕ) → at ≤ p → p < child.new → blocks_of reading.now left (drop p reading.now.text.now) ≡ None }
     ensures ahead { (p : ℕ) → at ≤ p → p < result → innermost (chain_of stack.now) ≡ None → blocks_of reading.now left (drop p reading.now.text.now) ≡ None }
 {
-    if skips && !stack.is_empty() {
+    if reading.skips && !stack.is_empty() {
         return to;
     }
-    *child = next_child(reading, search, skips, left, start, at, to, *child);
+    *child = next_child(reading, search, left, start, at, to, *child);
     *child
 }
 
 /// Reads the part that begins at `start` and whose line goes to `end`, before its newline, where `left` bytes were left
-/// behind the last child. Where it `skips`, it looks for the part's children ahead, and at a byte at which no choice can
+/// behind the last child. Where the reading skips, it looks for the part's children ahead, and at a byte at which no choice can
 /// begin it looks no further.
 pub(crate) fn read_part<'a>(
     reading: &Reading<'a>,
     search: &mut BlockSearch<'a>,
-    matchers: &SharedMatchers,
-    skips: bool,
     stack: &mut Vec<Enclosure<'a>>,
     left: usize,
     start: usize,
     end: usize,
 ) -> Result<PartRead, AllocError>
-    requires sound { IsSound (row_in reading.now) }
     requires closable { IsClosable (chain_of stack.old.items) }
-    requires known { reading.now.language < length reading.now.table.now }
     requires part { IsPart reading.now.text.now left start start }
     requires line { end ≡ start + line_len (drop start reading.now.text.now) }
     requires some { start < length reading.now.text.now }
-    requires matched { matchers.now ≡ matchers_of (row_in reading.now) }
     requires searched { search.old ≡ reading.now.text.now }
     ensures same { search.new ≡ search.old }
     ensures reads { IfOk result (λ e. Reads (row_in reading.now) (blocks_of reading.now) left reading.now.docs (chain_of stack.old.items) (chain_of stack.new.items) start reading.now.text.now e) }
@@ -273,11 +255,9 @@ pub(crate) fn read_part<'a>(
     let mut child = start;
     let mut at = start;
     while at < end {
-        let ahead = look_ahead(
-            reading, search, skips, stack, left, start, at, stop, &mut child,
-        );
+        let ahead = look_ahead(reading, search, stack, left, start, at, stop, &mut child);
         at = take_bytes(
-            reading, search, matchers, stack, left, start, at, end, ahead, &mut steps,
+            reading, search, stack, left, start, at, end, ahead, &mut steps,
         );
         if end <= at {
             continue;
@@ -297,7 +277,7 @@ pub(crate) fn read_part<'a>(
         let mode = innermost(stack);
         // no child opens at a newline
         let behind = at + 1;
-        let plain = if is_plain_byte(matchers, mode, b'\n') {
+        let plain = if is_plain_byte(reading.matchers, mode, b'\n') {
             behind
         } else {
             at
@@ -307,7 +287,7 @@ pub(crate) fn read_part<'a>(
         );
     }
     let class = class_by(
-        matchers,
+        reading.matchers,
         reading.syntax,
         reading.docs,
         begun,

@@ -24,7 +24,9 @@ use Rattle.tokei_count.proofs.NotebookReading.{known_at, begun, cells_begun, cel
 use Rattle.tokei_notebook.specs.Cells.{cell_of, AreKnown}
 use Rattle.tokei_notebook.specs.declared.notebook.Cell.{Cell}
 use Rattle.tokei_count.specs.NotebookCells.{cell_block, cell_blocks}
+use Rattle.tokei_table.specs.Families.{family_of}
 use Rattle.tokei_table.specs.Openers.{openers}
+use Rattle.tokei_table.specs.Row.{Row}
 use Rattle.tokei_table.specs.WellFormed.{has_tokens}
 use Rattle.tokei_count.specs.Class.{class_of}
 use Rattle.tokei_count.specs.Glance.{holds, is_walked}
@@ -475,5 +477,35 @@ read_notebook-returns-clause-steps t c = λ skipped.
     ∙ ap capped bare ∙ ap (λ ks. capped (c.loop-cell.steps + sum_over (child_steps (languages_of c.args.table.now) c.args.levels) ks)) (sym none_left) ∙ c.loop-cell.invariant.inner skipped
     ∙ sym (ap capped (steps-notebook c.args.table.now c.args.levels c.args.language c.args.text.now c.requires.notebook some))
 
-pub read_text-read_part-requires-clause-matched : goal.read_text-read_part-requires-clause-matched
-read_text-read_part-requires-clause-matched t c = c.index-matchers-index.is ∙ ap (λ ms. get_or ms c.index.result c.index-matchers-index.result) c.requires.indexed ∙ matchers_at c.args.table.now c.args.language c.index.result c.index-matchers-index.result c.index.ensures c.requires.known
+pub read_text-invariant_of-reading-clause-matched : goal.read_text-invariant_of-reading-clause-matched
+read_text-invariant_of-reading-clause-matched t c = c.index-matchers-index.is ∙ ap (λ ms. get_or ms c.index.result c.index-matchers-index.result) c.requires.indexed ∙ matchers_at c.args.table.now c.args.language c.index.result c.index-matchers-index.result c.index.ensures c.requires.known
+
+pub read_text-invariant_of-reading-clause-opens : goal.read_text-invariant_of-reading-clause-opens
+read_text-invariant_of-reading-clause-opens t c = c.of_key.ensures ∙ ap family_of c.as_str.ensures.value ∙ ap (λ (r : Row). family_of r.key) c.syntax-syntax.ensures.row
+
+pub read_text-child_at-child-requires-clause-searched : goal.read_text-child_at-child-requires-clause-searched
+read_text-child_at-child-requires-clause-searched t c = c.in_ok-part.ensures.same ∙ c.loop-start.invariant.searched
+
+pub read_text-overflow_sub-levels : goal.read_text-overflow_sub-levels
+read_text-overflow_sub-levels t c =
+    let k : Block = block_of c.child_at-child.result in
+    let opens : (blocks (languages_of c.args.table.now) c.args.levels c.args.language c.args.text.now) c.loop-start.left (drop c.in-Broken.at c.args.text.now) ≡ Some k = c.child_at-child.ensures.child in
+    omega (arith, levels_left c.args.table.now c.args.levels c.args.language c.args.text.now c.loop-start.left (drop c.in-Broken.at c.args.text.now) k opens)
+
+-- a child lies within the text
+pub read_text-overflow_sub-left : goal.read_text-overflow_sub-left
+read_text-overflow_sub-left t c =
+    let r = subst (ReadsTo (row_at c.args.table.now c.args.language) (blocks (languages_of c.args.table.now) c.args.levels c.args.language c.args.text.now) c.loop-start.left c.args.docs (chain_of c.loop-start.stack.items) (chain_of c.read_part.new.stack.items) c.loop-start.start c.args.text.now c.in_ok-part.part.steps) c.in-Broken.is c.in_ok-part.ensures.reads in
+    let same : r.0 ≡ block_of c.child_at-child.result = some_same r.0 (block_of c.child_at-child.result) (sym r.3.opens ∙ c.child_at-child.ensures.child) in
+    let size : r.0.size ≡ c.child_at-child.result.size = ap (λ (b : Block). b.size) same in
+    let len : length (drop c.loop-start.start c.args.text.now) ≡ length c.args.text.now - c.loop-start.start = length-drop c.loop-start.start c.args.text.now in
+    omega (arith, size, r.3.reads.within, len, r.3.part.low, r.3.part.high)
+
+pub read_text-overflow_add-start : goal.read_text-overflow_add-start
+read_text-overflow_add-start t c =
+    let r = subst (ReadsTo (row_at c.args.table.now c.args.language) (blocks (languages_of c.args.table.now) c.args.levels c.args.language c.args.text.now) c.loop-start.left c.args.docs (chain_of c.loop-start.stack.items) (chain_of c.read_part.new.stack.items) c.loop-start.start c.args.text.now c.in_ok-part.part.steps) c.in-Broken.is c.in_ok-part.ensures.reads in
+    let same : r.0 ≡ block_of c.child_at-child.result = some_same r.0 (block_of c.child_at-child.result) (sym r.3.opens ∙ c.child_at-child.ensures.child) in
+    let size : r.0.size ≡ c.child_at-child.result.size = ap (λ (b : Block). b.size) same in
+    let len : length (drop c.loop-start.start c.args.text.now) ≡ length c.args.text.now - c.loop-start.start = length-drop c.loop-start.start c.args.text.now in
+    let within : c.in-Broken.at + c.child_at-child.result.size ≤ length c.args.text.now = omega (arith, size, r.3.reads.within, len, r.3.part.low, r.3.part.high) in
+    omega (arith, within)

@@ -160,8 +160,8 @@ returns-in-Child-clause-reads c =
       record {
         part = part;
         few = omega (arith, c.loop-at.invariant.few, c.loop-at.invariant.part.low, c.loop-at-test.true, c.take_bytes-at.ensures.low, c.take_bytes-at.ensures.counted);
-        opens = block_opens (row_in c.args.reading.now) (blocks_of c.args.reading.now) (blocks_fit c.args.reading.now) c.requires.sound c.args.left c.args.reading.now.docs opens.0 (chain_of c.loop-at.stack.items) (chain_of c.take_choice.new.stack.items) (drop at text) opens.1;
-        reads = child_read_at (row_in c.args.reading.now) (blocks_of c.args.reading.now) (blocks_fit c.args.reading.now) c.requires.sound c.args.left c.args.reading.now.docs
+        opens = block_opens (row_in c.args.reading.now) (blocks_of c.args.reading.now) (blocks_fit c.args.reading.now) c.args.reading.now.sound c.args.left c.args.reading.now.docs opens.0 (chain_of c.loop-at.stack.items) (chain_of c.take_choice.new.stack.items) (drop at text) opens.1;
+        reads = child_read_at (row_in c.args.reading.now) (blocks_of c.args.reading.now) (blocks_fit c.args.reading.now) c.args.reading.now.sound c.args.left c.args.reading.now.docs
             (chain_of c.args.stack.now.items) (chain_of c.take_choice.new.stack.items) (chain_of c.loop-at.stack.items) c.args.start at opens.0 text part c.take_bytes-at.new.steps led opens.1;
         inside = omega (arith, c.requires.line, more);
       },
@@ -204,7 +204,7 @@ returns-clause-reads c =
     subst (λ n. Leads (row_in c.args.reading.now) (blocks_of c.args.reading.now) c.args.left (chain_of c.args.stack.now.items) n (c.loop-at.steps - (at - end)) (chain_of c.loop-at.stack.items) u) whole c.loop-at.invariant.leads in
     let line_read : ReadsLine (row_in c.args.reading.now) (blocks_of c.args.reading.now) c.args.left c.args.reading.now.docs (chain_of c.args.stack.now.items) (length (first_line u)) (c.loop-at.steps - (at - end) + newlines u) c.class_by-class.result (chain_of c.loop-at.stack.items) u =
     line_reads (row_in c.args.reading.now) (blocks_of c.args.reading.now) c.args.left c.args.reading.now.docs (chain_of c.args.stack.now.items) (chain_of c.loop-at.stack.items) u c.class_by-class.result
-    c.requires.sound (blocks_fit c.args.reading.now).in_line c.loop-at.invariant.closable (omega (arith, len_is, c.requires.some)) (c.loop-at.steps - (at - end)) leads class_is in
+    c.args.reading.now.sound (blocks_fit c.args.reading.now).in_line c.loop-at.invariant.closable (omega (arith, len_is, c.requires.some)) (c.loop-at.steps - (at - end)) leads class_is in
     let more_is : stop < length text → stop ≡ end + 1 = λ more. ends_more (length text) end stop part.high c.line_stop-stop.ensures.more c.line_stop-stop.ensures.last more in (
       omega (arith, stop_is, line_read.some),
       c.line_stop-stop.ensures.within,
@@ -329,9 +329,9 @@ choice_at-newline-requires-clause-plain c = λ ahead.
     let some : 0 < length u = omega (arith, length-drop at text, c.if-at-stop.true, c.line_stop-stop.ensures.within) in
     let childless = ap (blocks_of c.args.reading.now c.args.left) (at_newline u none some) ∙ (blocks_fit c.args.reading.now).in_line.none c.args.left (drop 1 u) in
     elim c.if-is_plain_byte.branch [
-      | then-is_plain_byte w ↦ plain_byte (row_in c.args.reading.now) c.requires.sound (mode_of c.innermost-mode.result) (blocks_of c.args.reading.now c.args.left u) 10 u c.args.matchers.now (at_newline u none some) c.requires.matched (c.is_plain_byte.ensures w.if-is_plain_byte.true) (λ _. childless)
+      | then-is_plain_byte w ↦ plain_byte (row_in c.args.reading.now) c.args.reading.now.sound (mode_of c.innermost-mode.result) (blocks_of c.args.reading.now c.args.left u) 10 u c.args.reading.now.matchers.now (at_newline u none some) c.args.reading.now.matched (c.is_plain_byte.ensures w.if-is_plain_byte.true) (λ _. childless)
       | else-is_plain_byte w ↦ absurd (omega (arith, ahead, w.plain-is))
     ]
 
 pub class_by-class-requires-clause-matched : goal.class_by-class-requires-clause-matched
-class_by-class-requires-clause-matched c = c.requires.matched ∙ ap matchers_of (sym c.args.reading.now.row)
+class_by-class-requires-clause-matched c = c.args.reading.now.matched ∙ ap matchers_of (sym c.args.reading.now.row)

@@ -62,7 +62,7 @@ choice_at-byte-requires-clause-plain c = λ _.
     let next : ℕ = c.loop-next.next in
     let last = c.plain_end-plain.ensures.high (omega (arith, c.loop-next.invariant.low, c.loop-next-test.true)) in
     let within : c.args.end ≤ length text = end_within text c.args.at c.args.end c.requires.part.high c.requires.line in
-    plain_byte_at (row_in c.args.reading.now) c.requires.sound (mode_of c.innermost-mode.result) (blocks_of c.args.reading.now c.args.left (drop next text)) text next c.args.matchers.now c.requires.matched (omega (arith, c.loop-next-test.true, last, c.min.ensures, within))
+    plain_byte_at (row_in c.args.reading.now) c.args.reading.now.sound (mode_of c.innermost-mode.result) (blocks_of c.args.reading.now c.args.left (drop next text)) text next c.args.reading.now.matchers.now c.args.reading.now.matched (omega (arith, c.loop-next-test.true, last, c.min.ensures, within))
     (c.plain_end-plain.ensures.plain next c.loop-next.invariant.low c.loop-next-test.true) (λ plain. c.requires.childless next c.loop-next.invariant.low (omega (arith, c.loop-next-test.true, last, c.min.ensures)) (sym c.innermost-mode.ensures ∙ plain))
 
 pub loop-next-preserved : goal.loop-next-preserved
@@ -75,10 +75,10 @@ loop-next-preserved c =
     let more : next < c.args.end = omega (arith, c.loop-next-test.true, last, c.min.ensures) in
     let ahead : next < c.args.child = omega (arith, c.loop-next-test.true, last, c.min.ensures) in
     let some : 0 < line_len u = omega (arith, more, c.loop-next.invariant.line) in
-    let byte = subst (λ m. IsPlainByte c.args.matchers.now m (get_or text next 0)) c.innermost-mode.ensures (c.plain_end-plain.ensures.plain next c.loop-next.invariant.low c.loop-next-test.true) in
+    let byte = subst (λ m. IsPlainByte c.args.reading.now.matchers.now m (get_or text next 0)) c.innermost-mode.ensures (c.plain_end-plain.ensures.plain next c.loop-next.invariant.low c.loop-next-test.true) in
     let goes : Goes (row_in c.args.reading.now) (blocks_of c.args.reading.now) c.args.left (chain_of c.args.stack.now) 1 1 (chain_of c.args.stack.now) u =
-    goes_byte (row_in c.args.reading.now) (blocks_of c.args.reading.now) c.args.left c.requires.sound (blocks_fit c.args.reading.now).in_line (chain_of c.args.stack.now) u c.requires.closable some
-    (plain_byte_at (row_in c.args.reading.now) c.requires.sound (innermost (chain_of c.args.stack.now)) (blocks_of c.args.reading.now c.args.left u) text next c.args.matchers.now c.requires.matched (omega (arith, more, within)) byte (c.requires.childless next c.loop-next.invariant.low ahead)) in
+    goes_byte (row_in c.args.reading.now) (blocks_of c.args.reading.now) c.args.left c.args.reading.now.sound (blocks_fit c.args.reading.now).in_line (chain_of c.args.stack.now) u c.requires.closable some
+    (plain_byte_at (row_in c.args.reading.now) c.args.reading.now.sound (innermost (chain_of c.args.stack.now)) (blocks_of c.args.reading.now c.args.left u) text next c.args.reading.now.matchers.now c.args.reading.now.matched (omega (arith, more, within)) byte (c.requires.childless next c.loop-next.invariant.low ahead)) in
     record {
       same = c.choice_at-byte.ensures.same ∙ c.loop-next.invariant.same;
       low = omega (arith, c.loop-next.invariant.low);

@@ -29,7 +29,7 @@ returns-in-Byte-clause-takes c =
     let here : at_stack c.args.reading.now c.args.left u c.args.stack.now.items ≡ takes_byte = sym (by_mode c.args.reading.now c.args.left u c.deref.result.now c.args.stack.now.items c.innermost-mode.result c.deref.ensures.value c.innermost-mode.ensures) ∙ sym c.choice_at.ensures.choice ∙ ap (choice_of (blocks_of c.args.reading.now c.args.left u)) c.in-Byte.is in
     let some : 0 < line_len u = omega (arith, c.requires.some, c.requires.line) in
     let calm : OpensInLine (blocks_of c.args.reading.now) = (blocks_fit c.args.reading.now).in_line in
-    goes_byte (row_in c.args.reading.now) (blocks_of c.args.reading.now) c.args.left c.requires.sound calm (chain_of c.args.stack.now.items) u c.requires.closable some here
+    goes_byte (row_in c.args.reading.now) (blocks_of c.args.reading.now) c.args.left c.args.reading.now.sound calm (chain_of c.args.stack.now.items) u c.requires.closable some here
 
 pub returns-in-Escape-clause-takes : goal.returns-in-Escape-clause-takes
 returns-in-Escape-clause-takes c =
@@ -37,7 +37,7 @@ returns-in-Escape-clause-takes c =
     let here : at_stack c.args.reading.now c.args.left u c.args.stack.now.items ≡ escapes = sym (by_mode c.args.reading.now c.args.left u c.deref.result.now c.args.stack.now.items c.innermost-mode.result c.deref.ensures.value c.innermost-mode.ensures) ∙ sym c.choice_at.ensures.choice ∙ ap (choice_of (blocks_of c.args.reading.now c.args.left u)) c.in-Escape.is in
     let some : 0 < line_len u = omega (arith, c.requires.some, c.requires.line) in
     let calm : OpensInLine (blocks_of c.args.reading.now) = (blocks_fit c.args.reading.now).in_line in
-    goes_escape (row_in c.args.reading.now) (blocks_of c.args.reading.now) c.args.left c.requires.sound calm (chain_of c.args.stack.now.items) u c.requires.closable some here
+    goes_escape (row_in c.args.reading.now) (blocks_of c.args.reading.now) c.args.left c.args.reading.now.sound calm (chain_of c.args.stack.now.items) u c.requires.closable some here
 
 pub returns-in-LineComment-clause-takes : goal.returns-in-LineComment-clause-takes
 returns-in-LineComment-clause-takes c =
@@ -45,7 +45,7 @@ returns-in-LineComment-clause-takes c =
     let here : at_stack c.args.reading.now c.args.left u c.args.stack.now.items ≡ begins_line_comment = sym (by_mode c.args.reading.now c.args.left u c.deref.result.now c.args.stack.now.items c.innermost-mode.result c.deref.ensures.value c.innermost-mode.ensures) ∙ sym c.choice_at.ensures.choice ∙ ap (choice_of (blocks_of c.args.reading.now c.args.left u)) c.in-LineComment.is in
     let some : 0 < line_len u = omega (arith, c.requires.some, c.requires.line) in
     let calm : OpensInLine (blocks_of c.args.reading.now) = (blocks_fit c.args.reading.now).in_line in
-    goes_rest (row_in c.args.reading.now) (blocks_of c.args.reading.now) c.args.left c.requires.sound calm (chain_of c.args.stack.now.items) u c.requires.closable some here
+    goes_rest (row_in c.args.reading.now) (blocks_of c.args.reading.now) c.args.left c.args.reading.now.sound calm (chain_of c.args.stack.now.items) u c.requires.closable some here
 
 pub returns-in-PassedOpener-clause-takes : goal.returns-in-PassedOpener-clause-takes
 returns-in-PassedOpener-clause-takes c =
@@ -53,7 +53,7 @@ returns-in-PassedOpener-clause-takes c =
     let here : at_stack c.args.reading.now c.args.left u c.args.stack.now.items ≡ passes_over (pair_of c.in-PassedOpener.pair.now) = sym (by_mode c.args.reading.now c.args.left u c.deref.result.now c.args.stack.now.items c.innermost-mode.result c.deref.ensures.value c.innermost-mode.ensures) ∙ sym c.choice_at.ensures.choice ∙ ap (choice_of (blocks_of c.args.reading.now c.args.left u)) c.in-PassedOpener.is in
     let some : 0 < line_len u = omega (arith, c.requires.some, c.requires.line) in
     let calm : OpensInLine (blocks_of c.args.reading.now) = (blocks_fit c.args.reading.now).in_line in
-    rw c.as_bytes-opener-in-PassedOpener.ensures.value (goes_pass (row_in c.args.reading.now) (blocks_of c.args.reading.now) c.args.left c.requires.sound calm (chain_of c.args.stack.now.items) u c.requires.closable some (pair_of c.in-PassedOpener.pair.now) here)
+    rw c.as_bytes-opener-in-PassedOpener.ensures.value (goes_pass (row_in c.args.reading.now) (blocks_of c.args.reading.now) c.args.left c.args.reading.now.sound calm (chain_of c.args.stack.now.items) u c.requires.closable some (pair_of c.in-PassedOpener.pair.now) here)
 
 pub returns-in-Child-clause-takes : goal.returns-in-Child-clause-takes
 returns-in-Child-clause-takes c =
@@ -67,7 +67,7 @@ returns-in_ok-push-in-Opener-clause-takes c =
     let here : at_stack c.args.reading.now c.args.left u c.args.stack.now.items ≡ opens c.in-Opener.kind (pair_of c.in-Opener.pair.now) = sym (by_mode c.args.reading.now c.args.left u c.deref.result.now c.args.stack.now.items c.innermost-mode.result c.deref.ensures.value c.innermost-mode.ensures) ∙ sym c.choice_at.ensures.choice ∙ ap (choice_of (blocks_of c.args.reading.now c.args.left u)) c.in-Opener.is in
     let some : 0 < line_len u = omega (arith, c.requires.some, c.requires.line) in
     let calm : OpensInLine (blocks_of c.args.reading.now) = (blocks_fit c.args.reading.now).in_line in
-    rw c.as_bytes-opener.ensures.value (opener_pushes (row_in c.args.reading.now) (blocks_of c.args.reading.now) c.args.left c.requires.sound calm c.args.stack.now.items c.push.new.self.items (record { kind = c.in-Opener.kind; closer = c.as_bytes-closer.result }) c.in-Opener.kind (pair_of c.in-Opener.pair.now) u
+    rw c.as_bytes-opener.ensures.value (opener_pushes (row_in c.args.reading.now) (blocks_of c.args.reading.now) c.args.left c.args.reading.now.sound calm c.args.stack.now.items c.push.new.self.items (record { kind = c.in-Opener.kind; closer = c.as_bytes-closer.result }) c.in-Opener.kind (pair_of c.in-Opener.pair.now) u
     c.in_ok-push-in-Opener.ensures.items (ap (λ w. record { kind = c.in-Opener.kind; closer = w }) c.as_bytes-closer.ensures.value) c.requires.closable some here)
 
 pub returns-in-Some-clause-takes : goal.returns-in-Some-clause-takes
@@ -76,7 +76,7 @@ returns-in-Some-clause-takes c =
     let here : at_stack c.args.reading.now c.args.left u c.args.stack.now.items ≡ closes = sym (by_mode c.args.reading.now c.args.left u c.deref.result.now c.args.stack.now.items c.innermost-mode.result c.deref.ensures.value c.innermost-mode.ensures) ∙ sym c.choice_at.ensures.choice ∙ ap (choice_of (blocks_of c.args.reading.now c.args.left u)) c.in-Closer.is in
     let some : 0 < line_len u = omega (arith, c.requires.some, c.requires.line) in
     let calm : OpensInLine (blocks_of c.args.reading.now) = (blocks_fit c.args.reading.now).in_line in
-    closer_pops (row_in c.args.reading.now) (blocks_of c.args.reading.now) c.args.left c.requires.sound calm c.args.stack.now.items c.pop.new.self.items c.in-Some.enclosure u c.in-Some.ensures.items c.requires.closable some here
+    closer_pops (row_in c.args.reading.now) (blocks_of c.args.reading.now) c.args.left c.args.reading.now.sound calm c.args.stack.now.items c.pop.new.self.items c.in-Some.enclosure u c.in-Some.ensures.items c.requires.closable some here
 
 pub unreachable-requires : goal.unreachable-requires
 unreachable-requires c =
@@ -85,4 +85,4 @@ unreachable-requires c =
     let some : 0 < line_len u = omega (arith, c.requires.some, c.requires.line) in
     let calm : OpensInLine (blocks_of c.args.reading.now) = (blocks_fit c.args.reading.now).in_line in
     let empty : c.args.stack.now.items ≡ [] = c.in-None.ensures.items ∙ append-nil _ ∙ c.in-None.ensures.rest ∙ ap (λ n. take (n - 1) c.args.stack.now.items) c.in-None.ensures.cases.0 in
-    no_pop (row_in c.args.reading.now) (blocks_of c.args.reading.now) c.args.left c.requires.sound calm c.args.stack.now.items u empty here
+    no_pop (row_in c.args.reading.now) (blocks_of c.args.reading.now) c.args.left c.args.reading.now.sound calm c.args.stack.now.items u empty here
