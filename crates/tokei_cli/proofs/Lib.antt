@@ -2,3 +2,5 @@ pub mod Listing
 pub mod NamedTypes
 pub mod Shown
 pub mod Reading
+pub mod Building
+pub mod Spelling

@@ -1,5 +1,6 @@
--- What a command line of given words is: each member is what the parser's own rules say that the words give for an option.
-use Rattle.std.specs.Prelude.{◌≡◌, ℕ, List, [], ◌∷◌, Bool, false, Option, None, Some, codes, is_some, map, ok_or, option_map, string_bytes, unwrap_or}
+-- The command line of given words: each member is what the parser's own rules say that they give for an option.
+use Rattle.std.specs.Prelude.{◌≡◌, ℕ, List, [], ◌∷◌, Bool, false, Option, None, Some, codes}
+use Rattle.std.specs.Prelude.{is_some, map, ok_or, option_map, string_bytes, unwrap_or}
 use Rattle.std.specs.Option.{option_map_or, option_or}
 use Rattle.std.specs.Str.{bytes_eq}
 use Rattle.std.specs.Str.Parse.{ParsesUnsigned}

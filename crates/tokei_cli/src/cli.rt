@@ -4,7 +4,7 @@ ghost use Rattle.std.specs.Prelude.{true, unwrap_or};
 ghost use Rattle.std.specs.Option.{option_or};
 ghost use Rattle.clap.specs.Words.{all_of, first_of, found_of, one_of, rows_of};
 ghost use Rattle.tokei_cli.specs.CommandLines.{inputs_of, excludes_of, file_input_of, table_of};
-ghost use Rattle.tokei_cli.specs.Lines.{IsLine, IsNumber, inputs_given, is_on};
+ghost use Rattle.tokei_cli.specs.Lines.{IsLine, IsLineOf, IsNumber, inputs_given, is_on};
 ghost use Rattle.tokei_cli.specs.Options.{default_table};
 ghost use Rattle.tokei_cli.specs.Texts.{IsShown};
 
@@ -174,6 +174,7 @@ impl Cli {
     /// Reads the words of a command line, of which the first is the program's name. A refused command line, and one that
     /// asks for help or the version, are errors with the text to be shown: for these two `HELP` or `VERSION_LINE`.
     pub fn from_words<'a>(alloc: Global, words: &'a [&'a str]) -> Result<Cli, CliError>
+        ensures of_words { IfOk result (IsLineOf (map (λ w. w.now) words.entry.now)) }
         ensures inputs { IfOk result (λ c. inputs_of c ≢ []) }
         ensures reverse { IfOk result (λ c. c.sort_reverse ≡ true → IsSome c.sort) }
         ensures shown { IfErr result IsShown }

@@ -1,4 +1,9 @@
 //! The options, and what help says of each.
+ghost use Rattle.std.specs.Prelude.{◌≡◌, IfOk, false};
+ghost use Rattle.clap.specs.Words.{app_of, rule_of};
+ghost use Rattle.tokei_cli.specs.Options.{file_options, format_options, ignore_options, line_app, order_options};
+ghost use Rattle.tokei_cli.specs.Options.{report_options, switch, valued, with_options};
+
 use crate::version::VERSION;
 use clap::{Arg, ArgAction, Command, value_parser};
 use std::alloc::{AllocError, Global};
@@ -7,7 +12,10 @@ use std::alloc::{AllocError, Global};
 pub(crate) const DEFAULT_TABLE: &str = "languages.json";
 
 /// An option without a value.
-fn flag<'a>(alloc: Global, name: &'a str, help: &'a str) -> Arg<'a> {
+fn flag<'a>(alloc: Global, name: &'a str, help: &'a str) -> Arg<'a>
+    ensures rule { rule_of result ≡ switch name.entry.now }
+    ensures local { result.global ≡ false }
+{
     Arg::new(alloc, name)
         .long(name)
         .action(ArgAction::SetTrue)
@@ -15,7 +23,10 @@ fn flag<'a>(alloc: Global, name: &'a str, help: &'a str) -> Arg<'a> {
 }
 
 /// An option with one value.
-fn value<'a>(alloc: Global, name: &'a str, help: &'a str) -> Arg<'a> {
+fn value<'a>(alloc: Global, name: &'a str, help: &'a str) -> Arg<'a>
+    ensures rule { rule_of result ≡ valued name.entry.now }
+    ensures local { result.global ≡ false }
+{
     Arg::new(alloc, name)
         .long(name)
         .action(ArgAction::Set)
@@ -23,7 +34,9 @@ fn value<'a>(alloc: Global, name: &'a str, help: &'a str) -> Arg<'a> {
 }
 
 /// The options on what the report shows.
-fn with_report<'a>(alloc: Global, command: Command<'a>) -> Result<Command<'a>, AllocError> {
+fn with_report<'a>(alloc: Global, command: Command<'a>) -> Result<Command<'a>, AllocError>
+    ensures { IfOk result (λ c. app_of c ≡ with_options (app_of command.entry) report_options) }
+{
     let columns = value(
         alloc,
         "columns",
@@ -50,7 +63,9 @@ fn with_report<'a>(alloc: Global, command: Command<'a>) -> Result<Command<'a>, A
 }
 
 /// The options on formats for other programs, and on the list of languages.
-fn with_formats<'a>(alloc: Global, command: Command<'a>) -> Result<Command<'a>, AllocError> {
+fn with_formats<'a>(alloc: Global, command: Command<'a>) -> Result<Command<'a>, AllocError>
+    ensures { IfOk result (λ c. app_of c ≡ with_options (app_of command.entry) format_options) }
+{
     let output = value(
         alloc,
         "output",
@@ -73,7 +88,9 @@ fn with_formats<'a>(alloc: Global, command: Command<'a>) -> Result<Command<'a>, 
 }
 
 /// The options on the order of the report, and on which languages it has.
-fn with_order<'a>(alloc: Global, command: Command<'a>) -> Result<Command<'a>, AllocError> {
+fn with_order<'a>(alloc: Global, command: Command<'a>) -> Result<Command<'a>, AllocError>
+    ensures { IfOk result (λ c. app_of c ≡ with_options (app_of command.entry) order_options) }
+{
     let sort = value(
         alloc,
         "sort",
@@ -98,7 +115,9 @@ fn with_order<'a>(alloc: Global, command: Command<'a>) -> Result<Command<'a>, Al
 }
 
 /// The options on which ignore files are obeyed.
-fn with_ignore_files<'a>(alloc: Global, command: Command<'a>) -> Result<Command<'a>, AllocError> {
+fn with_ignore_files<'a>(alloc: Global, command: Command<'a>) -> Result<Command<'a>, AllocError>
+    ensures { IfOk result (λ c. app_of c ≡ with_options (app_of command.entry) ignore_options) }
+{
     let all = flag(
         alloc,
         "no-ignore",
@@ -123,7 +142,9 @@ fn with_ignore_files<'a>(alloc: Global, command: Command<'a>) -> Result<Command<
 }
 
 /// The options on what else is left out, and on files that the program reads.
-fn with_files<'a>(alloc: Global, command: Command<'a>) -> Result<Command<'a>, AllocError> {
+fn with_files<'a>(alloc: Global, command: Command<'a>) -> Result<Command<'a>, AllocError>
+    ensures { IfOk result (λ c. app_of c ≡ with_options (app_of command.entry) file_options) }
+{
     let exclude = value(
         alloc,
         "exclude",
@@ -144,7 +165,9 @@ fn with_files<'a>(alloc: Global, command: Command<'a>) -> Result<Command<'a>, Al
 }
 
 /// The whole command line, as its parser takes it.
-pub fn command<'a>(alloc: Global) -> Result<Command<'a>, AllocError> {
+pub fn command<'a>(alloc: Global) -> Result<Command<'a>, AllocError>
+    ensures { IfOk result (λ c. app_of c ≡ line_app) }
+{
     let verbose = Arg::new(alloc, "verbose")
         .long("verbose")
         .short('v')

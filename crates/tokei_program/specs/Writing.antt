@@ -5,6 +5,7 @@ use Rattle.tokei.specs.declared.job.Job.{Job}
 use Rattle.tokei.specs.Output.{Outputs}
 use Rattle.tokei_cli.specs.CommandLines.{inputs_of, table_of}
 use Rattle.tokei_cli.specs.declared.cli.Cli.{Cli}
+use Rattle.tokei_cli.specs.Lines.{IsLineOf}
 use Rattle.tokei_cli.specs.Printing.{languages_text}
 use Rattle.tokei_cli.specs.Texts.{IsAskedFor}
 use Rattle.tokei_folders.specs.Tree.{Tree}
@@ -33,10 +34,15 @@ WritesBy true c env t input old new = WritesList c t old new
 WritesBy false c env t input old new = WritesCounts c env t input old new
 
 -- what a command line asks for is written
-pub record WritesAsked (env : Env) (t : Tree) (input old new : Option (List ℕ)) : Type 0 where
-  pub line : Cli
+pub record WritesAsked (line : Cli) (env : Env) (t : Tree) (input old new : Option (List ℕ)) : Type 0 where
   pub inputs : inputs_of line ≢ []
   pub written : WritesBy line.print_languages line env t input old new
+
+-- what the command line of these words asks for is written
+pub record WritesLine (words : List (List ℕ)) (env : Env) (t : Tree) (input old new : Option (List ℕ)) : Type 0 where
+  pub line : Cli
+  pub spelled : IsLineOf words line
+  pub asked : WritesAsked line env t input old new
 
 -- the text of help or of the version is written
 pub record WritesText (old new : Option (List ℕ)) : Type 0 where
@@ -45,5 +51,5 @@ pub record WritesText (old new : Option (List ℕ)) : Type 0 where
   pub appended : Appends old new text
 
 -- either of them
-abbrev pub Writes : Env → Tree → Option (List ℕ) → Option (List ℕ) → Option (List ℕ) → Type 0
-Writes env t input old new = WritesText old new ⊎ WritesAsked env t input old new
+abbrev pub Writes : List (List ℕ) → Env → Tree → Option (List ℕ) → Option (List ℕ) → Option (List ℕ) → Type 0
+Writes words env t input old new = WritesText old new ⊎ WritesLine words env t input old new

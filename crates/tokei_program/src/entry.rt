@@ -1,5 +1,5 @@
 //! The whole program but for its real ends.
-ghost use Rattle.std.specs.Prelude.{◌≡◌, ◌≢◌, ◌<◌, ◌≤◌, [], IfErr, OnOk};
+ghost use Rattle.std.specs.Prelude.{◌≡◌, ◌≢◌, ◌<◌, ◌≤◌, [], IfErr, OnOk, map};
 ghost use Rattle.tokei_cli.specs.CommandLines.{inputs_of};
 ghost use Rattle.std.specs.Io.KnownBytes.{Appends};
 ghost use Rattle.tokei_folders.specs.Answers.{Told};
@@ -102,7 +102,7 @@ fn followed<F: Folders, S: Source, W: Sink>(
     requires named { inputs_of cli.now ≢ [] }
     ensures same { F.tree folders.new ≡ F.tree folders.old }
     ensures told { Told (F.tree folders.old) (λ t. OnOk result (WritesAsked
-        env.now t (S.remaining input.old) (W.contents out.old) (W.contents out.new))) }
+        cli.now env.now t (S.remaining input.old) (W.contents out.old) (W.contents out.new))) }
     ensures fault { W.faults out.old < u64.MAX → OnOk result (W.faults out.new ≡ W.faults out.old) }
     ensures unwritten { IfErr result (λ e. status_of e ≡ 2 → out.new ≡ out.old) }
     ensures unread { IfErr result (λ e. status_of e ≡ 2 → (folders.new ≡ folders.old) × (input.new ≡ input.old)) }
@@ -126,7 +126,7 @@ fn answered<F: Folders, S: Source, W: Sink>(
 ) -> Result<String, Ending>
     ensures same { F.tree folders.new ≡ F.tree folders.old }
     ensures told { Told (F.tree folders.old) (λ t. OnOk result (Writes
-        env.now t (S.remaining input.old) (W.contents out.old) (W.contents out.new))) }
+        (map (λ w. w.now) words.now) env.now t (S.remaining input.old) (W.contents out.old) (W.contents out.new))) }
     ensures fault { W.faults out.old < u64.MAX → OnOk result (W.faults out.new ≡ W.faults out.old) }
     ensures unwritten { IfErr result (λ e. status_of e ≡ 2 → out.new ≡ out.old) }
     ensures unread { IfErr result (λ e. status_of e ≡ 2 → (folders.new ≡ folders.old) × (input.new ≡ input.old)) }
@@ -177,9 +177,10 @@ fn say<E: Sink>(alloc: Global, ending: &Ending, err: &mut E) -> Result<(), Endin
 /// asked, 2 where the command line is refused, 1 where something failed. What is asked for goes to `out`, and what is to be
 /// said beside it to `err`.
 ///
-/// With status 0 `out` has gained what a command line asks for, over a known tree: help, the version, the list of languages,
-/// or what `run` writes for its job. A refused command line is seen before anything is read or written. Any other status
-/// than 1 says that neither writer had a fault. Where the status is 1 and `err` had no fault, one message stands in it.
+/// With status 0 `out` has gained, over a known tree, help, the version, or what the command line of the words asks for: the
+/// list of languages, or what `run` writes for its job. A refused command line is seen before anything is read or written.
+/// Any other status than 1 says that neither writer had a fault. Where the status is 1 and `err` had no fault, one message
+/// stands in it.
 pub fn program<F: Folders, S: Source, W: Sink, E: Sink>(
     alloc: Global,
     words: &[&str],
@@ -191,7 +192,7 @@ pub fn program<F: Folders, S: Source, W: Sink, E: Sink>(
 ) -> u8
     ensures same { F.tree folders.new ≡ F.tree folders.old }
     ensures written { Told (F.tree folders.old) (λ t. result ≡ 0 → Writes
-        env.now t (S.remaining input.old) (W.contents out.old) (W.contents out.new)) }
+        (map (λ w. w.now) words.now) env.now t (S.remaining input.old) (W.contents out.old) (W.contents out.new)) }
     ensures status { result ≤ 2 }
     ensures refused { result ≡ 2 → out.new ≡ out.old }
     ensures unread { result ≡ 2 → (folders.new ≡ folders.old) × (input.new ≡ input.old) }

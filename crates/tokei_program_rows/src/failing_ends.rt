@@ -187,7 +187,14 @@ fn each_read_fails_once(rt: HostRuntime) -> Result<(), Fail> {
 
 /// What the two files make, added to the earlier results.
 const THREE: &str =
-    r#"{"Rust":{"blanks":0,"children":{},"code":3,"comments":1,"inaccurate":false,"reports":[{"name":"src/main.rs","stats":{"blanks":0,"blobs":{},"code":1,"comments":0}},{"name":"src/a.rs","stats":{"blanks":0,"blobs":{},"code":1,"comments":1}},{"name":"src/b.rs","stats":{"blanks":0,"blobs":{},"code":1,"comments":0}}]},"Total":{"blanks":0,"children":{"Rust":[{"name":"src/main.rs","stats":{"blanks":0,"blobs":{},"code":1,"comments":0}},{"name":"src/a.rs","stats":{"blanks":0,"blobs":{},"code":1,"comments":1}},{"name":"src/b.rs","stats":{"blanks":0,"blobs":{},"code":1,"comments":0}}]},"code":3,"comments":1,"inaccurate":false,"reports":[]}}"#;
+    "{\"Rust\":{\"blanks\":0,\"children\":{},\"code\":3,\"comments\":1,\"inaccurate\":false,\
+     \"reports\":[{\"name\":\"src/main.rs\",\"stats\":{\"blanks\":0,\"blobs\":{},\"code\":1,\"comments\":0}},\
+     {\"name\":\"src/a.rs\",\"stats\":{\"blanks\":0,\"blobs\":{},\"code\":1,\"comments\":1}},\
+     {\"name\":\"src/b.rs\",\"stats\":{\"blanks\":0,\"blobs\":{},\"code\":1,\"comments\":0}}]},\
+     \"Total\":{\"blanks\":0,\"children\":{\"Rust\":[{\"name\":\"src/main.rs\",\"stats\":{\"blanks\":0,\
+     \"blobs\":{},\"code\":1,\"comments\":0}},{\"name\":\"src/a.rs\",\"stats\":{\"blanks\":0,\"blobs\":{},\
+     \"code\":1,\"comments\":1}},{\"name\":\"src/b.rs\",\"stats\":{\"blanks\":0,\"blobs\":{},\"code\":1,\
+     \"comments\":0}}]},\"code\":3,\"comments\":1,\"inaccurate\":false,\"reports\":[]}}";
 
 /// Whether a run of the program ends with its output, or with status 1, a beginning of it and one line; where memory runs
 /// out beside that call, that is fine too.

@@ -88,7 +88,11 @@ const NONE: &str =
     r#"{"Total":{"blanks":0,"children":{},"code":0,"comments":0,"inaccurate":false,"reports":[]}}"#;
 
 pub(crate) const ONE: &str =
-    r#"{"Rust":{"blanks":0,"children":{},"code":1,"comments":0,"inaccurate":false,"reports":[{"name":"src/main.rs","stats":{"blanks":0,"blobs":{},"code":1,"comments":0}}]},"Total":{"blanks":0,"children":{"Rust":[{"name":"src/main.rs","stats":{"blanks":0,"blobs":{},"code":1,"comments":0}}]},"code":1,"comments":0,"inaccurate":false,"reports":[]}}"#;
+    "{\"Rust\":{\"blanks\":0,\"children\":{},\"code\":1,\"comments\":0,\"inaccurate\":false,\
+     \"reports\":[{\"name\":\"src/main.rs\",\"stats\":{\"blanks\":0,\"blobs\":{},\"code\":1,\
+     \"comments\":0}}]},\"Total\":{\"blanks\":0,\"children\":{\"Rust\":[{\"name\":\"src/main.rs\",\
+     \"stats\":{\"blanks\":0,\"blobs\":{},\"code\":1,\"comments\":0}}]},\"code\":1,\"comments\":0,\
+     \"inaccurate\":false,\"reports\":[]}}";
 
 const ROWS: [&str; 3] = [
     " Language              Files        Lines         Code     Comments       Blanks\n",
@@ -451,7 +455,9 @@ fn statuses(rt: HostRuntime) -> Result<(), Fail> {
 }
 
 const MOST: &str =
-    r#"{"Rust":{"blanks":0,"children":{},"code":18446744073709551615,"comments":0,"inaccurate":false,"reports":[{"name":"old.rs","stats":{"blanks":0,"blobs":{},"code":18446744073709551615,"comments":0}}]},"Total":0}"#;
+    "{\"Rust\":{\"blanks\":0,\"children\":{},\"code\":18446744073709551615,\"comments\":0,\
+     \"inaccurate\":false,\"reports\":[{\"name\":\"old.rs\",\"stats\":{\"blanks\":0,\"blobs\":{},\
+     \"code\":18446744073709551615,\"comments\":0}}]},\"Total\":0}";
 
 #[test]
 fn a_sum_past_usize(rt: HostRuntime) -> Result<(), Fail> {

@@ -1,0 +1,31 @@
+-- The options are added one after another.
+use Rattle.std.proofs.Common.{◌∷◌, [], Some, refl, codes}
+use Rattle.std.proofs.lemmas.Result.{IfOk-weaker}
+use Rattle.clap.specs.Words.{app_of, new_rule}
+use Rattle.tokei_cli.specs.Options.{default_table, file_options, lettered, repeated, switch, valued}
+use Rattle.tokei_cli.proofs.Building.{IsOption, acting_is, defaulted_is, helped_is, lettered_is, named_is, option_added}
+use Rattle.tokei_cli.proofs.options.with_files.Goals as goal
+
+pub returns : goal.returns
+unfolding file_options
+returns c =
+    let exclude : IsOption (repeated (lettered (codes "e") (valued (codes "exclude")))) c.action-exclude.result =
+    acting_is _ _ c.short.result _ c.action-exclude.ensures
+    (lettered_is (codes "e") _ c.value.result _ c.short.ensures (c.value.ensures.rule, c.value.ensures.local)) in
+    let hidden : IsOption (switch (codes "hidden")) c.flag-hidden.result = (c.flag-hidden.ensures.rule, c.flag-hidden.ensures.local) in
+    let named : IsOption (record (new_rule (codes "file_input")) { long = Some (codes "input") }) c.long.result =
+    named_is _ _ c.new.result _ c.long.ensures (c.new.ensures.rule, c.new.ensures.optional.1) in
+    let short = lettered_is (codes "i") _ c.long.result c.short-2.result c.short-2.ensures named in
+    let earlier : IsOption (record (lettered (codes "i") (valued (codes "file_input"))) { long = Some (codes "input") })
+    c.help-earlier.result =
+    helped_is _ _ c.action.result _ c.help-earlier.ensures (acting_is _ _ c.short-2.result _ c.action.ensures short) in
+    let table : IsOption (record (valued (codes "table")) { defaults = default_table ∷ [] }) c.default_value-table.result =
+    defaulted_is _ _ c.value-2.result _ c.default_value-table.ensures (c.value-2.ensures.rule, c.value-2.ensures.local) in
+    let with_exclude =
+    option_added _ c.action-exclude.result c.args.command c.in_ok-arg.field-0 (app_of c.args.command) exclude c.in_ok-arg.ensures refl in
+    let with_hidden =
+    option_added _ c.flag-hidden.result c.in_ok-arg.field-0 c.in_ok-arg-2.field-0 _ hidden c.in_ok-arg-2.ensures with_exclude in
+    let with_earlier =
+    option_added _ c.help-earlier.result c.in_ok-arg-2.field-0 c.in_ok-arg-3.field-0 _ earlier c.in_ok-arg-3.ensures with_hidden in
+    IfOk-weaker c.arg-4.result _ _
+    (λ r added. option_added _ c.default_value-table.result c.in_ok-arg-3.field-0 r _ table added with_earlier) c.arg-4.ensures
