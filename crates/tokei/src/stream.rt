@@ -136,7 +136,7 @@ fn report_of<F: Folders>(
         Some(language) => language,
         None => return Ok(None),
     };
-    match counting.read(folders, language, file.place.as_str()) {
+    match counting.read(folders, language, file.place.as_str(), true) {
         Ok(stats) => {
             let name = file.path.into_string();
             Ok(Some((language, Report { stats, name })))

@@ -106,6 +106,19 @@ pub trait Folders {
             → memory_faults self.new ≡ counted result (memory_faults self.old) }
         ensures full { StaysFull (memory_faults self.old) (memory_faults self.new) };
 
+    /// The content of a file that a listing or `kind` has just told. Folders that ask the system trust that answer and
+    /// don't ask anew what stands there, so a pipe that is put in the file's place meanwhile is waited for.
+    fn read_listed(&mut self, place: &str) -> Result<Vec<u8>, Fault>
+        ensures told { BytesTell (tree self.old)
+            (λ t. read_answer (node_at t (names_of place.now))) result }
+        ensures same { tree self.new ≡ tree self.old }
+        ensures counts { memory_faults self.old < u64.MAX
+            → memory_faults self.new ≡ counted result (memory_faults self.old) }
+        ensures full { StaysFull (memory_faults self.old) (memory_faults self.new) }
+    {
+        self.read(place)
+    }
+
     /// The first 128 bytes of a file, or all where there are fewer.
     fn head(&mut self, place: &str) -> Result<Vec<u8>, Fault>
         ensures told { BytesTell (tree self.old)

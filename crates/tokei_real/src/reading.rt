@@ -6,6 +6,7 @@ use std::alloc::Global;
 use std::fs::File;
 use std::io::{Error, ErrorKind, Read};
 use std::rt::Files;
+use std::fs::OpenFile;
 use std::{fs, io};
 
 /// How many bytes the head of a file has at most.
@@ -45,6 +46,14 @@ fn length_of_file<R: Files>(rt: &R, place: &str) -> io::Result<usize> {
 pub(crate) fn content<R: Files + AllocGlobal>(rt: &R, place: &str) -> io::Result<Vec<u8>> {
     let length = length_of_file(rt, place)?;
     all_of(rt.alloc(), File::open(rt, place)?, length)
+}
+
+/// The content of the file at a place, of which a listing or a status has told that it is one. Only a change since then
+/// could make the opening wait.
+pub(crate) fn listed_content<R: Files + AllocGlobal>(rt: &R, place: &str) -> io::Result<Vec<u8>> {
+    let file = File::open(rt, place)?;
+    let length = file.metadata()?.len();
+    all_of(rt.alloc(), file, usize::try_from(length).unwrap_or(usize::MAX))
 }
 
 /// The first 128 bytes of the file at a place, or all where there are fewer.

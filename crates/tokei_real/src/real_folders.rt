@@ -4,7 +4,7 @@ ghost use Rattle.tokei_folders.specs.Answers.{counted, StaysFull};
 
 use crate::folders_above::folders_above;
 use crate::listing::{kind_of, listing};
-use crate::reading::{content, head};
+use crate::reading::{content, head, listed_content};
 use std::io::ErrorKind;
 use std::rt::Files;
 use std::{fs, io};
@@ -65,6 +65,11 @@ impl<R: Files + AllocGlobal + Clone + Drop> Folders for RealFolders<R> {
 
     fn read(&mut self, place: &str) -> Result<Vec<u8>, Fault> {
         let bytes = content(&self.rt, place);
+        self.answered(bytes)
+    }
+
+    fn read_listed(&mut self, place: &str) -> Result<Vec<u8>, Fault> {
+        let bytes = listed_content(&self.rt, place);
         self.answered(bytes)
     }
 

@@ -14,8 +14,8 @@ use tokei_count::{CodeStats, CountConfig, Counter, Report, decode_text, parse_fr
 use tokei_table::LanguageType;
 use tokei_walk::{Fault, Folders};
 
-/// The content of the file at a place.
-fn content<F: Folders>(folders: &mut F, place: &str) -> Result<Vec<u8>, Fault>
+/// The content of the file at a place; whether the walk has just listed it.
+fn content<F: Folders>(folders: &mut F, place: &str, listed: bool) -> Result<Vec<u8>, Fault>
     ensures same { F.tree folders.new ≡ F.tree folders.old }
     ensures told { Told (F.tree folders.old) (λ t. IfOk result (λ c.
         content_at t place.now ≡ Some c.items)) }
@@ -24,7 +24,11 @@ fn content<F: Folders>(folders: &mut F, place: &str) -> Result<Vec<u8>, Fault>
     ensures honest { result ≢ Err MemoryFault → F.memory_faults folders.old < u64.MAX
         → F.memory_faults folders.new ≡ F.memory_faults folders.old }
 {
-    folders.read(place)
+    if listed {
+        folders.read_listed(place)
+    } else {
+        folders.read(place)
+    }
 }
 
 /// By what files are counted.
@@ -53,12 +57,14 @@ impl Counting<'_> {
         Ok(parse_from_slice(self.alloc, self.counter, language, &text, &self.config)?)
     }
 
-    /// The statistics of the file at a place, in a language.
+    /// The statistics of the file at a place, in a language. A file that the walk has just listed is opened without being
+    /// asked for once more.
     pub fn read<F: Folders>(
         &self,
         folders: &mut F,
         language: LanguageType,
         place: &str,
+        listed: bool,
     ) -> Result<CodeStats, ParseFault>
         requires { language < length self.now.counter.now }
         ensures same { F.tree folders.new ≡ F.tree folders.old }
@@ -71,7 +77,7 @@ impl Counting<'_> {
         ensures honest { result ≢ Err OutOfMemory → F.memory_faults folders.old < u64.MAX
             → F.memory_faults folders.new ≡ F.memory_faults folders.old }
     {
-        let content = content(folders, place)?;
+        let content = content(folders, place, listed)?;
         self.count(language, content)
     }
 }

@@ -71,7 +71,7 @@ impl Counting<'_> {
             Some(language) => language,
             None => return Ok(()),
         };
-        match self.read(folders, language, file.place.as_str()) {
+        match self.read(folders, language, file.place.as_str(), true) {
             Ok(stats) => {
                 let name = file.path.into_string();
                 languages.add_report(language, Report { stats, name })

@@ -48,7 +48,7 @@ pub fn parse_file<F: Folders>(
         config: config.counting(),
         types: None,
     };
-    match reading.read(folders, language, path.as_str()) {
+    match reading.read(folders, language, path.as_str(), false) {
         Ok(stats) => Ok(Report { stats, name: path }),
         Err(fault) => Err((fault, path)),
     }
