@@ -6,6 +6,9 @@ use Rattle.tokei_count.specs.Items.{Block, Item, Items}
 use Rattle.tokei_count.specs.Items.Item.{one, escaped, passed_over, string_literal, comment, line_comment, child}
 use Rattle.tokei_count.specs.Items.Items.{none, more}
 use Rattle.tokei_count.specs.Derivation.{items_of}
+use Rattle.tokei_count.specs.Openings.{languages_of}
+use Rattle.tokei_count.specs.Steps.{items_in}
+use Rattle.tokei_count.specs.WeightLaws.{HaveTokens}
 
 -- an item with a body spells its opener, its body and, where it is closed, its closer
 unfoldable mutual
@@ -29,3 +32,8 @@ pub record TakesBytes (block : ℕ → List ℕ → Option Block) : Type 0 where
 -- the law: by sound tokens the items of a text spell it, whatever children open
 abbrev pub ItemsSpellText : Type 0
 ItemsSpellText = (r : Row) (block : ℕ → List ℕ → Option Block) (t : List ℕ) → IsSound r → TakesBytes block → spelled (items_of r block t) ≡ t
+
+-- so it is with each text, by a table of which all texts that a count looks for are tokens
+abbrev pub TextsAreSpelled : Type 0
+TextsAreSpelled = (rows : List Row) → HaveTokens rows → (levels language : ℕ) (t : List ℕ)
+    → spelled (items_in (languages_of rows) levels language t) ≡ t

@@ -3,13 +3,18 @@ ghost use Rattle.std.specs.Prelude.{◌<◌, ◌^◌, length};
 ghost use Rattle.tokei_count.specs.GlanceLaw.{PlainPartsStayPlain};
 ghost use Rattle.tokei_count.specs.PartLaw.{UnwalkedPartsStayPlain};
 ghost use Rattle.tokei_count.specs.QuietLaw.{QuietTextsTakeNoSteps};
-ghost use Rattle.tokei_count.specs.Spelling.{ItemsSpellText};
+ghost use Rattle.tokei_count.specs.Spelling.{ItemsSpellText, TextsAreSpelled};
 ghost use Rattle.tokei_count.specs.StepLaw.{OpeningsStepsWork};
 ghost use Rattle.tokei_count.specs.WeightLaws.{LightReadingsFit, LinesWithinWeight, ShortReadingsFit, StepsWithinWeight, WeightIsLength};
 
 /// The items of a text spell it.
 pub fn items_spell_text()
     ensures { ItemsSpellText }
+{}
+
+/// The items of each text spell it, by the blocks of a table's languages.
+pub fn texts_are_spelled()
+    ensures { TextsAreSpelled }
 {}
 
 /// A part that begins plain and holds no opener ends plain, and no child opens in it.
