@@ -1,4 +1,6 @@
+-- Lemmas of this crate.
 pub mod Characters
 pub mod KeyOrder
 pub mod Pairs
+pub mod RowKinds
 pub mod RowParts

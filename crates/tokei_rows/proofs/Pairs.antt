@@ -6,12 +6,14 @@ use Rattle.tokei_rows.specs.Layout.{are_two_texts}
 use Rattle.tokei_syntax.specs.Row.{Pair}
 use Rattle.tokei_rows.specs.Rows.{two_texts, no_pair}
 
-pub too_few : (vs : List Value) → length vs < 2 → (are_two_texts (items_view vs) ≡ false) × (two_texts (items_view vs) ≡ no_pair)
+pub too_few : (vs : List Value) → length vs < 2
+    → (are_two_texts (items_view vs) ≡ false) × (two_texts (items_view vs) ≡ no_pair)
 too_few [] h = (refl, refl)
 too_few (v ∷ []) h = (refl, refl)
 too_few (v ∷ w ∷ vs) h = absurd (omega (arith, h))
 
-pub too_many : (vs : List Value) → 3 ≤ length vs → (are_two_texts (items_view vs) ≡ false) × (two_texts (items_view vs) ≡ no_pair)
+pub too_many : (vs : List Value) → 3 ≤ length vs
+    → (are_two_texts (items_view vs) ≡ false) × (two_texts (items_view vs) ≡ no_pair)
 too_many [] h = absurd (omega (arith, h))
 too_many (v ∷ []) h = absurd (omega (arith, h))
 too_many (v ∷ w ∷ []) h = absurd (omega (arith, h))

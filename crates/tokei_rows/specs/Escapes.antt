@@ -1,17 +1,50 @@
 -- Escapes in the texts of a table, by their characters: those of a string literal in Rust source.
-use Rattle.std.specs.Prelude.{ℕ, ◌==◌, ◌&&◌, List, [], ◌∷◌, Bool, true, false, Option, Some, None, is_some, unwrap_or, if◌then◌else◌, encode_utf8_all}
+use Rattle.std.specs.Prelude.{ℕ, ◌==◌, ◌&&◌, List, [], ◌∷◌, Bool, true, false, if◌then◌else◌, encode_utf8_all}
+use Rattle.std.specs.Prelude.{Option, Some, None, is_some, unwrap_or}
 use Rattle.std.specs.Str.{chars}
+use Rattle.tokei_syntax.specs.Bytes.{tab, newline, carriage_return}
 
--- What a character behind a backslash stands for: a backslash, a quote mark, `'`, or the letters t, r, n and 0.
+abbrev pub nul : ℕ
+nul = 0
+
+abbrev pub quote_mark : ℕ
+quote_mark = 34
+
+abbrev pub apostrophe : ℕ
+apostrophe = 39
+
+abbrev pub digit_0 : ℕ
+digit_0 = 48
+
+abbrev pub backslash : ℕ
+backslash = 92
+
+abbrev pub letter_n : ℕ
+letter_n = 110
+
+abbrev pub letter_r : ℕ
+letter_r = 114
+
+abbrev pub letter_t : ℕ
+letter_t = 116
+
+-- What a character behind a backslash stands for.
 abbrev pub escape_value : ℕ → Option ℕ
 escape_value c =
-    if c == 92 then Some 92 else (if c == 34 then Some 34 else (if c == 39 then Some 39 else (if c == 116 then Some 9 else (if c == 114 then Some 13 else (if c == 110 then Some 10 else (if c == 48 then Some 0 else None))))))
+    if c == backslash then Some backslash
+    else (if c == quote_mark then Some quote_mark
+    else (if c == apostrophe then Some apostrophe
+    else (if c == letter_t then Some tab
+    else (if c == letter_r then Some carriage_return
+    else (if c == letter_n then Some newline
+    else (if c == digit_0 then Some nul
+    else None))))))
 
 -- Whether each backslash begins an escape; `is_escape` asks it of the characters behind a backslash.
 abbrev mutual
   pub is_escaped : List ℕ → Bool
   is_escaped [] = true
-  is_escaped (c ∷ cs) = if c == 92 then is_escape cs else is_escaped cs
+  is_escaped (c ∷ cs) = if c == backslash then is_escape cs else is_escaped cs
 
   pub is_escape : List ℕ → Bool
   is_escape [] = false
@@ -21,7 +54,7 @@ abbrev mutual
 abbrev mutual
   pub unescaped : List ℕ → List ℕ
   unescaped [] = []
-  unescaped (c ∷ cs) = if c == 92 then after_backslash cs else c ∷ unescaped cs
+  unescaped (c ∷ cs) = if c == backslash then after_backslash cs else c ∷ unescaped cs
 
   pub after_backslash : List ℕ → List ℕ
   after_backslash [] = []

@@ -1,8 +1,9 @@
 -- The layout of a table: which JSON values stand where.
-use Rattle.std.specs.Prelude.{Bool, true, false, ◌&&◌, ◌||◌, not, Option, Some, None, is_some, codes, bytes_eq}
+use Rattle.std.specs.Prelude.{Bool, true, false, ◌&&◌, ◌||◌, not, Option, Some, None, is_some, codes}
 use Rattle.serde_json.specs.Data.{Data, string, array, object, Items, no_items, item, Members, no_members, member}
 use Rattle.serde_json.specs.Find.{get, as_str, as_bool}
 use Rattle.serde_json.specs.Written.{has_float}
+use Rattle.tokei_syntax.specs.Row.{is_html_text}
 
 -- A member may be left out; where it stands, its value passes the test.
 abbrev pub absent_or : (Data → Bool) → Option Data → Bool
@@ -49,7 +50,7 @@ is_text_pair d = false
 
 -- The kind of a language is `html`.
 abbrev pub is_html_kind : Option Data → Bool
-is_html_kind (Some (string t)) = bytes_eq t (codes "html")
+is_html_kind (Some (string t)) = is_html_text t
 is_html_kind d = false
 
 -- A context is an object; in a language of kind `html` it has a text `tag`.

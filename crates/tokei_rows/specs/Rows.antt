@@ -1,7 +1,8 @@
--- The rows of a table that has its layout and but the known escapes: each member as it stands there, texts after
--- escapes; a member that is left out is empty or false.
+-- The rows of a table that has its layout and but the known escapes: each member as it stands there, texts other than
+-- keys and kinds after escapes; a member that is left out is empty or false.
 use Rattle.std.specs.Prelude.{ℕ, Bool, true, false, List, [], ◌∷◌, Option, Some, None, codes}
-use Rattle.serde_json.specs.Data.{Data, boolean, string, array, object, Items, no_items, item, Members, no_members, member}
+use Rattle.serde_json.specs.Data.{Data, boolean, string, array, object, Items, no_items, item, Members, no_members}
+use Rattle.serde_json.specs.Data.{member}
 use Rattle.serde_json.specs.Find.{get}
 use Rattle.tokei_rows.specs.Escapes.{unescaped_text}
 use Rattle.tokei_rows.specs.Layout.{is_html_kind}
@@ -16,6 +17,11 @@ text_of d = []
 abbrev pub text_at : Option Data → List ℕ
 text_at None = []
 text_at (Some d) = text_of d
+
+-- The text of the member `kind` as it stands there, for it has no escapes; empty where it is left out.
+abbrev pub kind_at : Option Data → List ℕ
+kind_at (Some (string t)) = t
+kind_at d = []
 
 -- The texts of a list, in its order.
 abbrev pub texts_of : Items → List (List ℕ)
@@ -76,7 +82,7 @@ unfoldable pub row_in : List ℕ → Data → Row
 row_in key d = record {
   key = key;
   name = name_or key (text_at (get (codes "name") d));
-  html = is_html_kind (get (codes "kind") d);
+  kind = kind_at (get (codes "kind") d);
   line_comment = texts_at (get (codes "line_comment") d);
   multi_line_comments = pairs_at (get (codes "multi_line_comments") d);
   nested = truth_at (get (codes "nested") d);

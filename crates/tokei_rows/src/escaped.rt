@@ -2,7 +2,10 @@
 ghost use Rattle.std.specs.Prelude.{◌≡◌, option_map};
 ghost use Rattle.serde_json.specs.View.{view, items_view, members_view};
 ghost use Rattle.tokei_rows.specs.Layout.{absent_or, all_items};
-ghost use Rattle.tokei_rows.specs.Escaped.{is_escaped_value, is_escaped_list, are_escaped_pairs, is_escaped_context, are_escaped_contexts, has_escaped_tokens, has_escaped_finders, has_escaped_traits, is_escaped_language, are_escaped_languages, is_escaped_table};
+ghost use Rattle.tokei_rows.specs.Escaped.{is_escaped_value, is_escaped_list, are_escaped_pairs, is_escaped_context};
+ghost use Rattle.tokei_rows.specs.Escaped.{are_escaped_contexts, has_escaped_tokens, has_escaped_finders};
+ghost use Rattle.tokei_rows.specs.Escaped.{has_escaped_traits, is_escaped_language, are_escaped_languages};
+ghost use Rattle.tokei_rows.specs.Escaped.{is_escaped_table};
 
 use crate::escapes::is_escaped;
 use crate::layout::is_html_kind;

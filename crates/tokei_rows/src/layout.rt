@@ -1,8 +1,11 @@
 //! The layout of a table: which JSON values stand where.
 ghost use Rattle.std.specs.Prelude.{◌≡◌, option_map, codes};
 ghost use Rattle.serde_json.specs.View.{view, items_view, members_view};
-ghost use Rattle.serde_json.specs.Written.{has_float as data_has_float, items_have_float as data_items_have_float, members_have_float as data_members_have_float};
-ghost use Rattle.tokei_rows.specs.Layout.{absent_or, is_text, is_truth_value, all_items, is_list, are_two_texts, is_text_pair, is_html_kind, is_context, has_comments, has_literals, has_finders, has_traits, is_language, are_languages, has_layout};
+ghost use Rattle.serde_json.specs.Written.{has_float as data_has_float, items_have_float as data_items_have_float};
+ghost use Rattle.serde_json.specs.Written.{members_have_float as data_members_have_float};
+ghost use Rattle.tokei_rows.specs.Layout.{absent_or, is_text, is_truth_value, all_items, is_list, are_two_texts};
+ghost use Rattle.tokei_rows.specs.Layout.{is_text_pair, is_html_kind, is_context, has_comments, has_literals};
+ghost use Rattle.tokei_rows.specs.Layout.{has_finders, has_traits, is_language, are_languages, has_layout};
 
 use serde_json::{Map, Value};
 

@@ -1,9 +1,10 @@
-//! The rows of languages that a JSON value holds: whether it has the layout of a table, whether its texts have but the known
-//! escapes, and then its rows.
+//! The rows of languages that a JSON value holds: whether it has the layout of a table, whether its texts have but the
+//! known escapes, and then its rows.
 #![tactic(auto)]
 
 pub mod escaped;
 mod escapes;
+pub mod laws;
 pub mod layout;
 pub mod rows;
 

@@ -3,7 +3,9 @@ ghost use Rattle.std.specs.Prelude.{◌≡◌, option_map, map, IfOk, string_byt
 ghost use Rattle.serde_json.specs.View.{view, items_view, members_view};
 ghost use Rattle.tokei_syntax.specs.RowOf.{pair_of, pairs_of, tokens_of, row_of};
 ghost use Rattle.tokei_rows.specs.KeyOrder.{IsInKeyOrder};
-ghost use Rattle.tokei_rows.specs.Rows.{text_of, text_at, texts_of, texts_at, two_texts, pair_in, pairs_in, pairs_at, truth_at, tags_in, tags_at, name_or, row_in, rows_in, rows_at};
+ghost use Rattle.tokei_rows.specs.Rows.{text_of, text_at, kind_at, texts_of, texts_at, name_or};
+ghost use Rattle.tokei_rows.specs.Rows.{two_texts, pair_in, pairs_in, pairs_at, truth_at, tags_in, tags_at};
+ghost use Rattle.tokei_rows.specs.Rows.{row_in, rows_in, rows_at};
 
 use crate::escapes::unescaped;
 use crate::layout::is_html_kind;
@@ -26,6 +28,15 @@ fn text_at(alloc: Global, member: Option<&Value>) -> Result<String, AllocError>
     match member {
         None => Ok(String::new(alloc)),
         Some(value) => text(alloc, value),
+    }
+}
+
+fn kind_at(alloc: Global, member: Option<&Value>) -> Result<String, AllocError>
+    ensures { IfOk result (λ s. string_bytes s ≡ kind_at (option_map (λ v. view v.now) member.entry)) }
+{
+    match member {
+        Some(Value::String(kind)) => String::from_str(alloc, kind.as_str()),
+        _ => Ok(String::new(alloc)),
     }
 }
 
@@ -135,7 +146,7 @@ fn row(alloc: Global, key: &str, value: &Value) -> Result<Syntax, AllocError>
     Ok(Syntax {
         key: String::from_str(alloc, key)?,
         name: name_or(alloc, key, name)?,
-        html,
+        kind: kind_at(alloc, value.get("kind"))?,
         line_comment: texts_at(alloc, value.get("line_comment"))?,
         multi_line_comments: pairs_at(alloc, value.get("multi_line_comments"))?,
         nested: truth_at(value.get("nested")),

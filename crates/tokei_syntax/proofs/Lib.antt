@@ -1,3 +1,4 @@
+-- Lemmas on searches, trims and groups of openers.
 pub mod Finds
 pub mod FirstBytes
 pub mod FirstPlaces

@@ -1,5 +1,7 @@
 -- Which openers can stand at the front of a text: by its first byte those of a group, by its second one fewer.
-use Rattle.std.proofs.Common.{◌≡◌, ℕ, suc, zero, ◌+◌, ◌-◌, ◌<◌, ◌≤◌, Bool, true, false, ◌&&◌, ◌||◌, ◌==◌, cond, nat_eq, List, [], ◌∷◌, length, take, drop, get_or, None, Some, refl, sym, ◌∙◌, ap, subst, arith, inl, inr}
+use Rattle.std.proofs.Common.{◌≡◌, ℕ, suc, zero, ◌+◌, ◌-◌, ◌<◌, ◌≤◌, Bool, true, false, ◌&&◌, ◌||◌, ◌==◌, cond}
+use Rattle.std.proofs.Common.{nat_eq, List, [], ◌∷◌, length, take, drop, get_or, None, Some, refl, sym, ◌∙◌, ap}
+use Rattle.std.proofs.Common.{subst, arith, inl, inr}
 use Rattle.std.specs.List.{list_any, list_all}
 use Rattle.std.proofs.lemmas.Bool.Decides.{Decides-eqb}
 use Rattle.std.proofs.lemmas.Bool.{cases_lt}
@@ -7,7 +9,8 @@ use Rattle.std.proofs.lemmas.List.{get_or_default, get_or-map, drop_all}
 use Rattle.memchr.specs.Find.{IsFirstByte}
 use Rattle.tokei_syntax.proofs.FirstBytes.{part_reads, part_len}
 use Rattle.tokei_syntax.specs.Bytes.{begins}
-use Rattle.tokei_syntax.specs.FirstOpener.{is_nonempty, is_first_of, is_first, has_byte}
+use Rattle.tokei_syntax.specs.FirstOpener.{is_nonempty, is_first_of, is_first}
+use Rattle.tokei_bytes.specs.OneOf.{is_one_of}
 use Rattle.tokei_syntax.specs.OpenerGroups.{with_first, goes_on_with, HasFlags, IsIndexOf, is_whole_with}
 use Rattle.tokei_syntax.specs.Bytes.{begins_with_one}
 
@@ -42,7 +45,8 @@ pub and_right : (a b : Bool) → (a && b) ≡ true → b ≡ true
 and_right true b h = h
 and_right false b h = cc
 
-pub starts_first : (os : List (List ℕ)) (b : ℕ) (t : List ℕ) → list_all is_nonempty os ≡ true → begins_with_one os (b ∷ t) ≡ true → is_first os b ≡ true
+pub starts_first : (os : List (List ℕ)) (b : ℕ) (t : List ℕ) → list_all is_nonempty os ≡ true
+    → begins_with_one os (b ∷ t) ≡ true → is_first os b ≡ true
 unfolding begins_with_one is_first
 starts_first [] b t all h = h
 starts_first (o ∷ os) b t all h =
@@ -65,14 +69,16 @@ other_second [] x y t h = absurd (cc)
 other_second (a ∷ []) x y t h = absurd (cc)
 other_second (a ∷ b ∷ o) x y t h = and_false (nat_eq a x) (nat_eq b y) (begins o t) h
 
-no_second : (os : List (List ℕ)) (x y : ℕ) (t : List ℕ) → list_any (goes_on_with y) os ≡ false → begins_with_one os (x ∷ y ∷ t) ≡ false
+no_second : (os : List (List ℕ)) (x y : ℕ) (t : List ℕ) → list_any (goes_on_with y) os ≡ false
+    → begins_with_one os (x ∷ y ∷ t) ≡ false
 unfolding begins_with_one
 no_second [] x y t h = refl
 no_second (o ∷ os) x y t h =
     let p = or_parts (goes_on_with y o) (list_any (goes_on_with y) os) h in
     ap (λ b. b || begins_with_one os (x ∷ y ∷ t)) (other_second o x y t p.0) ∙ no_second os x y t p.1
 
-pub second_apart : (os : List (List ℕ)) (t : List ℕ) (n : ℕ) → n + 1 < length t → list_any (goes_on_with (get_or t (n + 1) 0)) os ≡ false → begins_with_one os (drop n t) ≡ false
+pub second_apart : (os : List (List ℕ)) (t : List ℕ) (n : ℕ) → n + 1 < length t
+    → list_any (goes_on_with (get_or t (n + 1) 0)) os ≡ false → begins_with_one os (drop n t) ≡ false
 second_apart os [] n l h = absurd (omega (arith, l))
 second_apart os (x ∷ []) n l h = absurd (omega (arith, l))
 second_apart os (x ∷ y ∷ t) zero l h = no_second os x y t h
@@ -88,13 +94,15 @@ both false b e f = e
 turned : (x a : ℕ) → (x == a) ≡ true → nat_eq a x ≡ true
 turned x a e = (Decides-eqb a x).1 (sym ((Decides-eqb x a).0 e))
 
-whole_one : (o : List ℕ) (x y : ℕ) (t : List ℕ) → is_first_of x o ≡ true → is_whole_with y o ≡ true → begins o (x ∷ y ∷ t) ≡ true
+whole_one : (o : List ℕ) (x y : ℕ) (t : List ℕ) → is_first_of x o ≡ true → is_whole_with y o ≡ true
+    → begins o (x ∷ y ∷ t) ≡ true
 whole_one [] x y t f h = absurd (cc)
 whole_one (a ∷ []) x y t f h = both (nat_eq a x) true (turned x a f) refl
 whole_one (a ∷ b ∷ []) x y t f h = both (nat_eq a x) (nat_eq b y && true) (turned x a f) (both (nat_eq b y) true h refl)
 whole_one (a ∷ b ∷ c ∷ o) x y t f h = absurd (cc)
 
-whole : (os : List (List ℕ)) (x y : ℕ) (t : List ℕ) → list_all (is_first_of x) os ≡ true → list_any (is_whole_with y) os ≡ true → begins_with_one os (x ∷ y ∷ t) ≡ true
+whole : (os : List (List ℕ)) (x y : ℕ) (t : List ℕ) → list_all (is_first_of x) os ≡ true
+    → list_any (is_whole_with y) os ≡ true → begins_with_one os (x ∷ y ∷ t) ≡ true
 unfolding begins_with_one
 whole [] x y t f h = h
 whole (o ∷ os) x y t f h =
@@ -103,7 +111,9 @@ whole (o ∷ os) x y t f h =
     (whole os x y t (and_right (is_first_of x o) (list_all (is_first_of x) os) f))
     h
 
-pub whole_at : (os : List (List ℕ)) (t : List ℕ) (n : ℕ) → n + 1 < length t → list_all (is_first_of (get_or t n 0)) os ≡ true → list_any (is_whole_with (get_or t (n + 1) 0)) os ≡ true → begins_with_one os (drop n t) ≡ true
+pub whole_at : (os : List (List ℕ)) (t : List ℕ) (n : ℕ) → n + 1 < length t
+    → list_all (is_first_of (get_or t n 0)) os ≡ true → list_any (is_whole_with (get_or t (n + 1) 0)) os ≡ true
+    → begins_with_one os (drop n t) ≡ true
 whole_at os [] n l f h = absurd (omega (arith, l))
 whole_at os (x ∷ []) n l f h = absurd (omega (arith, l))
 whole_at os (x ∷ y ∷ t) zero l f h = whole os x y t f h
@@ -112,13 +122,15 @@ whole_at os (x ∷ y ∷ t) (suc n) l f h =
     whole_at os (y ∷ t) n (omega (arith, l)) f (ap (λ k. list_any (is_whole_with (get_or (x ∷ y ∷ t) k 0)) os) at ∙ h)
 
 -- what a byte's flag tells
-pub flag_is : (test : ℕ → List ℕ → Bool) (os : List (List ℕ)) (flags : List Bool) → HasFlags test os flags → (y : ℕ) → y < 256 → (d : Bool) → get_or flags y d ≡ list_any (test y) os
+pub flag_is : (test : ℕ → List ℕ → Bool) (os : List (List ℕ)) (flags : List Bool) → HasFlags test os flags → (y : ℕ)
+    → y < 256 → (d : Bool) → get_or flags y d ≡ list_any (test y) os
 flag_is test os flags s y r d =
     let inside : y < length flags = omega (arith, r, s.all) in
     sym (get_or_default flags y false d inside) ∙ s.each y r
 
 -- the group of the text's first byte has all openers that can stand at its front
-pub in_group : (os : List (List ℕ)) (x : ℕ) (t : List ℕ) → list_all is_nonempty os ≡ true → begins_with_one (with_first x os) (x ∷ t) ≡ begins_with_one os (x ∷ t)
+pub in_group : (os : List (List ℕ)) (x : ℕ) (t : List ℕ) → list_all is_nonempty os ≡ true
+    → begins_with_one (with_first x os) (x ∷ t) ≡ begins_with_one os (x ∷ t)
 unfolding begins_with_one
 in_group [] x t all = refl
 in_group (o ∷ os) x t all =
@@ -127,63 +139,86 @@ in_group (o ∷ os) x t all =
     clash : is_first_of x o ≡ false → is_first_of x o ≡ true → ⊥
     clash e f = absurd (cc)
 
-    by : (b : Bool) → is_first_of x o ≡ b → begins_with_one (with_first x os) (x ∷ t) ≡ begins_with_one os (x ∷ t) → begins_with_one (cond b (o ∷ with_first x os) (with_first x os)) (x ∷ t) ≡ (begins o (x ∷ t) || begins_with_one os (x ∷ t))
+    by : (b : Bool) → is_first_of x o ≡ b → begins_with_one (with_first x os) (x ∷ t) ≡ begins_with_one os (x ∷ t)
+        → begins_with_one (cond b (o ∷ with_first x os) (with_first x os)) (x ∷ t)
+        ≡ (begins o (x ∷ t) || begins_with_one os (x ∷ t))
     by true e rest = ap (λ r. begins o (x ∷ t) || r) rest
-    by false e rest = rest ∙ sym (ap (λ b. b || begins_with_one os (x ∷ t)) (not_true (begins o (x ∷ t)) (λ h. clash e (begins_first o t x (and_left (is_nonempty o) (list_all is_nonempty os) all) h))))
+    by false e rest =
+        rest ∙ sym (ap (λ b. b || begins_with_one os (x ∷ t))
+        (not_true (begins o (x ∷ t)) (λ h. clash e
+        (begins_first o t x (and_left (is_nonempty o) (list_all is_nonempty os) all) h))))
 
 all_first : (os : List (List ℕ)) (x : ℕ) → list_all (is_first_of x) (with_first x os) ≡ true
 all_first [] x = refl
 all_first (o ∷ os) x = by (is_first_of x o) refl (all_first os x)
   where
-    by : (b : Bool) → is_first_of x o ≡ b → list_all (is_first_of x) (with_first x os) ≡ true → list_all (is_first_of x) (cond b (o ∷ with_first x os) (with_first x os)) ≡ true
+    by : (b : Bool) → is_first_of x o ≡ b → list_all (is_first_of x) (with_first x os) ≡ true
+        → list_all (is_first_of x) (cond b (o ∷ with_first x os) (with_first x os)) ≡ true
     by true e rest = ap (λ y. y && list_all (is_first_of x) (with_first x os)) e ∙ rest
     by false e rest = rest
 
 -- what the search asks of a group
 module _ (os : List (List ℕ)) (firsts : List ℕ) (groups : List (List (List ℕ))) (x : IsIndexOf os firsts groups) where
-  pub apart : (b : ℕ) (t : List ℕ) → (has_byte firsts b ≡ true → ⊥) → begins_with_one os (b ∷ t) ≡ false
+  pub apart : (b : ℕ) (t : List ℕ) → (is_one_of firsts b ≡ true → ⊥) → begins_with_one os (b ∷ t) ≡ false
   apart b t none = not_true (begins_with_one os (b ∷ t)) (λ h. none (x.firsts_are b ∙ starts_first os b t x.nonempty h))
 
-  pub apart_at : (t : List ℕ) (n : ℕ) → n < length t → (has_byte firsts (get_or t n 0) ≡ true → ⊥) → begins_with_one os (drop n t) ≡ false
+  pub apart_at : (t : List ℕ) (n : ℕ) → n < length t → (is_one_of firsts (get_or t n 0) ≡ true → ⊥)
+      → begins_with_one os (drop n t) ≡ false
   apart_at [] n l none = absurd (omega (arith, l))
   apart_at (b ∷ t) zero l none = apart b t none
   apart_at (b ∷ t) (suc n) l none = apart_at t n (omega (arith, l)) none
 
-  pub of_group : (i : ℕ) (d : List (List ℕ)) → i < length firsts → (t : List ℕ) → begins_with_one (get_or groups i d) (get_or firsts i 0 ∷ t) ≡ begins_with_one os (get_or firsts i 0 ∷ t)
+  pub of_group : (i : ℕ) (d : List (List ℕ)) → i < length firsts → (t : List ℕ)
+      → begins_with_one (get_or groups i d) (get_or firsts i 0 ∷ t) ≡ begins_with_one os (get_or firsts i 0 ∷ t)
   of_group i d l t =
-      ap (λ g. begins_with_one g (get_or firsts i 0 ∷ t)) (ap (λ gs. get_or gs i d) x.grouped ∙ get_or-map (λ y. with_first y os) firsts i 0 d l)
+      ap (λ g. begins_with_one g (get_or firsts i 0 ∷ t))
+      (ap (λ gs. get_or gs i d) x.grouped ∙ get_or-map (λ y. with_first y os) firsts i 0 d l)
       ∙ in_group os (get_or firsts i 0) t x.nonempty
 
-  pub first_of_group : (i : ℕ) (d : List (List ℕ)) → i < length firsts → list_all (is_first_of (get_or firsts i 0)) (get_or groups i d) ≡ true
+  pub first_of_group : (i : ℕ) (d : List (List ℕ)) → i < length firsts
+      → list_all (is_first_of (get_or firsts i 0)) (get_or groups i d) ≡ true
   first_of_group i d l =
-      ap (list_all (is_first_of (get_or firsts i 0))) (ap (λ gs. get_or gs i d) x.grouped ∙ get_or-map (λ y. with_first y os) firsts i 0 d l)
+      ap (list_all (is_first_of (get_or firsts i 0)))
+      (ap (λ gs. get_or gs i d) x.grouped ∙ get_or-map (λ y. with_first y os) firsts i 0 d l)
       ∙ all_first os (get_or firsts i 0)
 
   -- from a place on, up to the next first byte of an opener
-  pub none_passed : (t : List ℕ) (i j : ℕ) → j ≤ length t → ((k : ℕ) → i ≤ k → k < j → has_byte firsts (get_or t k 0) ≡ false) → (k : ℕ) → i ≤ k → k < j → begins_with_one os (drop k t) ≡ false
-  none_passed t i j l f k a h = apart_at t k (omega (arith, l, h)) (clash (has_byte firsts (get_or t k 0)) (f k a h))
+  pub none_passed : (t : List ℕ) (i j : ℕ) → j ≤ length t
+      → ((k : ℕ) → i ≤ k → k < j → is_one_of firsts (get_or t k 0) ≡ false) → (k : ℕ) → i ≤ k → k < j
+      → begins_with_one os (drop k t) ≡ false
+  none_passed t i j l f k a h = apart_at t k (omega (arith, l, h)) (clash (is_one_of firsts (get_or t k 0)) (f k a h))
     where
       clash : (b : Bool) → b ≡ false → b ≡ true → ⊥
       clash b e y = absurd (cc)
 
 -- the first byte that passes a test in the rest of a text, from a place on
 module _ (p : ℕ → Bool) (t : List ℕ) (i : ℕ) (l : i ≤ length t) where
-  unhit : (n : ℕ) → i + n ≤ length t → ((j : ℕ) → j < n → p (get_or (take (length t - i) (drop i t)) j 0) ≡ true → ⊥) → (k : ℕ) → i ≤ k → k < i + n → p (get_or t k 0) ≡ false
-  unhit n fits f k a h = not_true (p (get_or t k 0)) (λ y. f (k - i) (omega (arith, a, h)) (ap p (part_reads t i (length t - i) k a (omega (arith, h, fits))) ∙ y))
+  unhit : (n : ℕ) → i + n ≤ length t → ((j : ℕ) → j < n → p (get_or (take (length t - i) (drop i t)) j 0) ≡ true → ⊥)
+      → (k : ℕ) → i ≤ k → k < i + n → p (get_or t k 0) ≡ false
+  unhit n fits f k a h =
+      not_true (p (get_or t k 0)) (λ y. f (k - i) (omega (arith, a, h))
+      (ap p (part_reads t i (length t - i) k a (omega (arith, h, fits))) ∙ y))
 
   pub hit_inside : (n : ℕ) → IsFirstByte p (take (length t - i) (drop i t)) (Some n) → i + n < length t
   hit_inside n f = omega (arith, l, f.0.high, part_len t i (length t) (omega arith))
 
-  pub before_hit : (n : ℕ) → IsFirstByte p (take (length t - i) (drop i t)) (Some n) → (k : ℕ) → i ≤ k → k < i + n → p (get_or t k 0) ≡ false
+  pub before_hit : (n : ℕ) → IsFirstByte p (take (length t - i) (drop i t)) (Some n) → (k : ℕ) → i ≤ k → k < i + n
+      → p (get_or t k 0) ≡ false
   before_hit n f = unhit n (omega (arith, hit_inside n f)) (λ j a. f.0.before j (omega arith) a)
 
-  pub without_hit : IsFirstByte p (take (length t - i) (drop i t)) None → (k : ℕ) → i ≤ k → k < length t → p (get_or t k 0) ≡ false
-  without_hit f k a h = unhit (length t - i) (omega (arith, l)) (λ j m. f j (omega arith) (omega (arith, m, part_len t i (length t) (omega arith)))) k a (omega (arith, l, h))
+  pub without_hit : IsFirstByte p (take (length t - i) (drop i t)) None → (k : ℕ) → i ≤ k → k < length t
+      → p (get_or t k 0) ≡ false
+  without_hit f k a h =
+      unhit (length t - i) (omega (arith, l))
+      (λ j m. f j (omega arith) (omega (arith, m, part_len t i (length t) (omega arith)))) k a (omega (arith, l, h))
 
 -- where a group has all openers with a byte, they stand where it does at a place with that byte
-pub group_at : (g os : List (List ℕ)) (x : ℕ) → ((s : List ℕ) → begins_with_one g (x ∷ s) ≡ begins_with_one os (x ∷ s)) → (t : List ℕ) (n : ℕ) → n < length t → get_or t n 0 ≡ x → begins_with_one g (drop n t) ≡ begins_with_one os (drop n t)
+pub group_at : (g os : List (List ℕ)) (x : ℕ) → ((s : List ℕ) → begins_with_one g (x ∷ s) ≡ begins_with_one os (x ∷ s))
+    → (t : List ℕ) (n : ℕ) → n < length t → get_or t n 0 ≡ x
+    → begins_with_one g (drop n t) ≡ begins_with_one os (drop n t)
 group_at g os x same [] n l e = absurd (omega (arith, l))
-group_at g os x same (b ∷ t) zero l e = ap (λ y. begins_with_one g (y ∷ t)) e ∙ same t ∙ sym (ap (λ y. begins_with_one os (y ∷ t)) e)
+group_at g os x same (b ∷ t) zero l e =
+    ap (λ y. begins_with_one g (y ∷ t)) e ∙ same t ∙ sym (ap (λ y. begins_with_one os (y ∷ t)) e)
 group_at g os x same (b ∷ t) (suc n) l e = group_at g os x same t n (omega (arith, l)) e
 
 -- up to a place, and at it
@@ -194,14 +229,20 @@ one_more P i j f here k a h = elim (cases_lt k j) [
 ]
 
 -- up to a place and from it on
-pub none_up_to : (os : List (List ℕ)) (t : List ℕ) (i j : ℕ) → ((k : ℕ) → k < i → begins_with_one os (drop k t) ≡ false) → ((k : ℕ) → i ≤ k → k < j → begins_with_one os (drop k t) ≡ false) → (k : ℕ) → k < j → begins_with_one os (drop k t) ≡ false
+pub none_up_to : (os : List (List ℕ)) (t : List ℕ) (i j : ℕ)
+    → ((k : ℕ) → k < i → begins_with_one os (drop k t) ≡ false)
+    → ((k : ℕ) → i ≤ k → k < j → begins_with_one os (drop k t) ≡ false) → (k : ℕ) → k < j
+    → begins_with_one os (drop k t) ≡ false
 none_up_to os t i j f g k h = elim (cases_lt k i) [
   | inl a ↦ f k a
   | inr a ↦ g k a h
 ]
 
 -- at a place, and behind it
-pub none_behind : (os : List (List ℕ)) (t : List ℕ) (i j : ℕ) → ((k : ℕ) → k < i → begins_with_one os (drop k t) ≡ false) → begins_with_one os (drop i t) ≡ false → ((k : ℕ) → i + 1 ≤ k → k < j → begins_with_one os (drop k t) ≡ false) → (k : ℕ) → k < j → begins_with_one os (drop k t) ≡ false
+pub none_behind : (os : List (List ℕ)) (t : List ℕ) (i j : ℕ)
+    → ((k : ℕ) → k < i → begins_with_one os (drop k t) ≡ false) → begins_with_one os (drop i t) ≡ false
+    → ((k : ℕ) → i + 1 ≤ k → k < j → begins_with_one os (drop k t) ≡ false) → (k : ℕ) → k < j
+    → begins_with_one os (drop k t) ≡ false
 none_behind os t i j before here behind = none_up_to os t (i + 1) j upto behind
   where
     upto : (k : ℕ) → k < i + 1 → begins_with_one os (drop k t) ≡ false
@@ -211,8 +252,9 @@ none_behind os t i j before here behind = none_up_to os t (i + 1) j upto behind
     ]
 
 -- a byte that was sought in a whole list
-pub no_byte : (bs : List ℕ) (i x : ℕ) → length bs ≤ i → has_byte (drop i bs) x ≡ has_byte bs x → has_byte bs x ≡ true → ⊥
-no_byte bs i x l e y = clash (sym (ap (λ s. has_byte s x) (drop_all i bs l)) ∙ e ∙ y)
+pub no_byte : (bs : List ℕ) (i x : ℕ) → length bs ≤ i → is_one_of (drop i bs) x ≡ is_one_of bs x
+    → is_one_of bs x ≡ true → ⊥
+no_byte bs i x l e y = clash (sym (ap (λ s. is_one_of s x) (drop_all i bs l)) ∙ e ∙ y)
   where
     clash : false ≡ true → ⊥
     clash h = absurd (cc)

@@ -1,5 +1,6 @@
 -- Blanks at the end of a text.
-use Rattle.std.proofs.Common.{◌≡◌, ℕ, suc, ◌-◌, ◌<◌, Bool, true, false, ◌&&◌, cond, List, [], ◌∷◌, length, take, get_or, refl, sym, ◌∙◌, ap, arith}
+use Rattle.std.proofs.Common.{◌≡◌, ℕ, suc, ◌-◌, ◌<◌, Bool, true, false, ◌&&◌, cond, List, [], ◌∷◌, length, take}
+use Rattle.std.proofs.Common.{get_or, refl, sym, ◌∙◌, ap, arith}
 use Rattle.tokei_syntax.specs.Bytes.{is_blank, all_blank, trim_end}
 
 last : List ℕ → ℕ
@@ -61,7 +62,8 @@ trim_stops b [] h = ap (λ x. cond (x && true) [] (b ∷ [])) h
 trim_stops b (c ∷ t) h =
     ap (λ x. cond x [] (b ∷ trim_end (c ∷ t))) (all_blank-last b (c ∷ t) h) ∙ ap (λ w. b ∷ w) (trim_stops c t h)
 
-pub trim_end-blank : (t : List ℕ) → is_blank (get_or t (length t - 1) 0) ≡ true → trim_end (take (length t - 1) t) ≡ trim_end t
+pub trim_end-blank : (t : List ℕ) → is_blank (get_or t (length t - 1) 0) ≡ true
+    → trim_end (take (length t - 1) t) ≡ trim_end t
 trim_end-blank t h = ap trim_end (sym (front_is t)) ∙ trim_end-front t (ap is_blank (last_is t) ∙ h)
 
 pub trim_end-stop : (t : List ℕ) → 0 < length t → is_blank (get_or t (length t - 1) 0) ≡ false → trim_end t ≡ t

@@ -1,10 +1,22 @@
--- Blanks, and what is left of a text without those at its ends.
-use Rattle.std.specs.Prelude.{ℕ, Bool, true, ◌&&◌, ◌||◌, ◌==◌, nat_le, nat_eq, cond, List, [], ◌∷◌}
+-- Bytes by their names; blanks, and what is left of a text without those at its ends.
+use Rattle.std.specs.Prelude.{ℕ, Bool, true, ◌&&◌, ◌||◌, ◌==◌, nat_le, nat_eq, if◌then◌else◌, List, [], ◌∷◌}
 use Rattle.std.specs.List.{list_any, starts_with, ends_with}
 
--- The blanks are space and bytes 9 to 13.
+abbrev pub tab : ℕ
+tab = 9
+
+abbrev pub newline : ℕ
+newline = 10
+
+abbrev pub carriage_return : ℕ
+carriage_return = 13
+
+abbrev pub space : ℕ
+space = 32
+
+-- The blanks are the space and the bytes from the tab to the carriage return, the newline among them.
 abbrev pub is_blank : ℕ → Bool
-is_blank b = (b == 32) || (nat_le 9 b && nat_le b 13)
+is_blank b = (b == space) || (nat_le tab b && nat_le b carriage_return)
 
 -- Whether each byte of the text is blank.
 abbrev pub all_blank : List ℕ → Bool
@@ -14,12 +26,12 @@ all_blank (b ∷ t) = is_blank b && all_blank t
 -- The text without the blanks at its front.
 abbrev pub trim_start : List ℕ → List ℕ
 trim_start [] = []
-trim_start (b ∷ t) = cond (is_blank b) (trim_start t) (b ∷ t)
+trim_start (b ∷ t) = if is_blank b then trim_start t else b ∷ t
 
 -- The text without the blanks at its end.
 abbrev pub trim_end : List ℕ → List ℕ
 trim_end [] = []
-trim_end (b ∷ t) = cond (all_blank (b ∷ t)) [] (b ∷ trim_end t)
+trim_end (b ∷ t) = if all_blank (b ∷ t) then [] else b ∷ trim_end t
 
 -- The text without the blanks at both ends.
 abbrev pub trim : List ℕ → List ℕ

@@ -1,12 +1,14 @@
 -- The first place of a text at which an opener stands.
-use Rattle.std.specs.Prelude.{ℕ, suc, Bool, true, false, ◌==◌, List, [], ◌∷◌, Option, None, Some, option_map, cond}
+use Rattle.std.specs.Prelude.{ℕ, suc, Bool, true, false, ◌==◌, List, [], ◌∷◌, Option, None, Some, option_map}
+use Rattle.std.specs.Prelude.{if◌then◌else◌}
 use Rattle.std.specs.List.{list_any}
 use Rattle.tokei_syntax.specs.Bytes.{begins_with_one}
 
 -- The first place at which some opener stands; none where the text ends before one.
 abbrev pub first_opener : List (List ℕ) → List ℕ → Option ℕ
 first_opener openers [] = None
-first_opener openers (b ∷ t) = cond (begins_with_one openers (b ∷ t)) (Some 0) (option_map suc (first_opener openers t))
+first_opener openers (b ∷ t) =
+    if begins_with_one openers (b ∷ t) then Some 0 else option_map suc (first_opener openers t)
 
 -- Whether the text isn't empty.
 abbrev pub is_nonempty : List ℕ → Bool
@@ -21,8 +23,3 @@ is_first_of x (b ∷ t) = x == b
 -- Whether that byte is the first of some opener.
 unfoldable pub is_first : List (List ℕ) → ℕ → Bool
 is_first openers x = list_any (is_first_of x) openers
-
--- Whether the byte is in the list.
-abbrev pub has_byte : List ℕ → ℕ → Bool
-has_byte [] x = false
-has_byte (b ∷ t) x = cond (x == b) true (has_byte t x)

@@ -1,11 +1,13 @@
+-- What contracts say of blanks, trims, slices, openers and a language's row.
 pub mod Bytes
 pub mod FirstOpener
-pub mod NearBytes
 pub mod NewRow
-pub mod OpenerGroups
 pub mod OuterLines
 pub mod Row
 pub mod RowOf
 pub mod Slices
 pub mod Sound
 pub mod TrimLaws
+-- The code's own words, which no public contract has:
+pub mod NearBytes
+pub mod OpenerGroups

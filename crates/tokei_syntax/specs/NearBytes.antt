@@ -1,11 +1,10 @@
 -- The few bytes that are searched for at once.
 use Rattle.std.specs.Prelude.{◌≡◌, ℕ, List, Option, IfSome}
 use Rattle.tokei_bytes.specs.OneOf.{is_one_of}
-use Rattle.tokei_syntax.specs.FirstOpener.{has_byte}
 
 -- Both lists have the same bytes.
 abbrev pub SameBytes : List ℕ → List ℕ → Type 0
-SameBytes near firsts = (x : ℕ) → is_one_of near x ≡ has_byte firsts x
+SameBytes near firsts = (x : ℕ) → is_one_of near x ≡ is_one_of firsts x
 
 -- The bytes that are searched for at once are the first bytes, where there are few enough.
 abbrev pub AreNear : Option (List ℕ) → List ℕ → Type 0

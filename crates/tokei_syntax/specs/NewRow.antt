@@ -2,12 +2,12 @@
 use Rattle.std.specs.Prelude.{ℕ, List, [], false}
 use Rattle.tokei_syntax.specs.Row.{Row}
 
--- The name is the key; every list is empty and no truth value is set.
+-- The name is the key; the kind and every list is empty, and no truth value is set.
 abbrev pub new_row : List ℕ → Row
 new_row key = record {
   key = key;
   name = key;
-  html = false;
+  kind = [];
   line_comment = [];
   multi_line_comments = [];
   nested = false;

@@ -1,12 +1,14 @@
 -- Openers in groups of one first byte, and what can follow that byte.
-use Rattle.std.specs.Prelude.{◌≡◌, ℕ, ◌<◌, Bool, true, false, ◌==◌, List, [], ◌∷◌, cond, length, map, slice_index_or}
+use Rattle.std.specs.Prelude.{◌≡◌, ℕ, ◌<◌, Bool, true, false, ◌==◌, if◌then◌else◌}
+use Rattle.std.specs.Prelude.{List, [], ◌∷◌, length, map, slice_index_or}
 use Rattle.std.specs.List.{list_any, list_all}
-use Rattle.tokei_syntax.specs.FirstOpener.{is_nonempty, is_first_of, is_first, has_byte}
+use Rattle.tokei_syntax.specs.FirstOpener.{is_nonempty, is_first_of, is_first}
+use Rattle.tokei_bytes.specs.OneOf.{is_one_of}
 
 -- Those of the openers that begin with that byte.
 abbrev pub with_first : ℕ → List (List ℕ) → List (List ℕ)
 with_first x [] = []
-with_first x (o ∷ os) = cond (is_first_of x o) (o ∷ with_first x os) (with_first x os)
+with_first x (o ∷ os) = if is_first_of x o then o ∷ with_first x os else with_first x os
 
 -- Whether that byte can follow the opener's first one: it is the second, or there is none.
 abbrev pub goes_on_with : ℕ → List ℕ → Bool
@@ -29,5 +31,5 @@ pub record HasFlags (test : ℕ → List ℕ → Bool) (openers : List (List ℕ
 -- No opener is empty, the list of first bytes has those of the openers, and beside each stand the openers with it.
 pub record IsIndexOf (openers : List (List ℕ)) (firsts : List ℕ) (groups : List (List (List ℕ))) : Type 0 where
   pub nonempty : list_all is_nonempty openers ≡ true
-  pub firsts_are : (x : ℕ) → has_byte firsts x ≡ is_first openers x
+  pub firsts_are : (x : ℕ) → is_one_of firsts x ≡ is_first openers x
   pub grouped : groups ≡ map (λ x. with_first x openers) firsts

@@ -1,19 +1,20 @@
 -- A block of text without the blank rest of its first line and the blank front of its last one.
-use Rattle.std.specs.Prelude.{ℕ, ◌+◌, ◌-◌, zero, suc, Bool, false, ◌&&◌, ◌||◌, ◌==◌, not, cond, List, [], ◌∷◌, Option, None, Some, option_map, length, take, drop, min, slice_index}
-use Rattle.tokei_syntax.specs.Bytes.{is_blank}
+use Rattle.std.specs.Prelude.{ℕ, ◌+◌, ◌-◌, zero, suc, min, Bool, false, ◌&&◌, ◌||◌, ◌==◌, not, if◌then◌else◌}
+use Rattle.std.specs.Prelude.{List, [], ◌∷◌, length, take, drop, slice_index, Option, None, Some, option_map}
+use Rattle.tokei_syntax.specs.Bytes.{is_blank, newline, carriage_return}
 
 -- A stop is a newline or a byte that isn't blank.
 abbrev pub is_stop : ℕ → Bool
-is_stop b = (b == 10) || not (is_blank b)
+is_stop b = (b == newline) || not (is_blank b)
 
 -- The index of the first stop.
 abbrev pub first_stop : List ℕ → Option ℕ
 first_stop [] = None
-first_stop (b ∷ t) = cond (is_stop b) (Some 0) (option_map suc (first_stop t))
+first_stop (b ∷ t) = if is_stop b then Some 0 else option_map suc (first_stop t)
 
 -- The place in a text whose rest, behind a first byte, has the given place.
 abbrev pub later_or : Bool → Option ℕ → Option ℕ
-later_or first None = cond first (Some 0) None
+later_or first None = if first then Some 0 else None
 later_or first (Some i) = Some (suc i)
 
 -- The index of the last stop.
@@ -29,12 +30,12 @@ start_behind n (Some i) = min (i + 1) (n - 1)
 -- Whether that index is the one of a newline behind a carriage return.
 abbrev pub is_return_newline : List ℕ → ℕ → Bool
 is_return_newline t zero = false
-is_return_newline t (suc i) = (slice_index t i == 13) && (slice_index t (suc i) == 10)
+is_return_newline t (suc i) = (slice_index t i == carriage_return) && (slice_index t (suc i) == newline)
 
 -- Behind which byte the block ends: behind the last stop, or before it where it is a newline behind a carriage return.
 abbrev pub end_behind : List ℕ → Option ℕ → ℕ
 end_behind t None = length t
-end_behind t (Some i) = cond (is_return_newline t i) i (i + 1)
+end_behind t (Some i) = if is_return_newline t i then i else i + 1
 
 -- The bytes between both, none where the end isn't behind the start.
 abbrev pub between : List ℕ → ℕ → ℕ → List ℕ

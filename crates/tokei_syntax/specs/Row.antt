@@ -1,5 +1,5 @@
 -- A language's row of the table, as bytes.
-use Rattle.std.specs.Prelude.{ℕ, Bool, List}
+use Rattle.std.specs.Prelude.{ℕ, Bool, List, bytes_eq, codes}
 
 -- The opener and the closer of a comment or a string literal.
 pub record Pair : Type 0 where
@@ -10,7 +10,7 @@ pub record Pair : Type 0 where
 pub record Row : Type 0 where
   pub key : List ℕ
   pub name : List ℕ
-  pub html : Bool
+  pub kind : List ℕ
   pub line_comment : List (List ℕ)
   pub multi_line_comments : List Pair
   pub nested : Bool
@@ -28,3 +28,11 @@ pub record Row : Type 0 where
   pub shebangs : List (List ℕ)
   pub env : List (List ℕ)
   pub contexts : List (List ℕ)
+
+-- The kind of languages whose contexts are tags.
+abbrev pub is_html_text : List ℕ → Bool
+is_html_text kind = bytes_eq kind (codes "html")
+
+-- A language is HTML by its kind alone.
+abbrev pub is_html : Row → Bool
+is_html r = is_html_text r.kind

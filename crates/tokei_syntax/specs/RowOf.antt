@@ -21,7 +21,7 @@ abbrev pub row_of : Syntax → Row
 row_of s = record {
   key = string_bytes s.key;
   name = string_bytes s.name;
-  html = s.html;
+  kind = string_bytes s.kind;
   line_comment = tokens_of s.line_comment.items;
   multi_line_comments = pairs_of s.multi_line_comments.items;
   nested = s.nested;

@@ -1,13 +1,13 @@
--- Tokens with which a text can be read line by line.
+-- Sound tokens: those with which a text can be read line by line.
 use Rattle.std.specs.Prelude.{◌≡◌, ℕ, Bool, true, false, ◌&&◌, ◌==◌, not, List, [], ◌∷◌}
 use Rattle.std.specs.List.{list_all}
-use Rattle.tokei_syntax.specs.Bytes.{all_blank}
+use Rattle.tokei_syntax.specs.Bytes.{all_blank, newline}
 use Rattle.tokei_syntax.specs.Row.{Pair, Row}
 
 -- Whether no byte is a newline.
 abbrev pub no_newline : List ℕ → Bool
 no_newline [] = true
-no_newline (b ∷ t) = not (b == 10) && no_newline t
+no_newline (b ∷ t) = not (b == newline) && no_newline t
 
 -- A token is neither empty nor all blank, and holds no newline.
 abbrev pub is_token : List ℕ → Bool

@@ -1,7 +1,8 @@
 //! Blanks, trims and searches over bytes.
 ghost use Rattle.std.specs.Prelude.{◌≡◌, ◌==◌, ℕ, ◌≤◌, ◌<◌, true, false, length, slice_index, IfSome};
 ghost use Rattle.tokei_syntax.specs.Slices.{contains_slice};
-ghost use Rattle.tokei_syntax.specs.OuterLines.{is_stop, first_stop, last_stop, start_behind, is_return_newline, end_behind, trim_outer_lines};
+ghost use Rattle.tokei_syntax.specs.OuterLines.{is_stop, first_stop, last_stop, start_behind, is_return_newline};
+ghost use Rattle.tokei_syntax.specs.OuterLines.{end_behind, trim_outer_lines};
 ghost use Rattle.tokei_syntax.specs.Bytes.{is_blank, all_blank, trim_start, trim_end, trim, begins_with_one};
 ghost use Rattle.tokei_syntax.specs.RowOf.{tokens_of};
 

@@ -1,5 +1,6 @@
 //! Openers with one first byte.
-ghost use Rattle.std.specs.Prelude.{◌≡◌, ◌+◌, ◌≤◌, ◌<◌, ℕ, true, false, length, drop, IfOk, slice_index, slice_index_or};
+ghost use Rattle.std.specs.Prelude.{◌≡◌, ◌+◌, ◌≤◌, ◌<◌, ℕ, true, false, length, drop, IfOk, slice_index};
+ghost use Rattle.std.specs.Prelude.{slice_index_or};
 ghost use Rattle.std.specs.List.{list_any, list_all};
 ghost use Rattle.tokei_syntax.specs.FirstOpener.{is_first_of};
 ghost use Rattle.tokei_syntax.specs.OpenerGroups.{goes_on_with, is_whole_with, HasFlags};
@@ -29,7 +30,8 @@ impl Model for OpenerGroup {
 
     ghost view = { λ g. tokens_of g.openers.items };
 
-    ghost invariant = { λ g. HasFlags goes_on_with (tokens_of g.openers.items) g.seconds.items × HasFlags is_whole_with (tokens_of g.openers.items) g.wholes.items };
+    ghost invariant = { λ g. HasFlags goes_on_with (tokens_of g.openers.items) g.seconds.items
+        × HasFlags is_whole_with (tokens_of g.openers.items) g.wholes.items };
 }
 
 fn goes_on_with(opener: &[u8], byte: u8) -> bool
@@ -127,8 +129,8 @@ impl OpenerGroup {
         self.wholes[byte as usize]
     }
 
-    /// Whether one of the openers, all with the first byte that stands at the place, stands there. Mostly the second byte
-    /// tells.
+    /// Whether one of the openers, all with the first byte that stands at the place, stands there. Mostly the second
+    /// byte tells.
     #[inline(always)]
     pub(crate) fn stands(&self, text: &[u8], at: usize) -> bool
         requires inside { at < length text.now }
@@ -147,8 +149,8 @@ impl OpenerGroup {
         begins_with_one(&self.openers, &text[at..])
     }
 
-    /// Up to which place the text, from a place on, goes on with the byte alone and each time with a byte behind it with
-    /// which none of the openers goes on.
+    /// Up to which place the text, from a place on, goes on with the byte alone and each time with a byte behind it
+    /// with which none of the openers goes on.
     #[inline(always)]
     pub(crate) fn passed(&self, byte: u8, text: &[u8], from: usize) -> usize
         requires { from ≤ length text.now }
@@ -156,7 +158,8 @@ impl OpenerGroup {
         ensures within { result ≤ length text.now }
         ensures run { (k : ℕ) → from ≤ k → k < result → slice_index text.now k ≡ byte }
         ensures none { (k : ℕ) → from ≤ k → k < result → begins_with_one self.now (drop k text.now) ≡ false }
-        ensures ends { result + 1 < length text.now → slice_index text.now result ≡ byte → list_any (goes_on_with (slice_index text.now (result + 1))) self.now ≡ true }
+        ensures ends { result + 1 < length text.now → slice_index text.now result ≡ byte →
+            list_any (goes_on_with (slice_index text.now (result + 1))) self.now ≡ true }
     {
         let mut at = from;
         while at + 1 < text.len() && text[at] == byte && !self.goes_on(text[at + 1]) {

@@ -1,7 +1,10 @@
 //! The openers of a language, ready for a search of a text.
-ghost use Rattle.std.specs.Prelude.{◌≡◌, ◌↔◌, ◌≤◌, ◌<◌, ℕ, List, ◌∷◌, length, map, drop, ◌||◌, true, false, IfOk, IfSome, IsSome, OnOk, MatchOption, slice_index};
+ghost use Rattle.std.specs.Prelude.{◌≡◌, ◌↔◌, ◌≤◌, ◌<◌, ℕ, List, ◌∷◌, length, map, drop, slice_index, ◌||◌, true};
+ghost use Rattle.std.specs.Prelude.{false};
+ghost use Rattle.std.specs.Prelude.{IfOk, IfSome, IsSome, OnOk, MatchOption};
 ghost use Rattle.std.specs.List.{list_all};
-ghost use Rattle.tokei_syntax.specs.FirstOpener.{first_opener, is_first, is_first_of, has_byte, is_nonempty};
+ghost use Rattle.tokei_syntax.specs.FirstOpener.{first_opener, is_first, is_first_of, is_nonempty};
+ghost use Rattle.tokei_bytes.specs.OneOf.{is_one_of};
 ghost use Rattle.tokei_syntax.specs.OpenerGroups.{with_first, IsIndexOf};
 ghost use Rattle.tokei_syntax.specs.Bytes.{begins_with_one};
 ghost use Rattle.tokei_syntax.specs.NearBytes.{SameBytes, AreNear};
@@ -46,12 +49,13 @@ impl Model for OpenerIndex {
 
     ghost view = { λ x. tokens_of x.openers.items };
 
-    ghost invariant = { λ x. IsIndexOf (tokens_of x.openers.items) x.firsts.items x.groups.items × AreNear x.near x.firsts.items };
+    ghost invariant = { λ x. IsIndexOf (tokens_of x.openers.items) x.firsts.items x.groups.items
+        × AreNear x.near x.firsts.items };
 }
 
 #[inline(always)]
-fn has_byte(bytes: &[u8], byte: u8) -> bool
-    ensures { result ≡ has_byte bytes.now byte }
+fn is_one_of(bytes: &[u8], byte: u8) -> bool
+    ensures { result ≡ is_one_of bytes.now byte }
 {
     for known in bytes {
         if byte == *known {
@@ -62,12 +66,13 @@ fn has_byte(bytes: &[u8], byte: u8) -> bool
 }
 
 fn add_first(firsts: &mut Vec<u8>, opener: &[u8]) -> Result<(), AllocError>
-    ensures { OnOk result ((x : ℕ) → has_byte firsts.new.items x ≡ (has_byte firsts.old.items x || is_first_of x opener.now)) }
+    ensures { OnOk result ((x : ℕ) →
+        is_one_of firsts.new.items x ≡ (is_one_of firsts.old.items x || is_first_of x opener.now)) }
 {
     match opener {
         [] => Ok(()),
         [first, ..] => {
-            if has_byte(firsts, *first) {
+            if is_one_of(firsts, *first) {
                 return Ok(());
             }
             firsts.push(*first)?;
@@ -78,7 +83,7 @@ fn add_first(firsts: &mut Vec<u8>, opener: &[u8]) -> Result<(), AllocError>
 
 /// The distinct first bytes of the openers.
 fn first_bytes(alloc: Global, openers: &[String]) -> Result<Vec<u8>, AllocError>
-    ensures { IfOk result (λ v. (x : ℕ) → has_byte v.items x ≡ is_first (tokens_of openers.now) x) }
+    ensures { IfOk result (λ v. (x : ℕ) → is_one_of v.items x ≡ is_first (tokens_of openers.now) x) }
 {
     let mut firsts = Vec::new(alloc);
     for opener in openers {
@@ -146,7 +151,7 @@ fn groups_of(
 #[inline(always)]
 fn first_of_few(bytes: &[u8], text: &[u8]) -> Option<usize>
     requires { length bytes.now ≤ 3 }
-    ensures { IsFirstByte (has_byte bytes.now) text.now result }
+    ensures { IsFirstByte (is_one_of bytes.now) text.now result }
 {
     match bytes {
         [] => None,
@@ -159,7 +164,7 @@ fn first_of_few(bytes: &[u8], text: &[u8]) -> Option<usize>
 /// The first place of the text whose byte is in the list, by searches for three bytes at a time, each up to where the
 /// one before it ended.
 fn first_of(bytes: &[u8], text: &[u8]) -> Option<usize>
-    ensures { IsFirstByte (has_byte bytes.now) text.now result }
+    ensures { IsFirstByte (is_one_of bytes.now) text.now result }
 {
     match bytes {
         [a, b, c, others @ ..] => match memchr3(*a, *b, *c, text) {
@@ -175,7 +180,7 @@ fn first_of(bytes: &[u8], text: &[u8]) -> Option<usize>
 
 /// The same, in growing blocks, so that no search goes far past what another one finds.
 fn first_in_blocks(bytes: &[u8], text: &[u8]) -> Option<usize>
-    ensures { IsFirstByte (has_byte bytes.now) text.now result }
+    ensures { IsFirstByte (is_one_of bytes.now) text.now result }
 {
     let mut from = 0;
     let mut width = FIRST_BLOCK;
@@ -192,7 +197,7 @@ fn first_in_blocks(bytes: &[u8], text: &[u8]) -> Option<usize>
 
 /// The first place of the text whose byte is in the list.
 fn first_of_any(bytes: &[u8], text: &[u8]) -> Option<usize>
-    ensures { IsFirstByte (has_byte bytes.now) text.now result }
+    ensures { IsFirstByte (is_one_of bytes.now) text.now result }
 {
     if bytes.len() <= 3 {
         first_of_few(bytes, text)
@@ -208,8 +213,8 @@ fn first_among(bytes: &[u8], text: &[u8], from: usize) -> usize
     requires { from ≤ length text.now }
     ensures low { from ≤ result }
     ensures within { result ≤ length text.now }
-    ensures passed { (k : ℕ) → from ≤ k → k < result → has_byte bytes.now (slice_index text.now k) ≡ false }
-    ensures found { result < length text.now → has_byte bytes.now (slice_index text.now result) ≡ true }
+    ensures passed { (k : ℕ) → from ≤ k → k < result → is_one_of bytes.now (slice_index text.now k) ≡ false }
+    ensures found { result < length text.now → is_one_of bytes.now (slice_index text.now result) ≡ true }
 {
     match first_of_any(bytes, &text[from..]) {
         Some(n) => from + n,
@@ -224,8 +229,8 @@ fn first_near(near: [u8; 4], bytes: &[u8], text: &[u8], from: usize) -> usize
     requires same { SameBytes near bytes.now }
     ensures low { from ≤ result }
     ensures within { result ≤ length text.now }
-    ensures passed { (k : ℕ) → from ≤ k → k < result → has_byte bytes.now (slice_index text.now k) ≡ false }
-    ensures found { result < length text.now → has_byte bytes.now (slice_index text.now result) ≡ true }
+    ensures passed { (k : ℕ) → from ≤ k → k < result → is_one_of bytes.now (slice_index text.now k) ≡ false }
+    ensures found { result < length text.now → is_one_of bytes.now (slice_index text.now result) ≡ true }
 {
     let end = from + NEAR.min(text.len() - from);
     let [a, b, c, d] = near;

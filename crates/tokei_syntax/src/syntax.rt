@@ -1,11 +1,9 @@
 //! What the table says of one language.
-ghost use Rattle.std.specs.Prelude.{◌≡◌, ◌↔◌, IsTrue, IfOk};
-ghost use Rattle.std.specs.List.{list_all};
-ghost use Rattle.tokei_syntax.specs.RowOf.{pairs_of, tokens_of, row_of};
-ghost use Rattle.tokei_syntax.specs.Sound.{no_newline, is_token, is_pair, IsSound};
+ghost use Rattle.std.specs.Prelude.{◌≡◌, IfOk};
 ghost use Rattle.tokei_syntax.specs.NewRow.{new_row};
+ghost use Rattle.tokei_syntax.specs.Row.{is_html};
+ghost use Rattle.tokei_syntax.specs.RowOf.{row_of};
 
-use crate::ext::is_blank_text;
 use std::alloc::{AllocError, Global};
 
 /// One language: its name, its comments and string literals, and what it is found by.
@@ -15,8 +13,8 @@ pub struct Syntax {
     pub key: String,
     /// The name that is shown.
     pub name: String,
-    /// Whether the contexts are tags of HTML.
-    pub html: bool,
+    /// The kind as the table has it, without escapes; empty where it names none.
+    pub kind: String,
     /// What begins a comment that runs to its line's end.
     pub line_comment: Vec<String>,
     /// The opener and the closer of each comment over many lines.
@@ -49,52 +47,8 @@ pub struct Syntax {
     pub shebangs: Vec<String>,
     /// The programs that `#!/usr/bin/env` starts for its scripts.
     pub env: Vec<String>,
-    /// The tags whose contents are of another language.
+    /// The tags whose contents are of another language; only a language of kind `html` has some.
     pub contexts: Vec<String>,
-}
-
-fn no_newline(text: &[u8]) -> bool
-    ensures { result ≡ no_newline text.now }
-{
-    for byte in text {
-        if *byte == b'\n' {
-            return false;
-        }
-    }
-    true
-}
-
-fn is_token(text: &[u8]) -> bool
-    ensures { result ≡ is_token text.now }
-{
-    match text {
-        [] => false,
-        [_, ..] => no_newline(text) && !is_blank_text(text),
-    }
-}
-
-/// Whether each of the texts is neither empty nor all blank, and none holds a newline.
-pub fn are_tokens(tokens: &[String]) -> bool
-    ensures { result ≡ list_all is_token (tokens_of tokens.now) }
-{
-    for token in tokens {
-        if !is_token(token.as_bytes()) {
-            return false;
-        }
-    }
-    true
-}
-
-/// The same of both texts of each pair.
-pub fn are_pairs(pairs: &[(String, String)]) -> bool
-    ensures { result ≡ list_all is_pair (pairs_of pairs.now) }
-{
-    for pair in pairs {
-        if !is_token(pair.0.as_bytes()) || !is_token(pair.1.as_bytes()) {
-            return false;
-        }
-    }
-    true
 }
 
 impl Syntax {
@@ -105,7 +59,7 @@ impl Syntax {
         Ok(Syntax {
             key: String::from_str(alloc, key)?,
             name: String::from_str(alloc, key)?,
-            html: false,
+            kind: String::new(alloc),
             line_comment: Vec::new(alloc),
             multi_line_comments: Vec::new(alloc),
             nested: false,
@@ -126,15 +80,10 @@ impl Syntax {
         })
     }
 
-    /// Whether no text of the comments and string literals is empty, all blank or holds a newline.
-    pub fn sound(&self) -> bool
-        ensures { IsTrue result ↔ IsSound (row_of self.now) }
+    /// Whether its contexts are tags: whether its kind is `html`.
+    pub fn is_html(&self) -> bool
+        ensures { result ≡ is_html (row_of self.now) }
     {
-        are_tokens(&self.line_comment)
-            && are_pairs(&self.multi_line_comments)
-            && are_pairs(&self.nested_comments)
-            && are_pairs(&self.quotes)
-            && are_pairs(&self.verbatim_quotes)
-            && are_pairs(&self.doc_quotes)
+        self.kind.as_str() == "html"
     }
 }

@@ -1,3 +1,4 @@
+-- Lemmas on rows, look-ups and the indexes of a table.
 pub use Rattle.tokei_syntax.proofs.Finds
 pub mod Dots
 pub mod ExtendedRows

@@ -1,5 +1,6 @@
 -- A row whose names were met, and the names that are met after a row.
-use Rattle.std.proofs.Common.{◌≡◌, ℕ, Bool, true, false, ◌||◌, cond, List, [], ◌∷◌, Option, None, Some, is_some, refl, sym, ap, ◌∙◌, bytes_eq}
+use Rattle.std.proofs.Common.{◌≡◌, ℕ, Bool, true, false, ◌||◌, cond, List, [], ◌∷◌, Option, None, Some, is_some, refl}
+use Rattle.std.proofs.Common.{sym, ap, ◌∙◌, bytes_eq}
 use Rattle.std.specs.List.{list_any}
 use Rattle.tokei_syntax.specs.Row.{Row}
 use Rattle.tokei_table.specs.Lookups.{has_name}
@@ -39,7 +40,8 @@ module _ (met more : List ℕ → Bool) (r : Row) (same : (q : List ℕ) → mor
   one s =
       ap (λ b. b || more s.name) (same s.key)
       ∙ ap (λ b. (met s.key || has_name s.key r) || b) (same s.name)
-      ∙ regroup (met s.key) (met s.name) (bytes_eq r.key s.key) (bytes_eq r.name s.key) (bytes_eq r.key s.name) (bytes_eq r.name s.name)
+      ∙ regroup (met s.key) (met s.name) (bytes_eq r.key s.key) (bytes_eq r.name s.key) (bytes_eq r.key s.name)
+      (bytes_eq r.name s.name)
 
   all : (rs : List Row) → list_any (was_met more) rs ≡ (list_any (was_met met) rs || list_any (shares_name r) rs)
   all [] = refl
@@ -57,9 +59,12 @@ module _ (met more : List ℕ → Bool) (r : Row) (same : (q : List ℕ) → mor
 pub clash_here : (met : List ℕ → Bool) (r : Row) (rs : List Row) → was_met met r ≡ true → clashes met (r ∷ rs) ≡ true
 clash_here met r rs e = ap (λ b. (b || list_any (was_met met) rs) || names_twice (r ∷ rs)) e
 
-pub clash_none : (met : List ℕ → Bool) → ((q : List ℕ) → met q ≡ false) → (rs : List Row) → clashes met rs ≡ names_twice rs
+pub clash_none : (met : List ℕ → Bool) → ((q : List ℕ) → met q ≡ false) → (rs : List Row)
+    → clashes met rs ≡ names_twice rs
 clash_none met none rs = ap (λ b. b || names_twice rs) (unmet rs)
   where
     unmet : (rs : List Row) → list_any (was_met met) rs ≡ false
     unmet [] = refl
-    unmet (r ∷ rs) = ap (λ b. (b || met r.name) || list_any (was_met met) rs) (none r.key) ∙ ap (λ b. b || list_any (was_met met) rs) (none r.name) ∙ unmet rs
+    unmet (r ∷ rs) =
+        ap (λ b. (b || met r.name) || list_any (was_met met) rs) (none r.key)
+        ∙ ap (λ b. b || list_any (was_met met) rs) (none r.name) ∙ unmet rs

@@ -1,5 +1,5 @@
 -- A table in which languages gain extensions.
-use Rattle.std.specs.Prelude.{ℕ, ◌+◌, ◌==◌, List, [], ◌∷◌, ◌++◌, String, cond}
+use Rattle.std.specs.Prelude.{ℕ, ◌+◌, ◌==◌, List, [], ◌∷◌, ◌++◌, String, if◌then◌else◌}
 use Rattle.std.specs.Borrow.{Bor}
 use Rattle.std.specs.Global.{Global}
 use Rattle.tokei_table.specs.Lookups.{holds}
@@ -9,7 +9,7 @@ use Rattle.tokei_syntax.specs.RowOf.{tokens_of}
 -- Those of the listed extensions that aren't known yet, each once.
 abbrev pub gained : List (List ℕ) → List (List ℕ) → List (List ℕ)
 gained known [] = []
-gained known (e ∷ es) = cond (holds known e) (gained known es) (e ∷ gained (known ++ e ∷ []) es)
+gained known (e ∷ es) = if holds known e then gained known es else e ∷ gained (known ++ e ∷ []) es
 
 -- A language and the bytes of the extensions that are listed for it.
 abbrev pub addition_of : ℕ × Bor (List (String Global)) → ℕ × List (List ℕ)
@@ -18,7 +18,8 @@ addition_of a = (a.0, tokens_of a.1.now)
 -- The extensions that are listed for a language, which may be listed more than once.
 abbrev pub listed_for : ℕ → List (ℕ × List (List ℕ)) → List (List ℕ)
 listed_for language [] = []
-listed_for language (a ∷ additions) = cond (a.0 == language) (a.1 ++ listed_for language additions) (listed_for language additions)
+listed_for language (a ∷ additions) =
+    if a.0 == language then a.1 ++ listed_for language additions else listed_for language additions
 
 -- The row with further extensions at the end of its own.
 abbrev pub with_extensions : Row → List (List ℕ) → Row

@@ -5,7 +5,13 @@ use Rattle.tokei_table.specs.declared.family.Family.TheVariants.{Plain, Markdown
 
 -- The keys of the languages with scripts, styles and templates.
 abbrev pub is_html_like : List ℕ → Bool
-is_html_like key = bytes_eq key (codes "Html") || bytes_eq key (codes "RubyHtml") || bytes_eq key (codes "Svelte") || bytes_eq key (codes "Vue") || bytes_eq key (codes "GlimmerJs") || bytes_eq key (codes "GlimmerTs")
+is_html_like key =
+    bytes_eq key (codes "Html")
+    || bytes_eq key (codes "RubyHtml")
+    || bytes_eq key (codes "Svelte")
+    || bytes_eq key (codes "Vue")
+    || bytes_eq key (codes "GlimmerJs")
+    || bytes_eq key (codes "GlimmerTs")
 
 -- The family of the language of that key.
 abbrev pub family_of : List ℕ → Family

@@ -1,11 +1,12 @@
+-- What contracts say of a table: which texts are tables, the rows of one, and its look-ups.
 pub use Rattle.tokei_rows.specs.Escaped
 pub use Rattle.tokei_rows.specs.Escapes
 pub use Rattle.tokei_rows.specs.Layout
+pub use Rattle.tokei_rows.specs.RowLaws
 pub use Rattle.tokei_rows.specs.Rows
 pub use Rattle.tokei_syntax.specs.Bytes
 pub use Rattle.tokei_syntax.specs.FirstOpener
 pub use Rattle.tokei_syntax.specs.NewRow
-pub use Rattle.tokei_syntax.specs.OpenerGroups
 pub use Rattle.tokei_syntax.specs.OuterLines
 pub use Rattle.tokei_syntax.specs.Row
 pub use Rattle.tokei_syntax.specs.RowOf
@@ -16,11 +17,13 @@ pub mod Extended
 pub mod Families
 pub mod Listed
 pub mod Lookups
-pub mod MetNames
 pub mod Openers
 pub mod Outcome
-pub mod PathSuffixes
 pub mod Shebangs
 pub mod TableLaws
-pub mod TextIndex
 pub mod WellFormed
+-- The code's own words, which no public contract has:
+pub mod Indexed
+pub mod MetNames
+pub mod PathSuffixes
+pub mod TextIndex

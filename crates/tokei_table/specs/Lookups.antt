@@ -1,5 +1,6 @@
 -- Which language of a table a word, a MIME type or the name of a file stands for.
-use Rattle.std.specs.Prelude.{ℕ, suc, Bool, ◌||◌, ◌==◌, List, [], ◌∷◌, Option, Some, None, option_map, cond, bytes_eq, slice_index_or}
+use Rattle.std.specs.Prelude.{ℕ, suc, Bool, ◌||◌, ◌==◌, if◌then◌else◌, List, [], ◌∷◌, bytes_eq, slice_index_or}
+use Rattle.std.specs.Prelude.{Option, Some, None, option_map}
 use Rattle.std.specs.List.{list_any}
 use Rattle.std.specs.Str.{str_to_ascii_lowercase}
 use Rattle.tokei_syntax.specs.Bytes.{ends}
@@ -13,7 +14,7 @@ row_at rows language = slice_index_or rows language (new_row [])
 -- The first language of whose row the condition is true.
 abbrev pub first_where : (Row → Bool) → List Row → Option ℕ
 first_where test [] = None
-first_where test (r ∷ rs) = cond (test r) (Some 0) (option_map suc (first_where test rs))
+first_where test (r ∷ rs) = if test r then Some 0 else option_map suc (first_where test rs)
 
 -- The first answer, or the second where there is none.
 abbrev pub or_else : Option ℕ → Option ℕ → Option ℕ
@@ -52,15 +53,18 @@ ends_with_one suffixes name = list_any (λ s. ends s name) suffixes
 abbrev pub has_path_suffix : List ℕ → Row → Bool
 has_path_suffix name r = ends_with_one r.path_suffixes name
 
+abbrev pub dot : ℕ
+dot = 46
+
 -- What stands behind the last dot, by whether the first byte is one and by what stands behind a later one.
 abbrev pub behind_dot : Bool → List ℕ → Option (List ℕ) → Option (List ℕ)
-behind_dot dot t (Some later) = Some later
-behind_dot dot t None = cond dot (Some t) None
+behind_dot is_dot t (Some later) = Some later
+behind_dot is_dot t None = if is_dot then Some t else None
 
 -- What stands behind the last dot of a text.
 abbrev pub behind_last_dot : List ℕ → Option (List ℕ)
 behind_last_dot [] = None
-behind_last_dot (b ∷ t) = behind_dot (b == 46) t (behind_last_dot t)
+behind_last_dot (b ∷ t) = behind_dot (b == dot) t (behind_last_dot t)
 
 -- A name's extension is what follows its last dot, where that dot isn't the name's first byte; it may be empty.
 abbrev pub extension_of : List ℕ → Option (List ℕ)

@@ -21,7 +21,12 @@ tag_starts tags = map tag_start tags
 -- tags; a language whose kind isn't `html` has no tags.
 abbrev pub important_syntax : Row → List (List ℕ)
 important_syntax r =
-    starts_of r.quotes ++ (starts_of r.doc_quotes ++ (starts_of r.multi_line_comments ++ (starts_of r.nested_comments ++ (r.important_syntax ++ tag_starts r.contexts))))
+    starts_of r.quotes
+    ++ (starts_of r.doc_quotes
+    ++ (starts_of r.multi_line_comments
+    ++ (starts_of r.nested_comments
+    ++ (r.important_syntax
+    ++ tag_starts r.contexts))))
 
 -- What opens the children of a family.
 abbrev pub child_openers : Family → List (List ℕ)

@@ -11,7 +11,8 @@ use Rattle.tokei_syntax.specs.Row.{Row}
 use Rattle.tokei_rows.specs.Rows.{rows_at}
 use Rattle.tokei_table.specs.WellFormed.{has_tokens, names_twice, is_total, has_fallbacks}
 use Rattle.tokei_table.specs.declared.error.TableError.{TableError}
-use Rattle.tokei_table.specs.declared.error.TableError.TheVariants.{NotJson, Layout, Escape, Token, NamedTwice, NamedTotal, Fallback}
+use Rattle.tokei_table.specs.declared.error.TableError.TheVariants.{NotJson, Layout, Escape, Token, NamedTwice}
+use Rattle.tokei_table.specs.declared.error.TableError.TheVariants.{NamedTotal, Fallback}
 
 -- The JSON value of the bytes, which are UTF-8.
 unfoldable pub data_of : List ℕ → Option Data

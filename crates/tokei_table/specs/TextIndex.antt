@@ -1,5 +1,6 @@
 -- Which rows have a text, by groups of texts: an index that a look-up goes by, in place of a walk over the table.
-use Rattle.std.specs.Prelude.{◌≡◌, ℕ, ◌+◌, ◌*◌, ◌%◌, ◌<◌, ◌==◌, Bool, List, [], ◌∷◌, ◌++◌, Option, Some, None, length, cond, slice_index_or}
+use Rattle.std.specs.Prelude.{◌≡◌, ℕ, ◌+◌, ◌*◌, ◌%◌, ◌<◌, ◌==◌, Bool, if◌then◌else◌, List, [], ◌∷◌, ◌++◌, length}
+use Rattle.std.specs.Prelude.{slice_index_or, Option, Some, None}
 use Rattle.tokei_syntax.specs.Row.{Row}
 use Rattle.tokei_table.specs.Lookups.{row_at}
 
@@ -22,7 +23,7 @@ entries_from texts place (r ∷ rs) = entries_of place (texts r) ++ entries_from
 -- The places that stand beside that group.
 abbrev pub in_group : ℕ → List (ℕ × ℕ) → List ℕ
 in_group g [] = []
-in_group g (e ∷ es) = cond (e.0 == g) (e.1 ∷ in_group g es) (in_group g es)
+in_group g (e ∷ es) = if e.0 == g then e.1 ∷ in_group g es else in_group g es
 
 -- For each group the places that stand beside it.
 pub record AreGroups (entries : List (ℕ × ℕ)) (groups : List (List ℕ)) : Type 0 where
@@ -32,4 +33,4 @@ pub record AreGroups (entries : List (ℕ × ℕ)) (groups : List (List ℕ)) : 
 -- The first of the places at whose row the condition is true.
 abbrev pub first_among : (Row → Bool) → List Row → List ℕ → Option ℕ
 first_among test rows [] = None
-first_among test rows (p ∷ ps) = cond (test (row_at rows p)) (Some p) (first_among test rows ps)
+first_among test rows (p ∷ ps) = if test (row_at rows p) then Some p else first_among test rows ps

@@ -1,6 +1,7 @@
 //! A table in which languages gain extensions.
 ghost use Rattle.std.specs.Prelude.{◌≡◌, ◌++◌, map, IfOk, OnOk, string_bytes};
-ghost use Rattle.tokei_table.specs.Extended.{gained, addition_of, listed_for, with_extensions, extended_from, extensions_of, extended};
+ghost use Rattle.tokei_table.specs.Extended.{gained, addition_of, listed_for, with_extensions, extended_from};
+ghost use Rattle.tokei_table.specs.Extended.{extensions_of, extended};
 ghost use Rattle.tokei_syntax.specs.RowOf.{pair_of, pairs_of, tokens_of, row_of};
 ghost use Rattle.tokei_table.specs.WellFormed.{IsWellFormed};
 
@@ -36,7 +37,7 @@ fn copy(alloc: Global, row: &Syntax) -> Result<Syntax, AllocError>
     Ok(Syntax {
         key: String::from_str(alloc, row.key.as_str())?,
         name: String::from_str(alloc, row.name.as_str())?,
-        html: row.html,
+        kind: String::from_str(alloc, row.kind.as_str())?,
         line_comment: texts(alloc, &row.line_comment)?,
         multi_line_comments: pairs(alloc, &row.multi_line_comments)?,
         nested: row.nested,

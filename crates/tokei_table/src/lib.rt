@@ -12,6 +12,7 @@ mod path_suffixes;
 pub mod table;
 pub mod table_laws;
 mod text_index;
+mod tokens;
 mod well_formed;
 
 pub use error::TableError;

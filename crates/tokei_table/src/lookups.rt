@@ -1,10 +1,14 @@
 //! Which language of a table a word, a MIME type, a file's name or a script's head stands for. Of two languages the
 //! first in the table is answered.
-ghost use Rattle.std.specs.Prelude.{◌≡◌, ℕ, ◌≤◌, ◌<◌, length, map, take, is_some, option_map, bytes_eq, slice_index, IfOk, IfSome};
+ghost use Rattle.std.specs.Prelude.{◌≡◌, ℕ, ◌≤◌, ◌<◌, length, map, take, is_some, option_map, bytes_eq, slice_index};
+ghost use Rattle.std.specs.Prelude.{IfOk, IfSome};
 ghost use Rattle.std.specs.Str.{is_utf8, str_to_ascii_lowercase};
 ghost use Rattle.tokei_syntax.specs.RowOf.{row_of, tokens_of};
-ghost use Rattle.tokei_table.specs.Lookups.{first_where, holds, has_name, has_name_in_any_case, has_mime, has_extension, has_filename, ends_with_one, has_path_suffix, extension_of, from_lowered_name, from_file_name, row_at};
-ghost use Rattle.tokei_table.specs.Shebangs.{line_len, word_len, first_word, behind_word, has_env, from_env, has_shebang, from_words, head_line, from_shebang};
+ghost use Rattle.tokei_table.specs.Lookups.{first_where, holds, has_name, has_name_in_any_case, has_mime};
+ghost use Rattle.tokei_table.specs.Lookups.{has_extension, has_filename, ends_with_one, has_path_suffix};
+ghost use Rattle.tokei_table.specs.Lookups.{extension_of, from_lowered_name, from_file_name, row_at};
+ghost use Rattle.tokei_table.specs.Shebangs.{line_len, word_len, first_word, behind_word, has_env, from_env};
+ghost use Rattle.tokei_table.specs.Shebangs.{has_shebang, from_words, head_line, from_shebang};
 ghost use Rattle.tokei_table.specs.TextIndex.{first_among};
 
 use crate::language_type::LanguageType;

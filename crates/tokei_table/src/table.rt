@@ -9,7 +9,8 @@ ghost use Rattle.tokei_syntax.specs.RowOf.{row_of};
 ghost use Rattle.tokei_table.specs.Lookups.{row_at};
 ghost use Rattle.tokei_table.specs.PathSuffixes.{suffixed_from};
 ghost use Rattle.tokei_table.specs.TextIndex.{entries_from, group_of, in_group};
-ghost use Rattle.tokei_table.specs.declared.error.TableError.TheVariants.{NotJson as NotJsonFault, Memory as MemoryFault};
+ghost use Rattle.tokei_table.specs.declared.error.TableError.TheVariants.{NotJson as NotJsonFault};
+ghost use Rattle.tokei_table.specs.declared.error.TableError.TheVariants.{Memory as MemoryFault};
 
 use crate::error::TableError;
 use crate::extend::extended_rows;
@@ -34,11 +35,10 @@ pub struct LanguageTable {
 }
 
 impl Model for LanguageTable {
-    ghost use Rattle.std.specs.Prelude.{◌≡◌, List, map};
+    ghost use Rattle.std.specs.Prelude.{List, map};
     ghost use Rattle.tokei_syntax.specs.Row.{Row};
     ghost use Rattle.tokei_syntax.specs.RowOf.{row_of};
-    ghost use Rattle.tokei_table.specs.PathSuffixes.{suffixed_from};
-    ghost use Rattle.tokei_table.specs.TextIndex.{AreGroups, entries_from};
+    ghost use Rattle.tokei_table.specs.Indexed.{IsIndexed};
     ghost use Rattle.tokei_table.specs.WellFormed.{IsWellFormed};
 
     ghost Value = { List Row };
@@ -46,9 +46,7 @@ impl Model for LanguageTable {
     ghost view = { λ t. map row_of t.rows.items };
 
     ghost invariant = { λ t. IsWellFormed (map row_of t.rows.items)
-        × AreGroups (entries_from (λ r. r.extensions) 0 (map row_of t.rows.items)) t.by_extension
-        × AreGroups (entries_from (λ r. r.filenames) 0 (map row_of t.rows.items)) t.by_filename
-        × (t.suffixed.items ≡ suffixed_from 0 (map row_of t.rows.items)) };
+        × IsIndexed (map row_of t.rows.items) t.by_extension t.by_filename t.suffixed.items };
 }
 
 #[tactic(auto, unfolding(crate::specs::Outcome::data_of))]

@@ -5,8 +5,8 @@ ghost use Rattle.tokei_syntax.specs.RowOf.{row_of};
 ghost use Rattle.tokei_table.specs.WellFormed.{has_tokens, is_total, has_key, has_fallbacks};
 
 use crate::family::Family;
+use crate::tokens::{are_pairs, are_tokens};
 use tokei_syntax::Syntax;
-use tokei_syntax::syntax::{are_pairs, are_tokens};
 
 #[tactic(auto, unfolding(crate::specs::WellFormed::has_tokens))]
 fn has_tokens(row: &Syntax) -> bool

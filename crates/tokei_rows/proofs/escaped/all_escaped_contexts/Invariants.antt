@@ -5,4 +5,6 @@ use Rattle.tokei_rows.specs.Escaped.{is_escaped_context}
 use Rattle.tokei_rows.proofs.escaped.all_escaped_contexts.Given as goal
 
 abbrev pub invariant-loop-item : goal.invariant-loop-item
-invariant-loop-item l = all_items is_escaped_context (items_view l.item-items) ≡ all_items is_escaped_context (items_view (drop l.item-index l.item-items))
+invariant-loop-item l =
+    all_items is_escaped_context (items_view l.item-items)
+    ≡ all_items is_escaped_context (items_view (drop l.item-index l.item-items))

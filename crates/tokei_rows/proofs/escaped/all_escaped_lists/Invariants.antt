@@ -5,4 +5,6 @@ use Rattle.tokei_rows.specs.Escaped.{is_escaped_list}
 use Rattle.tokei_rows.proofs.escaped.all_escaped_lists.Given as goal
 
 abbrev pub invariant-loop-item : goal.invariant-loop-item
-invariant-loop-item l = all_items is_escaped_list (items_view l.item-items) ≡ all_items is_escaped_list (items_view (drop l.item-index l.item-items))
+invariant-loop-item l =
+    all_items is_escaped_list (items_view l.item-items)
+    ≡ all_items is_escaped_list (items_view (drop l.item-index l.item-items))

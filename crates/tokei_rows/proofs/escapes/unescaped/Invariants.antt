@@ -7,7 +7,9 @@ use Rattle.tokei_rows.specs.Escapes.{unescaped}
 use Rattle.tokei_rows.proofs.escapes.unescaped.Given as goal
 
 abbrev pub invariant-loop-c : goal.invariant-loop-c
-invariant-loop-c l = shadow (Utf8 l.rest) × (encode_utf8_all (unescaped (chars l.text)) ≡ string_bytes l.out ++ encode_utf8_all (unescaped (chars l.rest)))
+invariant-loop-c l =
+    shadow (Utf8 l.rest) × (encode_utf8_all (unescaped (chars l.text))
+    ≡ string_bytes l.out ++ encode_utf8_all (unescaped (chars l.rest)))
 
 abbrev pub decreases-loop-c : goal.decreases-loop-c
 decreases-loop-c l = length l.rest

@@ -4,4 +4,5 @@ use Rattle.tokei_rows.specs.Layout.{all_items, is_text}
 use Rattle.tokei_rows.proofs.layout.all_texts.Given as goal
 
 abbrev pub invariant-loop-item : goal.invariant-loop-item
-invariant-loop-item l = all_items is_text (items_view l.item-items) ≡ all_items is_text (items_view (drop l.item-index l.item-items))
+invariant-loop-item l =
+    all_items is_text (items_view l.item-items) ≡ all_items is_text (items_view (drop l.item-index l.item-items))

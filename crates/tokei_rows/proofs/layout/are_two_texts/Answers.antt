@@ -5,7 +5,11 @@ use Rattle.tokei_rows.proofs.Pairs.{too_few, too_many}
 use Rattle.tokei_rows.proofs.layout.are_two_texts.Goals as goal
 
 pub returns-in_default : goal.returns-in_default
-returns-in_default c = sym (ap (λ xs. are_two_texts (items_view xs)) (sym c.as_slice.ensures.value) ∙ (too_few c.as_slice.result.now c.in_default.len_below).0)
+returns-in_default c =
+    sym (ap (λ xs. are_two_texts (items_view xs)) (sym c.as_slice.ensures.value)
+    ∙ (too_few c.as_slice.result.now c.in_default.len_below).0)
 
 pub returns-in_default-2 : goal.returns-in_default-2
-returns-in_default-2 c = sym (ap (λ xs. are_two_texts (items_view xs)) (sym c.as_slice.ensures.value) ∙ (too_many c.as_slice.result.now c.in_default.len_at_least).0)
+returns-in_default-2 c =
+    sym (ap (λ xs. are_two_texts (items_view xs)) (sym c.as_slice.ensures.value)
+    ∙ (too_many c.as_slice.result.now c.in_default.len_at_least).0)

@@ -5,4 +5,5 @@ use Rattle.tokei_rows.specs.Rows.{pairs_in}
 use Rattle.tokei_rows.proofs.rows.pairs.Given as goal
 
 abbrev pub invariant-loop-item : goal.invariant-loop-item
-invariant-loop-item l = pairs_in (items_view l.item-items) ≡ pairs_of l.out.items ++ pairs_in (items_view (drop l.item-index l.item-items))
+invariant-loop-item l =
+    pairs_in (items_view l.item-items) ≡ pairs_of l.out.items ++ pairs_in (items_view (drop l.item-index l.item-items))

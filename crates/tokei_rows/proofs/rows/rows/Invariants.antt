@@ -5,4 +5,5 @@ use Rattle.tokei_rows.specs.Rows.{rows_in}
 use Rattle.tokei_rows.proofs.rows.rows.Given as goal
 
 abbrev pub invariant-loop-key : goal.invariant-loop-key
-invariant-loop-key l = rows_in (members_view l.members.entries) ≡ map row_of l.out.items ++ rows_in (members_view l.key-iterator)
+invariant-loop-key l =
+    rows_in (members_view l.members.entries) ≡ map row_of l.out.items ++ rows_in (members_view l.key-iterator)

@@ -5,4 +5,5 @@ use Rattle.tokei_rows.specs.Rows.{tags_in}
 use Rattle.tokei_rows.proofs.rows.tags.Given as goal
 
 abbrev pub invariant-loop-item : goal.invariant-loop-item
-invariant-loop-item l = tags_in (items_view l.item-items) ≡ tokens_of l.out.items ++ tags_in (items_view (drop l.item-index l.item-items))
+invariant-loop-item l =
+    tags_in (items_view l.item-items) ≡ tokens_of l.out.items ++ tags_in (items_view (drop l.item-index l.item-items))

@@ -5,4 +5,5 @@ use Rattle.tokei_rows.specs.Rows.{texts_of}
 use Rattle.tokei_rows.proofs.rows.texts.Given as goal
 
 abbrev pub invariant-loop-item : goal.invariant-loop-item
-invariant-loop-item l = texts_of (items_view l.item-items) ≡ tokens_of l.out.items ++ texts_of (items_view (drop l.item-index l.item-items))
+invariant-loop-item l =
+    texts_of (items_view l.item-items) ≡ tokens_of l.out.items ++ texts_of (items_view (drop l.item-index l.item-items))

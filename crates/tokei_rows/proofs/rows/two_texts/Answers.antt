@@ -6,4 +6,6 @@ use Rattle.tokei_rows.proofs.rows.two_texts.Goals as goal
 
 pub returns-then-items-ne2 : goal.returns-then-items-ne2
 returns-then-items-ne2 c =
-    same_pair _ _ c.new.ensures.bytes c.new-then-items-ne2.ensures.bytes ∙ sym (ap (λ xs. two_texts (items_view xs)) (sym c.as_slice-items.ensures.value) ∙ not_two c.as_slice-items.result.now (λ e. grind arith))
+    same_pair _ _ c.new.ensures.bytes c.new-then-items-ne2.ensures.bytes
+    ∙ sym (ap (λ xs. two_texts (items_view xs)) (sym c.as_slice-items.ensures.value)
+    ∙ not_two c.as_slice-items.result.now (λ e. grind arith))

@@ -5,4 +5,6 @@ use Rattle.tokei_syntax.specs.RowOf.{tokens_of}
 use Rattle.tokei_syntax.proofs.opener_group.is_second.Given as goal
 
 abbrev pub invariant-loop-opener : goal.invariant-loop-opener
-invariant-loop-opener l = list_any (goes_on_with l.byte) (tokens_of (drop l.opener-index l.openers)) ≡ list_any (goes_on_with l.byte) (tokens_of l.openers)
+invariant-loop-opener l =
+    list_any (goes_on_with l.byte) (tokens_of (drop l.opener-index l.openers))
+    ≡ list_any (goes_on_with l.byte) (tokens_of l.openers)

@@ -5,4 +5,6 @@ use Rattle.tokei_syntax.specs.RowOf.{tokens_of}
 use Rattle.tokei_syntax.proofs.opener_group.seconds_of.Given as goal
 
 abbrev pub invariant-loop-byte : goal.invariant-loop-byte
-invariant-loop-byte l = (length l.seconds.items ≡ l.byte) × ((x : ℕ) → x < l.byte → get_or l.seconds.items x false ≡ list_any (goes_on_with x) (tokens_of l.openers))
+invariant-loop-byte l =
+    (length l.seconds.items ≡ l.byte) × ((x : ℕ) → x < l.byte
+    → get_or l.seconds.items x false ≡ list_any (goes_on_with x) (tokens_of l.openers))

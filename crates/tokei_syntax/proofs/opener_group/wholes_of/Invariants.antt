@@ -5,4 +5,6 @@ use Rattle.tokei_syntax.specs.RowOf.{tokens_of}
 use Rattle.tokei_syntax.proofs.opener_group.wholes_of.Given as goal
 
 abbrev pub invariant-loop-byte : goal.invariant-loop-byte
-invariant-loop-byte l = (length l.wholes.items ≡ l.byte) × ((x : ℕ) → x < l.byte → get_or l.wholes.items x false ≡ list_any (is_whole_with x) (tokens_of l.openers))
+invariant-loop-byte l =
+    (length l.wholes.items ≡ l.byte) × ((x : ℕ) → x < l.byte
+    → get_or l.wholes.items x false ≡ list_any (is_whole_with x) (tokens_of l.openers))

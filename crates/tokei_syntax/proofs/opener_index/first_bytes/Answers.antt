@@ -1,11 +1,12 @@
 use Rattle.std.proofs.Common.{◌∙◌, sym, ap, take, get_or, string_bytes, ◌||◌}
-use Rattle.tokei_syntax.specs.FirstOpener.{has_byte, is_first, is_first_of}
+use Rattle.tokei_syntax.specs.FirstOpener.{is_first, is_first_of}
+use Rattle.tokei_bytes.specs.OneOf.{is_one_of}
 use Rattle.tokei_syntax.specs.RowOf.{tokens_of}
 use Rattle.tokei_syntax.proofs.FirstBytes.{is_first-none, is_first-push, tokens_more}
 use Rattle.tokei_syntax.proofs.opener_index.first_bytes.Goals as goal
 
 pub loop-opener-init : goal.loop-opener-init
-loop-opener-init c = λ x. ap (λ l. has_byte l x) c.new-firsts.ensures.items ∙ sym (is_first-none x)
+loop-opener-init c = λ x. ap (λ l. is_one_of l x) c.new-firsts.ensures.items ∙ sym (is_first-none x)
 
 pub loop-opener-preserved : goal.loop-opener-preserved
 loop-opener-preserved c = λ x.
@@ -13,5 +14,7 @@ loop-opener-preserved c = λ x.
     c.in_ok-add_first.ensures x
     ∙ ap (λ h. h || is_first_of x c.as_bytes.result.now) (c.loop-opener.invariant x)
     ∙ ap (λ o. is_first before x || is_first_of x o) (c.as_bytes.ensures.value ∙ ap string_bytes c.opener-item.is)
-    ∙ sym (is_first-push before (string_bytes (get_or c.args.openers.now c.loop-opener.opener-index c.opener-item.result)) x)
-    ∙ ap (λ l. is_first l x) (sym (tokens_more c.args.openers.now c.loop-opener.opener-index c.opener-item.result c.loop-opener-test.true))
+    ∙ sym (is_first-push before (string_bytes
+    (get_or c.args.openers.now c.loop-opener.opener-index c.opener-item.result)) x)
+    ∙ ap (λ l. is_first l x)
+    (sym (tokens_more c.args.openers.now c.loop-opener.opener-index c.opener-item.result c.loop-opener-test.true))

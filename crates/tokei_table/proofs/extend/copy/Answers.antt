@@ -8,7 +8,7 @@ returns c =
     same_row _ _
     (c.in_ok-from_str.ensures.ok ∙ c.as_str.ensures.value)
     (c.in_ok-from_str-2.ensures.ok ∙ c.as_str-2.ensures.value)
-    (refl)
+    (c.in_ok-from_str-3.ensures.ok ∙ c.as_str-3.ensures.value)
     (c.in_ok-texts.ensures ∙ ap tokens_of c.deref.ensures.value)
     (c.in_ok-pairs.ensures ∙ ap pairs_of c.deref-2.ensures.value)
     (refl)

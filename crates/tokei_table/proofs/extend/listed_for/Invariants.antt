@@ -4,4 +4,6 @@ use Rattle.tokei_syntax.specs.RowOf.{tokens_of}
 use Rattle.tokei_table.proofs.extend.listed_for.Given as goal
 
 abbrev pub invariant-loop-addition : goal.invariant-loop-addition
-invariant-loop-addition l = tokens_of l.out.items ++ listed_for l.place (map addition_of (drop l.addition-index l.additions)) ≡ listed_for l.place (map addition_of l.additions)
+invariant-loop-addition l =
+    tokens_of l.out.items ++ listed_for l.place (map addition_of (drop l.addition-index l.additions))
+    ≡ listed_for l.place (map addition_of l.additions)

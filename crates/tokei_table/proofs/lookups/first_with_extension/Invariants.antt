@@ -5,4 +5,6 @@ use Rattle.tokei_table.specs.TextIndex.{first_among}
 use Rattle.tokei_table.proofs.lookups.first_with_extension.Given as goal
 
 abbrev pub invariant-loop-place : goal.invariant-loop-place
-invariant-loop-place l = first_among (has_extension l.extension) (map row_of l.rows) (drop l.place-index l.places) ≡ first_among (has_extension l.extension) (map row_of l.rows) l.places
+invariant-loop-place l =
+    first_among (has_extension l.extension) (map row_of l.rows) (drop l.place-index l.places)
+    ≡ first_among (has_extension l.extension) (map row_of l.rows) l.places

@@ -5,4 +5,6 @@ use Rattle.tokei_syntax.specs.RowOf.{row_of}
 use Rattle.tokei_table.proofs.lookups.with_env.Given as goal
 
 abbrev pub invariant-loop-i : goal.invariant-loop-i
-invariant-loop-i l = first_where (has_env l.program) (map row_of l.rows) ≡ option_map (λ k. l.i + k) (first_where (has_env l.program) (map row_of (drop l.i l.rows)))
+invariant-loop-i l =
+    first_where (has_env l.program) (map row_of l.rows)
+    ≡ option_map (λ k. l.i + k) (first_where (has_env l.program) (map row_of (drop l.i l.rows)))

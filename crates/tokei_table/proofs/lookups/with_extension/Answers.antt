@@ -10,7 +10,8 @@ pub first_with_extension-requires : goal.first_with_extension-requires
 first_with_extension-requires c =
     let rows = c.rows.result.now in
     subst (Below (length rows)) (sym c.extension_places.ensures)
-    (places_below (λ r. r.extensions) (group_of c.args.extension.now) (length rows) c.args.table.now 0 (omega (arith, ap length c.rows.ensures, length-map rows row_of)))
+    (places_below (λ r. r.extensions) (group_of c.args.extension.now) (length rows) c.args.table.now 0
+    (omega (arith, ap length c.rows.ensures, length-map rows row_of)))
 
 pub returns : goal.returns
 returns c =

@@ -10,7 +10,8 @@ pub first_with_filename-requires : goal.first_with_filename-requires
 first_with_filename-requires c =
     let rows = c.rows.result.now in
     subst (Below (length rows)) (sym c.filename_places.ensures)
-    (places_below (λ r. r.filenames) (group_of c.args.name.now) (length rows) c.args.table.now 0 (omega (arith, ap length c.rows.ensures, length-map rows row_of)))
+    (places_below (λ r. r.filenames) (group_of c.args.name.now) (length rows) c.args.table.now 0
+    (omega (arith, ap length c.rows.ensures, length-map rows row_of)))
 
 pub returns : goal.returns
 returns c =

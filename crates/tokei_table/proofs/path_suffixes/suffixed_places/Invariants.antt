@@ -4,4 +4,5 @@ use Rattle.tokei_table.specs.PathSuffixes.{suffixed_from}
 use Rattle.tokei_table.proofs.path_suffixes.suffixed_places.Given as goal
 
 abbrev pub invariant-loop-place : goal.invariant-loop-place
-invariant-loop-place l = l.places.items ++ suffixed_from l.place (map row_of (drop l.place l.rows)) ≡ suffixed_from 0 (map row_of l.rows)
+invariant-loop-place l =
+    l.places.items ++ suffixed_from l.place (map row_of (drop l.place l.rows)) ≡ suffixed_from 0 (map row_of l.rows)

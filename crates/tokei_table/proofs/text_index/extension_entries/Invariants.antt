@@ -4,4 +4,6 @@ use Rattle.tokei_table.specs.TextIndex.{entries_from}
 use Rattle.tokei_table.proofs.text_index.extension_entries.Given as goal
 
 abbrev pub invariant-loop-place : goal.invariant-loop-place
-invariant-loop-place l = l.entries.items ++ entries_from (λ r. r.extensions) l.place (map row_of (drop l.place l.rows)) ≡ entries_from (λ r. r.extensions) 0 (map row_of l.rows)
+invariant-loop-place l =
+    l.entries.items ++ entries_from (λ r. r.extensions) l.place (map row_of (drop l.place l.rows))
+    ≡ entries_from (λ r. r.extensions) 0 (map row_of l.rows)

@@ -5,4 +5,6 @@ use Rattle.tokei_table.specs.WellFormed.{has_fallbacks}
 use Rattle.tokei_table.proofs.well_formed.all_have_fallbacks.Given as goal
 
 abbrev pub invariant-loop-row : goal.invariant-loop-row
-invariant-loop-row l = list_all (has_fallbacks (map row_of l.rows)) (map row_of (drop l.row-index l.rows)) ≡ list_all (has_fallbacks (map row_of l.rows)) (map row_of l.rows)
+invariant-loop-row l =
+    list_all (has_fallbacks (map row_of l.rows)) (map row_of (drop l.row-index l.rows))
+    ≡ list_all (has_fallbacks (map row_of l.rows)) (map row_of l.rows)

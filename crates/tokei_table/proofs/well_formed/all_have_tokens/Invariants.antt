@@ -5,4 +5,5 @@ use Rattle.tokei_table.specs.WellFormed.{has_tokens}
 use Rattle.tokei_table.proofs.well_formed.all_have_tokens.Given as goal
 
 abbrev pub invariant-loop-row : goal.invariant-loop-row
-invariant-loop-row l = list_all has_tokens (map row_of (drop l.row-index l.rows)) ≡ list_all has_tokens (map row_of l.rows)
+invariant-loop-row l =
+    list_all has_tokens (map row_of (drop l.row-index l.rows)) ≡ list_all has_tokens (map row_of l.rows)

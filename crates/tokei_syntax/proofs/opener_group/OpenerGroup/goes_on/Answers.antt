@@ -8,5 +8,7 @@ use Rattle.tokei_syntax.proofs.opener_group.OpenerGroup.goes_on.Goals as goal
 pub returns : goal.returns
 returns c =
     c.index.ensures
-    ∙ flag_is goes_on_with (tokens_of c.self.inside.openers.items) c.self.inside.seconds.items c.self.invariant.0 c.args.byte (omega arith) c.index.result.now
+    ∙ flag_is goes_on_with
+    (tokens_of c.self.inside.openers.items) c.self.inside.seconds.items c.self.invariant.0 c.args.byte
+    (omega arith) c.index.result.now
     ∙ ap (list_any (goes_on_with c.args.byte)) c.self.view_is

@@ -8,5 +8,7 @@ use Rattle.tokei_syntax.proofs.opener_group.OpenerGroup.is_decided.Goals as goal
 pub returns : goal.returns
 returns c =
     c.index.ensures
-    ∙ flag_is is_whole_with (tokens_of c.self.inside.openers.items) c.self.inside.wholes.items c.self.invariant.1 c.args.byte (omega arith) c.index.result.now
+    ∙ flag_is is_whole_with
+    (tokens_of c.self.inside.openers.items) c.self.inside.wholes.items c.self.invariant.1 c.args.byte
+    (omega arith) c.index.result.now
     ∙ ap (list_any (is_whole_with c.args.byte)) c.self.view_is

@@ -11,5 +11,6 @@ loop-at-preserved c =
       omega (arith, c.loop-at-test.true),
       one_more (λ k. get_or c.args.text.now k 0 ≡ c.args.byte) c.args.from at i.2 c.if-text-at.true,
       one_more (λ k. begins_with_one c.args.self.now (drop k c.args.text.now) ≡ false) c.args.from at i.3
-          (second_apart c.args.self.now c.args.text.now at c.loop-at-test.true (sym c.goes_on.ensures ∙ c.if-not-goes_on.true)),
+          (second_apart c.args.self.now c.args.text.now at c.loop-at-test.true
+          (sym c.goes_on.ensures ∙ c.if-not-goes_on.true)),
     )

@@ -5,7 +5,8 @@ use Rattle.tokei_syntax.proofs.opener_index.OpenerIndex.first_in.Goals as goal
 
 pub returns-then-at-text : goal.returns-then-at-text
 returns-then-at-text c =
-    let before = none_up_to c.args.self.now c.args.text.now c.loop-from.from c.next_first-at.result c.loop-from.invariant.1 c.next_first-at.ensures.none in
+    let before = none_up_to c.args.self.now c.args.text.now c.loop-from.from c.next_first-at.result
+    c.loop-from.invariant.1 c.next_first-at.ensures.none in
     first_none c.args.self.now c.args.text.now (λ k h. before k (omega (arith, h, c.if-at-text.true)))
 
 pub returns-then-stands : goal.returns-then-stands
@@ -13,8 +14,10 @@ returns-then-stands c =
     let at = c.next_first-at.result in
     let inside : at < length c.args.text.now = omega (arith, c.next_first-at.ensures.within, c.if-at-text.false) in
     first_at c.args.self.now c.args.text.now at inside
-    (none_up_to c.args.self.now c.args.text.now c.loop-from.from at c.loop-from.invariant.1 c.next_first-at.ensures.none)
-    (sym (group_at c.in-Some.group.now c.args.self.now (get_or c.args.text.now at 0) c.in-Some.ensures.group c.args.text.now at inside refl)
+    (none_up_to c.args.self.now c.args.text.now c.loop-from.from at c.loop-from.invariant.1
+    c.next_first-at.ensures.none)
+    (sym (group_at c.in-Some.group.now c.args.self.now
+    (get_or c.args.text.now at 0) c.in-Some.ensures.group c.args.text.now at inside refl)
     ∙ sym c.stands.ensures ∙ c.if-stands.true)
 
 pub loop-from-preserved-else-stands : goal.loop-from-preserved-else-stands
@@ -29,8 +32,11 @@ loop-from-preserved-else-stands c =
           (none_up_to os text c.loop-from.from at c.loop-from.invariant.1 c.next_first-at.ensures.none)
           (sym (group_at c.in-Some.group.now os byte c.in-Some.ensures.group text at inside refl)
           ∙ sym c.stands.ensures ∙ c.if-stands.false)
-          (λ k a h. sym (group_at c.in-Some.group.now os byte c.in-Some.ensures.group text k (omega (arith, h, c.passed-from.ensures.within)) (c.passed-from.ensures.run k a h)) ∙ c.passed-from.ensures.none k a h),
+          (λ k a h. sym (group_at c.in-Some.group.now os byte c.in-Some.ensures.group text k
+          (omega (arith, h, c.passed-from.ensures.within)) (c.passed-from.ensures.run k a h))
+          ∙ c.passed-from.ensures.none k a h),
     )
 
 pub returns : goal.returns
-returns c = first_none c.args.self.now c.args.text.now (λ k h. c.loop-from.invariant.1 k (omega (arith, h, c.loop-from-test.false)))
+returns c = first_none c.args.self.now c.args.text.now
+    (λ k h. c.loop-from.invariant.1 k (omega (arith, h, c.loop-from-test.false)))

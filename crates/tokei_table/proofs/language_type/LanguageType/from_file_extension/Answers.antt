@@ -5,4 +5,7 @@ use Rattle.tokei_table.proofs.language_type.LanguageType.from_file_extension.Goa
 
 pub returns-clause-of_table : goal.returns-clause-of_table
 returns-clause-of_table c =
-    same_within c.args.table.now c.language.result (first_where (has_extension c.args.extension.now) c.args.table.now) (c.language.ensures ∙ c.with_extension.ensures ∙ ap (λ t. first_where (has_extension t) c.args.table.now) c.as_bytes.ensures.value) (first_within (has_extension c.args.extension.now) c.args.table.now)
+    same_within c.args.table.now c.language.result (first_where (has_extension c.args.extension.now) c.args.table.now)
+    (c.language.ensures ∙ c.with_extension.ensures
+    ∙ ap (λ t. first_where (has_extension t) c.args.table.now) c.as_bytes.ensures.value)
+    (first_within (has_extension c.args.extension.now) c.args.table.now)

@@ -5,4 +5,5 @@ use Rattle.tokei_table.proofs.language_type.LanguageType.from_file_name.Goals as
 
 pub returns-clause-of_table : goal.returns-clause-of_table
 returns-clause-of_table c =
-    same_within c.args.table.now c.language.result (from_lowered_name c.args.table.now c.as_bytes.result.now) (c.language.ensures ∙ c.in_lowered_name.ensures) (name_within c.args.table.now c.as_bytes.result.now)
+    same_within c.args.table.now c.language.result (from_lowered_name c.args.table.now c.as_bytes.result.now)
+    (c.language.ensures ∙ c.in_lowered_name.ensures) (name_within c.args.table.now c.as_bytes.result.now)

@@ -5,4 +5,6 @@ use Rattle.tokei_table.proofs.language_type.LanguageType.from_shebang_bytes.Goal
 
 pub returns-clause-of_table : goal.returns-clause-of_table
 returns-clause-of_table c =
-    same_within c.args.table.now c.language.result (from_shebang c.args.table.now c.args.head.now) (c.language.ensures ∙ c.in_head.ensures ∙ ap (λ rs. from_shebang rs c.args.head.now) c.rows.ensures) (line_within c.args.table.now (head_line c.args.head.now))
+    same_within c.args.table.now c.language.result (from_shebang c.args.table.now c.args.head.now)
+    (c.language.ensures ∙ c.in_head.ensures ∙ ap (λ rs. from_shebang rs c.args.head.now) c.rows.ensures)
+    (line_within c.args.table.now (head_line c.args.head.now))

@@ -4,4 +4,5 @@ use Rattle.tokei_syntax.specs.RowOf.{row_of}
 use Rattle.tokei_table.proofs.language_type.LanguageType.list.Given as goal
 
 abbrev pub invariant-loop-i : goal.invariant-loop-i
-invariant-loop-i l = map listed l.out.items ++ languages_from l.i (map row_of (drop l.i l.rows)) ≡ languages_from 0 (map row_of l.rows)
+invariant-loop-i l =
+    map listed l.out.items ++ languages_from l.i (map row_of (drop l.i l.rows)) ≡ languages_from 0 (map row_of l.rows)

@@ -8,5 +8,7 @@ use Rattle.tokei_table.proofs.language_type.LanguageType.openers.Goals as goal
 
 pub returns-clause-nonempty : goal.returns-clause-nonempty
 returns-clause-nonempty c =
-    if_ok_more c.openers.result (λ v. tokens_of v.items ≡ openers (row_of c.syntax.result.now)) (λ v. list_all is_nonempty (tokens_of v.items) ≡ true)
-    (λ v e. ap (list_all is_nonempty) e ∙ openers_nonempty (row_of c.syntax.result.now) c.syntax.ensures.tokens) c.openers.ensures
+    if_ok_more c.openers.result (λ v. tokens_of v.items ≡ openers (row_of c.syntax.result.now))
+    (λ v. list_all is_nonempty (tokens_of v.items) ≡ true)
+    (λ v e. ap (list_all is_nonempty) e ∙ openers_nonempty
+    (row_of c.syntax.result.now) c.syntax.ensures.tokens) c.openers.ensures

@@ -6,7 +6,9 @@ use Rattle.tokei_table.proofs.RowSound.{all_at, sound_row}
 use Rattle.tokei_table.proofs.table.LanguageTable.syntax.Goals as goal
 
 tokens : (c : goal.After-index-2) → has_tokens (row_of c.index-2.result.now) ≡ true
-tokens c = ap (λ s. has_tokens (row_of s)) c.index-2.ensures ∙ all_at has_tokens row_of c.self.inside.rows.items c.index.result c.index-2.result.now c.self.invariant.0.tokens (omega (arith, c.requires, c.index.ensures, ap length c.self.view_is, length-map c.self.inside.rows.items row_of))
+tokens c = ap (λ s. has_tokens (row_of s)) c.index-2.ensures
+    ∙ all_at has_tokens row_of c.self.inside.rows.items c.index.result c.index-2.result.now c.self.invariant.0.tokens
+    (omega (arith, c.requires, c.index.ensures, ap length c.self.view_is, length-map c.self.inside.rows.items row_of))
 
 pub returns-clause-tokens : goal.returns-clause-tokens
 returns-clause-tokens c = tokens c
