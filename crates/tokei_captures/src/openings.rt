@@ -106,7 +106,7 @@ pub fn start_markdown(text: &[u8], from: usize, to: usize) -> Option<Capture<'_>
     ensures { result ≡ option_map (captured text.now from) (fence_opening (part_of text.now from to)) }
 {
     let part = &text[from..to];
-    let start = first_fence(part)?;
+    let start = first_fence(text, from, to)?;
     Some(captured(
         text,
         from,

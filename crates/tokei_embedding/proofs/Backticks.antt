@@ -1,7 +1,11 @@
--- Where three backticks can't stand.
-use Rattle.std.proofs.Common.{◌≡◌, ℕ, suc, zero, ◌+◌, ◌-◌, ◌<◌, ◌≤◌, false, ◌&&◌, ◌==◌, List, length, drop, get_or, ◌⊎◌, inl, inr, refl, ◌∙◌, ap, arith}
+-- Where three backticks stand, and where they can't.
+use Rattle.std.proofs.Common.{◌≡◌, ℕ, suc, zero, ◌+◌, ◌-◌, ◌<◌, ◌≤◌, true, false, ◌&&◌, ◌==◌, List, length, take, drop}
+use Rattle.std.proofs.Common.{get_or, ◌⊎◌, inl, inr, refl, sym, ◌∙◌, ap, arith, get_or-take, get_or-drop}
 use Rattle.std.proofs.lemmas.Bool.{cases_lt}
+use Rattle.std.proofs.lemmas.List.{drop-take}
+use Rattle.tokei_syntax.proofs.Finds.{occurs-begins}
 use Rattle.tokei_syntax.specs.Bytes.{begins}
+use Rattle.tokei_embedding.proofs.FirstPlaces.{part_length}
 use Rattle.tokei_embedding.proofs.Places.{begins-at, not_true}
 use Rattle.tokei_embedding.specs.Fences.{fence, opens_fence, begins_info}
 
@@ -70,3 +74,49 @@ none_until t from at to p before behind l m = by (cases_lt p at)
     by : (p < at) ⊎ (at ≤ p) → begins fence (drop p t) ≡ false
     by (inl k) = before p l k
     by (inr k) = behind p k m
+
+-- what a text's front holds from a place on
+pub front_from : (t : List ℕ) (p to : ℕ) → p ≤ to → drop p (take to t) ≡ take (to - p) (drop p t)
+front_from t p to l =
+    let e : to ≡ p + (to - p) = omega arith in
+    ap (λ k. drop p (take k t)) e ∙ drop-take p (to - p) t
+
+-- where no backtick stands in the text none stands in its front
+pub apart_in_front : (t : List ℕ) (from end to : ℕ) → end ≤ to
+    → ((q : ℕ) → from ≤ q → q < end → (get_or t q 0 == 96) ≡ false)
+    → (q : ℕ) → from ≤ q → q < end → (get_or (take to t) q 0 == 96) ≡ false
+apart_in_front t from end to h apart q l m = ap (λ x. x == 96) (get_or-take to t q 0 (omega arith)) ∙ apart q l m
+
+-- what stands in the front stands in the text
+pub read_there : (t : List ℕ) (k to : ℕ) → k < to → get_or (take to t) k 0 ≡ 96 → get_or t k 0 ≡ 96
+read_there t k to l h = sym (get_or-take to t k 0 l) ∙ h
+
+-- a fence that isn't in the front from a place on isn't in the rest of it
+pub none_in_part : (t : List ℕ) (from end to : ℕ) → end ≤ to
+    → ((p : ℕ) → from ≤ p → p < end → begins fence (drop p (take to t)) ≡ false)
+    → (p : ℕ) → from ≤ p → p < end → begins fence (take (to - p) (drop p t)) ≡ false
+none_in_part t from end to h none p l m = ap (begins fence) (sym (front_from t p to (omega arith))) ∙ none p l m
+
+-- three backticks in a row are a fence
+pub three_stand : (t : List ℕ) (third to : ℕ) → 2 ≤ third → third < to → to ≤ length t
+    → get_or t third 0 ≡ 96 → get_or t (third - 1) 0 ≡ 96 → get_or t (third - 2) 0 ≡ 96
+    → begins fence (take (to - (third - 2)) (drop (third - 2) t)) ≡ true
+three_stand t third to l m n e f g =
+    occurs-begins fence (take (to - (third - 2)) (drop (third - 2) t)) (record {
+      fits = omega (arith, part_length t (third - 2) (to - (third - 2)) (omega arith));
+      reads = reads;
+    })
+  where
+    at : (a b : ℕ) → a ≡ b → get_or t b 0 ≡ 96 → get_or t a 0 ≡ 96
+    at a b s h = ap (λ k. get_or t k 0) s ∙ h
+
+    each : (j : ℕ) → j < 3 → get_or t ((third - 2) + (0 + j)) 0 ≡ 96
+    each zero k = at ((third - 2) + (0 + 0)) (third - 2) (omega arith) g
+    each (suc zero) k = at ((third - 2) + (0 + 1)) (third - 1) (omega arith) f
+    each (suc (suc zero)) k = at ((third - 2) + (0 + 2)) third (omega arith) e
+    each (suc (suc (suc j))) k = absurd (omega (arith, k))
+
+    reads : (j : ℕ) → j < 3 → get_or (take (to - (third - 2)) (drop (third - 2) t)) (0 + j) 0 ≡ get_or fence j 0
+    reads j k =
+        get_or-take (to - (third - 2)) (drop (third - 2) t) (0 + j) 0 (omega arith)
+        ∙ get_or-drop (third - 2) t (0 + j) 0 ∙ each j k ∙ sym (fence_byte j k)

@@ -1,6 +1,7 @@
 pub mod BlockLaws
 pub mod DocComments
 pub mod Fences
+pub mod NextOpenings
 pub mod Remembered
 pub mod Searches
 pub mod Seen

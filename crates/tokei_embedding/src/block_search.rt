@@ -1,12 +1,12 @@
 //! The search for the blocks of one text.
-ghost use Rattle.std.specs.Prelude.{◌≡◌, ℕ, ◌-◌, ◌≤◌, ◌<◌, true, None, IfSome, List, length, take, drop, option_map};
+ghost use Rattle.std.specs.Prelude.{◌≡◌, ℕ, ◌-◌, ◌≤◌, ◌<◌, true, IfSome, List, length, drop, option_map};
+ghost use Rattle.tokei_embedding.specs.NextOpenings.{part_of, OpensNoElement};
 ghost use Rattle.tokei_embedding.specs.Searches.{first_of, is_at};
 ghost use Rattle.tokei_embedding.specs.Seen.{tag_seen};
-ghost use Rattle.tokei_embedding.specs.TagSearches.{SeeksTags};
 ghost use Rattle.tokei_embedding.specs.Tags.{token_of, tag_block};
 ghost use Rattle.tokei_embedding.specs.TargetBlocks.{target_of};
 
-use crate::tag_search::TagSearch;
+use crate::tag_searches::TagSearches;
 use crate::tags::{Tag, TagAt};
 use crate::target_blocks::target_of;
 use std::marker::Model;
@@ -17,9 +17,9 @@ use std::marker::Model;
 #[derive(Drop)]
 pub struct BlockSearch<'a> {
     text: &'a [u8],
-    script: TagSearch<'a>,
-    style: TagSearch<'a>,
-    template: TagSearch<'a>,
+    /// None until an element is asked for: most texts have none.
+    tags: Option<TagSearches<'a>>,
+    /// None until the target is asked for.
     target: Option<Option<&'a [u8]>>,
 }
 
@@ -28,7 +28,8 @@ impl<'a> Model for BlockSearch<'a> {
 
     ghost view = { λ s. s.text.now };
 
-    ghost invariant = { λ s. SeeksTags s.text.now s.script s.style s.template × IfSome s.target (λ t. option_map (λ w. w.now) t ≡ target_of s.text.now) };
+    ghost invariant = { λ s. IfSome s.tags (λ tags. tags ≡ s.text.now)
+        × IfSome s.target (λ t. option_map (λ w. w.now) t ≡ target_of s.text.now) };
 }
 
 impl<'a> BlockSearch<'a> {
@@ -38,9 +39,7 @@ impl<'a> BlockSearch<'a> {
     {
         BlockSearch {
             text,
-            script: TagSearch::new(Tag::Script, text),
-            style: TagSearch::new(Tag::Style, text),
-            template: TagSearch::new(Tag::Template, text),
+            tags: None,
             target: None,
         }
     }
@@ -52,13 +51,18 @@ impl<'a> BlockSearch<'a> {
         requires order { from ≤ place }
         requires inside { place < to }
         requires ends { to ≤ length self.old }
-        ensures block { option_map tag_seen result ≡ tag_block tag (take (to - from) (drop from self.old)) (place - from) (drop place self.old) }
+        ensures block { option_map tag_seen result
+            ≡ tag_block tag (part_of self.old from to) (place - from) (drop place self.old) }
         ensures same { self.new ≡ self.old }
     {
-        match tag {
-            Tag::Script => self.script.tag_at(from, place, to),
-            Tag::Style => self.style.tag_at(from, place, to),
-            Tag::Template => self.template.tag_at(from, place, to),
+        match &mut self.tags {
+            Some(tags) => tags.tag_at(tag, from, place, to),
+            None => {
+                let mut tags = TagSearches::new(self.text);
+                let found = tags.tag_at(tag, from, place, to);
+                self.tags = Some(tags);
+                found
+            }
         }
     }
 
@@ -70,14 +74,18 @@ impl<'a> BlockSearch<'a> {
         requires ends { to ≤ length self.old }
         ensures low { at ≤ result }
         ensures high { result ≤ to }
-        ensures none { (p : ℕ) → at ≤ p → p < result → tag_block tag (take (to - start) (drop start self.old)) (p - start) (drop p self.old) ≡ None }
-        ensures exact { result < to → is_at (result - start) (first_of (token_of tag) (take (to - start) (drop start self.old))) ≡ true }
+        ensures none { OpensNoElement tag self.old start to at result }
+        ensures exact { result < to → is_at (result - start) (first_of (token_of tag) (part_of self.old start to)) ≡ true }
         ensures same { self.new ≡ self.old }
     {
-        match tag {
-            Tag::Script => self.script.next_tag(start, at, to),
-            Tag::Style => self.style.next_tag(start, at, to),
-            Tag::Template => self.template.next_tag(start, at, to),
+        match &mut self.tags {
+            Some(tags) => tags.next_tag(tag, start, at, to),
+            None => {
+                let mut tags = TagSearches::new(self.text);
+                let place = tags.next_tag(tag, start, at, to);
+                self.tags = Some(tags);
+                place
+            }
         }
     }
 

@@ -1,10 +1,11 @@
 //! The fences of Markdown.
-ghost use Rattle.std.specs.Prelude.{◌≡◌, ℕ, ◌+◌, ◌-◌, ◌≤◌, ◌<◌, false, IfSome, length, take, drop, option_map};
+ghost use Rattle.std.specs.Prelude.{◌≡◌, ℕ, ◌+◌, ◌-◌, ◌≤◌, ◌<◌, true, false, IfSome, length, take, drop, option_map};
 ghost use Rattle.tokei_syntax.specs.Bytes.{begins};
 ghost use Rattle.tokei_embedding.specs.Fences.{fence, solid_len, opens_fence, is_solid_fence, info_len, first_fence, closing_len, fence_from, fence_block};
+ghost use Rattle.tokei_embedding.specs.Searches.{first_of};
 ghost use Rattle.tokei_embedding.specs.Seen.{fence_seen};
 
-use crate::searches::{first_of, is_at};
+use crate::searches::is_at;
 use tokei_bytes::first_of_one;
 use tokei_syntax::ext::is_whitespace;
 
@@ -69,19 +70,22 @@ pub fn info_len(opening: &[u8]) -> usize
     solid_len(&opening[3..])
 }
 
-/// The first place from `from` on at which three backticks stand, or the text's length.
-fn next_backticks(text: &[u8], from: usize) -> usize
-    requires { from ≤ length text.now }
+/// The first place of the text, from `from` to before `to`, at which three backticks stand that end by `to`, or `to` where
+/// there is none.
+fn next_backticks(text: &[u8], from: usize, to: usize) -> usize
+    requires order { from ≤ to }
+    requires within { to ≤ length text.now }
     ensures low { from ≤ result }
-    ensures high { result ≤ length text.now }
-    ensures none { (p : ℕ) → from ≤ p → p < result → begins fence (drop p text.now) ≡ false }
+    ensures high { result ≤ to }
+    ensures passed { (p : ℕ) → from ≤ p → p < result → begins fence (take (to - p) (drop p text.now)) ≡ false }
+    ensures found { result < to → begins fence (take (to - result) (drop result text.now)) ≡ true }
 {
     let mut at = from;
-    while text.len() - at > 2 {
+    while to - at > 2 {
         // no fence begins two places or more before the next backtick behind it
-        let third = first_of_one(b'`', text, at + 2, text.len());
-        if third == text.len() {
-            return third;
+        let third = first_of_one(b'`', text, at + 2, to);
+        if third == to {
+            return to;
         }
         if text[third - 1] != b'`' {
             at = third;
@@ -91,26 +95,41 @@ fn next_backticks(text: &[u8], from: usize) -> usize
             return third - 2;
         }
     }
-    text.len()
+    to
 }
 
-/// The place of the part's first fence opening: three backticks, bytes that aren't blank, and one blank.
-pub fn first_fence(part: &[u8]) -> Option<usize>
-    ensures value { result ≡ first_fence part.now }
-    ensures within { IfSome result (λ i. i + (info_len (drop i part.now) + 4) ≤ length part.now) }
+/// The place of the first fence opening in the part `text[from..to]`, counted from its front: three backticks, bytes that
+/// aren't blank, and one blank.
+pub fn first_fence(text: &[u8], from: usize, to: usize) -> Option<usize>
+    requires order { from ≤ to }
+    requires ends { to ≤ length text.now }
+    ensures value { result ≡ first_fence (take (to - from) (drop from text.now)) }
+    ensures within { let part = take (to - from) (drop from text.now) in IfSome result (λ i. i + (info_len (drop i part) + 4) ≤ to - from) }
 {
-    let mut i = next_backticks(part, 0);
-    while i < part.len() {
-        let rest = &part[i..];
+    let mut at = next_backticks(text, from, to);
+    while at < to {
+        let rest = &text[at..to];
         if opens_fence(rest) {
-            return Some(i);
+            return Some(at - from);
         }
         if is_solid_fence(rest) {
             return None;
         }
-        i = next_backticks(part, i + 1);
+        at = next_backticks(text, at + 1, to);
     }
     None
+}
+
+/// The first place in the text at which three backticks stand.
+fn closing_place(text: &[u8]) -> Option<usize>
+    ensures value { result ≡ first_of fence text.now }
+    ensures within { IfSome result (λ i. i + 3 ≤ length text.now) }
+{
+    let place = next_backticks(text, 0, text.len());
+    if place == text.len() {
+        return None;
+    }
+    Some(place)
 }
 
 /// How many bytes a closing fence has, by those behind its backticks: a blank there belongs to it.
@@ -131,7 +150,7 @@ fn fence_from<'a>(rest: &'a [u8], info_len: usize) -> FenceAt<'a>
 {
     let info = &rest[3..info_len + 3];
     let behind = &rest[info_len + 4..];
-    match first_of(behind, FENCE) {
+    match closing_place(behind) {
         None => FenceAt {
             info,
             contents: behind,
@@ -158,7 +177,7 @@ pub fn fence_at<'a>(text: &'a [u8], from: usize, place: usize, to: usize) -> Opt
     if !opens_fence(here) {
         return None;
     }
-    if !is_at(first_fence(&text[from..to]), place - from) {
+    if !is_at(first_fence(text, from, to), place - from) {
         return None;
     }
     Some(fence_from(&text[place..], info_len(here)))

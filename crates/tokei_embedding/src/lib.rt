@@ -15,6 +15,7 @@ mod opening_search;
 mod searches;
 mod spans;
 mod tag_search;
+mod tag_searches;
 mod tags;
 mod target_blocks;
 

@@ -1,10 +1,11 @@
 //! The next place at which a block can open, so that a walk of a part looks for its children once.
-ghost use Rattle.std.specs.Prelude.{◌≡◌, ℕ, ◌+◌, ◌-◌, ◌≤◌, ◌<◌, true, false, is_some, IfSome, None, length, take, drop, codes, slice_index};
+ghost use Rattle.std.specs.Prelude.{◌≡◌, ℕ, ◌+◌, ◌-◌, ◌≤◌, ◌<◌, true, false, is_some, IfSome, None};
+ghost use Rattle.std.specs.Prelude.{length, drop, codes, slice_index};
 ghost use Rattle.tokei_syntax.specs.Bytes.{is_blank};
 ghost use Rattle.tokei_embedding.specs.DocComments.{first_line, front_mark, doc_block};
-ghost use Rattle.tokei_embedding.specs.Fences.{first_fence, fence_block};
+ghost use Rattle.tokei_embedding.specs.Fences.{first_fence};
+ghost use Rattle.tokei_embedding.specs.NextOpenings.{part_of, OpensNoFence, OpensNoTarget};
 ghost use Rattle.tokei_embedding.specs.Searches.{first_of, is_at};
-ghost use Rattle.tokei_embedding.specs.TargetBlocks.{target_block};
 
 use crate::doc_comments::front_mark;
 use crate::fences::first_fence;
@@ -38,10 +39,10 @@ pub fn next_fence(text: &[u8], start: usize, at: usize, to: usize) -> usize
     requires ends { to ≤ length text.now }
     ensures low { at ≤ result }
     ensures high { result ≤ to }
-    ensures none { (p : ℕ) → at ≤ p → p < result → fence_block (take (to - start) (drop start text.now)) (p - start) (drop p text.now) ≡ None }
-    ensures exact { result < to → is_at (result - start) (first_fence (take (to - start) (drop start text.now))) ≡ true }
+    ensures none { OpensNoFence text.now start to at result }
+    ensures exact { result < to → is_at (result - start) (first_fence (part_of text.now start to)) ≡ true }
 {
-    next_of(first_fence(&text[start..to]), start, at, to)
+    next_of(first_fence(text, start, to), start, at, to)
 }
 
 /// The first place from `at` on at which a block of the target language can open in the part `text[start..to]`: its
@@ -52,8 +53,8 @@ pub fn next_target(text: &[u8], start: usize, at: usize, to: usize) -> usize
     requires ends { to ≤ length text.now }
     ensures low { at ≤ result }
     ensures high { result ≤ to }
-    ensures none { (p : ℕ) → at ≤ p → p < result → target_block (take (to - start) (drop start text.now)) (p - start) (drop p text.now) ≡ None }
-    ensures exact { result < to → is_at (result - start) (first_of (codes "{=") (take (to - start) (drop start text.now))) ≡ true }
+    ensures none { OpensNoTarget text.now start to at result }
+    ensures exact { result < to → is_at (result - start) (first_of (codes "{=") (part_of text.now start to)) ≡ true }
 {
     next_of(first_of(&text[start..to], OPENER), start, at, to)
 }

@@ -1,5 +1,6 @@
 //! The elements of one tag in a text.
-ghost use Rattle.std.specs.Prelude.{◌≡◌, ℕ, ◌-◌, ◌≤◌, ◌<◌, true, None, length, take, drop, option_map};
+ghost use Rattle.std.specs.Prelude.{◌≡◌, ◌-◌, ◌≤◌, ◌<◌, true, length, drop, option_map};
+ghost use Rattle.tokei_embedding.specs.NextOpenings.{part_of, OpensNoElement};
 ghost use Rattle.tokei_embedding.specs.Searches.{first_of, is_at};
 ghost use Rattle.tokei_embedding.specs.Seen.{tag_seen};
 ghost use Rattle.tokei_embedding.specs.TagSearches.{TagSought, SeeksElements};
@@ -30,7 +31,8 @@ impl<'a> Model for TagSearch<'a> {
 
     ghost view = { λ s. record { tag = s.tag; text = s.text.now } };
 
-    ghost invariant = { λ s. SeeksElements (record { tag = s.tag; text = s.text.now }) s.tokens s.openings s.closers s.blanks };
+    ghost invariant = { λ s.
+        SeeksElements (record { tag = s.tag; text = s.text.now }) s.tokens s.openings s.closers s.blanks };
 }
 
 impl<'a> TagSearch<'a> {
@@ -55,7 +57,8 @@ impl<'a> TagSearch<'a> {
         requires order { from ≤ place }
         requires inside { place < to }
         requires ends { to ≤ length self.old.text }
-        ensures block { option_map tag_seen result ≡ tag_block self.old.tag (take (to - from) (drop from self.old.text)) (place - from) (drop place self.old.text) }
+        ensures block { option_map tag_seen result
+            ≡ tag_block self.old.tag (part_of self.old.text from to) (place - from) (drop place self.old.text) }
         ensures same { self.new ≡ self.old }
     {
         if !self.text[place..to].starts_with(token_of(self.tag)) {
@@ -75,7 +78,8 @@ impl<'a> TagSearch<'a> {
     fn element_to(&mut self, value: Option<&'a [u8]>, len: usize, start: usize) -> Option<TagAt<'a>>
         requires within { len ≤ start }
         requires inside { start ≤ length self.old.text }
-        ensures element { option_map tag_seen result ≡ element_to (option_map (λ w. w.now) value.entry) len (drop start self.old.text) (first_of (closer_of self.old.tag) (drop start self.old.text)) }
+        ensures element { let behind = drop start self.old.text in option_map tag_seen result
+            ≡ element_to (option_map (λ w. w.now) value.entry) len behind (first_of (closer_of self.old.tag) behind) }
         ensures same { self.new ≡ self.old }
     {
         let at = self.closers.first_in(start, self.text.len())?;
@@ -97,8 +101,9 @@ impl<'a> TagSearch<'a> {
         requires ends { to ≤ length self.old.text }
         ensures low { at ≤ result }
         ensures high { result ≤ to }
-        ensures none { (p : ℕ) → at ≤ p → p < result → tag_block self.old.tag (take (to - start) (drop start self.old.text)) (p - start) (drop p self.old.text) ≡ None }
-        ensures exact { result < to → is_at (result - start) (first_of (token_of self.old.tag) (take (to - start) (drop start self.old.text))) ≡ true }
+        ensures none { OpensNoElement self.old.tag self.old.text start to at result }
+        ensures exact { result < to
+            → is_at (result - start) (first_of (token_of self.old.tag) (part_of self.old.text start to)) ≡ true }
         ensures same { self.new ≡ self.old }
     {
         next_of(self.tokens.first_in(start, to), start, at, to)

@@ -1,9 +1,13 @@
-use Rattle.std.proofs.Common.{◌≡◌, ℕ, ◌-◌, ◌<◌, ◌≤◌, false, length, drop}
+use Rattle.std.proofs.Common.{◌≡◌, ℕ, ◌-◌, ◌<◌, ◌≤◌, false, take, drop}
 use Rattle.tokei_embedding.specs.Fences.{opens_fence}
 use Rattle.tokei_embedding.proofs.fences.first_fence.Given as goal
 
-abbrev pub invariant-loop-i : goal.invariant-loop-i
-invariant-loop-i l = (l.i ≤ length l.part) × ((j : ℕ) → j < l.i → opens_fence (drop j l.part) ≡ false)
+abbrev pub invariant-loop-at : goal.invariant-loop-at
+invariant-loop-at l = record {
+  low : l.from ≤ l.at;
+  high : l.at ≤ l.to;
+  none : (j : ℕ) → j < l.at - l.from → opens_fence (drop j (take (l.to - l.from) (drop l.from l.text))) ≡ false;
+}
 
-abbrev pub decreases-loop-i : goal.decreases-loop-i
-decreases-loop-i l = length l.part - l.i
+abbrev pub decreases-loop-at : goal.decreases-loop-at
+decreases-loop-at l = l.to - l.at

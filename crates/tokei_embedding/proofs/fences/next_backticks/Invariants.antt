@@ -1,4 +1,4 @@
-use Rattle.std.proofs.Common.{◌≡◌, ℕ, ◌-◌, ◌<◌, ◌≤◌, false, length, drop}
+use Rattle.std.proofs.Common.{◌≡◌, ℕ, ◌-◌, ◌<◌, ◌≤◌, false, take, drop}
 use Rattle.tokei_syntax.specs.Bytes.{begins}
 use Rattle.tokei_embedding.specs.Fences.{fence}
 use Rattle.tokei_embedding.proofs.fences.next_backticks.Given as goal
@@ -6,9 +6,9 @@ use Rattle.tokei_embedding.proofs.fences.next_backticks.Given as goal
 abbrev pub invariant-loop-at : goal.invariant-loop-at
 invariant-loop-at l = record {
   low : l.from ≤ l.at;
-  high : l.at ≤ length l.text;
-  none : (p : ℕ) → l.from ≤ p → p < l.at → begins fence (drop p l.text) ≡ false;
+  high : l.at ≤ l.to;
+  none : (p : ℕ) → l.from ≤ p → p < l.at → begins fence (drop p (take l.to l.text)) ≡ false;
 }
 
 abbrev pub decreases-loop-at : goal.decreases-loop-at
-decreases-loop-at l = length l.text - l.at
+decreases-loop-at l = l.to - l.at
