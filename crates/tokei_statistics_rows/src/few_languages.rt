@@ -1,5 +1,4 @@
 //! A table of few languages, and a tree of files in them, small enough that each allocation can be made to fail in turn.
-use crate::languages::report;
 use crate::statistics::files;
 use std::alloc::{AllocError, Global};
 use tokei_stats::{CodeStats, Report};
@@ -45,6 +44,21 @@ pub fn tree(alloc: Global) -> Result<MemoryFolders, Fault> {
     let mut folders = files(alloc, TREE)?;
     folders.refuse_call("b.c", Call::Read)?;
     Ok(folders)
+}
+
+/// A report of these blank, code and comment lines.
+pub fn report(
+    alloc: Global,
+    name: &str,
+    counts: (usize, usize, usize),
+) -> Result<Report, AllocError> {
+    let mut report = Report::new(alloc, String::from_str(alloc, name)?);
+    (
+        report.stats.blanks,
+        report.stats.code,
+        report.stats.comments,
+    ) = counts;
+    Ok(report)
 }
 
 /// The report of the tree's `e.md` under a name.

@@ -1,13 +1,12 @@
 //! Runs over folders in which memory runs out: the languages from before stay, with those of the first files. Each of their
 //! allocations is made to fail in turn, and each call of the folders.
-use crate::few_languages::{Few, few_languages, few_of, report_of_markdown, tree};
-use crate::languages::{counted, report};
+use crate::few_languages::{Few, few_languages, few_of, report, report_of_markdown, tree};
 use crate::statistics::owned;
 use std::alloc::Global;
 use std::test::Fail;
 use tokei_config::Config;
 use tokei_count::CountError;
-use tokei_languages::Languages;
+use tokei_languages::{Language, Languages};
 use tokei_statistics::CountFiles;
 use tokei_table::{LanguageTable, TableError};
 use tokei_walk::{FailingFolders, Fault, Folders};
@@ -32,8 +31,10 @@ enum Left {
 
 /// Earlier lines of C, and the languages of so many of the tree's first files, counts not renewed.
 fn first_files(alloc: Global, few: Few, count: usize) -> Result<Languages, CountError> {
+    let mut earlier = Language::new(alloc);
+    earlier.code = 5;
     let mut languages = Languages::new(alloc);
-    let _none = languages.insert(few.c, counted(alloc, (0, 5, 0)))?;
+    let _none = languages.insert(few.c, earlier)?;
     if count >= 1 {
         languages.add_report(few.c, report(alloc, "./a.c", (0, 1, 0))?)?;
     }
