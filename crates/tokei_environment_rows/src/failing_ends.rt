@@ -1,6 +1,5 @@
 //! Runs of the program of which one write, one read or one allocation fails.
-
-use crate::runs::{ONE, folders, text};
+use crate::folders::{folders, text};
 use std::alloc::Global;
 use std::test::Fail;
 use tokei::{Counted, FailOnce, Sink, Source};
@@ -15,6 +14,14 @@ const FILES: [(&str, &[u8]); 4] = [
     ("src/b.rs", b"fn b() {}\n"),
     ("src/c/.ignore", b"[a\n"),
 ];
+
+/// Earlier results.
+const ONE: &str =
+    "{\"Rust\":{\"blanks\":0,\"children\":{},\"code\":1,\"comments\":0,\"inaccurate\":false,\
+     \"reports\":[{\"name\":\"src/main.rs\",\"stats\":{\"blanks\":0,\"blobs\":{},\"code\":1,\
+     \"comments\":0}}]},\"Total\":{\"blanks\":0,\"children\":{\"Rust\":[{\"name\":\"src/main.rs\",\
+     \"stats\":{\"blanks\":0,\"blobs\":{},\"code\":1,\"comments\":0}}]},\"code\":1,\"comments\":0,\
+     \"inaccurate\":false,\"reports\":[]}}";
 
 /// Command lines that write to both ends, or to one of them.
 const COMMANDS: [&[&str]; 8] = [
