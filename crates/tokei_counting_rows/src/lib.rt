@@ -7,6 +7,8 @@ mod bench;
 #[cfg(test)]
 mod cut_rows;
 #[cfg(test)]
+mod debug_texts;
+#[cfg(test)]
 mod every_call;
 #[cfg(test)]
 mod hostile_rows;
