@@ -6,11 +6,13 @@ use std::alloc::Global;
 use std::fs::File;
 use std::io::{Error, ErrorKind, Read};
 use std::rt::Files;
-use std::fs::OpenFile;
 use std::{fs, io};
 
 /// How many bytes the head of a file has at most.
 const HEAD: u64 = 128;
+
+/// How many bytes most files of source code have at most.
+const MOST_FILES: usize = 16_383;
 
 /// All that a reader has left. Room is made once for the number of bytes that it is said to have; where it has more or
 /// fewer, all of them are read.
@@ -49,11 +51,9 @@ pub(crate) fn content<R: Files + AllocGlobal>(rt: &R, place: &str) -> io::Result
 }
 
 /// The content of the file at a place, of which a listing or a status has told that it is one. Only a change since then
-/// could make the opening wait.
+/// could make the opening wait. Its length isn't asked, since most files fit the room that is made for them.
 pub(crate) fn listed_content<R: Files + AllocGlobal>(rt: &R, place: &str) -> io::Result<Vec<u8>> {
-    let file = File::open(rt, place)?;
-    let length = file.metadata()?.len();
-    all_of(rt.alloc(), file, usize::try_from(length).unwrap_or(usize::MAX))
+    all_of(rt.alloc(), File::open(rt, place)?, MOST_FILES)
 }
 
 /// The first 128 bytes of the file at a place, or all where there are fewer.
