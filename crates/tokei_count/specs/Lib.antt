@@ -17,6 +17,8 @@ pub mod RustChildren
 pub mod LinguaFrancaChildren
 pub mod NotebookCells
 pub mod Openings
+pub mod Places
+pub mod Readers
 pub mod ReadingOf
 pub mod Walked
 pub mod Glance

@@ -1,8 +1,9 @@
 -- The readings of the code, as the definitions see them.
-use Rattle.std.specs.Prelude.{ℕ, List, Option}
+use Rattle.std.specs.Prelude.{ℕ, List, Option, drop}
 use Rattle.tokei_table.specs.Row.{Row}
 use Rattle.tokei_table.specs.Lookups.{row_at}
 use Rattle.tokei_count.specs.Items.{Block}
+use Rattle.tokei_count.specs.Lines.{first_line}
 use Rattle.tokei_count.specs.Openings.{languages_of}
 use Rattle.tokei_count.specs.PlainReading.{blocks, reading}
 use Rattle.tokei_stats.specs.Statistics.{Statistics}
@@ -19,3 +20,11 @@ blocks_of r = blocks (languages_of r.table.now) r.levels r.language r.text.now
 -- the plain reading of the text
 abbrev pub reading_of : Reading → Statistics
 reading_of r = reading (languages_of r.table.now) r.docs r.levels r.language r.text.now
+
+-- the openers that its parts are searched for
+abbrev pub openers_in : Reading → List (List ℕ)
+openers_in r = r.matchers.now.openers
+
+-- the line from a place of the text on
+abbrev pub line_from : Reading → ℕ → List ℕ
+line_from r at = first_line (drop at r.text.now)

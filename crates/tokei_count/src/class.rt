@@ -1,16 +1,16 @@
 //! What a part counts as.
 ghost use Rattle.std.specs.Prelude.{◌≡◌, ◌-◌, ◌≤◌, Some, [], drop, length, take};
 ghost use Rattle.tokei_table.specs.Bytes.{trim, trim_start};
-ghost use Rattle.tokei_table.specs.Sound.{IsSound};
 ghost use Rattle.tokei_table.specs.RowOf.{pairs_of, row_of};
 ghost use Rattle.tokei_count.specs.Class.{encloses, opens_with, class_of, head_of, in_comment, in_string, in_doc_string, ends_opened};
 ghost use Rattle.tokei_count.specs.CodeHeads.{HasCodeHead};
-ghost use Rattle.tokei_count.specs.Matchers.{matchers_of};
+ghost use Rattle.tokei_count.specs.ReadingOf.{row_in};
 ghost use Rattle.tokei_count.specs.Seen.{mode_of};
 
 use crate::choice::{any_begins, begins};
 use crate::items::{Enclosure, Kind};
 use crate::matchers::SharedMatchers;
+use crate::reading::Reading;
 use tokei_table::Syntax;
 use tokei_table::ext::{blanks_end, is_blank_text, trim};
 
@@ -139,9 +139,9 @@ pub fn class_of(
     Class::Code
 }
 
-/// What the part of the text from `start` to before `stop` is by its front alone, where it begins plain: blank where all its
-/// bytes are, and code where neither a comment nor an opener can begin it or stand behind its front blanks, unless the
-/// language or the mode at its end says otherwise.
+/// What the part of the text from `start` to before `stop` is by its front alone, where it begins plain: blank where
+/// all its bytes are, and code where neither a comment nor an opener can begin it or stand behind its front blanks,
+/// unless the language or the mode at its end says otherwise.
 #[inline(always)]
 fn class_by_front(
     matchers: &SharedMatchers,
@@ -164,28 +164,27 @@ fn class_by_front(
     Some(Class::Code)
 }
 
-/// The class of the part of the text from `start` to before `stop`, which began and ended in these modes, as `class_of` has
-/// it. That is asked only where neither the part's front nor the modes tell.
+/// The class of the part of the reading's text from `start` to before `stop`, which began and ended in these modes, as
+/// `class_of` has it. That is asked only where neither the part's front nor the modes tell.
 #[inline(always)]
 pub(crate) fn class_by(
-    matchers: &SharedMatchers,
-    syntax: &Syntax,
-    docs: bool,
+    reading: &Reading,
     begun: Option<Enclosure>,
-    text: &[u8],
     start: usize,
     stop: usize,
     ended: Option<Enclosure>,
 ) -> Class
-    requires sound { IsSound (row_of syntax.now) }
-    requires matched { matchers.now ≡ matchers_of (row_of syntax.now) }
     requires order { start ≤ stop }
-    requires within { stop ≤ length text.now }
-    ensures { result ≡ class_of (row_of syntax.now) docs
-        (record { begun = mode_of begun.entry; bytes = take (stop - start) (drop start text.now); ended = mode_of ended.entry }) }
+    requires within { stop ≤ length reading.now.text.now }
+    ensures { result ≡ class_of (row_in reading.now) reading.now.docs (record {
+      begun = mode_of begun.entry;
+      bytes = take (stop - start) (drop start reading.now.text.now);
+      ended = mode_of ended.entry;
+    }) }
 {
+    let syntax = reading.syntax;
     if begun.is_none() {
-        match class_by_front(matchers, text, start, stop) {
+        match class_by_front(reading.matchers, reading.text, start, stop) {
             Some(Class::Blank) => return Class::Blank,
             Some(Class::Code) if !syntax.literate && !in_doc_string(ended) => return Class::Code,
             _ => {}
@@ -193,5 +192,11 @@ pub(crate) fn class_by(
     } else if in_comment(begun) && !in_string(ended) {
         return Class::Comment;
     }
-    class_of(syntax, docs, begun, &text[start..stop], ended)
+    class_of(
+        syntax,
+        reading.docs,
+        begun,
+        &reading.text[start..stop],
+        ended,
+    )
 }

@@ -16,9 +16,12 @@ mod line_ends;
 mod matchers;
 mod openings;
 mod parse;
+mod place;
 mod plain_bytes;
 mod plain_reading;
+mod reader;
 mod reading;
+mod text_reading;
 mod walk;
 
 pub use counter::Counter;

@@ -33,8 +33,8 @@ pub(crate) fn line_len(text: &[u8]) -> usize
     near + far_line_len(&text[near..])
 }
 
-/// Where the line of the place `start` goes to, before its newline. `end` is where an earlier place's line went to: the same
-/// line, where `start` hasn't passed it, and nothing is searched.
+/// Where the line of the place `start` goes to, before its newline. `end` is where an earlier place's line went to:
+/// the same line, where `start` hasn't passed it, and nothing is searched.
 #[inline(always)]
 pub(crate) fn line_end(text: &[u8], start: usize, end: usize) -> usize
     requires start { start ≤ length text.now }

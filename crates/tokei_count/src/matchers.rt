@@ -12,8 +12,8 @@ use std::marker::Model;
 use tokei_bytes::ByteSet;
 use tokei_table::{LanguageTable, LanguageType, OpenerIndex};
 
-/// What the texts of a language are searched and walked with: its openers, and the bytes at which a choice other than the
-/// byte itself, a closer and a child can begin, in plain text and in a comment. Contracts see all three.
+/// What the texts of a language are searched and walked with: its openers, and the bytes at which a choice other than
+/// the byte itself, a closer and a child can begin, in plain text and in a comment. Contracts see all three.
 #[derive(Drop)]
 pub struct SharedMatchers {
     openers: OpenerIndex,

@@ -1,21 +1,19 @@
 //! The children that open in a text.
-ghost use Rattle.std.specs.Prelude.{◌≡◌, ℕ, None, [], ◌+◌, ◌-◌, ◌<◌, ◌≤◌, drop, take, length, option_map, unwrap_or};
+ghost use Rattle.std.specs.Prelude.{◌≡◌, ℕ, None, [], ◌-◌, ◌<◌, ◌≤◌, drop, take, length, option_map};
 ghost use Rattle.tokei_table.specs.Row.{Row};
 ghost use Rattle.tokei_embedding.specs.Fences.{fence_block};
 ghost use Rattle.tokei_embedding.specs.Seen.{fence_seen, tag_seen, target_seen};
 ghost use Rattle.tokei_embedding.specs.Tags.{tag_block};
-ghost use Rattle.tokei_count.specs.Lines.{line_len, first_line};
 ghost use Rattle.tokei_count.specs.NamedLanguages.{by_word, by_mime, by_name, fallback};
 ghost use Rattle.tokei_count.specs.MarkdownChildren.{known_piece, markdown_block};
 ghost use Rattle.tokei_count.specs.HtmlChildren.{by_value, usual_key, element_language, element_at, html_block};
 ghost use Rattle.tokei_count.specs.RustChildren.{rust_block};
 ghost use Rattle.tokei_count.specs.LinguaFrancaChildren.{target_language, franca_block};
-ghost use Rattle.tokei_count.specs.Progress.{IsPart};
-ghost use Rattle.tokei_count.specs.ReadingOf.{blocks_of};
+ghost use Rattle.tokei_count.specs.Places.{Childless, IsAt, StopsAt, block_here, part_to, text_from, text_of};
 ghost use Rattle.tokei_count.specs.Seen.{block_of};
 
 use crate::line_ends::line_stop;
-use crate::reading::Reading;
+use crate::place::Place;
 use tokei_embedding::{
     BlockSearch, Tag, doc_at, fence_at, next_doc, next_fence, next_target, target_at,
 };
@@ -106,19 +104,16 @@ fn known_piece(table: &LanguageTable, info: &[u8]) -> Option<LanguageType>
     by_word(table, &info[begun..])
 }
 
-/// The child that a fence of Markdown opens at the place `at` of the part `text[start..to]`.
-fn markdown_block<'a>(
-    reading: &Reading<'a>,
-    start: usize,
-    at: usize,
-    to: usize,
-) -> Option<Block<'a>>
-    requires order { start ≤ at }
-    requires inside { at < to }
-    requires ends { to ≤ length reading.now.text.now }
-    ensures { option_map block_of result ≡ markdown_block reading.now.table.now (take (to - start) (drop start reading.now.text.now)) (at - start) (drop at reading.now.text.now) }
+/// The child that a fence of Markdown opens at the place, whose part goes to `to`.
+fn markdown_block<'a>(place: &Place<'_, 'a>, to: usize) -> Option<Block<'a>>
+    requires order { place.now.start ≤ place.now.at }
+    requires inside { place.now.at < to }
+    requires ends { to ≤ length (text_of place.now) }
+    ensures { option_map block_of result ≡ markdown_block place.now.reading.now.table.now
+        (part_to place.now to) (place.now.at - place.now.start) (text_from place.now place.now.at) }
 {
-    let fence = fence_at(reading.text, start, at, to)?;
+    let reading = place.reading;
+    let fence = fence_at(reading.text, place.start, place.at, to)?;
     let language = known_piece(reading.table, fence.info)?;
     Some(Block {
         language,
@@ -165,23 +160,24 @@ fn element_language(
     fallback(table, parent, usual_key(tag))
 }
 
-/// The child that an element with the tag opens at the place `at` of the part `text[start..to]`.
+/// The child that an element with the tag opens at the place, whose part goes to `to`.
 fn element_at<'a>(
-    reading: &Reading<'a>,
+    place: &Place<'_, 'a>,
     search: &mut BlockSearch<'a>,
     tag: Tag,
-    start: usize,
-    at: usize,
     to: usize,
 ) -> Option<Block<'a>>
-    requires order { start ≤ at }
-    requires inside { at < to }
-    requires ends { to ≤ length reading.now.text.now }
-    requires searched { search.old ≡ reading.now.text.now }
+    requires order { place.now.start ≤ place.now.at }
+    requires inside { place.now.at < to }
+    requires ends { to ≤ length (text_of place.now) }
+    requires searched { search.old ≡ text_of place.now }
     ensures same { search.new ≡ search.old }
-    ensures block { option_map block_of result ≡ element_at reading.now.table.now reading.now.language tag (take (to - start) (drop start reading.now.text.now)) (at - start) (drop at reading.now.text.now) }
+    ensures block { option_map block_of result
+        ≡ element_at place.now.reading.now.table.now place.now.reading.now.language tag
+        (part_to place.now to) (place.now.at - place.now.start) (text_from place.now place.now.at) }
 {
-    let element = search.tag_at(tag, start, at, to)?;
+    let reading = place.reading;
+    let element = search.tag_at(tag, place.start, place.at, to)?;
     Some(Block {
         language: element_language(reading.table, reading.language, tag, element.value),
         contents: trim_first_and_last_line_of_whitespace(element.contents),
@@ -192,37 +188,40 @@ fn element_at<'a>(
     })
 }
 
-/// The child that an element opens at the place `at` of the part `text[start..to]`.
+/// The child that an element opens at the place, whose part goes to `to`.
 fn html_block<'a>(
-    reading: &Reading<'a>,
+    place: &Place<'_, 'a>,
     search: &mut BlockSearch<'a>,
-    start: usize,
-    at: usize,
     to: usize,
 ) -> Option<Block<'a>>
-    requires order { start ≤ at }
-    requires inside { at < to }
-    requires ends { to ≤ length reading.now.text.now }
-    requires searched { search.old ≡ reading.now.text.now }
+    requires order { place.now.start ≤ place.now.at }
+    requires inside { place.now.at < to }
+    requires ends { to ≤ length (text_of place.now) }
+    requires searched { search.old ≡ text_of place.now }
     ensures same { search.new ≡ search.old }
-    ensures block { option_map block_of result ≡ html_block reading.now.table.now reading.now.language (take (to - start) (drop start reading.now.text.now)) (at - start) (drop at reading.now.text.now) }
+    ensures block { option_map block_of result
+        ≡ html_block place.now.reading.now.table.now place.now.reading.now.language
+        (part_to place.now to) (place.now.at - place.now.start) (text_from place.now place.now.at) }
 {
-    if let Some(block) = element_at(reading, search, Tag::Script, start, at, to) {
+    if let Some(block) = element_at(place, search, Tag::Script, to) {
         return Some(block);
     }
-    if let Some(block) = element_at(reading, search, Tag::Style, start, at, to) {
+    if let Some(block) = element_at(place, search, Tag::Style, to) {
         return Some(block);
     }
-    element_at(reading, search, Tag::Template, start, at, to)
+    element_at(place, search, Tag::Template, to)
 }
 
 /// The child that a doc comment opens at the place.
-fn rust_block<'a>(reading: &Reading<'a>, at: usize) -> Option<Block<'a>>
-    requires { at < length reading.now.text.now }
-    ensures { option_map block_of result ≡ rust_block reading.now.table.now reading.now.language (drop at reading.now.text.now) }
+fn rust_block<'a>(place: &Place<'_, 'a>) -> Option<Block<'a>>
+    requires { place.now.at < length (text_of place.now) }
+    ensures { option_map block_of result
+        ≡ rust_block place.now.reading.now.table.now place.now.reading.now.language
+        (text_from place.now place.now.at) }
 {
-    let size = doc_at(reading.text, at)?;
-    let rest = &reading.text[at..];
+    let reading = place.reading;
+    let size = doc_at(reading.text, place.at)?;
+    let rest = &reading.text[place.at..];
     Some(Block {
         language: fallback(reading.table, reading.language, "Markdown"),
         contents: &rest[..size],
@@ -253,22 +252,23 @@ fn target_language(
     }
 }
 
-/// The child that a block of the target language opens at the place `at` of the part `text[start..to]`.
+/// The child that a block of the target language opens at the place, whose part goes to `to`.
 fn franca_block<'a>(
-    reading: &Reading<'a>,
+    place: &Place<'_, 'a>,
     search: &mut BlockSearch<'a>,
-    start: usize,
-    at: usize,
     to: usize,
 ) -> Option<Block<'a>>
-    requires order { start ≤ at }
-    requires inside { at < to }
-    requires ends { to ≤ length reading.now.text.now }
-    requires searched { search.old ≡ reading.now.text.now }
+    requires order { place.now.start ≤ place.now.at }
+    requires inside { place.now.at < to }
+    requires ends { to ≤ length (text_of place.now) }
+    requires searched { search.old ≡ text_of place.now }
     ensures same { search.new ≡ search.old }
-    ensures block { option_map block_of result ≡ franca_block reading.now.table.now reading.now.language reading.now.text.now (take (to - start) (drop start reading.now.text.now)) (at - start) (drop at reading.now.text.now) }
+    ensures block { option_map block_of result
+        ≡ franca_block place.now.reading.now.table.now place.now.reading.now.language (text_of place.now)
+        (part_to place.now to) (place.now.at - place.now.start) (text_from place.now place.now.at) }
 {
-    let block = target_at(reading.text, start, at, to)?;
+    let reading = place.reading;
+    let block = target_at(reading.text, place.start, place.at, to)?;
     Some(Block {
         language: target_language(reading.table, reading.language, search.target()),
         contents: trim_first_and_last_line_of_whitespace(block.contents),
@@ -294,28 +294,26 @@ fn next_element(search: &mut BlockSearch, start: usize, at: usize, to: usize) ->
     script.min(style).min(template)
 }
 
-/// From the place `at` to before the answer no child opens in the part `text[start..to]`, where `left` bytes were left
-/// behind the last child. `child` is such an answer for an earlier place of the part, or that place: while it lies ahead,
-/// or where nothing is to be skipped, nothing is searched anew.
+/// From the place to before the answer no child opens in its part, which goes to `to`. `child` is such an answer for
+/// an earlier place of the part, or that place: while it lies ahead, or where nothing is to be skipped, nothing is
+/// searched anew.
 #[inline(always)]
 pub(crate) fn next_child<'a>(
-    reading: &Reading<'a>,
+    place: &Place<'_, 'a>,
     search: &mut BlockSearch<'a>,
-    left: usize,
-    start: usize,
-    at: usize,
     to: usize,
     child: usize,
 ) -> usize
-    requires part { IsPart reading.now.text.now left start at }
-    requires inside { at < to }
-    requires line { to ≡ at + length (first_line (drop at reading.now.text.now)) }
-    requires childless { (p : ℕ) → at ≤ p → p < child → blocks_of reading.now left (drop p reading.now.text.now) ≡ None }
-    requires searched { search.old ≡ reading.now.text.now }
+    requires here { IsAt place.now }
+    requires inside { place.now.at < to }
+    requires line { StopsAt place.now to }
+    requires childless { Childless place.now child }
+    requires searched { search.old ≡ text_of place.now }
     ensures same { search.new ≡ search.old }
-    ensures childless { (p : ℕ) → at ≤ p → p < result → blocks_of reading.now left (drop p reading.now.text.now) ≡ None }
+    ensures childless { Childless place.now result }
 {
-    if at < child || !reading.skips {
+    let reading = place.reading;
+    if place.at < child || !reading.skips {
         return child;
     }
     if reading.levels < 1 {
@@ -323,39 +321,31 @@ pub(crate) fn next_child<'a>(
     }
     match reading.family {
         Family::Plain | Family::Jupyter => to,
-        Family::Markdown => next_fence(reading.text, start, at, to),
-        Family::HtmlLike => next_element(search, start, at, to),
-        Family::Rust => next_doc(reading.text, at, to),
-        Family::LinguaFranca => next_target(reading.text, start, at, to),
+        Family::Markdown => next_fence(reading.text, place.start, place.at, to),
+        Family::HtmlLike => next_element(search, place.start, place.at, to),
+        Family::Rust => next_doc(reading.text, place.at, to),
+        Family::LinguaFranca => next_target(reading.text, place.start, place.at, to),
     }
 }
 
-/// The child that opens at the place `at` of a part that began at `start`, where `left` bytes were left behind the last
-/// child and the line goes to `end`, before its newline.
-pub(crate) fn block_at<'a>(
-    reading: &Reading<'a>,
-    search: &mut BlockSearch<'a>,
-    left: usize,
-    start: usize,
-    at: usize,
-    end: usize,
-) -> Option<Block<'a>>
-    requires part { IsPart reading.now.text.now left start at }
-    requires line { end ≡ at + line_len (drop at reading.now.text.now) }
-    requires some { at < end }
-    requires searched { search.old ≡ reading.now.text.now }
+/// The child that opens at the place.
+pub(crate) fn block_at<'a>(place: &Place<'_, 'a>, search: &mut BlockSearch<'a>) -> Option<Block<'a>>
+    requires here { IsAt place.now }
+    requires some { place.now.at < place.now.end }
+    requires searched { search.old ≡ text_of place.now }
     ensures same { search.new ≡ search.old }
-    ensures block { option_map block_of result ≡ blocks_of reading.now left (drop at reading.now.text.now) }
+    ensures block { option_map block_of result ≡ block_here place.now }
 {
+    let reading = place.reading;
     if reading.levels == 0 {
         return None;
     }
-    let to = line_stop(reading.text, end);
+    let to = line_stop(reading.text, place.end);
     match reading.family {
         Family::Plain | Family::Jupyter => None,
-        Family::Markdown => markdown_block(reading, start, at, to),
-        Family::HtmlLike => html_block(reading, search, start, at, to),
-        Family::Rust => rust_block(reading, at),
-        Family::LinguaFranca => franca_block(reading, search, start, at, to),
+        Family::Markdown => markdown_block(place, to),
+        Family::HtmlLike => html_block(place, search, to),
+        Family::Rust => rust_block(place),
+        Family::LinguaFranca => franca_block(place, search, to),
     }
 }

@@ -17,7 +17,9 @@ ghost use Rattle.tokei_stats.specs.Statistics.{lines_of, summary};
 
 use crate::counter::Counter;
 use crate::laws::lengths_fit;
-use crate::plain_reading::{OUTERMOST_LEVELS, read_text};
+use crate::plain_reading::OUTERMOST_LEVELS;
+use crate::reader::Reader;
+use crate::text_reading::read_text;
 use std::alloc::Global;
 use tokei_options::CountConfig;
 use tokei_stats::{CodeStats, CountError};
@@ -52,16 +54,14 @@ pub fn parse_counted(
 {
     let docs = config.treat_doc_strings_as_comments.unwrap_or(false);
     lengths_fit(text);
-    let read = read_text(
+    let reader = Reader {
         alloc,
-        counter.table(),
-        counter.matchers_by_language(),
-        language,
-        text,
+        table: counter.table(),
+        matchers: counter.matchers_by_language(),
         docs,
-        OUTERMOST_LEVELS,
-        true,
-    )?;
+        skips: true,
+    };
+    let read = read_text(reader, language, text, OUTERMOST_LEVELS)?;
     Ok((read.stats, read.steps))
 }
 

@@ -1,5 +1,5 @@
 //! Bytes at which nothing but the byte itself, or a child, can begin.
-ghost use Rattle.std.specs.Prelude.{◌≡◌, ℕ, ◌<◌, ◌≤◌, ◌==◌, true, false, length, slice_index};
+ghost use Rattle.std.specs.Prelude.{◌≡◌, ℕ, ◌<◌, ◌≤◌, ◌==◌, true, Some, length, slice_index};
 ghost use Rattle.tokei_count.specs.PlainBytes.{BeginsNoneWithin, IsPlainByte};
 ghost use Rattle.tokei_count.specs.Seen.{mode_of};
 
@@ -32,34 +32,30 @@ pub(crate) fn is_plain_byte(matchers: &SharedMatchers, mode: Option<Enclosure>, 
     }
 }
 
-/// How far, from the place `at` of the text on and no further than `to`, no choice can begin in an item of that kind but the
-/// byte itself; nor does the first byte of its closer stand there.
+/// From the place `at` of the text to before the answer, which goes no further than `to`, no choice but the byte
+/// itself can begin at a byte, in that item.
 #[inline(always)]
-fn item_end(
-    matchers: &SharedMatchers,
-    kind: Kind,
-    first: u8,
-    text: &[u8],
-    at: usize,
-    to: usize,
-) -> usize
+fn item_end(matchers: &SharedMatchers, inner: Enclosure, text: &[u8], at: usize, to: usize) -> usize
     requires order { at ≤ to }
     requires within { to ≤ length text.now }
     ensures low { at ≤ result }
     ensures high { result ≤ to }
-    ensures none { (p : ℕ) → at ≤ p → p < result → BeginsNoneWithin matchers.now kind (slice_index text.now p) }
-    ensures open { (p : ℕ) → at ≤ p → p < result → (slice_index text.now p == first) ≡ false }
+    ensures plain { (p : ℕ) → at ≤ p → p < result
+        → IsPlainByte matchers.now (mode_of (Some inner.entry)) (slice_index text.now p) }
 {
-    match kind {
-        Kind::DocString | Kind::VerbatimString | Kind::OrdinaryString => {
-            first_of_four([first, b'\\', first, b'\\'], text, at, to)
-        }
-        Kind::MultiLineComment => matchers.comment_end(first, text, at, to),
+    match inner.closer {
+        [] => at,
+        [first, ..] => match inner.kind {
+            Kind::DocString | Kind::VerbatimString | Kind::OrdinaryString => {
+                first_of_four([*first, b'\\', *first, b'\\'], text, at, to)
+            }
+            Kind::MultiLineComment => matchers.comment_end(*first, text, at, to),
+        },
     }
 }
 
-/// From the place `at` of the text to before the answer, which goes no further than `to`, no choice but the byte itself and a
-/// child can begin at a byte, in that mode.
+/// From the place `at` of the text to before the answer, which goes no further than `to`, no choice but the byte
+/// itself and a child can begin at a byte, in that mode.
 #[inline(always)]
 pub(crate) fn plain_end(
     matchers: &SharedMatchers,
@@ -71,16 +67,14 @@ pub(crate) fn plain_end(
     requires { to ≤ length text.now }
     ensures low { at ≤ result }
     ensures high { at < result → result ≤ to }
-    ensures plain { (p : ℕ) → at ≤ p → p < result → IsPlainByte matchers.now (mode_of mode.entry) (slice_index text.now p) }
+    ensures plain { (p : ℕ) → at ≤ p → p < result
+        → IsPlainByte matchers.now (mode_of mode.entry) (slice_index text.now p) }
 {
     if to <= at {
         return at;
     }
     match mode {
         None => matchers.plain_end(text, at, to),
-        Some(inner) => match inner.closer {
-            [] => at,
-            [first, ..] => item_end(matchers, inner.kind, *first, text, at, to),
-        },
+        Some(inner) => item_end(matchers, inner, text, at, to),
     }
 }

@@ -1,11 +1,11 @@
 //! A part is walked with a stack of the items that enclose the place.
-ghost use Rattle.std.specs.Prelude.{◌≡◌, ℕ, ◌+◌, ◌-◌, ◌<◌, ◌≤◌, true, None, is_some, IfOk, drop, length};
-ghost use Rattle.tokei_count.specs.Choice.{choice};
+ghost use Rattle.std.specs.Prelude.{◌≡◌, ◌+◌, ◌-◌, ◌<◌, ◌≤◌, true, false, None, is_some, IfOk, length};
 ghost use Rattle.tokei_count.specs.Choice.Choice.{takes_byte};
-ghost use Rattle.tokei_count.specs.Lines.{first_line, line_len};
+ghost use Rattle.tokei_count.specs.Lines.{line_len};
 ghost use Rattle.tokei_count.specs.Modes.{innermost};
+ghost use Rattle.tokei_count.specs.Places.{Begins, Childless, IsAt, LeadsTo, StopsAt, block_here, choice_here, text_from, text_of};
 ghost use Rattle.tokei_count.specs.ReadingOf.{row_in, blocks_of};
-ghost use Rattle.tokei_count.specs.Progress.{IsPart, IsClosable, Leads};
+ghost use Rattle.tokei_count.specs.Progress.{IsPart, IsClosable};
 ghost use Rattle.tokei_count.specs.Seen.{choice_of, mode_of, chain_of};
 ghost use Rattle.tokei_count.specs.Walked.{Steps, Reads};
 
@@ -14,8 +14,8 @@ use crate::class::{Class, class_by};
 use crate::items::{Enclosure, Kind};
 use crate::line_ends::line_stop;
 use crate::openings::{block_at, next_child};
+use crate::place::Place;
 use crate::plain_bytes::{is_plain_byte, plain_end};
-use crate::reading::Reading;
 use std::alloc::AllocError;
 use tokei_embedding::BlockSearch;
 
@@ -55,131 +55,109 @@ fn innermost<'a>(stack: &[Enclosure<'a>]) -> Option<Enclosure<'a>>
     stack.last().copied()
 }
 
-/// Whether a child can open at the place `at` of a part that began at `start`, whose line goes to `end`, before its
-/// newline; `left` bytes were left behind the last child.
-fn opens_at<'a>(
-    reading: &Reading<'a>,
-    search: &mut BlockSearch<'a>,
-    left: usize,
-    start: usize,
-    at: usize,
-    end: usize,
-) -> bool
-    requires part { IsPart reading.now.text.now left start at }
-    requires line { end ≡ at + line_len (drop at reading.now.text.now) }
-    requires some { at < length reading.now.text.now }
-    requires searched { search.old ≡ reading.now.text.now }
+/// Whether a child can open at the place.
+fn opens_at<'a>(place: &Place<'_, 'a>, search: &mut BlockSearch<'a>) -> bool
+    requires here { IsAt place.now }
+    requires some { place.now.at < length (text_of place.now) }
+    requires searched { search.old ≡ text_of place.now }
     ensures same { search.new ≡ search.old }
-    ensures opens { result ≡ is_some (blocks_of reading.now left (drop at reading.now.text.now)) }
+    ensures opens { result ≡ is_some (block_here place.now) }
 {
-    at < end && block_at(reading, search, left, start, at, end).is_some()
+    let at = place.at;
+    let end = place.end;
+    at < end && block_at(place, search).is_some()
 }
 
-/// The choice at the place `at` of a part that began at `start`, whose line goes to `end`, before its newline; `left`
-/// bytes were left behind the last child, and no child opens in plain text from the place to before `child`. From the place
-/// to before `plain` each choice is the byte itself. It is one step.
+/// The choice at the place, which is one step; `opens` says whether a child can open there, and `plain` that nothing
+/// but the byte itself can begin.
 #[inline(always)]
 fn choice_at<'a>(
-    reading: &Reading<'a>,
-    search: &mut BlockSearch<'a>,
+    place: &Place<'_, 'a>,
     mode: Option<Enclosure<'a>>,
-    left: usize,
-    start: usize,
-    at: usize,
-    end: usize,
-    child: usize,
-    plain: usize,
+    opens: bool,
+    plain: bool,
     steps: &mut usize,
 ) -> Choice<'a>
-    requires part { IsPart reading.now.text.now left start at }
-    requires line { end ≡ at + line_len (drop at reading.now.text.now) }
-    requires some { at < length reading.now.text.now }
-    requires room { steps.old < length reading.now.text.now }
-    requires childless { at < child → mode_of mode ≡ None → blocks_of reading.now left (drop at reading.now.text.now) ≡ None }
-    requires plain { at < plain → choice (row_in reading.now) (mode_of mode) (blocks_of reading.now left (drop at reading.now.text.now)) (drop at reading.now.text.now) ≡ takes_byte }
-    requires searched { search.old ≡ reading.now.text.now }
-    ensures same { search.new ≡ search.old }
+    requires here { IsAt place.now }
+    requires room { steps.old < length (text_of place.now) }
+    requires child { plain ≡ false → opens ≡ true → is_some (block_here place.now) ≡ true }
+    requires childless { plain ≡ false → opens ≡ false → mode_of mode ≡ None
+        → block_here place.now ≡ None }
+    requires plain { plain ≡ true → choice_here place.now (mode_of mode) ≡ takes_byte }
     ensures counted { steps.new ≡ steps.old + 1 }
-    ensures child { result ≡ Choice.Child → is_some (blocks_of reading.now left (drop at reading.now.text.now)) ≡ true }
-    ensures choice { choice_of (blocks_of reading.now left (drop at reading.now.text.now)) result ≡ choice (row_in reading.now) (mode_of mode.entry) (blocks_of reading.now left (drop at reading.now.text.now)) (drop at reading.now.text.now) }
+    ensures child { result ≡ Choice.Child → opens ≡ true }
+    ensures choice { choice_of (block_here place.now) result ≡ choice_here place.now (mode_of mode.entry) }
 {
     *steps += 1;
-    if at < plain {
+    if plain {
         return Choice::Byte;
     }
-    let opens = child <= at && opens_at(reading, search, left, start, at, end);
-    choose(reading.syntax, mode, opens, &reading.text[at..])
+    choose(
+        place.reading.syntax,
+        mode,
+        opens,
+        &place.reading.text[place.at..],
+    )
 }
 
-/// Takes the bytes from the place `at` on, in a line that goes to `end`, at which nothing but the byte itself can begin, and
-/// answers the place behind them. Each is a choice, which `choice_at` makes. No child opens in plain text from the place to
-/// before `child`.
+/// Takes the bytes from the place on at which nothing but the byte itself can begin, and answers the place behind
+/// them. Each is a choice, which `choice_at` makes. No child opens in plain text from the place to before `child`.
 #[inline(always)]
 fn take_bytes<'a>(
-    reading: &Reading<'a>,
-    search: &mut BlockSearch<'a>,
+    place: &Place<'_, 'a>,
     stack: &[Enclosure<'a>],
-    left: usize,
-    start: usize,
-    at: usize,
-    end: usize,
     child: usize,
     steps: &mut usize,
 ) -> usize
     requires closable { IsClosable (chain_of stack.now) }
-    requires part { IsPart reading.now.text.now left start at }
-    requires line { end ≡ at + line_len (drop at reading.now.text.now) }
-    requires few { steps.old ≤ at - start }
-    requires childless { (p : ℕ) → at ≤ p → p < child → innermost (chain_of stack.now) ≡ None → blocks_of reading.now left (drop p reading.now.text.now) ≡ None }
-    requires searched { search.old ≡ reading.now.text.now }
-    ensures same { search.new ≡ search.old }
-    ensures low { at ≤ result }
-    ensures high { result ≤ end }
-    ensures part { IsPart reading.now.text.now left start result }
-    ensures line { end ≡ result + line_len (drop result reading.now.text.now) }
-    ensures counted { steps.new ≡ steps.old + (result - at) }
-    ensures leads { Leads (row_in reading.now) (blocks_of reading.now) left (chain_of stack.now) (result - at) (result - at) (chain_of stack.now) (drop at reading.now.text.now) }
+    requires here { IsAt place.now }
+    requires few { steps.old ≤ place.now.at - place.now.start }
+    requires childless { innermost (chain_of stack.now) ≡ None → Childless place.now child }
+    ensures low { place.now.at ≤ result }
+    ensures high { result ≤ place.now.end }
+    ensures part { IsPart (text_of place.now) place.now.left place.now.start result }
+    ensures line { place.now.end ≡ result + line_len (text_from place.now result) }
+    ensures counted { steps.new ≡ steps.old + (result - place.now.at) }
+    ensures leads { LeadsTo place.now (chain_of stack.now) result }
 {
+    let reading = place.reading;
     let mode = innermost(stack);
-    let plain = plain_end(reading.matchers, mode, reading.text, at, end.min(child));
-    let mut next = at;
+    let to = place.end.min(child);
+    let plain = plain_end(reading.matchers, mode, reading.text, place.at, to);
+    let mut next = place.at;
     while next < plain {
-        let _byte = choice_at(
-            reading, search, mode, left, start, next, end, child, plain, steps,
-        );
+        let here = Place { at: next, ..*place };
+        let _byte = choice_at(&here, mode, false, true, steps);
         next += 1;
     }
     next
 }
 
-/// Takes the choice at a place, which `choice_at` makes.
+/// Takes the choice at a place, which `choice_at` makes. No child opens in plain text from the place to before `child`.
 #[inline(always)]
 fn take_choice<'a>(
-    reading: &Reading<'a>,
+    place: &Place<'_, 'a>,
     search: &mut BlockSearch<'a>,
     stack: &mut Vec<Enclosure<'a>>,
-    left: usize,
-    start: usize,
-    at: usize,
-    end: usize,
     child: usize,
     steps: &mut usize,
 ) -> Result<Step, AllocError>
     requires closable { IsClosable (chain_of stack.old.items) }
-    requires part { IsPart reading.now.text.now left start at }
-    requires line { end ≡ at + line_len (drop at reading.now.text.now) }
-    requires some { at < end }
-    requires room { steps.old < length reading.now.text.now }
-    requires childless { at < child → innermost (chain_of stack.old.items) ≡ None → blocks_of reading.now left (drop at reading.now.text.now) ≡ None }
-    requires searched { search.old ≡ reading.now.text.now }
+    requires here { IsAt place.now }
+    requires some { place.now.at < place.now.end }
+    requires room { steps.old < length (text_of place.now) }
+    requires childless { place.now.at < child → innermost (chain_of stack.old.items) ≡ None
+        → block_here place.now ≡ None }
+    requires searched { search.old ≡ text_of place.now }
     ensures same { search.new ≡ search.old }
     ensures counted { steps.new ≡ steps.old + 1 }
-    ensures takes { IfOk result (λ s. Steps (row_in reading.now) (blocks_of reading.now) left (chain_of stack.old.items) (chain_of stack.new.items) reading.now.text.now at s) }
+    ensures takes { IfOk result (Steps (row_in place.now.reading.now) (blocks_of place.now.reading.now)
+        place.now.left (chain_of stack.old.items) (chain_of stack.new.items) (text_of place.now) place.now.at) }
 {
+    let at = place.at;
     let mode = innermost(stack);
-    match choice_at(
-        reading, search, mode, left, start, at, end, child, at, steps,
-    ) {
+    let opens = child <= at && opens_at(place, search);
+    match choice_at(place, mode, opens, false, steps) {
         Choice::Closer => match stack.pop() {
             Some(enclosure) => Ok(Step::On(enclosure.closer.len())),
             None => unreachable!(),
@@ -201,70 +179,79 @@ fn take_choice<'a>(
     }
 }
 
-/// From the place `at` to before the answer no child opens in plain text. In an item that is the rest of the part, and
-/// nothing is searched; else `child` becomes the part's next child, or stays where nothing is to be skipped.
+/// Takes the choice at the newline that ends a line in that mode. No child opens there.
+#[inline(always)]
+fn take_newline<'a>(place: &Place<'_, 'a>, mode: Option<Enclosure<'a>>, steps: &mut usize)
+    requires here { IsAt place.now }
+    requires last { place.now.at ≡ place.now.end }
+    requires some { place.now.at < length (text_of place.now) }
+    requires room { steps.old < length (text_of place.now) }
+    ensures { steps.new ≡ steps.old + 1 }
+{
+    let plain = is_plain_byte(place.reading.matchers, mode, b'\n');
+    let _newline = choice_at(place, mode, false, plain, steps);
+}
+
+/// From the place to before the answer no child opens in plain text. In an item that is the rest of the line, which
+/// stops at `stop`, and nothing is searched; else `child` becomes the part's next child, or stays where nothing is to
+/// be skipped.
 #[inline(always)]
 fn look_ahead<'a>(
-    reading: &Reading<'a>,
+    place: &Place<'_, 'a>,
     search: &mut BlockSearch<'a>,
     stack: &[Enclosure],
-    left: usize,
-    start: usize,
-    at: usize,
-    to: usize,
+    stop: usize,
     child: &mut usize,
 ) -> usize
-    requires part { IsPart reading.now.text.now left start at }
-    requires inside { at < to }
-    requires line { to ≡ at + length (first_line (drop at reading.now.text.now)) }
-    requires childless { (p : ℕ) → at ≤ p → p < child.old → blocks_of reading.now left (drop p reading.now.text.now) ≡ None }
-    requires searched { search.old ≡ reading.now.text.now }
+    requires here { IsAt place.now }
+    requires inside { place.now.at < stop }
+    requires line { StopsAt place.now stop }
+    requires childless { Childless place.now child.old }
+    requires searched { search.old ≡ text_of place.now }
     ensures same { search.new ≡ search.old }
-    ensures childless { (p : ℕ) → at ≤ p → p < child.new → blocks_of reading.now left (drop p reading.now.text.now) ≡ None }
-    ensures ahead { (p : ℕ) → at ≤ p → p < result → innermost (chain_of stack.now) ≡ None → blocks_of reading.now left (drop p reading.now.text.now) ≡ None }
+    ensures childless { Childless place.now child.new }
+    ensures ahead { innermost (chain_of stack.now) ≡ None → Childless place.now result }
 {
-    if reading.skips && !stack.is_empty() {
-        return to;
+    if place.reading.skips && !stack.is_empty() {
+        return stop;
     }
-    *child = next_child(reading, search, left, start, at, to, *child);
+    *child = next_child(place, search, stop, *child);
     *child
 }
 
-/// Reads the part that begins at `start` and whose line goes to `end`, before its newline, where `left` bytes were left
-/// behind the last child. Where the reading skips, it looks for the part's children ahead, and at a byte at which no choice can
-/// begin it looks no further.
+/// Reads the part that begins at the place. Where the reading skips, it looks for the part's children ahead, and at a
+/// byte at which no choice can begin it looks no further.
 pub(crate) fn read_part<'a>(
-    reading: &Reading<'a>,
+    part: &Place<'_, 'a>,
     search: &mut BlockSearch<'a>,
     stack: &mut Vec<Enclosure<'a>>,
-    left: usize,
-    start: usize,
-    end: usize,
 ) -> Result<PartRead, AllocError>
     requires closable { IsClosable (chain_of stack.old.items) }
-    requires part { IsPart reading.now.text.now left start start }
-    requires line { end ≡ start + line_len (drop start reading.now.text.now) }
-    requires some { start < length reading.now.text.now }
-    requires searched { search.old ≡ reading.now.text.now }
+    requires begins { Begins part.now }
+    requires some { part.now.start < length (text_of part.now) }
+    requires searched { search.old ≡ text_of part.now }
     ensures same { search.new ≡ search.old }
-    ensures reads { IfOk result (λ e. Reads (row_in reading.now) (blocks_of reading.now) left reading.now.docs (chain_of stack.old.items) (chain_of stack.new.items) start reading.now.text.now e) }
+    ensures reads { IfOk result (Reads (row_in part.now.reading.now) (blocks_of part.now.reading.now)
+        part.now.left part.now.reading.now.docs (chain_of stack.old.items) (chain_of stack.new.items)
+        part.now.start (text_of part.now)) }
 {
+    let reading = part.reading;
+    let start = part.start;
+    let end = part.end;
     let begun = innermost(stack);
     let stop = line_stop(reading.text, end);
     let mut steps = 0;
     let mut child = start;
     let mut at = start;
     while at < end {
-        let ahead = look_ahead(reading, search, stack, left, start, at, stop, &mut child);
-        at = take_bytes(
-            reading, search, stack, left, start, at, end, ahead, &mut steps,
-        );
+        let here = Place { at, ..*part };
+        let ahead = look_ahead(&here, search, stack, stop, &mut child);
+        at = take_bytes(&here, stack, ahead, &mut steps);
         if end <= at {
             continue;
         }
-        match take_choice(
-            reading, search, stack, left, start, at, end, ahead, &mut steps,
-        )? {
+        let there = Place { at, ..*part };
+        match take_choice(&there, search, stack, ahead, &mut steps)? {
             Step::On(len) => at += len,
             Step::Rest => at = stop,
             Step::Child => {
@@ -274,28 +261,10 @@ pub(crate) fn read_part<'a>(
         }
     }
     if at < stop {
-        let mode = innermost(stack);
-        // no child opens at a newline
-        let behind = at + 1;
-        let plain = if is_plain_byte(reading.matchers, mode, b'\n') {
-            behind
-        } else {
-            at
-        };
-        let _newline = choice_at(
-            reading, search, mode, left, start, at, end, behind, plain, &mut steps,
-        );
+        let newline = Place { at, ..*part };
+        take_newline(&newline, innermost(stack), &mut steps);
     }
-    let class = class_by(
-        reading.matchers,
-        reading.syntax,
-        reading.docs,
-        begun,
-        reading.text,
-        start,
-        stop,
-        innermost(stack),
-    );
+    let class = class_by(reading, begun, start, stop, innermost(stack));
     let end = PartEnd::Line(class, stop);
     Ok(PartRead { end, steps })
 }

@@ -5,5 +5,5 @@ use Rattle.tokei_count.proofs.openings.rust_block.Goals as goal
 
 pub slice_bounds-result-end : goal.slice_bounds-result-end
 slice_bounds-result-end c =
-    let h = doc_size (drop c.args.at c.args.reading.now.text.now) c.in_ok-size.size (sym c.in_ok-size.was ∙ c.doc_at.ensures) in
-    rw (rest_is c.args.at c.args.reading.now.text.now) (omega (arith, length-take c.in_ok-size.size (drop c.args.at c.args.reading.now.text.now), h))
+    let h = doc_size (drop c.args.place.now.at c.args.place.now.reading.now.text.now) c.in_ok-size.size (sym c.in_ok-size.was ∙ c.doc_at.ensures) in
+    rw (rest_is c.args.place.now.at c.args.place.now.reading.now.text.now) (omega (arith, length-take c.in_ok-size.size (drop c.args.place.now.at c.args.place.now.reading.now.text.now), h))

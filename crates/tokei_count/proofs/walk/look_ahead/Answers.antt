@@ -16,4 +16,4 @@ some_encloses (x ∷ es) e h = some_innermost (chain_of (x ∷ es)) (length es) 
 
 -- in an item nothing is plain
 pub returns-then-not-is_empty-clause-ahead : goal.returns-then-not-is_empty-clause-ahead
-returns-then-not-is_empty-clause-ahead c = λ p low high none. absurd (some_encloses c.args.stack.now (sym c.is_empty.ensures ∙ c.if-not-is_empty.true) none)
+returns-then-not-is_empty-clause-ahead c = λ none p low high. absurd (some_encloses c.args.stack.now (sym c.is_empty.ensures ∙ c.if-not-is_empty.true) none)

@@ -1,4 +1,4 @@
-use Rattle.std.proofs.Common.{◌≡◌, ◌∙◌, ℕ, ◌+◌, ◌-◌, ◌<◌, ◌≤◌, List, length, drop, get_or, refl, sym, subst, arith}
+use Rattle.std.proofs.Common.{◌≡◌, true, false, ◌∙◌, ℕ, ◌+◌, ◌-◌, ◌<◌, ◌≤◌, List, length, drop, get_or, refl, sym, subst, arith}
 use Rattle.tokei_count.specs.Lines.{line_len}
 use Rattle.tokei_count.specs.Modes.{innermost}
 use Rattle.tokei_count.specs.PlainBytes.{IsPlainByte}
@@ -14,80 +14,70 @@ use Rattle.tokei_count.proofs.Stepping.{goes_byte}
 use Rattle.tokei_count.proofs.Walking.{led_on}
 use Rattle.tokei_count.proofs.walk.take_bytes.Goals as goal
 
+not_false : true ≡ false → ⊥
+not_false h = cc
+
 pub loop-next-init : goal.loop-next-init
 loop-next-init c =
-    let none : 0 ≡ c.args.at - c.args.at = omega arith in
+    let none : 0 ≡ c.args.place.now.at - c.args.place.now.at = omega arith in
     record {
-      same = refl;
       low = omega arith;
-      high = omega (arith, c.requires.line);
+      high = omega (arith, c.requires.here.line);
       counted = omega arith;
-      part = c.requires.part;
-      line = c.requires.line;
-      leads = subst (λ n. Leads (row_in c.args.reading.now) (blocks_of c.args.reading.now) c.args.left (chain_of c.args.stack.now) n n (chain_of c.args.stack.now) (drop c.args.at c.args.reading.now.text.now)) none
-          (lead_none (row_in c.args.reading.now) (blocks_of c.args.reading.now) c.args.left (chain_of c.args.stack.now) (drop c.args.at c.args.reading.now.text.now));
+      part = c.requires.here.part;
+      line = c.requires.here.line;
+      leads = subst (λ n. Leads (row_in c.args.place.now.reading.now) (blocks_of c.args.place.now.reading.now) c.args.place.now.left (chain_of c.args.stack.now) n n (chain_of c.args.stack.now) (drop c.args.place.now.at c.args.place.now.reading.now.text.now)) none
+          (lead_none (row_in c.args.place.now.reading.now) (blocks_of c.args.place.now.reading.now) c.args.place.now.left (chain_of c.args.stack.now) (drop c.args.place.now.at c.args.place.now.reading.now.text.now));
     }
 
 pub plain_end-plain-requires : goal.plain_end-plain-requires
 plain_end-plain-requires c =
-    let within : c.args.end ≤ length c.args.reading.now.text.now = end_within c.args.reading.now.text.now c.args.at c.args.end c.requires.part.high c.requires.line in
-    omega (arith, within, c.min.ensures)
+    let within : c.args.place.now.end ≤ length c.args.place.now.reading.now.text.now = end_within c.args.place.now.reading.now.text.now c.args.place.now.at c.args.place.now.end c.requires.here.part.high c.requires.here.line in
+    omega (arith, within, c.min-to.ensures)
 
-pub choice_at-byte-requires-clause-part : goal.choice_at-byte-requires-clause-part
-choice_at-byte-requires-clause-part c = c.loop-next.invariant.part
+pub choice_at-byte-requires-clause-here : goal.choice_at-byte-requires-clause-here
+choice_at-byte-requires-clause-here c = record { part = c.loop-next.invariant.part; line = c.loop-next.invariant.line }
 
-pub choice_at-byte-requires-clause-line : goal.choice_at-byte-requires-clause-line
-choice_at-byte-requires-clause-line c = c.loop-next.invariant.line
-
-pub choice_at-byte-requires-clause-some : goal.choice_at-byte-requires-clause-some
-choice_at-byte-requires-clause-some c =
-    let within : c.args.end ≤ length c.args.reading.now.text.now = end_within c.args.reading.now.text.now c.args.at c.args.end c.requires.part.high c.requires.line in
-    omega (arith, within, c.loop-next-test.true, c.plain_end-plain.ensures.high (omega (arith, c.loop-next.invariant.low, c.loop-next-test.true)), c.min.ensures)
+pub choice_at-byte-requires-clause-childless : goal.choice_at-byte-requires-clause-childless
+choice_at-byte-requires-clause-childless c = λ other _ _. absurd (not_false other)
 
 pub choice_at-byte-requires-clause-room : goal.choice_at-byte-requires-clause-room
 choice_at-byte-requires-clause-room c =
-    let within : c.args.end ≤ length c.args.reading.now.text.now = end_within c.args.reading.now.text.now c.args.at c.args.end c.requires.part.high c.requires.line in
-    omega (arith, within, c.loop-next-test.true, c.plain_end-plain.ensures.high (omega (arith, c.loop-next.invariant.low, c.loop-next-test.true)), c.min.ensures, c.loop-next.invariant.counted, c.loop-next.invariant.low, c.requires.few)
-
-pub choice_at-byte-requires-clause-searched : goal.choice_at-byte-requires-clause-searched
-choice_at-byte-requires-clause-searched c = c.loop-next.invariant.same ∙ c.requires.searched
-
-pub choice_at-byte-requires-clause-childless : goal.choice_at-byte-requires-clause-childless
-choice_at-byte-requires-clause-childless c = λ ahead plain. c.requires.childless c.loop-next.next c.loop-next.invariant.low ahead (sym c.innermost-mode.ensures ∙ plain)
+    let within : c.args.place.now.end ≤ length c.args.place.now.reading.now.text.now = end_within c.args.place.now.reading.now.text.now c.args.place.now.at c.args.place.now.end c.requires.here.part.high c.requires.here.line in
+    omega (arith, within, c.loop-next-test.true, c.plain_end-plain.ensures.high (omega (arith, c.loop-next.invariant.low, c.loop-next-test.true)), c.min-to.ensures, c.loop-next.invariant.counted, c.loop-next.invariant.low, c.requires.few)
 
 -- nothing else begins at the byte
 pub choice_at-byte-requires-clause-plain : goal.choice_at-byte-requires-clause-plain
 choice_at-byte-requires-clause-plain c = λ _.
-    let text : List ℕ = c.args.reading.now.text.now in
+    let text : List ℕ = c.args.place.now.reading.now.text.now in
     let next : ℕ = c.loop-next.next in
     let last = c.plain_end-plain.ensures.high (omega (arith, c.loop-next.invariant.low, c.loop-next-test.true)) in
-    let within : c.args.end ≤ length text = end_within text c.args.at c.args.end c.requires.part.high c.requires.line in
-    plain_byte_at (row_in c.args.reading.now) c.args.reading.now.sound (mode_of c.innermost-mode.result) (blocks_of c.args.reading.now c.args.left (drop next text)) text next c.args.reading.now.matchers.now c.args.reading.now.matched (omega (arith, c.loop-next-test.true, last, c.min.ensures, within))
-    (c.plain_end-plain.ensures.plain next c.loop-next.invariant.low c.loop-next-test.true) (λ plain. c.requires.childless next c.loop-next.invariant.low (omega (arith, c.loop-next-test.true, last, c.min.ensures)) (sym c.innermost-mode.ensures ∙ plain))
+    let within : c.args.place.now.end ≤ length text = end_within text c.args.place.now.at c.args.place.now.end c.requires.here.part.high c.requires.here.line in
+    plain_byte_at (row_in c.args.place.now.reading.now) c.args.place.now.reading.now.sound (mode_of c.innermost-mode.result) (blocks_of c.args.place.now.reading.now c.args.place.now.left (drop next text)) text next c.args.place.now.reading.now.matchers.now c.args.place.now.reading.now.matched (omega (arith, c.loop-next-test.true, last, c.min-to.ensures, within))
+    (c.plain_end-plain.ensures.plain next c.loop-next.invariant.low c.loop-next-test.true) (λ plain. c.requires.childless (sym c.innermost-mode.ensures ∙ plain) next c.loop-next.invariant.low (omega (arith, c.loop-next-test.true, last, c.min-to.ensures)))
 
 pub loop-next-preserved : goal.loop-next-preserved
 loop-next-preserved c =
-    let text : List ℕ = c.args.reading.now.text.now in
+    let text : List ℕ = c.args.place.now.reading.now.text.now in
     let next : ℕ = c.loop-next.next in
     let u : List ℕ = drop next text in
-    let within : c.args.end ≤ length text = end_within text c.args.at c.args.end c.requires.part.high c.requires.line in
+    let within : c.args.place.now.end ≤ length text = end_within text c.args.place.now.at c.args.place.now.end c.requires.here.part.high c.requires.here.line in
     let last = c.plain_end-plain.ensures.high (omega (arith, c.loop-next.invariant.low, c.loop-next-test.true)) in
-    let more : next < c.args.end = omega (arith, c.loop-next-test.true, last, c.min.ensures) in
-    let ahead : next < c.args.child = omega (arith, c.loop-next-test.true, last, c.min.ensures) in
+    let more : next < c.args.place.now.end = omega (arith, c.loop-next-test.true, last, c.min-to.ensures) in
+    let ahead : next < c.args.child = omega (arith, c.loop-next-test.true, last, c.min-to.ensures) in
     let some : 0 < line_len u = omega (arith, more, c.loop-next.invariant.line) in
-    let byte = subst (λ m. IsPlainByte c.args.reading.now.matchers.now m (get_or text next 0)) c.innermost-mode.ensures (c.plain_end-plain.ensures.plain next c.loop-next.invariant.low c.loop-next-test.true) in
-    let goes : Goes (row_in c.args.reading.now) (blocks_of c.args.reading.now) c.args.left (chain_of c.args.stack.now) 1 1 (chain_of c.args.stack.now) u =
-    goes_byte (row_in c.args.reading.now) (blocks_of c.args.reading.now) c.args.left c.args.reading.now.sound (blocks_fit c.args.reading.now).in_line (chain_of c.args.stack.now) u c.requires.closable some
-    (plain_byte_at (row_in c.args.reading.now) c.args.reading.now.sound (innermost (chain_of c.args.stack.now)) (blocks_of c.args.reading.now c.args.left u) text next c.args.reading.now.matchers.now c.args.reading.now.matched (omega (arith, more, within)) byte (c.requires.childless next c.loop-next.invariant.low ahead)) in
+    let byte = subst (λ m. IsPlainByte c.args.place.now.reading.now.matchers.now m (get_or text next 0)) c.innermost-mode.ensures (c.plain_end-plain.ensures.plain next c.loop-next.invariant.low c.loop-next-test.true) in
+    let goes : Goes (row_in c.args.place.now.reading.now) (blocks_of c.args.place.now.reading.now) c.args.place.now.left (chain_of c.args.stack.now) 1 1 (chain_of c.args.stack.now) u =
+    goes_byte (row_in c.args.place.now.reading.now) (blocks_of c.args.place.now.reading.now) c.args.place.now.left c.args.place.now.reading.now.sound (blocks_fit c.args.place.now.reading.now).in_line (chain_of c.args.stack.now) u c.requires.closable some
+    (plain_byte_at (row_in c.args.place.now.reading.now) c.args.place.now.reading.now.sound (innermost (chain_of c.args.stack.now)) (blocks_of c.args.place.now.reading.now c.args.place.now.left u) text next c.args.place.now.reading.now.matchers.now c.args.place.now.reading.now.matched (omega (arith, more, within)) byte (λ plain. c.requires.childless plain next c.loop-next.invariant.low ahead)) in
     record {
-      same = c.choice_at-byte.ensures.same ∙ c.loop-next.invariant.same;
       low = omega (arith, c.loop-next.invariant.low);
       high = omega (arith, more);
       counted = omega (arith, c.loop-next.invariant.counted, c.loop-next.invariant.low, c.choice_at-byte.ensures.counted);
-      part = part_on text c.args.left c.args.start next 1 c.loop-next.invariant.part goes.within;
-      line = end_later text next (next + 1) c.args.end (omega arith) c.loop-next.invariant.line (omega (arith, more));
-      leads = led_on (row_in c.args.reading.now) (blocks_of c.args.reading.now) c.args.left text c.args.at next (chain_of c.args.stack.now) (chain_of c.args.stack.now) (chain_of c.args.stack.now)
-          (next + 1 - c.args.at) (next - c.args.at) 1 1 (next + 1 - c.args.at) c.loop-next.invariant.low c.loop-next.invariant.leads goes.leads (omega (arith, c.loop-next.invariant.low)) (omega (arith, c.loop-next.invariant.low));
+      part = part_on text c.args.place.now.left c.args.place.now.start next 1 c.loop-next.invariant.part goes.within;
+      line = end_later text next (next + 1) c.args.place.now.end (omega arith) c.loop-next.invariant.line (omega (arith, more));
+      leads = led_on (row_in c.args.place.now.reading.now) (blocks_of c.args.place.now.reading.now) c.args.place.now.left text c.args.place.now.at next (chain_of c.args.stack.now) (chain_of c.args.stack.now) (chain_of c.args.stack.now)
+          (next + 1 - c.args.place.now.at) (next - c.args.place.now.at) 1 1 (next + 1 - c.args.place.now.at) c.loop-next.invariant.low c.loop-next.invariant.leads goes.leads (omega (arith, c.loop-next.invariant.low)) (omega (arith, c.loop-next.invariant.low));
     }
 
 pub returns-clause-low : goal.returns-clause-low
@@ -101,9 +91,6 @@ returns-clause-counted c = c.loop-next.invariant.counted
 
 pub returns-clause-leads : goal.returns-clause-leads
 returns-clause-leads c = c.loop-next.invariant.leads
-
-pub returns-clause-same : goal.returns-clause-same
-returns-clause-same c = c.loop-next.invariant.same
 
 pub returns-clause-part : goal.returns-clause-part
 returns-clause-part c = c.loop-next.invariant.part

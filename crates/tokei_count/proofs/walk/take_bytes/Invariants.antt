@@ -7,13 +7,12 @@ use Rattle.tokei_count.proofs.walk.take_bytes.Given as goal
 
 abbrev pub invariant-loop-next : goal.invariant-loop-next
 invariant-loop-next l = record {
-  same : l.search ≡ l.fn.search;
-  low : l.fn.at ≤ l.next;
-  high : l.next ≤ l.end;
-  counted : l.steps ≡ l.fn.steps + (l.next - l.fn.at);
-  part : IsPart l.reading.text.now l.left l.start l.next;
-  line : l.end ≡ l.next + line_len (drop l.next l.reading.text.now);
-  leads : Leads (row_in l.reading) (blocks_of l.reading) l.left (chain_of l.stack) (l.next - l.fn.at) (l.next - l.fn.at) (chain_of l.stack) (drop l.fn.at l.reading.text.now);
+  low : l.place.at ≤ l.next;
+  high : l.next ≤ l.place.end;
+  counted : l.steps ≡ l.fn.steps + (l.next - l.place.at);
+  part : IsPart l.place.reading.now.text.now l.place.left l.place.start l.next;
+  line : l.place.end ≡ l.next + line_len (drop l.next l.place.reading.now.text.now);
+  leads : Leads (row_in l.place.reading.now) (blocks_of l.place.reading.now) l.place.left (chain_of l.stack) (l.next - l.place.at) (l.next - l.place.at) (chain_of l.stack) (drop l.place.at l.place.reading.now.text.now);
 }
 
 abbrev pub decreases-loop-next : goal.decreases-loop-next

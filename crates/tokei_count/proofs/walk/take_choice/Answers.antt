@@ -1,11 +1,14 @@
-use Rattle.std.proofs.Common.{◌≡◌, ◌<◌, ◌∙◌, ap, sym, ℕ, Option, List, [], ◌-◌, take, drop, arith}
+use Rattle.std.proofs.Common.{◌≡◌, ◌<◌, ◌∙◌, ap, sym, ℕ, nat_le, refl, true, false, is_some, Option, None, Some, List, [], ◌-◌, take, drop, arith}
+use Rattle.std.proofs.lemmas.Bool.Decides.{nat_tests}
 use Rattle.std.proofs.lemmas.List.{append-nil}
 use Rattle.tokei_table.specs.RowOf.{pair_of}
 use Rattle.tokei_count.specs.Choice.{Choice, choice, or_else}
 use Rattle.tokei_count.specs.Choice.Choice.{closes, escapes, child_opens, opens, passes_over, begins_line_comment, takes_byte}
+use Rattle.tokei_count.specs.Items.{Block}
 use Rattle.tokei_count.specs.Lines.{line_len}
 use Rattle.tokei_count.specs.Modes.{innermost}
 use Rattle.tokei_count.specs.ReadingOf.{row_in, blocks_of}
+use Rattle.tokei_count.specs.Places.{block_here}
 use Rattle.tokei_count.specs.Progress.{OpensInLine}
 use Rattle.tokei_count.specs.Seen.{choice_of, mode_of, chain_of}
 use Rattle.tokei_count.specs.declared.items.Enclosure as Code
@@ -14,6 +17,7 @@ use Rattle.tokei_count.proofs.Blocks.{blocks_fit}
 use Rattle.tokei_count.proofs.Stack.{closer_pops, opener_pushes, no_pop, child_opens-plain}
 use Rattle.tokei_count.proofs.Stepping.{goes_byte, goes_escape, goes_pass, goes_rest}
 use Rattle.tokei_count.proofs.walk.take_choice.Goals as goal
+use Rattle.tokei_count.proofs.walk.take_choice.Goals.{then-child-at, else-child-at}
 
 -- the choice at the place, for a stack
 abbrev at_stack : Reading → ℕ → List ℕ → List Code.Enclosure → Choice
@@ -23,66 +27,96 @@ at_stack r l u es = choice (row_in r) (innermost (chain_of es)) (blocks_of r l u
 by_mode : (r : Reading) (l : ℕ) (u : List ℕ) (seen es : List Code.Enclosure) (mode : Option Code.Enclosure) → seen ≡ es → mode_of mode ≡ innermost (chain_of seen) → choice (row_in r) (mode_of mode) (blocks_of r l u) u ≡ at_stack r l u es
 by_mode r l u seen es mode e is = ap (λ m. choice (row_in r) m (blocks_of r l u) u) is ∙ ap (at_stack r l u) e
 
+none_some : (o : Option Block) → is_some o ≡ false → o ≡ None
+none_some None h = refl
+none_some (Some b) h = cc
+
+not_both : false ≡ true → ⊥
+not_both h = cc
+
+pub choice_at-requires-clause-child : goal.choice_at-requires-clause-child
+choice_at-requires-clause-child c = λ _ some. elim c.if-child-at.branch [
+  | then-child-at w ↦ sym (w.opens-is ∙ w.opens_at-opens.ensures.opens) ∙ some
+  | else-child-at w ↦ let off : nat_le c.args.child c.args.place.now.at ≡ false = grind (arith, nat_tests, w.if-child-at.false) in
+      absurd (not_both (sym off ∙ sym w.opens-is ∙ some))
+]
+
+-- in an item no child is looked for
+pub choice_at-requires-clause-childless : goal.choice_at-requires-clause-childless
+choice_at-requires-clause-childless c = λ _ unseen plain.
+    let none : innermost (chain_of c.args.stack.now.items) ≡ None =
+    ap (λ es. innermost (chain_of es)) (sym c.deref.ensures.value) ∙ sym c.innermost-mode.ensures ∙ plain in
+    elim c.if-child-at.branch [
+      | then-child-at w ↦ none_some (block_here c.args.place.now) (sym (w.opens-is ∙ w.opens_at-opens.ensures.opens) ∙ unseen)
+      | else-child-at w ↦ c.requires.childless w.if-child-at.false none
+    ]
+
 pub returns-in-Byte-clause-takes : goal.returns-in-Byte-clause-takes
 returns-in-Byte-clause-takes c =
-    let u : List ℕ = drop c.args.at c.args.reading.now.text.now in
-    let here : at_stack c.args.reading.now c.args.left u c.args.stack.now.items ≡ takes_byte = sym (by_mode c.args.reading.now c.args.left u c.deref.result.now c.args.stack.now.items c.innermost-mode.result c.deref.ensures.value c.innermost-mode.ensures) ∙ sym c.choice_at.ensures.choice ∙ ap (choice_of (blocks_of c.args.reading.now c.args.left u)) c.in-Byte.is in
-    let some : 0 < line_len u = omega (arith, c.requires.some, c.requires.line) in
-    let calm : OpensInLine (blocks_of c.args.reading.now) = (blocks_fit c.args.reading.now).in_line in
-    goes_byte (row_in c.args.reading.now) (blocks_of c.args.reading.now) c.args.left c.args.reading.now.sound calm (chain_of c.args.stack.now.items) u c.requires.closable some here
+    let u : List ℕ = drop c.args.place.now.at c.args.place.now.reading.now.text.now in
+    let here : at_stack c.args.place.now.reading.now c.args.place.now.left u c.args.stack.now.items ≡ takes_byte = sym (by_mode c.args.place.now.reading.now c.args.place.now.left u c.deref.result.now c.args.stack.now.items c.innermost-mode.result c.deref.ensures.value c.innermost-mode.ensures) ∙ sym c.choice_at.ensures.choice ∙ ap (choice_of (blocks_of c.args.place.now.reading.now c.args.place.now.left u)) c.in-Byte.is in
+    let some : 0 < line_len u = omega (arith, c.requires.some, c.requires.here.line) in
+    let calm : OpensInLine (blocks_of c.args.place.now.reading.now) = (blocks_fit c.args.place.now.reading.now).in_line in
+    goes_byte (row_in c.args.place.now.reading.now) (blocks_of c.args.place.now.reading.now) c.args.place.now.left c.args.place.now.reading.now.sound calm (chain_of c.args.stack.now.items) u c.requires.closable some here
 
 pub returns-in-Escape-clause-takes : goal.returns-in-Escape-clause-takes
 returns-in-Escape-clause-takes c =
-    let u : List ℕ = drop c.args.at c.args.reading.now.text.now in
-    let here : at_stack c.args.reading.now c.args.left u c.args.stack.now.items ≡ escapes = sym (by_mode c.args.reading.now c.args.left u c.deref.result.now c.args.stack.now.items c.innermost-mode.result c.deref.ensures.value c.innermost-mode.ensures) ∙ sym c.choice_at.ensures.choice ∙ ap (choice_of (blocks_of c.args.reading.now c.args.left u)) c.in-Escape.is in
-    let some : 0 < line_len u = omega (arith, c.requires.some, c.requires.line) in
-    let calm : OpensInLine (blocks_of c.args.reading.now) = (blocks_fit c.args.reading.now).in_line in
-    goes_escape (row_in c.args.reading.now) (blocks_of c.args.reading.now) c.args.left c.args.reading.now.sound calm (chain_of c.args.stack.now.items) u c.requires.closable some here
+    let u : List ℕ = drop c.args.place.now.at c.args.place.now.reading.now.text.now in
+    let here : at_stack c.args.place.now.reading.now c.args.place.now.left u c.args.stack.now.items ≡ escapes = sym (by_mode c.args.place.now.reading.now c.args.place.now.left u c.deref.result.now c.args.stack.now.items c.innermost-mode.result c.deref.ensures.value c.innermost-mode.ensures) ∙ sym c.choice_at.ensures.choice ∙ ap (choice_of (blocks_of c.args.place.now.reading.now c.args.place.now.left u)) c.in-Escape.is in
+    let some : 0 < line_len u = omega (arith, c.requires.some, c.requires.here.line) in
+    let calm : OpensInLine (blocks_of c.args.place.now.reading.now) = (blocks_fit c.args.place.now.reading.now).in_line in
+    goes_escape (row_in c.args.place.now.reading.now) (blocks_of c.args.place.now.reading.now) c.args.place.now.left c.args.place.now.reading.now.sound calm (chain_of c.args.stack.now.items) u c.requires.closable some here
 
 pub returns-in-LineComment-clause-takes : goal.returns-in-LineComment-clause-takes
 returns-in-LineComment-clause-takes c =
-    let u : List ℕ = drop c.args.at c.args.reading.now.text.now in
-    let here : at_stack c.args.reading.now c.args.left u c.args.stack.now.items ≡ begins_line_comment = sym (by_mode c.args.reading.now c.args.left u c.deref.result.now c.args.stack.now.items c.innermost-mode.result c.deref.ensures.value c.innermost-mode.ensures) ∙ sym c.choice_at.ensures.choice ∙ ap (choice_of (blocks_of c.args.reading.now c.args.left u)) c.in-LineComment.is in
-    let some : 0 < line_len u = omega (arith, c.requires.some, c.requires.line) in
-    let calm : OpensInLine (blocks_of c.args.reading.now) = (blocks_fit c.args.reading.now).in_line in
-    goes_rest (row_in c.args.reading.now) (blocks_of c.args.reading.now) c.args.left c.args.reading.now.sound calm (chain_of c.args.stack.now.items) u c.requires.closable some here
+    let u : List ℕ = drop c.args.place.now.at c.args.place.now.reading.now.text.now in
+    let here : at_stack c.args.place.now.reading.now c.args.place.now.left u c.args.stack.now.items ≡ begins_line_comment = sym (by_mode c.args.place.now.reading.now c.args.place.now.left u c.deref.result.now c.args.stack.now.items c.innermost-mode.result c.deref.ensures.value c.innermost-mode.ensures) ∙ sym c.choice_at.ensures.choice ∙ ap (choice_of (blocks_of c.args.place.now.reading.now c.args.place.now.left u)) c.in-LineComment.is in
+    let some : 0 < line_len u = omega (arith, c.requires.some, c.requires.here.line) in
+    let calm : OpensInLine (blocks_of c.args.place.now.reading.now) = (blocks_fit c.args.place.now.reading.now).in_line in
+    goes_rest (row_in c.args.place.now.reading.now) (blocks_of c.args.place.now.reading.now) c.args.place.now.left c.args.place.now.reading.now.sound calm (chain_of c.args.stack.now.items) u c.requires.closable some here
 
 pub returns-in-PassedOpener-clause-takes : goal.returns-in-PassedOpener-clause-takes
 returns-in-PassedOpener-clause-takes c =
-    let u : List ℕ = drop c.args.at c.args.reading.now.text.now in
-    let here : at_stack c.args.reading.now c.args.left u c.args.stack.now.items ≡ passes_over (pair_of c.in-PassedOpener.pair.now) = sym (by_mode c.args.reading.now c.args.left u c.deref.result.now c.args.stack.now.items c.innermost-mode.result c.deref.ensures.value c.innermost-mode.ensures) ∙ sym c.choice_at.ensures.choice ∙ ap (choice_of (blocks_of c.args.reading.now c.args.left u)) c.in-PassedOpener.is in
-    let some : 0 < line_len u = omega (arith, c.requires.some, c.requires.line) in
-    let calm : OpensInLine (blocks_of c.args.reading.now) = (blocks_fit c.args.reading.now).in_line in
-    rw c.as_bytes-opener-in-PassedOpener.ensures.value (goes_pass (row_in c.args.reading.now) (blocks_of c.args.reading.now) c.args.left c.args.reading.now.sound calm (chain_of c.args.stack.now.items) u c.requires.closable some (pair_of c.in-PassedOpener.pair.now) here)
+    let u : List ℕ = drop c.args.place.now.at c.args.place.now.reading.now.text.now in
+    let here : at_stack c.args.place.now.reading.now c.args.place.now.left u c.args.stack.now.items ≡ passes_over (pair_of c.in-PassedOpener.pair.now) = sym (by_mode c.args.place.now.reading.now c.args.place.now.left u c.deref.result.now c.args.stack.now.items c.innermost-mode.result c.deref.ensures.value c.innermost-mode.ensures) ∙ sym c.choice_at.ensures.choice ∙ ap (choice_of (blocks_of c.args.place.now.reading.now c.args.place.now.left u)) c.in-PassedOpener.is in
+    let some : 0 < line_len u = omega (arith, c.requires.some, c.requires.here.line) in
+    let calm : OpensInLine (blocks_of c.args.place.now.reading.now) = (blocks_fit c.args.place.now.reading.now).in_line in
+    rw c.as_bytes-opener-in-PassedOpener.ensures.value (goes_pass (row_in c.args.place.now.reading.now) (blocks_of c.args.place.now.reading.now) c.args.place.now.left c.args.place.now.reading.now.sound calm (chain_of c.args.stack.now.items) u c.requires.closable some (pair_of c.in-PassedOpener.pair.now) here)
 
 pub returns-in-Child-clause-takes : goal.returns-in-Child-clause-takes
 returns-in-Child-clause-takes c =
-    let u : List ℕ = drop c.args.at c.args.reading.now.text.now in
-    let here : at_stack c.args.reading.now c.args.left u c.args.stack.now.items ≡ or_else (blocks_of c.args.reading.now c.args.left u) child_opens takes_byte = sym (by_mode c.args.reading.now c.args.left u c.deref.result.now c.args.stack.now.items c.innermost-mode.result c.deref.ensures.value c.innermost-mode.ensures) ∙ sym c.choice_at.ensures.choice ∙ ap (choice_of (blocks_of c.args.reading.now c.args.left u)) c.in-Child.is in
-    child_opens-plain (row_in c.args.reading.now) (blocks_of c.args.reading.now) c.args.left c.args.stack.now.items u (c.choice_at.ensures.child c.in-Child.is) here
+    let u : List ℕ = drop c.args.place.now.at c.args.place.now.reading.now.text.now in
+    let here : at_stack c.args.place.now.reading.now c.args.place.now.left u c.args.stack.now.items ≡ or_else (blocks_of c.args.place.now.reading.now c.args.place.now.left u) child_opens takes_byte = sym (by_mode c.args.place.now.reading.now c.args.place.now.left u c.deref.result.now c.args.stack.now.items c.innermost-mode.result c.deref.ensures.value c.innermost-mode.ensures) ∙ sym c.choice_at.ensures.choice ∙ ap (choice_of (blocks_of c.args.place.now.reading.now c.args.place.now.left u)) c.in-Child.is in
+    let seen : c.if-child-at.opens ≡ true = c.choice_at.ensures.child c.in-Child.is in
+    let some : is_some (block_here c.args.place.now) ≡ true = elim c.if-child-at.branch [
+      | then-child-at w ↦ sym (w.opens-is ∙ w.opens_at-opens.ensures.opens) ∙ seen
+      | else-child-at w ↦ let off : nat_le c.args.child c.args.place.now.at ≡ false = grind (arith, nat_tests, w.if-child-at.false) in
+          absurd (not_both (sym off ∙ sym w.opens-is ∙ seen))
+    ] in
+    child_opens-plain (row_in c.args.place.now.reading.now) (blocks_of c.args.place.now.reading.now) c.args.place.now.left c.args.stack.now.items u some here
 
 pub returns-in_ok-push-in-Opener-clause-takes : goal.returns-in_ok-push-in-Opener-clause-takes
 returns-in_ok-push-in-Opener-clause-takes c =
-    let u : List ℕ = drop c.args.at c.args.reading.now.text.now in
-    let here : at_stack c.args.reading.now c.args.left u c.args.stack.now.items ≡ opens c.in-Opener.kind (pair_of c.in-Opener.pair.now) = sym (by_mode c.args.reading.now c.args.left u c.deref.result.now c.args.stack.now.items c.innermost-mode.result c.deref.ensures.value c.innermost-mode.ensures) ∙ sym c.choice_at.ensures.choice ∙ ap (choice_of (blocks_of c.args.reading.now c.args.left u)) c.in-Opener.is in
-    let some : 0 < line_len u = omega (arith, c.requires.some, c.requires.line) in
-    let calm : OpensInLine (blocks_of c.args.reading.now) = (blocks_fit c.args.reading.now).in_line in
-    rw c.as_bytes-opener.ensures.value (opener_pushes (row_in c.args.reading.now) (blocks_of c.args.reading.now) c.args.left c.args.reading.now.sound calm c.args.stack.now.items c.push.new.self.items (record { kind = c.in-Opener.kind; closer = c.as_bytes-closer.result }) c.in-Opener.kind (pair_of c.in-Opener.pair.now) u
+    let u : List ℕ = drop c.args.place.now.at c.args.place.now.reading.now.text.now in
+    let here : at_stack c.args.place.now.reading.now c.args.place.now.left u c.args.stack.now.items ≡ opens c.in-Opener.kind (pair_of c.in-Opener.pair.now) = sym (by_mode c.args.place.now.reading.now c.args.place.now.left u c.deref.result.now c.args.stack.now.items c.innermost-mode.result c.deref.ensures.value c.innermost-mode.ensures) ∙ sym c.choice_at.ensures.choice ∙ ap (choice_of (blocks_of c.args.place.now.reading.now c.args.place.now.left u)) c.in-Opener.is in
+    let some : 0 < line_len u = omega (arith, c.requires.some, c.requires.here.line) in
+    let calm : OpensInLine (blocks_of c.args.place.now.reading.now) = (blocks_fit c.args.place.now.reading.now).in_line in
+    rw c.as_bytes-opener.ensures.value (opener_pushes (row_in c.args.place.now.reading.now) (blocks_of c.args.place.now.reading.now) c.args.place.now.left c.args.place.now.reading.now.sound calm c.args.stack.now.items c.push.new.self.items (record { kind = c.in-Opener.kind; closer = c.as_bytes-closer.result }) c.in-Opener.kind (pair_of c.in-Opener.pair.now) u
     c.in_ok-push-in-Opener.ensures.items (ap (λ w. record { kind = c.in-Opener.kind; closer = w }) c.as_bytes-closer.ensures.value) c.requires.closable some here)
 
 pub returns-in-Some-clause-takes : goal.returns-in-Some-clause-takes
 returns-in-Some-clause-takes c =
-    let u : List ℕ = drop c.args.at c.args.reading.now.text.now in
-    let here : at_stack c.args.reading.now c.args.left u c.args.stack.now.items ≡ closes = sym (by_mode c.args.reading.now c.args.left u c.deref.result.now c.args.stack.now.items c.innermost-mode.result c.deref.ensures.value c.innermost-mode.ensures) ∙ sym c.choice_at.ensures.choice ∙ ap (choice_of (blocks_of c.args.reading.now c.args.left u)) c.in-Closer.is in
-    let some : 0 < line_len u = omega (arith, c.requires.some, c.requires.line) in
-    let calm : OpensInLine (blocks_of c.args.reading.now) = (blocks_fit c.args.reading.now).in_line in
-    closer_pops (row_in c.args.reading.now) (blocks_of c.args.reading.now) c.args.left c.args.reading.now.sound calm c.args.stack.now.items c.pop.new.self.items c.in-Some.enclosure u c.in-Some.ensures.items c.requires.closable some here
+    let u : List ℕ = drop c.args.place.now.at c.args.place.now.reading.now.text.now in
+    let here : at_stack c.args.place.now.reading.now c.args.place.now.left u c.args.stack.now.items ≡ closes = sym (by_mode c.args.place.now.reading.now c.args.place.now.left u c.deref.result.now c.args.stack.now.items c.innermost-mode.result c.deref.ensures.value c.innermost-mode.ensures) ∙ sym c.choice_at.ensures.choice ∙ ap (choice_of (blocks_of c.args.place.now.reading.now c.args.place.now.left u)) c.in-Closer.is in
+    let some : 0 < line_len u = omega (arith, c.requires.some, c.requires.here.line) in
+    let calm : OpensInLine (blocks_of c.args.place.now.reading.now) = (blocks_fit c.args.place.now.reading.now).in_line in
+    closer_pops (row_in c.args.place.now.reading.now) (blocks_of c.args.place.now.reading.now) c.args.place.now.left c.args.place.now.reading.now.sound calm c.args.stack.now.items c.pop.new.self.items c.in-Some.enclosure u c.in-Some.ensures.items c.requires.closable some here
 
 pub unreachable-requires : goal.unreachable-requires
 unreachable-requires c =
-    let u : List ℕ = drop c.args.at c.args.reading.now.text.now in
-    let here : at_stack c.args.reading.now c.args.left u c.args.stack.now.items ≡ closes = sym (by_mode c.args.reading.now c.args.left u c.deref.result.now c.args.stack.now.items c.innermost-mode.result c.deref.ensures.value c.innermost-mode.ensures) ∙ sym c.choice_at.ensures.choice ∙ ap (choice_of (blocks_of c.args.reading.now c.args.left u)) c.in-Closer.is in
-    let some : 0 < line_len u = omega (arith, c.requires.some, c.requires.line) in
-    let calm : OpensInLine (blocks_of c.args.reading.now) = (blocks_fit c.args.reading.now).in_line in
+    let u : List ℕ = drop c.args.place.now.at c.args.place.now.reading.now.text.now in
+    let here : at_stack c.args.place.now.reading.now c.args.place.now.left u c.args.stack.now.items ≡ closes = sym (by_mode c.args.place.now.reading.now c.args.place.now.left u c.deref.result.now c.args.stack.now.items c.innermost-mode.result c.deref.ensures.value c.innermost-mode.ensures) ∙ sym c.choice_at.ensures.choice ∙ ap (choice_of (blocks_of c.args.place.now.reading.now c.args.place.now.left u)) c.in-Closer.is in
+    let some : 0 < line_len u = omega (arith, c.requires.some, c.requires.here.line) in
+    let calm : OpensInLine (blocks_of c.args.place.now.reading.now) = (blocks_fit c.args.place.now.reading.now).in_line in
     let empty : c.args.stack.now.items ≡ [] = c.in-None.ensures.items ∙ append-nil _ ∙ c.in-None.ensures.rest ∙ ap (λ n. take (n - 1) c.args.stack.now.items) c.in-None.ensures.cases.0 in
-    no_pop (row_in c.args.reading.now) (blocks_of c.args.reading.now) c.args.left c.args.reading.now.sound calm c.args.stack.now.items u empty here
+    no_pop (row_in c.args.place.now.reading.now) (blocks_of c.args.place.now.reading.now) c.args.place.now.left c.args.place.now.reading.now.sound calm c.args.stack.now.items u empty here

@@ -1,0 +1,15 @@
+-- What the readers of the code answer, as the definitions see it.
+use Rattle.std.specs.Prelude.{ℕ, List}
+use Rattle.tokei_count.specs.Openings.{languages_of}
+use Rattle.tokei_count.specs.PlainReading.{reading}
+use Rattle.tokei_count.specs.Steps.{steps}
+use Rattle.tokei_stats.specs.Statistics.{Statistics}
+use Rattle.tokei_count.specs.declared.reader.Reader.{Reader}
+
+-- the plain reading of a text, with so many levels left, in a language
+abbrev pub reading_by : Reader → ℕ → ℕ → List ℕ → Statistics
+reading_by r levels language text = reading (languages_of r.table.now) r.docs levels language text
+
+-- its steps
+abbrev pub steps_by : Reader → ℕ → ℕ → List ℕ → ℕ
+steps_by r levels language text = steps (languages_of r.table.now) levels language text

@@ -1,0 +1,17 @@
+//! How the texts of a table's languages are read.
+use crate::matchers::SharedMatchers;
+use std::alloc::Global;
+use tokei_table::LanguageTable;
+
+/// How the texts of a table's languages are read.
+#[derive(Clone, Copy)]
+pub(crate) struct Reader<'a> {
+    pub alloc: Global,
+    pub table: &'a LanguageTable,
+    /// What texts are searched and walked with, by language.
+    pub matchers: &'a [SharedMatchers],
+    /// Whether doc strings are treated as comments.
+    pub docs: bool,
+    /// Whether parts that begin plain and hold no opener are skipped, by the matchers, or walked as the others are.
+    pub skips: bool,
+}
