@@ -247,6 +247,39 @@ fn members(rt: HostRuntime) -> Result<(), Fail> {
     Ok(())
 }
 
+/// A table of kinds. No escapes are read in a kind, so a backslash stands for itself.
+const OF_KINDS: &[u8] = br#"{"languages":{
+            "A":{"kind":"a\\n\\q"},"B":{"kind":"html"},"C":{"kind":"HTML"},"D":{"name":"html"}}}"#;
+
+/// A key, the kind of its language, and whether that is HTML.
+const KINDS: [(&str, &str, bool); 4] = [
+    ("A", "a\\n\\q", false),
+    ("B", "html", true),
+    ("C", "HTML", false),
+    ("D", "", false),
+];
+
+/// Whether the language with that key is of that kind.
+fn is_of_kind(table: &LanguageTable, key: &str, kind: &str, html: bool) -> bool {
+    match LanguageType::from_name(table, key) {
+        Some(language) => {
+            let syntax = table.syntax(language);
+            syntax.kind.as_str() == kind && syntax.is_html() == html
+        }
+        None => false,
+    }
+}
+
+#[test]
+fn kinds(rt: HostRuntime) -> Result<(), Fail> {
+    let table = LanguageTable::from_json(rt.alloc(), OF_KINDS)?;
+    for (key, kind, html) in &KINDS {
+        let right = is_of_kind(&table, key, kind, *html);
+        assert!(rt; right, "of {key}");
+    }
+    Ok(())
+}
+
 /// Whether the members of the language are as the bench table has them, of those that this test knows.
 fn says_what_is_wanted(table: &LanguageTable, language: LanguageType) -> bool {
     if !table.has(language) {
@@ -260,6 +293,7 @@ fn says_what_is_wanted(table: &LanguageTable, language: LanguageType) -> bool {
         "D" => are_pairs(language.nested_comments(table), &[("/+", "+/")])
             && !language.allows_nested(table),
         "Html" => are_pairs(language.multi_line_comments(table), &[("<!--", "-->")])
+            && table.syntax(language).kind.as_str() == "html"
             && language.family(table) == Family::HtmlLike,
         "Python" => are_pairs(
             language.doc_quotes(table),
