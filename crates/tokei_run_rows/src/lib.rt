@@ -1,5 +1,6 @@
-//! Worked rows of a whole run: what it writes of trees in memory. They stand here, above the crate of a run, since the
-//! tests of a crate are proved together with the whole of it.
+//! Worked rows of a whole run: what it writes of trees in memory, in each form of output, and what stands after a call or
+//! an allocation that fails. They stand here, above the crate of a run, since the tests of a crate are proved together
+//! with the whole of it.
 #![tactic(auto)]
 
 #[cfg(test)]
@@ -7,20 +8,8 @@ mod faults;
 #[cfg(test)]
 mod outputs;
 #[cfg(test)]
-mod read_back;
-#[cfg(test)]
 mod refused_runs;
-#[cfg(test)]
-mod reports;
-#[cfg(test)]
-mod runs;
-#[cfg(test)]
-mod sorts;
+pub mod runs;
 #[cfg(test)]
 mod streams;
-#[cfg(test)]
-mod sums;
-#[cfg(test)]
-mod trees;
-#[cfg(test)]
-mod widths;
+pub mod trees;

@@ -1,9 +1,9 @@
 //! Reports of other widths, and of names of two bytes a character.
-use crate::runs::{bench, framed, job, written};
-use crate::trees::{Files, MAIN};
 use std::alloc::Global;
 use std::test::Fail;
 use tokei::{LanguageTable, Wanted};
+use tokei_run_rows::runs::{bench, framed, job, written};
+use tokei_run_rows::trees::{Files, MAIN};
 
 /// Two languages whose names have 16 and 20 characters.
 const TABLE: &str = concat!(

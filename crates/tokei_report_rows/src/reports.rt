@@ -1,9 +1,9 @@
 //! Printed reports and the document of small trees.
-use crate::runs::{bench, framed, job, writes};
-use crate::trees::{Files, MAIN, MARKDOWN, NOTEBOOK, TWO};
 use std::alloc::Global;
 use std::test::Fail;
 use tokei::{Format, Job, LanguageTable, RunError, Wanted};
+use tokei_run_rows::runs::{bench, framed, job, writes};
+use tokei_run_rows::trees::{Files, MAIN, MARKDOWN, NOTEBOOK, TWO};
 
 const ONE_LINE: &str = "#
  Rust                      1            1            1            0            0

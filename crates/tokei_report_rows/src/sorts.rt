@@ -1,9 +1,9 @@
 //! The order of a sorted report.
-use crate::runs::{bench, job, written};
-use crate::trees::Files;
 use std::alloc::Global;
 use std::test::Fail;
 use tokei::{Job, LanguageTable, Sort, Wanted};
+use tokei_run_rows::runs::{bench, job, written};
+use tokei_run_rows::trees::Files;
 
 /// Three languages and one that holds another; by their own blank, code and comment lines C has 0, 1 and 2 in two files,
 /// Python 2, 1 and 0, Rust 1, 3 and 1, and Markdown 0, 0 and 2.

@@ -1,9 +1,9 @@
 //! Documents that are read back.
-use crate::runs::bench;
-use crate::trees::{Files, LARGE, MAIN, MARKDOWN, NOTEBOOK, TWO, folders};
 use std::alloc::{AllocError, Global};
 use std::test::Fail;
 use tokei::{Config, Format, Language, LanguageTable, LanguageType, Languages, Report};
+use tokei_run_rows::runs::bench;
+use tokei_run_rows::trees::{Files, LARGE, MAIN, MARKDOWN, NOTEBOOK, TWO, folders};
 use tokei_statistics::CountFiles;
 
 /// A root, the files of its tree, an exclude, and how many reports there are where ignore files are obeyed, where only
