@@ -57,13 +57,31 @@ impl<'a> BlockSearch<'a> {
     {
         match &mut self.tags {
             Some(tags) => tags.tag_at(tag, from, place, to),
-            None => {
-                let mut tags = TagSearches::new(self.text);
-                let found = tags.tag_at(tag, from, place, to);
-                self.tags = Some(tags);
-                found
-            }
+            None => self.tag_at_first(tag, from, place, to),
         }
+    }
+
+    /// The same, where it is the first question for an element: the searches are made. It stands in no caller's code,
+    /// which would clear their room at each question.
+    #[inline(never)]
+    fn tag_at_first(
+        &mut self,
+        tag: Tag,
+        from: usize,
+        place: usize,
+        to: usize,
+    ) -> Option<TagAt<'a>>
+        requires order { from ≤ place }
+        requires inside { place < to }
+        requires ends { to ≤ length self.old }
+        ensures block { option_map tag_seen result
+            ≡ tag_block tag (part_of self.old from to) (place - from) (drop place self.old) }
+        ensures same { self.new ≡ self.old }
+    {
+        let mut tags = TagSearches::new(self.text);
+        let found = tags.tag_at(tag, from, place, to);
+        self.tags = Some(tags);
+        found
     }
 
     /// The first place from `at` on at which an element with the tag can open in the part `text[start..to]`: the tag's
@@ -80,13 +98,26 @@ impl<'a> BlockSearch<'a> {
     {
         match &mut self.tags {
             Some(tags) => tags.next_tag(tag, start, at, to),
-            None => {
-                let mut tags = TagSearches::new(self.text);
-                let place = tags.next_tag(tag, start, at, to);
-                self.tags = Some(tags);
-                place
-            }
+            None => self.next_tag_first(tag, start, at, to),
         }
+    }
+
+    /// The same, where it is the first question for an element: the searches are made, in no caller's code either.
+    #[inline(never)]
+    fn next_tag_first(&mut self, tag: Tag, start: usize, at: usize, to: usize) -> usize
+        requires order { start ≤ at }
+        requires inside { at ≤ to }
+        requires ends { to ≤ length self.old }
+        ensures low { at ≤ result }
+        ensures high { result ≤ to }
+        ensures none { OpensNoElement tag self.old start to at result }
+        ensures exact { result < to → is_at (result - start) (first_of (token_of tag) (part_of self.old start to)) ≡ true }
+        ensures same { self.new ≡ self.old }
+    {
+        let mut tags = TagSearches::new(self.text);
+        let place = tags.next_tag(tag, start, at, to);
+        self.tags = Some(tags);
+        place
     }
 
     /// The target that the Lingua Franca text names: the word of its first `target` that no word byte stands before,
