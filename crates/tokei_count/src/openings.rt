@@ -14,9 +14,7 @@ ghost use Rattle.tokei_count.specs.Seen.{block_of};
 
 use crate::line_ends::line_stop;
 use crate::place::Place;
-use tokei_embedding::{
-    BlockSearch, Tag, doc_at, fence_at, next_doc, next_fence, next_target, target_at,
-};
+use tokei_embedding::{BlockSearch, Tag, fence_at, next_doc, next_fence, next_target, target_at};
 use tokei_stats::Sums;
 use tokei_table::ext::{trim, trim_first_and_last_line_of_whitespace};
 use tokei_table::family::Family;
@@ -213,14 +211,16 @@ fn html_block<'a>(
 }
 
 /// The child that a doc comment opens at the place.
-fn rust_block<'a>(place: &Place<'_, 'a>) -> Option<Block<'a>>
-    requires { place.now.at < length (text_of place.now) }
-    ensures { option_map block_of result
+fn rust_block<'a>(place: &Place<'_, 'a>, search: &mut BlockSearch<'a>) -> Option<Block<'a>>
+    requires inside { place.now.at < length (text_of place.now) }
+    requires searched { search.old ≡ text_of place.now }
+    ensures same { search.new ≡ search.old }
+    ensures block { option_map block_of result
         ≡ rust_block place.now.reading.now.table.now place.now.reading.now.language
         (text_from place.now place.now.at) }
 {
     let reading = place.reading;
-    let size = doc_at(reading.text, place.at)?;
+    let size = search.doc_at(place.at)?;
     let rest = &reading.text[place.at..];
     Some(Block {
         language: fallback(reading.table, reading.language, "Markdown"),
@@ -345,7 +345,7 @@ pub(crate) fn block_at<'a>(place: &Place<'_, 'a>, search: &mut BlockSearch<'a>) 
         Family::Plain | Family::Jupyter => None,
         Family::Markdown => markdown_block(place, to),
         Family::HtmlLike => html_block(place, search, to),
-        Family::Rust => rust_block(place),
+        Family::Rust => rust_block(place, search),
         Family::LinguaFranca => franca_block(place, search, to),
     }
 }

@@ -1,7 +1,8 @@
 -- What searches remember of a text.
-use Rattle.std.specs.Prelude.{◌≡◌, ℕ, ◌+◌, ◌<◌, ◌≤◌, true, false, List, length, slice_index, Option, None, Some}
+use Rattle.std.specs.Prelude.{◌≡◌, ℕ, ◌+◌, ◌<◌, ◌≤◌, true, false, List, length, drop, slice_index, Option, None, Some}
 use Rattle.tokei_syntax.specs.Bytes.{is_blank}
 use Rattle.memchr.specs.Find.{OccursAt}
+use Rattle.tokei_embedding.specs.DocComments.{first_line, front_mark, mark_of}
 
 -- A text, and the token that is sought in it.
 pub record Sought : Type 0 where
@@ -42,3 +43,9 @@ IsLastPlace s from to (Some place) = StandsLast s from to place
 pub record IsFirstSolid (text : List ℕ) (from place : ℕ) : Type 0 where
   pub blank : (k : ℕ) → from ≤ k → k < place → is_blank (slice_index text k) ≡ true
   pub solid : from ≤ place → place < length text → is_blank (slice_index text place) ≡ false
+
+-- From each place from the first one to the other, the rest of the line begins behind its blanks with the mark that
+-- stands at the other. Of a place before the first one nothing is said.
+pub record IsMarkPlace (text : List ℕ) (from place : ℕ) : Type 0 where
+  pub within : place ≤ length text
+  pub leads : (k : ℕ) → from ≤ k → k ≤ place → mark_of (first_line (drop k text)) ≡ front_mark (drop place text)

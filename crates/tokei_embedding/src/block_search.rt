@@ -1,24 +1,28 @@
 //! The search for the blocks of one text.
 ghost use Rattle.std.specs.Prelude.{◌≡◌, ℕ, ◌-◌, ◌≤◌, ◌<◌, true, IfSome, List, length, drop, option_map};
+ghost use Rattle.tokei_embedding.specs.DocComments.{doc_block};
 ghost use Rattle.tokei_embedding.specs.NextOpenings.{part_of, OpensNoElement};
 ghost use Rattle.tokei_embedding.specs.Searches.{first_of, is_at};
 ghost use Rattle.tokei_embedding.specs.Seen.{tag_seen};
 ghost use Rattle.tokei_embedding.specs.Tags.{token_of, tag_block};
 ghost use Rattle.tokei_embedding.specs.TargetBlocks.{target_of};
 
+use crate::doc_comments::marked_len;
+use crate::mark_search::MarkSearch;
 use crate::tag_searches::TagSearches;
 use crate::tags::{Tag, TagAt};
 use crate::target_blocks::target_of;
 use std::marker::Model;
 
-/// Finds the elements and the target of one text, and remembers what each search came to: over questions that go from the
-/// front of the text to its end, all searches together take time that grows with its length. Contracts see it as the
-/// text.
+/// Finds the elements, the doc comments and the target of one text, and remembers what each search came to: over
+/// questions that go from the front of the text to its end, all searches together take time that grows with its length.
+/// Contracts see it as the text.
 #[derive(Drop)]
 pub struct BlockSearch<'a> {
     text: &'a [u8],
     /// None until an element is asked for: most texts have none.
     tags: Option<TagSearches<'a>>,
+    marks: MarkSearch<'a>,
     /// None until the target is asked for.
     target: Option<Option<&'a [u8]>>,
 }
@@ -28,7 +32,7 @@ impl<'a> Model for BlockSearch<'a> {
 
     ghost view = { λ s. s.text.now };
 
-    ghost invariant = { λ s. IfSome s.tags (λ tags. tags ≡ s.text.now)
+    ghost invariant = { λ s. IfSome s.tags (λ tags. tags ≡ s.text.now) × (s.marks ≡ s.text.now)
         × IfSome s.target (λ t. option_map (λ w. w.now) t ≡ target_of s.text.now) };
 }
 
@@ -40,6 +44,7 @@ impl<'a> BlockSearch<'a> {
         BlockSearch {
             text,
             tags: None,
+            marks: MarkSearch::new(text),
             target: None,
         }
     }
@@ -64,13 +69,7 @@ impl<'a> BlockSearch<'a> {
     /// The same, where it is the first question for an element: the searches are made. It stands in no caller's code,
     /// which would clear their room at each question.
     #[inline(never)]
-    fn tag_at_first(
-        &mut self,
-        tag: Tag,
-        from: usize,
-        place: usize,
-        to: usize,
-    ) -> Option<TagAt<'a>>
+    fn tag_at_first(&mut self, tag: Tag, from: usize, place: usize, to: usize) -> Option<TagAt<'a>>
         requires order { from ≤ place }
         requires inside { place < to }
         requires ends { to ≤ length self.old }
@@ -118,6 +117,17 @@ impl<'a> BlockSearch<'a> {
         let place = tags.next_tag(tag, start, at, to);
         self.tags = Some(tags);
         place
+    }
+
+    /// The length of the block of doc comments that opens at `place`: the rest of the line there, which begins with `///`
+    /// or `//!` behind its front blanks, and the lines behind it that begin with the same mark.
+    pub fn doc_at(&mut self, place: usize) -> Option<usize>
+        requires { place < length self.old }
+        ensures value { result ≡ option_map (λ b. b.size) (doc_block (drop place self.old)) }
+        ensures same { self.new ≡ self.old }
+    {
+        let mark = self.marks.mark_at(place)?;
+        Some(marked_len(mark, &self.text[place..]))
     }
 
     /// The target that the Lingua Franca text names: the word of its first `target` that no word byte stands before,

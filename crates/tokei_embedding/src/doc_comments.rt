@@ -1,10 +1,10 @@
 //! Rust's doc comments.
-ghost use Rattle.std.specs.Prelude.{◌≡◌, ◌+◌, ◌-◌, ◌≤◌, ◌<◌, IfSome, IfOk, length, take, drop, option_map};
-ghost use Rattle.tokei_embedding.specs.DocComments.{first_line, front_mark, mark_of, marked_len, lines_of, doc_text, doc_block};
+ghost use Rattle.std.specs.Prelude.{◌≡◌, ◌≤◌, ◌<◌, IfOk, length, option_map};
+ghost use Rattle.tokei_embedding.specs.DocComments.{first_line, front_mark, marked_len, lines_of, doc_text};
 
 use memchr::memchr;
 use std::alloc::{AllocError, Global};
-use tokei_syntax::ext::{is_whitespace, trim_start};
+use tokei_syntax::ext::trim_start;
 
 /// The text through its first newline.
 pub fn first_line(text: &[u8]) -> &[u8]
@@ -31,22 +31,8 @@ pub(crate) fn front_mark(text: &[u8]) -> Option<&'static [u8]>
     None
 }
 
-/// The mark with which the text's first line begins behind its front blanks.
-fn mark_here(text: &[u8]) -> Option<&'static [u8]>
-    ensures { option_map (λ m. m.now) result ≡ mark_of (first_line text.now) }
-{
-    let mut rest = text;
-    while let [first, others @ ..] = rest {
-        if *first == b'\n' || !is_whitespace(*first) {
-            return front_mark(rest);
-        }
-        rest = others;
-    }
-    None
-}
-
 /// The length of the lines before the first one that doesn't begin with the mark behind its front blanks.
-fn marked_len(mark: &[u8], text: &[u8]) -> usize
+pub(crate) fn marked_len(mark: &[u8], text: &[u8]) -> usize
     ensures value { result ≡ marked_len mark.now (lines_of text.now) }
     ensures within { result ≤ length text.now }
 {
@@ -59,17 +45,6 @@ fn marked_len(mark: &[u8], text: &[u8]) -> usize
         at += line.len();
     }
     at
-}
-
-/// The length of the block of doc comments that opens at `place`: the rest of the line there, which begins with `///`
-/// or `//!` behind its front blanks, and the lines behind it that begin with the same mark.
-pub fn doc_at(text: &[u8], place: usize) -> Option<usize>
-    requires { place < length text.now }
-    ensures { result ≡ option_map (λ b. b.size) (doc_block (drop place text.now)) }
-{
-    let rest = &text[place..];
-    let mark = mark_here(rest)?;
-    Some(marked_len(mark, rest))
 }
 
 /// What a block of doc comments says: its lines joined, each without its front blanks and its mark. Memory is taken once,

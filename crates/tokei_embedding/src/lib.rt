@@ -10,6 +10,7 @@ mod fences;
 mod first_search;
 mod last_search;
 pub mod laws;
+mod mark_search;
 mod next_openings;
 mod opening_search;
 mod searches;
@@ -20,7 +21,7 @@ mod tags;
 mod target_blocks;
 
 pub use block_search::BlockSearch;
-pub use doc_comments::{doc_at, doc_text, first_line};
+pub use doc_comments::{doc_text, first_line};
 pub use fences::{FenceAt, closing_len, fence_at, first_fence, info_len};
 pub use next_openings::{next_doc, next_fence, next_target};
 pub use opening_search::first_opening;

@@ -72,3 +72,33 @@ fn falling_questions(rt: HostRuntime) {
         }
     }
 }
+
+const DOC_TEXTS: [&[u8]; 4] = [
+    b"  \n\t /// a\n  //! b\n",
+    b"x    //! c\n   \n//! d\n //! e",
+    b"   // f\n \x0b\x0c\r///",
+    b" \n \n ",
+];
+
+/// The search and a new one find the same doc comment at the place.
+fn expect_same_doc(rt: &impl Abort, text: &[u8], search: &mut BlockSearch<'_>, place: usize)
+    requires same { search.old ≡ text.now }
+    requires inside { place < length text.now }
+    ensures { search.new ≡ search.old }
+{
+    let fresh = BlockSearch::new(text).doc_at(place);
+    assert_eq!(rt; search.doc_at(place), fresh, "{text:?} at {place}");
+}
+
+#[test]
+fn doc_comments_at_rising_and_falling_places(rt: HostRuntime) {
+    for text in DOC_TEXTS {
+        let mut search = BlockSearch::new(text);
+        for place in 0..text.len() {
+            expect_same_doc(&rt, text, &mut search, place);
+        }
+        for place in (0..text.len()).rev() {
+            expect_same_doc(&rt, text, &mut search, place);
+        }
+    }
+}

@@ -1,7 +1,7 @@
 //! What opens at a place, and what it holds.
 use std::alloc::{AllocError, Global};
 use std::test::Fail;
-use tokei_embedding::{BlockSearch, Tag, doc_at, doc_text, fence_at, target_at};
+use tokei_embedding::{BlockSearch, Tag, doc_text, fence_at, target_at};
 
 /// A text, where its first line ends, and the fence at its beginning: its info, contents and size, and whether it is closed.
 const FENCES: [(&[u8], usize, &[u8], &[u8], usize, bool); 6] = [
@@ -243,7 +243,7 @@ fn doc_of(
     if place >= text.len() {
         return Ok(None);
     }
-    let Some(size) = doc_at(text, place) else {
+    let Some(size) = BlockSearch::new(text).doc_at(place) else {
         return Ok(None);
     };
     if size > text.len() - place {
@@ -287,7 +287,10 @@ const NO_DOC_COMMENTS: [&[u8]; 5] = [
 #[test]
 fn no_doc_comments(rt: HostRuntime) {
     for text in &NO_DOC_COMMENTS {
-        assert!(rt; !text.is_empty() && doc_at(text, 0).is_none(), "{text:?}");
+        assert!(rt;
+            !text.is_empty() && BlockSearch::new(text).doc_at(0).is_none(),
+            "{text:?}"
+        );
     }
 }
 
