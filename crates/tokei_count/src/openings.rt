@@ -1,9 +1,9 @@
 //! The children that open in a text.
-ghost use Rattle.std.specs.Prelude.{◌≡◌, ℕ, None, [], ◌-◌, ◌<◌, ◌≤◌, drop, take, length, option_map};
+ghost use Rattle.std.specs.Prelude.{◌≡◌, [], ◌-◌, ◌<◌, ◌≤◌, length, option_map};
 ghost use Rattle.tokei_table.specs.Row.{Row};
 ghost use Rattle.tokei_embedding.specs.Fences.{fence_block};
+ghost use Rattle.tokei_embedding.specs.NextOpenings.{OpensNoElement};
 ghost use Rattle.tokei_embedding.specs.Seen.{fence_seen, tag_seen, target_seen};
-ghost use Rattle.tokei_embedding.specs.Tags.{tag_block};
 ghost use Rattle.tokei_count.specs.NamedLanguages.{by_word, by_mime, by_name, fallback};
 ghost use Rattle.tokei_count.specs.MarkdownChildren.{known_piece, markdown_block};
 ghost use Rattle.tokei_count.specs.HtmlChildren.{by_value, usual_key, element_language, element_at, html_block};
@@ -285,7 +285,7 @@ fn next_element(search: &mut BlockSearch, start: usize, at: usize, to: usize) ->
     requires inside { at ≤ to }
     requires ends { to ≤ length search.old }
     ensures high { result ≤ to }
-    ensures none { (tag : Tag) → (p : ℕ) → at ≤ p → p < result → tag_block tag (take (to - start) (drop start search.old)) (p - start) (drop p search.old) ≡ None }
+    ensures none { (tag : Tag) → OpensNoElement tag search.old start to at result }
     ensures same { search.new ≡ search.old }
 {
     let script = search.next_tag(Tag::Script, start, at, to);

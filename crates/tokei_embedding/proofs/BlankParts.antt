@@ -18,7 +18,7 @@ one_solid [] k l h = absurd (omega arith)
 one_solid (b ∷ t) zero l h = ap (λ x. x && all_blank t) h
 one_solid (b ∷ t) (suc k) l h = and_false (is_blank b) (all_blank t) (one_solid t k (omega arith) h)
 
-part_reads : (t : List ℕ) (from n k : ℕ) → k < n → get_or (take n (drop from t)) k 0 ≡ get_or t (from + k) 0
+pub part_reads : (t : List ℕ) (from n k : ℕ) → k < n → get_or (take n (drop from t)) k 0 ≡ get_or t (from + k) 0
 part_reads t from n k l = get_or-take n (drop from t) k 0 l ∙ get_or-drop from t k 0
 
 pub part_blank : (t : List ℕ) (from place to : ℕ) → IsFirstSolid t from place → from ≤ place → from ≤ to → to ≤ length t → nat_le to place ≡ all_blank (take (to - from) (drop from t))

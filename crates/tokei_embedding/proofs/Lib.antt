@@ -2,6 +2,7 @@ pub mod BlankParts
 pub mod BlockLaws
 pub mod DocLaws
 pub mod FenceBlocks
+pub mod FirstBytes
 pub mod FirstFences
 pub mod FirstPlaces
 pub mod LastPlaces

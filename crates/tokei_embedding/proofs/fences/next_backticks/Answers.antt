@@ -9,8 +9,8 @@ returns-then-third-to-clause-passed c =
     let a = c.args in
     let t = take a.to a.text.now in
     let at = c.loop-at.at in
-    let third = c.first_of_one-third.result in
-    let e = c.first_of_one-third.ensures in
+    let third = c.first_byte-third.result in
+    let e = c.first_byte-third.ensures in
     let whole : length t ≡ a.to = length-take-le a.to a.text.now c.requires.within in
     let apart = apart_in_front a.text.now (at + 2) third a.to e.high e.passed in
     none_in_part a.text.now a.from a.to a.to (omega arith)
@@ -22,8 +22,8 @@ loop-at-preserved-then-text-third-ne96 c =
     let a = c.args in
     let t = take a.to a.text.now in
     let at = c.loop-at.at in
-    let third = c.first_of_one-third.result in
-    let e = c.first_of_one-third.ensures in
+    let third = c.first_byte-third.result in
+    let e = c.first_byte-third.ensures in
     let apart = apart_in_front a.text.now (at + 2) third a.to e.high e.passed in
     record {
       low = omega (arith, c.loop-at.invariant.low, e.low);
@@ -37,8 +37,8 @@ returns-else-text-third-ne96-2-clause-passed c =
     let a = c.args in
     let t = take a.to a.text.now in
     let at = c.loop-at.at in
-    let third = c.first_of_one-third.result in
-    let e = c.first_of_one-third.ensures in
+    let third = c.first_byte-third.result in
+    let e = c.first_byte-third.ensures in
     let apart = apart_in_front a.text.now (at + 2) third a.to e.high e.passed in
     none_in_part a.text.now a.from (third - 2) a.to (omega (arith, e.high))
     (λ p. none_until t a.from at (third - 2) p c.loop-at.invariant.none
@@ -47,9 +47,9 @@ returns-else-text-third-ne96-2-clause-passed c =
 pub returns-else-text-third-ne96-2-clause-found : goal.returns-else-text-third-ne96-2-clause-found
 returns-else-text-third-ne96-2-clause-found c l =
     let a = c.args in
-    let e = c.first_of_one-third.ensures in
-    let inside : c.first_of_one-third.result < a.to = omega (arith, e.high, c.if-third-to.false) in
-    three_stand a.text.now c.first_of_one-third.result a.to (omega (arith, e.low)) inside c.requires.within
+    let e = c.first_byte-third.ensures in
+    let inside : c.first_byte-third.result < a.to = omega (arith, e.high, c.if-third-to.false) in
+    three_stand a.text.now c.first_byte-third.result a.to (omega (arith, e.low)) inside c.requires.within
     (e.found inside) c.if-text-third-ne96.false c.if-text-third-ne96-2.false
 
 pub returns-clause-passed : goal.returns-clause-passed

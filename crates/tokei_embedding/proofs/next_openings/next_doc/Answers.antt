@@ -6,12 +6,12 @@ use Rattle.tokei_embedding.proofs.next_openings.next_doc.Goals as goal
 pub loop-slash-init : goal.loop-slash-init
 loop-slash-init c =
     let a = c.args in
-    let e = c.first_of_one-slash.ensures in
+    let e = c.first_byte-slash.ensures in
     record {
       low = e.low;
       high = e.high;
       found = e.found;
-      none = marks_to a.text.now a.at a.to a.at c.first_of_one-slash.result (omega arith) e.high c.requires.ends (λ j l m. absurd (omega (arith, l))) e.passed;
+      none = marks_to a.text.now a.at a.to a.at c.first_byte-slash.result (omega arith) e.high c.requires.ends (λ j l m. absurd (omega (arith, l))) e.passed;
     }
 
 pub loop-slash-preserved : goal.loop-slash-preserved
@@ -19,14 +19,14 @@ loop-slash-preserved c =
     let a = c.args in
     let i = c.loop-slash.invariant in
     let slash = c.loop-slash.slash in
-    let e = c.first_of_one-slash-in-loop-slash.ensures in
+    let e = c.first_byte-slash-in-loop-slash.ensures in
     let none_there : is_some (front_mark (take (a.to - slash) (drop slash a.text.now))) ≡ false =
     mark_found (λ m. m.now) c.front_mark.result (take (a.to - slash) (drop slash a.text.now)) false c.front_mark.ensures (sym c.is_some.ensures ∙ c.if-is_some.false) in
     record {
       low = omega (arith, i.low, e.low);
       high = e.high;
       found = e.found;
-      none = marks_to a.text.now a.at a.to (slash + 1) c.first_of_one-slash-in-loop-slash.result (omega (arith, i.low)) e.high c.requires.ends
+      none = marks_to a.text.now a.at a.to (slash + 1) c.first_byte-slash-in-loop-slash.result (omega (arith, i.low)) e.high c.requires.ends
           (marks_over a.text.now a.at a.to slash (slash + 1) (omega arith) i.low c.loop-slash-test.true i.none none_there) e.passed;
     }
 
