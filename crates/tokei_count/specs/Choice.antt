@@ -1,12 +1,14 @@
 -- The choice at a place: the first that fits there, in a string, in a comment, and in plain text.
-use Rattle.std.specs.Prelude.{ℕ, Bool, true, false, ◌&&◌, ◌||◌, ◌==◌, cond, List, [], ◌∷◌, Option, None, Some, is_some, find}
+use Rattle.std.specs.Prelude.{ℕ, Bool, true, false, ◌&&◌, ◌||◌, ◌==◌, cond}
+use Rattle.std.specs.Prelude.{List, [], ◌∷◌, Option, None, Some, is_some, find}
 use Rattle.std.specs.List.{list_any}
 use Rattle.std.specs.Str.{bytes_eq}
 use Rattle.tokei_table.specs.Bytes.{begins}
 use Rattle.tokei_table.specs.Row.{Pair, Row}
 use Rattle.tokei_count.specs.Items.{Block, Mode}
 use Rattle.tokei_count.specs.declared.items.Kind.{Kind}
-use Rattle.tokei_count.specs.declared.items.Kind.TheVariants.{DocString, VerbatimString, OrdinaryString, MultiLineComment}
+use Rattle.tokei_count.specs.declared.items.Kind.TheVariants.{DocString, VerbatimString, OrdinaryString}
+use Rattle.tokei_count.specs.declared.items.Kind.TheVariants.{MultiLineComment}
 
 pub data Choice : Type 0 where
   closes : Choice

@@ -11,7 +11,8 @@ use Rattle.tokei_count.specs.Parts.{Part}
 use Rattle.tokei_count.specs.declared.class.Class.{Class}
 use Rattle.tokei_count.specs.declared.class.Class.TheVariants.{Blank, Code, Comment}
 use Rattle.tokei_count.specs.declared.items.Kind.{Kind}
-use Rattle.tokei_count.specs.declared.items.Kind.TheVariants.{DocString, VerbatimString, OrdinaryString, MultiLineComment}
+use Rattle.tokei_count.specs.declared.items.Kind.TheVariants.{DocString, VerbatimString, OrdinaryString}
+use Rattle.tokei_count.specs.declared.items.Kind.TheVariants.{MultiLineComment}
 
 abbrev pub is_comment : Kind → Bool
 is_comment DocString = false
@@ -59,7 +60,8 @@ opens_with ps t c = list_any (λ p. begins p.opener t && bytes_eq p.closer c) ps
 
 -- the mode is a comment, and a pair that opens at the head closes as the innermost comment does
 abbrev pub ends_opened : Row → List ℕ → Mode → Bool
-ends_opened r head e = in_comment e && (opens_with r.multi_line_comments head (closer_of e) || opens_with r.nested_comments head (closer_of e))
+ends_opened r head e = in_comment e
+    && (opens_with r.multi_line_comments head (closer_of e) || opens_with r.nested_comments head (closer_of e))
 
 -- The rules, in order. `docs` says whether doc strings are treated as comments.
 -- 1. begun plain and blank: blank

@@ -1,12 +1,14 @@
 -- The derivation: a recursion on the text that gives its items. It knows no lines.
-use Rattle.std.specs.Prelude.{ℕ, ◌+◌, ◌-◌, Bool, true, false, List, [], ◌∷◌, length, take, Option, None, Some, zero, suc}
+use Rattle.std.specs.Prelude.{ℕ, zero, suc, ◌+◌, ◌-◌, Bool, true, false}
+use Rattle.std.specs.Prelude.{List, [], ◌∷◌, length, take, Option, None, Some}
 use Rattle.tokei_table.specs.Row.{Row}
 use Rattle.tokei_count.specs.Lines.{first_line}
 use Rattle.tokei_count.specs.Items.{Block, Item, Items, Mode, enclosing_item, enclosure}
 use Rattle.tokei_count.specs.Items.Item.{one, escaped, passed_over, line_comment, child}
 use Rattle.tokei_count.specs.Items.Items.{none, more}
 use Rattle.tokei_count.specs.Choice.{Choice, choice}
-use Rattle.tokei_count.specs.Choice.Choice.{closes, escapes, child_opens, opens, passes_over, begins_line_comment, takes_byte}
+use Rattle.tokei_count.specs.Choice.Choice.{closes, escapes, child_opens, opens, passes_over}
+use Rattle.tokei_count.specs.Choice.Choice.{begins_line_comment, takes_byte}
 
 -- The items of a body, how many bytes they and the closer have, and whether the closer came. A body ends before the
 -- first place at which its own closer is the choice, or at the text's end.
@@ -42,13 +44,15 @@ second (b ∷ t) = b
 abbrev pub follow : Choice → ℕ → List ℕ → ℕ → Mode → (ℕ → ℕ → Mode → Body) → Body
 follow closes b t l m go = record { items = none; taken = length (closer_of m); closed = true }
 follow escapes b t l m go = before (escaped b (second t)) 2 (go 1 l m)
-follow (child_opens k) b t l m go = before (child k (take k.size (b ∷ t))) k.size (go (k.size - 1) (length (b ∷ t) - k.size) m)
+follow (child_opens k) b t l m go =
+    before (child k (take k.size (b ∷ t))) k.size (go (k.size - 1) (length (b ∷ t) - k.size) m)
 follow (opens k p) b t l m go =
     let inner : Body = go (length p.opener - 1) l (Some (enclosure k p)) in
     before (enclosing_item k p inner.items inner.closed) (length p.opener + inner.taken)
     (behind inner.closed (go (length p.opener - 1 + inner.taken) l m))
 follow (passes_over p) b t l m go = before (passed_over p) (length p.opener) (go (length p.opener - 1) l m)
-follow begins_line_comment b t l m go = before (line_comment (first_line (b ∷ t))) (length (first_line (b ∷ t))) (go (length (first_line (b ∷ t)) - 1) l m)
+follow begins_line_comment b t l m go =
+    before (line_comment (first_line (b ∷ t))) (length (first_line (b ∷ t))) (go (length (first_line (b ∷ t)) - 1) l m)
 follow takes_byte b t l m go = before (one b) 1 (go 0 l m)
 
 -- The body of mode m in the text without its first n bytes. `block l s` is the child that opens at the front of s,

@@ -22,12 +22,17 @@ usual_key Style = codes "Css"
 usual_key Template = codes "Html"
 
 abbrev pub element_language : List Row → ℕ → Tag → Option (List ℕ) → ℕ
-element_language rows parent tag v = unwrap_or (option_and_then (by_value rows tag) v) (fallback rows parent (usual_key tag))
+element_language rows parent tag v =
+    unwrap_or (option_and_then (by_value rows tag) v) (fallback rows parent (usual_key tag))
 
 -- The text of an element is read without the blank rest of its first line and the blank front of its last one. The
 -- opening is one line of code of the parent.
 abbrev pub element_child : List Row → ℕ → Tag → TagBlock → Block
-element_child rows parent tag e = record { language = element_language rows parent tag e.value; contents = trim_outer_lines e.contents; size = e.size; share = record { blanks = 0; code = 1; comments = 0 } }
+element_child rows parent tag e = record {
+    language = element_language rows parent tag e.value;
+    contents = trim_outer_lines e.contents;
+    size = e.size;
+    share = record { blanks = 0; code = 1; comments = 0 } }
 
 abbrev pub element_at : List Row → ℕ → Tag → List ℕ → ℕ → List ℕ → Option Block
 element_at rows parent tag part place rest = option_map (element_child rows parent tag) (tag_block tag part place rest)

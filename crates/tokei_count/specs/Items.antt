@@ -3,7 +3,8 @@ use Rattle.std.specs.Prelude.{ℕ, Bool, List, Option}
 use Rattle.tokei_table.specs.Row.{Pair}
 use Rattle.tokei_stats.specs.Statistics.{Counts}
 use Rattle.tokei_count.specs.declared.items.Kind.{Kind}
-use Rattle.tokei_count.specs.declared.items.Kind.TheVariants.{DocString, VerbatimString, OrdinaryString, MultiLineComment}
+use Rattle.tokei_count.specs.declared.items.Kind.TheVariants.{DocString, VerbatimString, OrdinaryString}
+use Rattle.tokei_count.specs.declared.items.Kind.TheVariants.{MultiLineComment}
 
 -- what opens as a child: its language, its text, how many bytes of the parent it takes, and what it adds to the
 -- parent's counts

@@ -20,8 +20,13 @@ target_language rows parent (Some word) = unwrap_or (by_name rows (target_name w
 -- the text of a block is read without the blank rest of its first line and the blank front of its last one; it adds
 -- nothing to the parent
 abbrev pub target_child : List Row → ℕ → List ℕ → TargetBlock → Block
-target_child rows parent text b = record { language = target_language rows parent (target_of text); contents = trim_outer_lines b.contents; size = b.size; share = no_lines }
+target_child rows parent text b = record {
+    language = target_language rows parent (target_of text);
+    contents = trim_outer_lines b.contents;
+    size = b.size;
+    share = no_lines }
 
 -- the child that opens at a place of the part; `rest` is the text from the place on
 abbrev pub franca_block : List Row → ℕ → List ℕ → List ℕ → ℕ → List ℕ → Option Block
-franca_block rows parent text part place rest = option_map (target_child rows parent text) (target_block part place rest)
+franca_block rows parent text part place rest =
+    option_map (target_child rows parent text) (target_block part place rest)

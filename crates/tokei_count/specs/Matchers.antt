@@ -13,7 +13,9 @@ begins_opener ps b = list_any (λ p. is_first_of b p.opener) ps
 -- opener or a line comment.
 abbrev pub begins_choice : Row → ℕ → Bool
 begins_choice r b =
-    (b == 92) || (begins_opener r.quotes b || (begins_opener r.verbatim_quotes b || (begins_opener r.doc_quotes b || (begins_opener r.multi_line_comments b || (begins_opener r.nested_comments b || list_any (is_first_of b) r.line_comment)))))
+    (b == 92) || (begins_opener r.quotes b || (begins_opener r.verbatim_quotes b || (begins_opener r.doc_quotes b
+    || (begins_opener r.multi_line_comments b || (begins_opener r.nested_comments b
+    || list_any (is_first_of b) r.line_comment)))))
 
 -- In a comment one can begin: it is a backslash, or the first byte of a multi-line or nested opener.
 abbrev pub begins_in_comment : Row → ℕ → Bool
@@ -32,4 +34,7 @@ pub record Matchers : Type 0 where
   pub begins_in_comment : List Bool
 
 abbrev pub matchers_of : Row → Matchers
-matchers_of r = record { openers = openers r; begins = flags (begins_choice r) 256; begins_in_comment = flags (begins_in_comment r) 256 }
+matchers_of r = record {
+    openers = openers r;
+    begins = flags (begins_choice r) 256;
+    begins_in_comment = flags (begins_in_comment r) 256 }

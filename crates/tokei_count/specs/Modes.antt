@@ -49,7 +49,10 @@ unfoldable mutual
   marks_of c (one b) = byte_at b true c ∷ []
   marks_of c (escaped a b) = byte_at a true c ∷ byte_at b false c ∷ []
   marks_of c (passed_over p) = of_choice c p.opener
-  marks_of c (string_literal k p is closed) = of_choice (enclosure k p ∷ c) p.opener ++ (marks (enclosure k p ∷ c) is ++ cond closed (closing (enclosure k p ∷ c) c p.closer) [])
-  marks_of c (comment p is closed) = of_choice (enclosure MultiLineComment p ∷ c) p.opener ++ (marks (enclosure MultiLineComment p ∷ c) is ++ cond closed (closing (enclosure MultiLineComment p ∷ c) c p.closer) [])
+  marks_of c (string_literal k p is closed) = of_choice (enclosure k p ∷ c) p.opener
+    ++ (marks (enclosure k p ∷ c) is ++ cond closed (closing (enclosure k p ∷ c) c p.closer) [])
+  marks_of c (comment p is closed) = of_choice (enclosure MultiLineComment p ∷ c) p.opener
+    ++ (marks (enclosure MultiLineComment p ∷ c) is
+    ++ cond closed (closing (enclosure MultiLineComment p ∷ c) c p.closer) [])
   marks_of c (line_comment t) = of_choice c t
   marks_of c (child k t) = child_at k ∷ []

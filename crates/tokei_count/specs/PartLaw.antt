@@ -28,4 +28,5 @@ pub record UnwalkedStayPlain (os : List (List ℕ)) (t : List ℕ) (ms : List Ma
 
 -- and so with those of each text, by a table of which all texts that a count looks for are tokens
 abbrev pub UnwalkedPartsStayPlain : Type 0
-UnwalkedPartsStayPlain = (rows : List Row) → HaveTokens rows → (levels language : ℕ) (t : List ℕ) → UnwalkedStayPlain (openers (row_at rows language)) t (marks [] (items_in (languages_of rows) levels language t))
+UnwalkedPartsStayPlain = (rows : List Row) → HaveTokens rows → (levels language : ℕ) (t : List ℕ)
+    → UnwalkedStayPlain (openers (row_at rows language)) t (marks [] (items_in (languages_of rows) levels language t))

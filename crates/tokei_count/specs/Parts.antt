@@ -14,7 +14,10 @@ pub record Part : Type 0 where
 -- that have bytes and end with a newline or at the text's end; a part that a child breaks off isn't.
 unfoldable pub cut : Mode → List ℕ → Mode → List Mark → List Part
 cut m s e [] = elim s [ [] ↦ [] | a ∷ s' ↦ record { begun = m; bytes = a ∷ s'; ended = e } ∷ [] ]
-cut m s e (byte_at b x c ∷ ms) = cond (b == 10) (record { begun = m; bytes = s ++ b ∷ []; ended = innermost c } ∷ cut (innermost c) [] (innermost c) ms) (cut m (s ++ b ∷ []) (innermost c) ms)
+cut m s e (byte_at b x c ∷ ms) =
+    cond (b == 10)
+    (record { begun = m; bytes = s ++ b ∷ []; ended = innermost c } ∷ cut (innermost c) [] (innermost c) ms)
+    (cut m (s ++ b ∷ []) (innermost c) ms)
 cut m s e (child_at k ∷ ms) = cut None [] None ms
 
 -- the parts of a whole text, which begins plain

@@ -5,7 +5,8 @@ use Rattle.tokei_table.specs.FirstOpener.{is_first_of}
 use Rattle.tokei_count.specs.Items.{Mode}
 use Rattle.tokei_count.specs.Matchers.{Matchers}
 use Rattle.tokei_count.specs.declared.items.Kind.{Kind}
-use Rattle.tokei_count.specs.declared.items.Kind.TheVariants.{DocString, VerbatimString, OrdinaryString, MultiLineComment}
+use Rattle.tokei_count.specs.declared.items.Kind.TheVariants.{DocString, VerbatimString, OrdinaryString}
+use Rattle.tokei_count.specs.declared.items.Kind.TheVariants.{MultiLineComment}
 
 -- no escape, opener or line comment begins at the byte, by the matchers
 abbrev pub BeginsNone : Matchers → ℕ → Type 0

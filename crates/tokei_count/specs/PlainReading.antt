@@ -39,11 +39,13 @@ shares (k ∷ ks) = plus k.share (shares ks)
 -- the blobs, with the statistics of each child added at its language
 abbrev pub gathered : (Block → Statistics) → Blobs → List Block → Blobs
 gathered read bs [] = bs
-gathered read bs (k ∷ ks) = gathered read (put bs k.language (joined (at bs k.language) (λ s. sum s (read k)) (read k))) ks
+gathered read bs (k ∷ ks) =
+    gathered read (put bs k.language (joined (at bs k.language) (λ s. sum s (read k)) (read k))) ks
 
 -- the statistics of a text by its marks, where `read` gives those of a child
 abbrev pub read_by : Row → Bool → (Block → Statistics) → List Mark → Statistics
-read_by r docs read ms = node (plus (tally r docs (parts_of ms)) (shares (children ms))) (gathered read none (children ms))
+read_by r docs read ms =
+    node (plus (tally r docs (parts_of ms)) (shares (children ms))) (gathered read none (children ms))
 
 -- the blocks that can open in a text, with so many levels left: with none left no child opens
 abbrev pub blocks : Languages → ℕ → ℕ → List ℕ → (ℕ → List ℕ → Option Block)
@@ -61,8 +63,10 @@ reading ls docs zero language t =
     cond (is_notebook (ls.row language)) empty
     (read_by (ls.row language) docs (λ k. empty) (marks [] (items_of (ls.row language) (blocks ls zero language t) t)))
 reading ls docs (suc levels) language t =
-    cond (is_notebook (ls.row language)) (notebook_by (λ k. reading ls docs levels k.language k.contents) (ls.cells language t))
-    (read_by (ls.row language) docs (λ k. reading ls docs levels k.language k.contents) (marks [] (items_of (ls.row language) (blocks ls (suc levels) language t) t)))
+    cond (is_notebook (ls.row language))
+    (notebook_by (λ k. reading ls docs levels k.language k.contents) (ls.cells language t))
+    (read_by (ls.row language) docs (λ k. reading ls docs levels k.language k.contents)
+        (marks [] (items_of (ls.row language) (blocks ls (suc levels) language t) t)))
 
 -- the reading of a child, in a text with so many levels left
 abbrev pub child_reading : Languages → Bool → ℕ → Block → Statistics

@@ -1,5 +1,6 @@
 -- How the reading of a text goes on from a place: what is left of it, given the items that enclose the place.
-use Rattle.std.specs.Prelude.{◌≡◌, ℕ, ◌+◌, ◌-◌, ◌<◌, ◌≤◌, Bool, true, cond, List, [], ◌∷◌, ◌++◌, take, drop, length, Option, None, Some, ⊤}
+use Rattle.std.specs.Prelude.{◌≡◌, ℕ, ◌+◌, ◌-◌, ◌<◌, ◌≤◌, Bool, true, cond, ⊤}
+use Rattle.std.specs.Prelude.{List, [], ◌∷◌, ◌++◌, take, drop, length, Option, None, Some}
 use Rattle.tokei_table.specs.Openers.{openers}
 use Rattle.tokei_table.specs.Row.{Row}
 use Rattle.tokei_table.specs.Sound.{is_token}
@@ -25,15 +26,19 @@ module _ (r : Row) (block : ℕ → List ℕ → Option Block) where
   -- the marks of what is left of the text: the body that is under way, its closer, and the bodies around it
   unfoldable pub marks_ahead : ℕ → Chain → List ℕ → List Mark
   marks_ahead l [] t = marks [] (body l [] t).items
-  marks_ahead l (e ∷ c) t = marks (e ∷ c) (body l (e ∷ c) t).items ++ cond (body l (e ∷ c) t).closed (closing (e ∷ c) c e.closer ++ marks_ahead l c (drop (body l (e ∷ c) t).taken t)) []
+  marks_ahead l (e ∷ c) t = marks (e ∷ c) (body l (e ∷ c) t).items
+    ++ cond (body l (e ∷ c) t).closed
+    (closing (e ∷ c) c e.closer ++ marks_ahead l c (drop (body l (e ∷ c) t).taken t)) []
 
-  -- Through n bytes of its line the text leads from the items of c to those of d. Among the n bytes and a newline behind
-  -- them that no choice of its own takes, j choices begin more than where one takes it.
+  -- Through n bytes of its line the text leads from the items of c to those of d. Among the n bytes and a newline
+  -- behind them that no choice of its own takes, j choices begin more than where one takes it.
   pub record Leads (l : ℕ) (c : Chain) (n j : ℕ) (d : Chain) (t : List ℕ) : Type 0 where
     pub within : n ≤ line_len t
-    pub same : (m : _) (s : List ℕ) → cut m s (innermost c) (marks_ahead l c t) ≡ cut m (s ++ take n t) (innermost d) (marks_ahead l d (drop n t))
+    pub same : (m : _) (s : List ℕ) → cut m s (innermost c) (marks_ahead l c t)
+      ≡ cut m (s ++ take n t) (innermost d) (marks_ahead l d (drop n t))
     pub kids : children (marks_ahead l c t) ≡ children (marks_ahead l d (drop n t))
-    pub choices : (m : _) (s : List ℕ) (k : ℕ) → stretches m s k t (marks_ahead l c t) ≡ stretches m (s ++ take n t) (k + j) (drop n t) (marks_ahead l d (drop n t))
+    pub choices : (m : _) (s : List ℕ) (k : ℕ) → stretches m s k t (marks_ahead l c t)
+      ≡ stretches m (s ++ take n t) (k + j) (drop n t) (marks_ahead l d (drop n t))
 
 -- how many newlines end the first line: one, or none where the text ends it
 abbrev pub newlines : List ℕ → ℕ
@@ -84,9 +89,12 @@ module _ (r : Row) (block : ℕ → List ℕ → Option Block) (l : ℕ) where
     pub some : 0 < k.size
     pub within : n + k.size ≤ length t
     pub plain : d ≡ []
-    pub counts : counts_left docs c t ≡ tally r docs (cut None [] None (marks_ahead r block (length t - (n + k.size)) [] (drop (n + k.size) t)))
+    pub counts : counts_left docs c t
+      ≡ tally r docs (cut None [] None (marks_ahead r block (length t - (n + k.size)) [] (drop (n + k.size) t)))
     pub kids : children_left c t ≡ k ∷ children (marks_ahead r block (length t - (n + k.size)) [] (drop (n + k.size) t))
-    pub steps : steps_left c t ≡ cond (is_walked (openers r) (innermost c) (first_line t)) j 0 + walked_choices (openers r) (stretches None [] 0 (drop (n + k.size) t) (marks_ahead r block (length t - (n + k.size)) [] (drop (n + k.size) t)))
+    pub steps : steps_left c t ≡ cond (is_walked (openers r) (innermost c) (first_line t)) j 0
+      + walked_choices (openers r) (stretches None [] 0 (drop (n + k.size) t)
+        (marks_ahead r block (length t - (n + k.size)) [] (drop (n + k.size) t)))
 
   -- the child k opens at the front of the text, which is plain there
   pub record OpensChild (c : Chain) (k : Block) (d : Chain) (t : List ℕ) : Type 0 where
@@ -100,7 +108,7 @@ pub record FitsBlocks (block : ℕ → List ℕ → Option Block) : Type 0 where
   pub some : (l : ℕ) (t : List ℕ) (k : Block) → block l t ≡ Some k → 0 < k.size
   pub within : (l : ℕ) (t : List ℕ) (k : Block) → block l t ≡ Some k → k.size ≤ length t
 
--- a part of the text that began at `start` is under way at the place `at`, where l bytes were left behind the last child
+-- a part of the text that began at `start` is under way at the place, where l bytes were left behind the last child
 pub record IsPart (text : List ℕ) (l start place : ℕ) : Type 0 where
   pub low : start ≤ place
   pub high : place ≤ length text

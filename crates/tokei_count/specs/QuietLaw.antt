@@ -9,7 +9,10 @@ use Rattle.tokei_count.specs.Openings.{languages_of}
 use Rattle.tokei_count.specs.Steps.{steps}
 use Rattle.tokei_count.specs.WeightLaws.{HaveTokens}
 
--- a text that isn't a notebook and holds no opener takes no steps, by a table of which all texts that a count looks for are
--- tokens
+-- a text that isn't a notebook and holds no opener takes no steps, by a table of which all texts that a count looks for
+-- are tokens
 abbrev pub QuietTextsTakeNoSteps : Type 0
-QuietTextsTakeNoSteps = (rows : List Row) → HaveTokens rows → (levels language : ℕ) (t : List ℕ) → is_notebook (row_at rows language) ≡ false → first_opener (openers (row_at rows language)) t ≡ None → steps (languages_of rows) levels language t ≡ 0
+QuietTextsTakeNoSteps = (rows : List Row) → HaveTokens rows → (levels language : ℕ) (t : List ℕ)
+    → is_notebook (row_at rows language) ≡ false
+    → first_opener (openers (row_at rows language)) t ≡ None
+    → steps (languages_of rows) levels language t ≡ 0

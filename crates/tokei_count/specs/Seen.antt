@@ -5,10 +5,12 @@ use Rattle.tokei_table.specs.RowOf.{pair_of}
 use Rattle.tokei_embedding.specs.DocComments.{doc_text}
 use Rattle.tokei_count.specs.Items.{Block, Enclosure, Mode}
 use Rattle.tokei_count.specs.Choice.{Choice, or_else}
-use Rattle.tokei_count.specs.Choice.Choice.{closes, escapes, child_opens, opens, passes_over, begins_line_comment, takes_byte}
+use Rattle.tokei_count.specs.Choice.Choice.{closes, escapes, child_opens, opens, passes_over}
+use Rattle.tokei_count.specs.Choice.Choice.{begins_line_comment, takes_byte}
 use Rattle.tokei_count.specs.Modes.{Chain}
 use Rattle.tokei_count.specs.declared.choice.Choice as CodeChoice
-use Rattle.tokei_count.specs.declared.choice.Choice.TheVariants.{Closer, Escape, Child, Opener, PassedOpener, LineComment, Byte}
+use Rattle.tokei_count.specs.declared.choice.Choice.TheVariants.{Closer, Escape, Child, Opener, PassedOpener}
+use Rattle.tokei_count.specs.declared.choice.Choice.TheVariants.{LineComment, Byte}
 use Rattle.tokei_count.specs.declared.items.Enclosure as CodeEnclosure
 use Rattle.tokei_count.specs.declared.openings.Block as CodeBlock
 use Rattle.tokei_options.specs.declared.count_config.CountConfig.{CountConfig}
@@ -18,7 +20,11 @@ abbrev pub contents_of : CodeBlock.Block → List ℕ
 contents_of k = cond k.is_doc (trim (doc_text k.contents.now)) k.contents.now
 
 abbrev pub block_of : CodeBlock.Block → Block
-block_of k = record { language = k.language; contents = contents_of k; size = k.size; share = record { blanks = 0; code = k.code; comments = k.comments } }
+block_of k = record {
+    language = k.language;
+    contents = contents_of k;
+    size = k.size;
+    share = record { blanks = 0; code = k.code; comments = k.comments } }
 
 -- a choice where that child can open, if any
 abbrev pub choice_of : Option Block → CodeChoice.Choice → Choice

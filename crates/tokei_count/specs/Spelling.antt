@@ -31,7 +31,8 @@ pub record TakesBytes (block : ℕ → List ℕ → Option Block) : Type 0 where
 
 -- the law: by sound tokens the items of a text spell it, whatever children open
 abbrev pub ItemsSpellText : Type 0
-ItemsSpellText = (r : Row) (block : ℕ → List ℕ → Option Block) (t : List ℕ) → IsSound r → TakesBytes block → spelled (items_of r block t) ≡ t
+ItemsSpellText = (r : Row) (block : ℕ → List ℕ → Option Block) (t : List ℕ) → IsSound r → TakesBytes block
+    → spelled (items_of r block t) ≡ t
 
 -- so it is with each text, by a table of which all texts that a count looks for are tokens
 abbrev pub TextsAreSpelled : Type 0

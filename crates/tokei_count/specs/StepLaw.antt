@@ -14,4 +14,5 @@ pub record StepsLieBetween (ls : Languages) (levels language : ℕ) (t : List �
 
 -- so it is through all children, by a table of which all texts that a count looks for are tokens
 abbrev pub OpeningsStepsWork : Type 0
-OpeningsStepsWork = (rows : List Row) → HaveTokens rows → (levels language : ℕ) (t : List ℕ) → StepsLieBetween (languages_of rows) levels language t
+OpeningsStepsWork = (rows : List Row) → HaveTokens rows → (levels language : ℕ) (t : List ℕ)
+    → StepsLieBetween (languages_of rows) levels language t

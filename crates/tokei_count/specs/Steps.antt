@@ -40,7 +40,8 @@ with_children own ls zero language t =
     cond (is_notebook (ls.row language)) 0
     (own (ls.row language) t (items_in ls zero language t) + length (children_in ls zero language t))
 with_children own ls (suc levels) language t =
-    cond (is_notebook (ls.row language)) (sum_over (λ k. with_children own ls levels k.language k.contents) (ls.cells language t))
+    cond (is_notebook (ls.row language))
+    (sum_over (λ k. with_children own ls levels k.language k.contents) (ls.cells language t))
     (own (ls.row language) t (items_in ls (suc levels) language t) + length (children_in ls (suc levels) language t)
     + sum_over (λ k. with_children own ls levels k.language k.contents) (children_in ls (suc levels) language t))
 

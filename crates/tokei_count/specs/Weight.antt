@@ -13,7 +13,8 @@ own_weight ls language t = cond (is_notebook (ls.row language)) 0 (length t)
 unfoldable pub extra : Languages → ℕ → ℕ → List ℕ → ℕ
 extra ls zero language t = 0
 extra ls (suc levels) language t =
-    cond (is_notebook (ls.row language)) (sum_over (λ k. own_weight ls k.language k.contents + extra ls levels k.language k.contents) (ls.cells language t))
+    cond (is_notebook (ls.row language))
+    (sum_over (λ k. own_weight ls k.language k.contents + extra ls levels k.language k.contents) (ls.cells language t))
     (sum_over (λ k. extra ls levels k.language k.contents) (children_in ls (suc levels) language t))
 
 -- The weight of a text, with so many levels left.

@@ -21,20 +21,28 @@ HaveNoNotebook rows = (i : ℕ) → i < length rows → is_notebook (row_at rows
 
 -- a text takes no more steps than it weighs
 abbrev pub StepsWithinWeight : Type 0
-StepsWithinWeight = (rows : List Row) → HaveTokens rows → (levels language : ℕ) (t : List ℕ) → steps (languages_of rows) levels language t ≤ weight (languages_of rows) levels language t
+StepsWithinWeight = (rows : List Row) → HaveTokens rows → (levels language : ℕ) (t : List ℕ)
+    → steps (languages_of rows) levels language t ≤ weight (languages_of rows) levels language t
 
 -- a text and its children have no more lines than it weighs
 abbrev pub LinesWithinWeight : Type 0
-LinesWithinWeight = (rows : List Row) → HaveTokens rows → (docs : Bool) (levels language : ℕ) (t : List ℕ) → lines_of (summary (reading (languages_of rows) docs levels language t)) ≤ weight (languages_of rows) levels language t
+LinesWithinWeight = (rows : List Row) → HaveTokens rows → (docs : Bool) (levels language : ℕ) (t : List ℕ)
+    → lines_of (summary (reading (languages_of rows) docs levels language t))
+    ≤ weight (languages_of rows) levels language t
 
 -- without notebooks a text weighs its bytes
 abbrev pub WeightIsLength : Type 0
-WeightIsLength = (rows : List Row) → HaveNoNotebook rows → (levels language : ℕ) (t : List ℕ) → weight (languages_of rows) levels language t ≡ length t
+WeightIsLength = (rows : List Row) → HaveNoNotebook rows → (levels language : ℕ) (t : List ℕ)
+    → weight (languages_of rows) levels language t ≡ length t
 
 -- a reading fits the code's numbers wherever the weight of its text does
 abbrev pub LightReadingsFit : Type 0
-LightReadingsFit = (rows : List Row) → HaveTokens rows → (docs : Bool) (levels language : ℕ) (t : List ℕ) → weight (languages_of rows) levels language t < 18446744073709551616 → Fits (reading (languages_of rows) docs levels language t)
+LightReadingsFit = (rows : List Row) → HaveTokens rows → (docs : Bool) (levels language : ℕ) (t : List ℕ)
+    → weight (languages_of rows) levels language t < 18446744073709551616
+    → Fits (reading (languages_of rows) docs levels language t)
 
 -- so without notebooks every reading does whose text the code can hold
 abbrev pub ShortReadingsFit : Type 0
-ShortReadingsFit = (rows : List Row) → HaveTokens rows → HaveNoNotebook rows → (docs : Bool) (levels language : ℕ) (t : List ℕ) → length t < 18446744073709551616 → Fits (reading (languages_of rows) docs levels language t)
+ShortReadingsFit = (rows : List Row) → HaveTokens rows → HaveNoNotebook rows
+    → (docs : Bool) (levels language : ℕ) (t : List ℕ) → length t < 18446744073709551616
+    → Fits (reading (languages_of rows) docs levels language t)

@@ -18,7 +18,8 @@ fn flag(flags: &mut [bool; 256], byte: u8)
 
 /// Sets the flag of the token's first byte.
 fn flag_token(flags: &mut [bool; 256], token: &[u8])
-    ensures { (x : ℕ) → x < 256 → slice_index_or flags.new x false ≡ (slice_index_or flags.old x false || is_first_of x token.now) }
+    ensures { (x : ℕ) → x < 256
+        → slice_index_or flags.new x false ≡ (slice_index_or flags.old x false || is_first_of x token.now) }
 {
     match token {
         [] => {}

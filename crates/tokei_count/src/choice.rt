@@ -4,7 +4,8 @@ ghost use Rattle.std.specs.Option.{option_copied};
 ghost use Rattle.tokei_table.specs.Bytes.{begins};
 ghost use Rattle.tokei_table.specs.RowOf.{pair_of, pairs_of, tokens_of, row_of};
 ghost use Rattle.tokei_count.specs.Items.{Block};
-ghost use Rattle.tokei_count.specs.Choice.{opened, any_begins, is_escape, has_pair, met_in_comment, choice_in_string, choice_in_comment, choice_in_plain, choice};
+ghost use Rattle.tokei_count.specs.Choice.{opened, any_begins, is_escape, has_pair, met_in_comment};
+ghost use Rattle.tokei_count.specs.Choice.{choice_in_string, choice_in_comment, choice_in_plain, choice};
 ghost use Rattle.tokei_count.specs.Seen.{choice_of, mode_of};
 
 use crate::items::{Enclosure, Kind};
@@ -100,7 +101,8 @@ fn has_pair(pairs: &[(String, String)], pair: &(String, String)) -> bool
 
 /// The choice for a multi-line opener that is met inside a comment.
 fn met_in_comment<'a>(syntax: &Syntax, pair: &'a (String, String)) -> Choice<'a>
-    ensures choice { (block : Option Block) → choice_of block result ≡ met_in_comment (row_of syntax.now) (pair_of pair.now) }
+    ensures choice { (block : Option Block)
+        → choice_of block result ≡ met_in_comment (row_of syntax.now) (pair_of pair.now) }
     ensures no_child { result ≢ Choice.Child }
 {
     if syntax.nested || has_pair(&syntax.nested_comments, pair) {
@@ -112,7 +114,8 @@ fn met_in_comment<'a>(syntax: &Syntax, pair: &'a (String, String)) -> Choice<'a>
 
 #[inline(always)]
 fn in_string<'a>(syntax: &Syntax, verbatim: bool, closer: &[u8], text: &[u8]) -> Choice<'a>
-    ensures choice { (block : Option Block) → choice_of block result ≡ choice_in_string (row_of syntax.now) verbatim closer.now text.now }
+    ensures choice { (block : Option Block)
+        → choice_of block result ≡ choice_in_string (row_of syntax.now) verbatim closer.now text.now }
     ensures no_child { result ≢ Choice.Child }
 {
     if stands(closer, text) {
@@ -126,7 +129,8 @@ fn in_string<'a>(syntax: &Syntax, verbatim: bool, closer: &[u8], text: &[u8]) ->
 
 #[inline(always)]
 fn in_comment<'a>(syntax: &'a Syntax, closer: &[u8], text: &[u8]) -> Choice<'a>
-    ensures choice { (block : Option Block) → choice_of block result ≡ choice_in_comment (row_of syntax.now) closer.now text.now }
+    ensures choice { (block : Option Block)
+        → choice_of block result ≡ choice_in_comment (row_of syntax.now) closer.now text.now }
     ensures no_child { result ≢ Choice.Child }
 {
     if is_escape(syntax, text) {
@@ -144,7 +148,8 @@ fn in_comment<'a>(syntax: &'a Syntax, closer: &[u8], text: &[u8]) -> Choice<'a>
 
 #[inline(always)]
 fn in_plain<'a>(syntax: &'a Syntax, opens: bool, text: &[u8]) -> Choice<'a>
-    ensures choice { (block : Option Block) → is_some block ≡ opens → choice_of block result ≡ choice_in_plain (row_of syntax.now) block text.now }
+    ensures choice { (block : Option Block) → is_some block ≡ opens
+        → choice_of block result ≡ choice_in_plain (row_of syntax.now) block text.now }
     ensures child { result ≡ Choice.Child → opens ≡ true }
 {
     if is_escape(syntax, text) {
@@ -177,7 +182,8 @@ pub(crate) fn choose<'a>(
     opens: bool,
     text: &[u8],
 ) -> Choice<'a>
-    ensures choice { (block : Option Block) → is_some block ≡ opens → choice_of block result ≡ choice (row_of syntax.now) (mode_of mode.entry) block text.now }
+    ensures choice { (block : Option Block) → is_some block ≡ opens
+        → choice_of block result ≡ choice (row_of syntax.now) (mode_of mode.entry) block text.now }
     ensures child { result ≡ Choice.Child → opens ≡ true }
 {
     match mode {

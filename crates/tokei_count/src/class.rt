@@ -2,7 +2,8 @@
 ghost use Rattle.std.specs.Prelude.{◌≡◌, ◌-◌, ◌≤◌, Some, [], drop, length, take};
 ghost use Rattle.tokei_table.specs.Bytes.{trim, trim_start};
 ghost use Rattle.tokei_table.specs.RowOf.{pairs_of, row_of};
-ghost use Rattle.tokei_count.specs.Class.{encloses, opens_with, class_of, head_of, in_comment, in_string, in_doc_string, ends_opened};
+ghost use Rattle.tokei_count.specs.Class.{encloses, opens_with, class_of, head_of};
+ghost use Rattle.tokei_count.specs.Class.{in_comment, in_string, in_doc_string, ends_opened};
 ghost use Rattle.tokei_count.specs.CodeHeads.{HasCodeHead};
 ghost use Rattle.tokei_count.specs.ReadingOf.{row_in};
 ghost use Rattle.tokei_count.specs.Seen.{mode_of};

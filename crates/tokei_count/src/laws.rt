@@ -1,11 +1,11 @@
 //! Laws of the definitions alone: each is the contract of a function that does nothing.
 ghost use Rattle.std.specs.Prelude.{◌<◌, ◌^◌, length};
-ghost use Rattle.tokei_count.specs.GlanceLaw.{PlainPartsStayPlain};
 ghost use Rattle.tokei_count.specs.PartLaw.{UnwalkedPartsStayPlain};
 ghost use Rattle.tokei_count.specs.QuietLaw.{QuietTextsTakeNoSteps};
 ghost use Rattle.tokei_count.specs.Spelling.{ItemsSpellText, TextsAreSpelled};
 ghost use Rattle.tokei_count.specs.StepLaw.{OpeningsStepsWork};
-ghost use Rattle.tokei_count.specs.WeightLaws.{LightReadingsFit, LinesWithinWeight, ShortReadingsFit, StepsWithinWeight, WeightIsLength};
+ghost use Rattle.tokei_count.specs.WeightLaws.{LightReadingsFit, LinesWithinWeight, ShortReadingsFit};
+ghost use Rattle.tokei_count.specs.WeightLaws.{StepsWithinWeight, WeightIsLength};
 
 /// The items of a text spell it.
 pub fn items_spell_text()
@@ -15,11 +15,6 @@ pub fn items_spell_text()
 /// The items of each text spell it, by the blocks of a table's languages.
 pub fn texts_are_spelled()
     ensures { TextsAreSpelled }
-{}
-
-/// A part that begins plain and holds no opener ends plain, and no child opens in it.
-pub fn plain_parts_stay_plain()
-    ensures { PlainPartsStayPlain }
 {}
 
 /// A part of a text that isn't walked begins and ends in plain text, and no child breaks it off.

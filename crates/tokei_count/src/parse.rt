@@ -1,19 +1,11 @@
 //! The calls that count a text, and look at no more of it than they must.
-ghost use Rattle.std.specs.Prelude.{◌≡◌, ◌<◌, ◌≤◌, ◌^◌, false, None, length, IfOk, IsErrOf, IsOk};
-ghost use Rattle.tokei_table.specs.FirstOpener.{first_opener};
-ghost use Rattle.tokei_table.specs.Lookups.{row_at};
-ghost use Rattle.tokei_table.specs.Openers.{openers};
-ghost use Rattle.tokei_count.specs.Languages.{is_notebook};
-ghost use Rattle.tokei_count.specs.Openings.{languages_of};
-ghost use Rattle.tokei_stats.specs.Overflow.{Fits};
-ghost use Rattle.tokei_count.specs.PlainReading.{reading, outermost_levels};
-ghost use Rattle.tokei_count.specs.Seen.{docs_of};
-ghost use Rattle.tokei_count.specs.Steps.{steps, work, capped};
-ghost use Rattle.tokei_count.specs.OpeningItems.{openings};
-ghost use Rattle.tokei_count.specs.Weight.{weight};
+ghost use Rattle.std.specs.Prelude.{◌≡◌, ◌<◌, ◌≤◌, ◌^◌, length, IfOk, IsErrOf, IsOk};
+ghost use Rattle.tokei_count.specs.Countings.{text_reading, text_steps, text_openings, text_work, text_weight};
+ghost use Rattle.tokei_count.specs.Countings.{all_lines, HasNoOpener};
+ghost use Rattle.tokei_count.specs.Steps.{capped};
 ghost use Rattle.tokei_count.specs.WeightLaws.{HaveNoNotebook};
+ghost use Rattle.tokei_stats.specs.Overflow.{Fits};
 ghost use Rattle.tokei_stats.specs.Seen.{stats_of};
-ghost use Rattle.tokei_stats.specs.Statistics.{lines_of, summary};
 
 use crate::counter::Counter;
 use crate::laws::lengths_fit;
@@ -38,19 +30,23 @@ pub fn parse_counted(
     config: &CountConfig,
 ) -> Result<(CodeStats, u128), CountError>
     requires { language < length counter.now }
-    ensures reads { IfOk result (λ r. stats_of r.0 ≡ reading (languages_of counter.now) (docs_of config.now) outermost_levels language text.now) }
-    ensures steps { IfOk result (λ r. r.1 ≡ capped (steps (languages_of counter.now) outermost_levels language text.now)) }
-    ensures least { IfOk result (λ r. capped (openings (languages_of counter.now) outermost_levels language text.now) ≤ r.1) }
-    ensures worked { IfOk result (λ r. r.1 ≤ work (languages_of counter.now) outermost_levels language text.now) }
-    ensures zero { is_notebook (row_at counter.now language) ≡ false → first_opener (openers (row_at counter.now language)) text.now ≡ None → IfOk result (λ r. r.1 ≡ 0) }
-    ensures most { IfOk result (λ r. r.1 ≤ weight (languages_of counter.now) outermost_levels language text.now) }
-    ensures few { HaveNoNotebook counter.now → IfOk result (λ r. r.1 ≤ length text.now) }
-    ensures weight { IfOk result (λ r. lines_of (summary (stats_of r.0)) ≤ weight (languages_of counter.now) outermost_levels language text.now) }
-    ensures short { HaveNoNotebook counter.now → IfOk result (λ r. lines_of (summary (stats_of r.0)) ≤ length text.now) }
-    ensures light { weight (languages_of counter.now) outermost_levels language text.now < 2 ^ 64 → ¬ IsErrOf result CountError.Overflow }
-    ensures fits { HaveNoNotebook counter.now → ¬ IsErrOf result CountError.Overflow }
-    ensures quiet { is_notebook (row_at counter.now language) ≡ false → first_opener (openers (row_at counter.now language)) text.now ≡ None → IsOk result }
-    ensures overflow { IsErrOf result CountError.Overflow → ¬ Fits (reading (languages_of counter.now) (docs_of config.now) outermost_levels language text.now) }
+    ensures reads { IfOk result (λ r. stats_of r.0 ≡ text_reading counter.now config.now language text.now) }
+    ensures steps { IfOk result (λ r. r.1 ≡ capped (text_steps counter.now language text.now)) }
+    ensures openings_at_most_steps { IfOk result (λ r. capped (text_openings counter.now language text.now) ≤ r.1) }
+    ensures steps_at_most_work { IfOk result (λ r. r.1 ≤ text_work counter.now language text.now) }
+    ensures no_steps_without_openers { HasNoOpener counter.now language text.now → IfOk result (λ r. r.1 ≡ 0) }
+    ensures steps_at_most_weight { IfOk result (λ r. r.1 ≤ text_weight counter.now language text.now) }
+    ensures steps_at_most_bytes { HaveNoNotebook counter.now → IfOk result (λ r. r.1 ≤ length text.now) }
+    ensures lines_at_most_weight { IfOk result (λ r. all_lines (stats_of r.0)
+        ≤ text_weight counter.now language text.now) }
+    ensures lines_at_most_bytes { HaveNoNotebook counter.now
+        → IfOk result (λ r. all_lines (stats_of r.0) ≤ length text.now) }
+    ensures no_overflow_of_light_texts { text_weight counter.now language text.now < 2 ^ 64
+        → ¬ IsErrOf result CountError.Overflow }
+    ensures no_overflow_without_notebooks { HaveNoNotebook counter.now → ¬ IsErrOf result CountError.Overflow }
+    ensures never_refused_without_openers { HasNoOpener counter.now language text.now → IsOk result }
+    ensures overflow { IsErrOf result CountError.Overflow
+        → ¬ Fits (text_reading counter.now config.now language text.now) }
 {
     let docs = config.treat_doc_strings_as_comments.unwrap_or(false);
     lengths_fit(text);
@@ -77,13 +73,17 @@ pub fn parse_from_slice(
     config: &CountConfig,
 ) -> Result<CodeStats, CountError>
     requires { language < length counter.now }
-    ensures reads { IfOk result (λ s. stats_of s ≡ reading (languages_of counter.now) (docs_of config.now) outermost_levels language text.now) }
-    ensures weight { IfOk result (λ r. lines_of (summary (stats_of r)) ≤ weight (languages_of counter.now) outermost_levels language text.now) }
-    ensures short { HaveNoNotebook counter.now → IfOk result (λ r. lines_of (summary (stats_of r)) ≤ length text.now) }
-    ensures light { weight (languages_of counter.now) outermost_levels language text.now < 2 ^ 64 → ¬ IsErrOf result CountError.Overflow }
-    ensures fits { HaveNoNotebook counter.now → ¬ IsErrOf result CountError.Overflow }
-    ensures quiet { is_notebook (row_at counter.now language) ≡ false → first_opener (openers (row_at counter.now language)) text.now ≡ None → IsOk result }
-    ensures overflow { IsErrOf result CountError.Overflow → ¬ Fits (reading (languages_of counter.now) (docs_of config.now) outermost_levels language text.now) }
+    ensures reads { IfOk result (λ s. stats_of s ≡ text_reading counter.now config.now language text.now) }
+    ensures lines_at_most_weight { IfOk result (λ r. all_lines (stats_of r)
+        ≤ text_weight counter.now language text.now) }
+    ensures lines_at_most_bytes { HaveNoNotebook counter.now
+        → IfOk result (λ r. all_lines (stats_of r) ≤ length text.now) }
+    ensures no_overflow_of_light_texts { text_weight counter.now language text.now < 2 ^ 64
+        → ¬ IsErrOf result CountError.Overflow }
+    ensures no_overflow_without_notebooks { HaveNoNotebook counter.now → ¬ IsErrOf result CountError.Overflow }
+    ensures never_refused_without_openers { HasNoOpener counter.now language text.now → IsOk result }
+    ensures overflow { IsErrOf result CountError.Overflow
+        → ¬ Fits (text_reading counter.now config.now language text.now) }
 {
     let (stats, _) = parse_counted(alloc, counter, language, text, config)?;
     Ok(stats)
@@ -98,13 +98,17 @@ pub fn parse_from_str(
     config: &CountConfig,
 ) -> Result<CodeStats, CountError>
     requires { language < length counter.now }
-    ensures reads { IfOk result (λ s. stats_of s ≡ reading (languages_of counter.now) (docs_of config.now) outermost_levels language text.now) }
-    ensures weight { IfOk result (λ r. lines_of (summary (stats_of r)) ≤ weight (languages_of counter.now) outermost_levels language text.now) }
-    ensures short { HaveNoNotebook counter.now → IfOk result (λ r. lines_of (summary (stats_of r)) ≤ length text.now) }
-    ensures light { weight (languages_of counter.now) outermost_levels language text.now < 2 ^ 64 → ¬ IsErrOf result CountError.Overflow }
-    ensures fits { HaveNoNotebook counter.now → ¬ IsErrOf result CountError.Overflow }
-    ensures quiet { is_notebook (row_at counter.now language) ≡ false → first_opener (openers (row_at counter.now language)) text.now ≡ None → IsOk result }
-    ensures overflow { IsErrOf result CountError.Overflow → ¬ Fits (reading (languages_of counter.now) (docs_of config.now) outermost_levels language text.now) }
+    ensures reads { IfOk result (λ s. stats_of s ≡ text_reading counter.now config.now language text.now) }
+    ensures lines_at_most_weight { IfOk result (λ r. all_lines (stats_of r)
+        ≤ text_weight counter.now language text.now) }
+    ensures lines_at_most_bytes { HaveNoNotebook counter.now
+        → IfOk result (λ r. all_lines (stats_of r) ≤ length text.now) }
+    ensures no_overflow_of_light_texts { text_weight counter.now language text.now < 2 ^ 64
+        → ¬ IsErrOf result CountError.Overflow }
+    ensures no_overflow_without_notebooks { HaveNoNotebook counter.now → ¬ IsErrOf result CountError.Overflow }
+    ensures never_refused_without_openers { HasNoOpener counter.now language text.now → IsOk result }
+    ensures overflow { IsErrOf result CountError.Overflow
+        → ¬ Fits (text_reading counter.now config.now language text.now) }
 {
     parse_from_slice(alloc, counter, language, text.as_bytes(), config)
 }

@@ -1,9 +1,7 @@
 //! The plain reading, in which no line is skipped.
 ghost use Rattle.std.specs.Prelude.{◌≡◌, ◌<◌, length, IfOk, IsErrOf};
-ghost use Rattle.tokei_count.specs.Openings.{languages_of};
+ghost use Rattle.tokei_count.specs.Countings.{text_reading};
 ghost use Rattle.tokei_stats.specs.Overflow.{Fits};
-ghost use Rattle.tokei_count.specs.PlainReading.{reading, outermost_levels};
-ghost use Rattle.tokei_count.specs.Seen.{docs_of};
 ghost use Rattle.tokei_stats.specs.Seen.{stats_of};
 
 use crate::counter::Counter;
@@ -29,8 +27,9 @@ pub fn count_plain(
     config: &CountConfig,
 ) -> Result<CodeStats, CountError>
     requires { language < length counter.now }
-    ensures reads { IfOk result (λ s. stats_of s ≡ reading (languages_of counter.now) (docs_of config.now) outermost_levels language text.now) }
-    ensures overflow { IsErrOf result CountError.Overflow → ¬ Fits (reading (languages_of counter.now) (docs_of config.now) outermost_levels language text.now) }
+    ensures reads { IfOk result (λ s. stats_of s ≡ text_reading counter.now config.now language text.now) }
+    ensures overflow { IsErrOf result CountError.Overflow
+        → ¬ Fits (text_reading counter.now config.now language text.now) }
 {
     let docs = config.treat_doc_strings_as_comments.unwrap_or(false);
     let reader = Reader {

@@ -3,7 +3,8 @@ ghost use Rattle.std.specs.Prelude.{◌≡◌, ◌+◌, ◌-◌, ◌<◌, ◌≤
 ghost use Rattle.tokei_count.specs.Choice.Choice.{takes_byte};
 ghost use Rattle.tokei_count.specs.Lines.{line_len};
 ghost use Rattle.tokei_count.specs.Modes.{innermost};
-ghost use Rattle.tokei_count.specs.Places.{Begins, Childless, IsAt, LeadsTo, StopsAt, block_here, choice_here, text_from, text_of};
+ghost use Rattle.tokei_count.specs.Places.{Begins, Childless, IsAt, LeadsTo, StopsAt};
+ghost use Rattle.tokei_count.specs.Places.{block_here, choice_here, text_from, text_of};
 ghost use Rattle.tokei_count.specs.ReadingOf.{row_in, blocks_of};
 ghost use Rattle.tokei_count.specs.Progress.{IsPart, IsClosable};
 ghost use Rattle.tokei_count.specs.Seen.{choice_of, mode_of, chain_of};

@@ -1,14 +1,13 @@
+-- Answers to the goals of the call that counts a text with its steps.
 use Rattle.std.proofs.Common.{◌≡◌, ℕ, ◌≤◌, List, Err, refl, sym, ap, subst, ◌∙◌, arith}
 use Rattle.std.proofs.lemmas.Result.{err_from_is_err_and}
 use Rattle.tokei_table.specs.Row.{Row}
-use Rattle.tokei_count.specs.OpeningItems.{openings}
+use Rattle.tokei_count.specs.Countings.{text_steps, text_openings, text_weight, all_lines}
 use Rattle.tokei_count.specs.Openings.{languages_of}
 use Rattle.tokei_count.specs.PlainReading.{reading, outermost_levels}
-use Rattle.tokei_count.specs.Steps.{steps, capped}
-use Rattle.tokei_count.specs.Weight.{weight}
+use Rattle.tokei_count.specs.Steps.{capped}
 use Rattle.tokei_stats.specs.Overflow.{Fits}
 use Rattle.tokei_stats.specs.Seen.{stats_of}
-use Rattle.tokei_stats.specs.Statistics.{lines_of, summary}
 use Rattle.tokei_stats.specs.declared.error.CountError.TheVariants.{Overflow}
 use Rattle.tokei_count.proofs.LineWeight.{lines-weight, reading-fits, reading-fits_by_length}
 use Rattle.tokei_count.proofs.QuietSteps.{quiet_steps}
@@ -18,60 +17,88 @@ use Rattle.tokei_count.proofs.TableBounds.{have_tokens, capped-low, capped-more}
 use Rattle.tokei_count.proofs.Weights.{weight-length}
 use Rattle.tokei_count.proofs.parse.parse_counted.Goals as goal
 
-pub returns-clause-most : goal.returns-clause-most
-returns-clause-most c =
-    let all : ℕ = steps (languages_of c.args.counter.now) outermost_levels c.args.language c.args.text.now in
-    let heavy : all ≤ weight (languages_of c.args.counter.now) outermost_levels c.args.language c.args.text.now = steps-weight c.args.counter.now (have_tokens c.args.counter.now c.table.ensures.well_formed) outermost_levels c.args.language c.args.text.now in
-    let steps_are : c.in_ok-read.read.steps ≡ capped all = c.in_ok-read.ensures.steps refl ∙ ap (λ (rows : List Row). capped (steps (languages_of rows) outermost_levels c.args.language c.args.text.now)) c.table.ensures.table in
-    omega (arith, heavy, steps_are, capped-low all)
+pub returns-clause-steps : goal.returns-clause-steps
+returns-clause-steps c =
+    c.in_ok-read.ensures.steps refl
+    ∙ ap (λ (rows : List Row). capped (text_steps rows c.args.language c.args.text.now)) c.table.ensures.table
 
-pub returns-clause-few : goal.returns-clause-few
-returns-clause-few c = λ none. omega (arith, returns-clause-most c, weight-length c.args.counter.now none outermost_levels c.args.language c.args.text.now)
+pub returns-clause-steps_at_most_weight : goal.returns-clause-steps_at_most_weight
+returns-clause-steps_at_most_weight c =
+    let sound = have_tokens c.args.counter.now c.table.ensures.well_formed in
+    let all : ℕ = text_steps c.args.counter.now c.args.language c.args.text.now in
+    let heavy : all ≤ text_weight c.args.counter.now c.args.language c.args.text.now =
+        steps-weight c.args.counter.now sound outermost_levels c.args.language c.args.text.now in
+    omega (arith, heavy, returns-clause-steps c, capped-low all)
 
-pub returns-clause-weight : goal.returns-clause-weight
-returns-clause-weight c =
-    let heavy : lines_of (summary (reading (languages_of c.args.counter.now) c.unwrap_or-docs.result outermost_levels c.args.language c.args.text.now)) ≤ weight (languages_of c.args.counter.now) outermost_levels c.args.language c.args.text.now =
-    lines-weight c.args.counter.now (have_tokens c.args.counter.now c.table.ensures.well_formed) c.unwrap_or-docs.result outermost_levels c.args.language c.args.text.now in
-    let lines_are : lines_of (summary (stats_of c.in_ok-read.read.stats)) ≡ lines_of (summary (reading (languages_of c.args.counter.now) c.unwrap_or-docs.result outermost_levels c.args.language c.args.text.now)) =
-    ap (λ s. lines_of (summary s)) (c.in_ok-read.ensures.reads ∙ ap (λ (rows : List Row). reading (languages_of rows) c.unwrap_or-docs.result outermost_levels c.args.language c.args.text.now) c.table.ensures.table) in
+pub returns-clause-steps_at_most_bytes : goal.returns-clause-steps_at_most_bytes
+returns-clause-steps_at_most_bytes c = λ none.
+    omega (arith, returns-clause-steps_at_most_weight c,
+        weight-length c.args.counter.now none outermost_levels c.args.language c.args.text.now)
+
+pub returns-clause-lines_at_most_weight : goal.returns-clause-lines_at_most_weight
+returns-clause-lines_at_most_weight c =
+    let sound = have_tokens c.args.counter.now c.table.ensures.well_formed in
+    let docs = c.unwrap_or-docs.result in
+    let read = λ (rows : List Row). reading (languages_of rows) docs outermost_levels c.args.language c.args.text.now in
+    let heavy : all_lines (read c.args.counter.now) ≤ text_weight c.args.counter.now c.args.language c.args.text.now =
+        lines-weight c.args.counter.now sound docs outermost_levels c.args.language c.args.text.now in
+    let lines_are : all_lines (stats_of c.in_ok-read.read.stats) ≡ all_lines (read c.args.counter.now) =
+        ap all_lines (c.in_ok-read.ensures.reads ∙ ap read c.table.ensures.table) in
     omega (arith, heavy, lines_are)
 
-pub returns-clause-short : goal.returns-clause-short
-returns-clause-short c = λ none. omega (arith, returns-clause-weight c, weight-length c.args.counter.now none outermost_levels c.args.language c.args.text.now)
+pub returns-clause-lines_at_most_bytes : goal.returns-clause-lines_at_most_bytes
+returns-clause-lines_at_most_bytes c = λ none.
+    omega (arith, returns-clause-lines_at_most_weight c,
+        weight-length c.args.counter.now none outermost_levels c.args.language c.args.text.now)
 
-pub returns-in_err-read-clause-fits : goal.returns-in_err-read-clause-fits
-returns-in_err-read-clause-fits c = λ none.
-    let fits : Fits (reading (languages_of c.args.counter.now) c.unwrap_or-docs.result outermost_levels c.args.language c.args.text.now) =
-    reading-fits_by_length c.args.counter.now (have_tokens c.args.counter.now c.table.ensures.well_formed) c.unwrap_or-docs.result none outermost_levels c.args.language c.args.text.now c.lengths_fit.ensures in
-    let here : Fits (reading (languages_of c.table.result.now) c.unwrap_or-docs.result outermost_levels c.args.language c.args.text.now) =
-    subst (λ (rows : List Row). Fits (reading (languages_of rows) c.unwrap_or-docs.result outermost_levels c.args.language c.args.text.now)) (sym c.table.ensures.table) fits in
+pub returns-in_err-read-clause-no_overflow_without_notebooks
+    : goal.returns-in_err-read-clause-no_overflow_without_notebooks
+returns-in_err-read-clause-no_overflow_without_notebooks c = λ none.
+    let sound = have_tokens c.args.counter.now c.table.ensures.well_formed in
+    let docs = c.unwrap_or-docs.result in
+    let read = λ (rows : List Row). reading (languages_of rows) docs outermost_levels c.args.language c.args.text.now in
+    let fits : Fits (read c.args.counter.now) =
+        reading-fits_by_length c.args.counter.now sound docs none outermost_levels c.args.language c.args.text.now
+            c.lengths_fit.ensures in
+    let here : Fits (read c.table.result.now) =
+        subst (λ (rows : List Row). Fits (read rows)) (sym c.table.ensures.table) fits in
     let p = err_from_is_err_and c.from_residual.result c.from_residual.ensures.1 in
-    rw (p.1, p.2) (λ is. let same_err : c.in_err-read.field-0.0 ≡ Overflow = cc in c.in_err-read.ensures.overflow (ap Err same_err) here)
+    rw (p.1, p.2) (λ is.
+        let same_err : c.in_err-read.field-0.0 ≡ Overflow = cc in
+        c.in_err-read.ensures.overflow (ap Err same_err) here)
 
-pub returns-clause-least : goal.returns-clause-least
-returns-clause-least c =
-    let all : ℕ = steps (languages_of c.args.counter.now) outermost_levels c.args.language c.args.text.now in
-    let low = (steps-between c.args.counter.now (have_tokens c.args.counter.now c.table.ensures.well_formed) outermost_levels c.args.language c.args.text.now).low in
-    let steps_are : c.in_ok-read.read.steps ≡ capped all = c.in_ok-read.ensures.steps refl ∙ ap (λ (rows : List Row). capped (steps (languages_of rows) outermost_levels c.args.language c.args.text.now)) c.table.ensures.table in
-    omega (arith, steps_are, capped-more (openings (languages_of c.args.counter.now) outermost_levels c.args.language c.args.text.now) all low)
+pub returns-clause-openings_at_most_steps : goal.returns-clause-openings_at_most_steps
+returns-clause-openings_at_most_steps c =
+    let sound = have_tokens c.args.counter.now c.table.ensures.well_formed in
+    let low = (steps-between c.args.counter.now sound outermost_levels c.args.language c.args.text.now).low in
+    let more = capped-more (text_openings c.args.counter.now c.args.language c.args.text.now)
+        (text_steps c.args.counter.now c.args.language c.args.text.now) low in
+    omega (arith, returns-clause-steps c, more)
 
-pub returns-clause-worked : goal.returns-clause-worked
-returns-clause-worked c =
-    let all : ℕ = steps (languages_of c.args.counter.now) outermost_levels c.args.language c.args.text.now in
-    let high = (steps-between c.args.counter.now (have_tokens c.args.counter.now c.table.ensures.well_formed) outermost_levels c.args.language c.args.text.now).high in
-    let steps_are : c.in_ok-read.read.steps ≡ capped all = c.in_ok-read.ensures.steps refl ∙ ap (λ (rows : List Row). capped (steps (languages_of rows) outermost_levels c.args.language c.args.text.now)) c.table.ensures.table in
-    omega (arith, steps_are, high, capped-low all)
+pub returns-clause-steps_at_most_work : goal.returns-clause-steps_at_most_work
+returns-clause-steps_at_most_work c =
+    let sound = have_tokens c.args.counter.now c.table.ensures.well_formed in
+    let high = (steps-between c.args.counter.now sound outermost_levels c.args.language c.args.text.now).high in
+    let all : ℕ = text_steps c.args.counter.now c.args.language c.args.text.now in
+    omega (arith, returns-clause-steps c, high, capped-low all)
 
-pub returns-in_err-read-clause-light : goal.returns-in_err-read-clause-light
-returns-in_err-read-clause-light c = λ light.
-    let fits : Fits (reading (languages_of c.args.counter.now) c.unwrap_or-docs.result outermost_levels c.args.language c.args.text.now) =
-    reading-fits c.args.counter.now (have_tokens c.args.counter.now c.table.ensures.well_formed) c.unwrap_or-docs.result outermost_levels c.args.language c.args.text.now light in
-    let here : Fits (reading (languages_of c.table.result.now) c.unwrap_or-docs.result outermost_levels c.args.language c.args.text.now) =
-    subst (λ (rows : List Row). Fits (reading (languages_of rows) c.unwrap_or-docs.result outermost_levels c.args.language c.args.text.now)) (sym c.table.ensures.table) fits in
+pub returns-in_err-read-clause-no_overflow_of_light_texts : goal.returns-in_err-read-clause-no_overflow_of_light_texts
+returns-in_err-read-clause-no_overflow_of_light_texts c = λ light.
+    let sound = have_tokens c.args.counter.now c.table.ensures.well_formed in
+    let docs = c.unwrap_or-docs.result in
+    let read = λ (rows : List Row). reading (languages_of rows) docs outermost_levels c.args.language c.args.text.now in
+    let fits : Fits (read c.args.counter.now) =
+        reading-fits c.args.counter.now sound docs outermost_levels c.args.language c.args.text.now light in
+    let here : Fits (read c.table.result.now) =
+        subst (λ (rows : List Row). Fits (read rows)) (sym c.table.ensures.table) fits in
     let p = err_from_is_err_and c.from_residual.result c.from_residual.ensures.1 in
-    rw (p.1, p.2) (λ is. let same_err : c.in_err-read.field-0.0 ≡ Overflow = cc in c.in_err-read.ensures.overflow (ap Err same_err) here)
+    rw (p.1, p.2) (λ is.
+        let same_err : c.in_err-read.field-0.0 ≡ Overflow = cc in
+        c.in_err-read.ensures.overflow (ap Err same_err) here)
 
-pub returns-clause-zero : goal.returns-clause-zero
-returns-clause-zero c = λ lines none.
-    let steps_are : c.in_ok-read.read.steps ≡ capped (steps (languages_of c.args.counter.now) outermost_levels c.args.language c.args.text.now) = c.in_ok-read.ensures.steps refl ∙ ap (λ (rows : List Row). capped (steps (languages_of rows) outermost_levels c.args.language c.args.text.now)) c.table.ensures.table in
-    steps_are ∙ ap capped (quiet_steps c.args.counter.now (have_tokens c.args.counter.now c.table.ensures.well_formed) outermost_levels c.args.language c.args.text.now lines none)
+pub returns-clause-no_steps_without_openers : goal.returns-clause-no_steps_without_openers
+returns-clause-no_steps_without_openers c = λ quiet.
+    let sound = have_tokens c.args.counter.now c.table.ensures.well_formed in
+    let none = quiet_steps c.args.counter.now sound outermost_levels c.args.language c.args.text.now
+        quiet.in_lines quiet.none in
+    returns-clause-steps c ∙ ap capped none
