@@ -1,6 +1,5 @@
-//! Worked rows of what a whole run shows: printed reports, their order and widths, sums past the greatest number, and
-//! documents that are read back. They stand apart from those of `tokei_run_rows`, so that each crate's tests are proved
-//! beside the other's.
+//! Worked rows of what a whole run shows: printed reports, their order and widths, and documents that are read back. They
+//! stand apart from those of `tokei_run_rows`, so that each crate's tests are proved beside the other's.
 #![tactic(auto)]
 
 #[cfg(test)]
@@ -9,7 +8,5 @@ mod read_back;
 mod reports;
 #[cfg(test)]
 mod sorts;
-#[cfg(test)]
-mod sums;
 #[cfg(test)]
 mod widths;

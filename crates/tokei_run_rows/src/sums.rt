@@ -1,8 +1,8 @@
 //! Sums past the greatest `usize`, of earlier results.
+use crate::runs::{bench, job};
 use std::alloc::Global;
 use std::test::Fail;
 use tokei::{Counted, Format, Job, LanguageTable, MemoryFolders, RunError, Streaming, Wanted, run};
-use tokei_run_rows::runs::{bench, job};
 
 /// Two reports whose sum is too large.
 const REPORTS: &str = concat!(
