@@ -1,6 +1,8 @@
 -- Captures: the openings and closings of a part, as bytes of the text.
-use Rattle.std.specs.Prelude.{ℕ, ◌+◌, ◌-◌, Bool, false, ◌&&◌, ◌==◌, nat_le, cond, List, [], ◌∷◌, length, take, drop, Option, None, Some, option_map}
+use Rattle.std.specs.Prelude.{ℕ, ◌+◌, Bool, false, ◌&&◌, ◌==◌, nat_le, if◌then◌else◌, List, [], ◌∷◌, length, drop}
+use Rattle.std.specs.Prelude.{Option, None, Some, option_map}
 use Rattle.tokei_embedding.specs.Fences.{fence, first_fence, info_len, closing_len}
+use Rattle.tokei_embedding.specs.NextOpenings.{part_of}
 use Rattle.tokei_embedding.specs.Searches.{first_of}
 use Rattle.tokei_embedding.specs.Spans.{Span, shifted, bytes_of}
 use Rattle.tokei_embedding.specs.Tags.{Opening, first_opening}
@@ -16,10 +18,6 @@ pub record Captured : Type 0 where
 abbrev pub end_of : Captured → ℕ
 end_of c = c.start + length c.bytes
 
--- The part of a text between two places.
-abbrev pub part_of : List ℕ → ℕ → ℕ → List ℕ
-part_of t from to = take (to - from) (drop from t)
-
 -- What a span of the part that begins at `from` captures of the text.
 abbrev pub captured : List ℕ → ℕ → Span → Captured
 captured t from s = record { start = from + s.start; bytes = bytes_of t (shifted from s) }
@@ -34,7 +32,8 @@ fence_opening part = option_map (λ i. record { start = i; stop = i + (info_len 
 
 -- The part's first closing fence, with one blank behind it where one stands there.
 abbrev pub fence_closing : List ℕ → Option Span
-fence_closing part = option_map (λ i. record { start = i; stop = i + closing_len (drop (i + 3) part) }) (first_of fence part)
+fence_closing part =
+    option_map (λ i. record { start = i; stop = i + closing_len (drop (i + 3) part) }) (first_of fence part)
 
 -- The capture of a whole opening, and that of the value in it.
 abbrev pub opening_captured : List ℕ → ℕ → Opening → List (Option Captured)
@@ -57,12 +56,12 @@ opens_in start end (Some c ∷ cs) = lies_in start end c
 -- The captures, where the first of them lies in the range.
 abbrev pub captures_in : ℕ → ℕ → Option (List (Option Captured)) → Option (List (Option Captured))
 captures_in start end None = None
-captures_in start end (Some cs) = cond (opens_in start end cs) (Some cs) None
+captures_in start end (Some cs) = if opens_in start end cs then Some cs else None
 
 -- The capture, where it lies in the range.
 abbrev pub capture_in : ℕ → ℕ → Option Captured → Option Captured
 capture_in start end None = None
-capture_in start end (Some c) = cond (lies_in start end c) (Some c) None
+capture_in start end (Some c) = if lies_in start end c then Some c else None
 
 -- The openings of the three tags.
 pub record TagOpenings : Type 0 where
@@ -72,4 +71,8 @@ pub record TagOpenings : Type 0 where
 
 -- What `text[from..to]` opens of the three.
 abbrev pub tag_openings : List ℕ → ℕ → ℕ → TagOpenings
-tag_openings t from to = record { script = start_tag Script t from to; style = start_tag Style t from to; template = start_tag Template t from to }
+tag_openings t from to = record {
+  script = start_tag Script t from to;
+  style = start_tag Style t from to;
+  template = start_tag Template t from to;
+}

@@ -1,5 +1,5 @@
-//! The openings and closings of a part, as captures: bytes of the caller's text, and where they stand in it. No count uses
-//! them.
+//! The openings and closings of a part, as captures: bytes of the caller's text, and where they stand in it. No count
+//! uses them.
 #![tactic(auto)]
 
 mod captures;

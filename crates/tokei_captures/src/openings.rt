@@ -1,6 +1,7 @@
 //! The openings and closings of a part, as captures.
 ghost use Rattle.std.specs.Prelude.{◌≡◌, ◌+◌, ◌≤◌, ◌<◌, ◌^◌, length, option_map, codes, IfSome};
-ghost use Rattle.tokei_captures.specs.Captures.{captured, part_of, token_span, fence_opening, fence_closing, start_tag};
+ghost use Rattle.tokei_captures.specs.Captures.{captured, token_span, fence_opening, fence_closing, start_tag};
+ghost use Rattle.tokei_embedding.specs.NextOpenings.{part_of};
 ghost use Rattle.tokei_embedding.specs.declared.tags.Tag.TheVariants.{Script, Style, Template};
 
 use crate::captures::{Capture, captured};
@@ -94,7 +95,8 @@ pub fn end_style(text: &[u8], from: usize, to: usize) -> Option<Capture<'_>>
 pub fn end_template(text: &[u8], from: usize, to: usize) -> Option<Capture<'_>>
     requires order { from ≤ to }
     requires ends { to ≤ length text.now }
-    ensures { result ≡ option_map (captured text.now from) (token_span (codes "</template>") (part_of text.now from to)) }
+    ensures { result
+        ≡ option_map (captured text.now from) (token_span (codes "</template>") (part_of text.now from to)) }
 {
     first_token(text, from, to, closer_of(Tag::Template))
 }

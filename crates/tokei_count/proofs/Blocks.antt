@@ -61,7 +61,7 @@ module _ (rows : List Row) (language : ℕ) (text : List ℕ) where
   by_within Plain part tail place rest k r e = cc
   by_within Markdown part tail place rest k r e =
       chained (fence_child rows) (fence_block part place rest) k rest
-      (λ b f g. mapped (fence_as b) (known_piece rows [] b.info) k rest (λ n h. reaches (fence_as b n) b.size b.contents rest refl (fence_reach part rest tail place b r f)) g) e
+      (λ b f g. mapped (fence_as b) (known_piece rows b.info) k rest (λ n h. reaches (fence_as b n) b.size b.contents rest refl (fence_reach part rest tail place b r f)) g) e
   by_within HtmlLike part tail place rest k r e =
       first_of_two (element_at rows language Script part place rest) (first_block (element_at rows language Style part place rest) (element_at rows language Template part place rest)) k rest
       (element_within Script part place rest k)

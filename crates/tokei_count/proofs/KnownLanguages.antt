@@ -1,6 +1,8 @@
 -- The language of a child is one of the table.
 use Rattle.std.proofs.Common.{◌≡◌, ℕ, suc, zero, ◌<◌, ◌==◌, Bool, true, false, cond, List, [], ◌∷◌, ◌++◌, length, Option, None, Some, option_map, unwrap_or, subst, arith}
 use Rattle.std.specs.Prelude.{⊤, option_and_then}
+use Rattle.std.specs.List.{slice_split}
+use Rattle.std.specs.Option.{option_or}
 use Rattle.std.specs.Str.{is_utf8}
 use Rattle.tokei_table.specs.Bytes.{trim}
 use Rattle.tokei_table.specs.Row.{Row}
@@ -17,7 +19,7 @@ use Rattle.tokei_embedding.specs.declared.tags.Tag.TheVariants.{Script, Style, T
 use Rattle.tokei_count.specs.Lines.{first_line}
 use Rattle.tokei_count.specs.Items.{Block}
 use Rattle.tokei_count.specs.NamedLanguages.{by_word, by_name, fallback}
-use Rattle.tokei_count.specs.MarkdownChildren.{either, known_piece, fence_as, fence_child}
+use Rattle.tokei_count.specs.MarkdownChildren.{is_comma, first_named, known_piece, fence_as, fence_child}
 use Rattle.tokei_count.specs.HtmlChildren.{by_value, usual_key, element_child, element_at, first_block}
 use Rattle.tokei_count.specs.RustChildren.{doc_child}
 use Rattle.tokei_count.specs.LinguaFrancaChildren.{target_name, target_language, target_child}
@@ -47,7 +49,7 @@ unwrap_below : (m : ℕ) (o : Option ℕ) (n : ℕ) → IsBelow m o → n < m �
 unwrap_below m None n h k = k
 unwrap_below m (Some a) n h k = h
 
-either_below : (m : ℕ) (o p : Option ℕ) → IsBelow m o → IsBelow m p → IsBelow m (either o p)
+either_below : (m : ℕ) (o p : Option ℕ) → IsBelow m o → IsBelow m p → IsBelow m (option_or o p)
 either_below m None p h k = k
 either_below m (Some n) p h k = h
 
@@ -58,13 +60,9 @@ chained_below m f (Some a) h = h a
 word_below : (rows : List Row) (w : List ℕ) → IsBelow (length rows) (by_word rows w)
 word_below rows w = cond_below (length rows) (is_utf8 w) (first_where (has_name_in_any_case w) rows) (where_below (has_name_in_any_case w) rows)
 
-piece_below : (rows : List Row) (s t : List ℕ) → IsBelow (length rows) (known_piece rows s t)
-piece_below rows s [] = word_below rows s
-piece_below rows s (b ∷ t) = by_test (b == 44) (piece_below rows [] t) (piece_below rows (s ++ b ∷ []) t)
-  where
-    by_test : (x : Bool) → IsBelow (length rows) (known_piece rows [] t) → IsBelow (length rows) (known_piece rows (s ++ b ∷ []) t) → IsBelow (length rows) (cond x (either (by_word rows s) (known_piece rows [] t)) (known_piece rows (s ++ b ∷ []) t))
-    by_test true h k = either_below (length rows) (by_word rows s) (known_piece rows [] t) (word_below rows s) h
-    by_test false h k = k
+pieces_below : (rows : List Row) (pieces : List (List ℕ)) → IsBelow (length rows) (first_named rows pieces)
+pieces_below rows [] = tt
+pieces_below rows (piece ∷ pieces) = either_below (length rows) (by_word rows piece) (first_named rows pieces) (word_below rows piece) (pieces_below rows pieces)
 
 value_below : (rows : List Row) (tag : Tag) (v : List ℕ) → IsBelow (length rows) (by_value rows tag v)
 value_below rows Script v = cond_below (length rows) (is_utf8 (trim v)) (first_where (has_mime (trim v)) rows) (where_below (has_mime (trim v)) rows)
@@ -106,7 +104,7 @@ module _ (rows : List Row) (language : ℕ) (text : List ℕ) (known : language 
 
   by_known : (f : Family) (part : List ℕ) (place : ℕ) (rest : List ℕ) → HasKnown (length rows) (block_by f rows language text part place rest)
   by_known Plain part place rest = tt
-  by_known Markdown part place rest = chained (length rows) (fence_child rows) (fence_block part place rest) (λ b. fence_known (length rows) b (known_piece rows [] b.info) (piece_below rows [] b.info))
+  by_known Markdown part place rest = chained (length rows) (fence_child rows) (fence_block part place rest) (λ b. fence_known (length rows) b (known_piece rows b.info) (pieces_below rows (slice_split is_comma b.info)))
   by_known HtmlLike part place rest =
       first_known (length rows) (element_at rows language Script part place rest) (first_block (element_at rows language Style part place rest) (element_at rows language Template part place rest))
       (element_known Script part place rest)

@@ -1,5 +1,5 @@
 //! The children that open in a text.
-ghost use Rattle.std.specs.Prelude.{◌≡◌, [], ◌-◌, ◌<◌, ◌≤◌, length, option_map};
+ghost use Rattle.std.specs.Prelude.{◌≡◌, ◌-◌, ◌<◌, ◌≤◌, length, option_map};
 ghost use Rattle.tokei_table.specs.Row.{Row};
 ghost use Rattle.tokei_embedding.specs.Fences.{fence_block};
 ghost use Rattle.tokei_embedding.specs.NextOpenings.{OpensNoElement};
@@ -87,7 +87,7 @@ fn fallback(table: &LanguageTable, parent: LanguageType, key: &str) -> LanguageT
 
 /// The language of the first piece between commas that names one.
 fn known_piece(table: &LanguageTable, info: &[u8]) -> Option<LanguageType>
-    ensures { result ≡ known_piece table.now [] info.now }
+    ensures { result ≡ known_piece table.now info.now }
 {
     let mut begun = 0;
     for (i, byte) in info.iter().enumerate() {

@@ -1,5 +1,6 @@
 -- Laws of the blocks: how far each reaches, and where none opens.
-use Rattle.std.specs.Prelude.{◌≡◌, ℕ, ◌+◌, ◌<◌, ◌≤◌, true, false, ◌==◌, is_some, List, ◌∷◌, ◌++◌, length, drop, codes, None, Some}
+use Rattle.std.specs.Prelude.{◌≡◌, ℕ, ◌+◌, ◌<◌, ◌≤◌, true, false, ◌==◌, is_some, None, Some}
+use Rattle.std.specs.Prelude.{List, ◌∷◌, ◌++◌, length, drop, codes}
 use Rattle.tokei_syntax.specs.Bytes.{is_blank, begins}
 use Rattle.tokei_syntax.specs.FirstOpener.{first_opener}
 use Rattle.tokei_embedding.specs.DocComments.{DocBlock, doc_block, doc_marks, first_line}
@@ -16,11 +17,15 @@ pub record Reaches (size : ℕ) (contents rest : List ℕ) : Type 0 where
 
 -- A fence's block reaches so far, where the text goes on as the part does from the place on.
 abbrev pub FencesReach : Type 0
-FencesReach = (part rest tail : List ℕ) (place : ℕ) (f : Fence) → rest ≡ drop place part ++ tail → fence_block part place rest ≡ Some f → Reaches f.size f.contents rest
+FencesReach =
+    (part rest tail : List ℕ) (place : ℕ) (f : Fence) → rest ≡ drop place part ++ tail
+    → fence_block part place rest ≡ Some f → Reaches f.size f.contents rest
 
 -- So does an element.
 abbrev pub TagsReach : Type 0
-TagsReach = (tag : Tag) (part rest : List ℕ) (place : ℕ) (b : TagBlock) → tag_block tag part place rest ≡ Some b → Reaches b.size b.contents rest
+TagsReach =
+    (tag : Tag) (part rest : List ℕ) (place : ℕ) (b : TagBlock)
+    → tag_block tag part place rest ≡ Some b → Reaches b.size b.contents rest
 
 -- So does a block of doc comments.
 abbrev pub DocsReach : Type 0
@@ -28,7 +33,9 @@ DocsReach = (rest : List ℕ) (b : DocBlock) → doc_block rest ≡ Some b → R
 
 -- So does a block of the target language.
 abbrev pub TargetsReach : Type 0
-TargetsReach = (part rest tail : List ℕ) (place : ℕ) (b : TargetBlock) → rest ≡ drop place part ++ tail → target_block part place rest ≡ Some b → Reaches b.size b.contents rest
+TargetsReach =
+    (part rest tail : List ℕ) (place : ℕ) (b : TargetBlock) → rest ≡ drop place part ++ tail
+    → target_block part place rest ≡ Some b → Reaches b.size b.contents rest
 
 -- No block opens where a newline stands.
 pub record NoneAtNewline (part t : List ℕ) (place : ℕ) : Type 0 where
@@ -42,10 +49,11 @@ NewlinesOpenNothing = (part t tail : List ℕ) (place : ℕ) → 10 ∷ t ≡ dr
 
 -- A block of doc comments opens at a blank of a line exactly where one opens at the byte behind it.
 abbrev pub DocsOpenBeforeBlanks : Type 0
-DocsOpenBeforeBlanks = (b : ℕ) (t : List ℕ) → is_blank b ≡ true → (b == 10) ≡ false → is_some (doc_block (b ∷ t)) ≡ is_some (doc_block t)
+DocsOpenBeforeBlanks =
+    (b : ℕ) (t : List ℕ) → is_blank b ≡ true → (b == 10) ≡ false → is_some (doc_block (b ∷ t)) ≡ is_some (doc_block t)
 
--- No block opens at a place of a part where its opener doesn't stand. Blanks may stand before the mark of a doc comment,
--- so none of these opens where no mark stands in the rest of the line.
+-- No block opens at a place of a part where its opener doesn't stand. Blanks may stand before the mark of a doc
+-- comment, so none of these opens where no mark stands in the rest of the line.
 pub record BeginWithOpeners (part rest : List ℕ) (place : ℕ) : Type 0 where
   pub fences : begins fence (drop place part) ≡ false → fence_block part place rest ≡ None
   pub tags : (g : Tag) → begins (token_of g) (drop place part) ≡ false → tag_block g part place rest ≡ None

@@ -1,5 +1,6 @@
 -- Rust's doc comments: lines that begin with `///` or `//!`.
-use Rattle.std.specs.Prelude.{ℕ, ◌+◌, ◌==◌, cond, List, [], ◌∷◌, ◌++◌, length, take, drop, codes, Option, None, Some, option_map}
+use Rattle.std.specs.Prelude.{ℕ, ◌+◌, ◌==◌, if◌then◌else◌, Option, None, Some, option_map}
+use Rattle.std.specs.Prelude.{List, [], ◌∷◌, ◌++◌, length, take, drop, codes}
 use Rattle.tokei_syntax.specs.Bytes.{trim_start, begins}
 
 -- The byte before the first line of the others.
@@ -10,12 +11,12 @@ in_front b (line ∷ lines) = (b ∷ line) ∷ lines
 -- The lines of a text, each through its newline.
 abbrev pub lines_of : List ℕ → List (List ℕ)
 lines_of [] = []
-lines_of (b ∷ t) = cond (b == 10) ((b ∷ []) ∷ lines_of t) (in_front b (lines_of t))
+lines_of (b ∷ t) = if b == 10 then (b ∷ []) ∷ lines_of t else in_front b (lines_of t)
 
 -- The text through its first newline.
 abbrev pub first_line : List ℕ → List ℕ
 first_line [] = []
-first_line (b ∷ t) = cond (b == 10) (b ∷ []) (b ∷ first_line t)
+first_line (b ∷ t) = if b == 10 then b ∷ [] else b ∷ first_line t
 
 -- The marks.
 abbrev pub doc_marks : List (List ℕ)
@@ -23,7 +24,10 @@ doc_marks = codes "///" ∷ codes "//!" ∷ []
 
 -- The mark at the front of the text.
 abbrev pub front_mark : List ℕ → Option (List ℕ)
-front_mark t = cond (begins (codes "///") t) (Some (codes "///")) (cond (begins (codes "//!") t) (Some (codes "//!")) None)
+front_mark t =
+    if begins (codes "///") t then Some (codes "///")
+    else if begins (codes "//!") t then Some (codes "//!")
+    else None
 
 -- The mark with which the line begins behind its front blanks.
 abbrev pub mark_of : List ℕ → Option (List ℕ)
@@ -32,7 +36,7 @@ mark_of line = front_mark (trim_start line)
 -- The length of the lines before the first one that doesn't begin with the mark behind its front blanks.
 abbrev pub marked_len : List ℕ → List (List ℕ) → ℕ
 marked_len mark [] = 0
-marked_len mark (line ∷ lines) = cond (begins mark (trim_start line)) (length line + marked_len mark lines) 0
+marked_len mark (line ∷ lines) = if begins mark (trim_start line) then length line + marked_len mark lines else 0
 
 -- The lines joined, each without its front blanks and the three bytes of the mark. Newlines stay.
 abbrev pub unmarked : List (List ℕ) → List ℕ

@@ -1,5 +1,6 @@
 -- Fences: code between three backticks and three backticks.
-use Rattle.std.specs.Prelude.{ℕ, suc, ◌+◌, Bool, true, false, ◌&&◌, ◌==◌, nat_lt, cond, List, [], ◌∷◌, length, take, drop, codes, Option, None, Some}
+use Rattle.std.specs.Prelude.{ℕ, suc, ◌+◌, Bool, true, false, ◌&&◌, ◌==◌, nat_lt, if◌then◌else◌, Option, None, Some}
+use Rattle.std.specs.Prelude.{List, [], ◌∷◌, length, take, drop, codes}
 use Rattle.tokei_syntax.specs.Bytes.{is_blank, begins}
 use Rattle.tokei_embedding.specs.Searches.{first_where, first_of, is_at}
 
@@ -10,7 +11,7 @@ fence = codes "```"
 -- How many bytes stand before the first blank, or before the end.
 abbrev pub solid_len : List ℕ → ℕ
 solid_len [] = 0
-solid_len (b ∷ t) = cond (is_blank b) 0 (suc (solid_len t))
+solid_len (b ∷ t) = if is_blank b then 0 else suc (solid_len t)
 
 -- Whether the text begins with a byte or more that aren't blank, and a blank behind the longest run of them.
 abbrev pub begins_info : List ℕ → Bool
@@ -35,7 +36,7 @@ first_fence part = first_where opens_fence part
 -- How long the closing fence is, by the bytes behind its backticks: it takes one blank there, where one stands.
 abbrev pub closing_len : List ℕ → ℕ
 closing_len [] = 3
-closing_len (b ∷ t) = cond (is_blank b) 4 3
+closing_len (b ∷ t) = if is_blank b then 4 else 3
 
 -- A block of code in fences: the info of its opening, its contents, the length from the opening through the closing
 -- fence, and whether that came.
@@ -49,13 +50,21 @@ pub record Fence : Type 0 where
 -- that isn't closed runs to the end.
 abbrev pub fence_to : List ℕ → ℕ → List ℕ → List ℕ → Option ℕ → Fence
 fence_to info n rest behind None = record { info = info; contents = behind; size = length rest; closed = false }
-fence_to info n rest behind (Some i) = record { info = info; contents = take i behind; size = n + i + closing_len (drop (i + 3) behind); closed = true }
+fence_to info n rest behind (Some i) = record {
+  info = info;
+  contents = take i behind;
+  size = n + i + closing_len (drop (i + 3) behind);
+  closed = true;
+}
 
 -- The block at the front of `rest`, whose info has n bytes.
 abbrev pub fence_from : ℕ → List ℕ → Fence
-fence_from n rest = fence_to (take n (drop 3 rest)) (n + 4) rest (drop (n + 4) rest) (first_of fence (drop (n + 4) rest))
+fence_from n rest =
+    let behind = drop (n + 4) rest in
+    fence_to (take n (drop 3 rest)) (n + 4) rest behind (first_of fence behind)
 
 -- The block that opens at a place of a part, where the part's first fence opening stands there. `rest` is the text from
 -- the place on.
 abbrev pub fence_block : List ℕ → ℕ → List ℕ → Option Fence
-fence_block part place rest = cond (is_at place (first_fence part)) (Some (fence_from (info_len (drop place part)) rest)) None
+fence_block part place rest =
+    if is_at place (first_fence part) then Some (fence_from (info_len (drop place part)) rest) else None

@@ -38,8 +38,8 @@ abbrev pub IsLastPlace : Sought → ℕ → ℕ → Option ℕ → Type 0
 IsLastPlace s from to None = EndsNowhere s from to
 IsLastPlace s from to (Some place) = StandsLast s from to place
 
--- The first place from a place on of a byte that isn't blank, or the text's length. Of a place before that one nothing is
--- said.
+-- The first place from a place on of a byte that isn't blank, or the text's length. Of a place before that one nothing
+-- is said.
 pub record IsFirstSolid (text : List ℕ) (from place : ℕ) : Type 0 where
   pub blank : (k : ℕ) → from ≤ k → k < place → is_blank (slice_index text k) ≡ true
   pub solid : from ≤ place → place < length text → is_blank (slice_index text place) ≡ false

@@ -1,12 +1,12 @@
 -- The first and the last place in a text at which a token stands.
-use Rattle.std.specs.Prelude.{ℕ, suc, Bool, false, ◌==◌, cond, List, [], ◌∷◌, Option, None, Some, option_map}
+use Rattle.std.specs.Prelude.{ℕ, suc, Bool, false, ◌==◌, if◌then◌else◌, List, [], ◌∷◌, Option, None, Some, option_map}
 use Rattle.tokei_syntax.specs.Bytes.{begins}
 use Rattle.tokei_syntax.specs.OuterLines.{later_or}
 
 -- The first place from which on the text passes the test.
 abbrev pub first_where : (List ℕ → Bool) → List ℕ → Option ℕ
 first_where test [] = None
-first_where test (b ∷ t) = cond (test (b ∷ t)) (Some 0) (option_map suc (first_where test t))
+first_where test (b ∷ t) = if test (b ∷ t) then Some 0 else option_map suc (first_where test t)
 
 -- The last such place.
 abbrev pub last_where : (List ℕ → Bool) → List ℕ → Option ℕ

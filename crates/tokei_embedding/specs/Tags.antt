@@ -1,5 +1,5 @@
 -- Script, style and template elements of HTML.
-use Rattle.std.specs.Prelude.{ℕ, ◌+◌, ◌-◌, cond, List, length, take, drop, codes, Option, None, Some, option_map}
+use Rattle.std.specs.Prelude.{ℕ, ◌+◌, ◌-◌, if◌then◌else◌, List, length, take, drop, codes, Option, None, Some, option_map}
 use Rattle.tokei_syntax.specs.Bytes.{all_blank}
 use Rattle.tokei_embedding.specs.Searches.{first_of, last_of, is_at}
 use Rattle.tokei_embedding.specs.Spans.{Span, shifted, bytes_of}
@@ -27,7 +27,8 @@ attribute_of Template = codes "lang=\""
 -- The attribute's value in the bytes before a quote mark: from behind the attribute's last place there to that mark.
 abbrev pub value_before : List ℕ → List ℕ → Option ℕ → Option Span
 value_before attribute t None = None
-value_before attribute t (Some q) = option_map (λ a. record { start = a + length attribute; stop = q }) (last_of attribute (take q t))
+value_before attribute t (Some q) =
+    option_map (λ a. record { start = a + length attribute; stop = q }) (last_of attribute (take q t))
 
 -- The attribute's value in a tag's inside: it runs to the last quote mark.
 abbrev pub value_in : List ℕ → List ℕ → Option Span
@@ -47,8 +48,11 @@ pub record Opening : Type 0 where
 -- first `>` after the value.
 abbrev pub opening_past : ℕ → ℕ → List ℕ → Option Span → Option Opening
 opening_past p n inside value =
-    option_map (λ k. record { whole = record { start = p; stop = n + (value_end value + k + 1) }; value = option_map (shifted n) value })
-    (first_of (codes ">") (drop (value_end value) inside))
+    let behind = value_end value in
+    option_map (λ k. record {
+      whole = record { start = p; stop = n + (behind + k + 1) };
+      value = option_map (shifted n) value;
+    }) (first_of (codes ">") (drop behind inside))
 
 -- The same, by the last `>` of these bytes: the value is sought before it. Without one nothing opens.
 abbrev pub opening_before : List ℕ → ℕ → ℕ → List ℕ → Option ℕ → Option Opening
@@ -77,11 +81,13 @@ pub record TagBlock : Type 0 where
   pub contents : List ℕ
   pub size : ℕ
 
--- The element with an opening of n bytes, by the bytes behind it, and the closing tag in them. Without a closing tag, or
--- with nothing but blanks before it, there is none.
+-- The element with an opening of n bytes, by the bytes behind it, and the closing tag in them. Without a closing tag,
+-- or with nothing but blanks before it, there is none.
 abbrev pub element_to : Option (List ℕ) → ℕ → List ℕ → Option ℕ → Option TagBlock
 element_to value n behind None = None
-element_to value n behind (Some i) = cond (all_blank (take i behind)) None (Some (record { value = value; contents = take i behind; size = n + i }))
+element_to value n behind (Some i) =
+    if all_blank (take i behind) then None
+    else Some (record { value = value; contents = take i behind; size = n + i })
 
 -- The element of an opening of the part. `rest` is the text from the place on at which the opening stands.
 abbrev pub element_of : Tag → List ℕ → ℕ → List ℕ → Option Opening → Option TagBlock
@@ -93,4 +99,6 @@ element_of tag part place rest (Some o) =
 -- The element that opens at a place of a part, where the tag's token stands there for the first time in the part.
 -- `rest` is the text from the place on.
 abbrev pub tag_block : Tag → List ℕ → ℕ → List ℕ → Option TagBlock
-tag_block tag part place rest = cond (is_at place (first_of (token_of tag) part)) (element_of tag part place rest (opening_at tag part place)) None
+tag_block tag part place rest =
+    if is_at place (first_of (token_of tag) part) then element_of tag part place rest (opening_at tag part place)
+    else None

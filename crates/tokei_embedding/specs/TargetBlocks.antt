@@ -1,5 +1,7 @@
 -- Lingua Franca's blocks of the target language, and the target itself.
-use Rattle.std.specs.Prelude.{ℕ, suc, ◌+◌, Bool, true, false, ◌&&◌, ◌||◌, ◌==◌, nat_le, nat_lt, cond, List, [], ◌∷◌, length, take, drop, codes, Option, None, Some}
+use Rattle.std.specs.Option.{option_or}
+use Rattle.std.specs.Prelude.{ℕ, suc, ◌+◌, Bool, true, false, ◌&&◌, ◌||◌, ◌==◌, nat_le, nat_lt, if◌then◌else◌}
+use Rattle.std.specs.Prelude.{List, [], ◌∷◌, length, take, drop, codes, Option, None, Some}
 use Rattle.tokei_syntax.specs.Bytes.{is_blank, trim_start, begins}
 use Rattle.tokei_embedding.specs.Searches.{first_of, is_at}
 
@@ -21,10 +23,10 @@ target_with contents = record { contents = contents; size = 2 + length contents 
 abbrev pub target_from : List ℕ → TargetBlock
 target_from rest = target_with (target_contents (drop 2 rest) (first_of (codes "=}") (drop 2 rest)))
 
--- The block that opens at a place of a part, where the part's first `{=` stands there. `rest` is the text from the place
--- on.
+-- The block that opens at a place of a part, where the part's first `{=` stands there. `rest` is the text from the
+-- place on.
 abbrev pub target_block : List ℕ → ℕ → List ℕ → Option TargetBlock
-target_block part place rest = cond (is_at place (first_of (codes "{=") part)) (Some (target_from rest)) None
+target_block part place rest = if is_at place (first_of (codes "{=") part) then Some (target_from rest) else None
 
 -- Word bytes are ASCII's letters and digits, and `_`.
 abbrev pub is_word : ℕ → Bool
@@ -33,7 +35,7 @@ is_word b = (nat_le 97 b && nat_le b 122) || (nat_le 65 b && nat_le b 90) || (na
 -- How many word bytes stand at the front.
 abbrev pub word_len : List ℕ → ℕ
 word_len [] = 0
-word_len (b ∷ t) = cond (is_word b) (suc (word_len t)) 0
+word_len (b ∷ t) = if is_word b then suc (word_len t) else 0
 
 -- Whether nothing but blanks stands before the first newline, or before the end.
 abbrev pub ends_line : List ℕ → Bool
@@ -47,26 +49,23 @@ ends_target t = ends_line t || begins (codes ";") (trim_start t) || begins (code
 
 -- The word at the front, where it has a byte at least and is followed as a target must be.
 abbrev pub target_word : List ℕ → Option (List ℕ)
-target_word t = cond (nat_lt 0 (word_len t) && ends_target (drop (word_len t) t)) (Some (take (word_len t) t)) None
+target_word t =
+    let n = word_len t in
+    if nat_lt 0 n && ends_target (drop n t) then Some (take n t) else None
 
 -- The word behind one blank or more.
 abbrev pub word_behind_blanks : List ℕ → Option (List ℕ)
 word_behind_blanks [] = None
-word_behind_blanks (b ∷ t) = cond (is_blank b) (target_word (trim_start t)) None
+word_behind_blanks (b ∷ t) = if is_blank b then target_word (trim_start t) else None
 
 -- The target that stands at the front of the text.
 abbrev pub target_here : List ℕ → Option (List ℕ)
-target_here t = cond (begins (codes "target") t) (word_behind_blanks (drop 6 t)) None
-
--- The first of two.
-abbrev pub either : Option (List ℕ) → Option (List ℕ) → Option (List ℕ)
-either None o = o
-either (Some w) o = Some w
+target_here t = if begins (codes "target") t then word_behind_blanks (drop 6 t) else None
 
 -- The first target, where the byte before the text is a word byte or not. None stands right behind a word byte.
 abbrev pub target_after : Bool → List ℕ → Option (List ℕ)
 target_after word [] = None
-target_after word (b ∷ t) = either (cond word None (target_here (b ∷ t))) (target_after (is_word b) t)
+target_after word (b ∷ t) = option_or (if word then None else target_here (b ∷ t)) (target_after (is_word b) t)
 
 -- The text's target.
 abbrev pub target_of : List ℕ → Option (List ℕ)

@@ -2,13 +2,16 @@ use Rattle.std.proofs.Common.{◌≡◌, ◌∙◌, ◌-◌, ℕ, ◌==◌, fals
 use Rattle.std.proofs.lemmas.Bool.Decides.{Decides-eqb}
 use Rattle.tokei_count.specs.NamedLanguages.{by_word}
 use Rattle.tokei_count.proofs.LineEnd.{not_true}
-use Rattle.tokei_count.proofs.Pieces.{piece_ends, piece_goes}
+use Rattle.tokei_count.proofs.Pieces.{known_is, piece_ends, piece_goes}
 use Rattle.tokei_count.proofs.openings.known_piece.Goals as goal
 use Rattle.tokei_count.proofs.openings.known_piece.Goals.{then-byte-eq44+else-is_some, else-byte-eq44}
 
 is_none : (o : Option ℕ) → is_some o ≡ false → o ≡ None
 is_none None h = refl
 is_none (Some n) h = cc
+
+pub loop-i-init : goal.loop-i-init
+loop-i-init c = record { begun = omega arith; same = known_is c.args.table.now c.args.info.now }
 
 pub loop-i-preserved : goal.loop-i-preserved
 loop-i-preserved c = record {
