@@ -1,5 +1,5 @@
 -- The choice at a place: the first that fits there, in a string, in a comment, and in plain text.
-use Rattle.std.specs.Prelude.{ℕ, Bool, true, false, ◌&&◌, ◌||◌, ◌==◌, cond}
+use Rattle.std.specs.Prelude.{ℕ, Bool, true, false, ◌&&◌, ◌||◌, ◌==◌, if◌then◌else◌}
 use Rattle.std.specs.Prelude.{List, [], ◌∷◌, Option, None, Some, is_some, find}
 use Rattle.std.specs.List.{list_any}
 use Rattle.std.specs.Str.{bytes_eq}
@@ -44,34 +44,35 @@ has_pair qs p = list_any (λ q. bytes_eq q.opener p.opener && bytes_eq q.closer 
 -- A multi-line opener that is met inside a comment opens where `nested` is true or its pair is in `nested_comments`;
 -- else it is passed over whole.
 abbrev pub met_in_comment : Row → Pair → Choice
-met_in_comment r p = cond (r.nested || has_pair r.nested_comments p) (opens MultiLineComment p) (passes_over p)
+met_in_comment r p = if r.nested || has_pair r.nested_comments p then opens MultiLineComment p else passes_over p
 
 -- in a string: its closer; an escape, unless the string is verbatim; one byte
 abbrev pub choice_in_string : Row → Bool → List ℕ → List ℕ → Choice
 choice_in_string r verbatim closer t =
-    cond (begins closer t) closes (
-    cond (cond verbatim false (is_escape r t)) escapes takes_byte)
+    if begins closer t then closes
+    else if (if verbatim then false else is_escape r t) then escapes
+    else takes_byte
 
 -- in a comment: an escape; the innermost closer; a multi-line opener, then a nested opener; one byte
 abbrev pub choice_in_comment : Row → List ℕ → List ℕ → Choice
 choice_in_comment r closer t =
-    cond (is_escape r t) escapes (
-    cond (begins closer t) closes (
-    or_else (opened r.multi_line_comments t) (met_in_comment r) (
-    or_else (opened r.nested_comments t) (opens MultiLineComment) takes_byte)))
+    if is_escape r t then escapes
+    else if begins closer t then closes
+    else or_else (opened r.multi_line_comments t) (met_in_comment r) (
+    or_else (opened r.nested_comments t) (opens MultiLineComment) takes_byte)
 
 -- in plain text: an escape; a child; a doc quote; a verbatim quote; a quote; a multi-line comment; a nested comment;
 -- a line comment; one byte
 abbrev pub choice_in_plain : Row → Option Block → List ℕ → Choice
 choice_in_plain r block t =
-    cond (is_escape r t) escapes (
-    or_else block child_opens (
+    if is_escape r t then escapes
+    else or_else block child_opens (
     or_else (opened r.doc_quotes t) (opens DocString) (
     or_else (opened r.verbatim_quotes t) (opens VerbatimString) (
     or_else (opened r.quotes t) (opens OrdinaryString) (
     or_else (opened r.multi_line_comments t) (opens MultiLineComment) (
     or_else (opened r.nested_comments t) (opens MultiLineComment) (
-    cond (any_begins r.line_comment t) begins_line_comment takes_byte)))))))
+    if any_begins r.line_comment t then begins_line_comment else takes_byte))))))
 
 -- by the kind of the item that encloses the place
 abbrev pub choice_within : Row → Kind → List ℕ → List ℕ → Choice

@@ -1,5 +1,5 @@
 -- What a part counts as: the first of ten rules that fits.
-use Rattle.std.specs.Prelude.{ℕ, Bool, true, false, ◌&&◌, ◌||◌, not, cond, List, None, Some, codes}
+use Rattle.std.specs.Prelude.{ℕ, Bool, true, false, ◌&&◌, ◌||◌, not, if◌then◌else◌, List, None, Some, codes}
 use Rattle.std.specs.List.{list_any}
 use Rattle.std.specs.Str.{bytes_eq}
 use Rattle.tokei_table.specs.Bytes.{begins, ends, trim, all_blank}
@@ -48,7 +48,7 @@ abbrev pub keeps_columns : List ℕ → Bool
 keeps_columns key = bytes_eq key (codes "FortranLegacy") || bytes_eq key (codes "FortranModern")
 
 abbrev pub head_of : Row → List ℕ → List ℕ
-head_of r t = cond (keeps_columns r.key) t (trim t)
+head_of r t = if keeps_columns r.key then t else trim t
 
 -- some pair of the list opens at the front of the text and closes at its end; opener and closer may overlap
 abbrev pub encloses : List Pair → List ℕ → Bool
@@ -76,13 +76,13 @@ ends_opened r head e = in_comment e
 -- 10. else code
 unfoldable pub class_of : Row → Bool → Part → Class
 class_of r docs p =
-    cond (is_plain p.begun && all_blank p.bytes) Blank (
-    cond r.literate Comment (
-    cond (in_doc_string p.ended && docs) Comment (
-    cond (in_string p.ended) Code (
-    cond (in_comment p.begun || (in_doc_string p.begun && docs)) Comment (
-    cond (in_string p.begun) Code (
-    cond (any_begins r.line_comment (head_of r p.bytes)) Comment (
-    cond (encloses r.multi_line_comments (trim p.bytes) || encloses r.nested_comments (trim p.bytes)) Comment (
-    cond (ends_opened r (head_of r p.bytes) p.ended) Comment
-    Code))))))))
+    if is_plain p.begun && all_blank p.bytes then Blank
+    else if r.literate then Comment
+    else if in_doc_string p.ended && docs then Comment
+    else if in_string p.ended then Code
+    else if in_comment p.begun || (in_doc_string p.begun && docs) then Comment
+    else if in_string p.begun then Code
+    else if any_begins r.line_comment (head_of r p.bytes) then Comment
+    else if encloses r.multi_line_comments (trim p.bytes) || encloses r.nested_comments (trim p.bytes) then Comment
+    else if ends_opened r (head_of r p.bytes) p.ended then Comment
+    else Code

@@ -1,5 +1,5 @@
 -- Lingua Franca: code of the target language between `{=` and `=}`.
-use Rattle.std.specs.Prelude.{ℕ, cond, List, Option, None, Some, option_map, unwrap_or, codes, bytes_eq}
+use Rattle.std.specs.Prelude.{ℕ, if◌then◌else◌, List, Option, None, Some, option_map, unwrap_or, codes, bytes_eq}
 use Rattle.tokei_table.specs.OuterLines.{trim_outer_lines}
 use Rattle.tokei_table.specs.Row.{Row}
 use Rattle.tokei_embedding.specs.TargetBlocks.{TargetBlock, target_block, target_of}
@@ -9,7 +9,7 @@ use Rattle.tokei_count.specs.NamedLanguages.{by_name}
 
 -- the target `CCpp` means C
 abbrev pub target_name : List ℕ → List ℕ
-target_name word = cond (bytes_eq word (codes "CCpp")) (codes "C") word
+target_name word = if bytes_eq word (codes "CCpp") then codes "C" else word
 
 -- The text's target names the language of its blocks; where none is named, or the table has no such language, they are
 -- Lingua Franca, as their parent.

@@ -1,5 +1,5 @@
 -- The mode at each place: the items that enclose it, begun before it, and ended after it or not closed.
-use Rattle.std.specs.Prelude.{ℕ, Bool, true, false, cond, List, [], ◌∷◌, ◌++◌, None, Some}
+use Rattle.std.specs.Prelude.{ℕ, Bool, true, false, if◌then◌else◌, List, [], ◌∷◌, ◌++◌, None, Some}
 use Rattle.tokei_count.specs.Items.{Block, Item, Items, Enclosure, Mode, enclosure}
 use Rattle.tokei_count.specs.Items.Item.{one, escaped, passed_over, string_literal, comment, line_comment, child}
 use Rattle.tokei_count.specs.Items.Items.{none, more}
@@ -50,9 +50,9 @@ unfoldable mutual
   marks_of c (escaped a b) = byte_at a true c ∷ byte_at b false c ∷ []
   marks_of c (passed_over p) = of_choice c p.opener
   marks_of c (string_literal k p is closed) = of_choice (enclosure k p ∷ c) p.opener
-    ++ (marks (enclosure k p ∷ c) is ++ cond closed (closing (enclosure k p ∷ c) c p.closer) [])
+    ++ (marks (enclosure k p ∷ c) is ++ (if closed then closing (enclosure k p ∷ c) c p.closer else []))
   marks_of c (comment p is closed) = of_choice (enclosure MultiLineComment p ∷ c) p.opener
     ++ (marks (enclosure MultiLineComment p ∷ c) is
-    ++ cond closed (closing (enclosure MultiLineComment p ∷ c) c p.closer) [])
+    ++ (if closed then closing (enclosure MultiLineComment p ∷ c) c p.closer else []))
   marks_of c (line_comment t) = of_choice c t
   marks_of c (child k t) = child_at k ∷ []

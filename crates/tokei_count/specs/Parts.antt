@@ -1,5 +1,6 @@
 -- Parts: the text outside the children, cut behind each newline and at each child.
-use Rattle.std.specs.Prelude.{ℕ, ◌-◌, ◌==◌, cond, List, [], ◌∷◌, ◌++◌, length, take, drop, None}
+use Rattle.std.specs.Prelude.{ℕ, ◌-◌, ◌==◌, if◌then◌else◌, List, [], ◌∷◌, ◌++◌, length, take, drop, None}
+use Rattle.tokei_table.specs.Bytes.{newline}
 use Rattle.tokei_count.specs.Items.{Mode}
 use Rattle.tokei_count.specs.Modes.{Mark, innermost}
 use Rattle.tokei_count.specs.Modes.Mark.{byte_at, child_at}
@@ -15,9 +16,9 @@ pub record Part : Type 0 where
 unfoldable pub cut : Mode → List ℕ → Mode → List Mark → List Part
 cut m s e [] = elim s [ [] ↦ [] | a ∷ s' ↦ record { begun = m; bytes = a ∷ s'; ended = e } ∷ [] ]
 cut m s e (byte_at b x c ∷ ms) =
-    cond (b == 10)
-    (record { begun = m; bytes = s ++ b ∷ []; ended = innermost c } ∷ cut (innermost c) [] (innermost c) ms)
-    (cut m (s ++ b ∷ []) (innermost c) ms)
+    if b == newline
+    then record { begun = m; bytes = s ++ b ∷ []; ended = innermost c } ∷ cut (innermost c) [] (innermost c) ms
+    else cut m (s ++ b ∷ []) (innermost c) ms
 cut m s e (child_at k ∷ ms) = cut None [] None ms
 
 -- the parts of a whole text, which begins plain
@@ -27,7 +28,7 @@ parts_of ms = cut None [] None ms
 -- the bytes of s and of the text that stand behind the text's last newline; s stands before the text
 abbrev pub behind_newline : List ℕ → List ℕ → List ℕ
 behind_newline s [] = s
-behind_newline s (b ∷ t) = cond (b == 10) (behind_newline [] t) (behind_newline (s ++ b ∷ []) t)
+behind_newline s (b ∷ t) = if b == newline then behind_newline [] t else behind_newline (s ++ b ∷ []) t
 
 -- The bytes of the part under way before a place of the text, of which `rest` is left there, where l bytes were left
 -- behind the last child: those behind that child and behind the last newline.

@@ -1,5 +1,5 @@
 -- The plain reading: the statistics of a text, by its derivation alone.
-use Rattle.std.specs.Prelude.{ℕ, zero, suc, Bool, List, [], ◌∷◌, cond, Option}
+use Rattle.std.specs.Prelude.{ℕ, zero, suc, Bool, List, [], ◌∷◌, if◌then◌else◌, Option}
 use Rattle.tokei_table.specs.Row.{Row}
 use Rattle.tokei_count.specs.Items.{Block}
 use Rattle.tokei_count.specs.Derivation.{items_of, no_child}
@@ -60,13 +60,14 @@ notebook_by read cells = node no_lines (gathered read none cells)
 -- left a notebook counts nothing.
 unfoldable pub reading : Languages → Bool → ℕ → ℕ → List ℕ → Statistics
 reading ls docs zero language t =
-    cond (is_notebook (ls.row language)) empty
-    (read_by (ls.row language) docs (λ k. empty) (marks [] (items_of (ls.row language) (blocks ls zero language t) t)))
+    if is_notebook (ls.row language) then empty
+    else read_by (ls.row language) docs (λ k. empty)
+        (marks [] (items_of (ls.row language) (blocks ls zero language t) t))
 reading ls docs (suc levels) language t =
-    cond (is_notebook (ls.row language))
-    (notebook_by (λ k. reading ls docs levels k.language k.contents) (ls.cells language t))
-    (read_by (ls.row language) docs (λ k. reading ls docs levels k.language k.contents)
-        (marks [] (items_of (ls.row language) (blocks ls (suc levels) language t) t)))
+    if is_notebook (ls.row language)
+    then notebook_by (λ k. reading ls docs levels k.language k.contents) (ls.cells language t)
+    else read_by (ls.row language) docs (λ k. reading ls docs levels k.language k.contents)
+        (marks [] (items_of (ls.row language) (blocks ls (suc levels) language t) t))
 
 -- the reading of a child, in a text with so many levels left
 abbrev pub child_reading : Languages → Bool → ℕ → Block → Statistics

@@ -1,10 +1,11 @@
 -- How the reading of a text goes on from a place: what is left of it, given the items that enclose the place.
-use Rattle.std.specs.Prelude.{◌≡◌, ℕ, ◌+◌, ◌-◌, ◌<◌, ◌≤◌, Bool, true, cond, ⊤}
+use Rattle.std.specs.Prelude.{◌≡◌, ℕ, ◌+◌, ◌-◌, ◌<◌, ◌≤◌, Bool, true, if◌then◌else◌, ⊤}
 use Rattle.std.specs.Prelude.{List, [], ◌∷◌, ◌++◌, take, drop, length, Option, None, Some}
 use Rattle.tokei_table.specs.Openers.{openers}
 use Rattle.tokei_table.specs.Row.{Row}
 use Rattle.tokei_table.specs.Sound.{is_token}
 use Rattle.tokei_count.specs.Lines.{first_line, line_len}
+use Rattle.tokei_table.specs.Bytes.{newline}
 use Rattle.tokei_count.specs.Items.{Block}
 use Rattle.tokei_count.specs.Choice.{choice}
 use Rattle.tokei_count.specs.Choice.Choice.{child_opens}
@@ -27,8 +28,9 @@ module _ (r : Row) (block : ℕ → List ℕ → Option Block) where
   unfoldable pub marks_ahead : ℕ → Chain → List ℕ → List Mark
   marks_ahead l [] t = marks [] (body l [] t).items
   marks_ahead l (e ∷ c) t = marks (e ∷ c) (body l (e ∷ c) t).items
-    ++ cond (body l (e ∷ c) t).closed
-    (closing (e ∷ c) c e.closer ++ marks_ahead l c (drop (body l (e ∷ c) t).taken t)) []
+    ++ (if (body l (e ∷ c) t).closed
+      then closing (e ∷ c) c e.closer ++ marks_ahead l c (drop (body l (e ∷ c) t).taken t)
+      else [])
 
   -- Through n bytes of its line the text leads from the items of c to those of d. Among the n bytes and a newline
   -- behind them that no choice of its own takes, j choices begin more than where one takes it.
@@ -46,7 +48,7 @@ newlines t = length (first_line t) - line_len t
 
 -- no child opens at a newline
 pub record OpensInLine (block : ℕ → List ℕ → Option Block) : Type 0 where
-  pub none : (l : ℕ) (u : List ℕ) → block l (10 ∷ u) ≡ None
+  pub none : (l : ℕ) (u : List ℕ) → block l (newline ∷ u) ≡ None
 
 -- each closer of the chain is a token
 abbrev pub IsClosable : Chain → Type 0
@@ -81,7 +83,8 @@ module _ (r : Row) (block : ℕ → List ℕ → Option Block) (l : ℕ) where
     pub closable : IsClosable d
     pub counts : counts_left docs c t ≡ plus (one_of class) (counts_left docs d (drop n t))
     pub kids : children_left c t ≡ children_left d (drop n t)
-    pub steps : steps_left c t ≡ cond (is_walked (openers r) (innermost c) (take n t)) j 0 + steps_left d (drop n t)
+    pub steps : steps_left c t
+      ≡ (if is_walked (openers r) (innermost c) (take n t) then j else 0) + steps_left d (drop n t)
 
   -- A part that a child breaks off: the child k opens behind n bytes, at which j choices begin, in plain text, and the
   -- text goes on behind it.
@@ -92,7 +95,7 @@ module _ (r : Row) (block : ℕ → List ℕ → Option Block) (l : ℕ) where
     pub counts : counts_left docs c t
       ≡ tally r docs (cut None [] None (marks_ahead r block (length t - (n + k.size)) [] (drop (n + k.size) t)))
     pub kids : children_left c t ≡ k ∷ children (marks_ahead r block (length t - (n + k.size)) [] (drop (n + k.size) t))
-    pub steps : steps_left c t ≡ cond (is_walked (openers r) (innermost c) (first_line t)) j 0
+    pub steps : steps_left c t ≡ (if is_walked (openers r) (innermost c) (first_line t) then j else 0)
       + walked_choices (openers r) (stretches None [] 0 (drop (n + k.size) t)
         (marks_ahead r block (length t - (n + k.size)) [] (drop (n + k.size) t)))
 

@@ -1,5 +1,5 @@
 -- The code's values as the definitions see them.
-use Rattle.std.specs.Prelude.{ℕ, Bool, cond, false, Option, option_map, unwrap_or, List, map, reverse}
+use Rattle.std.specs.Prelude.{ℕ, Bool, if◌then◌else◌, false, Option, option_map, unwrap_or, List, map, reverse}
 use Rattle.tokei_table.specs.Bytes.{trim}
 use Rattle.tokei_table.specs.RowOf.{pair_of}
 use Rattle.tokei_embedding.specs.DocComments.{doc_text}
@@ -17,7 +17,7 @@ use Rattle.tokei_options.specs.declared.count_config.CountConfig.{CountConfig}
 
 -- the text of a child: a doc comment's lines are read without their marks, joined and trimmed
 abbrev pub contents_of : CodeBlock.Block → List ℕ
-contents_of k = cond k.is_doc (trim (doc_text k.contents.now)) k.contents.now
+contents_of k = if k.is_doc then trim (doc_text k.contents.now) else k.contents.now
 
 abbrev pub block_of : CodeBlock.Block → Block
 block_of k = record {

@@ -1,5 +1,5 @@
 -- The bytes that items spell.
-use Rattle.std.specs.Prelude.{◌≡◌, ℕ, ◌<◌, cond, List, [], ◌∷◌, ◌++◌, Option, Some}
+use Rattle.std.specs.Prelude.{◌≡◌, ℕ, ◌<◌, if◌then◌else◌, List, [], ◌∷◌, ◌++◌, Option, Some}
 use Rattle.tokei_table.specs.Row.{Row}
 use Rattle.tokei_table.specs.Sound.{IsSound}
 use Rattle.tokei_count.specs.Items.{Block, Item, Items}
@@ -20,8 +20,8 @@ unfoldable mutual
   spelled_by (one b) = b ∷ []
   spelled_by (escaped a b) = a ∷ b ∷ []
   spelled_by (passed_over p) = p.opener
-  spelled_by (string_literal k p is closed) = p.opener ++ (spelled is ++ cond closed p.closer [])
-  spelled_by (comment p is closed) = p.opener ++ (spelled is ++ cond closed p.closer [])
+  spelled_by (string_literal k p is closed) = p.opener ++ (spelled is ++ (if closed then p.closer else []))
+  spelled_by (comment p is closed) = p.opener ++ (spelled is ++ (if closed then p.closer else []))
   spelled_by (line_comment t) = t
   spelled_by (child k t) = t
 

@@ -1,5 +1,5 @@
 -- The steps of a text: how many choices a reading has to make that looks at a part only where it must.
-use Rattle.std.specs.Prelude.{ℕ, zero, suc, ◌+◌, cond, List, [], ◌∷◌, length, None, nat_le}
+use Rattle.std.specs.Prelude.{ℕ, zero, suc, ◌+◌, if◌then◌else◌, List, [], ◌∷◌, length, None, nat_le}
 use Rattle.tokei_table.specs.Openers.{openers}
 use Rattle.tokei_table.specs.Row.{Row}
 use Rattle.tokei_count.specs.Derivation.{items_of}
@@ -13,12 +13,12 @@ use Rattle.tokei_count.specs.Stretches.{Stretch, stretches}
 -- the choices of those stretches that are walked
 abbrev pub walked_choices : List (List ℕ) → List Stretch → ℕ
 walked_choices os [] = 0
-walked_choices os (s ∷ ss) = cond (is_walked os s.begun s.reach) s.choices 0 + walked_choices os ss
+walked_choices os (s ∷ ss) = (if is_walked os s.begun s.reach then s.choices else 0) + walked_choices os ss
 
 -- the bytes of those stretches that are walked
 abbrev pub walked_bytes : List (List ℕ) → List Stretch → ℕ
 walked_bytes os [] = 0
-walked_bytes os (s ∷ ss) = cond (is_walked os s.begun s.reach) s.size 0 + walked_bytes os ss
+walked_bytes os (s ∷ ss) = (if is_walked os s.begun s.reach then s.size else 0) + walked_bytes os ss
 
 -- what each of the blocks is worth, added up
 abbrev pub sum_over : (Block → ℕ) → List Block → ℕ
@@ -37,13 +37,13 @@ children_in ls levels language t = children (marks [] (items_in ls levels langua
 -- each child; a notebook has nothing but its cells, and with no levels left nothing at all.
 unfoldable pub with_children : (Row → List ℕ → Items → ℕ) → Languages → ℕ → ℕ → List ℕ → ℕ
 with_children own ls zero language t =
-    cond (is_notebook (ls.row language)) 0
-    (own (ls.row language) t (items_in ls zero language t) + length (children_in ls zero language t))
+    if is_notebook (ls.row language) then 0
+    else own (ls.row language) t (items_in ls zero language t) + length (children_in ls zero language t)
 with_children own ls (suc levels) language t =
-    cond (is_notebook (ls.row language))
-    (sum_over (λ k. with_children own ls levels k.language k.contents) (ls.cells language t))
-    (own (ls.row language) t (items_in ls (suc levels) language t) + length (children_in ls (suc levels) language t)
-    + sum_over (λ k. with_children own ls levels k.language k.contents) (children_in ls (suc levels) language t))
+    if is_notebook (ls.row language)
+    then sum_over (λ k. with_children own ls levels k.language k.contents) (ls.cells language t)
+    else own (ls.row language) t (items_in ls (suc levels) language t) + length (children_in ls (suc levels) language t)
+    + sum_over (λ k. with_children own ls levels k.language k.contents) (children_in ls (suc levels) language t)
 
 -- the choices in the walked parts of a text, its children apart
 abbrev pub own_steps : Row → List ℕ → Items → ℕ
@@ -68,4 +68,6 @@ child_steps ls (suc levels) k = steps ls levels k.language k.contents
 
 -- the number, or the greatest `u128` where that is less
 abbrev pub capped : ℕ → ℕ
-capped n = cond (nat_le n 340282366920938463463374607431768211455) n 340282366920938463463374607431768211455
+capped n =
+    if nat_le n 340282366920938463463374607431768211455 then n
+    else 340282366920938463463374607431768211455
