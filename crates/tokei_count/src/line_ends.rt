@@ -3,7 +3,7 @@ ghost use Rattle.std.specs.Prelude.{◌≡◌, ◌+◌, ◌<◌, ◌≤◌, drop
 ghost use Rattle.tokei_count.specs.Lines.{line_len};
 
 use memchr::memchr;
-use tokei_bytes::first_of_one;
+use tokei_bytes::first_of_four;
 
 /// How many bytes are searched for a newline before a far search: few lines have more.
 const NEAR: usize = 128;
@@ -26,7 +26,7 @@ pub(crate) fn line_len(text: &[u8]) -> usize
     ensures within { result ≤ length text.now }
 {
     let near = text.len().min(NEAR);
-    let end = first_of_one(b'\n', text, 0, near);
+    let end = first_of_four([b'\n'; 4], text, 0, near);
     if end < near {
         return end;
     }
