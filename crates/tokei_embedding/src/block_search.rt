@@ -92,7 +92,8 @@ impl<'a> BlockSearch<'a> {
         ensures low { at ≤ result }
         ensures high { result ≤ to }
         ensures none { OpensNoElement tag self.old start to at result }
-        ensures exact { result < to → is_at (result - start) (first_of (token_of tag) (part_of self.old start to)) ≡ true }
+        ensures exact { result < to
+            → is_at (result - start) (first_of (token_of tag) (part_of self.old start to)) ≡ true }
         ensures same { self.new ≡ self.old }
     {
         match &mut self.tags {
@@ -110,7 +111,8 @@ impl<'a> BlockSearch<'a> {
         ensures low { at ≤ result }
         ensures high { result ≤ to }
         ensures none { OpensNoElement tag self.old start to at result }
-        ensures exact { result < to → is_at (result - start) (first_of (token_of tag) (part_of self.old start to)) ≡ true }
+        ensures exact { result < to
+            → is_at (result - start) (first_of (token_of tag) (part_of self.old start to)) ≡ true }
         ensures same { self.new ≡ self.old }
     {
         let mut tags = TagSearches::new(self.text);
@@ -119,8 +121,8 @@ impl<'a> BlockSearch<'a> {
         place
     }
 
-    /// The length of the block of doc comments that opens at `place`: the rest of the line there, which begins with `///`
-    /// or `//!` behind its front blanks, and the lines behind it that begin with the same mark.
+    /// The length of the block of doc comments that opens at `place`: the rest of the line there, which begins with
+    /// `///` or `//!` behind its front blanks, and the lines behind it that begin with the same mark.
     pub fn doc_at(&mut self, place: usize) -> Option<usize>
         requires { place < length self.old }
         ensures value { result ≡ option_map (λ b. b.size) (doc_block (drop place self.old)) }

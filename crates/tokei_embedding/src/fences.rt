@@ -1,7 +1,8 @@
 //! The fences of Markdown.
 ghost use Rattle.std.specs.Prelude.{◌≡◌, ℕ, ◌+◌, ◌-◌, ◌≤◌, ◌<◌, true, false, IfSome, length, take, drop, option_map};
 ghost use Rattle.tokei_syntax.specs.Bytes.{begins};
-ghost use Rattle.tokei_embedding.specs.Fences.{fence, solid_len, opens_fence, is_solid_fence, info_len, first_fence, closing_len, fence_from, fence_block};
+ghost use Rattle.tokei_embedding.specs.Fences.{fence, solid_len, opens_fence, is_solid_fence, info_len};
+ghost use Rattle.tokei_embedding.specs.Fences.{first_fence, closing_len, fence_from, fence_block};
 ghost use Rattle.tokei_embedding.specs.Searches.{first_of};
 ghost use Rattle.tokei_embedding.specs.Seen.{fence_seen};
 
@@ -69,8 +70,8 @@ pub fn info_len(opening: &[u8]) -> usize
     solid_len(&opening[3..])
 }
 
-/// The first place of the text, from `from` to before `to`, at which three backticks stand that end by `to`, or `to` where
-/// there is none.
+/// The first place of the text, from `from` to before `to`, at which three backticks stand that end by `to`, or `to`
+/// where there is none.
 fn next_backticks(text: &[u8], from: usize, to: usize) -> usize
     requires order { from ≤ to }
     requires within { to ≤ length text.now }
@@ -97,13 +98,14 @@ fn next_backticks(text: &[u8], from: usize, to: usize) -> usize
     to
 }
 
-/// The place of the first fence opening in the part `text[from..to]`, counted from its front: three backticks, bytes that
-/// aren't blank, and one blank.
+/// The place of the first fence opening in the part `text[from..to]`, counted from its front: three backticks, bytes
+/// that aren't blank, and one blank.
 pub fn first_fence(text: &[u8], from: usize, to: usize) -> Option<usize>
     requires order { from ≤ to }
     requires ends { to ≤ length text.now }
     ensures value { result ≡ first_fence (take (to - from) (drop from text.now)) }
-    ensures within { let part = take (to - from) (drop from text.now) in IfSome result (λ i. i + (info_len (drop i part) + 4) ≤ to - from) }
+    ensures within { let part = take (to - from) (drop from text.now)
+        in IfSome result (λ i. i + (info_len (drop i part) + 4) ≤ to - from) }
 {
     let mut at = next_backticks(text, from, to);
     while at < to {
@@ -170,7 +172,8 @@ pub fn fence_at<'a>(text: &'a [u8], from: usize, place: usize, to: usize) -> Opt
     requires order { from ≤ place }
     requires inside { place < to }
     requires ends { to ≤ length text.now }
-    ensures { option_map fence_seen result ≡ fence_block (take (to - from) (drop from text.now)) (place - from) (drop place text.now) }
+    ensures { option_map fence_seen result
+        ≡ fence_block (take (to - from) (drop from text.now)) (place - from) (drop place text.now) }
 {
     let here = &text[place..to];
     if !opens_fence(here) {

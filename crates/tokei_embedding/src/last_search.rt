@@ -25,7 +25,8 @@ impl<'a> Model for LastSearch<'a> {
 
     ghost view = { λ s. sought s.text.now s.token.now };
 
-    ghost invariant = { λ s. (0 < length s.token.now) × IsLastPlace (sought s.text.now s.token.now) s.from s.to s.last };
+    ghost invariant = { λ s. (0 < length s.token.now)
+        × IsLastPlace (sought s.text.now s.token.now) s.from s.to s.last };
 }
 
 /// The token's last place in `text[from..to]`, counted from the text's beginning.

@@ -1,5 +1,6 @@
 //! Laws of the definitions: each function's contract is a law, and its body does nothing.
-ghost use Rattle.tokei_embedding.specs.BlockLaws.{FencesReach, TagsReach, DocsReach, TargetsReach, NewlinesOpenNothing, DocsOpenBeforeBlanks, BlocksBeginWithOpeners};
+ghost use Rattle.tokei_embedding.specs.BlockLaws.{FencesReach, TagsReach, DocsReach, TargetsReach};
+ghost use Rattle.tokei_embedding.specs.BlockLaws.{NewlinesOpenNothing, DocsOpenBeforeBlanks, BlocksBeginWithOpeners};
 
 /// A fence's block takes a byte or more, ends in the text, and takes two bytes at least beside what it holds.
 pub fn fences_reach()

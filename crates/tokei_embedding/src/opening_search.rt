@@ -2,7 +2,8 @@
 ghost use Rattle.std.specs.Prelude.{◌≡◌, ◌+◌, ◌-◌, ◌≤◌, ◌<◌, IfSome, length, take, drop, option_map};
 ghost use Rattle.tokei_embedding.specs.Seen.{span_seen, opening_seen};
 ghost use Rattle.tokei_embedding.specs.TagSearches.{TagSought, SeeksOpenings};
-ghost use Rattle.tokei_embedding.specs.Tags.{token_of, attribute_of, value_in, value_end, opening_past, opening_at, first_opening};
+ghost use Rattle.tokei_embedding.specs.Tags.{token_of, attribute_of, value_in, value_end};
+ghost use Rattle.tokei_embedding.specs.Tags.{opening_past, opening_at, first_opening};
 
 use crate::first_search::FirstSearch;
 use crate::last_search::LastSearch;
@@ -31,7 +32,8 @@ impl<'a> Model for OpeningSearch<'a> {
 
     ghost view = { λ s. record { tag = s.tag; text = s.text.now } };
 
-    ghost invariant = { λ s. SeeksOpenings (record { tag = s.tag; text = s.text.now }) s.last_ends s.quotes s.attributes s.ends };
+    ghost invariant = { λ s.
+        SeeksOpenings (record { tag = s.tag; text = s.text.now }) s.last_ends s.quotes s.attributes s.ends };
 }
 
 /// The place behind the value, or the front without one.
@@ -63,7 +65,8 @@ impl<'a> OpeningSearch<'a> {
     fn value_in(&mut self, start: usize, stop: usize) -> Option<Span>
         requires order { start ≤ stop }
         requires ends { stop ≤ length self.old.text }
-        ensures value { option_map span_seen result ≡ value_in (attribute_of self.old.tag) (take (stop - start) (drop start self.old.text)) }
+        ensures value { option_map span_seen result
+            ≡ value_in (attribute_of self.old.tag) (take (stop - start) (drop start self.old.text)) }
         ensures within { IfSome result (λ v. (v.start ≤ v.stop) × (v.stop < stop - start)) }
         ensures same { self.new ≡ self.old }
     {
@@ -75,8 +78,8 @@ impl<'a> OpeningSearch<'a> {
         })
     }
 
-    /// The opening that begins at the place `at`, by the bytes `text[start..to]` from the place `inside` on, and the value
-    /// in them. Its places count as `at` and `inside` do.
+    /// The opening that begins at the place `at`, by the bytes `text[start..to]` from the place `inside` on, and the
+    /// value in them. Its places count as `at` and `inside` do.
     fn opening_past(
         &mut self,
         at: usize,
@@ -90,9 +93,12 @@ impl<'a> OpeningSearch<'a> {
         requires behind { at < inside }
         requires counted { inside ≤ start }
         requires within { IfSome value (λ v. (v.start ≤ v.stop) × (v.stop ≤ to - start)) }
-        ensures value { option_map opening_seen result ≡ opening_past at inside (take (to - start) (drop start self.old.text)) (option_map span_seen value) }
-        ensures whole { IfSome result (λ o. (o.whole.start ≡ at) × (at < o.whole.stop) × (o.whole.stop ≤ inside + (to - start))) }
-        ensures value_within { IfSome result (λ o. IfSome o.value (λ v. (v.start ≤ v.stop) × (v.stop ≤ inside + (to - start)))) }
+        ensures value { option_map opening_seen result ≡ opening_past at inside
+            (take (to - start) (drop start self.old.text)) (option_map span_seen value) }
+        ensures whole { IfSome result (λ o. (o.whole.start ≡ at) × (at < o.whole.stop)
+            × (o.whole.stop ≤ inside + (to - start))) }
+        ensures value_within { IfSome result (λ o. IfSome o.value
+            (λ v. (v.start ≤ v.stop) × (v.stop ≤ inside + (to - start)))) }
         ensures same { self.new ≡ self.old }
     {
         let behind = value_end(value);
@@ -111,7 +117,8 @@ impl<'a> OpeningSearch<'a> {
     pub(crate) fn opening_at(&mut self, from: usize, at: usize, to: usize) -> Option<Opening>
         requires stands { from + at + length (token_of self.old.tag) ≤ to }
         requires ends { to ≤ length self.old.text }
-        ensures value { option_map opening_seen result ≡ opening_at self.old.tag (take (to - from) (drop from self.old.text)) at }
+        ensures value { option_map opening_seen result
+            ≡ opening_at self.old.tag (take (to - from) (drop from self.old.text)) at }
         ensures whole { IfSome result (λ o. (o.whole.start ≡ at) × (at < o.whole.stop) × (o.whole.stop ≤ to - from)) }
         ensures value_within { IfSome result (λ o. IfSome o.value (λ v. (v.start ≤ v.stop) × (v.stop ≤ to - from))) }
         ensures same { self.new ≡ self.old }

@@ -68,7 +68,8 @@ impl<'a> TagSearches<'a> {
         ensures low { at ≤ result }
         ensures high { result ≤ to }
         ensures none { OpensNoElement tag self.old start to at result }
-        ensures exact { result < to → is_at (result - start) (first_of (token_of tag) (part_of self.old start to)) ≡ true }
+        ensures exact { result < to
+            → is_at (result - start) (first_of (token_of tag) (part_of self.old start to)) ≡ true }
         ensures same { self.new ≡ self.old }
     {
         match tag {

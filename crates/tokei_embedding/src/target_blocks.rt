@@ -1,6 +1,7 @@
 //! Lingua Franca's blocks of the target language, and the target itself.
 ghost use Rattle.std.specs.Prelude.{◌≡◌, ◌+◌, ◌-◌, ◌≤◌, ◌<◌, IfSome, length, take, drop, option_map};
-ghost use Rattle.tokei_embedding.specs.TargetBlocks.{target_from, target_block, is_word, word_len, ends_line, ends_target, target_word, word_behind_blanks, target_here, target_of};
+ghost use Rattle.tokei_embedding.specs.TargetBlocks.{target_from, target_block, is_word, word_len, ends_line};
+ghost use Rattle.tokei_embedding.specs.TargetBlocks.{ends_target, target_word, word_behind_blanks, target_here, target_of};
 ghost use Rattle.tokei_embedding.specs.Seen.{target_seen};
 
 use crate::searches::{first_of, is_at};
@@ -40,7 +41,8 @@ pub fn target_at<'a>(text: &'a [u8], from: usize, place: usize, to: usize) -> Op
     requires order { from ≤ place }
     requires inside { place < to }
     requires ends { to ≤ length text.now }
-    ensures { option_map target_seen result ≡ target_block (take (to - from) (drop from text.now)) (place - from) (drop place text.now) }
+    ensures { option_map target_seen result
+        ≡ target_block (take (to - from) (drop from text.now)) (place - from) (drop place text.now) }
 {
     let here = &text[place..to];
     if !here.starts_with(OPENER) {
