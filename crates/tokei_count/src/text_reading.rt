@@ -130,7 +130,7 @@ fn read_notebook(
     let mut steps = 0;
     for cell in cells.as_slice() {
         let read = read_text(reader, cell.language, &cell.source, levels - 1)?;
-        add_blob(&mut blobs, cell.language, &read.stats)?;
+        add_blob(&mut blobs, cell.language, read.stats)?;
         steps = capped_sum(steps, read.steps);
     }
     let stats = CodeStats::assembled(alloc, Sums::new(), blobs);
@@ -216,7 +216,7 @@ pub(crate) fn read_text<'a>(
                     child.contents
                 };
                 let read = read_text(reader, child.language, inner, levels - 1)?;
-                add_blob(&mut blobs, child.language, &read.stats)?;
+                add_blob(&mut blobs, child.language, read.stats)?;
                 inner_steps = capped_sum(inner_steps, read.steps);
                 start = at + child.size;
                 left = text.len() - start;

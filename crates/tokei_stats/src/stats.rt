@@ -196,18 +196,18 @@ fn put(
 pub fn add_blob(
     blobs: &mut BTreeMap<LanguageType, CodeStats>,
     language: LanguageType,
-    stats: &CodeStats,
+    stats: CodeStats,
 ) -> Result<(), CountError>
     ensures ok { OnOk result (blobs_of (entries_of blobs.new.entries)
         ≡ put (blobs_of (entries_of blobs.old.entries)) language
-        (joined (at (blobs_of (entries_of blobs.old.entries)) language) (λ s. sum s (stats_of stats.now)) (stats_of stats.now))) }
+        (joined (at (blobs_of (entries_of blobs.old.entries)) language) (λ s. sum s (stats_of stats)) (stats_of stats))) }
     ensures err { OnErr result (blobs.new.entries ≡ blobs.old.entries) }
     ensures overflow { IsErrOf result CountError.Overflow
-        → fit_at (at (blobs_of (entries_of blobs.old.entries)) language) (λ s. sum_fits s (stats_of stats.now)) ≡ false }
+        → fit_at (at (blobs_of (entries_of blobs.old.entries)) language) (λ s. sum_fits s (stats_of stats)) ≡ false }
 {
     let both = match blobs.get(&language) {
         Some(there) => stats.added_to(there)?,
-        None => stats.try_clone()?,
+        None => stats,
     };
     put(blobs, language, both)
 }

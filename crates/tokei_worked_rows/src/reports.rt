@@ -157,7 +157,7 @@ fn adds_blob(alloc: Global, there: usize, code: usize) -> Result<bool, CountErro
     let mut blobs = old.try_clone()?.stats.blobs;
     let mut more = CodeStats::new(alloc);
     more.code = code;
-    match add_blob(&mut blobs, language, &more) {
+    match add_blob(&mut blobs, language, more) {
         Ok(()) => Ok(
             blobs
                 == report_with_blob(alloc, language, there.wrapping_add(code))?

@@ -9,7 +9,7 @@ use Rattle.tokei_stats.specs.Seen.{stats_of}
 use Rattle.tokei_stats.specs.declared.error.CountError.TheVariants.{Overflow}
 use Rattle.tokei_stats.proofs.Adding.{put_one, at_entries}
 use Rattle.tokei_stats.proofs.stats.add_blob.Goals as goal
-use Rattle.tokei_stats.proofs.stats.add_blob.Goals.{in-Some+in_ok-both-in-Some, in-None+in_ok-both-in-None}
+use Rattle.tokei_stats.proofs.stats.add_blob.Goals.{in-Some+in_ok-both-in-Some, in-None}
 
 on_ok : {A B : Type 0} {P Q : Type 0} (r : Result A B) → (P → Q) → OnOk r P → OnOk r Q
 on_ok (Ok x) f h = f h
@@ -20,14 +20,14 @@ returns-in_err-both-in-Some-clause-overflow c =
     let p = err_from_is_err_and c.from_residual.result c.from_residual.ensures.1 in
     rw (p.1, p.2) (λ is.
     let same : c.in_err-both-in-Some.field-0.0 ≡ Overflow = cc in
-    ap (λ o. fit_at o (λ s. sum_fits s (stats_of c.args.stats.now))) (at_entries c.args.blobs.now.entries c.args.language ∙ ap (option_map stats_of) (sym c.in-Some.ensures.value))
+    ap (λ o. fit_at o (λ s. sum_fits s (stats_of c.args.stats))) (at_entries c.args.blobs.now.entries c.args.language ∙ ap (option_map stats_of) (sym c.in-Some.ensures.value))
     ∙ c.in_err-both-in-Some.ensures.overflow (ap Err same))
 
 pub returns-clause-ok : goal.returns-clause-ok
 returns-clause-ok c =
-    let joined_is : stats_of c.match-get.both ≡ joined (option_map stats_of (lookup (is_at (nat_cmp c.args.language)) c.args.blobs.now.entries)) (λ s. sum s (stats_of c.args.stats.now)) (stats_of c.args.stats.now) =
+    let joined_is : stats_of c.match-get.both ≡ joined (option_map stats_of (lookup (is_at (nat_cmp c.args.language)) c.args.blobs.now.entries)) (λ s. sum s (stats_of c.args.stats)) (stats_of c.args.stats) =
     elim c.match-get.branch [
-      | in-Some+in_ok-both-in-Some w ↦ ap stats_of w.both-is ∙ w.in_ok-both-in-Some.ensures.ok ∙ ap (λ o. joined (option_map stats_of o) (λ s. sum s (stats_of c.args.stats.now)) (stats_of c.args.stats.now)) w.in-Some.ensures.value
-      | in-None+in_ok-both-in-None w ↦ ap stats_of w.both-is ∙ w.in_ok-both-in-None.ensures.ok ∙ ap (λ o. joined (option_map stats_of o) (λ s. sum s (stats_of c.args.stats.now)) (stats_of c.args.stats.now)) w.in-None.ensures.value
+      | in-Some+in_ok-both-in-Some w ↦ ap stats_of w.both-is ∙ w.in_ok-both-in-Some.ensures.ok ∙ ap (λ o. joined (option_map stats_of o) (λ s. sum s (stats_of c.args.stats)) (stats_of c.args.stats)) w.in-Some.ensures.value
+      | in-None w ↦ ap stats_of w.both-is ∙ ap (λ o. joined (option_map stats_of o) (λ s. sum s (stats_of c.args.stats)) (stats_of c.args.stats)) w.in-None.ensures.value
     ] in
-    on_ok c.put.result (λ e. put_one c.args.blobs.now.entries c.put.new.blobs.entries c.args.language c.match-get.both c.args.stats.now joined_is e) c.put.ensures.ok
+    on_ok c.put.result (λ e. put_one c.args.blobs.now.entries c.put.new.blobs.entries c.args.language c.match-get.both c.args.stats joined_is e) c.put.ensures.ok
