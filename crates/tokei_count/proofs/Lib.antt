@@ -39,6 +39,7 @@ pub mod StepsBetween
 pub mod Pieces
 pub mod LineEnds
 pub mod TextReading
+pub mod UnderWay
 pub mod KnownLanguages
 pub mod ListedLanguages
 pub mod NotebookReading

@@ -57,7 +57,7 @@ module _ (rows : List Row) (docs : Bool) (levels language : ℕ) (text : List �
   all_counts = plus (counts_left g block (length text) docs [] text) (shares all_kids)
 
   -- what was read so far and what is left are the whole
-  pub record IsUnderWay (own : Counts) (blobs : Blobs) (l : ℕ) (c : Chain) (rest : List ℕ) : Type 0 where
+  pub record IsCounted (own : Counts) (blobs : Blobs) (l : ℕ) (c : Chain) (rest : List ℕ) : Type 0 where
     pub counts : plus own (plus (counts_left g block l docs c rest) (shares (children_left g block l c rest))) ≡ all_counts
     pub kids : gathered read blobs (children_left g block l c rest) ≡ gathered read none all_kids
 
@@ -89,7 +89,7 @@ module _ (rows : List Row) (docs : Bool) (levels language : ℕ) (text : List �
       by_levels (suc n) e h = absurd (omega (arith, e))
 
   -- at the end nothing is left
-  pub read_whole : (own : Counts) (blobs : Blobs) (l : ℕ) (c : Chain) → is_notebook g ≡ false → IsUnderWay own blobs l c [] → node own blobs ≡ whole
+  pub read_whole : (own : Counts) (blobs : Blobs) (l : ℕ) (c : Chain) → is_notebook g ≡ false → IsCounted own blobs l c [] → node own blobs ≡ whole
   read_whole own blobs l c n u =
       let no_kids : children_left g block l c [] ≡ [] = children_left-none g block l docs c in
       let own_is : own ≡ all_counts = sym (done_on own)
@@ -99,9 +99,9 @@ module _ (rows : List Row) (docs : Bool) (levels language : ℕ) (text : List �
       let blobs_are : blobs ≡ gathered read none all_kids = ap (gathered read blobs) (sym no_kids) ∙ u.kids in
       ap (λ m. node m blobs) own_is ∙ ap (node all_counts) blobs_are ∙ sym (reading-lines n)
 
-  module _ (own : Counts) (blobs : Blobs) (l : ℕ) (c : Chain) (rest : List ℕ) (u : IsUnderWay own blobs l c rest) where
+  module _ (own : Counts) (blobs : Blobs) (l : ℕ) (c : Chain) (rest : List ℕ) (u : IsCounted own blobs l c rest) where
     -- a line
-    pub line_read : (n : ℕ) (class : Class) (d : Chain) → {j : ℕ} → ReadsLine g block l docs c n j class d rest → IsUnderWay (plus own (one_of class)) blobs l d (drop n rest)
+    pub line_read : (n : ℕ) (class : Class) (d : Chain) → {j : ℕ} → ReadsLine g block l docs c n j class d rest → IsCounted (plus own (one_of class)) blobs l d (drop n rest)
     line_read n class d r =
         let left : Counts = counts_left g block l docs d (drop n rest) in
         let kids : List Block = children_left g block l d (drop n rest) in
@@ -127,7 +127,7 @@ module _ (rows : List Row) (docs : Bool) (levels language : ℕ) (text : List �
       kids_here : children_left g block l c rest ≡ k ∷ children_left g block l' [] behind
       kids_here = r.kids
 
-      pub child_read : IsUnderWay (plus own k.share) with_child l' [] behind
+      pub child_read : IsCounted (plus own k.share) with_child l' [] behind
       child_read =
           let left : Counts = counts_left g block l' docs [] behind in
           let more : Counts = shares (children_left g block l' [] behind) in

@@ -37,4 +37,5 @@ pub mod PlainBytes
 pub mod Progress
 pub mod Readers
 pub mod ReadingOf
+pub mod UnderWay
 pub mod Walked

@@ -1,22 +1,30 @@
 //! Texts are read part by part: each is walked, or skipped where nothing can open in it.
-ghost use Rattle.std.specs.Prelude.{◌≡◌, ◌+◌, ◌<◌, true, false, None, Some, is_some, length, map, IfOk, IsErrOf, IsOk};
+ghost use Rattle.std.specs.Prelude.{◌≡◌, ◌+◌, ◌<◌, true, false, [], None, Some, drop, is_some, length, map};
+ghost use Rattle.std.specs.Prelude.{IfOk, IsErrOf, IsOk, OnOk};
 ghost use Rattle.tokei_table.specs.FirstOpener.{first_opener};
 ghost use Rattle.tokei_table.specs.Lookups.{row_at};
 ghost use Rattle.tokei_table.specs.Openers.{openers};
 ghost use Rattle.tokei_table.specs.RowOf.{row_of};
+ghost use Rattle.tokei_table.specs.WellFormed.{has_tokens};
 ghost use Rattle.tokei_embedding.specs.DocComments.{doc_text};
+ghost use Rattle.tokei_count.specs.Glance.{holds, is_walked};
 ghost use Rattle.tokei_count.specs.Languages.{is_notebook};
+ghost use Rattle.tokei_count.specs.Lines.{line_len};
 ghost use Rattle.tokei_count.specs.Matchers.{matchers_of};
 ghost use Rattle.tokei_stats.specs.Overflow.{Fits};
 ghost use Rattle.tokei_count.specs.PlainReading.{one_of};
 ghost use Rattle.tokei_count.specs.Places.{IsAt, block_here, text_of};
+ghost use Rattle.tokei_count.specs.Modes.{innermost};
 ghost use Rattle.tokei_count.specs.Readers.{reading_by, steps_by};
-ghost use Rattle.tokei_count.specs.Seen.{block_of};
+ghost use Rattle.tokei_count.specs.ReadingOf.{line_from, openers_in, reading_of, row_in};
+ghost use Rattle.tokei_count.specs.Seen.{block_of, chain_of};
 ghost use Rattle.tokei_count.specs.Steps.{capped};
+ghost use Rattle.tokei_count.specs.UnderWay.{IsReadBy, IsUnderWay, reading_inside, steps_inside};
 ghost use Rattle.tokei_stats.specs.Seen.{stats_of, sums_of};
 
 use crate::class::{Class, class_by};
 use crate::glance::is_glanced;
+use crate::items::Enclosure;
 use crate::line_ends::{line_end, line_len, line_stop};
 use crate::openings::{Block, block_at};
 use crate::place::Place;
@@ -137,6 +145,138 @@ fn read_notebook(
     Ok(TextRead { stats, steps })
 }
 
+/// What was read of a text, up to where its next part begins.
+#[derive(Drop)]
+pub(crate) struct ReadSoFar<'a> {
+    pub own: Sums,
+    pub blobs: BTreeMap<LanguageType, CodeStats>,
+    /// How many choices were made in the text itself.
+    pub own_steps: usize,
+    /// How many were made in its children, or the greatest number where they were more.
+    pub inner_steps: u128,
+    /// How many bytes were left behind the last child.
+    pub left: usize,
+    /// Where the next part begins.
+    pub start: usize,
+    /// The items that enclose that place.
+    pub stack: Vec<Enclosure<'a>>,
+    pub search: BlockSearch<'a>,
+}
+
+impl<'a> ReadSoFar<'a> {
+    /// Nothing yet; takes no memory.
+    fn new(alloc: Global, reading: &Reading<'a>) -> ReadSoFar<'a>
+        requires lines { is_notebook (row_in reading.now) ≡ false }
+        requires tokens { has_tokens (row_in reading.now) ≡ true }
+        ensures under_way { IsUnderWay reading.now result }
+        ensures start { result.start ≡ 0 }
+    {
+        ReadSoFar {
+            own: Sums::new(),
+            blobs: BTreeMap::new(alloc),
+            own_steps: 0,
+            inner_steps: 0,
+            left: reading.text.len(),
+            start: 0,
+            stack: Vec::new(alloc),
+            search: BlockSearch::new(reading.text),
+        }
+    }
+}
+
+/// Counts the next line, which is skipped and stops there.
+fn skip_line(reading: &Reading, so_far: &mut ReadSoFar, stop: usize) -> Result<(), CountError>
+    requires under_way { IsUnderWay reading.now so_far.old }
+    requires some { so_far.old.start < length reading.now.text.now }
+    requires stop { stop ≡ so_far.old.start + length (line_from reading.now so_far.old.start) }
+    requires plain { chain_of so_far.old.stack.items ≡ [] }
+    requires glanced { holds (openers_in reading.now) (line_from reading.now so_far.old.start) ≡ false }
+    ensures under_way { OnOk result (IsUnderWay reading.now so_far.new) }
+    ensures on { OnOk result (so_far.new.start ≡ stop) }
+    ensures quiet { reading.now.skips ≡ true
+        → first_opener (openers (row_in reading.now)) reading.now.text.now ≡ None → IsOk result }
+    ensures overflow { IsErrOf result CountError.Overflow → ¬ Fits (reading_of reading.now) }
+{
+    let glanced = class_by(reading, None, so_far.start, stop, None);
+    so_far.own = so_far.own.plus(counted_as(glanced))?;
+    so_far.start = stop;
+    Ok(())
+}
+
+/// The statistics of a child of the text, which is read with one level less.
+#[cycle(read_text)]
+fn read_child<'a>(
+    reader: Reader<'a>,
+    reading: &Reading<'a>,
+    child: &Block<'a>,
+) -> Result<TextRead, CountError>
+    requires reader { IsReadBy reader reading.now }
+    requires indexed { reader.matchers.now ≡ map matchers_of reader.table.now }
+    requires deep { 0 < reading.now.levels }
+    requires known { child.now.language < length reading.now.table.now }
+    ensures reads { IfOk result (λ r. stats_of r.stats ≡ reading_inside reading.now (block_of child.now)) }
+    ensures steps { reading.now.skips ≡ true
+        → IfOk result (λ r. r.steps ≡ capped (steps_inside reading.now (block_of child.now))) }
+    ensures overflow { IsErrOf result CountError.Overflow
+        → ¬ Fits (reading_inside reading.now (block_of child.now)) }
+{
+    let doc = said(reader.alloc, child)?;
+    let inner = if child.is_doc {
+        trim(&doc)
+    } else {
+        child.contents
+    };
+    read_text(reader, child.language, inner, reading.levels - 1)
+}
+
+/// Walks the next part, whose line goes to `end`, and counts that line, or reads the child that breaks the part off.
+#[cycle(read_text)]
+fn read_walked<'a>(
+    reader: Reader<'a>,
+    reading: &Reading<'a>,
+    so_far: &mut ReadSoFar<'a>,
+    end: usize,
+) -> Result<(), CountError>
+    requires reader { IsReadBy reader reading.now }
+    requires indexed { reader.matchers.now ≡ map matchers_of reader.table.now }
+    requires under_way { IsUnderWay reading.now so_far.old }
+    requires some { so_far.old.start < length reading.now.text.now }
+    requires end { end ≡ so_far.old.start + line_len (drop so_far.old.start reading.now.text.now) }
+    requires walked { reading.now.skips ≡ true
+        → is_walked (openers_in reading.now) (innermost (chain_of so_far.old.stack.items))
+        (line_from reading.now so_far.old.start) ≡ true }
+    ensures under_way { OnOk result (IsUnderWay reading.now so_far.new) }
+    ensures on { OnOk result (so_far.old.start < so_far.new.start) }
+    ensures overflow { IsErrOf result CountError.Overflow → ¬ Fits (reading_of reading.now) }
+{
+    let place = Place {
+        reading,
+        left: so_far.left,
+        start: so_far.start,
+        at: so_far.start,
+        end,
+    };
+    let part = read_part(&place, &mut so_far.search, &mut so_far.stack)?;
+    so_far.own_steps += part.steps;
+    match part.end {
+        PartEnd::Line(class, behind) => {
+            so_far.own = so_far.own.plus(counted_as(class))?;
+            so_far.start = behind;
+        }
+        PartEnd::Broken(at) => {
+            let there = Place { at, ..place };
+            let child = child_at(&there, &mut so_far.search);
+            so_far.own = so_far.own.plus(child.share())?;
+            let read = read_child(reader, reading, &child)?;
+            add_blob(&mut so_far.blobs, child.language, read.stats)?;
+            so_far.inner_steps = capped_sum(so_far.inner_steps, read.steps);
+            so_far.start = at + child.size;
+            so_far.left = reading.text.len() - so_far.start;
+        }
+    }
+    Ok(())
+}
+
 /// The statistics of a text, part by part. Its children are read with one level less.
 #[cycle(read_text)]
 pub(crate) fn read_text<'a>(
@@ -155,75 +295,34 @@ pub(crate) fn read_text<'a>(
     ensures overflow { IsErrOf result CountError.Overflow
         → ¬ Fits (reading_by reader.entry levels language text.now) }
 {
-    let alloc = reader.alloc;
     let syntax = reader.table.syntax(language);
     if is_notebook(syntax) {
         return read_notebook(reader, language, text, levels);
     }
-    let own_matchers = &reader.matchers[language.index()];
     let reading = Reading {
         table: reader.table,
         language,
         syntax,
         family: Family::of_key(syntax.key.as_str()),
-        matchers: own_matchers,
+        matchers: &reader.matchers[language.index()],
         text,
         docs: reader.docs,
         levels,
         skips: reader.skips,
     };
-    let mut search = BlockSearch::new(text);
-    let mut stack = Vec::new(alloc);
-    let mut own = Sums::new();
-    let mut blobs = BTreeMap::new(alloc);
-    let mut own_steps = 0;
-    let mut inner_steps = 0;
-    let mut left = text.len();
+    let mut so_far = ReadSoFar::new(reader.alloc, &reading);
     let mut next = 0;
-    let mut start = 0;
     let mut end = line_len(text);
-    while start < text.len() {
-        end = line_end(text, start, end);
+    while so_far.start < text.len() {
+        end = line_end(text, so_far.start, end);
         let stop = line_stop(text, end);
-        if is_glanced(&reading, &stack, start, stop, &mut next) {
-            let glanced = class_by(&reading, None, start, stop, None);
-            own = own.plus(counted_as(glanced))?;
-            start = stop;
-            continue;
-        }
-        let place = Place {
-            reading: &reading,
-            left,
-            start,
-            at: start,
-            end,
-        };
-        let part = read_part(&place, &mut search, &mut stack)?;
-        own_steps += part.steps;
-        match part.end {
-            PartEnd::Line(class, behind) => {
-                own = own.plus(counted_as(class))?;
-                start = behind;
-            }
-            PartEnd::Broken(at) => {
-                let there = Place { at, ..place };
-                let child = child_at(&there, &mut search);
-                own = own.plus(child.share())?;
-                let doc = said(alloc, &child)?;
-                let inner = if child.is_doc {
-                    trim(&doc)
-                } else {
-                    child.contents
-                };
-                let read = read_text(reader, child.language, inner, levels - 1)?;
-                add_blob(&mut blobs, child.language, read.stats)?;
-                inner_steps = capped_sum(inner_steps, read.steps);
-                start = at + child.size;
-                left = text.len() - start;
-            }
+        if is_glanced(&reading, &so_far.stack, so_far.start, stop, &mut next) {
+            skip_line(&reading, &mut so_far, stop)?;
+        } else {
+            read_walked(reader, &reading, &mut so_far, end)?;
         }
     }
-    let stats = CodeStats::assembled(alloc, own, blobs);
-    let steps = capped_sum(inner_steps, own_steps as u128);
+    let stats = CodeStats::assembled(reader.alloc, so_far.own, so_far.blobs);
+    let steps = capped_sum(so_far.inner_steps, so_far.own_steps as u128);
     Ok(TextRead { stats, steps })
 }

@@ -1,0 +1,251 @@
+-- A text that is under way goes on by a line, or by a part that a child breaks off and the child.
+use Rattle.std.proofs.Common.{◌≡◌, ℕ, zero, suc, ◌+◌, ◌-◌, ◌<◌, ◌≤◌, true, false, List, [], ◌∷◌, length, take, drop, None, Some, refl, sym, ◌∙◌, ap, subst, arith, length-drop}
+use Rattle.std.proofs.lemmas.List.{drop-drop, drop_all}
+use Rattle.std.specs.Global.{Vec}
+use Rattle.tokei_table.specs.FirstOpener.{first_opener}
+use Rattle.tokei_table.specs.Openers.{openers}
+use Rattle.tokei_count.specs.Class.{class_of}
+use Rattle.tokei_count.specs.Glance.{holds, is_walked}
+use Rattle.tokei_count.specs.Glanced.{AreInLine}
+use Rattle.tokei_count.specs.Items.{Block}
+use Rattle.tokei_count.specs.Lines.{first_line, line_len}
+use Rattle.tokei_count.specs.Modes.{Chain, innermost}
+use Rattle.tokei_count.specs.Openings.{languages_of}
+use Rattle.tokei_count.specs.PlainReading.{one_of}
+use Rattle.tokei_count.specs.Progress.{IsClosable, IsPart, ReadsLine}
+use Rattle.tokei_count.specs.ReadingOf.{row_in, blocks_of, reading_of, openers_in, line_from}
+use Rattle.tokei_count.specs.Seen.{chain_of}
+use Rattle.tokei_count.specs.Steps.{steps, capped}
+use Rattle.tokei_count.specs.UnderWay.{IsUnderWay, reading_inside, steps_inside}
+use Rattle.tokei_count.specs.Walked.{ReadsTo, Breaks}
+use Rattle.tokei_count.specs.declared.class.Class.{Class}
+use Rattle.tokei_count.specs.declared.items.Enclosure.{Enclosure}
+use Rattle.tokei_count.specs.declared.reading.Reading.{Reading}
+use Rattle.tokei_count.specs.declared.text_reading.ReadSoFar.{ReadSoFar}
+use Rattle.tokei_count.specs.declared.walk.PartEnd.TheVariants.{Line, Broken}
+use Rattle.tokei_stats.specs.Overflow.{CountsFit, Fits, fit_at, sum_fits}
+use Rattle.tokei_stats.specs.Seen.{sums_of, blobs_of, entries_of}
+use Rattle.tokei_stats.specs.Statistics.{Counts, Blobs, lines_of, plus, at, put, joined, sum}
+use Rattle.tokei_stats.specs.Statistics.Statistics.{node}
+use Rattle.tokei_stats.specs.declared.sums.Sums.{Sums}
+use Rattle.tokei_count.proofs.GlanceReading.{glance_reads, glance_walked}
+use Rattle.tokei_count.proofs.KnownLanguages.{blocks_known}
+use Rattle.tokei_count.proofs.Lines.{take-first}
+use Rattle.tokei_count.proofs.PartFronts.{part_behind}
+use Rattle.tokei_count.proofs.StepReading.{AreUnderWay, not_walked, lines_of-one, steps_whole, line_steps, line_skipped, broken_steps, glance_part, line_some}
+use Rattle.tokei_count.proofs.TextReading.{IsCounted, read_whole, line_read, child_read, line_fits, share_fits, child_fits, blob_fits, levels_left}
+use Rattle.tokei_count.proofs.TokenOpeners.{openers_in_line}
+
+-- the openers that parts are searched for are those of the language
+pub openers_are : (r : Reading) → openers_in r ≡ openers (row_in r)
+openers_are r = ap (λ m. m.openers) r.matched
+
+some_same : (a b : Block) → Some a ≡ Some b → a ≡ b
+some_same a b e = cc
+
+drop_none : {A : Type 0} (xs : List A) → drop 0 xs ≡ xs
+drop_none [] = refl
+drop_none (x ∷ xs) = refl
+
+-- where the text's first line goes to
+pub first_end : (t : List ℕ) (start end : ℕ) → start ≡ 0 → end ≡ line_len t → end ≡ start + line_len (drop start t)
+first_end t start end none is = omega (arith, none, is, ap (λ n. line_len (drop n t)) none ∙ ap line_len (drop_none t))
+
+module _ (r : Reading) (p : ReadSoFar) (way : IsUnderWay r p) where
+  abbrev text : List ℕ
+  text = r.text.now
+
+  abbrev c : Chain
+  c = chain_of p.stack.items
+
+  abbrev rest : List ℕ
+  rest = drop p.start text
+
+  abbrev own : Counts
+  own = sums_of p.own
+
+  abbrev blobs : Blobs
+  blobs = blobs_of (entries_of p.blobs.entries)
+
+  counted : IsCounted r.table.now r.docs r.levels r.language text own blobs p.left c rest
+  counted = record { counts = way.counts; kids = way.kids }
+
+  stepped : r.skips ≡ true → AreUnderWay r.table.now r.levels r.language text p.own_steps p.inner_steps p.left c rest
+  stepped skipped = record { own = way.steps skipped; inner = way.inner skipped }
+
+  in_line : AreInLine (openers (row_in r))
+  in_line = openers_in_line (row_in r) way.tokens
+
+  pub openers_lines : AreInLine (openers_in r)
+  openers_lines = subst AreInLine (sym (openers_are r)) in_line
+
+  -- at the end all is read
+  pub all_read : length text ≤ p.start → node own blobs ≡ reading_of r
+  all_read over = read_whole r.table.now r.docs r.levels r.language text own blobs p.left c way.lines
+      (subst (IsCounted r.table.now r.docs r.levels r.language text own blobs p.left c) (drop_all p.start text over) counted)
+
+  pub all_made : r.skips ≡ true → length text ≤ p.start → capped (p.inner_steps + p.own_steps) ≡ capped (steps (languages_of r.table.now) r.levels r.language text)
+  all_made skipped over = steps_whole r.table.now r.levels r.language text p.own_steps p.inner_steps p.left c way.lines
+      (subst (AreUnderWay r.table.now r.levels r.language text p.own_steps p.inner_steps p.left c) (drop_all p.start text over) (stepped skipped))
+
+  -- in a text without opener nothing is walked
+  pub unwalked : r.skips ≡ true → first_opener (openers (row_in r)) text ≡ None → is_walked (openers_in r) (innermost c) (line_from r p.start) ≡ true → ⊥
+  unwalked skipped none walked = not_walked (openers (row_in r)) text p.start c in_line none (way.quiet skipped none).0
+      (ap (λ os. is_walked os (innermost c) (first_line rest)) (sym (openers_are r)) ∙ walked)
+
+  -- it goes on by a line that ends before the place `behind`
+  module _ (class : Class) (behind j : ℕ) (s : Vec Enclosure) (low : p.start < behind) (line : ReadsLine (row_in r) (blocks_of r) p.left r.docs c (behind - p.start) j class (chain_of s.items) rest) where
+    abbrev n : ℕ
+    n = behind - p.start
+
+    abbrev d : Chain
+    d = chain_of s.items
+
+    there : drop n rest ≡ drop behind text
+    there = let place : p.start + n ≡ behind = omega (arith, low) in drop-drop n p.start text ∙ ap (λ m. drop m text) place
+
+    line_sum_fits : Fits (reading_of r) → CountsFit (plus own (one_of class))
+    line_sum_fits fits = line_fits r.table.now r.docs r.levels r.language text own blobs p.left c rest counted n class d line way.lines fits
+
+    line_on : (o : Sums) (m : ℕ) (h : List ℕ) → sums_of o ≡ plus own (one_of class) → h ≡ text → m ≤ behind → (behind < length text → IsPart text p.left behind behind)
+        → (r.skips ≡ true → AreUnderWay r.table.now r.levels r.language text m p.inner_steps p.left d (drop n rest))
+        → (r.skips ≡ true → first_opener (openers (row_in r)) text ≡ None → (d ≡ []) × (lines_of (sums_of o) ≤ behind))
+        → IsUnderWay r (record { own = o; blobs = p.blobs; own_steps = m; inner_steps = p.inner_steps; left = p.left; start = behind; stack = s; search = h })
+    line_on o m h own_is searched few part taken quiet =
+        let went : IsCounted r.table.now r.docs r.levels r.language text (plus own (one_of class)) blobs p.left d (drop n rest) = line_read r.table.now r.docs r.levels r.language text own blobs p.left c rest counted n class d line in
+        let moved : IsCounted r.table.now r.docs r.levels r.language text (plus own (one_of class)) blobs p.left d (drop behind text) = subst (IsCounted r.table.now r.docs r.levels r.language text (plus own (one_of class)) blobs p.left d) there went in
+        let now : IsCounted r.table.now r.docs r.levels r.language text (sums_of o) blobs p.left d (drop behind text) = subst (λ (m : Counts). IsCounted r.table.now r.docs r.levels r.language text m blobs p.left d (drop behind text)) (sym own_is) moved in
+        let made = λ (skipped : r.skips ≡ true). subst (AreUnderWay r.table.now r.levels r.language text m p.inner_steps p.left d) there (taken skipped) in
+        record {
+          lines = way.lines;
+          tokens = way.tokens;
+          closable = line.closable;
+          within = omega (arith, line.within, length-drop p.start text, low);
+          part = part;
+          searched = searched;
+          counts = now.counts;
+          kids = now.kids;
+          few = few;
+          steps = λ skipped. (made skipped).own;
+          inner = λ skipped. (made skipped).inner;
+          quiet = quiet;
+        }
+
+  -- by what is seen of the stack
+  pub walked_here : (e : Chain) → e ≡ c → is_walked (openers_in r) (innermost e) (line_from r p.start) ≡ true → is_walked (openers_in r) (innermost c) (line_from r p.start) ≡ true
+  walked_here e is walked = ap (λ d. is_walked (openers_in r) (innermost d) (line_from r p.start)) (sym is) ∙ walked
+
+  -- a line that is skipped, which stops there
+  module _ (class : Class) (stop : ℕ) (some : p.start < length text) (plain : c ≡ []) (stop_is : stop ≡ p.start + length (first_line rest)) (none : holds (openers_in r) (first_line rest) ≡ false)
+      (class_is : class ≡ class_of (row_in r) r.docs (record { begun = None; bytes = take (stop - p.start) rest; ended = None })) where
+    size : stop - p.start ≡ length (first_line rest)
+    size = omega (arith, stop_is)
+
+    low : p.start < stop
+    low = omega (arith, stop_is, line_some text p.start some)
+
+    holds_none : holds (openers (row_in r)) (first_line rest) ≡ false
+    holds_none = ap (λ os. holds os (first_line rest)) (sym (openers_are r)) ∙ none
+
+    line : (j : ℕ) × ReadsLine (row_in r) (blocks_of r) p.left r.docs c (stop - p.start) j class c rest
+    line = glance_reads r.table.now r.docs r.levels r.language text p.left rest class c (stop - p.start) plain size way.tokens (omega (arith, length-drop p.start text, some)) holds_none class_is
+
+    pub skipped_fits : Fits (reading_of r) → CountsFit (plus own (one_of class))
+    skipped_fits fits = line_sum_fits class stop line.0 p.stack low line.1 fits
+
+    pub skipped_on : (o : Sums) → sums_of o ≡ plus own (one_of class) → IsUnderWay r (record { own = o; blobs = p.blobs; own_steps = p.own_steps; inner_steps = p.inner_steps; left = p.left; start = stop; stack = p.stack; search = p.search })
+    skipped_on o own_is = line_on class stop line.0 p.stack low line.1 o p.own_steps p.search own_is way.searched (omega (arith, way.few, low))
+        (λ more. glance_part text p.left p.start stop (way.part some) stop_is some more)
+        (λ skipped. line_skipped r.table.now r.levels r.language text p.own_steps p.inner_steps p.left c rest (stepped skipped) r.docs (stop - p.start) line.0 class c line.1
+        (glance_walked (openers (row_in r)) c (stop - p.start) rest plain size holds_none))
+        (λ skipped quiet. (plain, omega (arith, (way.quiet skipped quiet).1, ap lines_of own_is, lines_of-one own class, low)))
+
+  -- a part that is walked to the end of its line, by so many steps
+  module _ (class : Class) (behind made : ℕ) (s : Vec Enclosure) (part : ReadsTo (row_in r) (blocks_of r) p.left r.docs c (chain_of s.items) p.start text made (Line class behind)) where
+    pub walked_fits : Fits (reading_of r) → CountsFit (plus own (one_of class))
+    walked_fits fits = line_sum_fits class behind made s part.0 part.5 fits
+
+    pub walked_on : (o : Sums) (h : List ℕ) → sums_of o ≡ plus own (one_of class) → h ≡ text → (r.skips ≡ true → is_walked (openers_in r) (innermost c) (first_line rest) ≡ true)
+        → IsUnderWay r (record { own = o; blobs = p.blobs; own_steps = p.own_steps + made; inner_steps = p.inner_steps; left = p.left; start = behind; stack = s; search = h })
+    walked_on o h own_is searched walked =
+        let size : behind - p.start ≡ length (first_line rest) = omega (arith, part.4) in
+        let reach : take (behind - p.start) rest ≡ first_line rest = ap (λ m. take m rest) size ∙ take-first rest in
+        let held = λ (skipped : r.skips ≡ true). ap (λ os. is_walked os (innermost c) (first_line rest)) (sym (openers_are r)) ∙ walked skipped in
+        line_on class behind made s part.0 part.5 o (p.own_steps + made) h own_is searched (omega (arith, way.few, part.0, part.3)) part.2
+        (λ skipped. line_steps r.table.now r.levels r.language text p.own_steps p.inner_steps p.left c rest (stepped skipped) r.docs (behind - p.start) made class (chain_of s.items) part.5
+        (ap (is_walked (openers (row_in r)) (innermost c)) reach ∙ held skipped))
+        (λ skipped none. absurd (unwalked skipped none (walked skipped)))
+
+  -- a part that is walked to the place at which a child breaks it off, and the child k
+  module _ (place made : ℕ) (d : Chain) (k : Block) (part : ReadsTo (row_in r) (blocks_of r) p.left r.docs c d p.start text made (Broken place)) (opens : blocks_of r p.left (drop place text) ≡ Some k) where
+    abbrev before : ℕ
+    before = place - p.start
+
+    abbrev j : ℕ
+    j = part.1
+
+    breaks : Breaks (row_in r) (blocks_of r) p.left r.docs c d p.start text place j k
+    breaks = subst (Breaks (row_in r) (blocks_of r) p.left r.docs c d p.start text place j) (some_same part.0 k (sym part.3.opens ∙ opens)) part.3
+
+    len : length rest ≡ length text - p.start
+    len = length-drop p.start text
+
+    pub child_deep : 0 < r.levels
+    child_deep = levels_left r.table.now r.levels r.language text p.left (drop place text) k opens
+
+    pub child_known : k.language < length r.table.now
+    child_known = blocks_known r.table.now r.language text r.known r.levels p.left (drop place text) k opens
+
+    pub child_within : place + k.size ≤ length text
+    child_within = omega (arith, breaks.reads.within, len, breaks.part.low, breaks.part.high)
+
+    pub broken_fits : Fits (reading_of r) → CountsFit (plus own k.share)
+    broken_fits fits = share_fits r.table.now r.docs r.levels r.language text own blobs p.left c rest counted before j k d breaks.reads way.lines fits
+
+    pub inner_fits : Fits (reading_of r) → Fits (reading_inside r k)
+    inner_fits fits = child_fits r.table.now r.docs r.levels r.language text own blobs p.left c rest counted before j k d breaks.reads way.lines fits
+
+    pub added_fits : Fits (reading_of r) → fit_at (at blobs k.language) (λ o. sum_fits o (reading_inside r k)) ≡ true
+    added_fits fits = blob_fits r.table.now r.docs r.levels r.language text own blobs p.left c rest counted before j k d breaks.reads way.lines fits
+
+    pub broken_on : (q : ReadSoFar) → sums_of q.own ≡ plus own k.share
+        → blobs_of (entries_of q.blobs.entries) ≡ put blobs k.language (joined (at blobs k.language) (λ s. sum s (reading_inside r k)) (reading_inside r k))
+        → q.own_steps ≡ p.own_steps + made → (r.skips ≡ true → q.inner_steps ≡ capped (p.inner_steps + capped (steps_inside r k)))
+        → q.left ≡ length text - (place + k.size) → q.start ≡ place + k.size → chain_of q.stack.items ≡ d → q.search ≡ text
+        → (r.skips ≡ true → is_walked (openers_in r) (innermost c) (first_line rest) ≡ true) → IsUnderWay r q
+    broken_on q own_is blobs_are made_is inner_is left_is start_is chain_is searched walked =
+        let plain : chain_of q.stack.items ≡ [] = chain_is ∙ breaks.reads.plain in
+        let low : p.start ≤ place = breaks.part.low in
+        let left' : length rest - (before + k.size) ≡ q.left = omega (arith, len, low, left_is) in
+        let there : drop (before + k.size) rest ≡ drop q.start text = let at_place : p.start + (before + k.size) ≡ q.start = omega (arith, low, start_is) in drop-drop (before + k.size) p.start text ∙ ap (λ m. drop m text) at_place in
+        let own_steps_are : p.own_steps + (j + 1) ≡ q.own_steps = omega (arith, made_is, part.2) in
+        let within : q.start ≤ length text = omega (arith, child_within, start_is) in
+        let went = child_read r.table.now r.docs r.levels r.language text own blobs p.left c rest counted before j k d breaks.reads in
+        let with_k : Blobs = put blobs k.language (joined (at blobs k.language) (λ s. sum s (reading_inside r k)) (reading_inside r k)) in
+        let went1 = subst (λ (m : Counts). IsCounted r.table.now r.docs r.levels r.language text m with_k (length rest - (before + k.size)) [] (drop (before + k.size) rest)) (sym own_is) went in
+        let went2 = subst (λ (bs : Blobs). IsCounted r.table.now r.docs r.levels r.language text (sums_of q.own) bs (length rest - (before + k.size)) [] (drop (before + k.size) rest)) (sym blobs_are) went1 in
+        let went3 = subst (λ (m : ℕ). IsCounted r.table.now r.docs r.levels r.language text (sums_of q.own) (blobs_of (entries_of q.blobs.entries)) m [] (drop (before + k.size) rest)) left' went2 in
+        let went4 = subst (λ (e : Chain). IsCounted r.table.now r.docs r.levels r.language text (sums_of q.own) (blobs_of (entries_of q.blobs.entries)) q.left e (drop (before + k.size) rest)) (sym plain) went3 in
+        let now = subst (IsCounted r.table.now r.docs r.levels r.language text (sums_of q.own) (blobs_of (entries_of q.blobs.entries)) q.left (chain_of q.stack.items)) there went4 in
+        let held = λ (skipped : r.skips ≡ true). ap (λ os. is_walked os (innermost c) (first_line rest)) (sym (openers_are r)) ∙ walked skipped in
+        let taken = λ (skipped : r.skips ≡ true).
+        let stepped1 = broken_steps r.table.now r.levels r.language text p.own_steps p.inner_steps p.left c rest (stepped skipped) r.docs before j k d breaks.reads (held skipped) in
+        let stepped2 = subst (λ m. AreUnderWay r.table.now r.levels r.language text m (capped (p.inner_steps + capped (steps_inside r k))) (length rest - (before + k.size)) [] (drop (before + k.size) rest)) own_steps_are stepped1 in
+        let stepped3 = subst (λ m. AreUnderWay r.table.now r.levels r.language text q.own_steps m (length rest - (before + k.size)) [] (drop (before + k.size) rest)) (sym (inner_is skipped)) stepped2 in
+        let stepped4 = subst (λ m. AreUnderWay r.table.now r.levels r.language text q.own_steps q.inner_steps m [] (drop (before + k.size) rest)) left' stepped3 in
+        let stepped5 = subst (λ (e : Chain). AreUnderWay r.table.now r.levels r.language text q.own_steps q.inner_steps q.left e (drop (before + k.size) rest)) (sym plain) stepped4 in
+        subst (AreUnderWay r.table.now r.levels r.language text q.own_steps q.inner_steps q.left (chain_of q.stack.items)) there stepped5 in
+        record {
+          lines = way.lines;
+          tokens = way.tokens;
+          closable = subst IsClosable (sym plain) tt;
+          within = within;
+          part = λ more. let left_there : length text - q.start ≡ q.left = omega (arith, left_is, start_is) in subst (λ l. IsPart text l q.start q.start) left_there (part_behind text q.start within);
+          searched = searched;
+          counts = now.counts;
+          kids = now.kids;
+          few = omega (arith, way.few, made_is, part.2, breaks.few, breaks.reads.some, low, start_is);
+          steps = λ skipped. (taken skipped).own;
+          inner = λ skipped. (taken skipped).inner;
+          quiet = λ skipped none. absurd (unwalked skipped none (walked skipped));
+        }
