@@ -4,6 +4,7 @@ use Rattle.std.specs.Prelude.{List, [], ◌∷◌, Option, None, Some, is_some, 
 use Rattle.std.specs.List.{list_any}
 use Rattle.std.specs.Str.{bytes_eq}
 use Rattle.tokei_table.specs.Bytes.{begins}
+use Rattle.tokei_table.specs.Escapes.{backslash}
 use Rattle.tokei_table.specs.Row.{Pair, Row}
 use Rattle.tokei_count.specs.Items.{Block, Mode}
 use Rattle.tokei_count.specs.declared.items.Kind.{Kind}
@@ -35,7 +36,7 @@ or_else (Some a) f b = f a
 -- an escape is a backslash before a backslash, or before an opener of `quotes`; both are two bytes long
 abbrev pub is_escape : Row → List ℕ → Bool
 is_escape r [] = false
-is_escape r (b ∷ t) = (b == 92) && (begins (92 ∷ []) t || is_some (opened r.quotes t))
+is_escape r (b ∷ t) = (b == backslash) && (begins (backslash ∷ []) t || is_some (opened r.quotes t))
 
 -- the pair, with both its texts, stands in the list
 abbrev pub has_pair : List Pair → Pair → Bool

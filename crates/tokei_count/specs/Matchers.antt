@@ -1,6 +1,7 @@
 -- What the texts of a language are searched and walked with.
 use Rattle.std.specs.Prelude.{ℕ, zero, suc, Bool, ◌||◌, ◌==◌, List, [], ◌∷◌, ◌++◌}
 use Rattle.std.specs.List.{list_any}
+use Rattle.tokei_table.specs.Escapes.{backslash}
 use Rattle.tokei_table.specs.FirstOpener.{is_first_of}
 use Rattle.tokei_table.specs.Openers.{openers}
 use Rattle.tokei_table.specs.Row.{Pair, Row}
@@ -13,13 +14,13 @@ begins_opener ps b = list_any (λ p. is_first_of b p.opener) ps
 -- opener or a line comment.
 abbrev pub begins_choice : Row → ℕ → Bool
 begins_choice r b =
-    (b == 92) || (begins_opener r.quotes b || (begins_opener r.verbatim_quotes b || (begins_opener r.doc_quotes b
+    (b == backslash) || (begins_opener r.quotes b || (begins_opener r.verbatim_quotes b || (begins_opener r.doc_quotes b
     || (begins_opener r.multi_line_comments b || (begins_opener r.nested_comments b
     || list_any (is_first_of b) r.line_comment)))))
 
 -- In a comment one can begin: it is a backslash, or the first byte of a multi-line or nested opener.
 abbrev pub begins_in_comment : Row → ℕ → Bool
-begins_in_comment r b = (b == 92) || (begins_opener r.multi_line_comments b || begins_opener r.nested_comments b)
+begins_in_comment r b = (b == backslash) || (begins_opener r.multi_line_comments b || begins_opener r.nested_comments b)
 
 -- the test's answers for the bytes below n
 abbrev pub flags : (ℕ → Bool) → ℕ → List Bool

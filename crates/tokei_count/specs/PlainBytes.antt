@@ -1,6 +1,7 @@
 -- Bytes at which nothing but the byte itself, or a child, can begin.
 use Rattle.std.specs.Prelude.{◌≡◌, ℕ, ◌==◌, false, [], None, Some}
 use Rattle.tokei_bytes.specs.ByteSets.{IsOutside}
+use Rattle.tokei_table.specs.Escapes.{backslash}
 use Rattle.tokei_table.specs.FirstOpener.{is_first_of}
 use Rattle.tokei_count.specs.Items.{Mode}
 use Rattle.tokei_count.specs.Matchers.{Matchers}
@@ -14,9 +15,9 @@ BeginsNone m b = IsOutside m.begins b
 
 -- in a string nothing but an escape begins, by its backslash, and the closer
 abbrev pub BeginsNoneWithin : Matchers → Kind → ℕ → Type 0
-BeginsNoneWithin m DocString b = (b == 92) ≡ false
-BeginsNoneWithin m VerbatimString b = (b == 92) ≡ false
-BeginsNoneWithin m OrdinaryString b = (b == 92) ≡ false
+BeginsNoneWithin m DocString b = (b == backslash) ≡ false
+BeginsNoneWithin m VerbatimString b = (b == backslash) ≡ false
+BeginsNoneWithin m OrdinaryString b = (b == backslash) ≡ false
 BeginsNoneWithin m MultiLineComment b = IsOutside m.begins_in_comment b
 
 -- the closer of the innermost item doesn't begin at the byte, and nothing else does
