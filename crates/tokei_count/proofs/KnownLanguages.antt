@@ -1,5 +1,5 @@
 -- The language of a child is one of the table.
-use Rattle.std.proofs.Common.{◌≡◌, ℕ, suc, zero, ◌<◌, ◌==◌, Bool, true, false, cond, List, [], ◌∷◌, ◌++◌, length, Option, None, Some, option_map, unwrap_or, subst, arith}
+use Rattle.std.proofs.Common.{◌≡◌, ℕ, suc, zero, ◌<◌, Bool, true, false, cond, List, [], ◌∷◌, ◌++◌, length, Option, None, Some, option_map, unwrap_or, subst, arith}
 use Rattle.std.specs.Prelude.{⊤, option_and_then}
 use Rattle.std.specs.List.{slice_split}
 use Rattle.std.specs.Option.{option_or}
