@@ -7,8 +7,8 @@ pub record IsOutside (flags : List Bool) (b : ℕ) : Type 0 where
   pub small : b < 256
   pub outside : slice_index_or flags b false ≡ false
 
--- the first n of the four are the bytes of the set, unless those are more than four; where there are any, each of the four
--- is one
+-- the first n of the four are the bytes of the set, unless those are more than four; where there are any, each of the
+-- four is one
 pub record HasFew (flags : List Bool) (few : List ℕ) (n : ℕ) : Type 0 where
   pub four : length few ≡ 4
   pub holds : n ≤ 4 → (b : ℕ) → b < 256 → slice_index_or flags b false ≡ true → is_one_of (take n few) b ≡ true

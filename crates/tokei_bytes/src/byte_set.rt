@@ -2,7 +2,7 @@
 ghost use Rattle.std.specs.Prelude.{◌≡◌, ℕ, ◌<◌, ◌≤◌, ◌==◌, ◌||◌, true, false, length, slice_index, slice_index_or};
 ghost use Rattle.tokei_bytes.specs.ByteSets.{IsOutside, HasFew};
 
-use crate::one_of::{first_of_four, first_of_one};
+use crate::one_of::first_of_four;
 use std::marker::Model;
 
 /// How many bytes are searched for at once.
@@ -93,7 +93,7 @@ impl ByteSet {
         ensures found { result < to → (slice_index text.now result == other || slice_index_or self.now (slice_index text.now result) false) ≡ true }
     {
         if self.count == 0 {
-            return first_of_one(other, text, from, to);
+            return first_of_four([other; 4], text, from, to);
         }
         if self.count < FEW {
             let few = [self.few[0], self.few[1], self.few[2], other];

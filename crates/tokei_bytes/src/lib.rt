@@ -8,4 +8,4 @@ mod byte_set;
 mod one_of;
 
 pub use byte_set::ByteSet;
-pub use one_of::{first_not_of_four, first_of_four, first_of_one};
+pub use one_of::{first_not_of_four, first_of_four};

@@ -8,9 +8,6 @@ use std::simd::prelude::*;
 /// How many places are tested at once for some bytes.
 const BLOCK: usize = 32;
 
-/// The same for one byte.
-const WIDE_BLOCK: usize = 64;
-
 /// The same for other bytes than some, which mostly stand close by.
 const SHORT_BLOCK: usize = 16;
 
@@ -72,40 +69,6 @@ pub fn first_of_four(bytes: [u8; 4], text: &[u8], from: usize, to: usize) -> usi
             return to.min(at + marked.trailing_zeros() as usize);
         }
         at += BLOCK;
-    }
-    to
-}
-
-/// Bit k is set where lane k is the byte.
-#[inline(always)]
-fn marks_of_one(byte: u8, lanes: u8x64) -> u64
-    ensures { result ≡ mask_l (map (λ x. x == byte) lanes) }
-{
-    lanes.simd_eq(u8x64::splat(byte)).to_bitmask()
-}
-
-/// The first place of the text, from `from` to before `to`, at which the byte stands, or `to` where there is none. A place
-/// counts the bytes of the text before it.
-#[inline(always)]
-pub fn first_of_one(byte: u8, text: &[u8], from: usize, to: usize) -> usize
-    requires order { from ≤ to }
-    requires within { to ≤ length text.now }
-    ensures low { from ≤ result }
-    ensures high { result ≤ to }
-    ensures passed { (p : ℕ) → from ≤ p → p < result → (slice_index text.now p == byte) ≡ false }
-    ensures found { result < to → slice_index text.now result ≡ byte }
-{
-    let mut at = from;
-    while at < to {
-        if text.len() - at < WIDE_BLOCK {
-            return first_of_four([byte; 4], text, at, to);
-        }
-        // The block may go on past `to`, where a hit is none.
-        let hits = marks_of_one(byte, u8x64::from_slice(&text[at..]));
-        if hits != 0 {
-            return to.min(at + hits.trailing_zeros() as usize);
-        }
-        at += WIDE_BLOCK;
     }
     to
 }

@@ -10,5 +10,5 @@ returns-then-self-lt-FEW-clause-clear c p low high =
     record {
       small = fits;
       outside = outside c.args.self.now few (get_or few 0 0 ∷ get_or few 1 0 ∷ get_or few 2 0 ∷ c.args.other ∷ []) c.self.inside.count (slice_index c.args.text.now p) (subst (λ flags. HasFew flags c.self.inside.few c.self.inside.count) c.self.view_is c.self.invariant.1) (omega (arith, c.if-self-lt-FEW.true)) fits
-          (three few c.self.inside.count c.args.other c.self.invariant.1.four c.if-self-lt-FEW.true) (c.first_of_four.ensures.passed p low high);
+          (three few c.self.inside.count c.args.other c.self.invariant.1.four c.if-self-lt-FEW.true) (c.first_of_four-then-self-lt-FEW.ensures.passed p low high);
     }
