@@ -9,8 +9,7 @@ use Rattle.tokei_notebook.specs.declared.notebook.Cell.{Cell}
 use Rattle.tokei_stats.specs.Statistics.{Statistics, Blobs, no_lines, at, put, joined, sum}
 use Rattle.tokei_stats.specs.Statistics.Statistics.{node}
 use Rattle.tokei_stats.specs.Statistics.Blobs.{none}
-use Rattle.tokei_stats.specs.Overflow.{Fits, BlobsFit, fit_at, sum_fits}
-use Rattle.tokei_stats.proofs.Fitting.{joined-test}
+use Rattle.tokei_stats.specs.Overflow.{Fits, BlobsFit}
 use Rattle.tokei_count.specs.Items.{Block}
 use Rattle.tokei_count.specs.Languages.{is_notebook}
 use Rattle.tokei_count.specs.NotebookCells.{cell_block, cell_blocks}
@@ -70,8 +69,8 @@ module _ (rows : List Row) (docs : Bool) (levels language : ℕ) (text : List �
     pub cell_fits : is_notebook (row_at rows language) ≡ true → 0 < levels → Fits whole → Fits (read k)
     cell_fits n some f = gathered-child read blobs k (map cell_block (map cell_of (drop (i + 1) items))) (cells_fit n some f)
 
-    pub cell_blob_fits : is_notebook (row_at rows language) ≡ true → 0 < levels → Fits whole → fit_at (at blobs k.language) (λ s. sum_fits s (read k)) ≡ true
-    cell_blob_fits n some f = joined-test (at blobs k.language) (read k) (gathered-first read blobs k (map cell_block (map cell_of (drop (i + 1) items))) (cells_fit n some f))
+    pub cell_blob_fits : is_notebook (row_at rows language) ≡ true → 0 < levels → Fits whole → Fits (joined (at blobs k.language) (λ s. sum s (read k)) (read k))
+    cell_blob_fits n some f = gathered-first read blobs k (map cell_block (map cell_of (drop (i + 1) items))) (cells_fit n some f)
 
     -- what is read of a cell's text is its reading
     pub cell_reading : (source : List ℕ) → source ≡ cell.source.items → 0 < levels → reading (languages_of rows) docs (levels - 1) cell.language source ≡ read k

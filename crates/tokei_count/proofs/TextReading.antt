@@ -13,10 +13,10 @@ use Rattle.tokei_count.specs.Progress.{marks_ahead, counts_left, children_left, 
 use Rattle.tokei_stats.specs.Statistics.{Counts, Statistics, Blobs, plus, no_lines, empty, at, put, joined, sum}
 use Rattle.tokei_stats.specs.Statistics.Statistics.{node}
 use Rattle.tokei_stats.specs.Statistics.Blobs.{none}
-use Rattle.tokei_stats.specs.Overflow.{CountsFit, Fits, BlobsFit, fit_at, sum_fits}
+use Rattle.tokei_stats.specs.Overflow.{CountsFit, Fits, BlobsFit}
 use Rattle.tokei_count.specs.declared.class.Class.{Class}
 use Rattle.tokei_count.proofs.Fitting.{gathered-child, gathered-first}
-use Rattle.tokei_stats.proofs.Fitting.{counts-left, joined-test}
+use Rattle.tokei_stats.proofs.Fitting.{counts-left}
 use Rattle.tokei_count.proofs.Lines.{counts_left-none, children_left-none}
 
 counts_same : (a b : Counts) → a.blanks ≡ b.blanks → a.code ≡ b.code → a.comments ≡ b.comments → a ≡ b
@@ -145,8 +145,8 @@ module _ (rows : List Row) (docs : Bool) (levels language : ℕ) (text : List �
       pub child_fits : is_notebook g ≡ false → Fits whole → Fits (read k)
       child_fits i f = gathered-child read blobs k (children_left g block l' [] behind) (kids_fit i f)
 
-      pub blob_fits : is_notebook g ≡ false → Fits whole → fit_at (at blobs k.language) (λ s. sum_fits s (read k)) ≡ true
-      blob_fits i f = joined-test (at blobs k.language) (read k) (gathered-first read blobs k (children_left g block l' [] behind) (kids_fit i f))
+      pub blob_fits : is_notebook g ≡ false → Fits whole → Fits (joined (at blobs k.language) (λ s. sum s (read k)) (read k))
+      blob_fits i f = gathered-first read blobs k (children_left g block l' [] behind) (kids_fit i f)
 
       pub share_fits : is_notebook g ≡ false → Fits whole → CountsFit (plus own k.share)
       share_fits i f =

@@ -23,7 +23,7 @@ use Rattle.tokei_count.specs.declared.items.Enclosure.{Enclosure}
 use Rattle.tokei_count.specs.declared.reading.Reading.{Reading}
 use Rattle.tokei_count.specs.declared.text_reading.ReadSoFar.{ReadSoFar}
 use Rattle.tokei_count.specs.declared.walk.PartEnd.TheVariants.{Line, Broken}
-use Rattle.tokei_stats.specs.Overflow.{CountsFit, Fits, fit_at, sum_fits}
+use Rattle.tokei_stats.specs.Overflow.{CountsFit, Fits}
 use Rattle.tokei_stats.specs.Seen.{sums_of, blobs_of, entries_of}
 use Rattle.tokei_stats.specs.Statistics.{Counts, Blobs, lines_of, plus, at, put, joined, sum}
 use Rattle.tokei_stats.specs.Statistics.Statistics.{node}
@@ -205,7 +205,7 @@ module _ (r : Reading) (p : ReadSoFar) (way : IsUnderWay r p) where
     pub inner_fits : Fits (reading_of r) → Fits (reading_inside r k)
     inner_fits fits = child_fits r.table.now r.docs r.levels r.language text own blobs p.left c rest counted before j k d breaks.reads way.lines fits
 
-    pub added_fits : Fits (reading_of r) → fit_at (at blobs k.language) (λ o. sum_fits o (reading_inside r k)) ≡ true
+    pub added_fits : Fits (reading_of r) → Fits (joined (at blobs k.language) (λ s. sum s (reading_inside r k)) (reading_inside r k))
     added_fits fits = blob_fits r.table.now r.docs r.levels r.language text own blobs p.left c rest counted before j k d breaks.reads way.lines fits
 
     pub broken_on : (q : ReadSoFar) → sums_of q.own ≡ plus own k.share

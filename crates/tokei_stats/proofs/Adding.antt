@@ -1,17 +1,17 @@
 -- Adding entry by entry.
-use Rattle.std.proofs.Common.{◌≡◌, ℕ, Bool, true, false, cond, ◌&&◌, List, [], ◌∷◌, Option, Some, option_map, refl, sym, ◌∙◌, ap}
+use Rattle.std.proofs.Common.{◌≡◌, ℕ, cond, List, [], ◌∷◌, Option, Some, option_map, refl, sym, ◌∙◌, ap, subst}
 use Rattle.std.specs.Ordering.{nat_cmp, match_ordering, is_eq}
 use Rattle.std.specs.declared.cmp.Ordering.{Ordering}
 use Rattle.std.specs.declared.cmp.Ordering.TheVariants.{Less, Equal, Greater}
 use Rattle.std.specs.Map.{lookup}
 use Rattle.std.specs.BTreeMap.{insert_entry, is_at}
-use Rattle.tokei_stats.specs.Statistics.{Statistics, Blobs, put, at, by_order, joined, sum, add_all, blobs, own, plus}
-use Rattle.tokei_stats.specs.Overflow.{sum_fits, all_fit, fit_at, counts_fit}
-use Rattle.tokei_stats.specs.Statistics.Statistics.{node}
+use Rattle.tokei_stats.specs.Statistics.{Statistics, Blobs, put, at, by_order, joined, sum, add_all}
+use Rattle.tokei_stats.specs.Overflow.{Fits, BlobsFit}
 use Rattle.tokei_stats.specs.Statistics.Blobs.{blob}
 use Rattle.tokei_stats.specs.Seen.{stats_of, blobs_of, entries_of}
 use Rattle.tokei_stats.specs.declared.stats.CodeStats.{CodeStats}
 use Rattle.tokei_stats.proofs.Cloning.{insert_seen}
+use Rattle.tokei_stats.proofs.Fitting.{put-value, put-fits, all-left}
 
 put_by : (o : Ordering) (k j : ℕ) (s t : Statistics) (es more : List (ℕ × Statistics)) (r : Blobs) → r ≡ blobs_of more
     → by_order o (blob k t (blob j s (blobs_of es))) (blob j t (blobs_of es)) (blob j s r) ≡ blobs_of (match_ordering o ((k, t) ∷ (j, s) ∷ es) ((j, t) ∷ es) ((j, s) ∷ more))
@@ -54,30 +54,16 @@ add_one old new rest k v w e f =
     (ap (λ es. blobs_of (entries_of es)) f ∙ ap blobs_of (insert_seen old k v) ∙ sym (put_seen (entries_of old) k (stats_of v))
     ∙ ap (put (blobs_of (entries_of old)) k) (e ∙ ap (λ o. joined o (λ s. sum s (stats_of w)) (stats_of w)) (sym (at_seen old k))))
 
--- what stands before a turn of the loop fits exactly if what stands behind it does, where the turn's own sum fits
-pub fit_one : (old new rest : List (ℕ × CodeStats)) (k : ℕ) (v w : CodeStats)
-    → stats_of v ≡ joined (option_map stats_of (lookup (is_at (nat_cmp k)) old)) (λ s. sum s (stats_of w)) (stats_of w)
-    → new ≡ insert_entry nat_cmp old k v
-    → fit_at (option_map stats_of (lookup (is_at (nat_cmp k)) old)) (λ s. sum_fits s (stats_of w)) ≡ true
-    → all_fit (blobs_of (entries_of new)) (blobs_of (entries_of rest)) ≡ all_fit (blobs_of (entries_of old)) (blobs_of (entries_of ((k, w) ∷ rest)))
-fit_one old new rest k v w e f h =
-    ap (λ bs. all_fit bs (blobs_of (entries_of rest)))
-    (ap (λ es. blobs_of (entries_of es)) f ∙ ap blobs_of (insert_seen old k v) ∙ sym (put_seen (entries_of old) k (stats_of v))
-    ∙ ap (put (blobs_of (entries_of old)) k) (e ∙ ap (λ o. joined o (λ s. sum s (stats_of w)) (stats_of w)) (sym (at_seen old k))))
-    ∙ sym (ap (λ x. x && all_fit (put (blobs_of (entries_of old)) k (joined (at (blobs_of (entries_of old)) k) (λ s. sum s (stats_of w)) (stats_of w))) (blobs_of (entries_of rest)))
-    (ap (λ o. fit_at o (λ s. sum_fits s (stats_of w))) (at_seen old k) ∙ h))
+-- a map that fits, into which what fits was put
+pub put_one_fits : (old new : List (ℕ × CodeStats)) (k : ℕ) (v : CodeStats) → new ≡ insert_entry nat_cmp old k v → Fits (stats_of v) → BlobsFit (blobs_of (entries_of old)) → BlobsFit (blobs_of (entries_of new))
+put_one_fits old new k v f h bs =
+    let is : blobs_of (entries_of new) ≡ put (blobs_of (entries_of old)) k (stats_of v) = ap (λ es. blobs_of (entries_of es)) f ∙ ap blobs_of (insert_seen old k v) ∙ sym (put_seen (entries_of old) k (stats_of v)) in
+    subst BlobsFit (sym is) (put-fits (blobs_of (entries_of old)) k (stats_of v) bs h)
 
--- a turn whose own sum doesn't fit
-pub fit_none : (old rest : List (ℕ × CodeStats)) (k : ℕ) (w : CodeStats)
-    → fit_at (option_map stats_of (lookup (is_at (nat_cmp k)) old)) (λ s. sum_fits s (stats_of w)) ≡ false
-    → all_fit (blobs_of (entries_of old)) (blobs_of (entries_of ((k, w) ∷ rest))) ≡ false
-fit_none old rest k w h =
-    ap (λ x. x && all_fit (put (blobs_of (entries_of old)) k (joined (at (blobs_of (entries_of old)) k) (λ s. sum s (stats_of w)) (stats_of w))) (blobs_of (entries_of rest)))
-    (ap (λ o. fit_at o (λ s. sum_fits s (stats_of w))) (at_seen old k) ∙ h)
-
-and_false : (x : Bool) → (x && false) ≡ false
-and_false true = refl
-and_false false = refl
-
-pub unfit : (s t : Statistics) → all_fit (blobs s) (blobs t) ≡ false → sum_fits s t ≡ false
-unfit s (node n bs) h = ap (λ x. counts_fit (plus (own s) n) && x) h ∙ and_false (counts_fit (plus (own s) n))
+-- where all fits, so does the sum of a turn of the loop
+pub turn_fits : (old rest : List (ℕ × CodeStats)) (k : ℕ) (v w : CodeStats) → lookup (is_at (nat_cmp k)) old ≡ Some v
+    → BlobsFit (add_all (blobs_of (entries_of old)) (blobs_of (entries_of ((k, w) ∷ rest)))) → Fits (sum (stats_of v) (stats_of w))
+turn_fits old rest k v w e h =
+    let both : Statistics = joined (at (blobs_of (entries_of old)) k) (λ s. sum s (stats_of w)) (stats_of w) in
+    subst (λ o. Fits (joined o (λ s. sum s (stats_of w)) (stats_of w))) (at_seen old k ∙ ap (option_map stats_of) e)
+    (put-value (blobs_of (entries_of old)) k both (all-left (put (blobs_of (entries_of old)) k both) (blobs_of (entries_of rest)) h))

@@ -1,28 +1,18 @@
 -- Where a sum fits, so does all that it was made of.
-use Rattle.std.proofs.Common.{◌≡◌, ℕ, ◌<◌, Bool, true, ◌&&◌, Option, None, Some, nat_lt, refl, ap, ◌∙◌, arith}
+use Rattle.std.proofs.Common.{ℕ, Option, None, Some, arith}
 use Rattle.std.specs.Ordering.{nat_cmp}
 use Rattle.std.specs.declared.cmp.Ordering.{Ordering}
 use Rattle.std.specs.declared.cmp.Ordering.TheVariants.{Less, Equal, Greater}
-use Rattle.std.proofs.lemmas.Bool.Decides.{nat_tests}
-use Rattle.tokei_stats.specs.Statistics.{Counts, Statistics, Blobs, plus, by_order, at, put, joined, sum, add_all}
+use Rattle.tokei_stats.specs.Statistics.{Counts, Statistics, Blobs, blobs, plus, by_order, at, put, joined, sum, add_all}
 use Rattle.tokei_stats.specs.Statistics.Statistics.{node}
 use Rattle.tokei_stats.specs.Statistics.Blobs.{none, blob}
-use Rattle.tokei_stats.specs.Overflow.{counts_fit, fit_at, sum_fits, all_fit, CountsFit, Fits, BlobsFit}
+use Rattle.tokei_stats.specs.Overflow.{CountsFit, Fits, BlobsFit}
 
 pub counts-left : (a b : Counts) → CountsFit (plus a b) → CountsFit a
 counts-left a b h = record { blanks = omega (arith, h.blanks); code = omega (arith, h.code); comments = omega (arith, h.comments) }
 
 pub counts-right : (a b : Counts) → CountsFit (plus a b) → CountsFit b
 counts-right a b h = record { blanks = omega (arith, h.blanks); code = omega (arith, h.code); comments = omega (arith, h.comments) }
-
-below : (n : ℕ) → n < 18446744073709551616 → nat_lt n 18446744073709551616 ≡ true
-below n h = grind (arith, nat_tests)
-
-both : (x y : Bool) → x ≡ true → y ≡ true → (x && y) ≡ true
-both x y h k = ap (λ v. v && y) h ∙ k
-
-pub counts-test : (n : Counts) → CountsFit n → counts_fit n ≡ true
-counts-test n h = both (nat_lt n.blanks 18446744073709551616) _ (below n.blanks h.blanks) (both (nat_lt n.code 18446744073709551616) _ (below n.code h.code) (below n.comments h.comments))
 
 -- what is put
 pub put-value : (bs : Blobs) (k : ℕ) (v : Statistics) → BlobsFit (put bs k v) → Fits v
@@ -67,22 +57,16 @@ mutual
       let more : Blobs = put old k (joined (at old k) (λ s. sum s t) t) in
       (joined-new (at old k) (λ s. sum s t) t (λ s. sum-right s t) (put-value old k (joined (at old k) (λ s. sum s t) t) (all-left more rest h)), all-right more rest h)
 
-fit_one_test : (o : Option Statistics) (t : Statistics) → ((s : Statistics) → Fits (sum s t) → sum_fits s t ≡ true) → Fits (joined o (λ s. sum s t) t) → fit_at o (λ s. sum_fits s t) ≡ true
-fit_one_test None t g h = refl
-fit_one_test (Some s) t g h = g s h
+-- the blobs of a sum that fits do
+pub blobs-fit : (s t : Statistics) → Fits (sum s t) → BlobsFit (add_all (blobs s) (blobs t))
+blobs-fit s (node n bs) h = h.1
 
-mutual
-  -- where a sum fits, each addition on the way does
-  pub sum-test : (s t : Statistics) → Fits (sum s t) → sum_fits s t ≡ true
-  sum-test (node m cs) (node n bs) h = both (counts_fit (plus m n)) (all_fit cs bs) (counts-test (plus m n) h.0) (all-test cs bs h.1)
-
-  pub all-test : (old bs : Blobs) → BlobsFit (add_all old bs) → all_fit old bs ≡ true
-  all-test old none h = refl
-  all-test old (blob k t rest) h =
-      let v : Statistics = joined (at old k) (λ s. sum s t) t in
-      both (fit_at (at old k) (λ s. sum_fits s t)) (all_fit (put old k v) rest)
-      (fit_one_test (at old k) t (λ s. sum-test s t) (put-value old k v (all-left (put old k v) rest h)))
-      (all-test (put old k v) rest h)
-
-pub joined-test : (o : Option Statistics) (t : Statistics) → Fits (joined o (λ s. sum s t) t) → fit_at o (λ s. sum_fits s t) ≡ true
-joined-test o t h = fit_one_test o t (λ s. sum-test s t) h
+-- what fits is put into what fits
+pub put-fits : (bs : Blobs) (k : ℕ) (v : Statistics) → BlobsFit bs → Fits v → BlobsFit (put bs k v)
+put-fits none k v h f = (f, tt)
+put-fits (blob j s rest) k v h f = by_cmp (nat_cmp k j) (put-fits rest k v h.1 f)
+  where
+    by_cmp : (o : Ordering) → BlobsFit (put rest k v) → BlobsFit (by_order o (blob k v (blob j s rest)) (blob j v rest) (blob j s (put rest k v)))
+    by_cmp Less r = (f, h)
+    by_cmp Equal r = (f, h.1)
+    by_cmp Greater r = (h.0, r)

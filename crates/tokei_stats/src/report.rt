@@ -14,7 +14,7 @@ pub struct Report {
 
 impl Report {
     ghost use Rattle.std.specs.Prelude.{◌≡◌, ◌≤◌, true, false, IfOk, IfErr, OnOk, OnErr, IsErrOf, IsTrue, string_bytes};
-    ghost use Rattle.tokei_stats.specs.Overflow.{sum_fits};
+    ghost use Rattle.tokei_stats.specs.Overflow.{Fits};
     ghost use Rattle.tokei_stats.specs.ReportRow.{report_row};
     ghost use Rattle.tokei_stats.specs.Seen.{stats_of, counts_of};
     ghost use Rattle.tokei_stats.specs.Statistics.{empty, sum};
@@ -35,8 +35,9 @@ impl Report {
     pub fn add(&mut self, stats: CodeStats) -> Result<(), CountError>
         ensures ok { OnOk result (stats_of self.new.stats ≡ sum (stats_of self.old.stats) (stats_of stats)) }
         ensures name { self.new.name ≡ self.old.name }
-        ensures fits { OnOk result (sum_fits (stats_of self.old.stats) (stats_of stats) ≡ true) }
-        ensures overflow { IsErrOf result CountError.Overflow → sum_fits (stats_of self.old.stats) (stats_of stats) ≡ false }
+        ensures fits { OnOk result (Fits (sum (stats_of self.old.stats) (stats_of stats))) }
+        ensures overflow { IsErrOf result CountError.Overflow
+            → ¬ Fits (sum (stats_of self.old.stats) (stats_of stats)) }
         ensures err { OnErr result (self.new ≡ self.old) }
     {
         self.stats.add(&stats)

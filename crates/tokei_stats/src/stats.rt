@@ -34,7 +34,7 @@ impl CodeStats {
     ghost use Rattle.tokei_stats.specs.Statistics.{empty, sum, summary, lines_of, plus};
     ghost use Rattle.tokei_stats.specs.Statistics.Statistics.{node};
     ghost use Rattle.tokei_stats.specs.Statistics.Blobs.{none};
-    ghost use Rattle.tokei_stats.specs.Overflow.{sum_fits, CountsFit};
+    ghost use Rattle.tokei_stats.specs.Overflow.{CountsFit, Fits};
     ghost use Rattle.tokei_stats.specs.Seen.{stats_of, counts_of, sums_of, blobs_of, entries_of};
 
     /// No lines and no blobs; takes no memory.
@@ -64,6 +64,7 @@ impl CodeStats {
     pub fn try_clone(&self) -> Result<CodeStats, CountError>
         ensures ok { IfOk result (λ s. stats_of s ≡ stats_of self.now) }
         ensures equal { IfOk result (λ s. IsTrue (⟦<CodeStats as PartialEq>⟧.eq s self.now)) }
+        ensures fits { IfOk result (λ s. Fits (stats_of s)) }
         ensures memory { IfErr result (λ e. e ≡ CountError.Memory) }
     {
         let mut blobs = BTreeMap::new(self.alloc);
@@ -71,10 +72,11 @@ impl CodeStats {
             let copy = stats.try_clone()?;
             put(&mut blobs, *language, copy)?;
         }
+        let (blanks, code, comments) = (self.blanks, self.code, self.comments);
         Ok(CodeStats {
-            blanks: self.blanks,
-            code: self.code,
-            comments: self.comments,
+            blanks,
+            code,
+            comments,
             blobs,
             alloc: self.alloc,
         })
@@ -100,8 +102,8 @@ impl CodeStats {
     /// The sum of `other` and this, by number and by language.
     fn added_to(&self, other: &CodeStats) -> Result<CodeStats, CountError>
         ensures ok { IfOk result (λ s. stats_of s ≡ sum (stats_of other.now) (stats_of self.now)) }
-        ensures fits { OnOk result (sum_fits (stats_of other.now) (stats_of self.now) ≡ true) }
-        ensures overflow { IsErrOf result CountError.Overflow → sum_fits (stats_of other.now) (stats_of self.now) ≡ false }
+        ensures fits { OnOk result (Fits (sum (stats_of other.now) (stats_of self.now))) }
+        ensures overflow { IsErrOf result CountError.Overflow → ¬ Fits (sum (stats_of other.now) (stats_of self.now)) }
     {
         let blanks = sum_of(other.blanks, self.blanks)?;
         let code = sum_of(other.code, self.code)?;
@@ -133,8 +135,8 @@ impl CodeStats {
     /// numbers passes the greatest `usize`, or `Memory`; a refusal changes nothing.
     pub fn add(&mut self, other: &CodeStats) -> Result<(), CountError>
         ensures ok { OnOk result (stats_of self.new ≡ sum (stats_of self.old) (stats_of other.now)) }
-        ensures fits { OnOk result (sum_fits (stats_of self.old) (stats_of other.now) ≡ true) }
-        ensures overflow { IsErrOf result CountError.Overflow → sum_fits (stats_of self.old) (stats_of other.now) ≡ false }
+        ensures fits { OnOk result (Fits (sum (stats_of self.old) (stats_of other.now))) }
+        ensures overflow { IsErrOf result CountError.Overflow → ¬ Fits (sum (stats_of self.old) (stats_of other.now)) }
         ensures err { OnErr result (self.new ≡ self.old) }
     {
         *self = other.added_to(self)?;
@@ -174,7 +176,7 @@ impl CodeStats {
 ghost use Rattle.std.specs.Prelude.{◌≡◌, ◌+◌, ◌≤◌, ◌^◌, false, IfOk, IfErr, OnOk, OnErr, IsErrOf};
 ghost use Rattle.std.specs.Ordering.{nat_cmp};
 ghost use Rattle.std.specs.BTreeMap.{insert_entry};
-ghost use Rattle.tokei_stats.specs.Overflow.{fit_at, sum_fits};
+ghost use Rattle.tokei_stats.specs.Overflow.{Fits};
 ghost use Rattle.tokei_stats.specs.Seen.{blobs_of, entries_of, stats_of};
 ghost use Rattle.tokei_stats.specs.Statistics.{sum, at, put, joined};
 
@@ -200,10 +202,12 @@ pub fn add_blob(
 ) -> Result<(), CountError>
     ensures ok { OnOk result (blobs_of (entries_of blobs.new.entries)
         ≡ put (blobs_of (entries_of blobs.old.entries)) language
-        (joined (at (blobs_of (entries_of blobs.old.entries)) language) (λ s. sum s (stats_of stats)) (stats_of stats))) }
+        (joined (at (blobs_of (entries_of blobs.old.entries)) language) (λ s. sum s (stats_of stats))
+        (stats_of stats))) }
     ensures err { OnErr result (blobs.new.entries ≡ blobs.old.entries) }
     ensures overflow { IsErrOf result CountError.Overflow
-        → fit_at (at (blobs_of (entries_of blobs.old.entries)) language) (λ s. sum_fits s (stats_of stats)) ≡ false }
+        → ¬ Fits (joined (at (blobs_of (entries_of blobs.old.entries)) language) (λ s. sum s (stats_of stats))
+        (stats_of stats)) }
 {
     let both = match blobs.get(&language) {
         Some(there) => stats.added_to(there)?,

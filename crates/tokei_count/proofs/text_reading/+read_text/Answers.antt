@@ -13,7 +13,7 @@ use Rattle.tokei_count.specs.ReadingOf.{row_in, blocks_of}
 use Rattle.tokei_count.specs.Seen.{chain_of, block_of}
 use Rattle.tokei_count.specs.Steps.{steps, child_steps, capped, sum_over}
 use Rattle.tokei_count.specs.Walked.{ReadsTo}
-use Rattle.tokei_stats.specs.Overflow.{CountsFit, Fits, fit_at, sum_fits}
+use Rattle.tokei_stats.specs.Overflow.{CountsFit, Fits}
 use Rattle.tokei_stats.specs.Seen.{sums_of, blobs_of, entries_of, stats_of}
 use Rattle.tokei_stats.specs.Statistics.{Counts, Statistics, Blobs, plus, at, put, joined, sum}
 use Rattle.tokei_stats.specs.Statistics.Statistics.{node}
@@ -24,9 +24,6 @@ use Rattle.tokei_count.proofs.StepReading.{knows_later, child_steps-is, steps-no
 use Rattle.tokei_count.proofs.TextReading.{reading-no_notebook}
 use Rattle.tokei_count.proofs.UnderWay.{first_end, openers_lines, all_read, all_made, unwalked, walked_here, walked_fits, walked_on, child_deep, child_known, broken_fits, inner_fits, added_fits, broken_on}
 use Rattle.tokei_count.proofs.text_reading.+read_text.Goals as goal
-
-not_both : false ≡ true → ⊥
-not_both h = cc
 
 pub read_notebook-returns-then-levels-eq0-clause-reads : goal.read_notebook-returns-then-levels-eq0-clause-reads
 read_notebook-returns-then-levels-eq0-clause-reads t c = c.new-stats.ensures ∙ sym (reading-no_notebook c.args.reader.table.now c.args.reader.docs c.args.levels c.args.language c.args.text.now c.requires.notebook c.if-levels-eq0.true)
@@ -63,10 +60,10 @@ read_notebook-returns-in_err-add_blob-clause-overflow t c =
     let p = err_from_is_err_and c.from_residual-in_err-add_blob.result c.from_residual-in_err-add_blob.ensures.1 in
     rw (p.1, p.2) (λ is fits.
     let same_err : c.in_err-add_blob.field-0.0 ≡ Overflow = cc in
-    let misfit = c.in_err-add_blob.ensures.overflow (ap Err same_err) in
-    let test : Statistics → Bool = λ s. fit_at (at (blobs_of (entries_of c.loop-cell.blobs.entries)) c.cell-item.result.language) (λ o. sum_fits o s) in
-    let fit : test (child_reading (languages_of c.args.reader.table.now) c.args.reader.docs c.args.levels k) ≡ true = cell_blob_fits c.args.reader.table.now c.args.reader.docs c.args.levels c.args.language c.args.text.now (blobs_of (entries_of c.loop-cell.blobs.entries)) c.as_slice-cell-items.result.now c.loop-cell.cell-index c.cell-item.result c.loop-cell-test.true c.cell-item.is c.loop-cell.invariant.cells c.requires.notebook some fits in
-    not_both (sym misfit ∙ ap test stats_is ∙ fit))
+    let bs : Blobs = blobs_of (entries_of c.loop-cell.blobs.entries) in
+    let fit : Fits (joined (at bs k.language) (λ o. sum o (child_reading (languages_of c.args.reader.table.now) c.args.reader.docs c.args.levels k)) (child_reading (languages_of c.args.reader.table.now) c.args.reader.docs c.args.levels k)) =
+    cell_blob_fits c.args.reader.table.now c.args.reader.docs c.args.levels c.args.language c.args.text.now bs c.as_slice-cell-items.result.now c.loop-cell.cell-index c.cell-item.result c.loop-cell-test.true c.cell-item.is c.loop-cell.invariant.cells c.requires.notebook some fits in
+    c.in_err-add_blob.ensures.overflow (ap Err same_err) (subst (λ s. Fits (joined (at bs k.language) (λ o. sum o s) s)) (sym stats_is) fit))
 
 pub read_notebook-loop-cell-preserved : goal.read_notebook-loop-cell-preserved
 read_notebook-loop-cell-preserved t c =
@@ -208,12 +205,12 @@ read_walked-returns-in_err-read-in-Broken-clause-overflow t c =
 pub read_walked-returns-in_err-add_blob-in-Broken-clause-overflow : goal.read_walked-returns-in_err-add_blob-in-Broken-clause-overflow
 read_walked-returns-in_err-add_blob-in-Broken-clause-overflow t c =
     let k : Block = block_of c.child_at-child.result in
-    let test : Statistics → Bool = λ s. fit_at (at (blobs_of (entries_of c.args.so_far.now.blobs.entries)) k.language) (λ o. sum_fits o s) in
+    let old : Blobs = blobs_of (entries_of c.args.so_far.now.blobs.entries) in
     let p = err_from_is_err_and c.from_residual-in_err-add_blob-in-Broken.result c.from_residual-in_err-add_blob-in-Broken.ensures.1 in
     rw (p.1, p.2) (λ is fits.
-    let same_err : c.in_err-add_blob-in-Broken.field-0.0 ≡ Overflow = cc in
-    let misfit = c.in_err-add_blob-in-Broken.ensures.overflow (ap Err same_err) in
-    not_both (sym misfit ∙ ap test c.in_ok-read-in-Broken.ensures.reads ∙ added_fits c.args.reading.now c.args.so_far.now c.requires.under_way c.in-Broken.at c.in_ok-part.part.steps (chain_of c.read_part.new.stack.items) (block_of c.child_at-child.result) (subst (ReadsTo (row_in c.args.reading.now) (blocks_of c.args.reading.now) c.args.so_far.now.left c.args.reading.now.docs (chain_of c.args.so_far.now.stack.items) (chain_of c.read_part.new.stack.items) c.args.so_far.now.start c.args.reading.now.text.now c.in_ok-part.part.steps) c.in-Broken.is c.in_ok-part.ensures.reads) c.child_at-child.ensures.child fits))
+    let same : c.in_err-add_blob-in-Broken.field-0.0 ≡ Overflow = cc in
+    c.in_err-add_blob-in-Broken.ensures.overflow (ap Err same)
+    (subst (λ s. Fits (joined (at old k.language) (λ o. sum o s) s)) (sym c.in_ok-read-in-Broken.ensures.reads) (added_fits c.args.reading.now c.args.so_far.now c.requires.under_way c.in-Broken.at c.in_ok-part.part.steps (chain_of c.read_part.new.stack.items) (block_of c.child_at-child.result) (subst (ReadsTo (row_in c.args.reading.now) (blocks_of c.args.reading.now) c.args.so_far.now.left c.args.reading.now.docs (chain_of c.args.so_far.now.stack.items) (chain_of c.read_part.new.stack.items) c.args.so_far.now.start c.args.reading.now.text.now c.in_ok-part.part.steps) c.in-Broken.is c.in_ok-part.ensures.reads) c.child_at-child.ensures.child fits)))
 
 pub read_walked-returns-in_ok-so_far-in-Line-clause-under_way : goal.read_walked-returns-in_ok-so_far-in-Line-clause-under_way
 read_walked-returns-in_ok-so_far-in-Line-clause-under_way t c = walked_on c.args.reading.now c.args.so_far.now c.requires.under_way c.in-Line.class c.in-Line.behind c.in_ok-part.part.steps c.read_part.new.stack (subst (ReadsTo (row_in c.args.reading.now) (blocks_of c.args.reading.now) c.args.so_far.now.left c.args.reading.now.docs (chain_of c.args.so_far.now.stack.items) (chain_of c.read_part.new.stack.items) c.args.so_far.now.start c.args.reading.now.text.now c.in_ok-part.part.steps) c.in-Line.is c.in_ok-part.ensures.reads) c.in_ok-so_far-in-Line.field-0 c.read_part.new.search

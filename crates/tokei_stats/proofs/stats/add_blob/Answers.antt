@@ -1,10 +1,10 @@
-use Rattle.std.proofs.Common.{◌≡◌, ◌∙◌, ap, sym, option_map, Result, Ok, Err, OnOk}
+use Rattle.std.proofs.Common.{◌≡◌, ◌∙◌, ap, sym, subst, option_map, Result, Ok, Err, OnOk}
 use Rattle.std.specs.Ordering.{nat_cmp}
 use Rattle.std.specs.Map.{lookup}
 use Rattle.std.specs.BTreeMap.{is_at}
 use Rattle.std.proofs.lemmas.Result.{err_from_is_err_and}
 use Rattle.tokei_stats.specs.Statistics.{joined, sum}
-use Rattle.tokei_stats.specs.Overflow.{fit_at, sum_fits}
+use Rattle.tokei_stats.specs.Overflow.{Fits}
 use Rattle.tokei_stats.specs.Seen.{stats_of}
 use Rattle.tokei_stats.specs.declared.error.CountError.TheVariants.{Overflow}
 use Rattle.tokei_stats.proofs.Adding.{put_one, at_entries}
@@ -18,10 +18,10 @@ on_ok (Err e) f h = h
 pub returns-in_err-both-in-Some-clause-overflow : goal.returns-in_err-both-in-Some-clause-overflow
 returns-in_err-both-in-Some-clause-overflow c =
     let p = err_from_is_err_and c.from_residual.result c.from_residual.ensures.1 in
-    rw (p.1, p.2) (λ is.
+    let there = at_entries c.args.blobs.now.entries c.args.language ∙ ap (option_map stats_of) (sym c.in-Some.ensures.value) in
+    rw (p.1, p.2) (λ is fits.
     let same : c.in_err-both-in-Some.field-0.0 ≡ Overflow = cc in
-    ap (λ o. fit_at o (λ s. sum_fits s (stats_of c.args.stats))) (at_entries c.args.blobs.now.entries c.args.language ∙ ap (option_map stats_of) (sym c.in-Some.ensures.value))
-    ∙ c.in_err-both-in-Some.ensures.overflow (ap Err same))
+    c.in_err-both-in-Some.ensures.overflow (ap Err same) (subst (λ o. Fits (joined o (λ s. sum s (stats_of c.args.stats)) (stats_of c.args.stats))) there fits))
 
 pub returns-clause-ok : goal.returns-clause-ok
 returns-clause-ok c =

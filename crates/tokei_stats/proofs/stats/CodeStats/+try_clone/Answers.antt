@@ -2,15 +2,21 @@ use Rattle.std.proofs.Common.{◌∙◌, ap, sym, ◌++◌, rules}
 use Rattle.tokei_stats.specs.declared.stats.CodeStats.{out-CodeStats}
 use Rattle.tokei_stats.specs.declared.stats.CodeStats.TheFolds.{fold-roll-CodeStats, fold_out-CodeStats}
 use Rattle.tokei_stats.specs.Seen.{entries_of}
+use Rattle.tokei_stats.proofs.Adding.{put_one_fits}
 use Rattle.tokei_stats.proofs.Cloning.{clone_more}
 use Rattle.tokei_stats.proofs.Equality.{equal_if_alike}
 use Rattle.tokei_stats.proofs.stats.CodeStats.+try_clone.Goals as goal
 
 pub loop-language-preserved : goal.loop-language-preserved
-loop-language-preserved t c =
-    ap (λ es. entries_of es ++ entries_of c.next.new.self) c.in_ok-put.ensures.ok
-    ∙ clone_more c.loop-language.blobs.entries c.next.new.self (out-CodeStats c.args.self.now).blobs.entries c.in-Some.language.now c.in_ok-copy.copy c.in-Some.stats.now
-    (ap (λ es. entries_of c.loop-language.blobs.entries ++ entries_of es) (sym c.in-Some.ensures.steps) ∙ c.loop-language.invariant) c.iter-language-items.ensures.ordered c.in_ok-copy.ensures.ok
+loop-language-preserved t c = record {
+  same = ap (λ es. entries_of es ++ entries_of c.next.new.self) c.in_ok-put.ensures.ok
+      ∙ clone_more c.loop-language.blobs.entries c.next.new.self (out-CodeStats c.args.self.now).blobs.entries c.in-Some.language.now c.in_ok-copy.copy c.in-Some.stats.now
+      (ap (λ es. entries_of c.loop-language.blobs.entries ++ entries_of es) (sym c.in-Some.ensures.steps) ∙ c.loop-language.invariant.same) c.iter-language-items.ensures.ordered c.in_ok-copy.ensures.ok;
+  fits = put_one_fits c.loop-language.blobs.entries c.put.new.blobs.entries c.in-Some.language.now c.in_ok-copy.copy c.in_ok-put.ensures.ok c.in_ok-copy.ensures.fits c.loop-language.invariant.fits;
+}
 
 pub returns-clause-equal : goal.returns-clause-equal
 returns-clause-equal t c = equal_if_alike _ _ (search (rules, fold-roll-CodeStats, fold_out-CodeStats))
+
+pub returns-clause-fits : goal.returns-clause-fits
+returns-clause-fits t c = rw (fold-roll-CodeStats) (record { blanks = search rules; code = search rules; comments = search rules }, c.loop-language.invariant.fits)
