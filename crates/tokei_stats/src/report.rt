@@ -13,7 +13,7 @@ pub struct Report {
 }
 
 impl Report {
-    ghost use Rattle.std.specs.Prelude.{◌≡◌, ◌≤◌, true, false, IfOk, IfErr, OnOk, OnErr, IsErrOf, IsTrue, string_bytes};
+    ghost use Rattle.std.specs.Prelude.{◌≡◌, ◌≤◌, IfOk, IfErr, OnOk, OnErr, IsErrOf, IsTrue, string_bytes};
     ghost use Rattle.tokei_stats.specs.Overflow.{Fits};
     ghost use Rattle.tokei_stats.specs.ReportRow.{report_row};
     ghost use Rattle.tokei_stats.specs.Seen.{stats_of, counts_of};
@@ -30,8 +30,8 @@ impl Report {
         }
     }
 
-    /// Adds the statistics to those of the report, by number and by language, at every depth. `Overflow` exactly where a sum
-    /// of two numbers passes the greatest `usize`, or `Memory`; a refusal changes nothing.
+    /// Adds the statistics to those of the report, by number and by language, at every depth. `Overflow` exactly where
+    /// a sum of two numbers passes the greatest `usize`, or `Memory`; a refusal changes nothing.
     pub fn add(&mut self, stats: CodeStats) -> Result<(), CountError>
         ensures ok { OnOk result (stats_of self.new.stats ≡ sum (stats_of self.old.stats) (stats_of stats)) }
         ensures name { self.new.name ≡ self.old.name }

@@ -30,7 +30,7 @@ impl fmt::Debug for CodeStats {
 }
 
 impl CodeStats {
-    ghost use Rattle.std.specs.Prelude.{◌≡◌, ◌<◌, IfOk, OnOk, OnErr, IfErr, IsErrOf, IsTrue, true, false};
+    ghost use Rattle.std.specs.Prelude.{◌≡◌, ◌<◌, IfOk, OnOk, OnErr, IfErr, IsErrOf, IsTrue};
     ghost use Rattle.tokei_stats.specs.Statistics.{empty, sum, summary, lines_of, plus};
     ghost use Rattle.tokei_stats.specs.Statistics.Statistics.{node};
     ghost use Rattle.tokei_stats.specs.Statistics.Blobs.{none};
@@ -173,7 +173,7 @@ impl CodeStats {
     }
 }
 
-ghost use Rattle.std.specs.Prelude.{◌≡◌, ◌+◌, ◌≤◌, ◌^◌, false, IfOk, IfErr, OnOk, OnErr, IsErrOf};
+ghost use Rattle.std.specs.Prelude.{◌≡◌, IfErr, OnOk, OnErr, IsErrOf};
 ghost use Rattle.std.specs.Ordering.{nat_cmp};
 ghost use Rattle.std.specs.BTreeMap.{insert_entry};
 ghost use Rattle.tokei_stats.specs.Overflow.{Fits};
