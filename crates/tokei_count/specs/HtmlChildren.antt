@@ -29,10 +29,11 @@ element_language rows parent tag v =
 -- opening is one line of code of the parent.
 abbrev pub element_child : List Row → ℕ → Tag → TagBlock → Block
 element_child rows parent tag e = record {
-    language = element_language rows parent tag e.value;
-    contents = trim_outer_lines e.contents;
-    size = e.size;
-    share = record { blanks = 0; code = 1; comments = 0 } }
+  language = element_language rows parent tag e.value;
+  contents = trim_outer_lines e.contents;
+  size = e.size;
+  share = record { blanks = 0; code = 1; comments = 0 };
+}
 
 abbrev pub element_at : List Row → ℕ → Tag → List ℕ → ℕ → List ℕ → Option Block
 element_at rows parent tag part place rest = option_map (element_child rows parent tag) (tag_block tag part place rest)

@@ -21,10 +21,11 @@ target_language rows parent (Some word) = unwrap_or (by_name rows (target_name w
 -- nothing to the parent
 abbrev pub target_child : List Row → ℕ → List ℕ → TargetBlock → Block
 target_child rows parent text b = record {
-    language = target_language rows parent (target_of text);
-    contents = trim_outer_lines b.contents;
-    size = b.size;
-    share = no_lines }
+  language = target_language rows parent (target_of text);
+  contents = trim_outer_lines b.contents;
+  size = b.size;
+  share = no_lines;
+}
 
 -- the child that opens at a place of the part; `rest` is the text from the place on
 abbrev pub franca_block : List Row → ℕ → List ℕ → List ℕ → ℕ → List ℕ → Option Block

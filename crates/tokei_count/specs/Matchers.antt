@@ -36,6 +36,7 @@ pub record Matchers : Type 0 where
 
 abbrev pub matchers_of : Row → Matchers
 matchers_of r = record {
-    openers = openers r;
-    begins = flags (begins_choice r) 256;
-    begins_in_comment = flags (begins_in_comment r) 256 }
+  openers = openers r;
+  begins = flags (begins_choice r) 256;
+  begins_in_comment = flags (begins_in_comment r) 256;
+}

@@ -50,9 +50,9 @@ unfoldable mutual
   marks_of c (escaped a b) = byte_at a true c ∷ byte_at b false c ∷ []
   marks_of c (passed_over p) = of_choice c p.opener
   marks_of c (string_literal k p is closed) = of_choice (enclosure k p ∷ c) p.opener
-    ++ (marks (enclosure k p ∷ c) is ++ (if closed then closing (enclosure k p ∷ c) c p.closer else []))
+      ++ (marks (enclosure k p ∷ c) is ++ (if closed then closing (enclosure k p ∷ c) c p.closer else []))
   marks_of c (comment p is closed) = of_choice (enclosure MultiLineComment p ∷ c) p.opener
-    ++ (marks (enclosure MultiLineComment p ∷ c) is
-    ++ (if closed then closing (enclosure MultiLineComment p ∷ c) c p.closer else []))
+      ++ (marks (enclosure MultiLineComment p ∷ c) is
+      ++ (if closed then closing (enclosure MultiLineComment p ∷ c) c p.closer else []))
   marks_of c (line_comment t) = of_choice c t
   marks_of c (child k t) = child_at k ∷ []

@@ -62,12 +62,12 @@ unfoldable pub reading : Languages → Bool → ℕ → ℕ → List ℕ → Sta
 reading ls docs zero language t =
     if is_notebook (ls.row language) then empty
     else read_by (ls.row language) docs (λ k. empty)
-        (marks [] (items_of (ls.row language) (blocks ls zero language t) t))
+    (marks [] (items_of (ls.row language) (blocks ls zero language t) t))
 reading ls docs (suc levels) language t =
     if is_notebook (ls.row language)
     then notebook_by (λ k. reading ls docs levels k.language k.contents) (ls.cells language t)
     else read_by (ls.row language) docs (λ k. reading ls docs levels k.language k.contents)
-        (marks [] (items_of (ls.row language) (blocks ls (suc levels) language t) t))
+    (marks [] (items_of (ls.row language) (blocks ls (suc levels) language t) t))
 
 -- the reading of a child, in a text with so many levels left
 abbrev pub child_reading : Languages → Bool → ℕ → Block → Statistics

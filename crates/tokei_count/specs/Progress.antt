@@ -28,7 +28,7 @@ module _ (r : Row) (block : ℕ → List ℕ → Option Block) where
   unfoldable pub marks_ahead : ℕ → Chain → List ℕ → List Mark
   marks_ahead l [] t = marks [] (body l [] t).items
   marks_ahead l (e ∷ c) t = marks (e ∷ c) (body l (e ∷ c) t).items
-    ++ (if (body l (e ∷ c) t).closed
+      ++ (if (body l (e ∷ c) t).closed
       then closing (e ∷ c) c e.closer ++ marks_ahead l c (drop (body l (e ∷ c) t).taken t)
       else [])
 
@@ -37,10 +37,10 @@ module _ (r : Row) (block : ℕ → List ℕ → Option Block) where
   pub record Leads (l : ℕ) (c : Chain) (n j : ℕ) (d : Chain) (t : List ℕ) : Type 0 where
     pub within : n ≤ line_len t
     pub same : (m : _) (s : List ℕ) → cut m s (innermost c) (marks_ahead l c t)
-      ≡ cut m (s ++ take n t) (innermost d) (marks_ahead l d (drop n t))
+        ≡ cut m (s ++ take n t) (innermost d) (marks_ahead l d (drop n t))
     pub kids : children (marks_ahead l c t) ≡ children (marks_ahead l d (drop n t))
     pub choices : (m : _) (s : List ℕ) (k : ℕ) → stretches m s k t (marks_ahead l c t)
-      ≡ stretches m (s ++ take n t) (k + j) (drop n t) (marks_ahead l d (drop n t))
+        ≡ stretches m (s ++ take n t) (k + j) (drop n t) (marks_ahead l d (drop n t))
 
 -- how many newlines end the first line: one, or none where the text ends it
 abbrev pub newlines : List ℕ → ℕ
@@ -84,7 +84,7 @@ module _ (r : Row) (block : ℕ → List ℕ → Option Block) (l : ℕ) where
     pub counts : counts_left docs c t ≡ plus (one_of class) (counts_left docs d (drop n t))
     pub kids : children_left c t ≡ children_left d (drop n t)
     pub steps : steps_left c t
-      ≡ (if is_walked (openers r) (innermost c) (take n t) then j else 0) + steps_left d (drop n t)
+        ≡ (if is_walked (openers r) (innermost c) (take n t) then j else 0) + steps_left d (drop n t)
 
   -- A part that a child breaks off: the child k opens behind n bytes, at which j choices begin, in plain text, and the
   -- text goes on behind it.
@@ -93,10 +93,10 @@ module _ (r : Row) (block : ℕ → List ℕ → Option Block) (l : ℕ) where
     pub within : n + k.size ≤ length t
     pub plain : d ≡ []
     pub counts : counts_left docs c t
-      ≡ tally r docs (cut None [] None (marks_ahead r block (length t - (n + k.size)) [] (drop (n + k.size) t)))
+        ≡ tally r docs (cut None [] None (marks_ahead r block (length t - (n + k.size)) [] (drop (n + k.size) t)))
     pub kids : children_left c t ≡ k ∷ children (marks_ahead r block (length t - (n + k.size)) [] (drop (n + k.size) t))
     pub steps : steps_left c t ≡ (if is_walked (openers r) (innermost c) (first_line t) then j else 0)
-      + walked_choices (openers r) (stretches None [] 0 (drop (n + k.size) t)
+        + walked_choices (openers r) (stretches None [] 0 (drop (n + k.size) t)
         (marks_ahead r block (length t - (n + k.size)) [] (drop (n + k.size) t)))
 
   -- the child k opens at the front of the text, which is plain there

@@ -10,10 +10,11 @@ use Rattle.tokei_count.specs.NamedLanguages.{fallback}
 -- what the lines say is read trimmed; they add nothing to the parent
 abbrev pub doc_child : List Row → ℕ → DocBlock → Block
 doc_child rows parent d = record {
-    language = fallback rows parent (codes "Markdown");
-    contents = trim d.contents;
-    size = d.size;
-    share = no_lines }
+  language = fallback rows parent (codes "Markdown");
+  contents = trim d.contents;
+  size = d.size;
+  share = no_lines;
+}
 
 -- the child that opens at the front of the text
 abbrev pub rust_block : List Row → ℕ → List ℕ → Option Block

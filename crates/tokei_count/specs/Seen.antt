@@ -21,10 +21,11 @@ contents_of k = if k.is_doc then trim (doc_text k.contents.now) else k.contents.
 
 abbrev pub block_of : CodeBlock.Block → Block
 block_of k = record {
-    language = k.language;
-    contents = contents_of k;
-    size = k.size;
-    share = record { blanks = 0; code = k.code; comments = k.comments } }
+  language = k.language;
+  contents = contents_of k;
+  size = k.size;
+  share = record { blanks = 0; code = k.code; comments = k.comments };
+}
 
 -- a choice where that child can open, if any
 abbrev pub choice_of : Option Block → CodeChoice.Choice → Choice

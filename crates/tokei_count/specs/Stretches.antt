@@ -20,13 +20,14 @@ one_if x = if x then 1 else 0
 -- The stretches of the marks of what is left of the text, which is t. The part under way began in mode m, has the bytes
 -- s, and n choices began at them.
 unfoldable pub stretches : Mode → List ℕ → ℕ → List ℕ → List Mark → List Stretch
-stretches m s n t [] = elim s
-    [ [] ↦ []
-    | a ∷ s' ↦ record { begun = m; reach = a ∷ s'; size = length (a ∷ s'); choices = n } ∷ [] ]
+stretches m s n t [] = elim s [
+  | [] ↦ []
+  | a ∷ s' ↦ record { begun = m; reach = a ∷ s'; size = length (a ∷ s'); choices = n } ∷ []
+]
 stretches m s n t (byte_at b x c ∷ ms) =
     if b == newline
     then record { begun = m; reach = s ++ b ∷ []; size = length (s ++ b ∷ []); choices = n + one_if x }
-        ∷ stretches (innermost c) [] 0 (drop 1 t) ms
+    ∷ stretches (innermost c) [] 0 (drop 1 t) ms
     else stretches m (s ++ b ∷ []) (n + one_if x) (drop 1 t) ms
 stretches m s n t (child_at k ∷ ms) =
     record { begun = m; reach = s ++ first_line t; size = length s; choices = n }

@@ -15,7 +15,7 @@ extra ls zero language t = 0
 extra ls (suc levels) language t =
     if is_notebook (ls.row language)
     then sum_over (λ k. own_weight ls k.language k.contents + extra ls levels k.language k.contents)
-        (ls.cells language t)
+    (ls.cells language t)
     else sum_over (λ k. extra ls levels k.language k.contents) (children_in ls (suc levels) language t)
 
 -- The weight of a text, with so many levels left.

@@ -27,13 +27,16 @@ returns-clause-steps_at_most_weight c =
     let sound = have_tokens c.args.counter.now c.table.ensures.well_formed in
     let all : ℕ = text_steps c.args.counter.now c.args.language c.args.text.now in
     let heavy : all ≤ text_weight c.args.counter.now c.args.language c.args.text.now =
-        steps-weight c.args.counter.now sound outermost_levels c.args.language c.args.text.now in
+    steps-weight c.args.counter.now sound outermost_levels c.args.language c.args.text.now in
     omega (arith, heavy, returns-clause-steps c, capped-low all)
 
 pub returns-clause-steps_at_most_bytes : goal.returns-clause-steps_at_most_bytes
 returns-clause-steps_at_most_bytes c = λ none.
-    omega (arith, returns-clause-steps_at_most_weight c,
-        weight-length c.args.counter.now none outermost_levels c.args.language c.args.text.now)
+    omega (
+      arith,
+      returns-clause-steps_at_most_weight c,
+      weight-length c.args.counter.now none outermost_levels c.args.language c.args.text.now,
+    )
 
 pub returns-clause-lines_at_most_weight : goal.returns-clause-lines_at_most_weight
 returns-clause-lines_at_most_weight c =
@@ -41,15 +44,18 @@ returns-clause-lines_at_most_weight c =
     let docs = c.unwrap_or-docs.result in
     let read = λ (rows : List Row). reading (languages_of rows) docs outermost_levels c.args.language c.args.text.now in
     let heavy : all_lines (read c.args.counter.now) ≤ text_weight c.args.counter.now c.args.language c.args.text.now =
-        lines-weight c.args.counter.now sound docs outermost_levels c.args.language c.args.text.now in
+    lines-weight c.args.counter.now sound docs outermost_levels c.args.language c.args.text.now in
     let lines_are : all_lines (stats_of c.in_ok-read.read.stats) ≡ all_lines (read c.args.counter.now) =
-        ap all_lines (c.in_ok-read.ensures.reads ∙ ap read c.table.ensures.table) in
+    ap all_lines (c.in_ok-read.ensures.reads ∙ ap read c.table.ensures.table) in
     omega (arith, heavy, lines_are)
 
 pub returns-clause-lines_at_most_bytes : goal.returns-clause-lines_at_most_bytes
 returns-clause-lines_at_most_bytes c = λ none.
-    omega (arith, returns-clause-lines_at_most_weight c,
-        weight-length c.args.counter.now none outermost_levels c.args.language c.args.text.now)
+    omega (
+      arith,
+      returns-clause-lines_at_most_weight c,
+      weight-length c.args.counter.now none outermost_levels c.args.language c.args.text.now,
+    )
 
 pub returns-in_err-read-clause-no_overflow_without_notebooks
     : goal.returns-in_err-read-clause-no_overflow_without_notebooks
@@ -58,21 +64,21 @@ returns-in_err-read-clause-no_overflow_without_notebooks c = λ none.
     let docs = c.unwrap_or-docs.result in
     let read = λ (rows : List Row). reading (languages_of rows) docs outermost_levels c.args.language c.args.text.now in
     let fits : Fits (read c.args.counter.now) =
-        reading-fits_by_length c.args.counter.now sound docs none outermost_levels c.args.language c.args.text.now
-            c.lengths_fit.ensures in
+    reading-fits_by_length c.args.counter.now sound docs none outermost_levels c.args.language c.args.text.now
+    c.lengths_fit.ensures in
     let here : Fits (read c.table.result.now) =
-        subst (λ (rows : List Row). Fits (read rows)) (sym c.table.ensures.table) fits in
+    subst (λ (rows : List Row). Fits (read rows)) (sym c.table.ensures.table) fits in
     let p = err_from_is_err_and c.from_residual.result c.from_residual.ensures.1 in
     rw (p.1, p.2) (λ is.
-        let same_err : c.in_err-read.field-0.0 ≡ Overflow = cc in
-        c.in_err-read.ensures.overflow (ap Err same_err) here)
+    let same_err : c.in_err-read.field-0.0 ≡ Overflow = cc in
+    c.in_err-read.ensures.overflow (ap Err same_err) here)
 
 pub returns-clause-openings_at_most_steps : goal.returns-clause-openings_at_most_steps
 returns-clause-openings_at_most_steps c =
     let sound = have_tokens c.args.counter.now c.table.ensures.well_formed in
     let low = (steps-between c.args.counter.now sound outermost_levels c.args.language c.args.text.now).low in
     let more = capped-more (text_openings c.args.counter.now c.args.language c.args.text.now)
-        (text_steps c.args.counter.now c.args.language c.args.text.now) low in
+    (text_steps c.args.counter.now c.args.language c.args.text.now) low in
     omega (arith, returns-clause-steps c, more)
 
 pub returns-clause-steps_at_most_work : goal.returns-clause-steps_at_most_work
@@ -88,17 +94,17 @@ returns-in_err-read-clause-no_overflow_of_light_texts c = λ light.
     let docs = c.unwrap_or-docs.result in
     let read = λ (rows : List Row). reading (languages_of rows) docs outermost_levels c.args.language c.args.text.now in
     let fits : Fits (read c.args.counter.now) =
-        reading-fits c.args.counter.now sound docs outermost_levels c.args.language c.args.text.now light in
+    reading-fits c.args.counter.now sound docs outermost_levels c.args.language c.args.text.now light in
     let here : Fits (read c.table.result.now) =
-        subst (λ (rows : List Row). Fits (read rows)) (sym c.table.ensures.table) fits in
+    subst (λ (rows : List Row). Fits (read rows)) (sym c.table.ensures.table) fits in
     let p = err_from_is_err_and c.from_residual.result c.from_residual.ensures.1 in
     rw (p.1, p.2) (λ is.
-        let same_err : c.in_err-read.field-0.0 ≡ Overflow = cc in
-        c.in_err-read.ensures.overflow (ap Err same_err) here)
+    let same_err : c.in_err-read.field-0.0 ≡ Overflow = cc in
+    c.in_err-read.ensures.overflow (ap Err same_err) here)
 
 pub returns-clause-no_steps_without_openers : goal.returns-clause-no_steps_without_openers
 returns-clause-no_steps_without_openers c = λ quiet.
     let sound = have_tokens c.args.counter.now c.table.ensures.well_formed in
     let none = quiet_steps c.args.counter.now sound outermost_levels c.args.language c.args.text.now
-        quiet.in_lines quiet.none in
+    quiet.in_lines quiet.none in
     returns-clause-steps c ∙ ap capped none
