@@ -6,7 +6,8 @@ use Rattle.tokei_count.specs.Items.{Mode}
 use Rattle.tokei_count.specs.Modes.{Chain, innermost, Mark, inside, of_choice, closing_from, closing}
 use Rattle.tokei_count.specs.Modes.Mark.{byte_at}
 use Rattle.tokei_count.specs.Parts.{cut}
-use Rattle.tokei_count.specs.Stretches.{stretches, one_if}
+use Rattle.tokei_count.specs.Running.{running}
+use Rattle.tokei_count.specs.Stretches.{one_if}
 
 -- the first byte is no newline, and neither are the others
 pub no_newline_first : (b : ℕ) (t : List ℕ) → no_newline (b ∷ t) ≡ true → (b == 10) ≡ false
@@ -65,45 +66,45 @@ unfolding cut
 cut_end m b t e = refl
 
 -- The same of stretches. A newline that a choice of its own takes adds one choice.
-stretches_one : (m : Mode) (s : List ℕ) (n : ℕ) (t : List ℕ) (b : ℕ) (x : Bool) (c : Chain) (ms : List Mark) → (b == 10) ≡ false → stretches m s n t (byte_at b x c ∷ ms) ≡ stretches m (s ++ b ∷ []) (n + one_if x) (drop 1 t) ms
-unfolding stretches
-stretches_one m s n t b x c ms h = ap (λ y. cond y (record { begun = m; reach = s ++ b ∷ []; size = length (s ++ b ∷ []); choices = n + one_if x } ∷ stretches (innermost c) [] 0 (drop 1 t) ms) (stretches m (s ++ b ∷ []) (n + one_if x) (drop 1 t) ms)) h
+running_one : (m : Mode) (s : List ℕ) (n : ℕ) (t : List ℕ) (b : ℕ) (x : Bool) (c : Chain) (ms : List Mark) → (b == 10) ≡ false → running m s n t (byte_at b x c ∷ ms) ≡ running m (s ++ b ∷ []) (n + one_if x) (drop 1 t) ms
+unfolding running
+running_one m s n t b x c ms h = ap (λ y. cond y (record { begun = m; reach = s ++ b ∷ []; size = length (s ++ b ∷ []); choices = n + one_if x } ∷ running (innermost c) [] 0 (drop 1 t) ms) (running m (s ++ b ∷ []) (n + one_if x) (drop 1 t) ms)) h
 
-pub stretches_newline : (m : Mode) (s : List ℕ) (n : ℕ) (t : List ℕ) (x : Bool) (c : Chain) (ms : List Mark) → stretches m s n t (byte_at 10 x c ∷ ms) ≡ record { begun = m; reach = s ++ 10 ∷ []; size = length (s ++ 10 ∷ []); choices = n + one_if x } ∷ stretches (innermost c) [] 0 (drop 1 t) ms
-unfolding stretches
-stretches_newline m s n t x c ms = refl
+pub running_newline : (m : Mode) (s : List ℕ) (n : ℕ) (t : List ℕ) (x : Bool) (c : Chain) (ms : List Mark) → running m s n t (byte_at 10 x c ∷ ms) ≡ record { begun = m; reach = s ++ 10 ∷ []; size = length (s ++ 10 ∷ []); choices = n + one_if x } ∷ running (innermost c) [] 0 (drop 1 t) ms
+unfolding running
+running_newline m s n t x c ms = refl
 
 drop_more : (n : ℕ) (t : List ℕ) → drop n (drop 1 t) ≡ drop (suc n) t
 drop_more n t = let one : 1 + n ≡ suc n = omega arith in drop-drop n 1 t ∙ ap (λ k. drop k t) one
 
-stretches_inside : (m : Mode) (s : List ℕ) (n : ℕ) (t : List ℕ) (c : Chain) (p : List ℕ) (ms : List Mark) → no_newline p ≡ true → stretches m s n t (inside c p ++ ms) ≡ stretches m (s ++ p) n (drop (length p) t) ms
-stretches_inside m s n t c [] ms h = ap (λ w. stretches m w n t ms) (sym (append-nil s))
-stretches_inside m s n t c (b ∷ p) ms h =
+running_inside : (m : Mode) (s : List ℕ) (n : ℕ) (t : List ℕ) (c : Chain) (p : List ℕ) (ms : List Mark) → no_newline p ≡ true → running m s n t (inside c p ++ ms) ≡ running m (s ++ p) n (drop (length p) t) ms
+running_inside m s n t c [] ms h = ap (λ w. running m w n t ms) (sym (append-nil s))
+running_inside m s n t c (b ∷ p) ms h =
     let same : n + 0 ≡ n = omega arith in
-    stretches_one m s n t b false c (inside c p ++ ms) (no_newline_first b p h)
-    ∙ ap (λ k. stretches m (s ++ b ∷ []) k (drop 1 t) (inside c p ++ ms)) same
-    ∙ stretches_inside m (s ++ b ∷ []) n (drop 1 t) c p ms (no_newline_later b p h)
-    ∙ ap (λ w. stretches m w n (drop (length p) (drop 1 t)) ms) (append_assoc s (b ∷ []) p)
-    ∙ ap (λ w. stretches m (s ++ b ∷ p) n w ms) (drop_more (length p) t)
+    running_one m s n t b false c (inside c p ++ ms) (no_newline_first b p h)
+    ∙ ap (λ k. running m (s ++ b ∷ []) k (drop 1 t) (inside c p ++ ms)) same
+    ∙ running_inside m (s ++ b ∷ []) n (drop 1 t) c p ms (no_newline_later b p h)
+    ∙ ap (λ w. running m w n (drop (length p) (drop 1 t)) ms) (append_assoc s (b ∷ []) p)
+    ∙ ap (λ w. running m (s ++ b ∷ p) n w ms) (drop_more (length p) t)
 
-pub stretches_choice : (m : Mode) (s : List ℕ) (n : ℕ) (t : List ℕ) (c : Chain) (p : List ℕ) (ms : List Mark) → 0 < length p → no_newline p ≡ true → stretches m s n t (of_choice c p ++ ms) ≡ stretches m (s ++ p) (n + 1) (drop (length p) t) ms
-stretches_choice m s n t c [] ms l h = absurd (omega arith)
-stretches_choice m s n t c (b ∷ p) ms l h =
-    stretches_one m s n t b true c (inside c p ++ ms) (no_newline_first b p h)
-    ∙ stretches_inside m (s ++ b ∷ []) (n + 1) (drop 1 t) c p ms (no_newline_later b p h)
-    ∙ ap (λ w. stretches m w (n + 1) (drop (length p) (drop 1 t)) ms) (append_assoc s (b ∷ []) p)
-    ∙ ap (λ w. stretches m (s ++ b ∷ p) (n + 1) w ms) (drop_more (length p) t)
+pub running_choice : (m : Mode) (s : List ℕ) (n : ℕ) (t : List ℕ) (c : Chain) (p : List ℕ) (ms : List Mark) → 0 < length p → no_newline p ≡ true → running m s n t (of_choice c p ++ ms) ≡ running m (s ++ p) (n + 1) (drop (length p) t) ms
+running_choice m s n t c [] ms l h = absurd (omega arith)
+running_choice m s n t c (b ∷ p) ms l h =
+    running_one m s n t b true c (inside c p ++ ms) (no_newline_first b p h)
+    ∙ running_inside m (s ++ b ∷ []) (n + 1) (drop 1 t) c p ms (no_newline_later b p h)
+    ∙ ap (λ w. running m w (n + 1) (drop (length p) (drop 1 t)) ms) (append_assoc s (b ∷ []) p)
+    ∙ ap (λ w. running m (s ++ b ∷ p) (n + 1) w ms) (drop_more (length p) t)
 
-stretches_closing_from : (x : Bool) (m : Mode) (s : List ℕ) (n : ℕ) (t : List ℕ) (c d : Chain) (p : List ℕ) (ms : List Mark) → 0 < length p → no_newline p ≡ true → stretches m s n t (closing_from x c d p ++ ms) ≡ stretches m (s ++ p) (n + one_if x) (drop (length p) t) ms
-stretches_closing_from x m s n t c d [] ms l h = absurd (omega arith)
-stretches_closing_from x m s n t c d (b ∷ []) ms l h = stretches_one m s n t b x d ms (no_newline_first b [] h)
-stretches_closing_from x m s n t c d (b ∷ b' ∷ p) ms l h =
+running_closing_from : (x : Bool) (m : Mode) (s : List ℕ) (n : ℕ) (t : List ℕ) (c d : Chain) (p : List ℕ) (ms : List Mark) → 0 < length p → no_newline p ≡ true → running m s n t (closing_from x c d p ++ ms) ≡ running m (s ++ p) (n + one_if x) (drop (length p) t) ms
+running_closing_from x m s n t c d [] ms l h = absurd (omega arith)
+running_closing_from x m s n t c d (b ∷ []) ms l h = running_one m s n t b x d ms (no_newline_first b [] h)
+running_closing_from x m s n t c d (b ∷ b' ∷ p) ms l h =
     let same : n + one_if x + 0 ≡ n + one_if x = omega arith in
-    stretches_one m s n t b x c (closing_from false c d (b' ∷ p) ++ ms) (no_newline_first b (b' ∷ p) h)
-    ∙ stretches_closing_from false m (s ++ b ∷ []) (n + one_if x) (drop 1 t) c d (b' ∷ p) ms (omega arith) (no_newline_later b (b' ∷ p) h)
-    ∙ ap (λ k. stretches m ((s ++ b ∷ []) ++ b' ∷ p) k (drop (length (b' ∷ p)) (drop 1 t)) ms) same
-    ∙ ap (λ w. stretches m w (n + one_if x) (drop (length (b' ∷ p)) (drop 1 t)) ms) (append_assoc s (b ∷ []) (b' ∷ p))
-    ∙ ap (λ w. stretches m (s ++ b ∷ b' ∷ p) (n + one_if x) w ms) (drop_more (length (b' ∷ p)) t)
+    running_one m s n t b x c (closing_from false c d (b' ∷ p) ++ ms) (no_newline_first b (b' ∷ p) h)
+    ∙ running_closing_from false m (s ++ b ∷ []) (n + one_if x) (drop 1 t) c d (b' ∷ p) ms (omega arith) (no_newline_later b (b' ∷ p) h)
+    ∙ ap (λ k. running m ((s ++ b ∷ []) ++ b' ∷ p) k (drop (length (b' ∷ p)) (drop 1 t)) ms) same
+    ∙ ap (λ w. running m w (n + one_if x) (drop (length (b' ∷ p)) (drop 1 t)) ms) (append_assoc s (b ∷ []) (b' ∷ p))
+    ∙ ap (λ w. running m (s ++ b ∷ b' ∷ p) (n + one_if x) w ms) (drop_more (length (b' ∷ p)) t)
 
-pub stretches_closing : (m : Mode) (s : List ℕ) (n : ℕ) (t : List ℕ) (c d : Chain) (p : List ℕ) (ms : List Mark) → 0 < length p → no_newline p ≡ true → stretches m s n t (closing c d p ++ ms) ≡ stretches m (s ++ p) (n + 1) (drop (length p) t) ms
-stretches_closing m s n t c d p ms l h = stretches_closing_from true m s n t c d p ms l h
+pub running_closing : (m : Mode) (s : List ℕ) (n : ℕ) (t : List ℕ) (c d : Chain) (p : List ℕ) (ms : List Mark) → 0 < length p → no_newline p ≡ true → running m s n t (closing c d p ++ ms) ≡ running m (s ++ p) (n + 1) (drop (length p) t) ms
+running_closing m s n t c d p ms l h = running_closing_from true m s n t c d p ms l h

@@ -2,7 +2,7 @@
 use Rattle.std.proofs.Common.{List, [], ◌∷◌}
 use Rattle.tokei_count.specs.Items.{Block}
 use Rattle.tokei_stats.specs.Statistics.{Statistics, Blobs, at, put, joined, sum}
-use Rattle.tokei_count.specs.PlainReading.{gathered}
+use Rattle.tokei_count.specs.Gathered.{gathered}
 use Rattle.tokei_stats.specs.Overflow.{Fits, BlobsFit}
 use Rattle.tokei_stats.proofs.Fitting.{put-value, put-others, joined-new, sum-left, sum-right}
 

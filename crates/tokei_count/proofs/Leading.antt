@@ -3,7 +3,7 @@ use Rattle.std.proofs.Common.{◌≡◌, ℕ, suc, zero, ◌+◌, ◌-◌, ◌<�
 use Rattle.std.proofs.lemmas.List.{append-nil, drop-drop}
 use Rattle.std.proofs.lemmas.Bool.Decides.{Decides-eqb}
 use Rattle.tokei_count.proofs.Children.{children-append, children-of_choice, children-closing}
-use Rattle.tokei_count.proofs.Cuts.{cut_choice, cut_closing, cut_newline, stretches_choice, stretches_closing, stretches_newline}
+use Rattle.tokei_count.proofs.Cuts.{cut_choice, cut_closing, cut_newline, running_choice, running_closing, running_newline}
 use Rattle.tokei_count.proofs.Fits.{IsLocal, FitsIn, IsClosed, choice_fits}
 use Rattle.tokei_count.proofs.Ahead.{marks_ahead-byte, marks_ahead-escape, marks_ahead-pass, marks_ahead-rest, marks_ahead-opener, marks_ahead-closer, marks_ahead-end}
 use Rattle.tokei_count.specs.Choice.{Choice, choice}
@@ -16,7 +16,7 @@ use Rattle.tokei_count.specs.Modes.Mark.{byte_at}
 use Rattle.tokei_count.specs.Parts.{cut}
 use Rattle.tokei_count.specs.PlainReading.{children}
 use Rattle.tokei_count.specs.Progress.{marks_ahead, Leads, OpensInLine, newlines}
-use Rattle.tokei_count.specs.Stretches.{stretches}
+use Rattle.tokei_count.specs.Running.{running}
 use Rattle.tokei_count.specs.declared.items.Kind.{Kind}
 use Rattle.tokei_table.specs.Row.{Row, Pair}
 use Rattle.tokei_table.specs.Sound.{no_newline, IsSound}
@@ -106,8 +106,8 @@ ends_part m e b t n true h = cc
 ends_part m e b t n false h = refl
 
 ends_stretch : (m e : Mode) (j b : ℕ) (t : List ℕ) (n : ℕ) (x : Bool) → drop (cond x 0 (suc n)) (b ∷ t) ≡ []
-    → stretches m (take (cond x 0 (suc n)) (b ∷ t)) j [] [] ≡ record { begun = m; reach = take (cond x 0 (suc n)) (b ∷ t); size = length (take (cond x 0 (suc n)) (b ∷ t)); choices = j } ∷ stretches e [] 0 [] []
-unfolding stretches
+    → running m (take (cond x 0 (suc n)) (b ∷ t)) j [] [] ≡ record { begun = m; reach = take (cond x 0 (suc n)) (b ∷ t); size = length (take (cond x 0 (suc n)) (b ∷ t)); choices = j } ∷ running e [] 0 [] []
+unfolding running
 ends_stretch m e j b t n true h = cc
 ends_stretch m e j b t n false h = refl
 
@@ -133,7 +133,7 @@ module _ (g : Row) (block : ℕ → List ℕ → Option Block) (l : ℕ) where
     within = omega arith;
     same = λ m s. ap (λ w. cut m w (innermost c) (marks_ahead g block l c t)) (sym (append-nil s));
     kids = refl;
-    choices = λ m s k. let none : k ≡ k + 0 = omega arith in ap (λ w. stretches m w k t (marks_ahead g block l c t)) (sym (append-nil s)) ∙ ap (λ w. stretches m (s ++ []) w t (marks_ahead g block l c t)) none;
+    choices = λ m s k. let none : k ≡ k + 0 = omega arith in ap (λ w. running m w k t (marks_ahead g block l c t)) (sym (append-nil s)) ∙ ap (λ w. running m (s ++ []) w t (marks_ahead g block l c t)) none;
   }
 
   pub lead_on : (c d e : Chain) (n k x y : ℕ) (t : List ℕ) → Goes c n x d t → Goes d k y e (drop n t) → Goes c (n + k) (x + y) e t
@@ -149,9 +149,9 @@ module _ (g : Row) (block : ℕ → List ℕ → Option Block) (l : ℕ) where
         choices = λ m s a.
             let sum : a + x + y ≡ a + (x + y) = omega arith in
             h.choices m s a ∙ j.choices m (s ++ take n t) (a + x)
-            ∙ ap (λ w. stretches m w (a + x + y) (drop k (drop n t)) (marks_ahead g block l e (drop k (drop n t)))) (append_assoc s (take n t) (take k (drop n t)) ∙ ap (λ w. s ++ w) (sym (take-add n k t)))
-            ∙ ap (λ w. stretches m (s ++ take (n + k) t) (a + x + y) w (marks_ahead g block l e w)) (drop-drop k n t)
-            ∙ ap (λ w. stretches m (s ++ take (n + k) t) w (drop (n + k) t) (marks_ahead g block l e (drop (n + k) t))) sum;
+            ∙ ap (λ w. running m w (a + x + y) (drop k (drop n t)) (marks_ahead g block l e (drop k (drop n t)))) (append_assoc s (take n t) (take k (drop n t)) ∙ ap (λ w. s ++ w) (sym (take-add n k t)))
+            ∙ ap (λ w. running m (s ++ take (n + k) t) (a + x + y) w (marks_ahead g block l e w)) (drop-drop k n t)
+            ∙ ap (λ w. running m (s ++ take (n + k) t) w (drop (n + k) t) (marks_ahead g block l e (drop (n + k) t))) sum;
       }
 
   module _ (c : Chain) (b : ℕ) (t : List ℕ) where
@@ -161,7 +161,7 @@ module _ (g : Row) (block : ℕ → List ℕ → Option Block) (l : ℕ) where
     -- what the choice takes, given what stands behind it
     lead_local : (d : Chain) (p : List ℕ) (ms : List Mark) → IsLocal p (b ∷ t) → children ms ≡ []
         → ((m : Mode) (s : List ℕ) (w : List Mark) → cut m s (innermost c) (ms ++ w) ≡ cut m (s ++ p) (innermost d) w)
-        → ((m : Mode) (s : List ℕ) (a : ℕ) (w : List Mark) → stretches m s a (b ∷ t) (ms ++ w) ≡ stretches m (s ++ p) (a + 1) (drop (length p) (b ∷ t)) w)
+        → ((m : Mode) (s : List ℕ) (a : ℕ) (w : List Mark) → running m s a (b ∷ t) (ms ++ w) ≡ running m (s ++ p) (a + 1) (drop (length p) (b ∷ t)) w)
         → marks_ahead g block l c (b ∷ t) ≡ ms ++ marks_ahead g block l d (drop (length p) (b ∷ t))
         → Goes c (length p) 1 d (b ∷ t)
     lead_local d p ms h k f j e = record {
@@ -171,20 +171,20 @@ module _ (g : Row) (block : ℕ → List ℕ → Option Block) (l : ℕ) where
           ∙ ap (λ w. cut m (s ++ w) (innermost d) (marks_ahead g block l d (drop (length p) (b ∷ t)))) h.reads;
       kids = ap children e ∙ children-append ms (marks_ahead g block l d (drop (length p) (b ∷ t))) k;
       choices = λ m s a.
-          ap (stretches m s a (b ∷ t)) e ∙ j m s a (marks_ahead g block l d (drop (length p) (b ∷ t)))
-          ∙ ap (λ w. stretches m (s ++ w) (a + 1) (drop (length p) (b ∷ t)) (marks_ahead g block l d (drop (length p) (b ∷ t)))) h.reads;
+          ap (running m s a (b ∷ t)) e ∙ j m s a (marks_ahead g block l d (drop (length p) (b ∷ t)))
+          ∙ ap (λ w. running m (s ++ w) (a + 1) (drop (length p) (b ∷ t)) (marks_ahead g block l d (drop (length p) (b ∷ t)))) h.reads;
     }
 
     pub lead_opener : (k : Kind) (p : Pair) → IsLocal p.opener (b ∷ t) → Here (opens k p) → Goes c (length p.opener) 1 (enclosure k p ∷ c) (b ∷ t)
     lead_opener k p h e = lead_local (enclosure k p ∷ c) p.opener (of_choice (enclosure k p ∷ c) p.opener) h (children-of_choice (enclosure k p ∷ c) p.opener)
         (λ m s w. cut_choice m s (innermost c) (enclosure k p ∷ c) p.opener w h.some h.one_line)
-        (λ m s a w. stretches_choice m s a (b ∷ t) (enclosure k p ∷ c) p.opener w h.some h.one_line)
+        (λ m s a w. running_choice m s a (b ∷ t) (enclosure k p ∷ c) p.opener w h.some h.one_line)
         (marks_ahead-opener g block l c b t k p h.some e)
 
     pub lead_pass : (p : Pair) → IsLocal p.opener (b ∷ t) → Here (passes_over p) → Goes c (length p.opener) 1 c (b ∷ t)
     lead_pass p h e = lead_local c p.opener (of_choice c p.opener) h (children-of_choice c p.opener)
         (λ m s w. cut_choice m s (innermost c) c p.opener w h.some h.one_line)
-        (λ m s a w. stretches_choice m s a (b ∷ t) c p.opener w h.some h.one_line)
+        (λ m s a w. running_choice m s a (b ∷ t) c p.opener w h.some h.one_line)
         (marks_ahead-pass g block l c b t p h.some e)
 
     pub lead_byte : 0 < line_len (b ∷ t) → Here takes_byte → Goes c 1 1 c (b ∷ t)
@@ -192,7 +192,7 @@ module _ (g : Row) (block : ℕ → List ℕ → Option Block) (l : ℕ) where
       within = h;
       same = λ m s. ap (cut m s (innermost c)) (marks_ahead-byte g block l c b t e) ∙ cut_choice m s (innermost c) c (b ∷ []) (marks_ahead g block l c t) (omega arith) (one_line (b == 10) h);
       kids = ap children (marks_ahead-byte g block l c b t e);
-      choices = λ m s a. ap (stretches m s a (b ∷ t)) (marks_ahead-byte g block l c b t e) ∙ stretches_choice m s a (b ∷ t) c (b ∷ []) (marks_ahead g block l c t) (omega arith) (one_line (b == 10) h);
+      choices = λ m s a. ap (running m s a (b ∷ t)) (marks_ahead-byte g block l c b t e) ∙ running_choice m s a (b ∷ t) c (b ∷ []) (marks_ahead g block l c t) (omega arith) (one_line (b == 10) h);
     }
       where
         one_line : (x : Bool) → 0 < cond x 0 (suc (line_len t)) → (not x && true) ≡ true
@@ -217,13 +217,13 @@ module _ (g : Row) (block : ℕ → List ℕ → Option Block) (l : ℕ) where
           within = h;
           same = λ m s. ap (cut m s (innermost c)) e ∙ cut_choice m s (innermost c) c (b ∷ b' ∷ []) (marks_ahead g block l c u) (omega arith) (two_lines (b == 10) (b' == 10) (line_len u) h);
           kids = ap children e;
-          choices = λ m s a. ap (stretches m s a (b ∷ b' ∷ u)) e ∙ stretches_choice m s a (b ∷ b' ∷ u) c (b ∷ b' ∷ []) (marks_ahead g block l c u) (omega arith) (two_lines (b == 10) (b' == 10) (line_len u) h);
+          choices = λ m s a. ap (running m s a (b ∷ b' ∷ u)) e ∙ running_choice m s a (b ∷ b' ∷ u) c (b ∷ b' ∷ []) (marks_ahead g block l c u) (omega arith) (two_lines (b == 10) (b' == 10) (line_len u) h);
         }
 
   pub lead_closer : (h : Enclosure) (c : Chain) (b : ℕ) (t : List ℕ) → IsLocal h.closer (b ∷ t) → Here (h ∷ c) b t closes → Goes (h ∷ c) (length h.closer) 1 c (b ∷ t)
   lead_closer h c b t j e = lead_local (h ∷ c) b t c h.closer (closing (h ∷ c) c h.closer) j (children-closing (h ∷ c) c h.closer)
       (λ m s w. cut_closing m s (Some h) (h ∷ c) c h.closer w j.some j.one_line)
-      (λ m s a w. stretches_closing m s a (b ∷ t) (h ∷ c) c h.closer w j.some j.one_line)
+      (λ m s a w. running_closing m s a (b ∷ t) (h ∷ c) c h.closer w j.some j.one_line)
       (marks_ahead-closer g block l h c b t e)
 
   pub marks_ahead-newline : (c : Chain) (u : List ℕ) → IsSound g → OpensInLine block → IsClosed (innermost c) → marks_ahead g block l c (10 ∷ u) ≡ byte_at 10 true c ∷ marks_ahead g block l c u
@@ -263,7 +263,7 @@ module _ (g : Row) (block : ℕ → List ℕ → Option Block) (l : ℕ) where
           ∙ ap (cut m (w ++ take n (b ∷ t)) (innermost c)) (sym (marks_ahead-newline c r s o k) ∙ ap (marks_ahead g block l c) (sym f.left))
 
       choices_by : (m : Mode) (w : List ℕ) (a : ℕ) → Ends (b ∷ t) ⊎ Breaks (b ∷ t)
-          → stretches m w a (b ∷ t) (marks_ahead g block l c (b ∷ t)) ≡ stretches m (w ++ take (line_len (b ∷ t)) (b ∷ t)) (a + (1 - newlines (b ∷ t))) (drop (line_len (b ∷ t)) (b ∷ t)) (marks_ahead g block l c (drop (line_len (b ∷ t)) (b ∷ t)))
+          → running m w a (b ∷ t) (marks_ahead g block l c (b ∷ t)) ≡ running m (w ++ take (line_len (b ∷ t)) (b ∷ t)) (a + (1 - newlines (b ∷ t))) (drop (line_len (b ∷ t)) (b ∷ t)) (marks_ahead g block l c (drop (line_len (b ∷ t)) (b ∷ t)))
       choices_by m w a (inl f) =
           let n : ℕ = line_len (b ∷ t) in
           let p : List ℕ = take n (b ∷ t) in
@@ -271,11 +271,11 @@ module _ (g : Row) (block : ℕ → List ℕ → Option Block) (l : ℕ) where
           let len : length p ≡ n = length-line (b ∷ t) in
           let whole : length (first_line (b ∷ t)) ≡ length p = ap length f.line in
           let one : a + 1 ≡ a + (1 - newlines (b ∷ t)) = omega (arith, len, whole) in
-          ap (stretches m w a (b ∷ t)) (all ∙ ap (λ x. of_choice c x ++ marks_ahead g block l c r) f.line)
-          ∙ stretches_choice m w a (b ∷ t) c p (marks_ahead g block l c r) some_taken (line_is_one (b ∷ t))
-          ∙ ap (λ x. stretches m (w ++ p) (a + 1) (drop x (b ∷ t)) (marks_ahead g block l c r)) len
-          ∙ ap (λ x. stretches m (w ++ p) (a + 1) (drop n (b ∷ t)) (marks_ahead g block l c x)) (f.nothing ∙ sym f.left)
-          ∙ ap (λ x. stretches m (w ++ p) x (drop n (b ∷ t)) (marks_ahead g block l c (drop n (b ∷ t)))) one
+          ap (running m w a (b ∷ t)) (all ∙ ap (λ x. of_choice c x ++ marks_ahead g block l c r) f.line)
+          ∙ running_choice m w a (b ∷ t) c p (marks_ahead g block l c r) some_taken (line_is_one (b ∷ t))
+          ∙ ap (λ x. running m (w ++ p) (a + 1) (drop x (b ∷ t)) (marks_ahead g block l c r)) len
+          ∙ ap (λ x. running m (w ++ p) (a + 1) (drop n (b ∷ t)) (marks_ahead g block l c x)) (f.nothing ∙ sym f.left)
+          ∙ ap (λ x. running m (w ++ p) x (drop n (b ∷ t)) (marks_ahead g block l c (drop n (b ∷ t)))) one
       choices_by m w a (inr f) =
           let n : ℕ = line_len (b ∷ t) in
           let p : List ℕ = take n (b ∷ t) in
@@ -284,15 +284,15 @@ module _ (g : Row) (block : ℕ → List ℕ → Option Block) (l : ℕ) where
           let len : length p ≡ n = length-line (b ∷ t) in
           let whole : length (first_line (b ∷ t)) ≡ length p + 1 = ap length f.line ∙ length-append p (10 ∷ []) in
           let one : a + 1 + 0 ≡ a + (1 - newlines (b ∷ t)) + 1 = omega (arith, len, whole) in
-          ap (stretches m w a (b ∷ t)) (all ∙ ap (λ x. of_choice c x ++ marks_ahead g block l c r) f.line
+          ap (running m w a (b ∷ t)) (all ∙ ap (λ x. of_choice c x ++ marks_ahead g block l c r) f.line
           ∙ ap (λ x. x ++ marks_ahead g block l c r) (of_choice-append c p (10 ∷ []) some_taken)
           ∙ append_assoc (of_choice c p) (byte_at 10 false c ∷ []) (marks_ahead g block l c r))
-          ∙ stretches_choice m w a (b ∷ t) c p (byte_at 10 false c ∷ marks_ahead g block l c r) some_taken (line_is_one (b ∷ t))
-          ∙ ap (λ x. stretches m (w ++ p) (a + 1) (drop x (b ∷ t)) (byte_at 10 false c ∷ marks_ahead g block l c r)) len
-          ∙ stretches_newline m (w ++ p) (a + 1) u false c (marks_ahead g block l c r)
-          ∙ ap (λ x. record { begun = m; reach = (w ++ p) ++ 10 ∷ []; size = length ((w ++ p) ++ 10 ∷ []); choices = x } ∷ stretches (innermost c) [] 0 (drop 1 u) (marks_ahead g block l c r)) one
-          ∙ sym (stretches_newline m (w ++ p) (a + (1 - newlines (b ∷ t))) u true c (marks_ahead g block l c r))
-          ∙ ap (stretches m (w ++ p) (a + (1 - newlines (b ∷ t))) u) (sym (marks_ahead-newline c r s o k) ∙ ap (marks_ahead g block l c) (sym f.left))
+          ∙ running_choice m w a (b ∷ t) c p (byte_at 10 false c ∷ marks_ahead g block l c r) some_taken (line_is_one (b ∷ t))
+          ∙ ap (λ x. running m (w ++ p) (a + 1) (drop x (b ∷ t)) (byte_at 10 false c ∷ marks_ahead g block l c r)) len
+          ∙ running_newline m (w ++ p) (a + 1) u false c (marks_ahead g block l c r)
+          ∙ ap (λ x. record { begun = m; reach = (w ++ p) ++ 10 ∷ []; size = length ((w ++ p) ++ 10 ∷ []); choices = x } ∷ running (innermost c) [] 0 (drop 1 u) (marks_ahead g block l c r)) one
+          ∙ sym (running_newline m (w ++ p) (a + (1 - newlines (b ∷ t))) u true c (marks_ahead g block l c r))
+          ∙ ap (running m (w ++ p) (a + (1 - newlines (b ∷ t))) u) (sym (marks_ahead-newline c r s o k) ∙ ap (marks_ahead g block l c) (sym f.left))
 
       kids_by : Ends (b ∷ t) ⊎ Breaks (b ∷ t) → children (marks_ahead g block l c (b ∷ t)) ≡ children (marks_ahead g block l c (drop (line_len (b ∷ t)) (b ∷ t)))
       kids_by (inl f) = kids_behind ∙ ap (λ x. children (marks_ahead g block l c x)) (f.nothing ∙ sym f.left)
@@ -329,24 +329,24 @@ module _ (g : Row) (block : ℕ → List ℕ → Option Block) (l : ℕ) where
 
   -- and its choices are those through its end, and the one of its newline
   pub line_choices : (c d : Chain) (b : ℕ) (t : List ℕ) → IsSound g → OpensInLine block → IsClosed (innermost d) → (j : ℕ) → Goes c (line_len (b ∷ t)) j d (b ∷ t)
-      → stretches (innermost c) [] 0 (b ∷ t) (marks_ahead g block l c (b ∷ t))
-      ≡ record { begun = innermost c; reach = first_line (b ∷ t); size = length (first_line (b ∷ t)); choices = j + newlines (b ∷ t) } ∷ stretches (innermost d) [] 0 (drop (length (first_line (b ∷ t))) (b ∷ t)) (marks_ahead g block l d (drop (length (first_line (b ∷ t))) (b ∷ t)))
+      → running (innermost c) [] 0 (b ∷ t) (marks_ahead g block l c (b ∷ t))
+      ≡ record { begun = innermost c; reach = first_line (b ∷ t); size = length (first_line (b ∷ t)); choices = j + newlines (b ∷ t) } ∷ running (innermost d) [] 0 (drop (length (first_line (b ∷ t))) (b ∷ t)) (marks_ahead g block l d (drop (length (first_line (b ∷ t))) (b ∷ t)))
   line_choices c d b t s o k j h = h.choices (innermost c) [] 0 ∙ by_end (line_split (b ∷ t))
     where
       by_end : Ends (b ∷ t) ⊎ Breaks (b ∷ t)
-          → stretches (innermost c) (take (line_len (b ∷ t)) (b ∷ t)) (0 + j) (drop (line_len (b ∷ t)) (b ∷ t)) (marks_ahead g block l d (drop (line_len (b ∷ t)) (b ∷ t)))
-          ≡ record { begun = innermost c; reach = first_line (b ∷ t); size = length (first_line (b ∷ t)); choices = j + newlines (b ∷ t) } ∷ stretches (innermost d) [] 0 (drop (length (first_line (b ∷ t))) (b ∷ t)) (marks_ahead g block l d (drop (length (first_line (b ∷ t))) (b ∷ t)))
+          → running (innermost c) (take (line_len (b ∷ t)) (b ∷ t)) (0 + j) (drop (line_len (b ∷ t)) (b ∷ t)) (marks_ahead g block l d (drop (line_len (b ∷ t)) (b ∷ t)))
+          ≡ record { begun = innermost c; reach = first_line (b ∷ t); size = length (first_line (b ∷ t)); choices = j + newlines (b ∷ t) } ∷ running (innermost d) [] 0 (drop (length (first_line (b ∷ t))) (b ∷ t)) (marks_ahead g block l d (drop (length (first_line (b ∷ t))) (b ∷ t)))
       by_end (inl f) =
           let len : length (take (line_len (b ∷ t)) (b ∷ t)) ≡ line_len (b ∷ t) = length-line (b ∷ t) in
           let whole : length (first_line (b ∷ t)) ≡ length (take (line_len (b ∷ t)) (b ∷ t)) = ap length f.line in
           let none : 0 + j ≡ j + newlines (b ∷ t) = omega (arith, len, whole) in
-          ap (λ x. stretches (innermost c) (take (line_len (b ∷ t)) (b ∷ t)) x (drop (line_len (b ∷ t)) (b ∷ t)) (marks_ahead g block l d (drop (line_len (b ∷ t)) (b ∷ t)))) none
-          ∙ ap (λ x. stretches (innermost c) (take (line_len (b ∷ t)) (b ∷ t)) (j + newlines (b ∷ t)) x (marks_ahead g block l d x)) f.left
-          ∙ ap (stretches (innermost c) (take (line_len (b ∷ t)) (b ∷ t)) (j + newlines (b ∷ t)) []) (marks_ahead-end g block l d)
+          ap (λ x. running (innermost c) (take (line_len (b ∷ t)) (b ∷ t)) x (drop (line_len (b ∷ t)) (b ∷ t)) (marks_ahead g block l d (drop (line_len (b ∷ t)) (b ∷ t)))) none
+          ∙ ap (λ x. running (innermost c) (take (line_len (b ∷ t)) (b ∷ t)) (j + newlines (b ∷ t)) x (marks_ahead g block l d x)) f.left
+          ∙ ap (running (innermost c) (take (line_len (b ∷ t)) (b ∷ t)) (j + newlines (b ∷ t)) []) (marks_ahead-end g block l d)
           ∙ ends_stretch (innermost c) (innermost d) (j + newlines (b ∷ t)) b t (line_len t) (b == 10) f.left
-          ∙ ap (λ x. record { begun = innermost c; reach = x; size = length x; choices = j + newlines (b ∷ t) } ∷ stretches (innermost d) [] 0 [] []) (sym f.line)
-          ∙ ap (λ x. record { begun = innermost c; reach = first_line (b ∷ t); size = length (first_line (b ∷ t)); choices = j + newlines (b ∷ t) } ∷ stretches (innermost d) [] 0 [] x) (sym (marks_ahead-end g block l d))
-          ∙ ap (λ x. record { begun = innermost c; reach = first_line (b ∷ t); size = length (first_line (b ∷ t)); choices = j + newlines (b ∷ t) } ∷ stretches (innermost d) [] 0 x (marks_ahead g block l d x)) (sym f.nothing)
+          ∙ ap (λ x. record { begun = innermost c; reach = x; size = length x; choices = j + newlines (b ∷ t) } ∷ running (innermost d) [] 0 [] []) (sym f.line)
+          ∙ ap (λ x. record { begun = innermost c; reach = first_line (b ∷ t); size = length (first_line (b ∷ t)); choices = j + newlines (b ∷ t) } ∷ running (innermost d) [] 0 [] x) (sym (marks_ahead-end g block l d))
+          ∙ ap (λ x. record { begun = innermost c; reach = first_line (b ∷ t); size = length (first_line (b ∷ t)); choices = j + newlines (b ∷ t) } ∷ running (innermost d) [] 0 x (marks_ahead g block l d x)) (sym f.nothing)
       by_end (inr f) =
           let n : ℕ = line_len (b ∷ t) in
           let p : List ℕ = take n (b ∷ t) in
@@ -356,8 +356,8 @@ module _ (g : Row) (block : ℕ → List ℕ → Option Block) (l : ℕ) where
           let whole : length (first_line (b ∷ t)) ≡ length p + 1 = ap length f.line ∙ length-append p (10 ∷ []) in
           let one : 0 + j + 1 ≡ j + newlines (b ∷ t) = omega (arith, len, whole) in
           let left : drop 1 u ≡ r = ap (drop 1) f.left in
-          ap (stretches (innermost c) p (0 + j) u) (ap (marks_ahead g block l d) f.left ∙ marks_ahead-newline d r s o k)
-          ∙ stretches_newline (innermost c) p (0 + j) u true d (marks_ahead g block l d r)
-          ∙ ap (λ x. record { begun = innermost c; reach = p ++ 10 ∷ []; size = length (p ++ 10 ∷ []); choices = x } ∷ stretches (innermost d) [] 0 (drop 1 u) (marks_ahead g block l d r)) one
-          ∙ ap (λ x. record { begun = innermost c; reach = x; size = length x; choices = j + newlines (b ∷ t) } ∷ stretches (innermost d) [] 0 (drop 1 u) (marks_ahead g block l d r)) (sym f.line)
-          ∙ ap (λ x. record { begun = innermost c; reach = first_line (b ∷ t); size = length (first_line (b ∷ t)); choices = j + newlines (b ∷ t) } ∷ stretches (innermost d) [] 0 x (marks_ahead g block l d r)) left
+          ap (running (innermost c) p (0 + j) u) (ap (marks_ahead g block l d) f.left ∙ marks_ahead-newline d r s o k)
+          ∙ running_newline (innermost c) p (0 + j) u true d (marks_ahead g block l d r)
+          ∙ ap (λ x. record { begun = innermost c; reach = p ++ 10 ∷ []; size = length (p ++ 10 ∷ []); choices = x } ∷ running (innermost d) [] 0 (drop 1 u) (marks_ahead g block l d r)) one
+          ∙ ap (λ x. record { begun = innermost c; reach = x; size = length x; choices = j + newlines (b ∷ t) } ∷ running (innermost d) [] 0 (drop 1 u) (marks_ahead g block l d r)) (sym f.line)
+          ∙ ap (λ x. record { begun = innermost c; reach = first_line (b ∷ t); size = length (first_line (b ∷ t)); choices = j + newlines (b ∷ t) } ∷ running (innermost d) [] 0 x (marks_ahead g block l d r)) left

@@ -12,7 +12,9 @@ pub mod Children
 pub mod PartFronts
 pub mod Blocks
 pub mod PartReading
+pub mod Running
 pub mod Fitting
+pub mod Gathered
 pub mod Utf8
 pub mod DocSizes
 pub mod PartWhole

@@ -2,6 +2,7 @@
 use Rattle.std.proofs.Common.{ℕ, zero, suc, ◌+◌, ◌<◌, ◌≤◌, Bool, true, false, cond, List, [], ◌∷◌, length, None, refl, arith}
 use Rattle.tokei_table.specs.Lookups.{row_at}
 use Rattle.tokei_table.specs.Row.{Row}
+use Rattle.tokei_notebook.specs.Cells.{notebook_cells}
 use Rattle.tokei_stats.specs.Ordered.{IsOrdered}
 use Rattle.tokei_stats.specs.Overflow.{Fits}
 use Rattle.tokei_stats.specs.Statistics.{Statistics, empty, lines_of, summary}
@@ -11,7 +12,8 @@ use Rattle.tokei_count.specs.Languages.{Languages, is_notebook}
 use Rattle.tokei_count.specs.Modes.{Mark, marks}
 use Rattle.tokei_count.specs.NotebookCells.{cell_blocks}
 use Rattle.tokei_count.specs.Openings.{languages_of}
-use Rattle.tokei_count.specs.PlainReading.{notebook_by, read_by, reading, shares}
+use Rattle.tokei_count.specs.Gathered.{shares}
+use Rattle.tokei_count.specs.PlainReading.{notebook_by, read_by, reading}
 use Rattle.tokei_count.specs.Steps.{items_in, children_in, sum_over}
 use Rattle.tokei_count.specs.Weight.{own_weight, extra, weight}
 use Rattle.tokei_count.specs.WeightLaws.{HaveTokens, HaveNoNotebook}
@@ -20,7 +22,7 @@ use Rattle.tokei_count.proofs.LoadedMarks.{EachOf}
 use Rattle.tokei_count.proofs.Loads.{sizes, lines_within}
 use Rattle.tokei_count.proofs.StepWeight.{sum_less, own_less, loaded}
 use Rattle.tokei_count.proofs.Weights.{sum_none, weight-length}
-use Rattle.tokei_count.proofs.Summaries.{gathered-lines, reading-ordered, fits-lines}
+use Rattle.tokei_count.proofs.Summaries.{text-lines, cell-lines, reading-ordered, fits-lines}
 
 -- the children's numbers, and what the children add to the parent, fit into the bytes that they take and what they weigh
 -- more
@@ -46,7 +48,7 @@ module _ (rows : List Row) (tokens : HaveTokens rows) (docs : Bool) where
       by_test true = omega arith
       by_test false = omega (
         arith,
-        gathered-lines (λ k. empty) (λ k. tt) none kids tt,
+        text-lines (λ k. empty) (λ k. tt) (row_at rows language) docs ms,
         lines_within (row_at rows language) docs None [] None ms,
         (loaded rows tokens zero language t).within,
         shares_within (languages_of rows) none_of none_of (λ k. omega arith) kids (loaded rows tokens zero language t).kids,
@@ -77,10 +79,10 @@ module _ (rows : List Row) (tokens : HaveTokens rows) (docs : Bool) where
 
       by_test : (x : Bool) → ((k : Block) → inner k ≤ inner_weight k)
           → lines_of (summary (cond x (notebook_by read (cell_blocks rows language t)) (read_by (row_at rows language) docs read ms))) ≤ cond x 0 (length t) + cond x (sum_over inner_weight (cell_blocks rows language t)) (sum_over inner_extra kids)
-      by_test true h = omega (arith, gathered-lines read each_ordered none (cell_blocks rows language t) tt, sum_less inner inner_weight h (cell_blocks rows language t))
+      by_test true h = omega (arith, cell-lines read each_ordered (notebook_cells rows language t), sum_less inner inner_weight h (cell_blocks rows language t))
       by_test false h = omega (
         arith,
-        gathered-lines read each_ordered none kids tt,
+        text-lines read each_ordered (row_at rows language) docs ms,
         lines_within (row_at rows language) docs None [] None ms,
         (loaded rows tokens (suc n) language t).within,
         shares_within (languages_of rows) inner inner_extra h kids (loaded rows tokens (suc n) language t).kids,

@@ -9,8 +9,9 @@ use Rattle.tokei_count.specs.Modes.{Mark, Chain, innermost, inside, of_choice, c
 use Rattle.tokei_count.specs.Modes.Mark.{byte_at, child_at}
 use Rattle.tokei_count.specs.Parts.{Part, cut}
 use Rattle.tokei_count.specs.PlainReading.{children, one_of, tally}
-use Rattle.tokei_count.specs.Steps.{sum_over, walked_choices}
-use Rattle.tokei_count.specs.Stretches.{stretches, one_if}
+use Rattle.tokei_count.specs.Steps.{sum_over}
+use Rattle.tokei_count.specs.Running.{choices_passed, running}
+use Rattle.tokei_count.specs.Stretches.{one_if}
 use Rattle.tokei_count.specs.declared.class.Class.{Class}
 use Rattle.tokei_count.specs.declared.class.Class.TheVariants.{Blank, Code, Comment}
 use Rattle.tokei_stats.specs.Statistics.{Counts, lines_of, plus}
@@ -55,14 +56,14 @@ one_or_none true = omega arith
 one_or_none false = omega arith
 
 -- no more choices begin than there are bytes outside the children
-pub choices_within : (os : List (List ℕ)) (m : Mode) (s : List ℕ) (n : ℕ) (t : List ℕ) (ms : List Mark) → walked_choices os (stretches m s n t ms) + sizes (children ms) ≤ n + load ms
-unfolding stretches
+pub choices_within : (os : List (List ℕ)) (m : Mode) (s : List ℕ) (n : ℕ) (t : List ℕ) (ms : List Mark) → choices_passed os (running m s n t ms) + sizes (children ms) ≤ n + load ms
+unfolding running
 choices_within os m [] n t [] = omega arith
 choices_within os m (a ∷ s) n t [] = omega (arith, some_or_none (is_walked os m (a ∷ s)) n)
 choices_within os m s n t (byte_at b x c ∷ ms) = by_test (b == 10) (choices_within os (innermost c) [] 0 (drop 1 t) ms) (choices_within os m (s ++ b ∷ []) (n + one_if x) (drop 1 t) ms)
   where
-    by_test : (y : Bool) → walked_choices os (stretches (innermost c) [] 0 (drop 1 t) ms) + sizes (children ms) ≤ 0 + load ms → walked_choices os (stretches m (s ++ b ∷ []) (n + one_if x) (drop 1 t) ms) + sizes (children ms) ≤ n + one_if x + load ms
-        → walked_choices os (cond y (record { begun = m; reach = s ++ b ∷ []; size = length (s ++ b ∷ []); choices = n + one_if x } ∷ stretches (innermost c) [] 0 (drop 1 t) ms) (stretches m (s ++ b ∷ []) (n + one_if x) (drop 1 t) ms)) + sizes (children ms) ≤ n + suc (load ms)
+    by_test : (y : Bool) → choices_passed os (running (innermost c) [] 0 (drop 1 t) ms) + sizes (children ms) ≤ 0 + load ms → choices_passed os (running m (s ++ b ∷ []) (n + one_if x) (drop 1 t) ms) + sizes (children ms) ≤ n + one_if x + load ms
+        → choices_passed os (cond y (record { begun = m; reach = s ++ b ∷ []; size = length (s ++ b ∷ []); choices = n + one_if x } ∷ running (innermost c) [] 0 (drop 1 t) ms) (running m (s ++ b ∷ []) (n + one_if x) (drop 1 t) ms)) + sizes (children ms) ≤ n + suc (load ms)
     by_test true h k = omega (arith, some_or_none (is_walked os m (s ++ b ∷ [])) (n + one_if x), one_or_none x)
     by_test false h k = omega (arith, one_or_none x)
 choices_within os m s n t (child_at k ∷ ms) = omega (arith, choices_within os None [] 0 (drop k.size t) ms, some_or_none (is_walked os m (s ++ first_line t)) n)

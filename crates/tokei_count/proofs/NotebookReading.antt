@@ -14,7 +14,8 @@ use Rattle.tokei_count.specs.Items.{Block}
 use Rattle.tokei_count.specs.Languages.{is_notebook}
 use Rattle.tokei_count.specs.NotebookCells.{cell_block, cell_blocks}
 use Rattle.tokei_count.specs.Openings.{languages_of}
-use Rattle.tokei_count.specs.PlainReading.{reading, notebook_by, child_reading, gathered}
+use Rattle.tokei_count.specs.Gathered.{gathered}
+use Rattle.tokei_count.specs.PlainReading.{reading, child_reading}
 use Rattle.tokei_count.proofs.Fitting.{gathered-child, gathered-first}
 use Rattle.tokei_count.proofs.TextReading.{reading-notebook, child_reading-is}
 
@@ -63,7 +64,7 @@ module _ (rows : List Row) (docs : Bool) (levels language : ℕ) (text : List �
 
     cells_fit : is_notebook (row_at rows language) ≡ true → 0 < levels → Fits whole → BlobsFit (gathered read blobs (k ∷ map cell_block (map cell_of (drop (i + 1) items))))
     cells_fit n some f =
-        let all : Fits (notebook_by read (cell_blocks rows language text)) = subst Fits (reading-notebook rows docs levels language text n some) f in
+        let all : Fits (node no_lines (gathered read none (cell_blocks rows language text))) = subst Fits (reading-notebook rows docs levels language text n some) f in
         subst BlobsFit (sym way ∙ ap (gathered read blobs) (cells_split items i cell h e)) all.1
 
     pub cell_fits : is_notebook (row_at rows language) ≡ true → 0 < levels → Fits whole → Fits (read k)

@@ -10,8 +10,7 @@ use Rattle.tokei_count.specs.Choice.Choice.{child_opens}
 use Rattle.tokei_count.specs.Items.{Mode}
 use Rattle.tokei_count.specs.Lines.{first_line, line_len}
 use Rattle.tokei_count.specs.Glance.{is_walked}
-use Rattle.tokei_count.specs.Steps.{walked_choices}
-use Rattle.tokei_count.specs.Stretches.{stretches}
+use Rattle.tokei_count.specs.Running.{choices_passed, running}
 use Rattle.tokei_count.specs.Modes.{Mark, Chain, innermost}
 use Rattle.tokei_count.specs.Modes.Mark.{child_at}
 use Rattle.tokei_count.specs.Parts.{cut}
@@ -44,9 +43,9 @@ module _ (g : Row) (block : ℕ → List ℕ → Option Block) (fit : FitsBlocks
   unfolding cut
   cut_child c w k ms = refl
 
-  stretches_child : (m : Mode) (s : List ℕ) (n : ℕ) (t : List ℕ) (k : Block) (ms : List Mark) → stretches m s n t (child_at k ∷ ms) ≡ record { begun = m; reach = s ++ first_line t; size = length s; choices = n } ∷ stretches None [] 0 (drop k.size t) ms
-  unfolding stretches
-  stretches_child m s n t k ms = refl
+  running_child : (m : Mode) (s : List ℕ) (n : ℕ) (t : List ℕ) (k : Block) (ms : List Mark) → running m s n t (child_at k ∷ ms) ≡ record { begun = m; reach = s ++ first_line t; size = length s; choices = n } ∷ running None [] 0 (drop k.size t) ms
+  unfolding running
+  running_child m s n t k ms = refl
 
   -- behind n bytes of its line a child opens
   child_read : (c d e : Chain) (n : ℕ) (k : Block) (t : List ℕ) → n ≤ length t → (j : ℕ) → Leads g block l c n j e t → OpensChild g block l e k d (drop n t) → ReadsChild g block l docs c n j k d t
@@ -70,9 +69,9 @@ module _ (g : Row) (block : ℕ → List ℕ → Option Block) (fit : FitsBlocks
         plain = o.after;
         counts = ap (tally g docs) (lead.same (innermost c) []) ∙ ap (λ ms. tally g docs (cut (innermost c) (take n t) None ms)) opened ∙ cut_child c (take n t) k after;
         kids = lead.kids ∙ ap children opened;
-        steps = ap (walked_choices (openers g)) (lead.choices (innermost c) [] 0 ∙ ap (λ x. stretches (innermost c) (take n t) x (drop n t) (marks_ahead g block l [] (drop n t))) none ∙ ap (stretches (innermost c) (take n t) j (drop n t)) opened ∙ stretches_child (innermost c) (take n t) j (drop n t) k after)
-            ∙ ap (λ w. cond (is_walked (openers g) (innermost c) w) j 0 + walked_choices (openers g) (stretches None [] 0 (drop k.size (drop n t)) after)) (line_from n t lead.within)
-            ∙ ap (λ w. cond (is_walked (openers g) (innermost c) (first_line t)) j 0 + walked_choices (openers g) (stretches None [] 0 w after)) rest;
+        steps = ap (choices_passed (openers g)) (lead.choices (innermost c) [] 0 ∙ ap (λ x. running (innermost c) (take n t) x (drop n t) (marks_ahead g block l [] (drop n t))) none ∙ ap (running (innermost c) (take n t) j (drop n t)) opened ∙ running_child (innermost c) (take n t) j (drop n t) k after)
+            ∙ ap (λ w. cond (is_walked (openers g) (innermost c) w) j 0 + choices_passed (openers g) (running None [] 0 (drop k.size (drop n t)) after)) (line_from n t lead.within)
+            ∙ ap (λ w. cond (is_walked (openers g) (innermost c) (first_line t)) j 0 + choices_passed (openers g) (running None [] 0 w after)) rest;
       }
 
   -- the same by places of the text

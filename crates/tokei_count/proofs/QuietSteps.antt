@@ -16,18 +16,19 @@ use Rattle.tokei_count.specs.Modes.{Chain, marks}
 use Rattle.tokei_count.specs.Openings.{languages_of}
 use Rattle.tokei_count.specs.PlainReading.{blocks, children}
 use Rattle.tokei_count.specs.Progress.{marks_ahead, FitsBlocks}
-use Rattle.tokei_count.specs.Steps.{with_children, own_steps, steps, sum_over, walked_choices}
-use Rattle.tokei_count.specs.Stretches.{stretches}
+use Rattle.tokei_count.specs.Steps.{with_children, own_steps, steps, sum_over}
+use Rattle.tokei_count.specs.Running.{choices_passed, running}
 use Rattle.tokei_count.specs.WeightLaws.{HaveTokens}
 use Rattle.tokei_count.proofs.Ahead.{marks_ahead-end}
 use Rattle.tokei_count.proofs.Blocks.{by_levels}
 use Rattle.tokei_count.proofs.ByChoices.{Takes, IsNewline, IsChild, by_choices}
 use Rattle.tokei_count.proofs.CalmChoices.{holds-behind}
-use Rattle.tokei_count.proofs.Cuts.{stretches_newline}
+use Rattle.tokei_count.proofs.Cuts.{running_newline}
 use Rattle.tokei_count.proofs.Lines.{take-first}
 use Rattle.tokei_count.proofs.OpenersInLines.{none_here, none_next}
 use Rattle.tokei_count.proofs.PlainBytes.{or_left, or_right}
 use Rattle.tokei_count.proofs.QuietBlocks.{quiet_blocks}
+use Rattle.tokei_count.proofs.Running.{own_steps-running}
 use Rattle.tokei_count.proofs.Weights.{every_token}
 
 -- what doesn't begin a text doesn't begin its front
@@ -66,18 +67,18 @@ module _ (g : Row) (block : ℕ → List ℕ → Option Block) where
   -- left is walked, and no child opens.
   abbrev IsStill : ℕ → Chain → List ℕ → Type 0
   IsStill l c t = (s : List ℕ) (k : ℕ) → c ≡ [] → holds (openers g) (s ++ t) ≡ false
-      → (walked_choices (openers g) (stretches None s k t (marks_ahead g block l c t)) ≡ 0) × (children (marks_ahead g block l c t) ≡ [])
+      → (choices_passed (openers g) (running None s k t (marks_ahead g block l c t)) ≡ 0) × (children (marks_ahead g block l c t) ≡ [])
 
   -- the choices of a part that begins plain and holds no opener aren't counted
   passed : (r : List ℕ) (k rest : ℕ) → holds (openers g) r ≡ false → rest ≡ 0 → cond (is_walked (openers g) None r) k 0 + rest ≡ 0
   passed r k rest h e = ap₂ (λ w n. cond w k 0 + n) h e
 
   at_end : (l : ℕ) (c : Chain) → IsStill l c []
-  unfolding stretches
+  unfolding running
   at_end l c s k plain h =
-      subst (λ ms. (walked_choices (openers g) (stretches None s k [] ms) ≡ 0) × (children ms ≡ [])) (sym (marks_ahead-end g block l c)) (by_bytes_left s (ap (holds (openers g)) (sym (append-nil s)) ∙ h), refl)
+      subst (λ ms. (choices_passed (openers g) (running None s k [] ms) ≡ 0) × (children ms ≡ [])) (sym (marks_ahead-end g block l c)) (by_bytes_left s (ap (holds (openers g)) (sym (append-nil s)) ∙ h), refl)
     where
-      by_bytes_left : (s : List ℕ) → holds (openers g) s ≡ false → walked_choices (openers g) (stretches None s k [] []) ≡ 0
+      by_bytes_left : (s : List ℕ) → holds (openers g) s ≡ false → choices_passed (openers g) (running None s k [] []) ≡ 0
       by_bytes_left [] h = refl
       by_bytes_left (a ∷ s) h = passed (a ∷ s) k 0 h refl
 
@@ -86,7 +87,7 @@ module _ (g : Row) (block : ℕ → List ℕ → Option Block) where
   by_newline l [] u h ih s k plain q =
       let rest = ih [] 0 refl (none_next (openers g) 10 u (holds-behind (openers g) s (10 ∷ u) q)) in
       let line : holds (openers g) (s ++ 10 ∷ []) ≡ false = holds-front (openers g) (s ++ 10 ∷ []) u (ap (holds (openers g)) (append_assoc s (10 ∷ []) u) ∙ q) in (
-        ap (λ ms. walked_choices (openers g) (stretches None s k (10 ∷ u) ms)) h.marks ∙ ap (walked_choices (openers g)) (stretches_newline None s k (10 ∷ u) true [] (marks_ahead g block l [] u)) ∙ passed (s ++ 10 ∷ []) (k + 1) _ line rest.0,
+        ap (λ ms. choices_passed (openers g) (running None s k (10 ∷ u) ms)) h.marks ∙ ap (choices_passed (openers g)) (running_newline None s k (10 ∷ u) true [] (marks_ahead g block l [] u)) ∙ passed (s ++ 10 ∷ []) (k + 1) _ line rest.0,
         ap children h.marks ∙ rest.1,
       )
 
@@ -95,7 +96,7 @@ module _ (g : Row) (block : ℕ → List ℕ → Option Block) where
       let calm = h.calm plain (holds-line (openers g) t (holds-behind (openers g) s t q)) in
       let joined : (s ++ take n t) ++ drop n t ≡ s ++ t = append_assoc s (take n t) (drop n t) ∙ ap (λ r. s ++ r) (take-append-drop n t) in
       let rest = ih (s ++ take n t) (k + j) calm.0 (ap (holds (openers g)) joined ∙ q) in
-      (ap (walked_choices (openers g)) (h.goes.leads.choices None s k) ∙ rest.0, h.goes.leads.kids ∙ rest.1)
+      (ap (choices_passed (openers g)) (h.goes.leads.choices None s k) ∙ rest.0, h.goes.leads.kids ∙ rest.1)
 
   module _ (quiet : (l : ℕ) (u : List ℕ) → holds (openers g) (first_line u) ≡ false → (n : ℕ) → n < line_len u → block l (drop n u) ≡ None) where
     by_child : (l l' : ℕ) (k : Block) (t : List ℕ) → IsChild g block l l' k t → IsStill l' [] (drop k.size t) → IsStill l [] t
@@ -110,7 +111,10 @@ module _ (g : Row) (block : ℕ → List ℕ → Option Block) where
     pub quiet_text : has_tokens g ≡ true → FitsBlocks block → (t : List ℕ) → first_opener (openers g) t ≡ None
         → (own_steps g t (items_of g block t) ≡ 0) × (children (marks [] (items_of g block t)) ≡ [])
     unfolding marks_ahead
-    quiet_text tokens fits t h = let none : holds (openers g) t ≡ false = ap is_some h in still tokens fits t none [] 0 refl none
+    quiet_text tokens fits t h =
+        let none : holds (openers g) t ≡ false = ap is_some h in
+        let all = still tokens fits t none [] 0 refl none in
+        (own_steps-running g t (items_of g block t) ∙ all.0, all.1)
 
 -- a text that isn't a notebook takes the steps of its own, where it has no children
 module _ (rows : List Row) (language : ℕ) (t : List ℕ) (lines : is_notebook (row_at rows language) ≡ false) where

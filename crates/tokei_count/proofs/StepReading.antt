@@ -20,13 +20,14 @@ use Rattle.tokei_count.specs.Progress.{marks_ahead, children_left, steps_left, I
 use Rattle.tokei_count.proofs.Leading.{line_len-drop}
 use Rattle.tokei_count.proofs.LineEnds.{below_or}
 use Rattle.tokei_count.proofs.PartFronts.{line_len_within, part_on, part_anew}
-use Rattle.tokei_count.specs.Steps.{own_steps, items_in, children_in, sum_over, with_children, steps, child_steps, capped, walked_choices}
-use Rattle.tokei_count.specs.Stretches.{stretches}
+use Rattle.tokei_count.specs.Steps.{own_steps, items_in, children_in, sum_over, with_children, steps, child_steps, capped}
+use Rattle.tokei_count.specs.Running.{choices_passed, running}
 use Rattle.tokei_count.specs.declared.class.Class.{Class}
 use Rattle.tokei_count.specs.declared.class.Class.TheVariants.{Blank, Code, Comment}
 use Rattle.tokei_stats.specs.Statistics.{Counts, plus, lines_of}
 use Rattle.tokei_count.proofs.Ahead.{marks_ahead-end}
 use Rattle.tokei_count.proofs.Lines.{children_left-none, length-whole, length-broken, first_some}
+use Rattle.tokei_count.proofs.Running.{own_steps-running}
 use Rattle.tokei_count.proofs.OpenersInLines.{below, holds-line, none_next, place-later}
 
 abbrev pub most : ℕ
@@ -136,8 +137,10 @@ module _ (rows : List Row) (levels language : ℕ) (text : List ℕ) where
           → steps (languages_of rows) n language text ≡ steps_left (row_at rows language) (blocks (languages_of rows) n language text) (length text) [] text + length (children_left (row_at rows language) (blocks (languages_of rows) n language text) (length text) [] text) + sum_over (child_steps (languages_of rows) n) (children_left (row_at rows language) (blocks (languages_of rows) n language text) (length text) [] text)
       by_levels zero h =
           let none = sum_none (child_steps (languages_of rows) zero) (λ k. refl) (children_in (languages_of rows) zero language text) in
-          ap (λ x. cond x 0 (own_steps (row_at rows language) text (items_in (languages_of rows) zero language text) + length (children_in (languages_of rows) zero language text))) h ∙ omega (arith, none)
+          ap (λ x. cond x 0 (own_steps (row_at rows language) text (items_in (languages_of rows) zero language text) + length (children_in (languages_of rows) zero language text))) h
+          ∙ omega (arith, none, own_steps-running (row_at rows language) text (items_in (languages_of rows) zero language text))
       by_levels (suc n) h = ap (λ x. cond x (sum_over (λ k. steps (languages_of rows) n k.language k.contents) (cell_blocks rows language text)) (own_steps (row_at rows language) text (items_in (languages_of rows) (suc n) language text) + length (children_in (languages_of rows) (suc n) language text) + sum_over (λ k. steps (languages_of rows) n k.language k.contents) (children_in (languages_of rows) (suc n) language text))) h
+          ∙ ap (λ m. m + length (children_in (languages_of rows) (suc n) language text) + sum_over (λ k. steps (languages_of rows) n k.language k.contents) (children_in (languages_of rows) (suc n) language text)) (own_steps-running (row_at rows language) text (items_in (languages_of rows) (suc n) language text))
 
   -- a notebook, with levels left or none
   pub steps-notebook : is_notebook g ≡ true → 0 < levels → steps (languages_of rows) levels language text ≡ inner_of (cell_blocks rows language text)
@@ -157,8 +160,8 @@ module _ (rows : List Row) (levels language : ℕ) (text : List ℕ) where
       by_levels (suc n) e h = absurd (omega (arith, e))
 
   steps_left-none : (l : ℕ) (c : Chain) → steps_left g block l c [] ≡ 0
-  unfolding stretches
-  steps_left-none l c = ap (λ ms. walked_choices (openers g) (stretches (innermost c) [] 0 [] ms)) (marks_ahead-end g block l c)
+  unfolding running
+  steps_left-none l c = ap (λ ms. choices_passed (openers g) (running (innermost c) [] 0 [] ms)) (marks_ahead-end g block l c)
 
   -- at the end nothing is left
   pub steps_whole : (own inner l : ℕ) (c : Chain) → is_notebook g ≡ false → AreUnderWay own inner l c [] → capped (inner + own) ≡ capped (steps (languages_of rows) levels language text)

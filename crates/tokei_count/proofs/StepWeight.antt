@@ -17,6 +17,7 @@ use Rattle.tokei_count.proofs.Blocks.{by_levels}
 use Rattle.tokei_count.proofs.HeavyBlocks.{IsHeavy, blocks_heavy}
 use Rattle.tokei_count.proofs.LoadedMarks.{EachOf, IsLoaded, text_loaded}
 use Rattle.tokei_count.proofs.Loads.{sizes, choices_within}
+use Rattle.tokei_count.proofs.Running.{own_steps-running}
 use Rattle.tokei_count.proofs.Weights.{every_token}
 
 -- a sum of smaller numbers is smaller
@@ -42,7 +43,12 @@ module _ (rows : List Row) (tokens : HaveTokens rows) where
   own_within : (levels language : ℕ) (t : List ℕ) → own_steps (row_at rows language) t (items_in (languages_of rows) levels language t) + sizes (children_in (languages_of rows) levels language t) ≤ length t
   own_within levels language t =
       let ms : List Mark = marks [] (items_in (languages_of rows) levels language t) in
-      omega (arith, choices_within (openers (row_at rows language)) None [] 0 t ms, (loaded levels language t).within)
+      omega (
+        arith,
+        own_steps-running (row_at rows language) t (items_in (languages_of rows) levels language t),
+        choices_within (openers (row_at rows language)) None [] 0 t ms,
+        (loaded levels language t).within,
+      )
 
   pub steps-weight : (levels language : ℕ) (t : List ℕ) → steps (languages_of rows) levels language t ≤ weight (languages_of rows) levels language t
   unfolding with_children extra

@@ -4,10 +4,13 @@ use Rattle.tokei_table.specs.Row.{Row}
 use Rattle.tokei_table.specs.Lookups.{row_at}
 use Rattle.tokei_count.specs.Items.{Block}
 use Rattle.tokei_count.specs.Derivation.{items_of}
-use Rattle.tokei_count.specs.Modes.{Chain, marks}
+use Rattle.tokei_count.specs.Modes.{Chain, Mark, marks}
+use Rattle.tokei_count.specs.Parts.{parts_of}
+use Rattle.tokei_notebook.specs.Cells.{notebook_cells}
 use Rattle.tokei_count.specs.Languages.{is_notebook}
 use Rattle.tokei_count.specs.Openings.{languages_of}
-use Rattle.tokei_count.specs.PlainReading.{blocks, reading, read_by, notebook_by, child_reading, shares, gathered, one_of}
+use Rattle.tokei_count.specs.Gathered.{gathered, shares}
+use Rattle.tokei_count.specs.PlainReading.{blocks, reading, read_by, notebook_by, child_reading, children, one_of, tally}
 use Rattle.tokei_count.specs.NotebookCells.{cell_blocks}
 use Rattle.tokei_count.specs.Progress.{marks_ahead, counts_left, children_left, ReadsLine, ReadsChild}
 use Rattle.tokei_stats.specs.Statistics.{Counts, Statistics, Blobs, plus, no_lines, empty, at, put, joined, sum}
@@ -16,6 +19,8 @@ use Rattle.tokei_stats.specs.Statistics.Blobs.{none}
 use Rattle.tokei_stats.specs.Overflow.{CountsFit, Fits, BlobsFit}
 use Rattle.tokei_count.specs.declared.class.Class.{Class}
 use Rattle.tokei_count.proofs.Fitting.{gathered-child, gathered-first}
+use Rattle.tokei_count.proofs.Gathered.{gathered-sum, gathered-cells}
+use Rattle.tokei_count.proofs.Summaries.{reading-ordered}
 use Rattle.tokei_stats.proofs.Fitting.{counts-left}
 use Rattle.tokei_count.proofs.Lines.{counts_left-none, children_left-none}
 
@@ -68,17 +73,29 @@ module _ (rows : List Row) (docs : Bool) (levels language : ℕ) (text : List �
       by_levels : (n : ℕ) → is_notebook (row_at rows language) ≡ false
           → reading (languages_of rows) docs n language text ≡ node (plus (counts_left (row_at rows language) (blocks (languages_of rows) n language text) (length text) docs [] text) (shares (children_left (row_at rows language) (blocks (languages_of rows) n language text) (length text) [] text)))
           (gathered (child_reading (languages_of rows) docs n) none (children_left (row_at rows language) (blocks (languages_of rows) n language text) (length text) [] text))
-      by_levels zero h = ap (λ x. cond x empty (read_by (row_at rows language) docs (λ k. empty) (marks [] (items_of (row_at rows language) (blocks (languages_of rows) zero language text) text)))) h
-      by_levels (suc n) h = ap (λ x. cond x (notebook_by (λ k. reading (languages_of rows) docs n k.language k.contents) (cell_blocks rows language text)) (read_by (row_at rows language) docs (λ k. reading (languages_of rows) docs n k.language k.contents) (marks [] (items_of (row_at rows language) (blocks (languages_of rows) (suc n) language text) text)))) h
+      by_levels zero h =
+          let ms : List Mark = marks [] (items_of (row_at rows language) (blocks (languages_of rows) zero language text) text) in
+          ap (λ x. cond x empty (read_by (row_at rows language) docs (λ k. empty) ms)) h
+          ∙ gathered-sum (λ k. empty) (λ k. tt) (tally (row_at rows language) docs (parts_of ms)) none (children ms) tt
+      by_levels (suc n) h =
+          let ms : List Mark = marks [] (items_of (row_at rows language) (blocks (languages_of rows) (suc n) language text) text) in
+          let inner : Block → Statistics = λ (k : Block). reading (languages_of rows) docs n k.language k.contents in
+          ap (λ x. cond x (notebook_by inner (cell_blocks rows language text)) (read_by (row_at rows language) docs inner ms)) h
+          ∙ gathered-sum inner (λ k. reading-ordered (languages_of rows) docs n k.language k.contents) (tally (row_at rows language) docs (parts_of ms)) none (children ms) tt
 
   -- a notebook, with levels left or none
-  pub reading-notebook : is_notebook g ≡ true → 0 < levels → whole ≡ notebook_by read (cell_blocks rows language text)
+  pub reading-notebook : is_notebook g ≡ true → 0 < levels → whole ≡ node no_lines (gathered read none (cell_blocks rows language text))
   unfolding reading
   reading-notebook h some = by_levels levels some h
     where
-      by_levels : (n : ℕ) → 0 < n → is_notebook (row_at rows language) ≡ true → reading (languages_of rows) docs n language text ≡ notebook_by (child_reading (languages_of rows) docs n) (cell_blocks rows language text)
+      by_levels : (n : ℕ) → 0 < n → is_notebook (row_at rows language) ≡ true
+          → reading (languages_of rows) docs n language text ≡ node no_lines (gathered (child_reading (languages_of rows) docs n) none (cell_blocks rows language text))
       by_levels zero some h = absurd (omega (arith, some))
-      by_levels (suc n) some h = ap (λ x. cond x (notebook_by (λ k. reading (languages_of rows) docs n k.language k.contents) (cell_blocks rows language text)) (read_by (row_at rows language) docs (λ k. reading (languages_of rows) docs n k.language k.contents) (marks [] (items_of (row_at rows language) (blocks (languages_of rows) (suc n) language text) text)))) h
+      by_levels (suc n) some h =
+          let ms : List Mark = marks [] (items_of (row_at rows language) (blocks (languages_of rows) (suc n) language text) text) in
+          let inner : Block → Statistics = λ (k : Block). reading (languages_of rows) docs n k.language k.contents in
+          ap (λ x. cond x (notebook_by inner (cell_blocks rows language text)) (read_by (row_at rows language) docs inner ms)) h
+          ∙ gathered-cells inner (λ k. reading-ordered (languages_of rows) docs n k.language k.contents) (notebook_cells rows language text)
 
   pub reading-no_notebook : is_notebook g ≡ true → levels ≡ 0 → whole ≡ empty
   unfolding reading

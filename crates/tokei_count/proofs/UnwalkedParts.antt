@@ -9,16 +9,18 @@ use Rattle.tokei_count.specs.Derivation.{items_of}
 use Rattle.tokei_count.specs.Glance.{holds, is_walked}
 use Rattle.tokei_count.specs.Items.{Block, Mode}
 use Rattle.tokei_count.specs.Lines.{first_line, line_len}
-use Rattle.tokei_count.specs.Modes.{Chain, innermost, marks}
-use Rattle.tokei_count.specs.PartLaw.{IsInPlainText, IsUnbroken, UnwalkedStayPlain}
+use Rattle.tokei_count.specs.Modes.{Chain, Mark, innermost, marks}
+use Rattle.tokei_count.specs.PartLaw.{IsInPlainText, UnwalkedStayPlain}
 use Rattle.tokei_count.specs.Parts.{cut}
 use Rattle.tokei_count.specs.Progress.{marks_ahead, FitsBlocks}
+use Rattle.tokei_count.specs.Running.{Passed, running}
 use Rattle.tokei_count.specs.Stretches.{stretches}
 use Rattle.tokei_count.proofs.Ahead.{marks_ahead-end}
 use Rattle.tokei_count.proofs.ByChoices.{Takes, IsNewline, IsChild, by_choices}
 use Rattle.tokei_count.proofs.CalmChoices.{holds-behind}
-use Rattle.tokei_count.proofs.Cuts.{cut_newline, stretches_newline}
+use Rattle.tokei_count.proofs.Cuts.{cut_newline, running_newline}
 use Rattle.tokei_count.proofs.PartReading.{line_from}
+use Rattle.tokei_count.proofs.Running.{running-is, each-stretch}
 
 -- a part that isn't walked begins plain and holds no opener
 pub unwalked-plain : (os : List (List ℕ)) (m : Mode) (reach : List ℕ) → is_walked os m reach ≡ false → m ≡ None
@@ -38,6 +40,10 @@ pub plain_first : (os : List (List ℕ)) (c : Chain) (t : List ℕ) → IsPlainS
 plain_first os [] t h = refl
 plain_first os (e ∷ c) t h = cc
 
+-- where a stretch isn't walked it has all of its reach
+abbrev IsWhole : List (List ℕ) → Passed → Type 0
+IsWhole os s = is_walked os s.begun s.reach ≡ false → s.size ≡ length s.reach
+
 module _ (g : Row) (block : ℕ → List ℕ → Option Block) where
   abbrev Walked : Mode → List ℕ → Bool
   Walked = is_walked (openers g)
@@ -55,18 +61,18 @@ module _ (g : Row) (block : ℕ → List ℕ → Option Block) where
   -- the parts and stretches that are left
   abbrev ArePlain : ℕ → Chain → List ℕ → Type 0
   ArePlain l c t = (m : Mode) (s : List ℕ) (k : ℕ) → IsPlainSoFar (openers g) m s c t
-      → AllByRecursion (IsInPlainText (openers g)) (cut m s (innermost c) (marks_ahead g block l c t)) × AllByRecursion (IsUnbroken (openers g)) (stretches m s k t (marks_ahead g block l c t))
+      → AllByRecursion (IsInPlainText (openers g)) (cut m s (innermost c) (marks_ahead g block l c t)) × AllByRecursion (IsWhole (openers g)) (running m s k t (marks_ahead g block l c t))
 
   both_plain : (m : Mode) (s : List ℕ) (c : Chain) → (Walked m s ≡ false → c ≡ []) → Walked m s ≡ false → (m ≡ None) × (innermost c ≡ None)
   both_plain m s c plain e = (unwalked-plain (openers g) m s e, ap innermost (plain e))
 
   at_end : (l : ℕ) (c : Chain) → ArePlain l c []
-  unfolding cut stretches
+  unfolding cut running
   at_end l c m s k plain =
-      subst (λ ms. AllByRecursion (IsInPlainText (openers g)) (cut m s (innermost c) ms) × AllByRecursion (IsUnbroken (openers g)) (stretches m s k [] ms)) (sym (marks_ahead-end g block l c))
+      subst (λ ms. AllByRecursion (IsInPlainText (openers g)) (cut m s (innermost c) ms) × AllByRecursion (IsWhole (openers g)) (running m s k [] ms)) (sym (marks_ahead-end g block l c))
       (by_bytes_left s (λ e. plain (ap (Walked m) (append-nil s) ∙ e)))
     where
-      by_bytes_left : (s : List ℕ) → (Walked m s ≡ false → c ≡ []) → AllByRecursion (IsInPlainText (openers g)) (cut m s (innermost c) []) × AllByRecursion (IsUnbroken (openers g)) (stretches m s k [] [])
+      by_bytes_left : (s : List ℕ) → (Walked m s ≡ false → c ≡ []) → AllByRecursion (IsInPlainText (openers g)) (cut m s (innermost c) []) × AllByRecursion (IsWhole (openers g)) (running m s k [] [])
       by_bytes_left [] plain = (tt, tt)
       by_bytes_left (a ∷ s) plain = ((both_plain m (a ∷ s) c plain, tt), (λ e. refl, tt))
 
@@ -74,20 +80,20 @@ module _ (g : Row) (block : ℕ → List ℕ → Option Block) where
   by_newline l c u h ih m s k plain =
       let rest = ih (innermost c) [] 0 (plain_first (openers g) c u) in (
         subst (AllByRecursion (IsInPlainText (openers g))) (sym (ap (cut m s (innermost c)) h.marks ∙ cut_newline m s (innermost c) true c (marks_ahead g block l c u))) (both_plain m (s ++ 10 ∷ []) c plain, rest.0),
-        subst (AllByRecursion (IsUnbroken (openers g))) (sym (ap (stretches m s k (10 ∷ u)) h.marks ∙ stretches_newline m s k (10 ∷ u) true c (marks_ahead g block l c u))) (λ e. refl, rest.1),
+        subst (AllByRecursion (IsWhole (openers g))) (sym (ap (running m s k (10 ∷ u)) h.marks ∙ running_newline m s k (10 ∷ u) true c (marks_ahead g block l c u))) (λ e. refl, rest.1),
       )
 
   by_bytes : (l : ℕ) (c : Chain) (n j x : ℕ) (d : Chain) (t : List ℕ) → Takes g block l c n j x d t → ArePlain l d (drop n t) → ArePlain l c t
   by_bytes l c n j x d t h ih m s k plain =
       let rest = ih m (s ++ take n t) (k + j) (λ e. (calm_on l c n j x d t h m s plain e).0) in (
         subst (AllByRecursion (IsInPlainText (openers g))) (sym (h.goes.leads.same m s)) rest.0,
-        subst (AllByRecursion (IsUnbroken (openers g))) (sym (h.goes.leads.choices m s k)) rest.1,
+        subst (AllByRecursion (IsWhole (openers g))) (sym (h.goes.leads.choices m s k)) rest.1,
       )
 
   module _ (quiet : (l : ℕ) (u : List ℕ) → holds (openers g) (first_line u) ≡ false → (n : ℕ) → n < line_len u → block l (drop n u) ≡ None) where
     -- a child breaks off no part but one that is walked
     by_child : (l l' : ℕ) (k : Block) (t : List ℕ) → IsChild g block l l' k t → ArePlain l' [] (drop k.size t) → ArePlain l [] t
-    unfolding cut stretches
+    unfolding cut running
     by_child l l' k t h ih m s a plain =
         let rest = ih None [] 0 (plain_first (openers g) [] (drop k.size t)) in
         let walked : Walked m (s ++ first_line t) ≡ false → length s ≡ length (s ++ first_line t) = λ e.
@@ -95,11 +101,15 @@ module _ (g : Row) (block : ℕ → List ℕ → Option Block) where
         let some : Some k ≡ None = sym h.opens ∙ none in
         cc in (
           subst (AllByRecursion (IsInPlainText (openers g))) (sym (ap (cut m s None) h.marks)) rest.0,
-          subst (AllByRecursion (IsUnbroken (openers g))) (sym (ap (stretches m s a t) h.marks)) (walked, rest.1),
+          subst (AllByRecursion (IsWhole (openers g))) (sym (ap (running m s a t) h.marks)) (walked, rest.1),
         )
 
     pub stay_plain : has_tokens g ≡ true → FitsBlocks block → (t : List ℕ) → UnwalkedStayPlain (openers g) t (marks [] (items_of g block t))
     unfolding marks_ahead
     stay_plain tokens fits t =
         let all = by_choices g block tokens fits quiet ArePlain (record { at_end = at_end; by_newline = by_newline; by_bytes = by_bytes; by_child = by_child }) (length t) [] t tt None [] 0 (plain_first (openers g) [] t) in
-        record { parts = all.0; unbroken = all.1 }
+        let ms : List Mark = marks [] (items_of g block t) in
+        record {
+          parts = all.0;
+          unbroken = each-stretch (IsWhole (openers g)) (stretches None [] t ms) (subst (AllByRecursion (IsWhole (openers g))) (running-is None [] t ms) all.1);
+        }

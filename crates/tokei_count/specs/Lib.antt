@@ -31,11 +31,13 @@ pub mod Weight
 pub mod WeightLaws
 -- The code's own words, which no public contract has:
 pub mod CodeHeads
+pub mod Gathered
 pub mod Glanced
 pub mod Places
 pub mod PlainBytes
 pub mod Progress
 pub mod Readers
 pub mod ReadingOf
+pub mod Running
 pub mod UnderWay
 pub mod Walked

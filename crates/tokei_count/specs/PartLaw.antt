@@ -19,12 +19,12 @@ IsInPlainText os p = is_walked os p.begun p.bytes ≡ false → (p.begun ≡ Non
 
 -- where it isn't walked it has all of its reach
 abbrev pub IsUnbroken : List (List ℕ) → Stretch → Type 0
-IsUnbroken os s = is_walked os s.begun s.reach ≡ false → s.size ≡ length s.reach
+IsUnbroken os s = is_walked os s.begun s.reach ≡ false → length s.own ≡ length s.reach
 
 -- so it is with the parts of the text t, whose marks these are
 pub record UnwalkedStayPlain (os : List (List ℕ)) (t : List ℕ) (ms : List Mark) : Type 0 where
   pub parts : AllByRecursion (IsInPlainText os) (parts_of ms)
-  pub unbroken : AllByRecursion (IsUnbroken os) (stretches None [] 0 t ms)
+  pub unbroken : AllByRecursion (IsUnbroken os) (stretches None [] t ms)
 
 -- and so with those of each text, by a table of which all texts that a count looks for are tokens
 abbrev pub UnwalkedPartsStayPlain : Type 0

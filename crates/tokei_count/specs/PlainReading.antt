@@ -8,9 +8,9 @@ use Rattle.tokei_count.specs.Modes.Mark.{byte_at, child_at}
 use Rattle.tokei_count.specs.Parts.{Part, parts_of}
 use Rattle.tokei_count.specs.Class.{class_of}
 use Rattle.tokei_count.specs.Languages.{Languages, is_notebook}
-use Rattle.tokei_stats.specs.Statistics.{Counts, Statistics, Blobs, no_lines, plus, empty, at, put, joined, sum}
+use Rattle.tokei_stats.specs.Statistics.{Counts, Statistics, no_lines, plus, empty, sum}
 use Rattle.tokei_stats.specs.Statistics.Statistics.{node}
-use Rattle.tokei_stats.specs.Statistics.Blobs.{none}
+use Rattle.tokei_stats.specs.Statistics.Blobs.{none, blob}
 use Rattle.tokei_count.specs.declared.class.Class.{Class}
 use Rattle.tokei_count.specs.declared.class.Class.TheVariants.{Blank, Code, Comment}
 
@@ -31,30 +31,27 @@ children [] = []
 children (byte_at b x c ∷ ms) = children ms
 children (child_at k ∷ ms) = k ∷ children ms
 
--- what the children add to the parent's own counts
-abbrev pub shares : List Block → Counts
-shares [] = no_lines
-shares (k ∷ ks) = plus k.share (shares ks)
+-- what a child adds to its parent: its share of the parent's own lines, and its statistics at its language
+abbrev pub child_adds : (Block → Statistics) → Block → Statistics
+child_adds read k = node k.share (blob k.language (read k) none)
 
--- the blobs, with the statistics of each child added at its language
-abbrev pub gathered : (Block → Statistics) → Blobs → List Block → Blobs
-gathered read bs [] = bs
-gathered read bs (k ∷ ks) =
-    gathered read (put bs k.language (joined (at bs k.language) (λ s. sum s (read k)) (read k))) ks
+-- what all children add, where `read` gives the statistics of each
+abbrev pub children_add : (Block → Statistics) → List Block → Statistics
+children_add read [] = empty
+children_add read (k ∷ ks) = sum (child_adds read k) (children_add read ks)
 
--- the statistics of a text by its marks, where `read` gives those of a child
+-- the statistics of a text by its marks: the lines of its parts, and what its children add
 abbrev pub read_by : Row → Bool → (Block → Statistics) → List Mark → Statistics
-read_by r docs read ms =
-    node (plus (tally r docs (parts_of ms)) (shares (children ms))) (gathered read none (children ms))
+read_by r docs read ms = sum (node (tally r docs (parts_of ms)) none) (children_add read (children ms))
 
 -- the blocks that can open in a text, with so many levels left: with none left no child opens
 abbrev pub blocks : Languages → ℕ → ℕ → List ℕ → (ℕ → List ℕ → Option Block)
 blocks ls zero language t = no_child
 blocks ls (suc levels) language t = ls.block language t
 
--- the statistics of a notebook: those of each cell at its language, and no lines of its own
+-- the statistics of a notebook: what its cells add, which is each cell's at its language
 abbrev pub notebook_by : (Block → Statistics) → List Block → Statistics
-notebook_by read cells = node no_lines (gathered read none cells)
+notebook_by = children_add
 
 -- The reading of a text in a language, with so many levels left; a child has one level less than its parent. With none
 -- left a notebook counts nothing.

@@ -13,8 +13,7 @@ use Rattle.tokei_count.specs.Derivation.{Body, derive}
 use Rattle.tokei_count.specs.Modes.{Mark, Chain, innermost, marks, closing}
 use Rattle.tokei_count.specs.Parts.{cut, part_front}
 use Rattle.tokei_count.specs.Glance.{is_walked}
-use Rattle.tokei_count.specs.Stretches.{stretches}
-use Rattle.tokei_count.specs.Steps.{walked_choices}
+use Rattle.tokei_count.specs.Running.{running, choices_passed}
 use Rattle.tokei_stats.specs.Statistics.{Counts, plus}
 use Rattle.tokei_count.specs.PlainReading.{tally, one_of, children}
 use Rattle.tokei_count.specs.declared.class.Class.{Class}
@@ -39,8 +38,8 @@ module _ (r : Row) (block : ℕ → List ℕ → Option Block) where
     pub same : (m : _) (s : List ℕ) → cut m s (innermost c) (marks_ahead l c t)
         ≡ cut m (s ++ take n t) (innermost d) (marks_ahead l d (drop n t))
     pub kids : children (marks_ahead l c t) ≡ children (marks_ahead l d (drop n t))
-    pub choices : (m : _) (s : List ℕ) (k : ℕ) → stretches m s k t (marks_ahead l c t)
-        ≡ stretches m (s ++ take n t) (k + j) (drop n t) (marks_ahead l d (drop n t))
+    pub choices : (m : _) (s : List ℕ) (k : ℕ) → running m s k t (marks_ahead l c t)
+        ≡ running m (s ++ take n t) (k + j) (drop n t) (marks_ahead l d (drop n t))
 
 -- how many newlines end the first line: one, or none where the text ends it
 abbrev pub newlines : List ℕ → ℕ
@@ -74,7 +73,7 @@ module _ (r : Row) (block : ℕ → List ℕ → Option Block) (l : ℕ) where
 
   -- the choices that are left in walked parts, given these items
   abbrev pub steps_left : Chain → List ℕ → ℕ
-  steps_left c t = walked_choices (openers r) (stretches (innermost c) [] 0 t (marks_ahead r block l c t))
+  steps_left c t = choices_passed (openers r) (running (innermost c) [] 0 t (marks_ahead r block l c t))
 
   -- One line: n bytes. It is one part, of this class, in which j choices begin, and the text goes on from d.
   pub record ReadsLine (docs : Bool) (c : Chain) (n j : ℕ) (class : Class) (d : Chain) (t : List ℕ) : Type 0 where
@@ -96,7 +95,7 @@ module _ (r : Row) (block : ℕ → List ℕ → Option Block) (l : ℕ) where
         ≡ tally r docs (cut None [] None (marks_ahead r block (length t - (n + k.size)) [] (drop (n + k.size) t)))
     pub kids : children_left c t ≡ k ∷ children (marks_ahead r block (length t - (n + k.size)) [] (drop (n + k.size) t))
     pub steps : steps_left c t ≡ (if is_walked (openers r) (innermost c) (first_line t) then j else 0)
-        + walked_choices (openers r) (stretches None [] 0 (drop (n + k.size) t)
+        + choices_passed (openers r) (running None [] 0 (drop (n + k.size) t)
         (marks_ahead r block (length t - (n + k.size)) [] (drop (n + k.size) t)))
 
   -- the child k opens at the front of the text, which is plain there

@@ -8,17 +8,17 @@ use Rattle.tokei_count.specs.Items.{Block, Items}
 use Rattle.tokei_count.specs.Languages.{Languages, is_notebook}
 use Rattle.tokei_count.specs.Modes.{marks}
 use Rattle.tokei_count.specs.PlainReading.{blocks, children}
-use Rattle.tokei_count.specs.Stretches.{Stretch, stretches}
+use Rattle.tokei_count.specs.Stretches.{Stretch, stretches, choices_of}
 
 -- the choices of those stretches that are walked
 abbrev pub walked_choices : List (List ℕ) → List Stretch → ℕ
 walked_choices os [] = 0
-walked_choices os (s ∷ ss) = (if is_walked os s.begun s.reach then s.choices else 0) + walked_choices os ss
+walked_choices os (s ∷ ss) = (if is_walked os s.begun s.reach then choices_of s.own else 0) + walked_choices os ss
 
 -- the bytes of those stretches that are walked
 abbrev pub walked_bytes : List (List ℕ) → List Stretch → ℕ
 walked_bytes os [] = 0
-walked_bytes os (s ∷ ss) = (if is_walked os s.begun s.reach then s.size else 0) + walked_bytes os ss
+walked_bytes os (s ∷ ss) = (if is_walked os s.begun s.reach then length s.own else 0) + walked_bytes os ss
 
 -- what each of the blocks is worth, added up
 abbrev pub sum_over : (Block → ℕ) → List Block → ℕ
@@ -47,11 +47,11 @@ with_children own ls (suc levels) language t =
 
 -- the choices in the walked parts of a text, its children apart
 abbrev pub own_steps : Row → List ℕ → Items → ℕ
-own_steps r t is = walked_choices (openers r) (stretches None [] 0 t (marks [] is))
+own_steps r t is = walked_choices (openers r) (stretches None [] t (marks [] is))
 
 -- the bytes of the walked parts of a text, its children apart
 abbrev pub own_work : Row → List ℕ → Items → ℕ
-own_work r t is = walked_bytes (openers r) (stretches None [] 0 t (marks [] is))
+own_work r t is = walked_bytes (openers r) (stretches None [] t (marks [] is))
 
 -- The steps of a text, with those of its children: the choices in its walked parts, and one for each child.
 abbrev pub steps : Languages → ℕ → ℕ → List ℕ → ℕ

@@ -6,7 +6,8 @@ use Rattle.tokei_table.specs.WellFormed.{has_tokens}
 use Rattle.tokei_count.specs.Items.{Block}
 use Rattle.tokei_count.specs.Languages.{is_notebook}
 use Rattle.tokei_count.specs.Openings.{languages_of}
-use Rattle.tokei_count.specs.PlainReading.{shares, gathered, child_reading}
+use Rattle.tokei_count.specs.Gathered.{gathered, shares}
+use Rattle.tokei_count.specs.PlainReading.{child_reading}
 use Rattle.tokei_count.specs.Progress.{counts_left, children_left, steps_left, IsClosable, IsPart}
 use Rattle.tokei_count.specs.ReadingOf.{row_in, blocks_of}
 use Rattle.tokei_count.specs.Seen.{chain_of}

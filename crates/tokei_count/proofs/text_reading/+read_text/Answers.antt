@@ -8,7 +8,8 @@ use Rattle.tokei_notebook.specs.declared.notebook.Cell.{Cell}
 use Rattle.tokei_count.specs.Items.{Block}
 use Rattle.tokei_count.specs.NotebookCells.{cell_block, cell_blocks}
 use Rattle.tokei_count.specs.Openings.{languages_of}
-use Rattle.tokei_count.specs.PlainReading.{reading, child_reading, gathered}
+use Rattle.tokei_count.specs.Gathered.{gathered}
+use Rattle.tokei_count.specs.PlainReading.{reading, child_reading}
 use Rattle.tokei_count.specs.ReadingOf.{row_in, blocks_of}
 use Rattle.tokei_count.specs.Seen.{chain_of, block_of}
 use Rattle.tokei_count.specs.Steps.{steps, child_steps, capped, sum_over}

@@ -3,7 +3,8 @@ use Rattle.tokei_notebook.specs.Cells.{cell_of}
 use Rattle.tokei_count.specs.NotebookCells.{cell_block, cell_blocks}
 use Rattle.tokei_count.specs.Lines.{line_len}
 use Rattle.tokei_count.specs.Openings.{languages_of}
-use Rattle.tokei_count.specs.PlainReading.{gathered, child_reading}
+use Rattle.tokei_count.specs.Gathered.{gathered}
+use Rattle.tokei_count.specs.PlainReading.{child_reading}
 use Rattle.tokei_count.specs.Glanced.{Knows}
 use Rattle.tokei_count.specs.ReadingOf.{openers_in}
 use Rattle.tokei_count.specs.Steps.{sum_over, child_steps, capped}

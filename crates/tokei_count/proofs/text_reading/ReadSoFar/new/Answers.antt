@@ -5,7 +5,7 @@ use Rattle.tokei_stats.specs.Statistics.Blobs.{none}
 use Rattle.tokei_stats.proofs.SumLaws.{plus_commutes, plus_none}
 use Rattle.tokei_count.specs.Items.{Block}
 use Rattle.tokei_count.specs.Modes.{Chain}
-use Rattle.tokei_count.specs.PlainReading.{shares}
+use Rattle.tokei_count.specs.Gathered.{shares}
 use Rattle.tokei_count.specs.Progress.{IsClosable, counts_left, children_left, steps_left}
 use Rattle.tokei_count.specs.ReadingOf.{row_in, blocks_of}
 use Rattle.tokei_count.specs.Seen.{chain_of}
