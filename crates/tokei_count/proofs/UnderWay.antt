@@ -163,16 +163,16 @@ module _ (r : Reading) (p : ReadSoFar) (way : IsUnderWay r p) where
   -- a part that is walked to the end of its line, by so many steps
   module _ (class : Class) (behind made : ℕ) (s : Vec Enclosure) (part : ReadsTo (row_in r) (blocks_of r) p.left r.docs c (chain_of s.items) p.start text made (Line class behind)) where
     pub walked_fits : Fits (reading_of r) → CountsFit (plus own (one_of class))
-    walked_fits fits = line_sum_fits class behind made s part.0 part.5 fits
+    walked_fits fits = line_sum_fits class behind made s part.some part.reads fits
 
     pub walked_on : (o : Sums) (h : List ℕ) → sums_of o ≡ plus own (one_of class) → h ≡ text → (r.skips ≡ true → is_walked (openers_in r) (innermost c) (first_line rest) ≡ true)
         → IsUnderWay r (record { own = o; blobs = p.blobs; own_steps = p.own_steps + made; inner_steps = p.inner_steps; left = p.left; start = behind; stack = s; search = h })
     walked_on o h own_is searched walked =
-        let size : behind - p.start ≡ length (first_line rest) = omega (arith, part.4) in
+        let size : behind - p.start ≡ length (first_line rest) = omega (arith, part.line) in
         let reach : take (behind - p.start) rest ≡ first_line rest = ap (λ m. take m rest) size ∙ take-first rest in
         let held = λ (skipped : r.skips ≡ true). ap (λ os. is_walked os (innermost c) (first_line rest)) (sym (openers_are r)) ∙ walked skipped in
-        line_on class behind made s part.0 part.5 o (p.own_steps + made) h own_is searched (omega (arith, way.few, part.0, part.3)) part.2
-        (λ skipped. line_steps r.table.now r.levels r.language text p.own_steps p.inner_steps p.left c rest (stepped skipped) r.docs (behind - p.start) made class (chain_of s.items) part.5
+        line_on class behind made s part.some part.reads o (p.own_steps + made) h own_is searched (omega (arith, way.few, part.some, part.few)) part.part
+        (λ skipped. line_steps r.table.now r.levels r.language text p.own_steps p.inner_steps p.left c rest (stepped skipped) r.docs (behind - p.start) made class (chain_of s.items) part.reads
         (ap (is_walked (openers (row_in r)) (innermost c)) reach ∙ held skipped))
         (λ skipped none. absurd (unwalked skipped none (walked skipped)))
 

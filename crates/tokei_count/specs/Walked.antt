@@ -5,6 +5,7 @@ use Rattle.tokei_count.specs.Lines.{first_line, line_len}
 use Rattle.tokei_count.specs.Items.{Block}
 use Rattle.tokei_count.specs.Modes.{Chain}
 use Rattle.tokei_count.specs.Progress.{IsPart, Goes, OpensChild, ReadsLine, ReadsChild, newlines}
+use Rattle.tokei_count.specs.declared.class.Class.{Class}
 use Rattle.tokei_count.specs.declared.walk.Step.{Step}
 use Rattle.tokei_count.specs.declared.walk.Step.TheVariants.{On, Rest, Child}
 use Rattle.tokei_count.specs.declared.walk.PartEnd.{PartEnd}
@@ -27,11 +28,18 @@ pub record Breaks (r : Row) (block : ℕ → List ℕ → Option Block) (l : ℕ
   pub reads : ReadsChild r block l docs c (at - start) j k d (drop start text)
   pub inside : at < start + line_len (drop start text)
 
+-- the part is a line of this class, which ends at the place `end`, and takes so many steps
+pub record IsLine (r : Row) (block : ℕ → List ℕ → Option Block) (l : ℕ) (docs : Bool) (c d : Chain) (start : ℕ)
+    (text : List ℕ) (steps : ℕ) (class : Class) (end : ℕ) : Type 0 where
+  pub some : start < end
+  pub within : end ≤ length text
+  pub part : end < length text → IsPart text l end end
+  pub few : steps ≤ end - start
+  pub line : end ≡ start + length (first_line (drop start text))
+  pub reads : ReadsLine r block l docs c (end - start) steps class d (drop start text)
+
 abbrev pub ReadsTo : Row → (ℕ → List ℕ → Option Block) → ℕ → Bool → Chain → Chain → ℕ → List ℕ → ℕ → PartEnd → Type 0
-ReadsTo r block l docs c d start text steps (Line class end) =
-    (start < end) × (end ≤ length text) × (end < length text → IsPart text l end end) × (steps ≤ end - start)
-    × (end ≡ start + length (first_line (drop start text)))
-    × ReadsLine r block l docs c (end - start) steps class d (drop start text)
+ReadsTo r block l docs c d start text steps (Line class end) = IsLine r block l docs c d start text steps class end
 ReadsTo r block l docs c d start text steps (Broken at) =
     (k : Block) × (j : ℕ) × (steps ≡ j + 1) × Breaks r block l docs c d start text at j k
 

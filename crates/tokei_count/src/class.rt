@@ -10,7 +10,7 @@ ghost use Rattle.tokei_count.specs.Seen.{mode_of};
 
 use crate::choice::{any_begins, begins};
 use crate::items::{Enclosure, Kind};
-use crate::matchers::SharedMatchers;
+use crate::matchers::LanguageMatchers;
 use crate::reading::Reading;
 use tokei_table::Syntax;
 use tokei_table::ext::{blanks_end, is_blank_text, trim};
@@ -145,7 +145,7 @@ pub fn class_of(
 /// unless the language or the mode at its end says otherwise.
 #[inline(always)]
 fn class_by_front(
-    matchers: &SharedMatchers,
+    matchers: &LanguageMatchers,
     text: &[u8],
     start: usize,
     stop: usize,

@@ -1,10 +1,12 @@
 //! What the texts of a table's languages are counted with.
 ghost use Rattle.std.specs.Prelude.{◌≡◌, ◌<◌, length, map, IfOk};
 ghost use Rattle.tokei_table.specs.Lookups.{row_at};
+ghost use Rattle.tokei_table.specs.Openers.{openers};
 ghost use Rattle.tokei_table.specs.WellFormed.{IsWellFormed};
 ghost use Rattle.tokei_count.specs.Matchers.{matchers_of};
 
-use crate::matchers::{SharedMatchers, all_matchers};
+use crate::matchers::{LanguageMatchers, all_matchers};
+use crate::shared_matchers::SharedMatchers;
 use std::alloc::{AllocError, Global};
 use std::marker::Model;
 use tokei_table::{LanguageTable, LanguageType};
@@ -14,7 +16,7 @@ use tokei_table::{LanguageTable, LanguageType};
 #[derive(Drop)]
 pub struct Counter<'a> {
     table: &'a LanguageTable,
-    matchers: Vec<SharedMatchers>,
+    matchers: Vec<LanguageMatchers>,
 }
 
 impl<'a> Model for Counter<'a> {
@@ -50,13 +52,13 @@ impl<'a> Counter<'a> {
     /// The matchers of a language of the table.
     pub fn matchers(&self, language: LanguageType) -> &SharedMatchers
         requires { language < length self.now }
-        ensures { result.now ≡ matchers_of (row_at self.entry.now language) }
+        ensures { result.now ≡ openers (row_at self.entry.now language) }
     {
-        &self.matchers[language.index()]
+        self.matchers[language.index()].shared()
     }
 
     /// The matchers of each language of the table, in its order.
-    pub(crate) fn matchers_by_language(&self) -> &[SharedMatchers]
+    pub(crate) fn matchers_by_language(&self) -> &[LanguageMatchers]
         ensures { result.now ≡ map matchers_of self.entry.now }
     {
         &self.matchers

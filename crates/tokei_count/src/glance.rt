@@ -7,12 +7,12 @@ ghost use Rattle.tokei_count.specs.Seen.{chain_of};
 ghost use Rattle.tokei_count.specs.Glanced.{AreInLine, Knows};
 
 use crate::items::Enclosure;
-use crate::matchers::SharedMatchers;
+use crate::matchers::LanguageMatchers;
 use crate::reading::Reading;
 
 /// The place of the first opener at `start` or behind it, or the text's end. It is `next`, where that is behind
 /// `start`: the place that an earlier search came to.
-fn next_opener(matchers: &SharedMatchers, text: &[u8], start: usize, next: usize) -> usize
+fn next_opener(matchers: &LanguageMatchers, text: &[u8], start: usize, next: usize) -> usize
     requires start { start ≤ length text.now }
     requires known { Knows matchers.now.openers text.now start next }
     ensures { result ≡ start + opener_place matchers.now.openers (drop start text.now) }

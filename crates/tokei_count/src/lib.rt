@@ -21,14 +21,15 @@ mod plain_bytes;
 mod plain_reading;
 mod reader;
 mod reading;
+mod shared_matchers;
 mod text_reading;
 mod walk;
 
 pub use counter::Counter;
 pub use file_context::{FileContext, LanguageContext};
-pub use matchers::SharedMatchers;
 pub use parse::{parse_counted, parse_from_slice, parse_from_str};
 pub use plain_reading::count_plain;
+pub use shared_matchers::SharedMatchers;
 pub use tokei_captures::{
     Capture, HtmlLike, SimpleCapture, end_lf, end_markdown, end_script, end_style, end_template,
     start_lf, start_markdown, start_script, start_style, start_template,

@@ -7,67 +7,62 @@ ghost use Rattle.tokei_table.specs.WellFormed.{IsWellFormed};
 ghost use Rattle.tokei_count.specs.Matchers.{matchers_of};
 
 use crate::beginnings::{beginnings, beginnings_in_comment};
+use crate::shared_matchers::SharedMatchers;
 use std::alloc::{AllocError, Global};
 use std::marker::Model;
 use tokei_bytes::ByteSet;
-use tokei_table::{LanguageTable, LanguageType, OpenerIndex};
+use tokei_table::{LanguageTable, LanguageType};
 
 /// What the texts of a language are searched and walked with: its openers, and the bytes at which a choice other than
 /// the byte itself, a closer and a child can begin, in plain text and in a comment. Contracts see all three.
 #[derive(Drop)]
-pub struct SharedMatchers {
-    openers: OpenerIndex,
+pub(crate) struct LanguageMatchers {
+    shared: SharedMatchers,
     begins: ByteSet,
     begins_in_comment: ByteSet,
 }
 
-impl Model for SharedMatchers {
+impl Model for LanguageMatchers {
     ghost use Rattle.tokei_count.specs.Matchers.{Matchers};
 
     ghost Value = { Matchers };
 
-    ghost view = { λ m. record { openers = m.openers; begins = m.begins; begins_in_comment = m.begins_in_comment } };
+    ghost view = { λ m. record { openers = m.shared; begins = m.begins; begins_in_comment = m.begins_in_comment } };
 }
 
-impl SharedMatchers {
+impl LanguageMatchers {
     /// The matchers of a language of the table. It fails where memory runs out.
-    pub fn new(
+    fn new(
         alloc: Global,
         table: &LanguageTable,
         language: LanguageType,
-    ) -> Result<SharedMatchers, AllocError>
+    ) -> Result<LanguageMatchers, AllocError>
         requires { language < length table.now }
         ensures { IfOk result (λ m. m ≡ matchers_of (row_at table.now language)) }
     {
-        SharedMatchers::init(alloc, table, language)
-    }
-
-    /// The same.
-    pub fn init(
-        alloc: Global,
-        table: &LanguageTable,
-        language: LanguageType,
-    ) -> Result<SharedMatchers, AllocError>
-        requires { language < length table.now }
-        ensures { IfOk result (λ m. m ≡ matchers_of (row_at table.now language)) }
-    {
-        let texts = language.openers(alloc, table)?;
-        let openers = OpenerIndex::of_texts(alloc, texts)?;
+        let shared = SharedMatchers::new(alloc, table, language)?;
         let syntax = table.syntax(language);
         let begins = beginnings(alloc, syntax)?;
         let begins_in_comment = beginnings_in_comment(alloc, syntax)?;
-        Ok(SharedMatchers {
-            openers,
+        Ok(LanguageMatchers {
+            shared,
             begins,
             begins_in_comment,
         })
     }
 
-    /// The least place of the text at which an opener stands, None where none does. It takes no memory.
-    pub fn first_in(&self, text: &[u8]) -> Option<usize>
+    /// Those of its openers alone.
+    pub(crate) fn shared(&self) -> &SharedMatchers
+        ensures { result.now ≡ self.entry.now.openers }
+    {
+        &self.shared
+    }
+
+    /// The least place of the text at which an opener stands, None where none does.
+    pub(crate) fn first_in(&self, text: &[u8]) -> Option<usize>
         ensures { result ≡ first_opener self.now.openers text.now }
     {
-        self.openers.first_in(text)
+        self.shared.first_in(text)
     }
 
     /// Whether a choice other than the byte itself, a closer and a child can begin at the byte.
@@ -116,14 +111,14 @@ impl SharedMatchers {
 pub(crate) fn all_matchers(
     alloc: Global,
     table: &LanguageTable,
-) -> Result<Vec<SharedMatchers>, AllocError>
+) -> Result<Vec<LanguageMatchers>, AllocError>
     ensures matchers { IfOk result (λ v. v.items ≡ map matchers_of table.now) }
     ensures well_formed { IfOk result (λ v. IsWellFormed table.now) }
 {
     let languages = LanguageType::list(alloc, table)?;
     let mut all = Vec::with_capacity(alloc, table.len())?;
     for (language, _) in languages.as_slice() {
-        all.push(SharedMatchers::new(alloc, table, *language)?)?;
+        all.push(LanguageMatchers::new(alloc, table, *language)?)?;
     }
     Ok(all)
 }

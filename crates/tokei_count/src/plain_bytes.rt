@@ -4,12 +4,12 @@ ghost use Rattle.tokei_count.specs.PlainBytes.{BeginsNoneWithin, IsPlainByte};
 ghost use Rattle.tokei_count.specs.Seen.{mode_of};
 
 use crate::items::{Enclosure, Kind};
-use crate::matchers::SharedMatchers;
+use crate::matchers::LanguageMatchers;
 use tokei_bytes::first_of_four;
 
 /// Whether no escape, opener or line comment can begin at the byte in an item of that kind.
 #[inline(always)]
-fn begins_none_within(matchers: &SharedMatchers, kind: Kind, byte: u8) -> bool
+fn begins_none_within(matchers: &LanguageMatchers, kind: Kind, byte: u8) -> bool
     ensures { result ≡ true → BeginsNoneWithin matchers.now kind byte }
 {
     match kind {
@@ -20,7 +20,7 @@ fn begins_none_within(matchers: &SharedMatchers, kind: Kind, byte: u8) -> bool
 
 /// Whether no choice but the byte itself and a child can begin at the byte, in that mode.
 #[inline(always)]
-pub(crate) fn is_plain_byte(matchers: &SharedMatchers, mode: Option<Enclosure>, byte: u8) -> bool
+pub(crate) fn is_plain_byte(matchers: &LanguageMatchers, mode: Option<Enclosure>, byte: u8) -> bool
     ensures { result ≡ true → IsPlainByte matchers.now (mode_of mode.entry) byte }
 {
     match mode {
@@ -35,7 +35,13 @@ pub(crate) fn is_plain_byte(matchers: &SharedMatchers, mode: Option<Enclosure>, 
 /// From the place `at` of the text to before the answer, which goes no further than `to`, no choice but the byte
 /// itself can begin at a byte, in that item.
 #[inline(always)]
-fn item_end(matchers: &SharedMatchers, inner: Enclosure, text: &[u8], at: usize, to: usize) -> usize
+fn item_end(
+    matchers: &LanguageMatchers,
+    inner: Enclosure,
+    text: &[u8],
+    at: usize,
+    to: usize,
+) -> usize
     requires order { at ≤ to }
     requires within { to ≤ length text.now }
     ensures low { at ≤ result }
@@ -58,7 +64,7 @@ fn item_end(matchers: &SharedMatchers, inner: Enclosure, text: &[u8], at: usize,
 /// itself and a child can begin at a byte, in that mode.
 #[inline(always)]
 pub(crate) fn plain_end(
-    matchers: &SharedMatchers,
+    matchers: &LanguageMatchers,
     mode: Option<Enclosure>,
     text: &[u8],
     at: usize,

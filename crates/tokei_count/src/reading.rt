@@ -7,7 +7,7 @@ ghost use Rattle.tokei_table.specs.RowOf.{row_of};
 ghost use Rattle.tokei_table.specs.Sound.{IsSound};
 ghost use Rattle.tokei_count.specs.Matchers.{matchers_of};
 
-use crate::matchers::SharedMatchers;
+use crate::matchers::LanguageMatchers;
 use tokei_table::family::Family;
 use tokei_table::{LanguageTable, LanguageType, Syntax};
 
@@ -20,7 +20,7 @@ pub(crate) struct Reading<'a> {
     pub syntax: &'a Syntax,
     pub family: Family,
     /// What texts of the language are searched and walked with.
-    pub matchers: &'a SharedMatchers,
+    pub matchers: &'a LanguageMatchers,
     pub text: &'a [u8],
     /// Whether doc strings are treated as comments.
     pub docs: bool,

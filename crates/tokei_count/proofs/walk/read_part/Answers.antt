@@ -205,15 +205,15 @@ returns-clause-reads c =
     let line_read : ReadsLine (row_in c.args.part.now.reading.now) (blocks_of c.args.part.now.reading.now) c.args.part.now.left c.args.part.now.reading.now.docs (chain_of c.args.stack.now.items) (length (first_line u)) (c.loop-at.steps - (at - end) + newlines u) c.class_by-class.result (chain_of c.loop-at.stack.items) u =
     line_reads (row_in c.args.part.now.reading.now) (blocks_of c.args.part.now.reading.now) c.args.part.now.left c.args.part.now.reading.now.docs (chain_of c.args.stack.now.items) (chain_of c.loop-at.stack.items) u c.class_by-class.result
     c.args.part.now.reading.now.sound (blocks_fit c.args.part.now.reading.now).in_line c.loop-at.invariant.closable (omega (arith, len_is, c.requires.some)) (c.loop-at.steps - (at - end)) leads class_is in
-    let more_is : stop < length text → stop ≡ end + 1 = λ more. ends_more (length text) end stop part.high c.line_stop-stop.ensures.more c.line_stop-stop.ensures.last more in (
-      omega (arith, stop_is, line_read.some),
-      c.line_stop-stop.ensures.within,
-      λ more. subst (λ m. IsPart text c.args.part.now.left m m) (sym (more_is more)) (part_anew text c.args.part.now.left c.args.part.now.start end part none_left (omega (arith, part.high, more_is more, more))),
-      few,
-      stop_is,
-      subst (λ j. ReadsLine (row_in c.args.part.now.reading.now) (blocks_of c.args.part.now.reading.now) c.args.part.now.left c.args.part.now.reading.now.docs (chain_of c.args.stack.now.items) (stop - c.args.part.now.start) j c.class_by-class.result (chain_of c.loop-at.stack.items) u) (sym steps_are)
-          (subst (λ n. ReadsLine (row_in c.args.part.now.reading.now) (blocks_of c.args.part.now.reading.now) c.args.part.now.left c.args.part.now.reading.now.docs (chain_of c.args.stack.now.items) n (c.loop-at.steps - (at - end) + newlines u) c.class_by-class.result (chain_of c.loop-at.stack.items) u) (sym first_is) line_read),
-    )
+    let more_is : stop < length text → stop ≡ end + 1 = λ more. ends_more (length text) end stop part.high c.line_stop-stop.ensures.more c.line_stop-stop.ensures.last more in record {
+      some = omega (arith, stop_is, line_read.some);
+      within = c.line_stop-stop.ensures.within;
+      part = λ more. subst (λ m. IsPart text c.args.part.now.left m m) (sym (more_is more)) (part_anew text c.args.part.now.left c.args.part.now.start end part none_left (omega (arith, part.high, more_is more, more)));
+      few = few;
+      line = stop_is;
+      reads = subst (λ j. ReadsLine (row_in c.args.part.now.reading.now) (blocks_of c.args.part.now.reading.now) c.args.part.now.left c.args.part.now.reading.now.docs (chain_of c.args.stack.now.items) (stop - c.args.part.now.start) j c.class_by-class.result (chain_of c.loop-at.stack.items) u) (sym steps_are)
+          (subst (λ n. ReadsLine (row_in c.args.part.now.reading.now) (blocks_of c.args.part.now.reading.now) c.args.part.now.left c.args.part.now.reading.now.docs (chain_of c.args.stack.now.items) n (c.loop-at.steps - (at - end) + newlines u) c.class_by-class.result (chain_of c.loop-at.stack.items) u) (sym first_is) line_read);
+    }
 
 pub line_stop-stop-requires : goal.line_stop-stop-requires
 line_stop-stop-requires c = end_within c.args.part.now.reading.now.text.now c.args.part.now.start c.args.part.now.end c.requires.begins.part.high c.requires.begins.line
