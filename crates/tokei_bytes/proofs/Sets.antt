@@ -1,5 +1,5 @@
 -- The few bytes of a set.
-use Rattle.std.proofs.Common.{◌≡◌, ◌≢◌, ℕ, zero, suc, ◌+◌, ◌<◌, ◌≤◌, ◌⊎◌, inl, inr, ◌==◌, Bool, true, false, cond, List, [], ◌∷◌, take, length, get_or, slice_index_or, refl, sym, ap, subst, ◌∙◌, arith}
+use Rattle.std.proofs.Common.{◌≡◌, ◌≢◌, ℕ, zero, suc, ◌+◌, ◌<◌, ◌≤◌, ◌⊎◌, inl, inr, ◌==◌, ◌||◌, Bool, true, false, cond, List, [], ◌∷◌, take, length, get_or, slice_index_or, refl, sym, ap, subst, ◌∙◌, arith}
 use Rattle.std.proofs.lemmas.Bool.Decides.{Decides-eqb}
 use Rattle.tokei_bytes.specs.OneOf.{is_one_of}
 use Rattle.tokei_bytes.specs.ByteSets.{HasFew}
@@ -107,3 +107,32 @@ pub any_default : (flags : List Bool) (i : ℕ) (d e : Bool) → i < length flag
 any_default [] i d e h = absurd (omega (arith, h))
 any_default (f ∷ flags) zero d e h = refl
 any_default (f ∷ flags) (suc i) d e h = any_default flags i d e (omega (arith, h))
+
+-- none of three of a few and another byte, or one
+pub apart_of_three : (few : List ℕ) (x b : ℕ) → is_one_of (get_or few 0 0 ∷ get_or few 1 0 ∷ get_or few 2 0 ∷ x ∷ []) b ≡ false → (b == x) ≡ false
+apart_of_three few x b h = by_tests (b == get_or few 0 0) (b == get_or few 1 0) (b == get_or few 2 0) (b == x) h
+  where
+    by_tests : (p q r y : Bool) → cond p true (cond q true (cond r true (cond y true false))) ≡ false → y ≡ false
+    by_tests false false false false h = refl
+    by_tests false false false true h = cc
+    by_tests false false true y h = cc
+    by_tests false true r y h = cc
+    by_tests true q r y h = cc
+
+pub met_of_three : (few : List ℕ) (x b : ℕ) (within : Bool) → length few ≡ 4 → (is_one_of few b ≡ true → within ≡ true) → is_one_of (get_or few 0 0 ∷ get_or few 1 0 ∷ get_or few 2 0 ∷ x ∷ []) b ≡ true → ((b == x) || within) ≡ true
+met_of_three [] x b within four held h = absurd (omega arith)
+met_of_three (c ∷ []) x b within four held h = absurd (omega arith)
+met_of_three (c ∷ d ∷ []) x b within four held h = absurd (omega arith)
+met_of_three (c ∷ d ∷ e ∷ []) x b within four held h = absurd (omega arith)
+met_of_three (c ∷ d ∷ e ∷ f ∷ few) x b within four held h = by_tests (b == c) (b == d) (b == e) (b == x) held h
+  where
+    by_tests : (p q r y : Bool) → (cond p true (cond q true (cond r true (is_one_of (f ∷ few) b))) ≡ true → within ≡ true) → cond p true (cond q true (cond r true (cond y true false))) ≡ true → (y || within) ≡ true
+    by_tests p q r true held h = refl
+    by_tests true q r false held h = held refl
+    by_tests false true r false held h = held refl
+    by_tests false false true false held h = held refl
+    by_tests false false false false held h = cc
+
+pub neither : (y z : Bool) → y ≡ false → z ≡ false → (y || z) ≡ false
+neither true z h k = cc
+neither false z h k = k

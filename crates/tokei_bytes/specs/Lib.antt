@@ -1,2 +1,3 @@
+pub mod FirstPlace
 pub mod OneOf
 pub mod ByteSets

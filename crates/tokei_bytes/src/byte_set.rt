@@ -1,6 +1,7 @@
 //! Sets of bytes that a text is searched for.
-ghost use Rattle.std.specs.Prelude.{◌≡◌, ℕ, ◌<◌, ◌≤◌, ◌==◌, ◌||◌, true, false, length, slice_index, slice_index_or};
-ghost use Rattle.tokei_bytes.specs.ByteSets.{IsOutside, HasFew};
+ghost use Rattle.std.specs.Prelude.{◌≡◌, ◌≤◌, ◌==◌, ◌||◌, length};
+ghost use Rattle.tokei_bytes.specs.ByteSets.{HasFew, is_in};
+ghost use Rattle.tokei_bytes.specs.FirstPlace.{IsFirstPlace};
 
 use crate::one_of::first_of_four;
 use std::marker::Model;
@@ -52,21 +53,18 @@ impl ByteSet {
     /// Whether the byte is in the set.
     #[inline(always)]
     pub fn has(&self, byte: u8) -> bool
-        ensures { result ≡ slice_index_or self.now byte false }
+        ensures { result ≡ is_in self.now byte }
     {
         self.flags[byte as usize]
     }
 
-    /// How far, from the place `from` of the text on and no further than `to`, no byte is in the set. A place counts the
-    /// bytes of the text before it.
+    /// The first place of the text, from `from` to before `to`, whose byte is in the set, or `to` where none is. A place
+    /// counts the bytes of the text before it.
     #[inline(always)]
     pub fn clear_end(&self, text: &[u8], from: usize, to: usize) -> usize
         requires order { from ≤ to }
         requires within { to ≤ length text.now }
-        ensures low { from ≤ result }
-        ensures high { result ≤ to }
-        ensures clear { (p : ℕ) → from ≤ p → p < result → IsOutside self.now (slice_index text.now p) }
-        ensures found { result < to → slice_index_or self.now (slice_index text.now result) false ≡ true }
+        ensures { IsFirstPlace (is_in self.now) text.now from to result }
     {
         if self.count == 0 {
             return to;
@@ -81,16 +79,12 @@ impl ByteSet {
         at
     }
 
-    /// The same, where no byte is the other one either.
+    /// The same for the bytes of the set and another one.
     #[inline(always)]
     pub fn clear_end_with(&self, other: u8, text: &[u8], from: usize, to: usize) -> usize
         requires order { from ≤ to }
         requires within { to ≤ length text.now }
-        ensures low { from ≤ result }
-        ensures high { result ≤ to }
-        ensures clear { (p : ℕ) → from ≤ p → p < result → IsOutside self.now (slice_index text.now p) }
-        ensures apart { (p : ℕ) → from ≤ p → p < result → (slice_index text.now p == other) ≡ false }
-        ensures found { result < to → (slice_index text.now result == other || slice_index_or self.now (slice_index text.now result) false) ≡ true }
+        ensures { IsFirstPlace (λ x. x == other || is_in self.now x) text.now from to result }
     {
         if self.count == 0 {
             return first_of_four([other; 4], text, from, to);

@@ -1,7 +1,8 @@
 //! The searches, 16, 32 or 64 places at a time.
 ghost use Rattle.std.specs.Prelude.{◌≡◌, ℕ, ◌+◌, ◌<◌, ◌≤◌, ◌==◌, not, true, false, length, map, slice_index};
 ghost use Rattle.std.specs.Simd.Lanes.{mask_l};
-ghost use Rattle.tokei_bytes.specs.OneOf.{is_one_of};
+ghost use Rattle.tokei_bytes.specs.FirstPlace.{IsFirstPlace};
+ghost use Rattle.tokei_bytes.specs.OneOf.{is_none_of, is_one_of};
 
 use std::simd::prelude::*;
 
@@ -35,10 +36,7 @@ fn is_one_of(bytes: [u8; 4], byte: u8) -> bool
 fn first_by_one(bytes: [u8; 4], text: &[u8], from: usize, to: usize) -> usize
     requires order { from ≤ to }
     requires within { to ≤ length text.now }
-    ensures low { from ≤ result }
-    ensures high { result ≤ to }
-    ensures passed { (p : ℕ) → from ≤ p → p < result → is_one_of bytes (slice_index text.now p) ≡ false }
-    ensures found { result < to → is_one_of bytes (slice_index text.now result) ≡ true }
+    ensures { IsFirstPlace (is_one_of bytes) text.now from to result }
 {
     let mut at = from;
     while at < to && !is_one_of(bytes, text[at]) {
@@ -53,10 +51,7 @@ fn first_by_one(bytes: [u8; 4], text: &[u8], from: usize, to: usize) -> usize
 pub fn first_of_four(bytes: [u8; 4], text: &[u8], from: usize, to: usize) -> usize
     requires order { from ≤ to }
     requires within { to ≤ length text.now }
-    ensures low { from ≤ result }
-    ensures high { result ≤ to }
-    ensures passed { (p : ℕ) → from ≤ p → p < result → is_one_of bytes (slice_index text.now p) ≡ false }
-    ensures found { result < to → is_one_of bytes (slice_index text.now result) ≡ true }
+    ensures { IsFirstPlace (is_one_of bytes) text.now from to result }
 {
     let mut at = from;
     while at < to {
@@ -88,10 +83,7 @@ fn marks_of_others(bytes: [u8; 4], lanes: u8x16) -> u64
 fn first_other_by_one(bytes: [u8; 4], text: &[u8], from: usize, to: usize) -> usize
     requires order { from ≤ to }
     requires within { to ≤ length text.now }
-    ensures low { from ≤ result }
-    ensures high { result ≤ to }
-    ensures passed { (p : ℕ) → from ≤ p → p < result → is_one_of bytes (slice_index text.now p) ≡ true }
-    ensures found { result < to → is_one_of bytes (slice_index text.now result) ≡ false }
+    ensures { IsFirstPlace (is_none_of bytes) text.now from to result }
 {
     let mut at = from;
     while at < to && is_one_of(bytes, text[at]) {
@@ -106,10 +98,7 @@ fn first_other_by_one(bytes: [u8; 4], text: &[u8], from: usize, to: usize) -> us
 pub fn first_not_of_four(bytes: [u8; 4], text: &[u8], from: usize, to: usize) -> usize
     requires order { from ≤ to }
     requires within { to ≤ length text.now }
-    ensures low { from ≤ result }
-    ensures high { result ≤ to }
-    ensures passed { (p : ℕ) → from ≤ p → p < result → is_one_of bytes (slice_index text.now p) ≡ true }
-    ensures found { result < to → is_one_of bytes (slice_index text.now result) ≡ false }
+    ensures { IsFirstPlace (is_none_of bytes) text.now from to result }
 {
     let mut at = from;
     while at < to {

@@ -3,7 +3,6 @@ use Rattle.std.proofs.Common.{◌≡◌, ℕ, zero, suc, ◌+◌, ◌<◌, ◌�
 use Rattle.std.specs.List.{list_all, list_any}
 use Rattle.std.proofs.lemmas.Bool.Decides.{Decides-eqb}
 use Rattle.std.proofs.lemmas.List.{drop-drop}
-use Rattle.tokei_bytes.specs.ByteSets.{IsOutside}
 use Rattle.tokei_bytes.specs.OneOf.{is_one_of}
 use Rattle.tokei_table.specs.Bytes.{begins}
 use Rattle.tokei_table.specs.FirstOpener.{is_first_of}
@@ -13,7 +12,7 @@ use Rattle.tokei_count.specs.Choice.{choice, choice_in_plain, choice_within, cho
 use Rattle.tokei_count.specs.Choice.Choice.{closes, escapes, opens, takes_byte}
 use Rattle.tokei_count.specs.Items.{Block, Mode}
 use Rattle.tokei_count.specs.Matchers.{begins_opener, begins_choice, begins_in_comment, flags, Matchers, matchers_of}
-use Rattle.tokei_count.specs.PlainBytes.{BeginsNone, BeginsNoneWithin, IsPlainByte}
+use Rattle.tokei_count.specs.PlainBytes.{BeginsNone, BeginsNoneWithin, IsOutside, IsPlainByte}
 use Rattle.tokei_count.specs.Seen.{choice_of}
 use Rattle.tokei_count.specs.declared.choice.Choice as CodeChoice
 use Rattle.tokei_count.specs.declared.choice.Choice.TheVariants.{Closer, Escape, Child, Opener, PassedOpener, LineComment, Byte}

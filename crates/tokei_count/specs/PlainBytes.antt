@@ -1,6 +1,6 @@
 -- Bytes at which nothing but the byte itself, or a child, can begin.
-use Rattle.std.specs.Prelude.{◌≡◌, ℕ, ◌==◌, false, [], None, Some}
-use Rattle.tokei_bytes.specs.ByteSets.{IsOutside}
+use Rattle.std.specs.Prelude.{◌≡◌, ℕ, ◌<◌, ◌==◌, Bool, false, List, [], None, Some}
+use Rattle.tokei_bytes.specs.ByteSets.{is_in}
 use Rattle.tokei_table.specs.Escapes.{backslash}
 use Rattle.tokei_table.specs.FirstOpener.{is_first_of}
 use Rattle.tokei_count.specs.Items.{Mode}
@@ -8,6 +8,11 @@ use Rattle.tokei_count.specs.Matchers.{Matchers}
 use Rattle.tokei_count.specs.declared.items.Kind.{Kind}
 use Rattle.tokei_count.specs.declared.items.Kind.TheVariants.{DocString, VerbatimString, OrdinaryString}
 use Rattle.tokei_count.specs.declared.items.Kind.TheVariants.{MultiLineComment}
+
+-- a byte that isn't in the set of those whose flags are set
+pub record IsOutside (flags : List Bool) (b : ℕ) : Type 0 where
+  pub small : b < 256
+  pub outside : is_in flags b ≡ false
 
 -- no escape, opener or line comment begins at the byte, by the matchers
 abbrev pub BeginsNone : Matchers → ℕ → Type 0

@@ -1,10 +1,10 @@
 //! What the texts of a language are searched and walked with.
 ghost use Rattle.std.specs.Prelude.{◌≡◌, ℕ, ◌<◌, ◌≤◌, ◌==◌, false, length, map, IfOk, slice_index, slice_index_or};
-ghost use Rattle.tokei_bytes.specs.ByteSets.{IsOutside};
 ghost use Rattle.tokei_table.specs.FirstOpener.{first_opener};
 ghost use Rattle.tokei_table.specs.Lookups.{row_at};
 ghost use Rattle.tokei_table.specs.WellFormed.{IsWellFormed};
 ghost use Rattle.tokei_count.specs.Matchers.{matchers_of};
+ghost use Rattle.tokei_count.specs.PlainBytes.{IsOutside};
 
 use crate::beginnings::{beginnings, beginnings_in_comment};
 use crate::shared_matchers::SharedMatchers;

@@ -4,17 +4,19 @@ use Rattle.tokei_bytes.specs.OneOf.{is_one_of}
 use Rattle.tokei_bytes.proofs.Blocks.{none_before_mark, one_at_mark, none_in_block}
 use Rattle.tokei_bytes.proofs.one_of.first_of_four.Goals as goal
 
-pub returns-then-marked-ne0-clause-passed : goal.returns-then-marked-ne0-clause-passed
-returns-then-marked-ne0-clause-passed c p low high =
-    elim (cases_lt p c.loop-at.at) [
-      | inl passed ↦ c.loop-at.invariant.1 p low passed
-      | inr ahead ↦ none_before_mark (is_one_of c.args.bytes) 32 c.args.text.now c.loop-at.at c.marks-marked.result (omega arith) (omega arith) c.marks-marked.ensures (omega arith) p (omega arith) (omega arith)
-    ]
-
-pub returns-then-marked-ne0-clause-found : goal.returns-then-marked-ne0-clause-found
-returns-then-marked-ne0-clause-found c inside =
-    subst (λ p. is_one_of c.args.bytes (get_or c.args.text.now p 0) ≡ true) (omega arith)
-    (one_at_mark (is_one_of c.args.bytes) 32 c.args.text.now c.loop-at.at c.marks-marked.result (omega arith) (omega arith) c.marks-marked.ensures (omega arith))
+pub returns-then-marked-ne0 : goal.returns-then-marked-ne0
+returns-then-marked-ne0 c = record {
+  low = omega arith;
+  high = omega arith;
+  passed = λ p low high.
+      elim (cases_lt p c.loop-at.at) [
+        | inl passed ↦ c.loop-at.invariant.1 p low passed
+        | inr ahead ↦ none_before_mark (is_one_of c.args.bytes) 32 c.args.text.now c.loop-at.at c.marks-marked.result (omega arith) (omega arith) c.marks-marked.ensures (omega arith) p (omega arith) (omega arith)
+      ];
+  found = λ inside.
+      subst (λ p. is_one_of c.args.bytes (get_or c.args.text.now p 0) ≡ true) (omega arith)
+      (one_at_mark (is_one_of c.args.bytes) 32 c.args.text.now c.loop-at.at c.marks-marked.result (omega arith) (omega arith) c.marks-marked.ensures (omega arith));
+}
 
 pub loop-at-preserved : goal.loop-at-preserved
 loop-at-preserved c = (

@@ -1,12 +1,12 @@
-use Rattle.std.proofs.Common.{ℕ, ◌-◌, ◌<◌, ◌≤◌, slice_index}
-use Rattle.tokei_bytes.specs.ByteSets.{IsOutside}
+use Rattle.std.proofs.Common.{◌≡◌, ℕ, ◌-◌, ◌<◌, ◌≤◌, false, slice_index}
+use Rattle.tokei_bytes.specs.ByteSets.{is_in}
 use Rattle.tokei_bytes.proofs.byte_set.ByteSet.clear_end.Given as goal
 
 abbrev pub invariant-loop-at : goal.invariant-loop-at
 invariant-loop-at l = record {
   low : l.from ≤ l.at;
   high : l.at ≤ l.to;
-  clear : (p : ℕ) → l.from ≤ p → p < l.at → IsOutside l.self (slice_index l.text p);
+  passed : (p : ℕ) → l.from ≤ p → p < l.at → is_in l.self (slice_index l.text p) ≡ false;
 }
 
 abbrev pub decreases-loop-at : goal.decreases-loop-at
