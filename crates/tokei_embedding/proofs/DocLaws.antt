@@ -52,11 +52,11 @@ line_step : (x : Bool) (b : ℕ) (t : List ℕ) → length (first_line t) ≤ le
 line_step true b t h = omega arith
 line_step false b t h = omega arith
 
-line_below : (t : List ℕ) → length (first_line t) ≤ length t
+pub line_below : (t : List ℕ) → length (first_line t) ≤ length t
 line_below [] = omega arith
 line_below (b ∷ t) = line_step (b == 10) b t (line_below t)
 
-first_line_some : (b : ℕ) (t : List ℕ) → 0 < length (first_line (b ∷ t))
+pub first_line_some : (b : ℕ) (t : List ℕ) → 0 < length (first_line (b ∷ t))
 first_line_some b t = by (b == 10)
   where
     by : (x : Bool) → 0 < length (cond x (b ∷ []) (b ∷ first_line t))
@@ -76,6 +76,11 @@ mark_stands line = by (begins (codes "///") (trim_start line)) (begins (codes "/
     by true y e f = (e, refl)
     by false true e f = (f, refl)
     by false false e f = tt
+
+-- the mark of a line stands behind its blanks
+pub stands_behind : (line mark : List ℕ) → mark_of line ≡ Some mark → begins mark (trim_start line) ≡ true
+unfolding Stands
+stands_behind line mark e = (subst (Stands (trim_start line)) e (mark_stands line)).0
 
 -- the first line stays whole in a text that is cut behind it
 cut_step : (x : Bool) (n b : ℕ) (t : List ℕ) → (length (first_line t) ≤ n → first_line (take n t) ≡ first_line t) → length (cond x (b ∷ []) (b ∷ first_line t)) ≤ suc n → cond x (b ∷ []) (b ∷ first_line (take n t)) ≡ cond x (b ∷ []) (b ∷ first_line t)

@@ -1,5 +1,6 @@
 pub mod BlankParts
 pub mod BlockLaws
+pub mod DocEnds
 pub mod DocLaws
 pub mod FenceBlocks
 pub mod FirstBytes

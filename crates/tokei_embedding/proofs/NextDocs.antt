@@ -23,7 +23,7 @@ drop_step : (x : Bool) (b k : ℕ) (t : List ℕ) → (k < length (first_line t)
 drop_step true b k t behind l = absurd (omega (arith, l))
 drop_step false b k t behind l = behind (omega (arith, l))
 
-drop_first : (k : ℕ) (t : List ℕ) → k < length (first_line t) → first_line (drop k t) ≡ drop k (first_line t)
+pub drop_first : (k : ℕ) (t : List ℕ) → k < length (first_line t) → first_line (drop k t) ≡ drop k (first_line t)
 drop_first zero t l = refl
 drop_first (suc k) [] l = refl
 drop_first (suc k) (b ∷ t) l = drop_step (b == 10) b k t (drop_first k t) l

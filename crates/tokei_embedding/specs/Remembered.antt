@@ -2,7 +2,7 @@
 use Rattle.std.specs.Prelude.{◌≡◌, ℕ, ◌+◌, ◌<◌, ◌≤◌, true, false, List, length, drop, slice_index, Option, None, Some}
 use Rattle.tokei_syntax.specs.Bytes.{is_blank}
 use Rattle.memchr.specs.Find.{OccursAt}
-use Rattle.tokei_embedding.specs.DocComments.{first_line, front_mark, mark_of}
+use Rattle.tokei_embedding.specs.DocComments.{first_line, front_mark, mark_of, marked_len, lines_of}
 
 -- A text, and the token that is sought in it.
 pub record Sought : Type 0 where
@@ -49,3 +49,9 @@ pub record IsFirstSolid (text : List ℕ) (from place : ℕ) : Type 0 where
 pub record IsMarkPlace (text : List ℕ) (from place : ℕ) : Type 0 where
   pub within : place ≤ length text
   pub leads : (k : ℕ) → from ≤ k → k ≤ place → mark_of (first_line (drop k text)) ≡ front_mark (drop place text)
+
+-- From each place from the first one to before the other from which the rest of the line begins behind its blanks with
+-- the mark that is sought, the lines with the mark reach to the other.
+abbrev pub IsDocEnd : Sought → ℕ → ℕ → Type 0
+IsDocEnd s from end = (k : ℕ) → from ≤ k → k < end → mark_of (first_line (drop k s.text)) ≡ Some s.token
+    → k + marked_len s.token (lines_of (drop k s.text)) ≡ end

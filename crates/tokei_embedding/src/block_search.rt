@@ -1,13 +1,15 @@
 //! The search for the blocks of one text.
-ghost use Rattle.std.specs.Prelude.{◌≡◌, ℕ, ◌-◌, ◌≤◌, ◌<◌, true, IfSome, List, length, drop, option_map};
+ghost use Rattle.std.specs.Prelude.{◌≡◌, ℕ, ◌-◌, ◌≤◌, ◌<◌, true, IfSome, List, length, drop, codes, option_map};
 ghost use Rattle.tokei_embedding.specs.DocComments.{doc_block};
 ghost use Rattle.tokei_embedding.specs.NextOpenings.{part_of, OpensNoElement};
+ghost use Rattle.tokei_embedding.specs.Remembered.{sought};
 ghost use Rattle.tokei_embedding.specs.Searches.{first_of, is_at};
 ghost use Rattle.tokei_embedding.specs.Seen.{tag_seen};
 ghost use Rattle.tokei_embedding.specs.Tags.{token_of, tag_block};
 ghost use Rattle.tokei_embedding.specs.TargetBlocks.{target_of};
 
-use crate::doc_comments::marked_len;
+use crate::doc_comments::{INNER_MARK, OUTER_MARK};
+use crate::doc_search::DocSearch;
 use crate::mark_search::MarkSearch;
 use crate::tag_searches::TagSearches;
 use crate::tags::{Tag, TagAt};
@@ -23,6 +25,8 @@ pub struct BlockSearch<'a> {
     /// None until an element is asked for: most texts have none.
     tags: Option<TagSearches<'a>>,
     marks: MarkSearch<'a>,
+    outer_docs: DocSearch<'a>,
+    inner_docs: DocSearch<'a>,
     /// None until the target is asked for.
     target: Option<Option<&'a [u8]>>,
 }
@@ -33,6 +37,7 @@ impl<'a> Model for BlockSearch<'a> {
     ghost view = { λ s. s.text.now };
 
     ghost invariant = { λ s. IfSome s.tags (λ tags. tags ≡ s.text.now) × (s.marks ≡ s.text.now)
+        × (s.outer_docs ≡ sought s.text.now (codes "///")) × (s.inner_docs ≡ sought s.text.now (codes "//!"))
         × IfSome s.target (λ t. option_map (λ w. w.now) t ≡ target_of s.text.now) };
 }
 
@@ -45,6 +50,8 @@ impl<'a> BlockSearch<'a> {
             text,
             tags: None,
             marks: MarkSearch::new(text),
+            outer_docs: DocSearch::new(text, OUTER_MARK),
+            inner_docs: DocSearch::new(text, INNER_MARK),
             target: None,
         }
     }
@@ -129,7 +136,10 @@ impl<'a> BlockSearch<'a> {
         ensures same { self.new ≡ self.old }
     {
         let mark = self.marks.mark_at(place)?;
-        Some(marked_len(mark, &self.text[place..]))
+        if mark == OUTER_MARK {
+            return Some(self.outer_docs.len_at(place));
+        }
+        Some(self.inner_docs.len_at(place))
     }
 
     /// The target that the Lingua Franca text names: the word of its first `target` that no word byte stands before,

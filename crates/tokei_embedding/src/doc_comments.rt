@@ -18,15 +18,21 @@ pub fn first_line(text: &[u8]) -> &[u8]
     }
 }
 
+/// The mark of comments on what follows.
+pub(crate) const OUTER_MARK: &[u8] = b"///";
+
+/// The mark of comments on what they stand in.
+pub(crate) const INNER_MARK: &[u8] = b"//!";
+
 /// The mark at the front.
 pub(crate) fn front_mark(text: &[u8]) -> Option<&'static [u8]>
     ensures { option_map (λ m. m.now) result ≡ front_mark text.now }
 {
-    if text.starts_with(b"///") {
-        return Some(b"///");
+    if text.starts_with(OUTER_MARK) {
+        return Some(OUTER_MARK);
     }
-    if text.starts_with(b"//!") {
-        return Some(b"//!");
+    if text.starts_with(INNER_MARK) {
+        return Some(INNER_MARK);
     }
     None
 }

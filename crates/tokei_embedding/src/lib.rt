@@ -6,6 +6,7 @@
 mod blank_search;
 mod block_search;
 mod doc_comments;
+mod doc_search;
 mod fences;
 mod first_search;
 mod last_search;

@@ -134,8 +134,8 @@ impl Language {
         Ok(())
     }
 
-    /// Adds the counts, puts the other's reports behind these, and joins the marks. `Overflow` exactly where a sum of two
-    /// counts passes the greatest `usize`, or `Memory`; a refusal changes nothing.
+    /// Adds the counts, puts the other's reports behind these, and joins the marks. `Overflow` exactly where a sum of
+    /// two counts passes the greatest `usize`, or `Memory`; a refusal changes nothing.
     pub fn add(&mut self, other: Language) -> Result<(), CountError>
         ensures ok { OnOk result
             (language_of self.new ≡ merged_language (language_of self.old) (language_of other)) }
@@ -151,8 +151,8 @@ impl Language {
         Ok(())
     }
 
-    /// Renews the counts: they become the sums of the reports' own counts. `Overflow` exactly where one of these passes the
-    /// greatest `usize`, which changes nothing.
+    /// Renews the counts: they become the sums of the reports' own counts. `Overflow` exactly where one of these passes
+    /// the greatest `usize`, which changes nothing.
     pub fn total(&mut self) -> Result<(), CountError>
         ensures ok { OnOk result (language_of self.new ≡ renewed (language_of self.old)) }
         ensures fits { OnOk result (CountsFit (own_sum (language_of self.old).reports)) }
@@ -165,8 +165,8 @@ impl Language {
         Ok(())
     }
 
-    /// The counts with those of the texts inside: the counts of `summarise`, without its memory. `Overflow` exactly where
-    /// one of the three passes the greatest `usize`.
+    /// The counts with those of the texts inside: the counts of `summarise`, without its memory. `Overflow` exactly
+    /// where one of the three passes the greatest `usize`.
     pub fn summary_counts(&self) -> Result<Sums, CountError>
         ensures sum { IfOk result (λ n. sums_of n ≡ language_summary (language_of self.now)) }
         ensures past { OnErr result (¬ CountsFit (language_summary (language_of self.now))) }

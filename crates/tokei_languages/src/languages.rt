@@ -23,7 +23,8 @@ impl fmt::Debug for Languages {
 }
 
 impl Languages {
-    ghost use Rattle.std.specs.Prelude.{◌≡◌, [], length, option_copied, option_map, true, IfOk, IfErr, IsErrOf, OnOk, OnErr};
+    ghost use Rattle.std.specs.Prelude.{◌≡◌, [], length, option_copied, option_map, true, IfOk, IfErr, IsErrOf, OnOk};
+    ghost use Rattle.std.specs.Prelude.{OnErr};
     ghost use Rattle.std.specs.Ordering.{nat_cmp};
     ghost use Rattle.std.specs.BTreeMap.{insert_entry};
     ghost use Rattle.tokei_languages.specs.Maps.{put_at};

@@ -1,5 +1,5 @@
-//! The languages that were counted: their counts, their files' reports, and how these are added, renewed, summarised and
-//! sorted.
+//! The languages that were counted: their counts, their files' reports, and how these are added, renewed, summarised
+//! and sorted.
 #![tactic(auto)]
 
 mod before;

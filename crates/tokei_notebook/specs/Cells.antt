@@ -1,12 +1,14 @@
 -- The cells of a notebook.
-use Rattle.std.specs.Prelude.{ℕ, ◌<◌, ⊤, cond, List, [], ◌∷◌, ◌++◌, Option, Some, None, option_and_then, unwrap_or, codes}
+use Rattle.std.specs.Prelude.{ℕ, ◌<◌, ⊤, if◌then◌else◌, List, [], ◌∷◌, ◌++◌, codes}
+use Rattle.std.specs.Prelude.{Option, Some, None, option_and_then, unwrap_or}
 use Rattle.serde_json.specs.Data.{Data, string, array, Items, no_items, item}
 use Rattle.serde_json.specs.Find.{get}
+use Rattle.tokei_table.specs.Families.{fallback}
 use Rattle.tokei_table.specs.Layout.{stands_and}
-use Rattle.tokei_table.specs.Lookups.{first_where, or_else, has_name, has_name_in_any_case, has_extension}
+use Rattle.tokei_table.specs.Lookups.{first_where, or_else, has_name_in_any_case, has_extension}
 use Rattle.tokei_table.specs.Outcome.{data_of}
 use Rattle.tokei_table.specs.Row.{Row}
-use Rattle.tokei_notebook.specs.Layout.{is_markdown, is_notebook}
+use Rattle.tokei_notebook.specs.Layout.{is_markdown, has_notebook_layout}
 use Rattle.tokei_notebook.specs.declared.notebook.Cell.{Cell as CodeCell}
 
 -- a cell: the language that it is read in, and its text
@@ -17,15 +19,10 @@ pub record Cell : Type 0 where
 abbrev pub cell_of : CodeCell → Cell
 cell_of c = record { language = c.language; source = c.source.items }
 
--- The language with that key or name. A well-formed table that has notebooks has those that they need; without it the
--- notebook's own language stands.
-abbrev pub needed : List Row → ℕ → List ℕ → ℕ
-needed rows notebook name = unwrap_or (first_where (has_name name) rows) notebook
-
--- the language whose name is the text in any ASCII case; other values name none
-abbrev pub by_word : List Row → Option Data → Option ℕ
-by_word rows (Some (string t)) = first_where (has_name_in_any_case t) rows
-by_word rows d = None
+-- the language that the kernel names: its name is the text in any ASCII case; other values name none
+abbrev pub by_kernel : List Row → Option Data → Option ℕ
+by_kernel rows (Some (string t)) = first_where (has_name_in_any_case t) rows
+by_kernel rows d = None
 
 -- the language with the text as an extension; other values have none
 abbrev pub by_extension : List Row → Option Data → Option ℕ
@@ -38,10 +35,12 @@ get_in outer inner d = option_and_then (get inner) (get outer d)
 
 -- The language of code cells, by the metadata: the kernel's, else by the extension, else Python.
 unfoldable pub code_language : List Row → ℕ → Option Data → ℕ
-code_language rows notebook None = needed rows notebook (codes "Python")
+code_language rows notebook None = fallback rows notebook (codes "Python")
 code_language rows notebook (Some d) =
-    unwrap_or (or_else (by_word rows (get_in (codes "kernelspec") (codes "language") d)) (by_extension rows (get_in (codes "language_info") (codes "file_extension") d)))
-    (needed rows notebook (codes "Python"))
+    unwrap_or (or_else
+    (by_kernel rows (get_in (codes "kernelspec") (codes "language") d))
+    (by_extension rows (get_in (codes "language_info") (codes "file_extension") d)))
+    (fallback rows notebook (codes "Python"))
 
 -- a text's bytes; other values have none
 abbrev pub text_of : Data → List ℕ
@@ -62,19 +61,24 @@ source_of d = []
 abbrev pub cells_in : ℕ → ℕ → Items → List Cell
 cells_in markdown code no_items = []
 cells_in markdown code (item d ds) =
-    record { language = cond (stands_and is_markdown (get (codes "cell_type") d)) markdown code; source = source_of (get (codes "source") d) }
-    ∷ cells_in markdown code ds
+    record {
+      language = if stands_and is_markdown (get (codes "cell_type") d) then markdown else code;
+      source = source_of (get (codes "source") d);
+    } ∷ cells_in markdown code ds
 
 abbrev pub cells_at : ℕ → ℕ → Option Data → List Cell
 cells_at markdown code (Some (array ds)) = cells_in markdown code ds
 cells_at markdown code d = []
 
--- the cells of a JSON value; one that isn't a notebook has none
+-- the cells of a JSON value; one without the layout of a notebook has none
 unfoldable pub cells_of : List Row → ℕ → Option Data → List Cell
 cells_of rows notebook None = []
-cells_of rows notebook (Some d) = cond (is_notebook d)
-    (cells_at (needed rows notebook (codes "Markdown")) (code_language rows notebook (get (codes "metadata") d)) (get (codes "cells") d))
-    []
+cells_of rows notebook (Some d) =
+    if has_notebook_layout d then cells_at
+    (fallback rows notebook (codes "Markdown"))
+    (code_language rows notebook (get (codes "metadata") d))
+    (get (codes "cells") d)
+    else []
 
 -- The cells of a text in the language of notebooks; a text that isn't a notebook has none.
 abbrev pub notebook_cells : List Row → ℕ → List ℕ → List Cell

@@ -25,5 +25,6 @@ abbrev pub has_metadata : Data → Bool
 has_metadata d = is_some (get (codes "kernelspec") d) && is_some (get (codes "language_info") d)
 
 -- A notebook has cells and metadata; other members are passed over.
-unfoldable pub is_notebook : Data → Bool
-is_notebook d = stands_and (is_list is_cell) (get (codes "cells") d) && stands_and has_metadata (get (codes "metadata") d)
+unfoldable pub has_notebook_layout : Data → Bool
+has_notebook_layout d =
+    stands_and (is_list is_cell) (get (codes "cells") d) && stands_and has_metadata (get (codes "metadata") d)

@@ -2,7 +2,7 @@
 ghost use Rattle.std.specs.Prelude.{◌≡◌, ◌||◌, option_map};
 ghost use Rattle.serde_json.specs.View.{view, items_view};
 ghost use Rattle.tokei_table.specs.Layout.{all_items, is_list, is_text, stands_and};
-ghost use Rattle.tokei_notebook.specs.Layout.{is_markdown, is_code, is_cell, has_metadata, is_notebook};
+ghost use Rattle.tokei_notebook.specs.Layout.{is_markdown, is_code, is_cell, has_metadata, has_notebook_layout};
 
 use serde_json::Value;
 
@@ -87,10 +87,10 @@ fn has_metadata(member: Option<&Value>) -> bool
     }
 }
 
-/// Whether the value is a notebook.
-#[tactic(auto, unfolding(crate::specs::Layout::is_notebook))]
-pub(crate) fn is_notebook(value: &Value) -> bool
-    ensures { result ≡ is_notebook (view value.now) }
+/// Whether the value has the layout of a notebook.
+#[tactic(auto, unfolding(crate::specs::Layout::has_notebook_layout))]
+pub(crate) fn has_notebook_layout(value: &Value) -> bool
+    ensures { result ≡ has_notebook_layout (view value.now) }
 {
     are_cells(value.get("cells")) && has_metadata(value.get("metadata"))
 }

@@ -1,10 +1,12 @@
 //! The cells of a notebook.
 ghost use Rattle.std.specs.Prelude.{◌≡◌, ◌<◌, ◌++◌, length, map, option_map, IfOk, IfSome, codes};
 ghost use Rattle.serde_json.specs.View.{view, items_view};
-ghost use Rattle.tokei_notebook.specs.Cells.{cell_of, needed, by_word, by_extension, get_in, code_language, text_of, joined, source_of, cells_in, cells_at, cells_of, notebook_cells, AreKnown};
+ghost use Rattle.tokei_notebook.specs.Cells.{cell_of, by_kernel, by_extension, get_in, code_language, text_of, joined};
+ghost use Rattle.tokei_notebook.specs.Cells.{source_of, cells_in, cells_at, cells_of, notebook_cells, AreKnown};
+ghost use Rattle.tokei_table.specs.Families.{fallback};
 ghost use Rattle.tokei_table.specs.Outcome.{data_of};
 
-use crate::layout::{is_markdown, is_notebook};
+use crate::layout::{has_notebook_layout, is_markdown};
 use serde_json::Value;
 use std::alloc::{AllocError, Global};
 use tokei_table::{LanguageTable, LanguageType};
@@ -35,18 +37,18 @@ fn data(alloc: Global, text: &[u8]) -> Result<Option<Value>, AllocError>
     }
 }
 
-/// The language with that key or name, else that of the notebook.
-fn needed(table: &LanguageTable, notebook: LanguageType, name: &str) -> LanguageType
+/// The language on which a notebook falls back, else its own.
+fn fallback(table: &LanguageTable, notebook: LanguageType, name: &str) -> LanguageType
     requires { notebook < length table.now }
     ensures known { result < length table.now }
-    ensures value { result ≡ needed table.now notebook name.now }
+    ensures value { result ≡ fallback table.now notebook name.now }
 {
     LanguageType::from_name(table, name).unwrap_or(notebook)
 }
 
-fn by_word(table: &LanguageTable, member: Option<&Value>) -> Option<LanguageType>
+fn by_kernel(table: &LanguageTable, member: Option<&Value>) -> Option<LanguageType>
     ensures known { IfSome result (λ l. l < length table.now) }
-    ensures value { result ≡ by_word table.now (option_map (λ v. view v.now) member.entry) }
+    ensures value { result ≡ by_kernel table.now (option_map (λ v. view v.now) member.entry) }
 {
     match member {
         Some(Value::String(word)) => LanguageType::from_str(table, word.as_str()),
@@ -88,7 +90,7 @@ fn code_language(
     ensures value { result ≡ code_language table.now notebook (option_map (λ v. view v.now) metadata.entry) }
 {
     if let Some(metadata) = metadata {
-        if let Some(named) = by_word(table, get_in(metadata, "kernelspec", "language")) {
+        if let Some(named) = by_kernel(table, get_in(metadata, "kernelspec", "language")) {
             return named;
         }
         let extension = get_in(metadata, "language_info", "file_extension");
@@ -96,7 +98,7 @@ fn code_language(
             return found;
         }
     }
-    needed(table, notebook, "Python")
+    fallback(table, notebook, "Python")
 }
 
 fn text_of(value: &Value) -> &[u8]
@@ -155,7 +157,8 @@ fn cells_at(
     code: LanguageType,
     member: Option<&Value>,
 ) -> Result<Vec<Cell>, AllocError>
-    ensures { IfOk result (λ v. map cell_of v.items ≡ cells_at markdown code (option_map (λ w. view w.now) member.entry)) }
+    ensures { IfOk result (λ v. map cell_of v.items
+        ≡ cells_at markdown code (option_map (λ w. view w.now) member.entry)) }
 {
     match member {
         Some(Value::Array(items)) => cells_in(alloc, markdown, code, items),
@@ -180,10 +183,10 @@ pub fn cells(
         Some(value) => value,
         None => return Ok(Vec::new(alloc)),
     };
-    if !is_notebook(&value) {
+    if !has_notebook_layout(&value) {
         return Ok(Vec::new(alloc));
     }
-    let markdown = needed(table, notebook, "Markdown");
+    let markdown = fallback(table, notebook, "Markdown");
     let code = code_language(table, notebook, value.get("metadata"));
     cells_at(alloc, markdown, code, value.get("cells"))
 }

@@ -1,14 +1,14 @@
 -- When statistics fit the code's numbers.
-use Rattle.std.specs.Prelude.{◌<◌, ⊤}
+use Rattle.std.specs.Prelude.{◌<◌, ◌^◌, ⊤}
 use Rattle.tokei_stats.specs.Statistics.{Counts, Statistics, Blobs}
 use Rattle.tokei_stats.specs.Statistics.Statistics.{node}
 use Rattle.tokei_stats.specs.Statistics.Blobs.{none, blob}
 
 -- each of the three numbers is at most the greatest `usize`
 pub record CountsFit (n : Counts) : Type 0 where
-  pub blanks : n.blanks < 18446744073709551616
-  pub code : n.code < 18446744073709551616
-  pub comments : n.comments < 18446744073709551616
+  pub blanks : n.blanks < 2 ^ 64
+  pub code : n.code < 2 ^ 64
+  pub comments : n.comments < 2 ^ 64
 
 -- each number of the statistics is, at every depth
 abbrev mutual

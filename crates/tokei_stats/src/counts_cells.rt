@@ -1,8 +1,8 @@
 //! The counts in a row.
 use std::fmt;
 
-/// Lines, code, comments and blanks, each behind a space and right in 12 places. The lines are the exact sum of the three
-/// counts, also where it passes `usize`.
+/// Lines, code, comments and blanks, each behind a space and right in 12 places. The lines are the exact sum of the
+/// three counts, also where it passes `usize`.
 #[derive(Clone, Copy)]
 pub(crate) struct CountsCells {
     pub(crate) blanks: usize,

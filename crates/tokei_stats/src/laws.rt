@@ -2,7 +2,8 @@
 ghost use Rattle.std.specs.Prelude.{◌≡◌, ◌↔◌, IsTrue, string_bytes};
 ghost use Rattle.tokei_stats.specs.Ordered.{IsOrdered};
 ghost use Rattle.tokei_stats.specs.Seen.{stats_of};
-ghost use Rattle.tokei_stats.specs.SumLaws.{SumsStayOrdered, SumsCommute, SumsAssociate, EmptyIsNeutral, SummariesAdd, SummarisingOnceSuffices, SumsHoldBoth, PutsChangeOne};
+ghost use Rattle.tokei_stats.specs.SumLaws.{SumsStayOrdered, SumsCommute, SumsAssociate, EmptyIsNeutral};
+ghost use Rattle.tokei_stats.specs.SumLaws.{SummariesAdd, SummarisingOnceSuffices, SumsHoldBoth, PutsChangeOne};
 
 use crate::report::Report;
 use crate::stats::CodeStats;
@@ -27,8 +28,8 @@ pub fn empty_is_neutral()
     ensures { EmptyIsNeutral }
 {}
 
-/// The sum of two statistics has their numbers added up, and at each language the sum of both, or the one that is there;
-/// the second side is in the table's order.
+/// The sum of two statistics has their numbers added up, and at each language the sum of both, or the one that is
+/// there; the second side is in the table's order.
 pub fn sums_hold_both()
     ensures { SumsHoldBoth }
 {}

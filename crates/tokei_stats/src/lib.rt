@@ -1,5 +1,5 @@
-//! The statistics of a text and of the texts of other languages inside it, their sums and summaries; a file's report, and
-//! the row that shows it.
+//! The statistics of a text and of the texts of other languages inside it, their sums and summaries; a file's report,
+//! and the row that shows it.
 #![tactic(auto)]
 
 mod counts_cells;

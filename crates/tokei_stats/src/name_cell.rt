@@ -20,7 +20,8 @@ impl NameCell<'_> {
     #[tactic(auto, using(crate::proofs::Padding::shortened_cell))]
     fn shown(&self) -> (&'static str, &str)
         ensures bar { length result.0.now ≤ self.now.places }
-        ensures cell { result.0.now ++ left_in (self.now.places - length result.0.now) result.1.now ≡ name_cell self.now.places self.now.name.now }
+        ensures cell { result.0.now ++ left_in (self.now.places - length result.0.now) result.1.now
+            ≡ name_cell self.now.places self.now.name.now }
     {
         let name = self.name;
         if name.len() > self.places {

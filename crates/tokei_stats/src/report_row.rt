@@ -5,8 +5,8 @@ use crate::stats::CodeStats;
 use std::fmt;
 use std::marker::Model;
 
-/// A report's row: a space, the name, and its lines, code, comments and blanks. It has no newline, and printing it takes no
-/// memory.
+/// A report's row: a space, the name, and its lines, code, comments and blanks. It has no newline, and printing it
+/// takes no memory.
 #[derive(Debug, Drop)]
 pub struct ReportRow<'a> {
     name: &'a str,
@@ -23,7 +23,8 @@ ghost use Rattle.tokei_stats.specs.Seen.{counts_of};
 impl<'a> Model for ReportRow<'a> {
     ghost Value = { List ℕ };
 
-    ghost view = { λ r. report_row r.width r.name.now (record { blanks = r.blanks; code = r.code; comments = r.comments }) };
+    ghost view = { λ r. report_row r.width r.name.now
+        (record { blanks = r.blanks; code = r.code; comments = r.comments }) };
 
     ghost invariant = { λ r. r.width ≤ 65535 };
 }

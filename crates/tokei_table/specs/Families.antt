@@ -1,5 +1,7 @@
 -- The families of languages with children, by key, and which languages a family needs.
-use Rattle.std.specs.Prelude.{ℕ, Bool, ◌||◌, List, [], ◌∷◌, codes, bytes_eq, if◌then◌else◌}
+use Rattle.std.specs.Prelude.{ℕ, Bool, ◌||◌, List, [], ◌∷◌, codes, bytes_eq, if◌then◌else◌, unwrap_or}
+use Rattle.tokei_syntax.specs.Row.{Row}
+use Rattle.tokei_table.specs.Lookups.{first_where, has_name}
 use Rattle.tokei_table.specs.declared.family.Family.{Family}
 use Rattle.tokei_table.specs.declared.family.Family.TheVariants.{Plain, Markdown, HtmlLike, Rust, LinguaFranca, Jupyter}
 
@@ -31,3 +33,8 @@ needed_keys HtmlLike = codes "JavaScript" ∷ codes "Css" ∷ codes "Html" ∷ [
 needed_keys Rust = codes "Markdown" ∷ []
 needed_keys LinguaFranca = codes "C" ∷ []
 needed_keys Jupyter = codes "Markdown" ∷ codes "Python" ∷ []
+
+-- The language that a child falls back on. A well-formed table has it under that key, and no other language of that
+-- name; without it the parent's own language stands.
+abbrev pub fallback : List Row → ℕ → List ℕ → ℕ
+fallback rows parent key = unwrap_or (first_where (has_name key) rows) parent

@@ -73,11 +73,12 @@ fn falling_questions(rt: HostRuntime) {
     }
 }
 
-const DOC_TEXTS: [&[u8]; 4] = [
+const DOC_TEXTS: [&[u8]; 5] = [
     b"  \n\t /// a\n  //! b\n",
     b"x    //! c\n   \n//! d\n //! e",
     b"   // f\n \x0b\x0c\r///",
     b" \n \n ",
+    b"/// a\n /// b //! c\n///!//!///\n//! d /// e\n//! f\n\n/// g",
 ];
 
 /// The search and a new one find the same doc comment at the place.
