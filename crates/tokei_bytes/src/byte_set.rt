@@ -13,7 +13,8 @@ const FEW: usize = 4;
 #[derive(Drop)]
 pub struct ByteSet {
     flags: Vec<bool>,
-    /// The first `count` of them are the bytes of the set, where those are at most four, and each is one where there are any.
+    /// The first `count` of them are the bytes of the set, where those are at most four, and each is one where there are
+    /// any.
     few: [u8; 4],
     count: usize,
 }
@@ -58,8 +59,8 @@ impl ByteSet {
         self.flags[byte as usize]
     }
 
-    /// The first place of the text, from `from` to before `to`, whose byte is in the set, or `to` where none is. A place
-    /// counts the bytes of the text before it.
+    /// The first place of the text, from `from` to before `to`, whose byte is in the set, or `to` where none is. A
+    /// place counts the bytes of the text before it.
     #[inline(always)]
     pub fn clear_end(&self, text: &[u8], from: usize, to: usize) -> usize
         requires order { from ≤ to }

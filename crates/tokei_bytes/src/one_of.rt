@@ -92,8 +92,8 @@ fn first_other_by_one(bytes: [u8; 4], text: &[u8], from: usize, to: usize) -> us
     at
 }
 
-/// The first place of the text, from `from` to before `to`, whose byte is none of the four, or `to` where each is. A place
-/// counts the bytes of the text before it.
+/// The first place of the text, from `from` to before `to`, whose byte is none of the four, or `to` where each is. A
+/// place counts the bytes of the text before it.
 #[inline(always)]
 pub fn first_not_of_four(bytes: [u8; 4], text: &[u8], from: usize, to: usize) -> usize
     requires order { from ≤ to }

@@ -1,6 +1,7 @@
--- The decoding of a file's contents. Behind a mark FE FF or FF FE they are UTF-16, and the mark is dropped; each surrogate
--- that has no partner, and an odd last byte, is the character U+FFFD. Other contents stand as they are.
-use Rattle.std.specs.Prelude.{ℕ, ◌+◌, ◌*◌, ◌%◌, ◌==◌, ◌&&◌, List, [], ◌∷◌, ◌++◌, length, drop, Option, None, Some, if◌then◌else◌}
+-- The decoding of a file's contents. Behind a mark FE FF or FF FE they are UTF-16, and the mark is dropped; each
+-- surrogate that has no partner, and an odd last byte, is the character U+FFFD. Other contents stand as they are.
+use Rattle.std.specs.Prelude.{ℕ, ◌+◌, ◌*◌, ◌%◌, ◌==◌, ◌&&◌, List, [], ◌∷◌, ◌++◌, length, drop}
+use Rattle.std.specs.Prelude.{Option, None, Some, if◌then◌else◌}
 use Rattle.std.specs.Char.Utf16.{utf16_lossy_chars}
 use Rattle.std.specs.Str.{encode_utf8_all}
 use Rattle.tokei_text.specs.declared.decoding.ByteOrder.{ByteOrder}
@@ -10,7 +11,10 @@ use Rattle.tokei_text.specs.declared.decoding.ByteOrder.TheVariants.{BigEndian, 
 abbrev pub order_of : List ℕ → Option ByteOrder
 order_of [] = None
 order_of (a ∷ []) = None
-order_of (a ∷ b ∷ rest) = if a == 0xFE && b == 0xFF then Some BigEndian else (if a == 0xFF && b == 0xFE then Some LittleEndian else None)
+order_of (a ∷ b ∷ rest) =
+    if a == 0xFE && b == 0xFF then Some BigEndian
+    else if a == 0xFF && b == 0xFE then Some LittleEndian
+    else None
 
 -- the unit of two bytes
 abbrev pub unit_of : ByteOrder → ℕ → ℕ → ℕ
