@@ -68,3 +68,34 @@ end_later text start next end low e high =
     let place : start + n ≡ next = omega (arith, low) in
     let there : drop n (drop start text) ≡ drop next text = drop-drop n start text ∙ ap (λ m. drop m text) place in
     omega (arith, e, low, high, line_len-drop n (drop start text) (omega (arith, e, low, high)), ap line_len there)
+
+-- a line that has no newline before the place, which is in the text, goes on behind it
+pub line_goes_on : (text : List ℕ) (at next : ℕ) → at ≤ next → next < length text → next ≤ at + line_len (drop at text) → next < at + length (first_line (drop at text))
+line_goes_on text at next low high clear = by_case (below_or (line_len (drop at text)) (length (drop at text)))
+  where
+    by_case : (line_len (drop at text) < length (drop at text)) ⊎ (length (drop at text) ≤ line_len (drop at text)) → next < at + length (first_line (drop at text))
+    by_case (inl h) = omega (arith, length-broken (drop at text) h, clear)
+    by_case (inr h) = omega (arith, length-whole (drop at text) h, length-drop at text, high, low)
+
+-- the first newline before the place `next`, or that place, and where a line that goes to it stops
+module _ (text : List ℕ) (at newline next stop : ℕ) (some : at < next) (within : next ≤ length text) (high : newline ≤ next) (line : newline ≤ at + line_len (drop at text))
+    (found : newline < next → newline ≡ at + line_len (drop at text)) (more : newline < length text → stop ≡ newline + 1) (last : newline ≡ length text → stop ≡ newline) where
+  pub line_stops : stop ≤ next → stop ≡ at + length (first_line (drop at text))
+  line_stops h = end_is text at newline stop (omega (arith, some, within)) (by_case (below_or newline next)) more last
+    where
+      at_end : newline ≡ next → (newline < length text) ⊎ (length text ≤ newline) → newline ≡ at + line_len (drop at text)
+      at_end e (inl b) = let t : stop ≡ newline + 1 = more b in absurd (omega (arith, e, t, h))
+      at_end e (inr b) = omega (arith, e, b, within, line, line_len_within (drop at text), length-drop at text, some)
+
+      by_case : (newline < next) ⊎ (next ≤ newline) → newline ≡ at + line_len (drop at text)
+      by_case (inl b) = found b
+      by_case (inr b) = at_end (omega (arith, b, high)) (below_or newline (length text))
+
+  pub line_goes_over : next < stop → next < at + length (first_line (drop at text))
+  line_goes_over h = by_case (below_or newline (length text))
+    where
+      by_case : (newline < length text) ⊎ (length text ≤ newline) → next < at + length (first_line (drop at text))
+      by_case (inl b) =
+          let t : stop ≡ newline + 1 = more b in
+          line_goes_on text at next (omega (arith, some)) (omega (arith, t, h, high, b)) (omega (arith, t, h, high, line))
+      by_case (inr b) = let t : stop ≡ newline = last (omega (arith, b, high, within)) in absurd (omega (arith, t, h, high))

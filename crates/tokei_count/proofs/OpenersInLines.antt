@@ -1,6 +1,7 @@
 -- Openers in the first line of a text.
-use Rattle.std.proofs.Common.{◌≡◌, ℕ, suc, zero, ◌-◌, ◌<◌, ◌≤◌, ◌==◌, nat_eq, nat_lt, Bool, true, false, ◌&&◌, ◌||◌, cond, List, [], ◌∷◌, ◌++◌, length, drop, Option, None, Some, option_map, is_some, unwrap_or, refl, sym, ◌∙◌, ap, arith}
+use Rattle.std.proofs.Common.{◌≡◌, ℕ, suc, zero, ◌-◌, ◌<◌, ◌≤◌, ◌==◌, nat_eq, nat_lt, Bool, true, false, ◌+◌, ◌&&◌, ◌||◌, cond, List, [], ◌∷◌, ◌++◌, length, drop, Option, None, Some, option_map, is_some, unwrap_or, refl, sym, ◌∙◌, ap, arith}
 use Rattle.std.specs.List.{list_all}
+use Rattle.std.proofs.lemmas.List.{drop-drop}
 use Rattle.std.proofs.lemmas.Bool.Decides.{Decides-eqb, nat_tests}
 use Rattle.tokei_table.specs.Bytes.{begins, begins_with_one}
 use Rattle.tokei_table.specs.FirstOpener.{first_opener}
@@ -157,3 +158,19 @@ first-below os (b ∷ t) n h = by_test (begins_with_one os (b ∷ t)) h (first-b
     by_test : (x : Bool) → Some n ≡ cond x (Some 0) (option_map suc (first_opener os t)) → ((k : ℕ) → Some k ≡ first_opener os t → k < length t) → n < suc (length t)
     by_test true h f = let same : n ≡ 0 = cc in omega (arith, same)
     by_test false h f = later (first_opener os t) refl h f
+
+-- its place is in the text, or the text's end
+pub place_within : (os : List (List ℕ)) (u : List ℕ) → opener_place os u ≤ length u
+place_within os u = by_case (first_opener os u) refl
+  where
+    by_case : (o : Option ℕ) → first_opener os u ≡ o → unwrap_or o (length u) ≤ length u
+    by_case None e = omega arith
+    by_case (Some k) e = omega (arith, first-below os u k (sym e))
+
+-- the first opener from a later place on that isn't behind it
+pub opener_later : (os : List (List ℕ)) (text : List ℕ) (start later next : ℕ) → start ≤ later → later ≤ next → next ≡ start + opener_place os (drop start text) → next ≡ later + opener_place os (drop later text)
+opener_later os text start later next low high e =
+    let n : ℕ = later - start in
+    let place : start + n ≡ later = omega (arith, low) in
+    let there : drop n (drop start text) ≡ drop later text = drop-drop n start text ∙ ap (λ m. drop m text) place in
+    omega (arith, e, low, high, place-later os n (drop start text) (omega (arith, e, low, high)), ap (opener_place os) there)

@@ -24,7 +24,7 @@ use Rattle.tokei_count.proofs.Summaries.{reading-ordered}
 use Rattle.tokei_stats.proofs.Fitting.{counts-left}
 use Rattle.tokei_count.proofs.Lines.{counts_left-none, children_left-none}
 
-counts_same : (a b : Counts) → a.blanks ≡ b.blanks → a.code ≡ b.code → a.comments ≡ b.comments → a ≡ b
+pub counts_same : (a b : Counts) → a.blanks ≡ b.blanks → a.code ≡ b.code → a.comments ≡ b.comments → a ≡ b
 counts_same a b x y z =
     ap (λ w. record { blanks = w; code = a.code; comments = a.comments }) x
     ∙ ap (λ w. record { blanks = b.blanks; code = w; comments = a.comments }) y
@@ -117,6 +117,12 @@ module _ (rows : List Row) (docs : Bool) (levels language : ℕ) (text : List �
       ap (λ m. node m blobs) own_is ∙ ap (node all_counts) blobs_are ∙ sym (reading-lines n)
 
   module _ (own : Counts) (blobs : Blobs) (l : ℕ) (c : Chain) (rest : List ℕ) (u : IsCounted own blobs l c rest) where
+    -- the counts so far fit where the whole does
+    pub own_fits : is_notebook g ≡ false → Fits whole → CountsFit own
+    own_fits i f =
+        let h : Fits (node all_counts (gathered read none all_kids)) = subst Fits (reading-lines i) f in
+        first_fits own (plus (counts_left g block l docs c rest) (shares (children_left g block l c rest))) (subst CountsFit (sym u.counts) h.0)
+
     -- a line
     pub line_read : (n : ℕ) (class : Class) (d : Chain) → {j : ℕ} → ReadsLine g block l docs c n j class d rest → IsCounted (plus own (one_of class)) blobs l d (drop n rest)
     line_read n class d r =

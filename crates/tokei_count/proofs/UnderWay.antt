@@ -5,7 +5,7 @@ use Rattle.std.specs.Global.{Vec}
 use Rattle.tokei_table.specs.FirstOpener.{first_opener}
 use Rattle.tokei_table.specs.Openers.{openers}
 use Rattle.tokei_count.specs.Class.{class_of}
-use Rattle.tokei_count.specs.Glance.{holds, is_walked}
+use Rattle.tokei_count.specs.Glance.{holds, is_walked, opener_place}
 use Rattle.tokei_count.specs.Glanced.{AreInLine}
 use Rattle.tokei_count.specs.Items.{Block}
 use Rattle.tokei_count.specs.Lines.{first_line, line_len}
@@ -25,15 +25,17 @@ use Rattle.tokei_count.specs.declared.text_reading.ReadSoFar.{ReadSoFar}
 use Rattle.tokei_count.specs.declared.walk.PartEnd.TheVariants.{Line, Broken}
 use Rattle.tokei_stats.specs.Overflow.{CountsFit, Fits}
 use Rattle.tokei_stats.specs.Seen.{sums_of, blobs_of, entries_of}
-use Rattle.tokei_stats.specs.Statistics.{Counts, Blobs, lines_of, plus, at, put, joined, sum}
+use Rattle.tokei_stats.specs.Statistics.{Counts, Blobs, lines_of, no_lines, plus, at, put, joined, sum}
 use Rattle.tokei_stats.specs.Statistics.Statistics.{node}
 use Rattle.tokei_stats.specs.declared.sums.Sums.{Sums}
 use Rattle.tokei_count.proofs.GlanceReading.{glance_reads, glance_walked}
 use Rattle.tokei_count.proofs.KnownLanguages.{blocks_known}
-use Rattle.tokei_count.proofs.Lines.{take-first}
+use Rattle.tokei_count.proofs.LineEnd.{drop_none}
+use Rattle.tokei_count.proofs.Lines.{take-first, first_within}
+use Rattle.tokei_count.proofs.OpenersInLines.{holds-line, place-below, place-behind}
 use Rattle.tokei_count.proofs.PartFronts.{part_behind}
 use Rattle.tokei_count.proofs.StepReading.{AreUnderWay, not_walked, lines_of-one, steps_whole, line_steps, line_skipped, broken_steps, glance_part, line_some}
-use Rattle.tokei_count.proofs.TextReading.{IsCounted, read_whole, line_read, child_read, line_fits, share_fits, child_fits, blob_fits, levels_left}
+use Rattle.tokei_count.proofs.TextReading.{IsCounted, read_whole, line_read, child_read, line_fits, share_fits, child_fits, blob_fits, levels_left, own_fits, counts_same}
 use Rattle.tokei_count.proofs.TokenOpeners.{openers_in_line}
 
 -- the openers that parts are searched for are those of the language
@@ -43,15 +45,44 @@ openers_are r = ap (λ m. m.openers) r.matched
 some_same : (a b : Block) → Some a ≡ Some b → a ≡ b
 some_same a b e = cc
 
-drop_none : {A : Type 0} (xs : List A) → drop 0 xs ≡ xs
-drop_none [] = refl
-drop_none (x ∷ xs) = refl
-
 -- where the text's first line goes to
 pub first_end : (t : List ℕ) (start end : ℕ) → start ≡ 0 → end ≡ line_len t → end ≡ start + line_len (drop start t)
 first_end t start end none is = omega (arith, none, is, ap (λ n. line_len (drop n t)) none ∙ ap line_len (drop_none t))
 
+-- as many lines more
+abbrev pub sums_with : Sums → Sums → Sums
+sums_with a b = record { blanks = a.blanks + b.blanks; code = a.code + b.code; comments = a.comments + b.comments }
+
+-- what was read so far, with those lines more, up to that place
+abbrev pub gone_on : ReadSoFar → Sums → ℕ → ReadSoFar
+gone_on p lines at =
+    record { own = sums_with p.own lines; blobs = p.blobs; own_steps = p.own_steps; inner_steps = p.inner_steps; left = p.left; start = at; stack = p.stack; search = p.search }
+
+-- the lines are told by their counts
+pub same_sums : (a b : Sums) → sums_of a ≡ sums_of b → a ≡ b
+same_sums a b e = ap (λ (m : Counts). record { blanks = m.blanks; code = m.code; comments = m.comments }) e
+
+pub counted_on : (r : Reading) (p : ReadSoFar) (o : Sums) (at : ℕ) → (lines : Sums) → sums_of o ≡ sums_of (sums_with p.own lines) → IsUnderWay r (gone_on p lines at)
+    → IsUnderWay r (record { own = o; blobs = p.blobs; own_steps = p.own_steps; inner_steps = p.inner_steps; left = p.left; start = at; stack = p.stack; search = p.search })
+counted_on r p o at lines e way =
+    subst (λ (s : Sums). IsUnderWay r (record { own = s; blobs = p.blobs; own_steps = p.own_steps; inner_steps = p.inner_steps; left = p.left; start = at; stack = p.stack; search = p.search }))
+    (same_sums (sums_with p.own lines) o (sym e)) way
+
 module _ (r : Reading) (p : ReadSoFar) (way : IsUnderWay r p) where
+  -- before any more lines
+  pub none_more : (lines : Sums) → sums_of lines ≡ no_lines → IsUnderWay r (gone_on p lines p.start)
+  none_more lines none =
+      let b : 0 ≡ lines.blanks = ap (λ (m : Counts). m.blanks) (sym none) in
+      let c : 0 ≡ lines.code = ap (λ (m : Counts). m.code) (sym none) in
+      let d : 0 ≡ lines.comments = ap (λ (m : Counts). m.comments) (sym none) in
+      let same : p.own ≡ sums_with p.own lines = same_sums p.own (sums_with p.own lines) (counts_same _ _ (omega arith) (omega arith) (omega arith)) in
+      subst (λ (s : Sums). IsUnderWay r (record { own = s; blobs = p.blobs; own_steps = p.own_steps; inner_steps = p.inner_steps; left = p.left; start = p.start; stack = p.stack; search = p.search })) same way
+
+  -- the counts so far fit where the whole does
+  pub counts_fit : Fits (reading_of r) → CountsFit (sums_of p.own)
+  counts_fit fits = own_fits r.table.now r.docs r.levels r.language r.text.now (sums_of p.own) (blobs_of (entries_of p.blobs.entries)) p.left (chain_of p.stack.items) (drop p.start r.text.now)
+      (record { counts = way.counts; kids = way.kids }) way.lines fits
+
   abbrev text : List ℕ
   text = r.text.now
 
@@ -249,3 +280,26 @@ module _ (r : Reading) (p : ReadSoFar) (way : IsUnderWay r p) where
           inner = λ skipped. (taken skipped).inner;
           quiet = λ skipped none. absurd (unwalked skipped none (walked skipped));
         }
+
+-- lines that were skipped, and one more, by the place of the first opener
+pub skipped_more : (r : Reading) (p : ReadSoFar) (lines more : Sums) (at stop next : ℕ) (class : Class) → IsUnderWay r (gone_on p lines at) → sums_of more ≡ plus (sums_of lines) (one_of class)
+    → at < length r.text.now → chain_of p.stack.items ≡ [] → stop ≡ at + length (first_line (drop at r.text.now)) → next ≡ at + opener_place (openers_in r) (drop at r.text.now) → stop ≤ next
+    → class ≡ class_of (row_in r) r.docs (record { begun = None; bytes = take (stop - at) (drop at r.text.now); ended = None })
+    → IsUnderWay r (gone_on p more stop)
+skipped_more r p lines more at stop next class way more_is some plain stop_is next_is before class_is =
+    let q : ReadSoFar = gone_on p lines at in
+    let u : List ℕ = drop at r.text.now in
+    let none : holds (openers_in r) (first_line u) ≡ false = holds-line (openers_in r) (openers_lines r q way) u ∙ place-behind (openers_in r) u (length (first_line u)) (omega (arith, stop_is, next_is, before)) in
+    let blanks : more.blanks ≡ lines.blanks + (one_of class).blanks = ap (λ (m : Counts). m.blanks) more_is in
+    let code : more.code ≡ lines.code + (one_of class).code = ap (λ (m : Counts). m.code) more_is in
+    let comments : more.comments ≡ lines.comments + (one_of class).comments = ap (λ (m : Counts). m.comments) more_is in
+    let own_is : sums_of (sums_with p.own more) ≡ plus (sums_of q.own) (one_of class) = counts_same _ _ (omega (arith, blanks)) (omega (arith, code)) (omega (arith, comments)) in
+    skipped_on r q way class stop some plain stop_is none class_is (sums_with p.own more) own_is
+
+-- the part that is left where its line goes on behind the first opener is walked
+pub walked_behind : (r : Reading) (p : ReadSoFar) (next : ℕ) → IsUnderWay r p → chain_of p.stack.items ≡ [] → next ≡ p.start + opener_place (openers_in r) (drop p.start r.text.now)
+    → next < p.start + length (line_from r p.start) → is_walked (openers_in r) (innermost (chain_of p.stack.items)) (line_from r p.start) ≡ true
+walked_behind r p next way plain known more =
+    let u : List ℕ = drop p.start r.text.now in
+    ap (λ (d : Chain). is_walked (openers_in r) (innermost d) (first_line u)) plain
+    ∙ (holds-line (openers_in r) (openers_lines r p way) u ∙ place-below (openers_in r) u (length (first_line u)) (first_within u) (omega (arith, known, more)))

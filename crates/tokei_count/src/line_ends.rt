@@ -19,32 +19,46 @@ fn far_line_len(text: &[u8]) -> usize
     }
 }
 
-/// The same, where it is mostly near.
+/// The first newline of the text from the place `at` on, or `to` where none stands before that. It is mostly near.
+#[inline(always)]
+pub(crate) fn newline_before(text: &[u8], at: usize, to: usize) -> usize
+    requires order { at ≤ to }
+    requires within { to ≤ length text.now }
+    ensures high { result ≤ to }
+    ensures line { result ≤ at + line_len (drop at text.now) }
+    ensures found { result < to → result ≡ at + line_len (drop at text.now) }
+{
+    let near = if to - at < NEAR { to } else { at + NEAR };
+    let end = first_of_four([b'\n'; 4], text, at, near);
+    if end < near || near == to {
+        return end;
+    }
+    near + far_line_len(&text[near..to])
+}
+
+/// How many bytes stand before the first newline, or in all.
 #[inline(always)]
 pub(crate) fn line_len(text: &[u8]) -> usize
     ensures value { result ≡ line_len text.now }
     ensures within { result ≤ length text.now }
 {
-    let near = text.len().min(NEAR);
-    let end = first_of_four([b'\n'; 4], text, 0, near);
-    if end < near {
-        return end;
-    }
-    near + far_line_len(&text[near..])
+    newline_before(text, 0, text.len())
 }
 
 /// Where the line of the place `start` goes to, before its newline. `end` is where an earlier place's line went to:
-/// the same line, where `start` hasn't passed it, and nothing is searched.
+/// the same line, where `start` hasn't passed it, and nothing is searched. No newline stands before `clear`.
 #[inline(always)]
-pub(crate) fn line_end(text: &[u8], start: usize, end: usize) -> usize
+pub(crate) fn line_end(text: &[u8], start: usize, clear: usize, end: usize) -> usize
     requires start { start ≤ length text.now }
     requires known { start ≤ end → end ≡ start + line_len (drop start text.now) }
+    requires behind { start ≤ clear }
+    requires clear { clear ≤ start + line_len (drop start text.now) }
     ensures { result ≡ start + line_len (drop start text.now) }
 {
     if start <= end {
         return end;
     }
-    start + line_len(&text[start..])
+    clear + line_len(&text[clear..])
 }
 
 /// Where the line stops that goes to `end`: behind its newline, or with the text.

@@ -1,5 +1,5 @@
 //! Texts are read part by part: each is walked, or skipped where nothing can open in it.
-ghost use Rattle.std.specs.Prelude.{◌≡◌, ◌+◌, ◌<◌, true, false, [], None, Some, drop, is_some, length, map};
+ghost use Rattle.std.specs.Prelude.{◌≡◌, ◌+◌, ◌^◌, ◌<◌, ◌≤◌, true, false, [], None, Some, drop, is_some, length, map};
 ghost use Rattle.std.specs.Prelude.{IfOk, IsErrOf, IsOk, OnOk};
 ghost use Rattle.tokei_table.specs.FirstOpener.{first_opener};
 ghost use Rattle.tokei_table.specs.Lookups.{row_at};
@@ -7,7 +7,8 @@ ghost use Rattle.tokei_table.specs.Openers.{openers};
 ghost use Rattle.tokei_table.specs.RowOf.{row_of};
 ghost use Rattle.tokei_table.specs.WellFormed.{has_tokens};
 ghost use Rattle.tokei_embedding.specs.DocComments.{doc_text};
-ghost use Rattle.tokei_count.specs.Glance.{holds, is_walked};
+ghost use Rattle.tokei_count.specs.Glance.{is_walked, opener_place};
+ghost use Rattle.tokei_count.specs.Glanced.{Knows};
 ghost use Rattle.tokei_count.specs.Languages.{is_notebook};
 ghost use Rattle.tokei_count.specs.Lines.{line_len};
 ghost use Rattle.tokei_count.specs.Matchers.{matchers_of};
@@ -21,11 +22,12 @@ ghost use Rattle.tokei_count.specs.Seen.{block_of, chain_of};
 ghost use Rattle.tokei_count.specs.Steps.{capped};
 ghost use Rattle.tokei_count.specs.UnderWay.{IsReadBy, IsUnderWay, reading_inside, steps_inside};
 ghost use Rattle.tokei_stats.specs.Seen.{stats_of, sums_of};
+ghost use Rattle.tokei_stats.specs.Statistics.{lines_of, plus};
 
 use crate::class::{Class, class_by};
-use crate::glance::is_glanced;
+use crate::glance::next_opener;
 use crate::items::Enclosure;
-use crate::line_ends::{line_end, line_len, line_stop};
+use crate::line_ends::{line_end, line_len, line_stop, newline_before};
 use crate::openings::{Block, block_at};
 use crate::place::Place;
 use crate::reader::Reader;
@@ -184,23 +186,95 @@ impl<'a> ReadSoFar<'a> {
     }
 }
 
-/// Counts the next line, which is skipped and stops there.
-fn skip_line(reading: &Reading, so_far: &mut ReadSoFar, stop: usize) -> Result<(), CountError>
+/// The lines, with one of the class more.
+#[inline(always)]
+fn one_more(lines: Sums, class: Class) -> Sums
+    requires room { lines_of (sums_of lines) + 1 < 2 ^ 64 }
+    ensures { sums_of result ≡ plus (sums_of lines) (one_of class) }
+{
+    match class {
+        Class::Blank => Sums {
+            blanks: lines.blanks + 1,
+            ..lines
+        },
+        Class::Code => Sums {
+            code: lines.code + 1,
+            ..lines
+        },
+        Class::Comment => Sums {
+            comments: lines.comments + 1,
+            ..lines
+        },
+    }
+}
+
+/// Counts the next lines, one after another, which stop before the first opener, at `next`, or with the text. Their
+/// counts and place stand in no memory meanwhile.
+fn count_lines(reading: &Reading, so_far: &mut ReadSoFar, next: usize) -> Result<(), CountError>
     requires under_way { IsUnderWay reading.now so_far.old }
-    requires some { so_far.old.start < length reading.now.text.now }
-    requires stop { stop ≡ so_far.old.start + length (line_from reading.now so_far.old.start) }
     requires plain { chain_of so_far.old.stack.items ≡ [] }
-    requires glanced { holds (openers_in reading.now) (line_from reading.now so_far.old.start) ≡ false }
+    requires next { next ≡ so_far.old.start + opener_place (openers_in reading.now)
+        (drop so_far.old.start reading.now.text.now) }
+    requires within { next ≤ length reading.now.text.now }
     ensures under_way { OnOk result (IsUnderWay reading.now so_far.new) }
-    ensures on { OnOk result (so_far.new.start ≡ stop) }
+    ensures low { OnOk result (so_far.old.start ≤ so_far.new.start) }
+    ensures high { OnOk result (so_far.new.start ≤ next) }
+    ensures next { OnOk result (next ≡ so_far.new.start + opener_place (openers_in reading.now)
+        (drop so_far.new.start reading.now.text.now)) }
+    ensures clear { OnOk result (next ≤ so_far.new.start + line_len (drop so_far.new.start reading.now.text.now)) }
+    ensures more { OnOk result (so_far.new.start < length reading.now.text.now
+        → next < so_far.new.start + length (line_from reading.now so_far.new.start)) }
+    ensures stack { so_far.new.stack ≡ so_far.old.stack }
     ensures quiet { reading.now.skips ≡ true
         → first_opener (openers (row_in reading.now)) reading.now.text.now ≡ None → IsOk result }
     ensures overflow { IsErrOf result CountError.Overflow → ¬ Fits (reading_of reading.now) }
 {
-    let glanced = class_by(reading, None, so_far.start, stop, None);
-    so_far.own = so_far.own.plus(counted_as(glanced))?;
-    so_far.start = stop;
+    let text = reading.text;
+    let mut lines = Sums::new();
+    let mut at = so_far.start;
+    while at < next {
+        let newline = newline_before(text, at, next);
+        let stop = line_stop(text, newline);
+        if next < stop {
+            break;
+        }
+        lines = one_more(lines, class_by(reading, None, at, stop, None));
+        at = stop;
+    }
+    so_far.own = so_far.own.plus(lines)?;
+    so_far.start = at;
     Ok(())
+}
+
+/// Counts the lines before the next part that is walked, and answers a place up to which that part has no newline. `next`
+/// is where an earlier search for openers came to, and becomes where this one does.
+fn skip_lines(
+    reading: &Reading,
+    so_far: &mut ReadSoFar,
+    next: &mut usize,
+) -> Result<usize, CountError>
+    requires under_way { IsUnderWay reading.now so_far.old }
+    requires known { Knows (openers_in reading.now) reading.now.text.now so_far.old.start next.old }
+    ensures under_way { OnOk result (IsUnderWay reading.now so_far.new) }
+    ensures known { OnOk result (Knows (openers_in reading.now) reading.now.text.now so_far.new.start next.new) }
+    ensures on { OnOk result (so_far.old.start ≤ so_far.new.start) }
+    ensures low { IfOk result (λ clear. so_far.new.start ≤ clear) }
+    ensures clear { IfOk result (λ clear.
+        clear ≤ so_far.new.start + line_len (drop so_far.new.start reading.now.text.now)) }
+    ensures walked { OnOk result (reading.now.skips ≡ true → so_far.new.start < length reading.now.text.now
+        → is_walked (openers_in reading.now) (innermost (chain_of so_far.new.stack.items))
+        (line_from reading.now so_far.new.start) ≡ true) }
+    ensures quiet { reading.now.skips ≡ true
+        → first_opener (openers (row_in reading.now)) reading.now.text.now ≡ None → IsOk result }
+    ensures overflow { IsErrOf result CountError.Overflow → ¬ Fits (reading_of reading.now) }
+{
+    if !reading.skips || !so_far.stack.is_empty() {
+        return Ok(so_far.start);
+    }
+    let to = next_opener(reading.matchers, reading.text, so_far.start, *next);
+    *next = to;
+    count_lines(reading, so_far, to)?;
+    Ok(to)
 }
 
 /// The statistics of a child of the text, which is read with one level less.
@@ -314,11 +388,9 @@ pub(crate) fn read_text<'a>(
     let mut next = 0;
     let mut end = line_len(text);
     while so_far.start < text.len() {
-        end = line_end(text, so_far.start, end);
-        let stop = line_stop(text, end);
-        if is_glanced(&reading, &so_far.stack, so_far.start, stop, &mut next) {
-            skip_line(&reading, &mut so_far, stop)?;
-        } else {
+        let clear = skip_lines(&reading, &mut so_far, &mut next)?;
+        if so_far.start < text.len() {
+            end = line_end(text, so_far.start, clear, end);
             read_walked(reader, &reading, &mut so_far, end)?;
         }
     }

@@ -126,49 +126,30 @@ read_text-loop-so_far-init t c = record {
   known = λ low. absurd (omega (arith, low));
 }
 
-pub read_text-line_stop-stop-requires : goal.read_text-line_stop-stop-requires
-read_text-line_stop-stop-requires t c = end_within c.args.text.now c.loop-so_far.so_far.start c.line_end-end.result c.loop-so_far.invariant.under_way.within c.line_end-end.ensures
+pub read_text-line_end-end-requires-clause-known : goal.read_text-line_end-end-requires-clause-known
+read_text-line_end-end-requires-clause-known t c = λ high.
+    end_later c.args.text.now c.loop-so_far.so_far.start c.skip_lines.new.so_far.start c.loop-so_far.end c.in_ok-clear.ensures.on (c.loop-so_far.invariant.line (omega (arith, c.in_ok-clear.ensures.on, high))) high
 
-pub read_text-is_glanced-requires-clause-lines : goal.read_text-is_glanced-requires-clause-lines
-read_text-is_glanced-requires-clause-lines t c = openers_lines _ _ c.loop-so_far.invariant.under_way
-
-pub read_text-is_glanced-requires-clause-stop : goal.read_text-is_glanced-requires-clause-stop
-read_text-is_glanced-requires-clause-stop t c = end_is c.args.text.now c.loop-so_far.so_far.start c.line_end-end.result c.line_stop-stop.result c.loop-so_far.invariant.under_way.within c.line_end-end.ensures c.line_stop-stop.ensures.more c.line_stop-stop.ensures.last
-
-pub read_text-skip_line-requires-clause-stop : goal.read_text-skip_line-requires-clause-stop
-read_text-skip_line-requires-clause-stop t c = end_is c.args.text.now c.loop-so_far.so_far.start c.line_end-end.result c.line_stop-stop.result c.loop-so_far.invariant.under_way.within c.line_end-end.ensures c.line_stop-stop.ensures.more c.line_stop-stop.ensures.last
-
-pub read_text-loop-so_far-smaller-in-Continue-1 : goal.read_text-loop-so_far-smaller-in-Continue-1
-read_text-loop-so_far-smaller-in-Continue-1 t c =
-    let stop_is = end_is c.args.text.now c.loop-so_far.so_far.start c.line_end-end.result c.line_stop-stop.result c.loop-so_far.invariant.under_way.within c.line_end-end.ensures c.line_stop-stop.ensures.more c.line_stop-stop.ensures.last in
-    omega (arith, stop_is, c.in_ok-skip_line.ensures.on, line_some c.args.text.now c.loop-so_far.so_far.start c.loop-so_far-test.true, c.loop-so_far-test.true)
-
-pub read_text-loop-so_far-preserved-in-Continue-1 : goal.read_text-loop-so_far-preserved-in-Continue-1
-read_text-loop-so_far-preserved-in-Continue-1 t c =
-    let stop_is = end_is c.args.text.now c.loop-so_far.so_far.start c.line_end-end.result c.line_stop-stop.result c.loop-so_far.invariant.under_way.within c.line_end-end.ensures c.line_stop-stop.ensures.more c.line_stop-stop.ensures.last in
-    let low : c.loop-so_far.so_far.start ≤ c.skip_line.new.so_far.start = omega (arith, stop_is, c.in_ok-skip_line.ensures.on) in
-    record {
-      under_way = c.in_ok-skip_line.ensures.under_way;
-      line = λ high. end_later c.args.text.now c.loop-so_far.so_far.start c.skip_line.new.so_far.start c.line_end-end.result low c.line_end-end.ensures high;
-      known = knows_later _ c.args.text.now c.loop-so_far.so_far.start c.skip_line.new.so_far.start c.is_glanced.new.next low c.is_glanced.ensures.known;
-    }
-
-pub read_text-read_walked-requires : goal.read_text-read_walked-requires
-read_text-read_walked-requires t c =
-    (omega (arith, c.decreases), (record { table = refl; docs = refl; skips = refl }, (c.requires.indexed, (c.loop-so_far.invariant.under_way, (c.loop-so_far-test.true, (c.line_end-end.ensures, λ skipped. walked_here _ _ c.loop-so_far.invariant.under_way _ (ap chain_of c.deref.ensures.value) (c.is_glanced.ensures.walked skipped c.if-is_glanced.false)))))))
-
-pub read_text-loop-so_far-preserved : goal.read_text-loop-so_far-preserved
-read_text-loop-so_far-preserved t c =
-    let low : c.loop-so_far.so_far.start ≤ c.read_walked.new.so_far.start = omega (arith, c.in_ok-read_walked.ensures.on) in
+pub read_text-loop-so_far-preserved-in-Continue-branch-2 : goal.read_text-loop-so_far-preserved-in-Continue-branch-2
+read_text-loop-so_far-preserved-in-Continue-branch-2 t c =
+    let low : c.skip_lines.new.so_far.start ≤ c.read_walked.new.so_far.start = omega (arith, c.in_ok-read_walked.ensures.on) in
     record {
       under_way = c.in_ok-read_walked.ensures.under_way;
-      line = λ high. end_later c.args.text.now c.loop-so_far.so_far.start c.read_walked.new.so_far.start c.line_end-end.result low c.line_end-end.ensures high;
-      known = knows_later _ c.args.text.now c.loop-so_far.so_far.start c.read_walked.new.so_far.start c.is_glanced.new.next low c.is_glanced.ensures.known;
+      line = λ high. end_later c.args.text.now c.skip_lines.new.so_far.start c.read_walked.new.so_far.start c.line_end-end.result low c.line_end-end.ensures high;
+      known = knows_later _ c.args.text.now c.skip_lines.new.so_far.start c.read_walked.new.so_far.start c.skip_lines.new.next low c.in_ok-clear.ensures.known;
     }
 
+pub read_text-loop-so_far-preserved : goal.read_text-loop-so_far-preserved
+read_text-loop-so_far-preserved t c = record {
+  under_way = c.in_ok-clear.ensures.under_way;
+  line = λ high.
+      end_later c.args.text.now c.loop-so_far.so_far.start c.skip_lines.new.so_far.start c.loop-so_far.end c.in_ok-clear.ensures.on (c.loop-so_far.invariant.line (omega (arith, c.in_ok-clear.ensures.on, high))) high;
+  known = c.in_ok-clear.ensures.known;
+}
+
 pub read_text-returns-in_err-read_walked-clause-quiet : goal.read_text-returns-in_err-read_walked-clause-quiet
-read_text-returns-in_err-read_walked-clause-quiet t c = λ skipped lines none. absurd (unwalked _ _ c.loop-so_far.invariant.under_way skipped none
-    (walked_here _ _ c.loop-so_far.invariant.under_way _ (ap chain_of c.deref.ensures.value) (c.is_glanced.ensures.walked skipped c.if-is_glanced.false)))
+read_text-returns-in_err-read_walked-clause-quiet t c = λ skipped lines none.
+    absurd (unwalked _ _ c.in_ok-clear.ensures.under_way skipped none (c.in_ok-clear.ensures.walked skipped (omega arith)))
 
 pub read_text-returns-clause-reads : goal.read_text-returns-clause-reads
 read_text-returns-clause-reads t c = c.assembled-stats.ensures ∙ all_read _ _ c.loop-so_far.invariant.under_way (omega (arith, c.loop-so_far-test.false))
