@@ -1,5 +1,6 @@
 -- The options that stand above the configuration files.
-use Rattle.std.specs.Prelude.{ℕ, ◌==◌, List, Bool, true, Option, Some, flat_map, filter_map, map, option_map, string_bytes, if◌then◌else◌}
+use Rattle.std.specs.Prelude.{ℕ, ◌==◌, List, Bool, true, Option, Some, flat_map, filter_map, map, option_map}
+use Rattle.std.specs.Prelude.{string_bytes, if◌then◌else◌}
 use Rattle.std.specs.List.{slice_split}
 use Rattle.std.specs.Option.{option_or}
 use Rattle.tokei_config.specs.Settings.{Settings}
@@ -11,9 +12,12 @@ use Rattle.tokei_cli.specs.declared.cli.Cli.{Cli}
 abbrev pub language_named : List Row → List ℕ → Option ℕ
 language_named rows piece = first_where (has_name_in_any_case piece) rows
 
+abbrev pub comma : ℕ
+comma = 44
+
 -- the languages of a word, between its commas; a piece that names none is passed over
 abbrev pub languages_in : List Row → List ℕ → List ℕ
-languages_in rows word = filter_map (language_named rows) (slice_split (λ b. b == 44) word)
+languages_in rows word = filter_map (language_named rows) (slice_split (λ b. b == comma) word)
 
 -- the languages of all words
 abbrev pub languages_named : List Row → List (List ℕ) → List ℕ

@@ -2,6 +2,7 @@
 use Rattle.std.specs.Prelude.{ℕ, ◌+◌, List, [], ◌∷◌, ◌++◌, Result, Ok, Err, codes, flat_map}
 use Rattle.std.specs.List.{join_by}
 use Rattle.tokei_stats.specs.Places.{left_in}
+use Rattle.tokei_syntax.specs.Bytes.{newline, space}
 use Rattle.tokei_syntax.specs.Row.{Row}
 use Rattle.tokei_cli.specs.declared.output_error.OutputError.{OutputError}
 use Rattle.tokei_cli.specs.declared.output_error.OutputError.TheVariants.{Memory, Write}
@@ -12,9 +13,13 @@ faults_after_printing (Ok a) n = n
 faults_after_printing (Err Memory) n = n
 faults_after_printing (Err Write) n = n + 1
 
--- a name left in 40 places, a space, and what stands beside it
+-- how many places a line has for the name
+abbrev pub list_places : ℕ
+list_places = 40
+
+-- a name left in its places, a space, and what stands beside it
 abbrev pub list_line : List ℕ → List ℕ → List ℕ
-list_line name beside = left_in 40 name ++ (32 ∷ (beside ++ 10 ∷ []))
+list_line name beside = left_in list_places name ++ (space ∷ (beside ++ newline ∷ []))
 
 -- the extensions between commas
 abbrev pub extensions_text : List (List ℕ) → List ℕ
@@ -31,4 +36,4 @@ languages_text rows = list_line (codes "Language") (codes "Extensions") ++ flat_
 
 -- that earlier results of this name were refused, on two lines
 abbrev pub failure_text : List ℕ → List ℕ
-failure_text name = codes "Error:" ++ (10 ∷ (codes " Failed to parse input file: " ++ (name ++ 10 ∷ [])))
+failure_text name = codes "Error:" ++ (newline ∷ (codes " Failed to parse input file: " ++ (name ++ newline ∷ [])))

@@ -2,7 +2,7 @@
 -- else why it is refused. For each of them memory may run out.
 use Rattle.std.specs.Prelude.{◌≡◌, ℕ, List, string_bytes, ⊤, ◌⊎◌}
 use Rattle.clap.specs.declared.error.kind.ErrorKind.{ErrorKind}
-use Rattle.clap.specs.declared.error.kind.ErrorKind.TheVariants.{DisplayHelp, DisplayVersion}
+use Rattle.clap.specs.declared.error.kind.ErrorKind.TheVariants.{DisplayHelp, DisplayVersion, OutOfMemory}
 use Rattle.tokei_cli.specs.declared.cli_error.CliError.{CliError}
 use Rattle.tokei_cli.specs.declared.cli_error.CliError.TheVariants.{Memory, Refused, Asked}
 use Rattle.tokei_cli.specs.declared.help.TheConstants.{HELP, VERSION_LINE}
@@ -31,6 +31,7 @@ Refuses (Asked text) = ⊥
 abbrev pub Answers : ErrorKind → CliError → Type 0
 Answers DisplayHelp error = Shows help_text error
 Answers DisplayVersion error = Shows version_line error
+Answers OutOfMemory error = error ≡ Memory
 Answers kind error = Refuses error
 
 -- a text that may be asked for

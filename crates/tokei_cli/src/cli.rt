@@ -171,8 +171,8 @@ fn table(alloc: Global, matches: &ArgMatches<'_>) -> Result<String, AllocError>
 }
 
 impl Cli {
-    /// Reads the words of a command line, of which the first is the program's name. A refused command line, and one that
-    /// asks for help or the version, are errors with the text to be shown: for these two `HELP` or `VERSION_LINE`.
+    /// Reads the words of a command line, of which the first is the program's name. A refused command line, and one
+    /// that asks for help or the version, are errors with the text to be shown: for these two `HELP` or `VERSION_LINE`.
     pub fn from_words<'a>(alloc: Global, words: &'a [&'a str]) -> Result<Cli, CliError>
         ensures of_words { IfOk result (IsLineOf (map (λ w. w.now) words.entry.now)) }
         ensures inputs { IfOk result (λ c. inputs_of c ≢ []) }

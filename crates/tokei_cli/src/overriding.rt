@@ -47,8 +47,8 @@ fn switched(given: bool, configured: Option<bool>) -> Option<bool>
 }
 
 impl Cli {
-    /// Puts the options above the configuration: `hidden` and the four on ignore files are true where the option is given,
-    /// and the languages are those of `--types` where it is given; all else stays. Where memory runs out the
+    /// Puts the options above the configuration: `hidden` and the four on ignore files are true where the option is
+    /// given, and the languages are those of `--types` where it is given; all else stays. Where memory runs out the
     /// configuration stays as it was.
     pub fn override_config(
         &self,

@@ -2,7 +2,8 @@
 ghost use Rattle.std.specs.Prelude.{◌≡◌, ◌≢◌, ◌<◌, Err, IfOk, OnOk, string_bytes};
 ghost use Rattle.std.specs.Io.KnownBytes.{Appends};
 ghost use Rattle.tokei_syntax.specs.RowOf.{tokens_of};
-ghost use Rattle.tokei_cli.specs.Printing.{list_line, extensions_text, languages_text, failure_text, faults_after_printing};
+ghost use Rattle.tokei_cli.specs.Printing.{list_line, extensions_text, languages_text, failure_text};
+ghost use Rattle.tokei_cli.specs.Printing.{faults_after_printing};
 
 use crate::output_error::OutputError;
 use std::alloc::{AllocError, Global};

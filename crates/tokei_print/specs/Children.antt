@@ -4,6 +4,7 @@ use Rattle.tokei_languages.specs.Summaries.{language_summary, reports_summary}
 use Rattle.tokei_languages.specs.Values.{ReportValue, LanguageValue}
 use Rattle.tokei_stats.specs.ReportRow.{name_cell}
 use Rattle.tokei_stats.specs.Statistics.{Counts}
+use Rattle.tokei_table.specs.Bytes.{space}
 use Rattle.tokei_print.specs.Cells.{subtotal_cells}
 use Rattle.tokei_print.specs.LanguageRow.{files_and_counts}
 use Rattle.tokei_print.specs.Layouts.{Layout, separator_in}
@@ -23,7 +24,8 @@ child_row layout name reports = name_section layout.columns false name (codes " 
 -- a row for each child, in their order
 abbrev pub child_rows : Layout → (ℕ → List ℕ) → List (ℕ × List ReportValue) → List ℕ
 child_rows layout names [] = []
-child_rows layout names (child ∷ children) = child_row layout (names child.0) child.1 ++ child_rows layout names children
+child_rows layout names (child ∷ children) =
+    child_row layout (names child.0) child.1 ++ child_rows layout names children
 
 -- how many places the name of a report's row or of a subtotal has, less the two that a report's row adds
 abbrev pub path_places : ℕ → ℕ
@@ -31,7 +33,8 @@ path_places columns = columns - 56
 
 -- counts that take in those of the texts inside
 abbrev pub subtotal : Layout → List ℕ → Counts → List ℕ
-subtotal layout name n = 32 ∷ (name_cell (path_places layout.columns) name ++ (subtotal_cells (separator_in layout) n ++ newline))
+subtotal layout name n =
+    space ∷ (name_cell (path_places layout.columns) name ++ (subtotal_cells (separator_in layout) n ++ newline))
 
 -- the rows of a language's children, and their subtotal
 abbrev pub children_block : Layout → (ℕ → List ℕ) → LanguageValue → List ℕ

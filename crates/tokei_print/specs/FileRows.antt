@@ -1,11 +1,14 @@
 -- The rows of a language's files: first those of files with no other language inside, then the others with their blobs.
-use Rattle.std.specs.Prelude.{ℕ, ◌-◌, List, [], ◌∷◌, ◌++◌, ◌==◌, ◌||◌, Bool, true, false, not, codes, filter, length, replicate, if◌then◌else◌}
+use Rattle.std.specs.Prelude.{ℕ, ◌-◌, List, [], ◌∷◌, ◌++◌, ◌==◌, ◌||◌, Bool, true, false, not, codes, filter, length}
+use Rattle.std.specs.Prelude.{replicate, if◌then◌else◌}
 use Rattle.tokei_languages.specs.Values.{ReportValue}
 use Rattle.tokei_stats.specs.ReportRow.{report_row}
 use Rattle.tokei_stats.specs.Statistics.{Statistics, Blobs, own, blobs, summary}
 use Rattle.tokei_stats.specs.Statistics.Blobs.{none, blob}
+use Rattle.tokei_table.specs.Bytes.{space}
 use Rattle.tokei_print.specs.Cells.{number_cells}
 use Rattle.tokei_print.specs.Children.{path_places, subtotal}
+use Rattle.tokei_print.specs.LanguageRow.{files_places}
 use Rattle.tokei_print.specs.Layouts.{Layout, separator_in}
 use Rattle.tokei_print.specs.NameSection.{name_section}
 use Rattle.tokei_print.specs.Rules.{newline}
@@ -18,10 +21,14 @@ abbrev pub file_rows : Layout → List ReportValue → List ℕ
 file_rows layout [] = []
 file_rows layout (report ∷ reports) = file_row layout report ++ file_rows layout reports
 
+abbrev pub dash : ℕ
+dash = 45
+
 -- a file's name: alone where no other file stands above, and else between dashes
 abbrev pub name_line : Layout → Bool → List ℕ → List ℕ
-name_line layout first name = if first then 32 ∷ (name ++ newline)
-    else (codes "-- " ++ (name ++ (32 ∷ (replicate (layout.columns - 4 - length name) 45 ++ newline))))
+name_line layout first name =
+    if first then space ∷ (name ++ newline)
+    else codes "-- " ++ (name ++ (space ∷ (replicate (layout.columns - 4 - length name) dash ++ newline)))
 
 -- the own counts of a file, under the name of its language
 abbrev pub own_row : Layout → List ℕ → Statistics → List ℕ
@@ -31,7 +38,7 @@ own_row layout name stats = codes " |-" ++ (report_row (path_places layout.colum
 abbrev pub blob_row : Layout → Bool → List ℕ → Statistics → List ℕ
 blob_row layout inaccurate name stats =
     name_section layout.columns inaccurate name (codes " |-")
-    ++ (32 ∷ (replicate 8 32 ++ (number_cells (separator_in layout) (own stats) ++ newline)))
+    ++ (space ∷ (replicate files_places space ++ (number_cells (separator_in layout) (own stats) ++ newline)))
 
 -- a row for each language inside, in their order
 abbrev pub blob_rows : Layout → (ℕ → List ℕ) → Bool → Blobs → List ℕ
@@ -51,7 +58,8 @@ file_block layout names inaccurate language first report =
 abbrev pub file_blocks : Layout → (ℕ → List ℕ) → Bool → List ℕ → Bool → List ReportValue → List ℕ
 file_blocks layout names inaccurate language first [] = []
 file_blocks layout names inaccurate language first (report ∷ reports) =
-    file_block layout names inaccurate language first report ++ file_blocks layout names inaccurate language false reports
+    file_block layout names inaccurate language first report
+    ++ file_blocks layout names inaccurate language false reports
 
 abbrev pub no_blobs : Blobs → Bool
 no_blobs none = true
@@ -61,9 +69,13 @@ no_blobs (blob key stats rest) = false
 abbrev pub has_row_alone : Bool → ReportValue → Bool
 has_row_alone compact report = compact || no_blobs (blobs report.stats)
 
+-- the reports of files whose languages inside are shown
+abbrev pub with_blocks : Bool → List ReportValue → List ReportValue
+with_blocks compact reports = filter (λ report. not (has_row_alone compact report)) reports
+
 -- the rows of files in this order: those with a row alone first
 abbrev pub listed_files : Layout → (ℕ → List ℕ) → Bool → Bool → List ℕ → List ReportValue → List ℕ
 listed_files layout names compact inaccurate language reports =
     let alone = filter (has_row_alone compact) reports in
     file_rows layout alone
-    ++ file_blocks layout names inaccurate language (length alone == 0) (filter (λ report. not (has_row_alone compact report)) reports)
+    ++ file_blocks layout names inaccurate language (length alone == 0) (with_blocks compact reports)

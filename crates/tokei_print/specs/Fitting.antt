@@ -1,12 +1,12 @@
 -- When a sum that a row shows fits the code's numbers.
-use Rattle.std.specs.Prelude.{ℕ, ◌<◌, List, [], ◌∷◌, ⊤}
+use Rattle.std.specs.Prelude.{ℕ, ◌<◌, ◌^◌, List, [], ◌∷◌, ⊤}
 use Rattle.tokei_languages.specs.Summaries.{language_summary, reports_summary}
 use Rattle.tokei_languages.specs.Values.{ReportValue, LanguageValue}
 use Rattle.tokei_stats.specs.Statistics.{Counts, lines_of}
 
 -- the lines are at most the greatest `usize`
 abbrev pub LinesFit : Counts → Type 0
-LinesFit n = lines_of n < 18446744073709551616
+LinesFit n = lines_of n < 2 ^ 64
 
 -- so are those of each child's row
 abbrev pub ChildrenFit : List (ℕ × List ReportValue) → Type 0

@@ -11,4 +11,6 @@ form_name Json = codes "json"
 
 -- a text gives the form that it names in any ASCII case, and is refused where it names none
 abbrev pub ParsesForm : List ℕ → Result Streaming StreamingError → Type 0
-ParsesForm text r = MatchResult r (λ form. map to_ascii_lowercase text ≡ form_name form) (λ _. (form : Streaming) → map to_ascii_lowercase text ≢ form_name form)
+ParsesForm text r = MatchResult r
+    (λ form. map to_ascii_lowercase text ≡ form_name form)
+    (λ _. (form : Streaming) → map to_ascii_lowercase text ≢ form_name form)

@@ -1,5 +1,6 @@
 -- A number's digits in groups of three.
-use Rattle.std.specs.Prelude.{ℕ, ◌%◌, List, [], ◌∷◌, ◌++◌, ◌==◌, ◌&&◌, Bool, Option, None, Some, length, nat_lt, if◌then◌else◌, encode_utf8}
+use Rattle.std.specs.Prelude.{ℕ, ◌%◌, List, [], ◌∷◌, ◌++◌, ◌==◌, ◌&&◌, Bool, Option, None, Some, length, nat_lt}
+use Rattle.std.specs.Prelude.{if◌then◌else◌, encode_utf8}
 
 -- the bytes of a separator
 abbrev pub separator_text : Option ℕ → List ℕ
@@ -13,4 +14,5 @@ ends_group behind = nat_lt 0 behind && (behind % 3 == 0)
 -- the digits, with a separator behind each that ends a group
 abbrev pub grouped : List ℕ → List ℕ → List ℕ
 grouped separator [] = []
-grouped separator (digit ∷ digits) = digit ∷ ((if ends_group (length digits) then separator else []) ++ grouped separator digits)
+grouped separator (digit ∷ digits) =
+    digit ∷ ((if ends_group (length digits) then separator else []) ++ grouped separator digits)

@@ -1,3 +1,4 @@
+-- What contracts say of what is printed: the rows of languages, files and totals, streams, and when the sums fit.
 pub mod Cells
 pub mod Children
 pub mod FileRows

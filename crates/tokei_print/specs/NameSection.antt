@@ -1,7 +1,9 @@
 -- The name at the head of a row, and the mark of a language of which a file couldn't be read.
-use Rattle.std.specs.Prelude.{ℕ, ◌-◌, List, [], ◌∷◌, ◌++◌, Bool, Option, None, Some, codes, length, nat_lt, if◌then◌else◌}
+use Rattle.std.specs.Prelude.{ℕ, ◌-◌, List, [], ◌∷◌, ◌++◌, Bool, Option, None, Some, codes, length, nat_lt}
+use Rattle.std.specs.Prelude.{if◌then◌else◌}
 use Rattle.std.specs.Fmt.{take_chars}
 use Rattle.tokei_stats.specs.Places.{left_in}
+use Rattle.tokei_table.specs.Bytes.{space}
 
 -- the mark of an inaccurate language
 abbrev pub mark : Bool → List ℕ
@@ -18,8 +20,9 @@ room columns inaccurate prefix = columns - 63 - length prefix - length (mark ina
 
 -- a name of more bytes than places is its first characters and a bar
 abbrev pub shown_name : ℕ → List ℕ → List ℕ
-shown_name places name = if nat_lt places (length name) then take_chars (places - 1) name ++ codes "|" else left_in places name
+shown_name places name =
+    if nat_lt places (length name) then take_chars (places - 1) name ++ codes "|" else left_in places name
 
 abbrev pub name_section : ℕ → Bool → List ℕ → List ℕ → List ℕ
 name_section columns inaccurate name prefix =
-    prefix ++ (32 ∷ (shown_name (room columns inaccurate prefix) name ++ mark inaccurate))
+    prefix ++ (space ∷ (shown_name (room columns inaccurate prefix) name ++ mark inaccurate))

@@ -26,12 +26,15 @@ is_of_group compact false language = not (is_empty_language language) && not (sh
 -- a language's own row, and those of its children
 abbrev pub counts_block : Layout → (ℕ → List ℕ) → Bool → List ℕ → LanguageValue → List ℕ
 counts_block layout names compact name language =
-    language_row layout language name ++ (if shows_children compact language then children_block layout names language else [])
+    language_row layout language name
+    ++ (if shows_children compact language then children_block layout names language else [])
 
 -- the rows of a language's files
 abbrev pub files_block : Layout → (ℕ → List ℕ) → Bool → Bool → List ℕ → LanguageValue → List ℕ
-files_block layout names compact sorted name language = if layout.list_files
-    then subrow layout.columns ++ listed_files layout names compact language.inaccurate name (in_order sorted language.reports)
+files_block layout names compact sorted name language =
+    if layout.list_files
+    then subrow layout.columns
+    ++ listed_files layout names compact language.inaccurate name (in_order sorted language.reports)
     else []
 
 -- what parts a language with more than one row from those above

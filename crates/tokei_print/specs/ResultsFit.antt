@@ -1,7 +1,7 @@
 -- When the sums that the rows of all languages show fit the code's numbers.
-use Rattle.std.specs.Prelude.{◌≡◌, ℕ, Bool, true, false, List, [], ◌∷◌, filter, not, ⊤}
+use Rattle.std.specs.Prelude.{◌≡◌, ℕ, Bool, true, false, List, [], ◌∷◌, ⊤}
 use Rattle.tokei_languages.specs.Values.{LanguageValue}
-use Rattle.tokei_print.specs.FileRows.{has_row_alone}
+use Rattle.tokei_print.specs.FileRows.{with_blocks}
 use Rattle.tokei_print.specs.FilesFit.{FileBlocksFit}
 use Rattle.tokei_print.specs.Fitting.{ChildrenBlockFits, LinesFit}
 use Rattle.tokei_print.specs.NameOrder.{in_order}
@@ -11,11 +11,12 @@ use Rattle.tokei_print.specs.Results.{group_of, shows_children}
 pub record LanguageFits (listed compact sorted : Bool) (language : LanguageValue) : Type 0 where
   pub row : LinesFit language.counts
   pub children : shows_children compact language ≡ true → ChildrenBlockFits language
-  pub files : listed ≡ true → FileBlocksFit (filter (λ report. not (has_row_alone compact report)) (in_order sorted language.reports))
+  pub files : listed ≡ true → FileBlocksFit (with_blocks compact (in_order sorted language.reports))
 
 abbrev pub LanguagesFit : Bool → Bool → Bool → List (ℕ × LanguageValue) → Type 0
-LanguagesFit files compact sorted [] = ⊤
-LanguagesFit files compact sorted (e ∷ es) = LanguageFits files compact sorted e.1 × LanguagesFit files compact sorted es
+LanguagesFit listed compact sorted [] = ⊤
+LanguagesFit listed compact sorted (e ∷ es) =
+    LanguageFits listed compact sorted e.1 × LanguagesFit listed compact sorted es
 
 pub record ResultsFit (listed compact sorted : Bool) (languages : List (ℕ × LanguageValue)) : Type 0 where
   pub alone : LanguagesFit listed compact sorted (group_of compact false languages)

@@ -1,10 +1,10 @@
 -- The rows that part others: as many strokes as there are columns.
-use Rattle.std.specs.Prelude.{ℕ, List, [], ◌∷◌, ◌++◌}
+use Rattle.std.specs.Prelude.{ℕ, List, [], ◌∷◌, ◌++◌, codes}
 use Rattle.std.specs.List.{repeat}
 
 -- what ends each row
 abbrev pub newline : List ℕ
-newline = 10 ∷ []
+newline = codes "\n"
 
 -- the bytes of a heavy stroke, `━`
 abbrev pub heavy : List ℕ

@@ -1,5 +1,6 @@
 -- The styles of numbers: their names and their separators.
 use Rattle.std.specs.Prelude.{◌≡◌, ◌≢◌, ℕ, List, Option, None, Some, Result, codes, MatchResult}
+use Rattle.tokei_table.specs.Lookups.{dot}
 use Rattle.tokei_print.specs.declared.number_format.NumberFormatStyle.{NumberFormatStyle}
 use Rattle.tokei_print.specs.declared.number_format.NumberFormatStyle.TheVariants.{Plain, Commas, Dots, Underscores}
 use Rattle.tokei_print.specs.declared.number_format.StyleError.{StyleError}
@@ -12,11 +13,19 @@ style_name Underscores = codes "underscores"
 
 -- a text gives the style that it names, and is refused where it names none
 abbrev pub ParsesStyle : List ℕ → Result NumberFormatStyle StyleError → Type 0
-ParsesStyle text r = MatchResult r (λ style. text ≡ style_name style) (λ _. (style : NumberFormatStyle) → text ≢ style_name style)
+ParsesStyle text r = MatchResult r
+    (λ style. text ≡ style_name style)
+    (λ _. (style : NumberFormatStyle) → text ≢ style_name style)
 
--- the character between groups of three digits: none, `,`, `.` or `_`
+abbrev pub comma : ℕ
+comma = 44
+
+abbrev pub underscore : ℕ
+underscore = 95
+
+-- the character between groups of three digits
 abbrev pub separator_of : NumberFormatStyle → Option ℕ
 separator_of Plain = None
-separator_of Commas = Some 44
-separator_of Dots = Some 46
-separator_of Underscores = Some 95
+separator_of Commas = Some comma
+separator_of Dots = Some dot
+separator_of Underscores = Some underscore

@@ -1,5 +1,5 @@
 -- The row of all languages together.
-use Rattle.std.specs.Prelude.{ℕ, ◌+◌, ◌<◌, List, [], ◌∷◌, ◌++◌, codes, length}
+use Rattle.std.specs.Prelude.{ℕ, ◌+◌, ◌<◌, ◌^◌, List, [], ◌∷◌, ◌++◌, codes, length}
 use Rattle.tokei_languages.specs.Summaries.{any_inaccurate, languages_summary, reports_by_language}
 use Rattle.tokei_languages.specs.Values.{ReportValue, LanguageValue}
 use Rattle.tokei_print.specs.Fitting.{LinesFit}
@@ -17,12 +17,15 @@ report_count (reports ∷ rest) = length reports.1 + report_count rest
 abbrev pub total_row : Layout → List (ℕ × LanguageValue) → List ℕ
 total_row layout languages =
     name_section layout.columns (any_inaccurate languages) (codes "Total") []
-    ++ files_and_counts (separator_in layout) (report_count (reports_by_language languages)) (languages_summary languages)
+    ++ files_and_counts
+    (separator_in layout)
+    (report_count (reports_by_language languages))
+    (languages_summary languages)
 
 abbrev pub total_text : Layout → List (ℕ × LanguageValue) → List ℕ
 total_text layout languages = row layout.columns ++ (total_row layout languages ++ row layout.columns)
 
 -- the sums that the row shows are at most the greatest `usize`
 pub record TotalFits (languages : List (ℕ × LanguageValue)) : Type 0 where
-  pub files : report_count (reports_by_language languages) < 18446744073709551616
+  pub files : report_count (reports_by_language languages) < 2 ^ 64
   pub lines : LinesFit (languages_summary languages)

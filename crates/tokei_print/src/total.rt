@@ -1,5 +1,5 @@
 //! The row of all languages together.
-ghost use Rattle.std.specs.Prelude.{◌≡◌, ◌<◌, IfOk, IfErr, OnErr};
+ghost use Rattle.std.specs.Prelude.{◌≡◌, ◌<◌, ◌^◌, IfOk, IfErr, OnErr};
 ghost use Rattle.tokei_languages.specs.Seen.{languages_of};
 ghost use Rattle.tokei_languages.specs.Summaries.{reports_by_language};
 ghost use Rattle.tokei_print.specs.Total.{report_count};
@@ -14,7 +14,7 @@ use tokei_stats::CountError;
 fn count_reports(languages: &Languages) -> Result<usize, CountError>
     ensures sum { IfOk result (λ n. n ≡ report_count (reports_by_language (languages_of languages.now))) }
     ensures past { OnErr result
-        (¬ (report_count (reports_by_language (languages_of languages.now)) < 18446744073709551616)) }
+        (¬ (report_count (reports_by_language (languages_of languages.now)) < 2 ^ 64)) }
     ensures overflow { IfErr result (λ e. e ≡ CountError.Overflow) }
 {
     let mut files: usize = 0;

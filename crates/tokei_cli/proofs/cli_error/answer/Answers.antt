@@ -1,9 +1,14 @@
 -- What was asked for is shown.
-use Rattle.std.proofs.Common.{◌≡◌, sym, ◌∙◌}
+use Rattle.std.proofs.Common.{◌≡◌, refl, sym, ◌∙◌}
 use Rattle.clap.specs.Values.{kind_of}
-use Rattle.clap.specs.declared.error.kind.ErrorKind.TheVariants.{DisplayHelp, DisplayVersion}
+use Rattle.clap.specs.declared.error.kind.ErrorKind.TheVariants.{DisplayHelp, DisplayVersion, OutOfMemory}
 use Rattle.tokei_cli.proofs.Shown.{help_is_shown, version_is_shown}
 use Rattle.tokei_cli.proofs.cli_error.answer.Goals as goal
+
+pub returns-in-OutOfMemory-clause-kind : goal.returns-in-OutOfMemory-clause-kind
+returns-in-OutOfMemory-clause-kind c =
+    let is : OutOfMemory ≡ kind_of c.args.error.now = sym c.in-OutOfMemory.is ∙ c.kind.ensures in
+    rw (← is) refl
 
 pub returns-in-DisplayHelp-clause-kind : goal.returns-in-DisplayHelp-clause-kind
 returns-in-DisplayHelp-clause-kind c =
