@@ -1,9 +1,11 @@
 //! Reading a file, or its head.
-ghost use Rattle.std.specs.Prelude.{◌≡◌, IfOk, IfSome, take};
+ghost use Rattle.std.specs.Prelude.{◌≡◌, ◌<◌, ◌++◌, IfOk, IfSome, length, take};
+ghost use Rattle.std.specs.Io.{ReadsAtMost};
+ghost use Rattle.std.specs.Io.KnownBytes.{Consumes, IsAtEnd};
 
-use crate::limited::Limited;
-use std::alloc::Global;
-use std::fs::File;
+use crate::limited::{Limited, MAX_READS};
+use std::alloc::{AllocError, Global};
+use std::fs::{File, OpenFile};
 use std::io::{Error, ErrorKind, Read};
 use std::rt::Files;
 use std::{fs, io};
@@ -11,18 +13,78 @@ use std::{fs, io};
 /// How many bytes the head of a file has at most.
 const HEAD: u64 = 128;
 
-/// How many bytes most files of source code have at most.
-const MOST_FILES: usize = 16_383;
+/// How many bytes the buffer has that is kept between files. Most files of source code have fewer.
+const KEPT: usize = 65_536;
+
+/// The buffer that is kept between files, which the first call makes.
+pub(crate) fn kept(buffer: &mut Vec<u8>) -> Result<&mut [u8], AllocError> {
+    if buffer.len() < KEPT {
+        buffer.resize(KEPT, 0)?;
+    }
+    Ok(buffer)
+}
+
+/// The first bytes of a file, and behind them all that its reader has left. Room is made once for the number of bytes
+/// that the file is said to have; where it has more or fewer, all of them are read.
+fn all_behind<R: Read + Drop>(
+    alloc: Global,
+    front: &[u8],
+    reader: R,
+    said: usize,
+) -> io::Result<Vec<u8>>
+    ensures { IfOk result (λ v. IfSome (R.remaining reader) (λ text. v.items ≡ front.now ++ text)) }
+{
+    // One byte more, so that the read that meets the end needs no further room.
+    let mut bytes = Vec::with_capacity(alloc, said.saturating_add(1))?;
+    bytes.extend_from_slice(front)?;
+    Limited::new(reader).read_to_end(&mut bytes)?;
+    Ok(bytes)
+}
 
 /// All that a reader has left. Room is made once for the number of bytes that it is said to have; where it has more or
 /// fewer, all of them are read.
 pub fn all_of<R: Read + Drop>(alloc: Global, reader: R, said: usize) -> io::Result<Vec<u8>>
     ensures { IfOk result (λ v. IfSome (R.remaining reader) (λ text. v.items ≡ text)) }
 {
-    // One byte more, so that the read that meets the end needs no further room.
-    let mut bytes = Vec::with_capacity(alloc, said.saturating_add(1))?;
-    Limited::new(reader).read_to_end(&mut bytes)?;
-    Ok(bytes)
+    all_behind(alloc, &[], reader, said)
+}
+
+/// Reads what a reader has left to the front of a buffer, until that is full or the reader has ended; how many bytes.
+fn fill<R: Read>(reader: &mut R, buffer: &mut [u8]) -> io::Result<usize>
+    ensures bound { ReadsAtMost result buffer.new }
+    ensures read { IfOk result (λ n. Consumes (R.remaining reader.old) (R.remaining reader.new) (take n buffer.new)) }
+    ensures end { IfOk result (λ n. n < length buffer.new → IsAtEnd (R.remaining reader.new)) }
+{
+    let mut filled = 0;
+    for _ in 0..MAX_READS {
+        if filled >= buffer.len() {
+            return Ok(filled);
+        }
+        match reader.read(&mut buffer[filled..]) {
+            Ok(0) => return Ok(filled),
+            Ok(n) => filled += n,
+            Err(e) if e.kind() == ErrorKind::Interrupted => {}
+            Err(e) => return Err(e),
+        }
+    }
+    Err(Error::from(ErrorKind::Other))
+}
+
+/// All that an open file has left, read by a buffer that is kept between files. Only where that is filled is the length
+/// asked, and room made for the rest; where the file has more or fewer bytes, all of them are read.
+pub fn all_by<R: Read + OpenFile + Drop>(
+    alloc: Global,
+    mut reader: R,
+    buffer: &mut [u8],
+) -> io::Result<Vec<u8>>
+    ensures { IfOk result (λ v. IfSome (R.remaining reader) (λ text. v.items ≡ text)) }
+{
+    let filled = fill(&mut reader, buffer)?;
+    if filled < buffer.len() {
+        return Ok(Vec::from_slice(alloc, &buffer[..filled])?);
+    }
+    let said = usize::try_from(reader.metadata()?.len()).unwrap_or(usize::MAX);
+    all_behind(alloc, buffer, reader, said)
 }
 
 /// The first 128 bytes of what a reader has left, or all where there are fewer.
@@ -51,9 +113,13 @@ pub(crate) fn content<R: Files + AllocGlobal>(rt: &R, place: &str) -> io::Result
 }
 
 /// The content of the file at a place, of which a listing or a status has told that it is one. Only a change since then
-/// could make the opening wait. Its length isn't asked, since most files fit the room that is made for them.
-pub(crate) fn listed_content<R: Files + AllocGlobal>(rt: &R, place: &str) -> io::Result<Vec<u8>> {
-    all_of(rt.alloc(), File::open(rt, place)?, MOST_FILES)
+/// could make the opening wait. It is read by a buffer that is kept between files.
+pub(crate) fn listed_content<R: Files + AllocGlobal>(
+    rt: &R,
+    place: &str,
+    buffer: &mut Vec<u8>,
+) -> io::Result<Vec<u8>> {
+    all_by(rt.alloc(), File::open(rt, place)?, kept(buffer)?)
 }
 
 /// The first 128 bytes of the file at a place, or all where there are fewer.

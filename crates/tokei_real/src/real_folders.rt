@@ -15,6 +15,8 @@ use tokei_folders::{Above, Fault, Folders, Kind, Listing};
 pub struct RealFolders<R> {
     rt: R,
     memory_faults: u64,
+    /// By which listed files and the names of folders are read, one after another; made when it is first asked for.
+    buffer: Vec<u8>,
 }
 
 impl<R: Files + AllocGlobal + Clone + Drop> RealFolders<R> {
@@ -22,9 +24,11 @@ impl<R: Files + AllocGlobal + Clone + Drop> RealFolders<R> {
     pub fn new(rt: R) -> RealFolders<R>
         ensures none { result.memory_faults ≡ 0 }
     {
+        let buffer = Vec::new(rt.alloc());
         RealFolders {
             rt,
             memory_faults: 0,
+            buffer,
         }
     }
 
@@ -59,7 +63,7 @@ impl<R: Files + AllocGlobal + Clone + Drop> Folders for RealFolders<R> {
     }
 
     fn list(&mut self, place: &str) -> Result<Listing, Fault> {
-        let found = listing(&self.rt, place);
+        let found = listing(&self.rt, place, &mut self.buffer);
         self.answered(found)
     }
 
@@ -69,7 +73,7 @@ impl<R: Files + AllocGlobal + Clone + Drop> Folders for RealFolders<R> {
     }
 
     fn read_listed(&mut self, place: &str) -> Result<Vec<u8>, Fault> {
-        let bytes = listed_content(&self.rt, place);
+        let bytes = listed_content(&self.rt, place, &mut self.buffer);
         self.answered(bytes)
     }
 

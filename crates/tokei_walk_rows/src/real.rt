@@ -1,12 +1,13 @@
 //! Folders of the system, made for each test, and readers that fail.
 use crate::told::{ALONE, shown, texts};
+use std::fs::{Metadata, OpenFile};
 use std::io::{Error, ErrorKind, Read};
 use std::os::unix::fs::symlink;
 use std::test::Fail;
 use std::{env, fs, io, process};
 use tokei_folders::{Fault, Folders, Kind};
 use tokei_real::RealFolders;
-use tokei_real::reading::{all_of, head_of};
+use tokei_real::reading::{all_by, all_of, head_of};
 use tokei_walk::kept_files;
 
 /// A reader that gives a text, two bytes a read at most, and has then ended or fails.
@@ -45,6 +46,83 @@ fn files_of_another_length(rt: HostRuntime) -> Result<(), Fail> {
     };
     assert!(rt; all_of(rt.alloc(), failing, 5).is_err());
     assert!(rt; head_of(rt.alloc(), failing).is_err());
+    Ok(())
+}
+
+/// An open file that is said to have so many bytes, of which each read that gives some is interrupted before it.
+#[derive(Clone, Copy)]
+struct Changed<'a> {
+    inner: Slow<'a>,
+    said: u64,
+    interrupts: bool,
+}
+
+impl Read for Changed<'_> {
+    fn read(&mut self, buffer: &mut [u8]) -> io::Result<usize> {
+        self.interrupts = !self.interrupts;
+        if self.interrupts {
+            return Err(Error::from(ErrorKind::Interrupted));
+        }
+        self.inner.read(buffer)
+    }
+}
+
+impl OpenFile for Changed<'_> {
+    fn metadata(&self) -> io::Result<Metadata> {
+        Ok(Metadata::of_file(self.said))
+    }
+
+    fn set_len(&self, _size: u64) -> io::Result<()> {
+        Err(Error::from(ErrorKind::Unsupported))
+    }
+
+    fn sync_all(&self) -> io::Result<()> {
+        Err(Error::from(ErrorKind::Unsupported))
+    }
+
+    fn sync_data(&self) -> io::Result<()> {
+        Err(Error::from(ErrorKind::Unsupported))
+    }
+}
+
+/// The bytes of a buffer in which another file stood, and how many bytes the file is said to have.
+const BUFFERS: [(usize, u64); 9] = [
+    (0, 5),
+    (1, 0),
+    (2, 5),
+    (4, 1),
+    (5, 5),
+    (5, 70_000),
+    (6, 5),
+    (7, 0),
+    (100, 5),
+];
+
+// A buffer that is too small, as large as the file, and larger; a file that grew or shrank since its length was asked.
+#[test]
+fn files_by_a_kept_buffer(rt: HostRuntime) -> Result<(), Fail> {
+    for (length, said) in BUFFERS {
+        let mut buffer = vec![in rt.alloc(); b'x'; length]?;
+        for fails in [false, true] {
+            let reader = Changed {
+                inner: Slow {
+                    left: b"abcde",
+                    fails,
+                },
+                said,
+                interrupts: false,
+            };
+            let bytes = all_by(rt.alloc(), reader, &mut buffer);
+            assert_eq!(rt; bytes.is_err(), fails, "of {length}, said to be {said}");
+            if let Ok(bytes) = bytes {
+                assert_eq!(rt;
+                    bytes.as_slice(),
+                    b"abcde".as_slice(),
+                    "of {length}, said to be {said}"
+                );
+            }
+        }
+    }
     Ok(())
 }
 
@@ -169,19 +247,27 @@ fn wrong_kind(rt: &HostRuntime, top: &str) -> Result<Option<&'static str>, Fail>
 #[derive(Clone, Copy)]
 enum Asked {
     Read,
+    Listed,
     Head,
     List,
     Above,
 }
 
 /// Calls that are refused.
-const REFUSED: [(&str, &[Asked]); 6] = [
-    ("~/none", &[Asked::Read, Asked::List, Asked::Above]),
-    ("~/loop", &[Asked::Read, Asked::List, Asked::Above]),
+const REFUSED: [(&str, &[Asked]); 7] = [
+    (
+        "~/none",
+        &[Asked::Read, Asked::Listed, Asked::List, Asked::Above],
+    ),
+    (
+        "~/loop",
+        &[Asked::Read, Asked::Listed, Asked::List, Asked::Above],
+    ),
     ("", &[Asked::Read, Asked::List, Asked::Above]),
     ("a\0b", &[Asked::Read, Asked::List, Asked::Above]),
     ("/dev/zero", &[Asked::Read, Asked::Head]),
-    ("~", &[Asked::Read, Asked::Head]),
+    ("~", &[Asked::Read, Asked::Listed, Asked::Head]),
+    ("~/short", &[Asked::List]),
 ];
 
 /// Whether a call is refused.
@@ -191,6 +277,7 @@ fn is_refused(rt: &HostRuntime, top: &str, text: &str, asked: Asked) -> Result<b
     let place = place.as_str();
     Ok(match asked {
         Asked::Read => matches!(folders.read(place), Err(Fault::Refused)),
+        Asked::Listed => matches!(folders.read_listed(place), Err(Fault::Refused)),
         Asked::Head => matches!(folders.head(place), Err(Fault::Refused)),
         Asked::List => matches!(folders.list(place), Err(Fault::Refused)),
         Asked::Above => matches!(folders.above(place), Err(Fault::Refused)),
@@ -270,6 +357,43 @@ fn long_lengths(rt: &HostRuntime) -> Result<Option<(usize, usize)>, Fail> {
 #[test]
 fn a_long_file_and_its_head(rt: HostRuntime) -> Result<(), Fail> {
     assert_eq!(rt; long_lengths(&rt)?, Some((300_000, 128)));
+    Ok(())
+}
+
+/// The lengths of files, each of one byte over and over, that one after another are read by one buffer, which is filled by
+/// 65,536 bytes.
+const READ: [(usize, u8); 8] = [
+    (5, b'a'),
+    (0, b'b'),
+    (65_535, b'c'),
+    (1, b'd'),
+    (65_536, b'e'),
+    (65_537, b'f'),
+    (300_000, b'g'),
+    (7, b'h'),
+];
+
+/// The length of the file that is read with other bytes than stand in it, where there is one.
+fn wrong_length(rt: &HostRuntime, top: &str) -> Result<Option<usize>, Fail> {
+    let mut folders = RealFolders::new(rt.clone()?);
+    let place = place_in(rt, top, "~/file")?;
+    for (length, byte) in READ {
+        let content = vec![in rt.alloc(); byte; length]?;
+        fs::write(rt, place.as_str(), content.as_slice())?;
+        let read = folders.read_listed(place.as_str())?;
+        if read.as_slice() != content.as_slice() {
+            return Ok(Some(length));
+        }
+    }
+    Ok(None)
+}
+
+#[test]
+fn listed_files_are_read_one_after_another(rt: HostRuntime) -> Result<(), Fail> {
+    let top = folder(&rt, "listed")?;
+    let wrong = wrong_length(&rt, top.as_str())?;
+    fs::remove_dir_all(&rt, top.as_str())?;
+    assert_eq!(rt; wrong, None);
     Ok(())
 }
 
