@@ -56,14 +56,22 @@ fn innermost<'a>(stack: &[Enclosure<'a>]) -> Option<Enclosure<'a>>
     stack.last().copied()
 }
 
-/// Whether a child can open at the place.
-fn opens_at<'a>(place: &Place<'_, 'a>, search: &mut BlockSearch<'a>) -> bool
+/// Whether a child opens at the place, in that mode. In an item none does, and none is looked for.
+fn opens_at<'a>(
+    place: &Place<'_, 'a>,
+    mode: Option<Enclosure<'a>>,
+    search: &mut BlockSearch<'a>,
+) -> bool
     requires here { IsAt place.now }
     requires some { place.now.at < length (text_of place.now) }
     requires searched { search.old ≡ text_of place.now }
     ensures same { search.new ≡ search.old }
-    ensures opens { result ≡ is_some (block_here place.now) }
+    ensures opens { result ≡ true → is_some (block_here place.now) ≡ true }
+    ensures none { result ≡ false → mode_of mode.entry ≡ None → block_here place.now ≡ None }
 {
+    if mode.is_some() {
+        return false;
+    }
     let at = place.at;
     let end = place.end;
     at < end && block_at(place, search).is_some()
@@ -157,7 +165,7 @@ fn take_choice<'a>(
 {
     let at = place.at;
     let mode = innermost(stack);
-    let opens = child <= at && opens_at(place, search);
+    let opens = child <= at && opens_at(place, mode, search);
     match choice_at(place, mode, opens, false, steps) {
         Choice::Closer => match stack.pop() {
             Some(enclosure) => Ok(Step::On(enclosure.closer.len())),

@@ -27,16 +27,12 @@ at_stack r l u es = choice (row_in r) (innermost (chain_of es)) (blocks_of r l u
 by_mode : (r : Reading) (l : ℕ) (u : List ℕ) (seen es : List Code.Enclosure) (mode : Option Code.Enclosure) → seen ≡ es → mode_of mode ≡ innermost (chain_of seen) → choice (row_in r) (mode_of mode) (blocks_of r l u) u ≡ at_stack r l u es
 by_mode r l u seen es mode e is = ap (λ m. choice (row_in r) m (blocks_of r l u) u) is ∙ ap (at_stack r l u) e
 
-none_some : (o : Option Block) → is_some o ≡ false → o ≡ None
-none_some None h = refl
-none_some (Some b) h = cc
-
 not_both : false ≡ true → ⊥
 not_both h = cc
 
 pub choice_at-requires-clause-child : goal.choice_at-requires-clause-child
 choice_at-requires-clause-child c = λ _ some. elim c.if-child-at.branch [
-  | then-child-at w ↦ sym (w.opens-is ∙ w.opens_at-opens.ensures.opens) ∙ some
+  | then-child-at w ↦ w.opens_at-opens.ensures.opens (sym w.opens-is ∙ some)
   | else-child-at w ↦ let off : nat_le c.args.child c.args.place.now.at ≡ false = grind (arith, nat_tests, w.if-child-at.false) in
       absurd (not_both (sym off ∙ sym w.opens-is ∙ some))
 ]
@@ -47,7 +43,7 @@ choice_at-requires-clause-childless c = λ _ unseen plain.
     let none : innermost (chain_of c.args.stack.now.items) ≡ None =
     ap (λ es. innermost (chain_of es)) (sym c.deref.ensures.value) ∙ sym c.innermost-mode.ensures ∙ plain in
     elim c.if-child-at.branch [
-      | then-child-at w ↦ none_some (block_here c.args.place.now) (sym (w.opens-is ∙ w.opens_at-opens.ensures.opens) ∙ unseen)
+      | then-child-at w ↦ w.opens_at-opens.ensures.none (sym w.opens-is ∙ unseen) plain
       | else-child-at w ↦ c.requires.childless w.if-child-at.false none
     ]
 
@@ -89,7 +85,7 @@ returns-in-Child-clause-takes c =
     let here : at_stack c.args.place.now.reading.now c.args.place.now.left u c.args.stack.now.items ≡ or_else (blocks_of c.args.place.now.reading.now c.args.place.now.left u) child_opens takes_byte = sym (by_mode c.args.place.now.reading.now c.args.place.now.left u c.deref.result.now c.args.stack.now.items c.innermost-mode.result c.deref.ensures.value c.innermost-mode.ensures) ∙ sym c.choice_at.ensures.choice ∙ ap (choice_of (blocks_of c.args.place.now.reading.now c.args.place.now.left u)) c.in-Child.is in
     let seen : c.if-child-at.opens ≡ true = c.choice_at.ensures.child c.in-Child.is in
     let some : is_some (block_here c.args.place.now) ≡ true = elim c.if-child-at.branch [
-      | then-child-at w ↦ sym (w.opens-is ∙ w.opens_at-opens.ensures.opens) ∙ seen
+      | then-child-at w ↦ w.opens_at-opens.ensures.opens (sym w.opens-is ∙ seen)
       | else-child-at w ↦ let off : nat_le c.args.child c.args.place.now.at ≡ false = grind (arith, nat_tests, w.if-child-at.false) in
           absurd (not_both (sym off ∙ sym w.opens-is ∙ seen))
     ] in
