@@ -81,17 +81,17 @@ front_not_blank (a ∷ t) b w e = by_test (is_blank a) e (front_not_blank t b w)
     by_test true e ih = ih e
     by_test false e ih = refl
 
-module _ (g : Row) (s : IsSound g) (m : Matchers) (is : m ≡ matchers_of g) (docs : Bool) (ended : Mode) (plain : g.literate ≡ false) (no_doc : in_doc_string ended ≡ false) where
+module _ (g : Row) (s : IsSound g) (m : Matchers) (is : m ≡ matchers_of g) (docs_are_comments : Bool) (ended : Mode) (plain : g.literate ≡ false) (no_doc : in_doc_string ended ≡ false) where
   by_rules : (t : List ℕ) (a : ℕ) (t' : List ℕ) (b : ℕ) (w : List ℕ) → t ≡ a ∷ t' → trim t ≡ b ∷ w → all_blank t ≡ false → StartsNothing g a t' → StartsNothing g b w
-      → class_of g docs (record { begun = None; bytes = t; ended = ended }) ≡ Code
+      → class_of g docs_are_comments (record { begun = None; bytes = t; ended = ended }) ≡ Code
   unfolding class_of
   by_rules t a t' b w e f blank h k =
       let no_line : any_begins g.line_comment (head_of g t) ≡ false = by_columns (keeps_columns g.key) in
       let no_enclosed : (encloses g.multi_line_comments (trim t) || encloses g.nested_comments (trim t)) ≡ false = ap (λ u. encloses g.multi_line_comments u || encloses g.nested_comments u) f ∙ ap (λ x. x || encloses g.nested_comments (b ∷ w)) k.multi_line ∙ k.nested in
       let no_ended : ends_opened g (head_of g t) ended ≡ false = by_mode (in_comment ended) ∙ by_opened (keeps_columns g.key) in
-      ap (λ x. cond x Blank (cond g.literate Comment (cond (in_doc_string ended && docs) Comment (cond (in_string ended) Code (cond (any_begins g.line_comment (head_of g t)) Comment (cond (encloses g.multi_line_comments (trim t) || encloses g.nested_comments (trim t)) Comment (cond (ends_opened g (head_of g t) ended) Comment Code))))))) blank
-      ∙ ap (λ x. cond x Comment (cond (in_doc_string ended && docs) Comment (cond (in_string ended) Code (cond (any_begins g.line_comment (head_of g t)) Comment (cond (encloses g.multi_line_comments (trim t) || encloses g.nested_comments (trim t)) Comment (cond (ends_opened g (head_of g t) ended) Comment Code)))))) plain
-      ∙ ap (λ x. cond (x && docs) Comment (cond (in_string ended) Code (cond (any_begins g.line_comment (head_of g t)) Comment (cond (encloses g.multi_line_comments (trim t) || encloses g.nested_comments (trim t)) Comment (cond (ends_opened g (head_of g t) ended) Comment Code))))) no_doc
+      ap (λ x. cond x Blank (cond g.literate Comment (cond (in_doc_string ended && docs_are_comments) Comment (cond (in_string ended) Code (cond (any_begins g.line_comment (head_of g t)) Comment (cond (encloses g.multi_line_comments (trim t) || encloses g.nested_comments (trim t)) Comment (cond (ends_opened g (head_of g t) ended) Comment Code))))))) blank
+      ∙ ap (λ x. cond x Comment (cond (in_doc_string ended && docs_are_comments) Comment (cond (in_string ended) Code (cond (any_begins g.line_comment (head_of g t)) Comment (cond (encloses g.multi_line_comments (trim t) || encloses g.nested_comments (trim t)) Comment (cond (ends_opened g (head_of g t) ended) Comment Code)))))) plain
+      ∙ ap (λ x. cond (x && docs_are_comments) Comment (cond (in_string ended) Code (cond (any_begins g.line_comment (head_of g t)) Comment (cond (encloses g.multi_line_comments (trim t) || encloses g.nested_comments (trim t)) Comment (cond (ends_opened g (head_of g t) ended) Comment Code))))) no_doc
       ∙ ap (λ x. cond (in_string ended) Code (cond x Comment (cond (encloses g.multi_line_comments (trim t) || encloses g.nested_comments (trim t)) Comment (cond (ends_opened g (head_of g t) ended) Comment Code)))) no_line
       ∙ ap (λ x. cond (in_string ended) Code (cond x Comment (cond (ends_opened g (head_of g t) ended) Comment Code))) no_enclosed
       ∙ ap (λ x. cond (in_string ended) Code (cond x Comment Code)) no_ended
@@ -119,10 +119,10 @@ module _ (g : Row) (s : IsSound g) (m : Matchers) (is : m ≡ matchers_of g) (do
           and_false true = refl
           and_false false = refl
 
-  pub code_head : (t : List ℕ) → HasCodeHead m t → class_of g docs (record { begun = None; bytes = t; ended = ended }) ≡ Code
+  pub code_head : (t : List ℕ) → HasCodeHead m t → class_of g docs_are_comments (record { begun = None; bytes = t; ended = ended }) ≡ Code
   code_head t h = by_front t refl (trim_start t) refl h.first h.head
     where
-      by_front : (u : List ℕ) → t ≡ u → (v : List ℕ) → trim_start t ≡ v → FrontBeginsNone m u → FrontBeginsNone m v → class_of g docs (record { begun = None; bytes = t; ended = ended }) ≡ Code
+      by_front : (u : List ℕ) → t ≡ u → (v : List ℕ) → trim_start t ≡ v → FrontBeginsNone m u → FrontBeginsNone m v → class_of g docs_are_comments (record { begun = None; bytes = t; ended = ended }) ≡ Code
       by_front [] e v f i k = absurd i
       by_front (a ∷ u) e [] f i k = absurd k
       by_front (a ∷ u) e (b ∷ w) f i k =
@@ -137,9 +137,9 @@ no_head (a ∷ t) e = by_test (is_blank a) e (no_head t)
     by_test true e rest = rest e
     by_test false e rest = cc
 
-pub blank_part : (g : Row) (docs : Bool) (t : List ℕ) (ended : Mode) → trim_start t ≡ [] → class_of g docs (record { begun = None; bytes = t; ended = ended }) ≡ Blank
+pub blank_part : (g : Row) (docs_are_comments : Bool) (t : List ℕ) (ended : Mode) → trim_start t ≡ [] → class_of g docs_are_comments (record { begun = None; bytes = t; ended = ended }) ≡ Blank
 unfolding class_of
-blank_part g docs t ended e = rw (no_head t e) refl
+blank_part g docs_are_comments t ended e = rw (no_head t e) refl
 
 -- no byte before place h is no blank, and the one there, where there is one, isn't
 pub front_at : (u : List ℕ) (h : ℕ) → h ≤ length u → ((k : ℕ) → k < h → is_blank (get_or u k 0) ≡ true) → (h < length u → is_blank (get_or u h 0) ≡ false) → trim_start u ≡ drop h u
@@ -190,10 +190,10 @@ not_doc (Some e) h = by_kind e.kind h
     by_kind OrdinaryString h = cc
     by_kind MultiLineComment h = refl
 
-pub comment_part : (g : Row) (docs : Bool) (t : List ℕ) (begun ended : Mode) → in_comment begun ≡ true → in_string ended ≡ false → class_of g docs (record { begun = begun; bytes = t; ended = ended }) ≡ Comment
+pub comment_part : (g : Row) (docs_are_comments : Bool) (t : List ℕ) (begun ended : Mode) → in_comment begun ≡ true → in_string ended ≡ false → class_of g docs_are_comments (record { begun = begun; bytes = t; ended = ended }) ≡ Comment
 unfolding class_of
-comment_part g docs t None ended b e = cc
-comment_part g docs t (Some x) ended b e = rw (not_doc ended e) (rw e (rw b (both g.literate)))
+comment_part g docs_are_comments t None ended b e = cc
+comment_part g docs_are_comments t (Some x) ended b e = rw (not_doc ended e) (rw e (rw b (both g.literate)))
   where
     both : (y : Bool) → cond y Comment Comment ≡ Comment
     both true = refl

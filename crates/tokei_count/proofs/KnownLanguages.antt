@@ -18,7 +18,8 @@ use Rattle.tokei_embedding.specs.declared.tags.Tag.{Tag}
 use Rattle.tokei_embedding.specs.declared.tags.Tag.TheVariants.{Script, Style, Template}
 use Rattle.tokei_count.specs.Lines.{first_line}
 use Rattle.tokei_count.specs.Items.{Block}
-use Rattle.tokei_count.specs.NamedLanguages.{by_word, by_name, fallback}
+use Rattle.tokei_count.specs.NamedLanguages.{by_word, by_name}
+use Rattle.tokei_table.specs.Families.{fallback}
 use Rattle.tokei_count.specs.MarkdownChildren.{is_comma, first_named, known_piece, fence_as, fence_child}
 use Rattle.tokei_count.specs.HtmlChildren.{by_value, usual_key, element_child, element_at, first_block}
 use Rattle.tokei_count.specs.RustChildren.{doc_child}

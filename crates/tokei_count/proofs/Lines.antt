@@ -57,26 +57,26 @@ first_some b t = by_test (b == 10)
     by_test true = omega arith
     by_test false = omega arith
 
-module _ (g : Row) (block : ℕ → List ℕ → Option Block) (l : ℕ) (docs : Bool) where
+module _ (g : Row) (block : ℕ → List ℕ → Option Block) (l : ℕ) (docs_are_comments : Bool) where
   pub line_reads : (c d : Chain) (u : List ℕ) (class : Class) → IsSound g → OpensInLine block → IsClosable d → 0 < length u
       → (j : ℕ) → Leads g block l c (line_len u) j d u
-      → class ≡ class_of g docs (record { begun = innermost c; bytes = first_line u; ended = innermost d })
-      → ReadsLine g block l docs c (length (first_line u)) (j + newlines u) class d u
+      → class ≡ class_of g docs_are_comments (record { begun = innermost c; bytes = first_line u; ended = innermost d })
+      → ReadsLine g block l docs_are_comments c (length (first_line u)) (j + newlines u) class d u
   line_reads c d [] class s o k h j f e = absurd (omega arith)
   line_reads c d (b ∷ t) class s o k h j f e = record {
     some = first_some b t;
     within = first_within (b ∷ t);
     closable = k;
-    counts = ap (tally g docs) (line_done g block l c d b t s o (top_closed d k) f) ∙ ap (λ w. plus (one_of w) (counts_left g block l docs d (drop (length (first_line (b ∷ t))) (b ∷ t)))) (sym e);
+    counts = ap (tally g docs_are_comments) (line_done g block l c d b t s o (top_closed d k) f) ∙ ap (λ w. plus (one_of w) (counts_left g block l docs_are_comments d (drop (length (first_line (b ∷ t))) (b ∷ t)))) (sym e);
     kids = line_kids g block l c d b t s o (top_closed d k) f;
     steps = ap (choices_passed (openers g)) (line_choices g block l c d b t s o (top_closed d k) j f)
         ∙ ap (λ w. cond (is_walked (openers g) (innermost c) w) (j + newlines (b ∷ t)) 0 + steps_left g block l d (drop (length (first_line (b ∷ t))) (b ∷ t))) (sym (take-first (b ∷ t)));
   }
 
   -- nothing is left behind the text
-  pub counts_left-none : (c : Chain) → counts_left g block l docs c [] ≡ no_lines
+  pub counts_left-none : (c : Chain) → counts_left g block l docs_are_comments c [] ≡ no_lines
   unfolding cut
-  counts_left-none c = ap (λ w. tally g docs (cut (innermost c) [] (innermost c) w)) (marks_ahead-end g block l c)
+  counts_left-none c = ap (λ w. tally g docs_are_comments (cut (innermost c) [] (innermost c) w)) (marks_ahead-end g block l c)
 
   pub children_left-none : (c : Chain) → children_left g block l c [] ≡ []
   children_left-none c = ap children (marks_ahead-end g block l c)

@@ -77,18 +77,18 @@ lines-plus : (a b : Counts) → lines_of (plus a b) ≡ lines_of a + lines_of b
 lines-plus a b = omega arith
 
 -- a part more is a line more
-one_more : (r : Row) (docs : Bool) (p : Part) (ps : List Part) → lines_of (tally r docs (p ∷ ps)) ≡ suc (lines_of (tally r docs ps))
-one_more r docs p ps = omega (arith, lines-plus (one_of (class_of r docs p)) (tally r docs ps), one_line (class_of r docs p))
+one_more : (r : Row) (docs_are_comments : Bool) (p : Part) (ps : List Part) → lines_of (tally r docs_are_comments (p ∷ ps)) ≡ suc (lines_of (tally r docs_are_comments ps))
+one_more r docs_are_comments p ps = omega (arith, lines-plus (one_of (class_of r docs_are_comments p)) (tally r docs_are_comments ps), one_line (class_of r docs_are_comments p))
 
 -- no more lines are counted than there are bytes outside the children
-pub lines_within : (r : Row) (docs : Bool) (m : Mode) (s : List ℕ) (e : Mode) (ms : List Mark) → lines_of (tally r docs (cut m s e ms)) + sizes (children ms) ≤ length s + load ms
+pub lines_within : (r : Row) (docs_are_comments : Bool) (m : Mode) (s : List ℕ) (e : Mode) (ms : List Mark) → lines_of (tally r docs_are_comments (cut m s e ms)) + sizes (children ms) ≤ length s + load ms
 unfolding cut
-lines_within r docs m [] e [] = omega arith
-lines_within r docs m (a ∷ s) e [] = omega (arith, one_more r docs (record { begun = m; bytes = a ∷ s; ended = e }) [])
-lines_within r docs m s e (byte_at b x c ∷ ms) = by_test (b == 10) (lines_within r docs (innermost c) [] (innermost c) ms) (lines_within r docs m (s ++ b ∷ []) (innermost c) ms)
+lines_within r docs_are_comments m [] e [] = omega arith
+lines_within r docs_are_comments m (a ∷ s) e [] = omega (arith, one_more r docs_are_comments (record { begun = m; bytes = a ∷ s; ended = e }) [])
+lines_within r docs_are_comments m s e (byte_at b x c ∷ ms) = by_test (b == 10) (lines_within r docs_are_comments (innermost c) [] (innermost c) ms) (lines_within r docs_are_comments m (s ++ b ∷ []) (innermost c) ms)
   where
-    by_test : (y : Bool) → lines_of (tally r docs (cut (innermost c) [] (innermost c) ms)) + sizes (children ms) ≤ 0 + load ms → lines_of (tally r docs (cut m (s ++ b ∷ []) (innermost c) ms)) + sizes (children ms) ≤ length (s ++ b ∷ []) + load ms
-        → lines_of (tally r docs (cond y (record { begun = m; bytes = s ++ b ∷ []; ended = innermost c } ∷ cut (innermost c) [] (innermost c) ms) (cut m (s ++ b ∷ []) (innermost c) ms))) + sizes (children ms) ≤ length s + suc (load ms)
-    by_test true h k = omega (arith, one_more r docs (record { begun = m; bytes = s ++ b ∷ []; ended = innermost c }) (cut (innermost c) [] (innermost c) ms))
+    by_test : (y : Bool) → lines_of (tally r docs_are_comments (cut (innermost c) [] (innermost c) ms)) + sizes (children ms) ≤ 0 + load ms → lines_of (tally r docs_are_comments (cut m (s ++ b ∷ []) (innermost c) ms)) + sizes (children ms) ≤ length (s ++ b ∷ []) + load ms
+        → lines_of (tally r docs_are_comments (cond y (record { begun = m; bytes = s ++ b ∷ []; ended = innermost c } ∷ cut (innermost c) [] (innermost c) ms) (cut m (s ++ b ∷ []) (innermost c) ms))) + sizes (children ms) ≤ length s + suc (load ms)
+    by_test true h k = omega (arith, one_more r docs_are_comments (record { begun = m; bytes = s ++ b ∷ []; ended = innermost c }) (cut (innermost c) [] (innermost c) ms))
     by_test false h k = omega (arith, length-append s (b ∷ []))
-lines_within r docs m s e (child_at k ∷ ms) = omega (arith, lines_within r docs None [] None ms)
+lines_within r docs_are_comments m s e (child_at k ∷ ms) = omega (arith, lines_within r docs_are_comments None [] None ms)

@@ -34,12 +34,12 @@ pub cells_split : (items : List Cell) (i : ℕ) (cell : Cell) → i < length ite
 cells_split items i cell h e = ap (λ (cs : List Cell). map cell_block (map cell_of cs))
     (drop-cons items i cell h ∙ ap (λ (c : Cell). c ∷ drop (suc i) items) (sym e) ∙ ap (λ n. cell ∷ drop n items) (more i))
 
-module _ (rows : List Row) (docs : Bool) (levels language : ℕ) (text : List ℕ) where
+module _ (rows : List Row) (docs_are_comments : Bool) (levels language : ℕ) (text : List ℕ) where
   abbrev read : Block → Statistics
-  read = child_reading (languages_of rows) docs levels
+  read = child_reading (languages_of rows) docs_are_comments levels
 
   abbrev whole : Statistics
-  whole = reading (languages_of rows) docs levels language text
+  whole = reading (languages_of rows) docs_are_comments levels language text
 
   -- the cells read so far and those that are left are all
   abbrev pub AreOnTheWay : Blobs → List Cell → ℕ → Type 0
@@ -64,7 +64,7 @@ module _ (rows : List Row) (docs : Bool) (levels language : ℕ) (text : List �
 
     cells_fit : is_notebook (row_at rows language) ≡ true → 0 < levels → Fits whole → BlobsFit (gathered read blobs (k ∷ map cell_block (map cell_of (drop (i + 1) items))))
     cells_fit n some f =
-        let all : Fits (node no_lines (gathered read none (cell_blocks rows language text))) = subst Fits (reading-notebook rows docs levels language text n some) f in
+        let all : Fits (node no_lines (gathered read none (cell_blocks rows language text))) = subst Fits (reading-notebook rows docs_are_comments levels language text n some) f in
         subst BlobsFit (sym way ∙ ap (gathered read blobs) (cells_split items i cell h e)) all.1
 
     pub cell_fits : is_notebook (row_at rows language) ≡ true → 0 < levels → Fits whole → Fits (read k)
@@ -74,11 +74,11 @@ module _ (rows : List Row) (docs : Bool) (levels language : ℕ) (text : List �
     cell_blob_fits n some f = gathered-first read blobs k (map cell_block (map cell_of (drop (i + 1) items))) (cells_fit n some f)
 
     -- what is read of a cell's text is its reading
-    pub cell_reading : (source : List ℕ) → source ≡ cell.source.items → 0 < levels → reading (languages_of rows) docs (levels - 1) cell.language source ≡ read k
-    cell_reading source s some = ap (reading (languages_of rows) docs (levels - 1) cell.language) s ∙ sym (child_reading-is rows docs levels k some)
+    pub cell_reading : (source : List ℕ) → source ≡ cell.source.items → 0 < levels → reading (languages_of rows) docs_are_comments (levels - 1) cell.language source ≡ read k
+    cell_reading source s some = ap (reading (languages_of rows) docs_are_comments (levels - 1) cell.language) s ∙ sym (child_reading-is rows docs_are_comments levels k some)
 
   -- where no cell is left all are read
   pub cells_whole : (blobs : Blobs) (items : List Cell) (i : ℕ) → i ≡ length items → is_notebook (row_at rows language) ≡ true → 0 < levels → AreOnTheWay blobs items i → node no_lines blobs ≡ whole
   cells_whole blobs items i e n some way =
       ap (node no_lines) (ap (λ cs. gathered read blobs (map cell_block (map cell_of cs))) (sym (ap (λ m. drop m items) e ∙ drop-length items)) ∙ way)
-      ∙ sym (reading-notebook rows docs levels language text n some)
+      ∙ sym (reading-notebook rows docs_are_comments levels language text n some)

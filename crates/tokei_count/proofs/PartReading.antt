@@ -29,7 +29,7 @@ line_from (suc n) (b ∷ t) h = by_test (b == 10) h (line_from n t)
     by_test true h f = absurd (omega arith)
     by_test false h f = ap (λ w. b ∷ w) (f (omega arith))
 
-module _ (g : Row) (block : ℕ → List ℕ → Option Block) (fit : FitsBlocks block) (s : IsSound g) (l : ℕ) (docs : Bool) where
+module _ (g : Row) (block : ℕ → List ℕ → Option Block) (fit : FitsBlocks block) (s : IsSound g) (l : ℕ) (docs_are_comments : Bool) where
   -- a child that is chosen is the block that opens there
   pub block_opens : (k : Block) (c d : Chain) (u : List ℕ) → OpensChild g block l c k d u → block l u ≡ Some k
   block_opens k c d u o = rw o.chosen at (choice_fits g (block l u) None u s tt)
@@ -39,7 +39,7 @@ module _ (g : Row) (block : ℕ → List ℕ → Option Block) (fit : FitsBlocks
   marks-opening k [] e some fits = absurd (omega arith)
   marks-opening k (b ∷ u) e some fits = marks_ahead-child g block l b u k some e
 
-  cut_child : (c : Chain) (w : List ℕ) (k : Block) (ms : List Mark) → tally g docs (cut (innermost c) w None (child_at k ∷ ms)) ≡ tally g docs (cut None [] None ms)
+  cut_child : (c : Chain) (w : List ℕ) (k : Block) (ms : List Mark) → tally g docs_are_comments (cut (innermost c) w None (child_at k ∷ ms)) ≡ tally g docs_are_comments (cut None [] None ms)
   unfolding cut
   cut_child c w k ms = refl
 
@@ -48,7 +48,7 @@ module _ (g : Row) (block : ℕ → List ℕ → Option Block) (fit : FitsBlocks
   running_child m s n t k ms = refl
 
   -- behind n bytes of its line a child opens
-  child_read : (c d e : Chain) (n : ℕ) (k : Block) (t : List ℕ) → n ≤ length t → (j : ℕ) → Leads g block l c n j e t → OpensChild g block l e k d (drop n t) → ReadsChild g block l docs c n j k d t
+  child_read : (c d e : Chain) (n : ℕ) (k : Block) (t : List ℕ) → n ≤ length t → (j : ℕ) → Leads g block l c n j e t → OpensChild g block l e k d (drop n t) → ReadsChild g block l docs_are_comments c n j k d t
   child_read c d e n k t within j h o =
       let is_block : block l (drop n t) ≡ Some k = block_opens k e d (drop n t) o in
       let some : 0 < k.size = fit.some l (drop n t) k is_block in
@@ -67,7 +67,7 @@ module _ (g : Row) (block : ℕ → List ℕ → Option Block) (fit : FitsBlocks
         some = some;
         within = omega (arith, fits, left, within);
         plain = o.after;
-        counts = ap (tally g docs) (lead.same (innermost c) []) ∙ ap (λ ms. tally g docs (cut (innermost c) (take n t) None ms)) opened ∙ cut_child c (take n t) k after;
+        counts = ap (tally g docs_are_comments) (lead.same (innermost c) []) ∙ ap (λ ms. tally g docs_are_comments (cut (innermost c) (take n t) None ms)) opened ∙ cut_child c (take n t) k after;
         kids = lead.kids ∙ ap children opened;
         steps = ap (choices_passed (openers g)) (lead.choices (innermost c) [] 0 ∙ ap (λ x. running (innermost c) (take n t) x (drop n t) (marks_ahead g block l [] (drop n t))) none ∙ ap (running (innermost c) (take n t) j (drop n t)) opened ∙ running_child (innermost c) (take n t) j (drop n t) k after)
             ∙ ap (λ w. cond (is_walked (openers g) (innermost c) w) j 0 + choices_passed (openers g) (running None [] 0 (drop k.size (drop n t)) after)) (line_from n t lead.within)
@@ -76,7 +76,7 @@ module _ (g : Row) (block : ℕ → List ℕ → Option Block) (fit : FitsBlocks
 
   -- the same by places of the text
   pub child_read_at : (c d e : Chain) (start at : ℕ) (k : Block) (text : List ℕ) → IsPart text l start at → (j : ℕ) → Leads g block l c (at - start) j e (drop start text) → OpensChild g block l e k d (drop at text)
-      → ReadsChild g block l docs c (at - start) j k d (drop start text)
+      → ReadsChild g block l docs_are_comments c (at - start) j k d (drop start text)
   child_read_at c d e start at k text p j h o =
       let left : length (drop start text) ≡ length text - start = length-drop start text in
       let place : start + (at - start) ≡ at = omega (arith, p.low) in

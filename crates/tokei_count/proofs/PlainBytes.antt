@@ -15,7 +15,7 @@ use Rattle.tokei_count.specs.Matchers.{begins_opener, begins_choice, begins_in_c
 use Rattle.tokei_count.specs.PlainBytes.{BeginsNone, BeginsNoneWithin, IsOutside, IsPlainByte}
 use Rattle.tokei_count.specs.Seen.{choice_of}
 use Rattle.tokei_count.specs.declared.choice.Choice as CodeChoice
-use Rattle.tokei_count.specs.declared.choice.Choice.TheVariants.{Closer, Escape, Child, Opener, PassedOpener, LineComment, Byte}
+use Rattle.tokei_count.specs.declared.choice.Choice.TheVariants.{Closes, Escapes, ChildOpens, Opens, PassesOver, BeginsLineComment, TakesByte}
 use Rattle.tokei_count.specs.declared.items.Kind.{Kind}
 use Rattle.tokei_count.specs.declared.items.Kind.TheVariants.{DocString, VerbatimString, OrdinaryString, MultiLineComment}
 use Rattle.tokei_count.proofs.Fits.{and_left, and_right}
@@ -185,19 +185,19 @@ plain_byte_at r s mode o text at m e some h none =
     plain_byte r s mode o (get_or text at 0) (drop at text) m here e h none
 
 -- a choice that is no child, in an item or where no child can open, is the same whatever can open there
-pub same_choice : (r : Row) (mode : Mode) (o : Option Block) (u : List ℕ) (x : CodeChoice.Choice) → (mode ≡ None → o ≡ None) → (x ≡ Child → false ≡ true) → choice_of None x ≡ choice r mode None u → choice_of o x ≡ choice r mode o u
+pub same_choice : (r : Row) (mode : Mode) (o : Option Block) (u : List ℕ) (x : CodeChoice.Choice) → (mode ≡ None → o ≡ None) → (x ≡ ChildOpens → false ≡ true) → choice_of None x ≡ choice r mode None u → choice_of o x ≡ choice r mode o u
 unfolding choice
 same_choice r None o u x e n h = let none : o ≡ None = e refl in ap (λ p. choice_of p x) none ∙ h ∙ ap (λ p. choice_in_plain r p u) (sym none)
 same_choice r (Some m) o u x e n h = by_choice x n ∙ h
   where
-    by_choice : (y : CodeChoice.Choice) → (y ≡ Child → false ≡ true) → choice_of o y ≡ choice_of None y
-    by_choice Closer n = refl
-    by_choice Escape n = refl
-    by_choice Child n = absurd (not_both (n refl))
+    by_choice : (y : CodeChoice.Choice) → (y ≡ ChildOpens → false ≡ true) → choice_of o y ≡ choice_of None y
+    by_choice Closes n = refl
+    by_choice Escapes n = refl
+    by_choice ChildOpens n = absurd (not_both (n refl))
       where
         not_both : false ≡ true → ⊥
         not_both h = cc
-    by_choice (Opener k p) n = refl
-    by_choice (PassedOpener p) n = refl
-    by_choice LineComment n = refl
-    by_choice Byte n = refl
+    by_choice (Opens k p) n = refl
+    by_choice (PassesOver p) n = refl
+    by_choice BeginsLineComment n = refl
+    by_choice TakesByte n = refl

@@ -175,8 +175,8 @@ module _ (rows : List Row) (levels language : ℕ) (text : List ℕ) where
 
   module _ (own inner l : ℕ) (c : Chain) (rest : List ℕ) (u : AreUnderWay own inner l c rest) where
     -- a line that is walked
-    pub line_steps : (docs : Bool) (n j : ℕ) (class : Class) (d : Chain) → ReadsLine g block l docs c n j class d rest → is_walked (openers g) (innermost c) (take n rest) ≡ true → AreUnderWay (own + j) inner l d (drop n rest)
-    line_steps docs n j class d r walked =
+    pub line_steps : (docs_are_comments : Bool) (n j : ℕ) (class : Class) (d : Chain) → ReadsLine g block l docs_are_comments c n j class d rest → is_walked (openers g) (innermost c) (take n rest) ≡ true → AreUnderWay (own + j) inner l d (drop n rest)
+    line_steps docs_are_comments n j class d r walked =
         let here : steps_left g block l c rest ≡ j + steps_left g block l d (drop n rest) = r.steps ∙ ap (λ x. cond x j 0 + steps_left g block l d (drop n rest)) walked in
         record {
           own = omega (arith, u.own, here, ap length r.kids);
@@ -184,8 +184,8 @@ module _ (rows : List Row) (levels language : ℕ) (text : List ℕ) where
         }
 
     -- a line that isn't
-    pub line_skipped : (docs : Bool) (n j : ℕ) (class : Class) (d : Chain) → ReadsLine g block l docs c n j class d rest → is_walked (openers g) (innermost c) (take n rest) ≡ false → AreUnderWay own inner l d (drop n rest)
-    line_skipped docs n j class d r walked =
+    pub line_skipped : (docs_are_comments : Bool) (n j : ℕ) (class : Class) (d : Chain) → ReadsLine g block l docs_are_comments c n j class d rest → is_walked (openers g) (innermost c) (take n rest) ≡ false → AreUnderWay own inner l d (drop n rest)
+    line_skipped docs_are_comments n j class d r walked =
         let here : steps_left g block l c rest ≡ 0 + steps_left g block l d (drop n rest) = r.steps ∙ ap (λ x. cond x j 0 + steps_left g block l d (drop n rest)) walked in
         record {
           own = omega (arith, u.own, here, ap length r.kids);
@@ -193,9 +193,9 @@ module _ (rows : List Row) (levels language : ℕ) (text : List ℕ) where
         }
 
     -- a part that a child breaks off, and the child
-    pub broken_steps : (docs : Bool) (n j : ℕ) (k : Block) (d : Chain) → ReadsChild g block l docs c n j k d rest → is_walked (openers g) (innermost c) (first_line rest) ≡ true
+    pub broken_steps : (docs_are_comments : Bool) (n j : ℕ) (k : Block) (d : Chain) → ReadsChild g block l docs_are_comments c n j k d rest → is_walked (openers g) (innermost c) (first_line rest) ≡ true
         → AreUnderWay (own + (j + 1)) (capped (inner + capped (child_steps (languages_of rows) levels k))) (length rest - (n + k.size)) [] (drop (n + k.size) rest)
-    broken_steps docs n j k d r walked =
+    broken_steps docs_are_comments n j k d r walked =
         let l' : ℕ = length rest - (n + k.size) in
         let behind : List ℕ = drop (n + k.size) rest in
         let kids : List Block = children_left g block l' [] behind in

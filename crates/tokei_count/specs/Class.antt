@@ -63,24 +63,24 @@ abbrev pub ends_opened : Row → List ℕ → Mode → Bool
 ends_opened r head e = in_comment e
     && (opens_with r.multi_line_comments head (closer_of e) || opens_with r.nested_comments head (closer_of e))
 
--- The rules, in order. `docs` says whether doc strings are treated as comments.
+-- The rules, in order. `docs_are_comments` says whether doc strings are treated as comments.
 -- 1. begun plain and blank: blank
 -- 2. a literate language: comment
--- 3. ends in a doc string, with `docs`: comment
+-- 3. ends in a doc string, with `docs_are_comments`: comment
 -- 4. ends in any other string: code
--- 5. begun in a comment, or in a doc string with `docs`: comment
+-- 5. begun in a comment, or in a doc string with `docs_are_comments`: comment
 -- 6. begun in another string: code
 -- 7. the head begins with a line comment: comment
 -- 8. the trimmed part begins with a multi-line or nested opener and ends with the closer of that pair: comment
 -- 9. ends in a comment, and the head begins with an opener whose closer is the innermost one: comment
 -- 10. else code
 unfoldable pub class_of : Row → Bool → Part → Class
-class_of r docs p =
+class_of r docs_are_comments p =
     if is_plain p.begun && all_blank p.bytes then Blank
     else if r.literate then Comment
-    else if in_doc_string p.ended && docs then Comment
+    else if in_doc_string p.ended && docs_are_comments then Comment
     else if in_string p.ended then Code
-    else if in_comment p.begun || (in_doc_string p.begun && docs) then Comment
+    else if in_comment p.begun || (in_doc_string p.begun && docs_are_comments) then Comment
     else if in_string p.begun then Code
     else if any_begins r.line_comment (head_of r p.bytes) then Comment
     else if encloses r.multi_line_comments (trim p.bytes) || encloses r.nested_comments (trim p.bytes) then Comment

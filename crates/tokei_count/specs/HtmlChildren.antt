@@ -7,7 +7,8 @@ use Rattle.tokei_embedding.specs.Tags.{TagBlock, tag_block}
 use Rattle.tokei_embedding.specs.declared.tags.Tag.{Tag}
 use Rattle.tokei_embedding.specs.declared.tags.Tag.TheVariants.{Script, Style, Template}
 use Rattle.tokei_count.specs.Items.{Block}
-use Rattle.tokei_count.specs.NamedLanguages.{by_word, by_mime, fallback}
+use Rattle.tokei_count.specs.NamedLanguages.{by_word, by_mime}
+use Rattle.tokei_table.specs.Families.{fallback}
 
 -- The trimmed value of the attribute names the language: a MIME type for a script, else a word.
 abbrev pub by_value : List Row → Tag → List ℕ → Option ℕ

@@ -1,5 +1,5 @@
 -- Which language a word in a text names. Bytes that aren't UTF-8 name none.
-use Rattle.std.specs.Prelude.{ℕ, if◌then◌else◌, List, Option, None, unwrap_or}
+use Rattle.std.specs.Prelude.{ℕ, if◌then◌else◌, List, Option, None}
 use Rattle.std.specs.Str.{is_utf8}
 use Rattle.tokei_table.specs.Row.{Row}
 use Rattle.tokei_table.specs.Lookups.{first_where, has_name, has_name_in_any_case, has_mime}
@@ -14,8 +14,3 @@ by_mime rows mime = if is_utf8 mime then first_where (has_mime mime) rows else N
 -- by the exact key or name
 abbrev pub by_name : List Row → List ℕ → Option ℕ
 by_name rows name = if is_utf8 name then first_where (has_name name) rows else None
-
--- The language that a family falls back on. A well-formed table has it under that key, and no other language of that
--- name; without it the parent's own language stands.
-abbrev pub fallback : List Row → ℕ → List ℕ → ℕ
-fallback rows parent key = unwrap_or (first_where (has_name key) rows) parent

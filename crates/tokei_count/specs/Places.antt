@@ -22,7 +22,7 @@ part_to p stop = take (stop - p.start) (drop p.start (text_of p))
 
 -- the block that can open at another place of the part, and at the place itself
 abbrev pub block_from : Place → ℕ → Option Block
-block_from p at = blocks_of p.reading.now p.left (text_from p at)
+block_from p at = blocks_of p.reading.now p.behind_child (text_from p at)
 
 abbrev pub block_here : Place → Option Block
 block_here p = block_from p p.at
@@ -33,12 +33,12 @@ choice_here p mode = choice (row_in p.reading.now) mode (block_here p) (text_fro
 
 -- the part is under way at the place, whose line goes to its end
 pub record IsAt (p : Place) : Type 0 where
-  pub part : IsPart (text_of p) p.left p.start p.at
+  pub part : IsPart (text_of p) p.behind_child p.start p.at
   pub line : p.end ≡ p.at + line_len (text_from p p.at)
 
 -- a part begins where the place's does, in a line that goes to the place's end
 pub record Begins (p : Place) : Type 0 where
-  pub part : IsPart (text_of p) p.left p.start p.start
+  pub part : IsPart (text_of p) p.behind_child p.start p.start
   pub line : p.end ≡ p.start + line_len (text_from p p.start)
 
 -- the place's line stops there: behind its newline, or with the text
@@ -52,4 +52,4 @@ Childless p to = (q : ℕ) → p.at ≤ q → q < to → block_from p q ≡ None
 -- each choice from the place to before `to` takes a byte, where these items enclose it
 abbrev pub LeadsTo : Place → Chain → ℕ → Type 0
 LeadsTo p c to =
-    Leads (row_in p.reading.now) (blocks_of p.reading.now) p.left c (to - p.at) (to - p.at) c (text_from p p.at)
+    Leads (row_in p.reading.now) (blocks_of p.reading.now) p.behind_child c (to - p.at) (to - p.at) c (text_from p p.at)

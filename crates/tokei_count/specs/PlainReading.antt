@@ -22,8 +22,8 @@ one_of Comment = record { blanks = 0; code = 0; comments = 1 }
 
 -- each counted part is 1 in the column of its class
 abbrev pub tally : Row → Bool → List Part → Counts
-tally r docs [] = no_lines
-tally r docs (p ∷ ps) = plus (one_of (class_of r docs p)) (tally r docs ps)
+tally r docs_are_comments [] = no_lines
+tally r docs_are_comments (p ∷ ps) = plus (one_of (class_of r docs_are_comments p)) (tally r docs_are_comments ps)
 
 -- the children, in order
 abbrev pub children : List Mark → List Block
@@ -42,7 +42,8 @@ children_add read (k ∷ ks) = sum (child_adds read k) (children_add read ks)
 
 -- the statistics of a text by its marks: the lines of its parts, and what its children add
 abbrev pub read_by : Row → Bool → (Block → Statistics) → List Mark → Statistics
-read_by r docs read ms = sum (node (tally r docs (parts_of ms)) none) (children_add read (children ms))
+read_by r docs_are_comments read ms =
+    sum (node (tally r docs_are_comments (parts_of ms)) none) (children_add read (children ms))
 
 -- the blocks that can open in a text, with so many levels left: with none left no child opens
 abbrev pub blocks : Languages → ℕ → ℕ → List ℕ → (ℕ → List ℕ → Option Block)
@@ -56,20 +57,20 @@ notebook_by = children_add
 -- The reading of a text in a language, with so many levels left; a child has one level less than its parent. With none
 -- left a notebook counts nothing.
 unfoldable pub reading : Languages → Bool → ℕ → ℕ → List ℕ → Statistics
-reading ls docs zero language t =
+reading ls docs_are_comments zero language t =
     if is_notebook (ls.row language) then empty
-    else read_by (ls.row language) docs (λ k. empty)
+    else read_by (ls.row language) docs_are_comments (λ k. empty)
     (marks [] (items_of (ls.row language) (blocks ls zero language t) t))
-reading ls docs (suc levels) language t =
+reading ls docs_are_comments (suc levels) language t =
     if is_notebook (ls.row language)
-    then notebook_by (λ k. reading ls docs levels k.language k.contents) (ls.cells language t)
-    else read_by (ls.row language) docs (λ k. reading ls docs levels k.language k.contents)
+    then notebook_by (λ k. reading ls docs_are_comments levels k.language k.contents) (ls.cells language t)
+    else read_by (ls.row language) docs_are_comments (λ k. reading ls docs_are_comments levels k.language k.contents)
     (marks [] (items_of (ls.row language) (blocks ls (suc levels) language t) t))
 
 -- the reading of a child, in a text with so many levels left
 abbrev pub child_reading : Languages → Bool → ℕ → Block → Statistics
-child_reading ls docs zero k = empty
-child_reading ls docs (suc levels) k = reading ls docs levels k.language k.contents
+child_reading ls docs_are_comments zero k = empty
+child_reading ls docs_are_comments (suc levels) k = reading ls docs_are_comments levels k.language k.contents
 
 -- the outermost text has 50 levels left
 abbrev pub outermost_levels : ℕ

@@ -65,7 +65,8 @@ module _ (r : Row) (block : ℕ → List ℕ → Option Block) (l : ℕ) where
 
   -- the counts of the parts that are left, given these items
   abbrev pub counts_left : Bool → Chain → List ℕ → Counts
-  counts_left docs c t = tally r docs (cut (innermost c) [] (innermost c) (marks_ahead r block l c t))
+  counts_left docs_are_comments c t =
+      tally r docs_are_comments (cut (innermost c) [] (innermost c) (marks_ahead r block l c t))
 
   -- the children that are left, given these items
   abbrev pub children_left : Chain → List ℕ → List Block
@@ -76,23 +77,26 @@ module _ (r : Row) (block : ℕ → List ℕ → Option Block) (l : ℕ) where
   steps_left c t = choices_passed (openers r) (running (innermost c) [] 0 t (marks_ahead r block l c t))
 
   -- One line: n bytes. It is one part, of this class, in which j choices begin, and the text goes on from d.
-  pub record ReadsLine (docs : Bool) (c : Chain) (n j : ℕ) (class : Class) (d : Chain) (t : List ℕ) : Type 0 where
+  pub record ReadsLine (docs_are_comments : Bool) (c : Chain) (n j : ℕ) (class : Class) (d : Chain)
+      (t : List ℕ) : Type 0 where
     pub some : 0 < n
     pub within : n ≤ length t
     pub closable : IsClosable d
-    pub counts : counts_left docs c t ≡ plus (one_of class) (counts_left docs d (drop n t))
+    pub counts : counts_left docs_are_comments c t ≡ plus (one_of class) (counts_left docs_are_comments d (drop n t))
     pub kids : children_left c t ≡ children_left d (drop n t)
     pub steps : steps_left c t
         ≡ (if is_walked (openers r) (innermost c) (take n t) then j else 0) + steps_left d (drop n t)
 
   -- A part that a child breaks off: the child k opens behind n bytes, at which j choices begin, in plain text, and the
   -- text goes on behind it.
-  pub record ReadsChild (docs : Bool) (c : Chain) (n j : ℕ) (k : Block) (d : Chain) (t : List ℕ) : Type 0 where
+  pub record ReadsChild (docs_are_comments : Bool) (c : Chain) (n j : ℕ) (k : Block) (d : Chain)
+      (t : List ℕ) : Type 0 where
     pub some : 0 < k.size
     pub within : n + k.size ≤ length t
     pub plain : d ≡ []
-    pub counts : counts_left docs c t
-        ≡ tally r docs (cut None [] None (marks_ahead r block (length t - (n + k.size)) [] (drop (n + k.size) t)))
+    pub counts : counts_left docs_are_comments c t
+        ≡ tally r docs_are_comments
+        (cut None [] None (marks_ahead r block (length t - (n + k.size)) [] (drop (n + k.size) t)))
     pub kids : children_left c t ≡ k ∷ children (marks_ahead r block (length t - (n + k.size)) [] (drop (n + k.size) t))
     pub steps : steps_left c t ≡ (if is_walked (openers r) (innermost c) (first_line t) then j else 0)
         + choices_passed (openers r) (running None [] 0 (drop (n + k.size) t)

@@ -19,7 +19,7 @@ blocks_of r = blocks (languages_of r.table.now) r.levels r.language r.text.now
 
 -- the plain reading of the text
 abbrev pub reading_of : Reading → Statistics
-reading_of r = reading (languages_of r.table.now) r.docs r.levels r.language r.text.now
+reading_of r = reading (languages_of r.table.now) r.docs_are_comments r.levels r.language r.text.now
 
 -- the openers that its parts are searched for
 abbrev pub openers_in : Reading → List (List ℕ)

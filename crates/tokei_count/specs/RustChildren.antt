@@ -5,7 +5,7 @@ use Rattle.tokei_table.specs.Row.{Row}
 use Rattle.tokei_embedding.specs.DocComments.{DocBlock, doc_block}
 use Rattle.tokei_count.specs.Items.{Block}
 use Rattle.tokei_stats.specs.Statistics.{no_lines}
-use Rattle.tokei_count.specs.NamedLanguages.{fallback}
+use Rattle.tokei_table.specs.Families.{fallback}
 
 -- what the lines say is read trimmed; they add nothing to the parent
 abbrev pub doc_child : List Row → ℕ → DocBlock → Block

@@ -9,8 +9,8 @@ use Rattle.tokei_count.specs.Choice.Choice.{closes, escapes, child_opens, opens,
 use Rattle.tokei_count.specs.Choice.Choice.{begins_line_comment, takes_byte}
 use Rattle.tokei_count.specs.Modes.{Chain}
 use Rattle.tokei_count.specs.declared.choice.Choice as CodeChoice
-use Rattle.tokei_count.specs.declared.choice.Choice.TheVariants.{Closer, Escape, Child, Opener, PassedOpener}
-use Rattle.tokei_count.specs.declared.choice.Choice.TheVariants.{LineComment, Byte}
+use Rattle.tokei_count.specs.declared.choice.Choice.TheVariants.{Closes, Escapes, ChildOpens, Opens, PassesOver}
+use Rattle.tokei_count.specs.declared.choice.Choice.TheVariants.{BeginsLineComment, TakesByte}
 use Rattle.tokei_count.specs.declared.items.Enclosure as CodeEnclosure
 use Rattle.tokei_count.specs.declared.openings.Block as CodeBlock
 use Rattle.tokei_options.specs.declared.count_config.CountConfig.{CountConfig}
@@ -29,13 +29,13 @@ block_of k = record {
 
 -- a choice where that child can open, if any
 abbrev pub choice_of : Option Block → CodeChoice.Choice → Choice
-choice_of block Closer = closes
-choice_of block Escape = escapes
-choice_of block Child = or_else block child_opens takes_byte
-choice_of block (Opener k p) = opens k (pair_of p.now)
-choice_of block (PassedOpener p) = passes_over (pair_of p.now)
-choice_of block LineComment = begins_line_comment
-choice_of block Byte = takes_byte
+choice_of block Closes = closes
+choice_of block Escapes = escapes
+choice_of block ChildOpens = or_else block child_opens takes_byte
+choice_of block (Opens k p) = opens k (pair_of p.now)
+choice_of block (PassesOver p) = passes_over (pair_of p.now)
+choice_of block BeginsLineComment = begins_line_comment
+choice_of block TakesByte = takes_byte
 
 abbrev pub enclosure_of : CodeEnclosure.Enclosure → Enclosure
 enclosure_of e = record { kind = e.kind; closer = e.closer.now }

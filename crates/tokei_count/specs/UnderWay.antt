@@ -22,12 +22,12 @@ use Rattle.tokei_count.specs.declared.text_reading.ReadSoFar.{ReadSoFar}
 -- the text is read as the reader says
 pub record IsReadBy (reader : Reader) (r : Reading) : Type 0 where
   pub table : r.table.now ≡ reader.table.now
-  pub docs : r.docs ≡ reader.docs
+  pub docs_are_comments : r.docs_are_comments ≡ reader.docs_are_comments
   pub skips : r.skips ≡ reader.skips
 
 -- the reading of a child of the text, and its steps
 abbrev pub reading_inside : Reading → Block → Statistics
-reading_inside r = child_reading (languages_of r.table.now) r.docs r.levels
+reading_inside r = child_reading (languages_of r.table.now) r.docs_are_comments r.levels
 
 abbrev pub steps_inside : Reading → Block → ℕ
 steps_inside r = child_steps (languages_of r.table.now) r.levels
@@ -41,16 +41,17 @@ abbrev pub all_children : Reading → List Block
 all_children r = children_left (row_in r) (blocks_of r) (length r.text.now) [] r.text.now
 
 abbrev pub children_ahead : Reading → ReadSoFar → List Block
-children_ahead r p = children_left (row_in r) (blocks_of r) p.left (chain_of p.stack.items) (ahead r p)
+children_ahead r p = children_left (row_in r) (blocks_of r) p.behind_child (chain_of p.stack.items) (ahead r p)
 
 -- the counts of the text with what its children add to them, and of what is left of it
 abbrev pub all_counts : Reading → Counts
 all_counts r =
-    plus (counts_left (row_in r) (blocks_of r) (length r.text.now) r.docs [] r.text.now) (shares (all_children r))
+    plus (counts_left (row_in r) (blocks_of r) (length r.text.now) r.docs_are_comments [] r.text.now)
+    (shares (all_children r))
 
 abbrev pub counts_ahead : Reading → ReadSoFar → Counts
 counts_ahead r p =
-    plus (counts_left (row_in r) (blocks_of r) p.left r.docs (chain_of p.stack.items) (ahead r p))
+    plus (counts_left (row_in r) (blocks_of r) p.behind_child r.docs_are_comments (chain_of p.stack.items) (ahead r p))
     (shares (children_ahead r p))
 
 -- the steps of the text itself, one for each child with them, and of what is left of it
@@ -59,7 +60,8 @@ all_steps r = steps_left (row_in r) (blocks_of r) (length r.text.now) [] r.text.
 
 abbrev pub steps_ahead : Reading → ReadSoFar → ℕ
 steps_ahead r p =
-    steps_left (row_in r) (blocks_of r) p.left (chain_of p.stack.items) (ahead r p) + length (children_ahead r p)
+    steps_left (row_in r) (blocks_of r) p.behind_child (chain_of p.stack.items) (ahead r p)
+    + length (children_ahead r p)
 
 -- the blobs so far with those of the children
 abbrev pub blobs_with : Reading → Blobs → List Block → Blobs
@@ -72,7 +74,7 @@ pub record IsUnderWay (r : Reading) (p : ReadSoFar) : Type 0 where
   pub tokens : has_tokens (row_in r) ≡ true
   pub closable : IsClosable (chain_of p.stack.items)
   pub within : p.start ≤ length r.text.now
-  pub part : p.start < length r.text.now → IsPart r.text.now p.left p.start p.start
+  pub part : p.start < length r.text.now → IsPart r.text.now p.behind_child p.start p.start
   pub searched : p.search ≡ r.text.now
   pub counts : plus (sums_of p.own) (counts_ahead r p) ≡ all_counts r
   pub kids : blobs_with r (blobs_of (entries_of p.blobs.entries)) (children_ahead r p)

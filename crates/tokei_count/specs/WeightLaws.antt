@@ -1,5 +1,5 @@
 -- What the weight of a text bounds.
-use Rattle.std.specs.Prelude.{◌≡◌, ℕ, ◌<◌, ◌≤◌, Bool, true, false, List, length}
+use Rattle.std.specs.Prelude.{◌^◌, ◌≡◌, ℕ, ◌<◌, ◌≤◌, Bool, true, false, List, length}
 use Rattle.tokei_table.specs.Lookups.{row_at}
 use Rattle.tokei_table.specs.Row.{Row}
 use Rattle.tokei_table.specs.WellFormed.{has_tokens}
@@ -26,8 +26,8 @@ StepsWithinWeight = (rows : List Row) → HaveTokens rows → (levels language :
 
 -- a text and its children have no more lines than it weighs
 abbrev pub LinesWithinWeight : Type 0
-LinesWithinWeight = (rows : List Row) → HaveTokens rows → (docs : Bool) (levels language : ℕ) (t : List ℕ)
-    → lines_of (summary (reading (languages_of rows) docs levels language t))
+LinesWithinWeight = (rows : List Row) → HaveTokens rows → (docs_are_comments : Bool) (levels language : ℕ) (t : List ℕ)
+    → lines_of (summary (reading (languages_of rows) docs_are_comments levels language t))
     ≤ weight (languages_of rows) levels language t
 
 -- without notebooks a text weighs its bytes
@@ -37,12 +37,12 @@ WeightIsLength = (rows : List Row) → HaveNoNotebook rows → (levels language 
 
 -- a reading fits the code's numbers wherever the weight of its text does
 abbrev pub LightReadingsFit : Type 0
-LightReadingsFit = (rows : List Row) → HaveTokens rows → (docs : Bool) (levels language : ℕ) (t : List ℕ)
-    → weight (languages_of rows) levels language t < 18446744073709551616
-    → Fits (reading (languages_of rows) docs levels language t)
+LightReadingsFit = (rows : List Row) → HaveTokens rows → (docs_are_comments : Bool) (levels language : ℕ) (t : List ℕ)
+    → weight (languages_of rows) levels language t < 2 ^ 64
+    → Fits (reading (languages_of rows) docs_are_comments levels language t)
 
 -- so without notebooks every reading does whose text the code can hold
 abbrev pub ShortReadingsFit : Type 0
 ShortReadingsFit = (rows : List Row) → HaveTokens rows → HaveNoNotebook rows
-    → (docs : Bool) (levels language : ℕ) (t : List ℕ) → length t < 18446744073709551616
-    → Fits (reading (languages_of rows) docs levels language t)
+    → (docs_are_comments : Bool) (levels language : ℕ) (t : List ℕ) → length t < 2 ^ 64
+    → Fits (reading (languages_of rows) docs_are_comments levels language t)

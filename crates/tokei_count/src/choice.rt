@@ -15,19 +15,19 @@ use tokei_table::Syntax;
 #[derive(Clone, Copy)]
 pub(crate) enum Choice<'a> {
     /// The closer of the innermost item that encloses the place.
-    Closer,
+    Closes,
     /// A backslash and the byte behind it.
-    Escape,
+    Escapes,
     /// The opening of a child.
-    Child,
+    ChildOpens,
     /// The opener of a string literal or a comment.
-    Opener(Kind, &'a (String, String)),
+    Opens(Kind, &'a (String, String)),
     /// An opener that stands for nothing inside a comment.
-    PassedOpener(&'a (String, String)),
+    PassesOver(&'a (String, String)),
     /// A line comment, which covers the rest of its line.
-    LineComment,
+    BeginsLineComment,
     /// A byte that stands for itself.
-    Byte,
+    TakesByte,
 }
 
 /// Whether the token stands at the front of the text. One or two bytes, as most tokens have, are compared in place.
@@ -103,12 +103,12 @@ fn has_pair(pairs: &[(String, String)], pair: &(String, String)) -> bool
 fn met_in_comment<'a>(syntax: &Syntax, pair: &'a (String, String)) -> Choice<'a>
     ensures choice { (block : Option Block)
         → choice_of block result ≡ met_in_comment (row_of syntax.now) (pair_of pair.now) }
-    ensures no_child { result ≢ Choice.Child }
+    ensures no_child { result ≢ Choice.ChildOpens }
 {
     if syntax.nested || has_pair(&syntax.nested_comments, pair) {
-        Choice::Opener(Kind::MultiLineComment, pair)
+        Choice::Opens(Kind::MultiLineComment, pair)
     } else {
-        Choice::PassedOpener(pair)
+        Choice::PassesOver(pair)
     }
 }
 
@@ -116,14 +116,14 @@ fn met_in_comment<'a>(syntax: &Syntax, pair: &'a (String, String)) -> Choice<'a>
 fn in_string<'a>(syntax: &Syntax, verbatim: bool, closer: &[u8], text: &[u8]) -> Choice<'a>
     ensures choice { (block : Option Block)
         → choice_of block result ≡ choice_in_string (row_of syntax.now) verbatim closer.now text.now }
-    ensures no_child { result ≢ Choice.Child }
+    ensures no_child { result ≢ Choice.ChildOpens }
 {
     if stands(closer, text) {
-        Choice::Closer
+        Choice::Closes
     } else if !verbatim && is_escape(syntax, text) {
-        Choice::Escape
+        Choice::Escapes
     } else {
-        Choice::Byte
+        Choice::TakesByte
     }
 }
 
@@ -131,18 +131,18 @@ fn in_string<'a>(syntax: &Syntax, verbatim: bool, closer: &[u8], text: &[u8]) ->
 fn in_comment<'a>(syntax: &'a Syntax, closer: &[u8], text: &[u8]) -> Choice<'a>
     ensures choice { (block : Option Block)
         → choice_of block result ≡ choice_in_comment (row_of syntax.now) closer.now text.now }
-    ensures no_child { result ≢ Choice.Child }
+    ensures no_child { result ≢ Choice.ChildOpens }
 {
     if is_escape(syntax, text) {
-        Choice::Escape
+        Choice::Escapes
     } else if stands(closer, text) {
-        Choice::Closer
+        Choice::Closes
     } else if let Some(pair) = opened(&syntax.multi_line_comments, text) {
         met_in_comment(syntax, pair)
     } else if let Some(pair) = opened(&syntax.nested_comments, text) {
-        Choice::Opener(Kind::MultiLineComment, pair)
+        Choice::Opens(Kind::MultiLineComment, pair)
     } else {
-        Choice::Byte
+        Choice::TakesByte
     }
 }
 
@@ -150,26 +150,26 @@ fn in_comment<'a>(syntax: &'a Syntax, closer: &[u8], text: &[u8]) -> Choice<'a>
 fn in_plain<'a>(syntax: &'a Syntax, opens: bool, text: &[u8]) -> Choice<'a>
     ensures choice { (block : Option Block) → is_some block ≡ opens
         → choice_of block result ≡ choice_in_plain (row_of syntax.now) block text.now }
-    ensures child { result ≡ Choice.Child → opens ≡ true }
+    ensures child { result ≡ Choice.ChildOpens → opens ≡ true }
 {
     if is_escape(syntax, text) {
-        Choice::Escape
+        Choice::Escapes
     } else if opens {
-        Choice::Child
+        Choice::ChildOpens
     } else if let Some(pair) = opened(&syntax.doc_quotes, text) {
-        Choice::Opener(Kind::DocString, pair)
+        Choice::Opens(Kind::DocString, pair)
     } else if let Some(pair) = opened(&syntax.verbatim_quotes, text) {
-        Choice::Opener(Kind::VerbatimString, pair)
+        Choice::Opens(Kind::VerbatimString, pair)
     } else if let Some(pair) = opened(&syntax.quotes, text) {
-        Choice::Opener(Kind::OrdinaryString, pair)
+        Choice::Opens(Kind::OrdinaryString, pair)
     } else if let Some(pair) = opened(&syntax.multi_line_comments, text) {
-        Choice::Opener(Kind::MultiLineComment, pair)
+        Choice::Opens(Kind::MultiLineComment, pair)
     } else if let Some(pair) = opened(&syntax.nested_comments, text) {
-        Choice::Opener(Kind::MultiLineComment, pair)
+        Choice::Opens(Kind::MultiLineComment, pair)
     } else if any_begins(&syntax.line_comment, text) {
-        Choice::LineComment
+        Choice::BeginsLineComment
     } else {
-        Choice::Byte
+        Choice::TakesByte
     }
 }
 
@@ -184,7 +184,7 @@ pub(crate) fn choose<'a>(
 ) -> Choice<'a>
     ensures choice { (block : Option Block) → is_some block ≡ opens
         → choice_of block result ≡ choice (row_of syntax.now) (mode_of mode.entry) block text.now }
-    ensures child { result ≡ Choice.Child → opens ≡ true }
+    ensures child { result ≡ Choice.ChildOpens → opens ≡ true }
 {
     match mode {
         None => in_plain(syntax, opens, text),

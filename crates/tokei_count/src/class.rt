@@ -100,29 +100,30 @@ fn ends_opened(syntax: &Syntax, head: &[u8], ended: Option<Enclosure>) -> bool
     }
 }
 
-/// The class of a part that began and ended in these modes; `docs` says whether doc strings are treated as comments.
+/// The class of a part that began and ended in these modes; `docs_are_comments` says whether doc strings are treated as
+/// comments.
 #[tactic(auto, unfolding(crate::specs::Class::class_of))]
 #[inline(never)]
 pub fn class_of(
     syntax: &Syntax,
-    docs: bool,
+    docs_are_comments: bool,
     begun: Option<Enclosure>,
     bytes: &[u8],
     ended: Option<Enclosure>,
 ) -> Class
-    ensures { result ≡ class_of (row_of syntax.now) docs
+    ensures { result ≡ class_of (row_of syntax.now) docs_are_comments
         (record { begun = mode_of begun.entry; bytes = bytes.now; ended = mode_of ended.entry }) }
 {
     if begun.is_none() && is_blank_text(bytes) {
         return Class::Blank;
     }
-    if syntax.literate || (in_doc_string(ended) && docs) {
+    if syntax.literate || (in_doc_string(ended) && docs_are_comments) {
         return Class::Comment;
     }
     if in_string(ended) {
         return Class::Code;
     }
-    if in_comment(begun) || (in_doc_string(begun) && docs) {
+    if in_comment(begun) || (in_doc_string(begun) && docs_are_comments) {
         return Class::Comment;
     }
     if in_string(begun) {
@@ -177,7 +178,7 @@ pub(crate) fn class_by(
 ) -> Class
     requires order { start ≤ stop }
     requires within { stop ≤ length reading.now.text.now }
-    ensures { result ≡ class_of (row_in reading.now) reading.now.docs (record {
+    ensures { result ≡ class_of (row_in reading.now) reading.now.docs_are_comments (record {
       begun = mode_of begun.entry;
       bytes = take (stop - start) (drop start reading.now.text.now);
       ended = mode_of ended.entry;
@@ -195,7 +196,7 @@ pub(crate) fn class_by(
     }
     class_of(
         syntax,
-        reading.docs,
+        reading.docs_are_comments,
         begun,
         &reading.text[start..stop],
         ended,

@@ -6,7 +6,7 @@ use crate::reading::Reading;
 pub(crate) struct Place<'r, 'a> {
     pub reading: &'r Reading<'a>,
     /// How many bytes were left behind the last child.
-    pub left: usize,
+    pub behind_child: usize,
     /// Where the part begins.
     pub start: usize,
     /// The place itself.

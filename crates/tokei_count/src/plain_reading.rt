@@ -31,12 +31,12 @@ pub fn count_plain(
     ensures overflow { IsErrOf result CountError.Overflow
         → ¬ Fits (text_reading counter.now config.now language text.now) }
 {
-    let docs = config.treat_doc_strings_as_comments.unwrap_or(false);
+    let docs_are_comments = config.treat_doc_strings_as_comments.unwrap_or(false);
     let reader = Reader {
         alloc,
         table: counter.table(),
         matchers: counter.matchers_by_language(),
-        docs,
+        docs_are_comments,
         skips: false,
     };
     let read = read_text(reader, language, text, OUTERMOST_LEVELS)?;

@@ -11,7 +11,7 @@ pub(crate) struct Reader<'a> {
     /// What texts are searched and walked with, by language.
     pub matchers: &'a [LanguageMatchers],
     /// Whether doc strings are treated as comments.
-    pub docs: bool,
+    pub docs_are_comments: bool,
     /// Whether parts that begin plain and hold no opener are skipped, by the matchers, or walked as the others are.
     pub skips: bool,
 }

@@ -23,7 +23,7 @@ pub(crate) struct Reading<'a> {
     pub matchers: &'a LanguageMatchers,
     pub text: &'a [u8],
     /// Whether doc strings are treated as comments.
-    pub docs: bool,
+    pub docs_are_comments: bool,
     /// How deep children may still open.
     pub levels: u32,
     /// Whether parts that begin plain and hold no opener are skipped, and children looked for ahead.

@@ -157,7 +157,7 @@ pub(crate) struct ReadSoFar<'a> {
     /// How many were made in its children, or the greatest number where they were more.
     pub inner_steps: u128,
     /// How many bytes were left behind the last child.
-    pub left: usize,
+    pub behind_child: usize,
     /// Where the next part begins.
     pub start: usize,
     /// The items that enclose that place.
@@ -178,7 +178,7 @@ impl<'a> ReadSoFar<'a> {
             blobs: BTreeMap::new(alloc),
             own_steps: 0,
             inner_steps: 0,
-            left: reading.text.len(),
+            behind_child: reading.text.len(),
             start: 0,
             stack: Vec::new(alloc),
             search: BlockSearch::new(reading.text),
@@ -325,7 +325,7 @@ fn read_walked<'a>(
 {
     let place = Place {
         reading,
-        left: so_far.left,
+        behind_child: so_far.behind_child,
         start: so_far.start,
         at: so_far.start,
         end,
@@ -345,7 +345,7 @@ fn read_walked<'a>(
             add_blob(&mut so_far.blobs, child.language, read.stats)?;
             so_far.inner_steps = capped_sum(so_far.inner_steps, read.steps);
             so_far.start = at + child.size;
-            so_far.left = reading.text.len() - so_far.start;
+            so_far.behind_child = reading.text.len() - so_far.start;
         }
     }
     Ok(())
@@ -380,7 +380,7 @@ pub(crate) fn read_text<'a>(
         family: Family::of_key(syntax.key.as_str()),
         matchers: &reader.matchers[language.index()],
         text,
-        docs: reader.docs,
+        docs_are_comments: reader.docs_are_comments,
         levels,
         skips: reader.skips,
     };

@@ -8,7 +8,7 @@ ghost use Rattle.tokei_count.specs.Places.{block_here, choice_here, text_from, t
 ghost use Rattle.tokei_count.specs.ReadingOf.{row_in, blocks_of};
 ghost use Rattle.tokei_count.specs.Progress.{IsPart, IsClosable};
 ghost use Rattle.tokei_count.specs.Seen.{choice_of, mode_of, chain_of};
-ghost use Rattle.tokei_count.specs.Walked.{Steps, Reads};
+ghost use Rattle.tokei_count.specs.Walked.{Moves, Reads};
 
 use crate::choice::{Choice, choose};
 use crate::class::{Class, class_by};
@@ -22,7 +22,7 @@ use tokei_embedding::BlockSearch;
 
 /// What the choice at a place does.
 #[derive(Clone, Copy)]
-pub(crate) enum Step {
+pub(crate) enum Move {
     /// It takes so many bytes of its line.
     On(usize),
     /// It takes the rest of its line, and the newline there.
@@ -94,12 +94,12 @@ fn choice_at<'a>(
         → block_here place.now ≡ None }
     requires plain { plain ≡ true → choice_here place.now (mode_of mode) ≡ takes_byte }
     ensures counted { steps.new ≡ steps.old + 1 }
-    ensures child { result ≡ Choice.Child → opens ≡ true }
+    ensures child { result ≡ Choice.ChildOpens → opens ≡ true }
     ensures choice { choice_of (block_here place.now) result ≡ choice_here place.now (mode_of mode.entry) }
 {
     *steps += 1;
     if plain {
-        return Choice::Byte;
+        return Choice::TakesByte;
     }
     choose(
         place.reading.syntax,
@@ -124,7 +124,7 @@ fn take_bytes<'a>(
     requires childless { innermost (chain_of stack.now) ≡ None → Childless place.now child }
     ensures low { place.now.at ≤ result }
     ensures high { result ≤ place.now.end }
-    ensures part { IsPart (text_of place.now) place.now.left place.now.start result }
+    ensures part { IsPart (text_of place.now) place.now.behind_child place.now.start result }
     ensures line { place.now.end ≡ result + line_len (text_from place.now result) }
     ensures counted { steps.new ≡ steps.old + (result - place.now.at) }
     ensures leads { LeadsTo place.now (chain_of stack.now) result }
@@ -150,7 +150,7 @@ fn take_choice<'a>(
     stack: &mut Vec<Enclosure<'a>>,
     child: usize,
     steps: &mut usize,
-) -> Result<Step, AllocError>
+) -> Result<Move, AllocError>
     requires closable { IsClosable (chain_of stack.old.items) }
     requires here { IsAt place.now }
     requires some { place.now.at < place.now.end }
@@ -160,31 +160,31 @@ fn take_choice<'a>(
     requires searched { search.old ≡ text_of place.now }
     ensures same { search.new ≡ search.old }
     ensures counted { steps.new ≡ steps.old + 1 }
-    ensures takes { IfOk result (Steps (row_in place.now.reading.now) (blocks_of place.now.reading.now)
-        place.now.left (chain_of stack.old.items) (chain_of stack.new.items) (text_of place.now) place.now.at) }
+    ensures takes { IfOk result (Moves (row_in place.now.reading.now) (blocks_of place.now.reading.now)
+        place.now.behind_child (chain_of stack.old.items) (chain_of stack.new.items) (text_of place.now) place.now.at) }
 {
     let at = place.at;
     let mode = innermost(stack);
     let opens = child <= at && opens_at(place, mode, search);
     match choice_at(place, mode, opens, false, steps) {
-        Choice::Closer => match stack.pop() {
-            Some(enclosure) => Ok(Step::On(enclosure.closer.len())),
+        Choice::Closes => match stack.pop() {
+            Some(enclosure) => Ok(Move::On(enclosure.closer.len())),
             None => unreachable!(),
         },
-        Choice::Escape => Ok(Step::On(2)),
-        Choice::Child => Ok(Step::Child),
-        Choice::Opener(kind, pair) => {
+        Choice::Escapes => Ok(Move::On(2)),
+        Choice::ChildOpens => Ok(Move::Child),
+        Choice::Opens(kind, pair) => {
             let opener = pair.0.as_bytes();
             let closer = pair.1.as_bytes();
             stack.push(Enclosure { kind, closer })?;
-            Ok(Step::On(opener.len()))
+            Ok(Move::On(opener.len()))
         }
-        Choice::PassedOpener(pair) => {
+        Choice::PassesOver(pair) => {
             let opener = pair.0.as_bytes();
-            Ok(Step::On(opener.len()))
+            Ok(Move::On(opener.len()))
         }
-        Choice::LineComment => Ok(Step::Rest),
-        Choice::Byte => Ok(Step::On(1)),
+        Choice::BeginsLineComment => Ok(Move::Rest),
+        Choice::TakesByte => Ok(Move::On(1)),
     }
 }
 
@@ -241,8 +241,8 @@ pub(crate) fn read_part<'a>(
     requires searched { search.old ≡ text_of part.now }
     ensures same { search.new ≡ search.old }
     ensures reads { IfOk result (Reads (row_in part.now.reading.now) (blocks_of part.now.reading.now)
-        part.now.left part.now.reading.now.docs (chain_of stack.old.items) (chain_of stack.new.items)
-        part.now.start (text_of part.now)) }
+        part.now.behind_child part.now.reading.now.docs_are_comments (chain_of stack.old.items)
+        (chain_of stack.new.items) part.now.start (text_of part.now)) }
 {
     let reading = part.reading;
     let start = part.start;
@@ -261,9 +261,9 @@ pub(crate) fn read_part<'a>(
         }
         let there = Place { at, ..*part };
         match take_choice(&there, search, stack, ahead, &mut steps)? {
-            Step::On(len) => at += len,
-            Step::Rest => at = stop,
-            Step::Child => {
+            Move::On(len) => at += len,
+            Move::Rest => at = stop,
+            Move::Child => {
                 let end = PartEnd::Broken(at);
                 return Ok(PartRead { end, steps });
             }

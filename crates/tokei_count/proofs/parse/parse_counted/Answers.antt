@@ -41,10 +41,10 @@ returns-clause-steps_at_most_bytes c = λ none.
 pub returns-clause-lines_at_most_weight : goal.returns-clause-lines_at_most_weight
 returns-clause-lines_at_most_weight c =
     let sound = have_tokens c.args.counter.now c.table.ensures.well_formed in
-    let docs = c.unwrap_or-docs.result in
-    let read = λ (rows : List Row). reading (languages_of rows) docs outermost_levels c.args.language c.args.text.now in
+    let docs_are_comments = c.unwrap_or-docs_are_comments.result in
+    let read = λ (rows : List Row). reading (languages_of rows) docs_are_comments outermost_levels c.args.language c.args.text.now in
     let heavy : all_lines (read c.args.counter.now) ≤ text_weight c.args.counter.now c.args.language c.args.text.now =
-    lines-weight c.args.counter.now sound docs outermost_levels c.args.language c.args.text.now in
+    lines-weight c.args.counter.now sound docs_are_comments outermost_levels c.args.language c.args.text.now in
     let lines_are : all_lines (stats_of c.in_ok-read.read.stats) ≡ all_lines (read c.args.counter.now) =
     ap all_lines (c.in_ok-read.ensures.reads ∙ ap read c.table.ensures.table) in
     omega (arith, heavy, lines_are)
@@ -61,10 +61,10 @@ pub returns-in_err-read-clause-no_overflow_without_notebooks
     : goal.returns-in_err-read-clause-no_overflow_without_notebooks
 returns-in_err-read-clause-no_overflow_without_notebooks c = λ none.
     let sound = have_tokens c.args.counter.now c.table.ensures.well_formed in
-    let docs = c.unwrap_or-docs.result in
-    let read = λ (rows : List Row). reading (languages_of rows) docs outermost_levels c.args.language c.args.text.now in
+    let docs_are_comments = c.unwrap_or-docs_are_comments.result in
+    let read = λ (rows : List Row). reading (languages_of rows) docs_are_comments outermost_levels c.args.language c.args.text.now in
     let fits : Fits (read c.args.counter.now) =
-    reading-fits_by_length c.args.counter.now sound docs none outermost_levels c.args.language c.args.text.now
+    reading-fits_by_length c.args.counter.now sound docs_are_comments none outermost_levels c.args.language c.args.text.now
     c.lengths_fit.ensures in
     let here : Fits (read c.table.result.now) =
     subst (λ (rows : List Row). Fits (read rows)) (sym c.table.ensures.table) fits in
@@ -91,10 +91,10 @@ returns-clause-steps_at_most_work c =
 pub returns-in_err-read-clause-no_overflow_of_light_texts : goal.returns-in_err-read-clause-no_overflow_of_light_texts
 returns-in_err-read-clause-no_overflow_of_light_texts c = λ light.
     let sound = have_tokens c.args.counter.now c.table.ensures.well_formed in
-    let docs = c.unwrap_or-docs.result in
-    let read = λ (rows : List Row). reading (languages_of rows) docs outermost_levels c.args.language c.args.text.now in
+    let docs_are_comments = c.unwrap_or-docs_are_comments.result in
+    let read = λ (rows : List Row). reading (languages_of rows) docs_are_comments outermost_levels c.args.language c.args.text.now in
     let fits : Fits (read c.args.counter.now) =
-    reading-fits c.args.counter.now sound docs outermost_levels c.args.language c.args.text.now light in
+    reading-fits c.args.counter.now sound docs_are_comments outermost_levels c.args.language c.args.text.now light in
     let here : Fits (read c.table.result.now) =
     subst (λ (rows : List Row). Fits (read rows)) (sym c.table.ensures.table) fits in
     let p = err_from_is_err_and c.from_residual.result c.from_residual.ensures.1 in

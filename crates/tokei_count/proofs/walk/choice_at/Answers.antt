@@ -5,7 +5,7 @@ use Rattle.tokei_count.specs.Places.{block_here, text_of}
 use Rattle.tokei_count.specs.ReadingOf.{row_in}
 use Rattle.tokei_count.specs.Seen.{choice_of, mode_of}
 use Rattle.tokei_count.specs.declared.choice.Choice as CodeChoice
-use Rattle.tokei_count.specs.declared.choice.Choice.TheVariants.{Child}
+use Rattle.tokei_count.specs.declared.choice.Choice.TheVariants.{ChildOpens}
 use Rattle.tokei_table.specs.Row.{Row}
 use Rattle.tokei_table.specs.RowOf.{row_of}
 use Rattle.tokei_count.proofs.PlainBytes.{same_choice}
@@ -17,7 +17,7 @@ returns-then-plain-clause-choice c = sym (c.requires.plain c.if-plain.true)
 
 -- the choice by whether a child can open, where that is known in plain text alone
 by_opens : (r : Row) (mode : Mode) (o : Option Block) (u : List ℕ) (x : CodeChoice.Choice) (opens : Bool)
-    → (opens ≡ true → is_some o ≡ true) → (opens ≡ false → mode ≡ None → o ≡ None) → (x ≡ Child → opens ≡ true)
+    → (opens ≡ true → is_some o ≡ true) → (opens ≡ false → mode ≡ None → o ≡ None) → (x ≡ ChildOpens → opens ≡ true)
     → ((p : Option Block) → is_some p ≡ opens → choice_of p x ≡ choice r mode p u) → choice_of o x ≡ choice r mode o u
 by_opens r mode o u x true some none child is = is o (some refl)
 by_opens r mode o u x false some none child is = same_choice r mode o u x (none refl) child (is None refl)

@@ -10,4 +10,4 @@ returns-else-at-end-clause-none c = λ _ _.
     let text : List ℕ = c.args.place.now.reading.now.text.now in
     let u : List ℕ = drop c.args.place.now.at text in
     let here : u ≡ 10 ∷ drop 1 u = at_newline u (omega (arith, c.requires.here.line, c.if-at-end.false)) (omega (arith, length-drop c.args.place.now.at text, c.requires.some)) in
-    ap (blocks_of c.args.place.now.reading.now c.args.place.now.left) here ∙ (blocks_fit c.args.place.now.reading.now).in_line.none c.args.place.now.left (drop 1 u)
+    ap (blocks_of c.args.place.now.reading.now c.args.place.now.behind_child) here ∙ (blocks_fit c.args.place.now.reading.now).in_line.none c.args.place.now.behind_child (drop 1 u)

@@ -7,8 +7,8 @@ use Rattle.tokei_count.specs.Modes.{innermost}
 use Rattle.tokei_count.specs.ReadingOf.{row_in, blocks_of}
 use Rattle.tokei_count.specs.Progress.{Leads, Goes, IsPart, ReadsLine, newlines}
 use Rattle.tokei_count.specs.Seen.{chain_of, mode_of}
-use Rattle.tokei_count.specs.Walked.{Steps}
-use Rattle.tokei_count.specs.declared.walk.Step.TheVariants.{Child}
+use Rattle.tokei_count.specs.Walked.{Moves}
+use Rattle.tokei_count.specs.declared.walk.Move.TheVariants.{Child}
 use Rattle.tokei_count.proofs.Blocks.{blocks_fit}
 use Rattle.tokei_count.proofs.Leading.{lead_none, at_newline, line_len-drop}
 use Rattle.tokei_count.proofs.LineEnds.{end_is, end_within, end_behind, ends_more, first_line-low, first_line-high}
@@ -31,11 +31,11 @@ loop-at-init c =
     let no_steps : 0 ≡ 0 - (c.args.part.now.start - end) = omega arith in
     record {
       same = refl;
-      leads = subst (λ n. Leads (row_in c.args.part.now.reading.now) (blocks_of c.args.part.now.reading.now) c.args.part.now.left (chain_of c.args.stack.now.items) n (0 - (c.args.part.now.start - end)) (chain_of c.args.stack.now.items) u) none
-          (subst (λ j. Leads (row_in c.args.part.now.reading.now) (blocks_of c.args.part.now.reading.now) c.args.part.now.left (chain_of c.args.stack.now.items) 0 j (chain_of c.args.stack.now.items) u) no_steps
-          (lead_none (row_in c.args.part.now.reading.now) (blocks_of c.args.part.now.reading.now) c.args.part.now.left (chain_of c.args.stack.now.items) u));
+      leads = subst (λ n. Leads (row_in c.args.part.now.reading.now) (blocks_of c.args.part.now.reading.now) c.args.part.now.behind_child (chain_of c.args.stack.now.items) n (0 - (c.args.part.now.start - end)) (chain_of c.args.stack.now.items) u) none
+          (subst (λ j. Leads (row_in c.args.part.now.reading.now) (blocks_of c.args.part.now.reading.now) c.args.part.now.behind_child (chain_of c.args.stack.now.items) 0 j (chain_of c.args.stack.now.items) u) no_steps
+          (lead_none (row_in c.args.part.now.reading.now) (blocks_of c.args.part.now.reading.now) c.args.part.now.behind_child (chain_of c.args.stack.now.items) u));
       closable = c.requires.closable;
-      part = subst (IsPart text c.args.part.now.left c.args.part.now.start) here c.requires.begins.part;
+      part = subst (IsPart text c.args.part.now.behind_child c.args.part.now.start) here c.requires.begins.part;
       line = c.requires.begins.line ∙ ap (λ m. m + line_len (drop m text)) here;
       few = omega arith;
       begun = omega arith;
@@ -51,17 +51,17 @@ loop-at-preserved-then-end-at c =
     let at : ℕ = c.take_bytes-at.result in
     let there : reached at end ≡ at = omega (arith, c.take_bytes-at.ensures.high) in
     let stop_is : c.line_stop-stop.result ≡ c.args.part.now.start + length (first_line (drop c.args.part.now.start text)) = end_is text c.args.part.now.start end c.line_stop-stop.result c.requires.begins.part.high c.requires.begins.line c.line_stop-stop.ensures.more c.line_stop-stop.ensures.last in
-    let went : Leads (row_in c.args.part.now.reading.now) (blocks_of c.args.part.now.reading.now) c.args.part.now.left (chain_of c.loop-at.stack.items) (at - c.loop-at.at) (at - c.loop-at.at) (chain_of c.loop-at.stack.items) (drop c.loop-at.at text) =
-    subst (λ es. Leads (row_in c.args.part.now.reading.now) (blocks_of c.args.part.now.reading.now) c.args.part.now.left (chain_of es) (at - c.loop-at.at) (at - c.loop-at.at) (chain_of es) (drop c.loop-at.at text)) c.deref-in-loop-at-2.ensures.value c.take_bytes-at.ensures.leads in
-    let led : Leads (row_in c.args.part.now.reading.now) (blocks_of c.args.part.now.reading.now) c.args.part.now.left (chain_of c.args.stack.now.items) (at - c.args.part.now.start) c.take_bytes-at.new.steps (chain_of c.loop-at.stack.items) (drop c.args.part.now.start text) =
-    run_on (row_in c.args.part.now.reading.now) (blocks_of c.args.part.now.reading.now) c.args.part.now.left text c.args.part.now.start c.loop-at.at at end c.loop-at.steps c.take_bytes-at.new.steps (chain_of c.args.stack.now.items) (chain_of c.loop-at.stack.items) c.loop-at-test.true c.loop-at.invariant.part c.loop-at.invariant.leads c.take_bytes-at.ensures.low c.take_bytes-at.ensures.counted went in
+    let went : Leads (row_in c.args.part.now.reading.now) (blocks_of c.args.part.now.reading.now) c.args.part.now.behind_child (chain_of c.loop-at.stack.items) (at - c.loop-at.at) (at - c.loop-at.at) (chain_of c.loop-at.stack.items) (drop c.loop-at.at text) =
+    subst (λ es. Leads (row_in c.args.part.now.reading.now) (blocks_of c.args.part.now.reading.now) c.args.part.now.behind_child (chain_of es) (at - c.loop-at.at) (at - c.loop-at.at) (chain_of es) (drop c.loop-at.at text)) c.deref-in-loop-at-2.ensures.value c.take_bytes-at.ensures.leads in
+    let led : Leads (row_in c.args.part.now.reading.now) (blocks_of c.args.part.now.reading.now) c.args.part.now.behind_child (chain_of c.args.stack.now.items) (at - c.args.part.now.start) c.take_bytes-at.new.steps (chain_of c.loop-at.stack.items) (drop c.args.part.now.start text) =
+    run_on (row_in c.args.part.now.reading.now) (blocks_of c.args.part.now.reading.now) c.args.part.now.behind_child text c.args.part.now.start c.loop-at.at at end c.loop-at.steps c.take_bytes-at.new.steps (chain_of c.args.stack.now.items) (chain_of c.loop-at.stack.items) c.loop-at-test.true c.loop-at.invariant.part c.loop-at.invariant.leads c.take_bytes-at.ensures.low c.take_bytes-at.ensures.counted went in
     let all : c.take_bytes-at.new.steps ≡ c.take_bytes-at.new.steps - (at - end) = omega (arith, c.take_bytes-at.ensures.high) in
     record {
       same = c.look_ahead-ahead.ensures.same ∙ c.loop-at.invariant.same;
-      leads = subst (λ j. Leads (row_in c.args.part.now.reading.now) (blocks_of c.args.part.now.reading.now) c.args.part.now.left (chain_of c.args.stack.now.items) (reached at end - c.args.part.now.start) j (chain_of c.loop-at.stack.items) (drop c.args.part.now.start text)) all
-          (subst (λ m. Leads (row_in c.args.part.now.reading.now) (blocks_of c.args.part.now.reading.now) c.args.part.now.left (chain_of c.args.stack.now.items) (m - c.args.part.now.start) c.take_bytes-at.new.steps (chain_of c.loop-at.stack.items) (drop c.args.part.now.start text)) (sym there) led);
+      leads = subst (λ j. Leads (row_in c.args.part.now.reading.now) (blocks_of c.args.part.now.reading.now) c.args.part.now.behind_child (chain_of c.args.stack.now.items) (reached at end - c.args.part.now.start) j (chain_of c.loop-at.stack.items) (drop c.args.part.now.start text)) all
+          (subst (λ m. Leads (row_in c.args.part.now.reading.now) (blocks_of c.args.part.now.reading.now) c.args.part.now.behind_child (chain_of c.args.stack.now.items) (m - c.args.part.now.start) c.take_bytes-at.new.steps (chain_of c.loop-at.stack.items) (drop c.args.part.now.start text)) (sym there) led);
       closable = c.loop-at.invariant.closable;
-      part = subst (IsPart text c.args.part.now.left c.args.part.now.start) (sym there) c.take_bytes-at.ensures.part;
+      part = subst (IsPart text c.args.part.now.behind_child c.args.part.now.start) (sym there) c.take_bytes-at.ensures.part;
       line = c.take_bytes-at.ensures.line ∙ ap (λ m. m + line_len (drop m text)) (sym there);
       few = omega (arith, c.loop-at.invariant.few, c.loop-at.invariant.part.low, c.loop-at-test.true, c.take_bytes-at.ensures.low, c.take_bytes-at.ensures.counted);
       begun = omega (arith, c.take_bytes-at.ensures.high);
@@ -77,14 +77,14 @@ loop-at-preserved-in-On c =
     let more : at < end = omega (arith, c.if-end-at.false) in
     let next : ℕ = at + c.in-On.len in
     let stop_is : c.line_stop-stop.result ≡ c.args.part.now.start + length (first_line (drop c.args.part.now.start text)) = end_is text c.args.part.now.start end c.line_stop-stop.result c.requires.begins.part.high c.requires.begins.line c.line_stop-stop.ensures.more c.line_stop-stop.ensures.last in
-    let goes : Goes (row_in c.args.part.now.reading.now) (blocks_of c.args.part.now.reading.now) c.args.part.now.left (chain_of c.loop-at.stack.items) c.in-On.len 1 (chain_of c.take_choice.new.stack.items) (drop at text) =
-    subst (Steps (row_in c.args.part.now.reading.now) (blocks_of c.args.part.now.reading.now) c.args.part.now.left (chain_of c.loop-at.stack.items) (chain_of c.take_choice.new.stack.items) text at) c.in-On.is c.in_ok-len.ensures.takes in
-    let part : IsPart text c.args.part.now.left c.args.part.now.start at = c.take_bytes-at.ensures.part in
+    let goes : Goes (row_in c.args.part.now.reading.now) (blocks_of c.args.part.now.reading.now) c.args.part.now.behind_child (chain_of c.loop-at.stack.items) c.in-On.len 1 (chain_of c.take_choice.new.stack.items) (drop at text) =
+    subst (Moves (row_in c.args.part.now.reading.now) (blocks_of c.args.part.now.reading.now) c.args.part.now.behind_child (chain_of c.loop-at.stack.items) (chain_of c.take_choice.new.stack.items) text at) c.in-On.is c.in_ok-len.ensures.takes in
+    let part : IsPart text c.args.part.now.behind_child c.args.part.now.start at = c.take_bytes-at.ensures.part in
     let line : end ≡ at + line_len (drop at text) = c.take_bytes-at.ensures.line in
-    let went : Leads (row_in c.args.part.now.reading.now) (blocks_of c.args.part.now.reading.now) c.args.part.now.left (chain_of c.loop-at.stack.items) (at - c.loop-at.at) (at - c.loop-at.at) (chain_of c.loop-at.stack.items) (drop c.loop-at.at text) =
-    subst (λ es. Leads (row_in c.args.part.now.reading.now) (blocks_of c.args.part.now.reading.now) c.args.part.now.left (chain_of es) (at - c.loop-at.at) (at - c.loop-at.at) (chain_of es) (drop c.loop-at.at text)) c.deref-in-loop-at-2.ensures.value c.take_bytes-at.ensures.leads in
-    let led : Leads (row_in c.args.part.now.reading.now) (blocks_of c.args.part.now.reading.now) c.args.part.now.left (chain_of c.args.stack.now.items) (at - c.args.part.now.start) c.take_bytes-at.new.steps (chain_of c.loop-at.stack.items) (drop c.args.part.now.start text) =
-    run_on (row_in c.args.part.now.reading.now) (blocks_of c.args.part.now.reading.now) c.args.part.now.left text c.args.part.now.start c.loop-at.at at end c.loop-at.steps c.take_bytes-at.new.steps (chain_of c.args.stack.now.items) (chain_of c.loop-at.stack.items) c.loop-at-test.true c.loop-at.invariant.part c.loop-at.invariant.leads c.take_bytes-at.ensures.low c.take_bytes-at.ensures.counted went in
+    let went : Leads (row_in c.args.part.now.reading.now) (blocks_of c.args.part.now.reading.now) c.args.part.now.behind_child (chain_of c.loop-at.stack.items) (at - c.loop-at.at) (at - c.loop-at.at) (chain_of c.loop-at.stack.items) (drop c.loop-at.at text) =
+    subst (λ es. Leads (row_in c.args.part.now.reading.now) (blocks_of c.args.part.now.reading.now) c.args.part.now.behind_child (chain_of es) (at - c.loop-at.at) (at - c.loop-at.at) (chain_of es) (drop c.loop-at.at text)) c.deref-in-loop-at-2.ensures.value c.take_bytes-at.ensures.leads in
+    let led : Leads (row_in c.args.part.now.reading.now) (blocks_of c.args.part.now.reading.now) c.args.part.now.behind_child (chain_of c.args.stack.now.items) (at - c.args.part.now.start) c.take_bytes-at.new.steps (chain_of c.loop-at.stack.items) (drop c.args.part.now.start text) =
+    run_on (row_in c.args.part.now.reading.now) (blocks_of c.args.part.now.reading.now) c.args.part.now.behind_child text c.args.part.now.start c.loop-at.at at end c.loop-at.steps c.take_bytes-at.new.steps (chain_of c.args.stack.now.items) (chain_of c.loop-at.stack.items) c.loop-at-test.true c.loop-at.invariant.part c.loop-at.invariant.leads c.take_bytes-at.ensures.low c.take_bytes-at.ensures.counted went in
     let behind : next ≤ end = omega (arith, line, goes.within) in
     let there : reached next end ≡ next = omega (arith, behind) in
     let line_is : line_len (drop c.in-On.len (drop at text)) ≡ line_len (drop at text) - c.in-On.len = line_len-drop c.in-On.len (drop at text) goes.within in
@@ -92,12 +92,12 @@ loop-at-preserved-in-On c =
     let line_next : end ≡ next + line_len (drop next text) = omega (arith, line, goes.within, line_is, ap line_len rest_is) in
     record {
       same = c.in_ok-len.ensures.same ∙ c.look_ahead-ahead.ensures.same ∙ c.loop-at.invariant.same;
-      leads = led_on (row_in c.args.part.now.reading.now) (blocks_of c.args.part.now.reading.now) c.args.part.now.left text c.args.part.now.start at (chain_of c.args.stack.now.items) (chain_of c.loop-at.stack.items) (chain_of c.take_choice.new.stack.items)
+      leads = led_on (row_in c.args.part.now.reading.now) (blocks_of c.args.part.now.reading.now) c.args.part.now.behind_child text c.args.part.now.start at (chain_of c.args.stack.now.items) (chain_of c.loop-at.stack.items) (chain_of c.take_choice.new.stack.items)
           (reached next end - c.args.part.now.start) c.take_bytes-at.new.steps c.in-On.len 1 (c.take_choice.new.steps - (next - end)) part.low
           led
           goes.leads (omega (arith, there)) (omega (arith, behind, more, c.in_ok-len.ensures.counted));
       closable = goes.closable;
-      part = subst (IsPart text c.args.part.now.left c.args.part.now.start) (sym there) (part_on text c.args.part.now.left c.args.part.now.start at c.in-On.len part goes.within);
+      part = subst (IsPart text c.args.part.now.behind_child c.args.part.now.start) (sym there) (part_on text c.args.part.now.behind_child c.args.part.now.start at c.in-On.len part goes.within);
       line = line_next ∙ ap (λ m. m + line_len (drop m text)) (sym there);
       few = omega (arith, c.loop-at.invariant.few, c.loop-at.invariant.part.low, c.loop-at-test.true, c.take_bytes-at.ensures.low, c.take_bytes-at.ensures.counted, goes.some, part.low, c.in_ok-len.ensures.counted);
       begun = omega (arith, behind);
@@ -113,14 +113,14 @@ loop-at-preserved c =
     let at : ℕ = c.take_bytes-at.result in
     let more : at < end = omega (arith, c.if-end-at.false) in
     let stop_is : c.line_stop-stop.result ≡ c.args.part.now.start + length (first_line (drop c.args.part.now.start text)) = end_is text c.args.part.now.start end c.line_stop-stop.result c.requires.begins.part.high c.requires.begins.line c.line_stop-stop.ensures.more c.line_stop-stop.ensures.last in
-    let goes : Goes (row_in c.args.part.now.reading.now) (blocks_of c.args.part.now.reading.now) c.args.part.now.left (chain_of c.loop-at.stack.items) (line_len (drop at text)) (1 - newlines (drop at text)) (chain_of c.take_choice.new.stack.items) (drop at text) =
-    subst (Steps (row_in c.args.part.now.reading.now) (blocks_of c.args.part.now.reading.now) c.args.part.now.left (chain_of c.loop-at.stack.items) (chain_of c.take_choice.new.stack.items) text at) c.in-Rest.is c.in_ok-len.ensures.takes in
-    let part : IsPart text c.args.part.now.left c.args.part.now.start at = c.take_bytes-at.ensures.part in
+    let goes : Goes (row_in c.args.part.now.reading.now) (blocks_of c.args.part.now.reading.now) c.args.part.now.behind_child (chain_of c.loop-at.stack.items) (line_len (drop at text)) (1 - newlines (drop at text)) (chain_of c.take_choice.new.stack.items) (drop at text) =
+    subst (Moves (row_in c.args.part.now.reading.now) (blocks_of c.args.part.now.reading.now) c.args.part.now.behind_child (chain_of c.loop-at.stack.items) (chain_of c.take_choice.new.stack.items) text at) c.in-Rest.is c.in_ok-len.ensures.takes in
+    let part : IsPart text c.args.part.now.behind_child c.args.part.now.start at = c.take_bytes-at.ensures.part in
     let line : end ≡ at + line_len (drop at text) = c.take_bytes-at.ensures.line in
-    let went : Leads (row_in c.args.part.now.reading.now) (blocks_of c.args.part.now.reading.now) c.args.part.now.left (chain_of c.loop-at.stack.items) (at - c.loop-at.at) (at - c.loop-at.at) (chain_of c.loop-at.stack.items) (drop c.loop-at.at text) =
-    subst (λ es. Leads (row_in c.args.part.now.reading.now) (blocks_of c.args.part.now.reading.now) c.args.part.now.left (chain_of es) (at - c.loop-at.at) (at - c.loop-at.at) (chain_of es) (drop c.loop-at.at text)) c.deref-in-loop-at-2.ensures.value c.take_bytes-at.ensures.leads in
-    let led : Leads (row_in c.args.part.now.reading.now) (blocks_of c.args.part.now.reading.now) c.args.part.now.left (chain_of c.args.stack.now.items) (at - c.args.part.now.start) c.take_bytes-at.new.steps (chain_of c.loop-at.stack.items) (drop c.args.part.now.start text) =
-    run_on (row_in c.args.part.now.reading.now) (blocks_of c.args.part.now.reading.now) c.args.part.now.left text c.args.part.now.start c.loop-at.at at end c.loop-at.steps c.take_bytes-at.new.steps (chain_of c.args.stack.now.items) (chain_of c.loop-at.stack.items) c.loop-at-test.true c.loop-at.invariant.part c.loop-at.invariant.leads c.take_bytes-at.ensures.low c.take_bytes-at.ensures.counted went in
+    let went : Leads (row_in c.args.part.now.reading.now) (blocks_of c.args.part.now.reading.now) c.args.part.now.behind_child (chain_of c.loop-at.stack.items) (at - c.loop-at.at) (at - c.loop-at.at) (chain_of c.loop-at.stack.items) (drop c.loop-at.at text) =
+    subst (λ es. Leads (row_in c.args.part.now.reading.now) (blocks_of c.args.part.now.reading.now) c.args.part.now.behind_child (chain_of es) (at - c.loop-at.at) (at - c.loop-at.at) (chain_of es) (drop c.loop-at.at text)) c.deref-in-loop-at-2.ensures.value c.take_bytes-at.ensures.leads in
+    let led : Leads (row_in c.args.part.now.reading.now) (blocks_of c.args.part.now.reading.now) c.args.part.now.behind_child (chain_of c.args.stack.now.items) (at - c.args.part.now.start) c.take_bytes-at.new.steps (chain_of c.loop-at.stack.items) (drop c.args.part.now.start text) =
+    run_on (row_in c.args.part.now.reading.now) (blocks_of c.args.part.now.reading.now) c.args.part.now.behind_child text c.args.part.now.start c.loop-at.at at end c.loop-at.steps c.take_bytes-at.new.steps (chain_of c.args.stack.now.items) (chain_of c.loop-at.stack.items) c.loop-at-test.true c.loop-at.invariant.part c.loop-at.invariant.leads c.take_bytes-at.ensures.low c.take_bytes-at.ensures.counted went in
     let stop_here : stop ≡ at + length (first_line (drop at text)) = end_is text at end stop part.high line c.line_stop-stop.ensures.more c.line_stop-stop.ensures.last in
     let low : line_len (drop at text) ≤ length (first_line (drop at text)) = first_line-low (drop at text) in
     let high : length (first_line (drop at text)) ≤ line_len (drop at text) + 1 = first_line-high (drop at text) in
@@ -128,12 +128,12 @@ loop-at-preserved c =
     let line_next : line_len (drop (at + line_len (drop at text)) text) ≡ 0 = ap line_len (sym (drop-drop (line_len (drop at text)) at text)) ∙ line_len-drop (line_len (drop at text)) (drop at text) (omega arith) ∙ omega arith in
     record {
       same = c.in_ok-len.ensures.same ∙ c.look_ahead-ahead.ensures.same ∙ c.loop-at.invariant.same;
-      leads = led_on (row_in c.args.part.now.reading.now) (blocks_of c.args.part.now.reading.now) c.args.part.now.left text c.args.part.now.start at (chain_of c.args.stack.now.items) (chain_of c.loop-at.stack.items) (chain_of c.take_choice.new.stack.items)
+      leads = led_on (row_in c.args.part.now.reading.now) (blocks_of c.args.part.now.reading.now) c.args.part.now.behind_child text c.args.part.now.start at (chain_of c.args.stack.now.items) (chain_of c.loop-at.stack.items) (chain_of c.take_choice.new.stack.items)
           (reached stop end - c.args.part.now.start) c.take_bytes-at.new.steps (line_len (drop at text)) (1 - newlines (drop at text)) (c.take_choice.new.steps - (stop - end)) part.low
           led
           goes.leads (omega (arith, there)) (omega (arith, line, stop_here, low, high, more, c.in_ok-len.ensures.counted));
       closable = goes.closable;
-      part = subst (IsPart text c.args.part.now.left c.args.part.now.start) (sym there) (part_on text c.args.part.now.left c.args.part.now.start at (line_len (drop at text)) part goes.within);
+      part = subst (IsPart text c.args.part.now.behind_child c.args.part.now.start) (sym there) (part_on text c.args.part.now.behind_child c.args.part.now.start at (line_len (drop at text)) part goes.within);
       line = line ∙ omega (arith, line_next) ∙ ap (λ m. m + line_len (drop m text)) (sym there);
       few = omega (arith, c.loop-at.invariant.few, c.loop-at.invariant.part.low, c.loop-at-test.true, c.take_bytes-at.ensures.low, c.take_bytes-at.ensures.counted, goes.some, part.low, c.in_ok-len.ensures.counted, stop_here, low);
       begun = omega (arith, line, stop_here, high, c.in_ok-len.ensures.counted);
@@ -147,21 +147,21 @@ returns-in-Child-clause-reads c =
     let end : ℕ = c.args.part.now.end in
     let at : ℕ = c.take_bytes-at.result in
     let more : at < end = omega (arith, c.if-end-at.false) in
-    let part : IsPart text c.args.part.now.left c.args.part.now.start at = c.take_bytes-at.ensures.part in
+    let part : IsPart text c.args.part.now.behind_child c.args.part.now.start at = c.take_bytes-at.ensures.part in
     let line : end ≡ at + line_len (drop at text) = c.take_bytes-at.ensures.line in
-    let went : Leads (row_in c.args.part.now.reading.now) (blocks_of c.args.part.now.reading.now) c.args.part.now.left (chain_of c.loop-at.stack.items) (at - c.loop-at.at) (at - c.loop-at.at) (chain_of c.loop-at.stack.items) (drop c.loop-at.at text) =
-    subst (λ es. Leads (row_in c.args.part.now.reading.now) (blocks_of c.args.part.now.reading.now) c.args.part.now.left (chain_of es) (at - c.loop-at.at) (at - c.loop-at.at) (chain_of es) (drop c.loop-at.at text)) c.deref-in-loop-at-2.ensures.value c.take_bytes-at.ensures.leads in
-    let led : Leads (row_in c.args.part.now.reading.now) (blocks_of c.args.part.now.reading.now) c.args.part.now.left (chain_of c.args.stack.now.items) (at - c.args.part.now.start) c.take_bytes-at.new.steps (chain_of c.loop-at.stack.items) (drop c.args.part.now.start text) =
-    run_on (row_in c.args.part.now.reading.now) (blocks_of c.args.part.now.reading.now) c.args.part.now.left text c.args.part.now.start c.loop-at.at at end c.loop-at.steps c.take_bytes-at.new.steps (chain_of c.args.stack.now.items) (chain_of c.loop-at.stack.items) c.loop-at-test.true c.loop-at.invariant.part c.loop-at.invariant.leads c.take_bytes-at.ensures.low c.take_bytes-at.ensures.counted went in
-    let opens : Steps (row_in c.args.part.now.reading.now) (blocks_of c.args.part.now.reading.now) c.args.part.now.left (chain_of c.loop-at.stack.items) (chain_of c.take_choice.new.stack.items) text at Child = subst (Steps (row_in c.args.part.now.reading.now) (blocks_of c.args.part.now.reading.now) c.args.part.now.left (chain_of c.loop-at.stack.items) (chain_of c.take_choice.new.stack.items) text at) c.in-Child.is c.in_ok-len.ensures.takes in (
+    let went : Leads (row_in c.args.part.now.reading.now) (blocks_of c.args.part.now.reading.now) c.args.part.now.behind_child (chain_of c.loop-at.stack.items) (at - c.loop-at.at) (at - c.loop-at.at) (chain_of c.loop-at.stack.items) (drop c.loop-at.at text) =
+    subst (λ es. Leads (row_in c.args.part.now.reading.now) (blocks_of c.args.part.now.reading.now) c.args.part.now.behind_child (chain_of es) (at - c.loop-at.at) (at - c.loop-at.at) (chain_of es) (drop c.loop-at.at text)) c.deref-in-loop-at-2.ensures.value c.take_bytes-at.ensures.leads in
+    let led : Leads (row_in c.args.part.now.reading.now) (blocks_of c.args.part.now.reading.now) c.args.part.now.behind_child (chain_of c.args.stack.now.items) (at - c.args.part.now.start) c.take_bytes-at.new.steps (chain_of c.loop-at.stack.items) (drop c.args.part.now.start text) =
+    run_on (row_in c.args.part.now.reading.now) (blocks_of c.args.part.now.reading.now) c.args.part.now.behind_child text c.args.part.now.start c.loop-at.at at end c.loop-at.steps c.take_bytes-at.new.steps (chain_of c.args.stack.now.items) (chain_of c.loop-at.stack.items) c.loop-at-test.true c.loop-at.invariant.part c.loop-at.invariant.leads c.take_bytes-at.ensures.low c.take_bytes-at.ensures.counted went in
+    let opens : Moves (row_in c.args.part.now.reading.now) (blocks_of c.args.part.now.reading.now) c.args.part.now.behind_child (chain_of c.loop-at.stack.items) (chain_of c.take_choice.new.stack.items) text at Child = subst (Moves (row_in c.args.part.now.reading.now) (blocks_of c.args.part.now.reading.now) c.args.part.now.behind_child (chain_of c.loop-at.stack.items) (chain_of c.take_choice.new.stack.items) text at) c.in-Child.is c.in_ok-len.ensures.takes in (
       opens.0,
       c.take_bytes-at.new.steps,
       c.in_ok-len.ensures.counted,
       record {
         part = part;
         few = omega (arith, c.loop-at.invariant.few, c.loop-at.invariant.part.low, c.loop-at-test.true, c.take_bytes-at.ensures.low, c.take_bytes-at.ensures.counted);
-        opens = block_opens (row_in c.args.part.now.reading.now) (blocks_of c.args.part.now.reading.now) (blocks_fit c.args.part.now.reading.now) c.args.part.now.reading.now.sound c.args.part.now.left c.args.part.now.reading.now.docs opens.0 (chain_of c.loop-at.stack.items) (chain_of c.take_choice.new.stack.items) (drop at text) opens.1;
-        reads = child_read_at (row_in c.args.part.now.reading.now) (blocks_of c.args.part.now.reading.now) (blocks_fit c.args.part.now.reading.now) c.args.part.now.reading.now.sound c.args.part.now.left c.args.part.now.reading.now.docs
+        opens = block_opens (row_in c.args.part.now.reading.now) (blocks_of c.args.part.now.reading.now) (blocks_fit c.args.part.now.reading.now) c.args.part.now.reading.now.sound c.args.part.now.behind_child c.args.part.now.reading.now.docs_are_comments opens.0 (chain_of c.loop-at.stack.items) (chain_of c.take_choice.new.stack.items) (drop at text) opens.1;
+        reads = child_read_at (row_in c.args.part.now.reading.now) (blocks_of c.args.part.now.reading.now) (blocks_fit c.args.part.now.reading.now) c.args.part.now.reading.now.sound c.args.part.now.behind_child c.args.part.now.reading.now.docs_are_comments
             (chain_of c.args.stack.now.items) (chain_of c.take_choice.new.stack.items) (chain_of c.loop-at.stack.items) c.args.part.now.start at opens.0 text part c.take_bytes-at.new.steps led opens.1;
         inside = omega (arith, c.requires.begins.line, more);
       },
@@ -179,18 +179,18 @@ returns-clause-reads c =
     let low : line_len u ≤ length (first_line u) = first_line-low u in
     let high : length (first_line u) ≤ line_len u + 1 = first_line-high u in
     let here : reached at end ≡ end = omega (arith, c.loop-at-test.false) in
-    let part : IsPart text c.args.part.now.left c.args.part.now.start end = subst (IsPart text c.args.part.now.left c.args.part.now.start) here c.loop-at.invariant.part in
+    let part : IsPart text c.args.part.now.behind_child c.args.part.now.start end = subst (IsPart text c.args.part.now.behind_child c.args.part.now.start) here c.loop-at.invariant.part in
     let line : end ≡ end + line_len (drop end text) = c.loop-at.invariant.line ∙ ap (λ m. m + line_len (drop m text)) here in
     let none_left : line_len (drop end text) ≡ 0 = omega (arith, line) in
     let first_is : stop - c.args.part.now.start ≡ length (first_line u) = omega (arith, stop_is) in
     let bytes_is : take (stop - c.args.part.now.start) u ≡ first_line u = ap (λ n. take n u) first_is ∙ take-first u in
     let begun_is = c.innermost-begun.ensures ∙ ap (λ w. innermost (chain_of w)) c.deref.ensures.value in
     let ended_is = c.innermost-2.ensures ∙ ap (λ w. innermost (chain_of w)) c.deref-2.ensures.value in
-    let class_is : c.class_by-class.result ≡ class_of (row_in c.args.part.now.reading.now) c.args.part.now.reading.now.docs (record { begun = innermost (chain_of c.args.stack.now.items); bytes = first_line u; ended = innermost (chain_of c.loop-at.stack.items) }) =
+    let class_is : c.class_by-class.result ≡ class_of (row_in c.args.part.now.reading.now) c.args.part.now.reading.now.docs_are_comments (record { begun = innermost (chain_of c.args.stack.now.items); bytes = first_line u; ended = innermost (chain_of c.loop-at.stack.items) }) =
     c.class_by-class.ensures
-    ∙ ap (λ b. class_of (row_in c.args.part.now.reading.now) c.args.part.now.reading.now.docs (record { begun = b; bytes = take (stop - c.args.part.now.start) u; ended = mode_of c.innermost-2.result })) begun_is
-    ∙ ap (λ b. class_of (row_in c.args.part.now.reading.now) c.args.part.now.reading.now.docs (record { begun = innermost (chain_of c.args.stack.now.items); bytes = b; ended = mode_of c.innermost-2.result })) bytes_is
-    ∙ ap (λ b. class_of (row_in c.args.part.now.reading.now) c.args.part.now.reading.now.docs (record { begun = innermost (chain_of c.args.stack.now.items); bytes = first_line u; ended = b })) ended_is in
+    ∙ ap (λ b. class_of (row_in c.args.part.now.reading.now) c.args.part.now.reading.now.docs_are_comments (record { begun = b; bytes = take (stop - c.args.part.now.start) u; ended = mode_of c.innermost-2.result })) begun_is
+    ∙ ap (λ b. class_of (row_in c.args.part.now.reading.now) c.args.part.now.reading.now.docs_are_comments (record { begun = innermost (chain_of c.args.stack.now.items); bytes = b; ended = mode_of c.innermost-2.result })) bytes_is
+    ∙ ap (λ b. class_of (row_in c.args.part.now.reading.now) c.args.part.now.reading.now.docs_are_comments (record { begun = innermost (chain_of c.args.stack.now.items); bytes = first_line u; ended = b })) ended_is in
     let whole : reached at end - c.args.part.now.start ≡ line_len u = omega (arith, here, c.requires.begins.line) in
     let steps_are : c.if-at-stop.steps ≡ c.loop-at.steps - (at - end) + newlines u = elim c.if-at-stop.branch [
       | then-at-stop w ↦ w.steps-is ∙ w.take_newline.ensures ∙ omega (arith, w.if-at-stop.true, c.loop-at-test.false, stop_is, c.requires.begins.line, low, high)
@@ -200,19 +200,19 @@ returns-clause-reads c =
       | then-at-stop w ↦ omega (arith, w.steps-is, w.take_newline.ensures, w.if-at-stop.true, c.loop-at.invariant.few, c.loop-at-test.false)
       | else-at-stop w ↦ omega (arith, w.steps-is, c.loop-at.invariant.few, c.loop-at.invariant.high)
     ] in
-    let leads : Leads (row_in c.args.part.now.reading.now) (blocks_of c.args.part.now.reading.now) c.args.part.now.left (chain_of c.args.stack.now.items) (line_len u) (c.loop-at.steps - (at - end)) (chain_of c.loop-at.stack.items) u =
-    subst (λ n. Leads (row_in c.args.part.now.reading.now) (blocks_of c.args.part.now.reading.now) c.args.part.now.left (chain_of c.args.stack.now.items) n (c.loop-at.steps - (at - end)) (chain_of c.loop-at.stack.items) u) whole c.loop-at.invariant.leads in
-    let line_read : ReadsLine (row_in c.args.part.now.reading.now) (blocks_of c.args.part.now.reading.now) c.args.part.now.left c.args.part.now.reading.now.docs (chain_of c.args.stack.now.items) (length (first_line u)) (c.loop-at.steps - (at - end) + newlines u) c.class_by-class.result (chain_of c.loop-at.stack.items) u =
-    line_reads (row_in c.args.part.now.reading.now) (blocks_of c.args.part.now.reading.now) c.args.part.now.left c.args.part.now.reading.now.docs (chain_of c.args.stack.now.items) (chain_of c.loop-at.stack.items) u c.class_by-class.result
+    let leads : Leads (row_in c.args.part.now.reading.now) (blocks_of c.args.part.now.reading.now) c.args.part.now.behind_child (chain_of c.args.stack.now.items) (line_len u) (c.loop-at.steps - (at - end)) (chain_of c.loop-at.stack.items) u =
+    subst (λ n. Leads (row_in c.args.part.now.reading.now) (blocks_of c.args.part.now.reading.now) c.args.part.now.behind_child (chain_of c.args.stack.now.items) n (c.loop-at.steps - (at - end)) (chain_of c.loop-at.stack.items) u) whole c.loop-at.invariant.leads in
+    let line_read : ReadsLine (row_in c.args.part.now.reading.now) (blocks_of c.args.part.now.reading.now) c.args.part.now.behind_child c.args.part.now.reading.now.docs_are_comments (chain_of c.args.stack.now.items) (length (first_line u)) (c.loop-at.steps - (at - end) + newlines u) c.class_by-class.result (chain_of c.loop-at.stack.items) u =
+    line_reads (row_in c.args.part.now.reading.now) (blocks_of c.args.part.now.reading.now) c.args.part.now.behind_child c.args.part.now.reading.now.docs_are_comments (chain_of c.args.stack.now.items) (chain_of c.loop-at.stack.items) u c.class_by-class.result
     c.args.part.now.reading.now.sound (blocks_fit c.args.part.now.reading.now).in_line c.loop-at.invariant.closable (omega (arith, len_is, c.requires.some)) (c.loop-at.steps - (at - end)) leads class_is in
     let more_is : stop < length text → stop ≡ end + 1 = λ more. ends_more (length text) end stop part.high c.line_stop-stop.ensures.more c.line_stop-stop.ensures.last more in record {
       some = omega (arith, stop_is, line_read.some);
       within = c.line_stop-stop.ensures.within;
-      part = λ more. subst (λ m. IsPart text c.args.part.now.left m m) (sym (more_is more)) (part_anew text c.args.part.now.left c.args.part.now.start end part none_left (omega (arith, part.high, more_is more, more)));
+      part = λ more. subst (λ m. IsPart text c.args.part.now.behind_child m m) (sym (more_is more)) (part_anew text c.args.part.now.behind_child c.args.part.now.start end part none_left (omega (arith, part.high, more_is more, more)));
       few = few;
       line = stop_is;
-      reads = subst (λ j. ReadsLine (row_in c.args.part.now.reading.now) (blocks_of c.args.part.now.reading.now) c.args.part.now.left c.args.part.now.reading.now.docs (chain_of c.args.stack.now.items) (stop - c.args.part.now.start) j c.class_by-class.result (chain_of c.loop-at.stack.items) u) (sym steps_are)
-          (subst (λ n. ReadsLine (row_in c.args.part.now.reading.now) (blocks_of c.args.part.now.reading.now) c.args.part.now.left c.args.part.now.reading.now.docs (chain_of c.args.stack.now.items) n (c.loop-at.steps - (at - end) + newlines u) c.class_by-class.result (chain_of c.loop-at.stack.items) u) (sym first_is) line_read);
+      reads = subst (λ j. ReadsLine (row_in c.args.part.now.reading.now) (blocks_of c.args.part.now.reading.now) c.args.part.now.behind_child c.args.part.now.reading.now.docs_are_comments (chain_of c.args.stack.now.items) (stop - c.args.part.now.start) j c.class_by-class.result (chain_of c.loop-at.stack.items) u) (sym steps_are)
+          (subst (λ n. ReadsLine (row_in c.args.part.now.reading.now) (blocks_of c.args.part.now.reading.now) c.args.part.now.behind_child c.args.part.now.reading.now.docs_are_comments (chain_of c.args.stack.now.items) n (c.loop-at.steps - (at - end) + newlines u) c.class_by-class.result (chain_of c.loop-at.stack.items) u) (sym first_is) line_read);
     }
 
 pub line_stop-stop-requires : goal.line_stop-stop-requires
@@ -223,7 +223,7 @@ look_ahead-ahead-requires-clause-here c =
     let text : List ℕ = c.args.part.now.reading.now.text.now in
     let here : reached c.loop-at.at c.args.part.now.end ≡ c.loop-at.at = omega (arith, c.loop-at-test.true) in
     record {
-      part = subst (IsPart text c.args.part.now.left c.args.part.now.start) here c.loop-at.invariant.part;
+      part = subst (IsPart text c.args.part.now.behind_child c.args.part.now.start) here c.loop-at.invariant.part;
       line = c.loop-at.invariant.line ∙ ap (λ m. m + line_len (drop m text)) here;
     }
 
@@ -233,7 +233,7 @@ look_ahead-ahead-requires-clause-inside c =
     let end : ℕ = c.args.part.now.end in
     let at : ℕ = c.loop-at.at in
     let here : reached at end ≡ at = omega (arith, c.loop-at-test.true) in
-    let part : IsPart text c.args.part.now.left c.args.part.now.start at = subst (IsPart text c.args.part.now.left c.args.part.now.start) here c.loop-at.invariant.part in
+    let part : IsPart text c.args.part.now.behind_child c.args.part.now.start at = subst (IsPart text c.args.part.now.behind_child c.args.part.now.start) here c.loop-at.invariant.part in
     let line : end ≡ at + line_len (drop at text) = c.loop-at.invariant.line ∙ ap (λ m. m + line_len (drop m text)) here in
     end_behind text at end c.line_stop-stop.result part.high line c.loop-at-test.true c.line_stop-stop.ensures.more c.line_stop-stop.ensures.last
 
@@ -249,7 +249,7 @@ look_ahead-ahead-requires-clause-line c =
     let end : ℕ = c.args.part.now.end in
     let at : ℕ = c.loop-at.at in
     let here : reached at end ≡ at = omega (arith, c.loop-at-test.true) in
-    let part : IsPart text c.args.part.now.left c.args.part.now.start at = subst (IsPart text c.args.part.now.left c.args.part.now.start) here c.loop-at.invariant.part in
+    let part : IsPart text c.args.part.now.behind_child c.args.part.now.start at = subst (IsPart text c.args.part.now.behind_child c.args.part.now.start) here c.loop-at.invariant.part in
     let line : end ≡ at + line_len (drop at text) = c.loop-at.invariant.line ∙ ap (λ m. m + line_len (drop m text)) here in
     end_is text at end c.line_stop-stop.result part.high line c.line_stop-stop.ensures.more c.line_stop-stop.ensures.last
 
@@ -258,7 +258,7 @@ take_bytes-at-requires-clause-here c =
     let text : List ℕ = c.args.part.now.reading.now.text.now in
     let here : reached c.loop-at.at c.args.part.now.end ≡ c.loop-at.at = omega (arith, c.loop-at-test.true) in
     record {
-      part = subst (IsPart text c.args.part.now.left c.args.part.now.start) here c.loop-at.invariant.part;
+      part = subst (IsPart text c.args.part.now.behind_child c.args.part.now.start) here c.loop-at.invariant.part;
       line = c.loop-at.invariant.line ∙ ap (λ m. m + line_len (drop m text)) here;
     }
 
@@ -275,7 +275,7 @@ take_newline-requires-clause-here c =
     let stop_is : c.line_stop-stop.result ≡ start + length (first_line (drop start text)) = end_is text start end c.line_stop-stop.result c.requires.begins.part.high c.requires.begins.line c.line_stop-stop.ensures.more c.line_stop-stop.ensures.last in
     let here : reached at end ≡ at = omega (arith, c.loop-at-test.false, c.if-at-stop.true, stop_is, c.requires.begins.line, first_line-high (drop start text)) in
     record {
-      part = subst (IsPart text c.args.part.now.left start) here c.loop-at.invariant.part;
+      part = subst (IsPart text c.args.part.now.behind_child start) here c.loop-at.invariant.part;
       line = c.loop-at.invariant.line ∙ ap (λ m. m + line_len (drop m text)) here;
     }
 
@@ -295,6 +295,6 @@ overflow_add-at c =
     let more : at < end = omega (arith, c.if-end-at.false) in
     let stop_is : c.line_stop-stop.result ≡ c.args.part.now.start + length (first_line (drop c.args.part.now.start text)) = end_is text c.args.part.now.start end c.line_stop-stop.result c.requires.begins.part.high c.requires.begins.line c.line_stop-stop.ensures.more c.line_stop-stop.ensures.last in
     let line : end ≡ at + line_len (drop at text) = c.take_bytes-at.ensures.line in
-    let goes : Goes (row_in c.args.part.now.reading.now) (blocks_of c.args.part.now.reading.now) c.args.part.now.left (chain_of c.loop-at.stack.items) c.in-On.len 1 (chain_of c.take_choice.new.stack.items) (drop at text) =
-    subst (Steps (row_in c.args.part.now.reading.now) (blocks_of c.args.part.now.reading.now) c.args.part.now.left (chain_of c.loop-at.stack.items) (chain_of c.take_choice.new.stack.items) text at) c.in-On.is c.in_ok-len.ensures.takes in
+    let goes : Goes (row_in c.args.part.now.reading.now) (blocks_of c.args.part.now.reading.now) c.args.part.now.behind_child (chain_of c.loop-at.stack.items) c.in-On.len 1 (chain_of c.take_choice.new.stack.items) (drop at text) =
+    subst (Moves (row_in c.args.part.now.reading.now) (blocks_of c.args.part.now.reading.now) c.args.part.now.behind_child (chain_of c.loop-at.stack.items) (chain_of c.take_choice.new.stack.items) text at) c.in-On.is c.in_ok-len.ensures.takes in
     omega (arith, line, goes.within, stop_is, c.requires.begins.line, first_line-low (drop c.args.part.now.start text), c.line_stop-stop.type_inv)

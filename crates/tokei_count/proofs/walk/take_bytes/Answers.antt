@@ -26,8 +26,8 @@ loop-next-init c =
       counted = omega arith;
       part = c.requires.here.part;
       line = c.requires.here.line;
-      leads = subst (λ n. Leads (row_in c.args.place.now.reading.now) (blocks_of c.args.place.now.reading.now) c.args.place.now.left (chain_of c.args.stack.now) n n (chain_of c.args.stack.now) (drop c.args.place.now.at c.args.place.now.reading.now.text.now)) none
-          (lead_none (row_in c.args.place.now.reading.now) (blocks_of c.args.place.now.reading.now) c.args.place.now.left (chain_of c.args.stack.now) (drop c.args.place.now.at c.args.place.now.reading.now.text.now));
+      leads = subst (λ n. Leads (row_in c.args.place.now.reading.now) (blocks_of c.args.place.now.reading.now) c.args.place.now.behind_child (chain_of c.args.stack.now) n n (chain_of c.args.stack.now) (drop c.args.place.now.at c.args.place.now.reading.now.text.now)) none
+          (lead_none (row_in c.args.place.now.reading.now) (blocks_of c.args.place.now.reading.now) c.args.place.now.behind_child (chain_of c.args.stack.now) (drop c.args.place.now.at c.args.place.now.reading.now.text.now));
     }
 
 pub plain_end-plain-requires : goal.plain_end-plain-requires
@@ -53,7 +53,7 @@ choice_at-byte-requires-clause-plain c = λ _.
     let next : ℕ = c.loop-next.next in
     let last = c.plain_end-plain.ensures.high (omega (arith, c.loop-next.invariant.low, c.loop-next-test.true)) in
     let within : c.args.place.now.end ≤ length text = end_within text c.args.place.now.at c.args.place.now.end c.requires.here.part.high c.requires.here.line in
-    plain_byte_at (row_in c.args.place.now.reading.now) c.args.place.now.reading.now.sound (mode_of c.innermost-mode.result) (blocks_of c.args.place.now.reading.now c.args.place.now.left (drop next text)) text next c.args.place.now.reading.now.matchers.now c.args.place.now.reading.now.matched (omega (arith, c.loop-next-test.true, last, c.min-to.ensures, within))
+    plain_byte_at (row_in c.args.place.now.reading.now) c.args.place.now.reading.now.sound (mode_of c.innermost-mode.result) (blocks_of c.args.place.now.reading.now c.args.place.now.behind_child (drop next text)) text next c.args.place.now.reading.now.matchers.now c.args.place.now.reading.now.matched (omega (arith, c.loop-next-test.true, last, c.min-to.ensures, within))
     (c.plain_end-plain.ensures.plain next c.loop-next.invariant.low c.loop-next-test.true) (λ plain. c.requires.childless (sym c.innermost-mode.ensures ∙ plain) next c.loop-next.invariant.low (omega (arith, c.loop-next-test.true, last, c.min-to.ensures)))
 
 pub loop-next-preserved : goal.loop-next-preserved
@@ -67,16 +67,16 @@ loop-next-preserved c =
     let ahead : next < c.args.child = omega (arith, c.loop-next-test.true, last, c.min-to.ensures) in
     let some : 0 < line_len u = omega (arith, more, c.loop-next.invariant.line) in
     let byte = subst (λ m. IsPlainByte c.args.place.now.reading.now.matchers.now m (get_or text next 0)) c.innermost-mode.ensures (c.plain_end-plain.ensures.plain next c.loop-next.invariant.low c.loop-next-test.true) in
-    let goes : Goes (row_in c.args.place.now.reading.now) (blocks_of c.args.place.now.reading.now) c.args.place.now.left (chain_of c.args.stack.now) 1 1 (chain_of c.args.stack.now) u =
-    goes_byte (row_in c.args.place.now.reading.now) (blocks_of c.args.place.now.reading.now) c.args.place.now.left c.args.place.now.reading.now.sound (blocks_fit c.args.place.now.reading.now).in_line (chain_of c.args.stack.now) u c.requires.closable some
-    (plain_byte_at (row_in c.args.place.now.reading.now) c.args.place.now.reading.now.sound (innermost (chain_of c.args.stack.now)) (blocks_of c.args.place.now.reading.now c.args.place.now.left u) text next c.args.place.now.reading.now.matchers.now c.args.place.now.reading.now.matched (omega (arith, more, within)) byte (λ plain. c.requires.childless plain next c.loop-next.invariant.low ahead)) in
+    let goes : Goes (row_in c.args.place.now.reading.now) (blocks_of c.args.place.now.reading.now) c.args.place.now.behind_child (chain_of c.args.stack.now) 1 1 (chain_of c.args.stack.now) u =
+    goes_byte (row_in c.args.place.now.reading.now) (blocks_of c.args.place.now.reading.now) c.args.place.now.behind_child c.args.place.now.reading.now.sound (blocks_fit c.args.place.now.reading.now).in_line (chain_of c.args.stack.now) u c.requires.closable some
+    (plain_byte_at (row_in c.args.place.now.reading.now) c.args.place.now.reading.now.sound (innermost (chain_of c.args.stack.now)) (blocks_of c.args.place.now.reading.now c.args.place.now.behind_child u) text next c.args.place.now.reading.now.matchers.now c.args.place.now.reading.now.matched (omega (arith, more, within)) byte (λ plain. c.requires.childless plain next c.loop-next.invariant.low ahead)) in
     record {
       low = omega (arith, c.loop-next.invariant.low);
       high = omega (arith, more);
       counted = omega (arith, c.loop-next.invariant.counted, c.loop-next.invariant.low, c.choice_at-byte.ensures.counted);
-      part = part_on text c.args.place.now.left c.args.place.now.start next 1 c.loop-next.invariant.part goes.within;
+      part = part_on text c.args.place.now.behind_child c.args.place.now.start next 1 c.loop-next.invariant.part goes.within;
       line = end_later text next (next + 1) c.args.place.now.end (omega arith) c.loop-next.invariant.line (omega (arith, more));
-      leads = led_on (row_in c.args.place.now.reading.now) (blocks_of c.args.place.now.reading.now) c.args.place.now.left text c.args.place.now.at next (chain_of c.args.stack.now) (chain_of c.args.stack.now) (chain_of c.args.stack.now)
+      leads = led_on (row_in c.args.place.now.reading.now) (blocks_of c.args.place.now.reading.now) c.args.place.now.behind_child text c.args.place.now.at next (chain_of c.args.stack.now) (chain_of c.args.stack.now) (chain_of c.args.stack.now)
           (next + 1 - c.args.place.now.at) (next - c.args.place.now.at) 1 1 (next + 1 - c.args.place.now.at) c.loop-next.invariant.low c.loop-next.invariant.leads goes.leads (omega (arith, c.loop-next.invariant.low)) (omega (arith, c.loop-next.invariant.low));
     }
 

@@ -47,72 +47,72 @@ choice_at-requires-clause-childless c = λ _ unseen plain.
       | else-child-at w ↦ c.requires.childless w.if-child-at.false none
     ]
 
-pub returns-in-Byte-clause-takes : goal.returns-in-Byte-clause-takes
-returns-in-Byte-clause-takes c =
+pub returns-in-TakesByte-clause-takes : goal.returns-in-TakesByte-clause-takes
+returns-in-TakesByte-clause-takes c =
     let u : List ℕ = drop c.args.place.now.at c.args.place.now.reading.now.text.now in
-    let here : at_stack c.args.place.now.reading.now c.args.place.now.left u c.args.stack.now.items ≡ takes_byte = sym (by_mode c.args.place.now.reading.now c.args.place.now.left u c.deref.result.now c.args.stack.now.items c.innermost-mode.result c.deref.ensures.value c.innermost-mode.ensures) ∙ sym c.choice_at.ensures.choice ∙ ap (choice_of (blocks_of c.args.place.now.reading.now c.args.place.now.left u)) c.in-Byte.is in
+    let here : at_stack c.args.place.now.reading.now c.args.place.now.behind_child u c.args.stack.now.items ≡ takes_byte = sym (by_mode c.args.place.now.reading.now c.args.place.now.behind_child u c.deref.result.now c.args.stack.now.items c.innermost-mode.result c.deref.ensures.value c.innermost-mode.ensures) ∙ sym c.choice_at.ensures.choice ∙ ap (choice_of (blocks_of c.args.place.now.reading.now c.args.place.now.behind_child u)) c.in-TakesByte.is in
     let some : 0 < line_len u = omega (arith, c.requires.some, c.requires.here.line) in
     let calm : OpensInLine (blocks_of c.args.place.now.reading.now) = (blocks_fit c.args.place.now.reading.now).in_line in
-    goes_byte (row_in c.args.place.now.reading.now) (blocks_of c.args.place.now.reading.now) c.args.place.now.left c.args.place.now.reading.now.sound calm (chain_of c.args.stack.now.items) u c.requires.closable some here
+    goes_byte (row_in c.args.place.now.reading.now) (blocks_of c.args.place.now.reading.now) c.args.place.now.behind_child c.args.place.now.reading.now.sound calm (chain_of c.args.stack.now.items) u c.requires.closable some here
 
-pub returns-in-Escape-clause-takes : goal.returns-in-Escape-clause-takes
-returns-in-Escape-clause-takes c =
+pub returns-in-Escapes-clause-takes : goal.returns-in-Escapes-clause-takes
+returns-in-Escapes-clause-takes c =
     let u : List ℕ = drop c.args.place.now.at c.args.place.now.reading.now.text.now in
-    let here : at_stack c.args.place.now.reading.now c.args.place.now.left u c.args.stack.now.items ≡ escapes = sym (by_mode c.args.place.now.reading.now c.args.place.now.left u c.deref.result.now c.args.stack.now.items c.innermost-mode.result c.deref.ensures.value c.innermost-mode.ensures) ∙ sym c.choice_at.ensures.choice ∙ ap (choice_of (blocks_of c.args.place.now.reading.now c.args.place.now.left u)) c.in-Escape.is in
+    let here : at_stack c.args.place.now.reading.now c.args.place.now.behind_child u c.args.stack.now.items ≡ escapes = sym (by_mode c.args.place.now.reading.now c.args.place.now.behind_child u c.deref.result.now c.args.stack.now.items c.innermost-mode.result c.deref.ensures.value c.innermost-mode.ensures) ∙ sym c.choice_at.ensures.choice ∙ ap (choice_of (blocks_of c.args.place.now.reading.now c.args.place.now.behind_child u)) c.in-Escapes.is in
     let some : 0 < line_len u = omega (arith, c.requires.some, c.requires.here.line) in
     let calm : OpensInLine (blocks_of c.args.place.now.reading.now) = (blocks_fit c.args.place.now.reading.now).in_line in
-    goes_escape (row_in c.args.place.now.reading.now) (blocks_of c.args.place.now.reading.now) c.args.place.now.left c.args.place.now.reading.now.sound calm (chain_of c.args.stack.now.items) u c.requires.closable some here
+    goes_escape (row_in c.args.place.now.reading.now) (blocks_of c.args.place.now.reading.now) c.args.place.now.behind_child c.args.place.now.reading.now.sound calm (chain_of c.args.stack.now.items) u c.requires.closable some here
 
-pub returns-in-LineComment-clause-takes : goal.returns-in-LineComment-clause-takes
-returns-in-LineComment-clause-takes c =
+pub returns-in-BeginsLineComment-clause-takes : goal.returns-in-BeginsLineComment-clause-takes
+returns-in-BeginsLineComment-clause-takes c =
     let u : List ℕ = drop c.args.place.now.at c.args.place.now.reading.now.text.now in
-    let here : at_stack c.args.place.now.reading.now c.args.place.now.left u c.args.stack.now.items ≡ begins_line_comment = sym (by_mode c.args.place.now.reading.now c.args.place.now.left u c.deref.result.now c.args.stack.now.items c.innermost-mode.result c.deref.ensures.value c.innermost-mode.ensures) ∙ sym c.choice_at.ensures.choice ∙ ap (choice_of (blocks_of c.args.place.now.reading.now c.args.place.now.left u)) c.in-LineComment.is in
+    let here : at_stack c.args.place.now.reading.now c.args.place.now.behind_child u c.args.stack.now.items ≡ begins_line_comment = sym (by_mode c.args.place.now.reading.now c.args.place.now.behind_child u c.deref.result.now c.args.stack.now.items c.innermost-mode.result c.deref.ensures.value c.innermost-mode.ensures) ∙ sym c.choice_at.ensures.choice ∙ ap (choice_of (blocks_of c.args.place.now.reading.now c.args.place.now.behind_child u)) c.in-BeginsLineComment.is in
     let some : 0 < line_len u = omega (arith, c.requires.some, c.requires.here.line) in
     let calm : OpensInLine (blocks_of c.args.place.now.reading.now) = (blocks_fit c.args.place.now.reading.now).in_line in
-    goes_rest (row_in c.args.place.now.reading.now) (blocks_of c.args.place.now.reading.now) c.args.place.now.left c.args.place.now.reading.now.sound calm (chain_of c.args.stack.now.items) u c.requires.closable some here
+    goes_rest (row_in c.args.place.now.reading.now) (blocks_of c.args.place.now.reading.now) c.args.place.now.behind_child c.args.place.now.reading.now.sound calm (chain_of c.args.stack.now.items) u c.requires.closable some here
 
-pub returns-in-PassedOpener-clause-takes : goal.returns-in-PassedOpener-clause-takes
-returns-in-PassedOpener-clause-takes c =
+pub returns-in-PassesOver-clause-takes : goal.returns-in-PassesOver-clause-takes
+returns-in-PassesOver-clause-takes c =
     let u : List ℕ = drop c.args.place.now.at c.args.place.now.reading.now.text.now in
-    let here : at_stack c.args.place.now.reading.now c.args.place.now.left u c.args.stack.now.items ≡ passes_over (pair_of c.in-PassedOpener.pair.now) = sym (by_mode c.args.place.now.reading.now c.args.place.now.left u c.deref.result.now c.args.stack.now.items c.innermost-mode.result c.deref.ensures.value c.innermost-mode.ensures) ∙ sym c.choice_at.ensures.choice ∙ ap (choice_of (blocks_of c.args.place.now.reading.now c.args.place.now.left u)) c.in-PassedOpener.is in
+    let here : at_stack c.args.place.now.reading.now c.args.place.now.behind_child u c.args.stack.now.items ≡ passes_over (pair_of c.in-PassesOver.pair.now) = sym (by_mode c.args.place.now.reading.now c.args.place.now.behind_child u c.deref.result.now c.args.stack.now.items c.innermost-mode.result c.deref.ensures.value c.innermost-mode.ensures) ∙ sym c.choice_at.ensures.choice ∙ ap (choice_of (blocks_of c.args.place.now.reading.now c.args.place.now.behind_child u)) c.in-PassesOver.is in
     let some : 0 < line_len u = omega (arith, c.requires.some, c.requires.here.line) in
     let calm : OpensInLine (blocks_of c.args.place.now.reading.now) = (blocks_fit c.args.place.now.reading.now).in_line in
-    rw c.as_bytes-opener-in-PassedOpener.ensures.value (goes_pass (row_in c.args.place.now.reading.now) (blocks_of c.args.place.now.reading.now) c.args.place.now.left c.args.place.now.reading.now.sound calm (chain_of c.args.stack.now.items) u c.requires.closable some (pair_of c.in-PassedOpener.pair.now) here)
+    rw c.as_bytes-opener-in-PassesOver.ensures.value (goes_pass (row_in c.args.place.now.reading.now) (blocks_of c.args.place.now.reading.now) c.args.place.now.behind_child c.args.place.now.reading.now.sound calm (chain_of c.args.stack.now.items) u c.requires.closable some (pair_of c.in-PassesOver.pair.now) here)
 
-pub returns-in-Child-clause-takes : goal.returns-in-Child-clause-takes
-returns-in-Child-clause-takes c =
+pub returns-in-ChildOpens-clause-takes : goal.returns-in-ChildOpens-clause-takes
+returns-in-ChildOpens-clause-takes c =
     let u : List ℕ = drop c.args.place.now.at c.args.place.now.reading.now.text.now in
-    let here : at_stack c.args.place.now.reading.now c.args.place.now.left u c.args.stack.now.items ≡ or_else (blocks_of c.args.place.now.reading.now c.args.place.now.left u) child_opens takes_byte = sym (by_mode c.args.place.now.reading.now c.args.place.now.left u c.deref.result.now c.args.stack.now.items c.innermost-mode.result c.deref.ensures.value c.innermost-mode.ensures) ∙ sym c.choice_at.ensures.choice ∙ ap (choice_of (blocks_of c.args.place.now.reading.now c.args.place.now.left u)) c.in-Child.is in
-    let seen : c.if-child-at.opens ≡ true = c.choice_at.ensures.child c.in-Child.is in
+    let here : at_stack c.args.place.now.reading.now c.args.place.now.behind_child u c.args.stack.now.items ≡ or_else (blocks_of c.args.place.now.reading.now c.args.place.now.behind_child u) child_opens takes_byte = sym (by_mode c.args.place.now.reading.now c.args.place.now.behind_child u c.deref.result.now c.args.stack.now.items c.innermost-mode.result c.deref.ensures.value c.innermost-mode.ensures) ∙ sym c.choice_at.ensures.choice ∙ ap (choice_of (blocks_of c.args.place.now.reading.now c.args.place.now.behind_child u)) c.in-ChildOpens.is in
+    let seen : c.if-child-at.opens ≡ true = c.choice_at.ensures.child c.in-ChildOpens.is in
     let some : is_some (block_here c.args.place.now) ≡ true = elim c.if-child-at.branch [
       | then-child-at w ↦ w.opens_at-opens.ensures.opens (sym w.opens-is ∙ seen)
       | else-child-at w ↦ let off : nat_le c.args.child c.args.place.now.at ≡ false = grind (arith, nat_tests, w.if-child-at.false) in
           absurd (not_both (sym off ∙ sym w.opens-is ∙ seen))
     ] in
-    child_opens-plain (row_in c.args.place.now.reading.now) (blocks_of c.args.place.now.reading.now) c.args.place.now.left c.args.stack.now.items u some here
+    child_opens-plain (row_in c.args.place.now.reading.now) (blocks_of c.args.place.now.reading.now) c.args.place.now.behind_child c.args.stack.now.items u some here
 
-pub returns-in_ok-push-in-Opener-clause-takes : goal.returns-in_ok-push-in-Opener-clause-takes
-returns-in_ok-push-in-Opener-clause-takes c =
+pub returns-in_ok-push-in-Opens-clause-takes : goal.returns-in_ok-push-in-Opens-clause-takes
+returns-in_ok-push-in-Opens-clause-takes c =
     let u : List ℕ = drop c.args.place.now.at c.args.place.now.reading.now.text.now in
-    let here : at_stack c.args.place.now.reading.now c.args.place.now.left u c.args.stack.now.items ≡ opens c.in-Opener.kind (pair_of c.in-Opener.pair.now) = sym (by_mode c.args.place.now.reading.now c.args.place.now.left u c.deref.result.now c.args.stack.now.items c.innermost-mode.result c.deref.ensures.value c.innermost-mode.ensures) ∙ sym c.choice_at.ensures.choice ∙ ap (choice_of (blocks_of c.args.place.now.reading.now c.args.place.now.left u)) c.in-Opener.is in
+    let here : at_stack c.args.place.now.reading.now c.args.place.now.behind_child u c.args.stack.now.items ≡ opens c.in-Opens.kind (pair_of c.in-Opens.pair.now) = sym (by_mode c.args.place.now.reading.now c.args.place.now.behind_child u c.deref.result.now c.args.stack.now.items c.innermost-mode.result c.deref.ensures.value c.innermost-mode.ensures) ∙ sym c.choice_at.ensures.choice ∙ ap (choice_of (blocks_of c.args.place.now.reading.now c.args.place.now.behind_child u)) c.in-Opens.is in
     let some : 0 < line_len u = omega (arith, c.requires.some, c.requires.here.line) in
     let calm : OpensInLine (blocks_of c.args.place.now.reading.now) = (blocks_fit c.args.place.now.reading.now).in_line in
-    rw c.as_bytes-opener.ensures.value (opener_pushes (row_in c.args.place.now.reading.now) (blocks_of c.args.place.now.reading.now) c.args.place.now.left c.args.place.now.reading.now.sound calm c.args.stack.now.items c.push.new.self.items (record { kind = c.in-Opener.kind; closer = c.as_bytes-closer.result }) c.in-Opener.kind (pair_of c.in-Opener.pair.now) u
-    c.in_ok-push-in-Opener.ensures.items (ap (λ w. record { kind = c.in-Opener.kind; closer = w }) c.as_bytes-closer.ensures.value) c.requires.closable some here)
+    rw c.as_bytes-opener.ensures.value (opener_pushes (row_in c.args.place.now.reading.now) (blocks_of c.args.place.now.reading.now) c.args.place.now.behind_child c.args.place.now.reading.now.sound calm c.args.stack.now.items c.push.new.self.items (record { kind = c.in-Opens.kind; closer = c.as_bytes-closer.result }) c.in-Opens.kind (pair_of c.in-Opens.pair.now) u
+    c.in_ok-push-in-Opens.ensures.items (ap (λ w. record { kind = c.in-Opens.kind; closer = w }) c.as_bytes-closer.ensures.value) c.requires.closable some here)
 
 pub returns-in-Some-clause-takes : goal.returns-in-Some-clause-takes
 returns-in-Some-clause-takes c =
     let u : List ℕ = drop c.args.place.now.at c.args.place.now.reading.now.text.now in
-    let here : at_stack c.args.place.now.reading.now c.args.place.now.left u c.args.stack.now.items ≡ closes = sym (by_mode c.args.place.now.reading.now c.args.place.now.left u c.deref.result.now c.args.stack.now.items c.innermost-mode.result c.deref.ensures.value c.innermost-mode.ensures) ∙ sym c.choice_at.ensures.choice ∙ ap (choice_of (blocks_of c.args.place.now.reading.now c.args.place.now.left u)) c.in-Closer.is in
+    let here : at_stack c.args.place.now.reading.now c.args.place.now.behind_child u c.args.stack.now.items ≡ closes = sym (by_mode c.args.place.now.reading.now c.args.place.now.behind_child u c.deref.result.now c.args.stack.now.items c.innermost-mode.result c.deref.ensures.value c.innermost-mode.ensures) ∙ sym c.choice_at.ensures.choice ∙ ap (choice_of (blocks_of c.args.place.now.reading.now c.args.place.now.behind_child u)) c.in-Closes.is in
     let some : 0 < line_len u = omega (arith, c.requires.some, c.requires.here.line) in
     let calm : OpensInLine (blocks_of c.args.place.now.reading.now) = (blocks_fit c.args.place.now.reading.now).in_line in
-    closer_pops (row_in c.args.place.now.reading.now) (blocks_of c.args.place.now.reading.now) c.args.place.now.left c.args.place.now.reading.now.sound calm c.args.stack.now.items c.pop.new.self.items c.in-Some.enclosure u c.in-Some.ensures.items c.requires.closable some here
+    closer_pops (row_in c.args.place.now.reading.now) (blocks_of c.args.place.now.reading.now) c.args.place.now.behind_child c.args.place.now.reading.now.sound calm c.args.stack.now.items c.pop.new.self.items c.in-Some.enclosure u c.in-Some.ensures.items c.requires.closable some here
 
 pub unreachable-requires : goal.unreachable-requires
 unreachable-requires c =
     let u : List ℕ = drop c.args.place.now.at c.args.place.now.reading.now.text.now in
-    let here : at_stack c.args.place.now.reading.now c.args.place.now.left u c.args.stack.now.items ≡ closes = sym (by_mode c.args.place.now.reading.now c.args.place.now.left u c.deref.result.now c.args.stack.now.items c.innermost-mode.result c.deref.ensures.value c.innermost-mode.ensures) ∙ sym c.choice_at.ensures.choice ∙ ap (choice_of (blocks_of c.args.place.now.reading.now c.args.place.now.left u)) c.in-Closer.is in
+    let here : at_stack c.args.place.now.reading.now c.args.place.now.behind_child u c.args.stack.now.items ≡ closes = sym (by_mode c.args.place.now.reading.now c.args.place.now.behind_child u c.deref.result.now c.args.stack.now.items c.innermost-mode.result c.deref.ensures.value c.innermost-mode.ensures) ∙ sym c.choice_at.ensures.choice ∙ ap (choice_of (blocks_of c.args.place.now.reading.now c.args.place.now.behind_child u)) c.in-Closes.is in
     let some : 0 < line_len u = omega (arith, c.requires.some, c.requires.here.line) in
     let calm : OpensInLine (blocks_of c.args.place.now.reading.now) = (blocks_fit c.args.place.now.reading.now).in_line in
     let empty : c.args.stack.now.items ≡ [] = c.in-None.ensures.items ∙ append-nil _ ∙ c.in-None.ensures.rest ∙ ap (λ n. take (n - 1) c.args.stack.now.items) c.in-None.ensures.cases.0 in
-    no_pop (row_in c.args.place.now.reading.now) (blocks_of c.args.place.now.reading.now) c.args.place.now.left c.args.place.now.reading.now.sound calm c.args.stack.now.items u empty here
+    no_pop (row_in c.args.place.now.reading.now) (blocks_of c.args.place.now.reading.now) c.args.place.now.behind_child c.args.place.now.reading.now.sound calm c.args.stack.now.items u empty here

@@ -21,8 +21,8 @@ newline_here p here last some =
 childless_here : (p : Place) → IsAt p → p.at ≡ p.end → p.at < length (text_of p) → block_here p ≡ None
 childless_here p here last some =
     let u : List ℕ = drop p.at (text_of p) in
-    ap (blocks_of p.reading.now p.left) (newline_here p here last some)
-    ∙ (blocks_fit p.reading.now).in_line.none p.left (drop 1 u)
+    ap (blocks_of p.reading.now p.behind_child) (newline_here p here last some)
+    ∙ (blocks_fit p.reading.now).in_line.none p.behind_child (drop 1 u)
 
 pub choice_at-newline-requires-clause-childless : goal.choice_at-newline-requires-clause-childless
 choice_at-newline-requires-clause-childless c = λ _ _ _.

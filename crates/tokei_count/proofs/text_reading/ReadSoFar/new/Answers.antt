@@ -20,7 +20,7 @@ returns-clause-under_way c =
     let r : Reading = c.args.reading.now in
     let kids : Chain → List Block = λ (k : Chain). children_left (row_in r) (blocks_of r) (length r.text.now) k r.text.now in
     let counts : Chain → Counts = λ (k : Chain).
-    plus (counts_left (row_in r) (blocks_of r) (length r.text.now) r.docs k r.text.now) (shares (kids k)) in
+    plus (counts_left (row_in r) (blocks_of r) (length r.text.now) r.docs_are_comments k r.text.now) (shares (kids k)) in
     let none_open : chain_of c.new-3.result.items ≡ [] = ap chain_of c.new-3.ensures.items in
     let none_yet : 0 + sum_over (steps_inside r) (all_children r) ≡ sum_over (steps_inside r) (all_children r) = omega arith in
     record {
