@@ -246,8 +246,8 @@ fn count_lines(reading: &Reading, so_far: &mut ReadSoFar, next: usize) -> Result
     Ok(())
 }
 
-/// Counts the lines before the next part that is walked, and answers a place up to which that part has no newline. `next`
-/// is where an earlier search for openers came to, and becomes where this one does.
+/// Counts the lines before the next part that is walked, and answers a place up to which that part has no newline.
+/// `next` is where an earlier search for openers came to, and becomes where this one does.
 fn skip_lines(
     reading: &Reading,
     so_far: &mut ReadSoFar,

@@ -17,7 +17,7 @@ const HEAD: u64 = 128;
 const KEPT: usize = 65_536;
 
 /// The buffer that is kept between files, which the first call makes.
-pub(crate) fn kept(buffer: &mut Vec<u8>) -> Result<&mut [u8], AllocError> {
+fn kept(buffer: &mut Vec<u8>) -> Result<&mut [u8], AllocError> {
     if buffer.len() < KEPT {
         buffer.resize(KEPT, 0)?;
     }

@@ -15,7 +15,7 @@ use tokei_folders::{Above, Fault, Folders, Kind, Listing};
 pub struct RealFolders<R> {
     rt: R,
     memory_faults: u64,
-    /// By which listed files and the names of folders are read, one after another; made when it is first asked for.
+    /// By which listed files are read, one after another; made for the first of them.
     buffer: Vec<u8>,
 }
 
@@ -63,7 +63,7 @@ impl<R: Files + AllocGlobal + Clone + Drop> Folders for RealFolders<R> {
     }
 
     fn list(&mut self, place: &str) -> Result<Listing, Fault> {
-        let found = listing(&self.rt, place, &mut self.buffer);
+        let found = listing(&self.rt, place);
         self.answered(found)
     }
 
