@@ -224,7 +224,7 @@ fn count_lines(reading: &Reading, so_far: &mut ReadSoFar, next: usize) -> Result
     ensures clear { OnOk result (next ≤ so_far.new.start + line_len (drop so_far.new.start reading.now.text.now)) }
     ensures more { OnOk result (so_far.new.start < length reading.now.text.now
         → next < so_far.new.start + length (line_from reading.now so_far.new.start)) }
-    ensures stack { so_far.new.stack ≡ so_far.old.stack }
+    ensures plain { chain_of so_far.new.stack.items ≡ [] }
     ensures quiet { reading.now.skips ≡ true
         → first_opener (openers (row_in reading.now)) reading.now.text.now ≡ None → IsOk result }
     ensures overflow { IsErrOf result CountError.Overflow → ¬ Fits (reading_of reading.now) }
