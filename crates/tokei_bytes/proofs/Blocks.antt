@@ -135,7 +135,7 @@ module _ (p : ℕ → Bool) (w : ℕ) (t : List ℕ) (i m : ℕ) (most : w ≤ 6
   small : m < 2 ^ 64
   small = omega (arith, mask_l-lt (map p (chunk i w t)), lanes, marked, pow_mono most, ap (λ n. 2 ^ n) lanes)
 
-  in_block : m ≢ 0 → count_trailing_zeros 64 m < w
+  pub in_block : m ≢ 0 → count_trailing_zeros 64 m < w
   in_block some =
       let set = bit_at-trailing_zeros w64 m (omega arith) small in
       elim (cases_lt (count_trailing_zeros 64 m) w) [

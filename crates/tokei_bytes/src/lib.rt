@@ -8,4 +8,6 @@ mod byte_set;
 mod one_of;
 
 pub use byte_set::ByteSet;
-pub use one_of::{first_not_of_four, first_of_four};
+pub use one_of::{
+    BLOCK, SHORT_BLOCK, first_in_block, first_not_of_four, first_of_four, first_other_in_block,
+};

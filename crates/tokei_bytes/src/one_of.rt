@@ -7,10 +7,10 @@ ghost use Rattle.tokei_bytes.specs.OneOf.{is_none_of, is_one_of};
 use std::simd::prelude::*;
 
 /// How many places are tested at once for some bytes.
-const BLOCK: usize = 32;
+pub const BLOCK: usize = 32;
 
 /// The same for other bytes than some, which mostly stand close by.
-const SHORT_BLOCK: usize = 16;
+pub const SHORT_BLOCK: usize = 16;
 
 /// Bit k is set where lane k is one of the four.
 #[inline(always)]
@@ -20,6 +20,20 @@ fn marks(bytes: [u8; 4], lanes: u8x32) -> u64
     let front = lanes.simd_eq(u8x32::splat(bytes[0])) | lanes.simd_eq(u8x32::splat(bytes[1]));
     let back = lanes.simd_eq(u8x32::splat(bytes[2])) | lanes.simd_eq(u8x32::splat(bytes[3]));
     (front | back).to_bitmask()
+}
+
+/// The first place of the `BLOCK` places of the text from `from` on whose byte is one of the four, or the place behind
+/// them where there is none. A place counts the bytes of the text before it.
+#[inline(always)]
+pub fn first_in_block(bytes: [u8; 4], text: &[u8], from: usize) -> usize
+    requires { from + BLOCK ≤ length text.now }
+    ensures { IsFirstPlace (is_one_of bytes) text.now from (from + BLOCK) result }
+{
+    let marked = marks(bytes, u8x32::from_slice(&text[from..]));
+    if marked == 0 {
+        return from + BLOCK;
+    }
+    from + marked.trailing_zeros() as usize
 }
 
 /// Whether the byte is one of the four.
@@ -59,9 +73,9 @@ pub fn first_of_four(bytes: [u8; 4], text: &[u8], from: usize, to: usize) -> usi
             return first_by_one(bytes, text, at, to);
         }
         // The block may go on past `to`, where a hit is none.
-        let marked = marks(bytes, u8x32::from_slice(&text[at..]));
-        if marked != 0 {
-            return to.min(at + marked.trailing_zeros() as usize);
+        let place = first_in_block(bytes, text, at);
+        if place < at + BLOCK {
+            return to.min(place);
         }
         at += BLOCK;
     }
@@ -76,6 +90,20 @@ fn marks_of_others(bytes: [u8; 4], lanes: u8x16) -> u64
     let front = lanes.simd_ne(u8x16::splat(bytes[0])) & lanes.simd_ne(u8x16::splat(bytes[1]));
     let back = lanes.simd_ne(u8x16::splat(bytes[2])) & lanes.simd_ne(u8x16::splat(bytes[3]));
     (front & back).to_bitmask()
+}
+
+/// The first place of the `SHORT_BLOCK` places of the text from `from` on whose byte is none of the four, or the place
+/// behind them where each is one. A place counts the bytes of the text before it.
+#[inline(always)]
+pub fn first_other_in_block(bytes: [u8; 4], text: &[u8], from: usize) -> usize
+    requires { from + SHORT_BLOCK ≤ length text.now }
+    ensures { IsFirstPlace (is_none_of bytes) text.now from (from + SHORT_BLOCK) result }
+{
+    let others = marks_of_others(bytes, u8x16::from_slice(&text[from..]));
+    if others == 0 {
+        return from + SHORT_BLOCK;
+    }
+    from + others.trailing_zeros() as usize
 }
 
 /// The search for another byte one place at a time, for the end of a text.
@@ -106,9 +134,9 @@ pub fn first_not_of_four(bytes: [u8; 4], text: &[u8], from: usize, to: usize) ->
             return first_other_by_one(bytes, text, at, to);
         }
         // The block may go on past `to`, where nothing is found.
-        let others = marks_of_others(bytes, u8x16::from_slice(&text[at..]));
-        if others != 0 {
-            return to.min(at + others.trailing_zeros() as usize);
+        let other = first_other_in_block(bytes, text, at);
+        if other < at + SHORT_BLOCK {
+            return to.min(other);
         }
         at += SHORT_BLOCK;
     }
