@@ -2,9 +2,9 @@
 use Rattle.std.proofs.Common.{◌≡◌, List, [], ◌∷◌, map, refl, sym, ◌∙◌, ap}
 use Rattle.tokei_notebook.specs.Cells.{Cell}
 use Rattle.tokei_stats.specs.Ordered.{AreOrdered, IsOrdered}
-use Rattle.tokei_stats.specs.Statistics.{Counts, Statistics, Blobs, no_lines, plus, empty, at, put, joined, sum}
+use Rattle.tokei_stats.specs.Statistics.{Counts, Statistics, Blobs, no_lines, plus, at, put, joined, sum}
 use Rattle.tokei_stats.specs.Statistics.Statistics.{node}
-use Rattle.tokei_stats.specs.Statistics.Blobs.{none, blob}
+use Rattle.tokei_stats.specs.Statistics.Blobs.{none}
 use Rattle.tokei_stats.proofs.SumLaws.{associates, neutral_left, plus_associates}
 use Rattle.tokei_stats.proofs.SumsOrdered.{sum_ordered}
 use Rattle.tokei_count.specs.Gathered.{gathered, shares}

@@ -1,6 +1,6 @@
 //! What a part counts as.
-ghost use Rattle.std.specs.Prelude.{◌≡◌, ◌-◌, ◌≤◌, Some, [], drop, length, take};
-ghost use Rattle.tokei_table.specs.Bytes.{trim, trim_start};
+ghost use Rattle.std.specs.Prelude.{◌≡◌, ℕ, ◌-◌, ◌<◌, ◌≤◌, true, None, Some, [], drop, length, slice_index, take};
+ghost use Rattle.tokei_table.specs.Bytes.{is_blank, trim, trim_start};
 ghost use Rattle.tokei_table.specs.RowOf.{pairs_of, row_of};
 ghost use Rattle.tokei_count.specs.Class.{encloses, opens_with, class_of, head_of};
 ghost use Rattle.tokei_count.specs.Class.{in_comment, in_string, in_doc_string, ends_opened};
@@ -143,20 +143,26 @@ pub fn class_of(
 
 /// What the part of the text from `start` to before `stop` is by its front alone, where it begins plain: blank where
 /// all its bytes are, and code where neither a comment nor an opener can begin it or stand behind its front blanks,
-/// unless the language or the mode at its end says otherwise.
+/// unless the language or the mode at its end says otherwise. Only blanks stand before `solid`.
 #[inline(always)]
 fn class_by_front(
     matchers: &LanguageMatchers,
     text: &[u8],
     start: usize,
+    solid: usize,
     stop: usize,
 ) -> Option<Class>
     requires order { start ≤ stop }
     requires within { stop ≤ length text.now }
+    requires low { start ≤ solid }
+    requires solid { (p : ℕ) → start ≤ p → p < solid → is_blank (slice_index text.now p) ≡ true }
     ensures blank { result ≡ Some Class.Blank → trim_start (take (stop - start) (drop start text.now)) ≡ [] }
     ensures code { result ≡ Some Class.Code → HasCodeHead matchers.now (take (stop - start) (drop start text.now)) }
 {
-    let head = blanks_end(text, start, stop);
+    if stop <= solid {
+        return Some(Class::Blank);
+    }
+    let head = blanks_end(text, solid, stop);
     if head == stop {
         return Some(Class::Blank);
     }
@@ -186,7 +192,7 @@ pub(crate) fn class_by(
 {
     let syntax = reading.syntax;
     if begun.is_none() {
-        match class_by_front(reading.matchers, reading.text, start, stop) {
+        match class_by_front(reading.matchers, reading.text, start, start, stop) {
             Some(Class::Blank) => return Class::Blank,
             Some(Class::Code) if !syntax.literate && !in_doc_string(ended) => return Class::Code,
             _ => {}
@@ -201,4 +207,28 @@ pub(crate) fn class_by(
         &reading.text[start..stop],
         ended,
     )
+}
+
+/// The class of the line of the reading's text from `start` to before `stop`, which no item encloses at either end, as
+/// `class_of` has it. Only blanks stand before `solid`.
+#[inline(always)]
+pub(crate) fn class_of_plain(reading: &Reading, start: usize, solid: usize, stop: usize) -> Class
+    requires order { start ≤ stop }
+    requires within { stop ≤ length reading.now.text.now }
+    requires low { start ≤ solid }
+    requires solid { (p : ℕ) → start ≤ p → p < solid → is_blank (slice_index reading.now.text.now p) ≡ true }
+    ensures { result ≡ class_of (row_in reading.now) reading.now.docs_are_comments (record {
+      begun = None;
+      bytes = take (stop - start) (drop start reading.now.text.now);
+      ended = None;
+    }) }
+{
+    let syntax = reading.syntax;
+    match class_by_front(reading.matchers, reading.text, start, solid, stop) {
+        Some(Class::Blank) => return Class::Blank,
+        Some(Class::Code) if !syntax.literate => return Class::Code,
+        _ => {}
+    }
+    let bytes = &reading.text[start..stop];
+    class_of(syntax, reading.docs_are_comments, None, bytes, None)
 }

@@ -1,9 +1,10 @@
 //! Where lines end.
-ghost use Rattle.std.specs.Prelude.{◌≡◌, ◌+◌, ◌<◌, ◌≤◌, drop, length};
+ghost use Rattle.std.specs.Prelude.{◌≡◌, ℕ, ◌+◌, ◌<◌, ◌≤◌, true, drop, length, slice_index};
+ghost use Rattle.tokei_table.specs.Bytes.{is_blank};
 ghost use Rattle.tokei_count.specs.Lines.{line_len};
 
 use memchr::memchr;
-use tokei_bytes::first_of_four;
+use tokei_bytes::{BLOCK, first_in_block, first_of_four, first_other_in_block};
 
 /// How many bytes are searched for a newline before a far search: few lines have more.
 const NEAR: usize = 128;
@@ -19,6 +20,24 @@ fn far_line_len(text: &[u8]) -> usize
     }
 }
 
+/// How far newlines are mostly found from the place `at` on, and no further than `to`: nothing near, where no block of the
+/// text begins there.
+#[inline(always)]
+fn near_end(text: &[u8], at: usize, to: usize) -> usize
+    requires order { at ≤ to }
+    requires within { to ≤ length text.now }
+    ensures low { at ≤ result }
+    ensures high { result ≤ to }
+{
+    if text.len() - at < BLOCK {
+        at
+    } else if to - at < NEAR {
+        to
+    } else {
+        at + NEAR
+    }
+}
+
 /// The first newline of the text from the place `at` on, or `to` where none stands before that. It is mostly near.
 #[inline(always)]
 pub(crate) fn newline_before(text: &[u8], at: usize, to: usize) -> usize
@@ -28,12 +47,49 @@ pub(crate) fn newline_before(text: &[u8], at: usize, to: usize) -> usize
     ensures line { result ≤ at + line_len (drop at text.now) }
     ensures found { result < to → result ≡ at + line_len (drop at text.now) }
 {
-    let near = if to - at < NEAR { to } else { at + NEAR };
+    let near = near_end(text, at, to);
     let end = first_of_four([b'\n'; 4], text, at, near);
     if end < near || near == to {
         return end;
     }
     near + far_line_len(&text[near..to])
+}
+
+/// What one look at the front of a line shows.
+#[derive(Clone, Copy)]
+pub(crate) struct LineFront {
+    /// The line's newline, or where it is sought no further.
+    pub newline: usize,
+    /// Only blanks stand before that place: mostly the first byte that is none, and where the look began if no block of
+    /// the text begins there.
+    pub solid: usize,
+}
+
+/// The front of the line of the place `at`, whose newline is sought up to `to`.
+#[inline(always)]
+pub(crate) fn line_front(text: &[u8], at: usize, to: usize) -> LineFront
+    requires order { at ≤ to }
+    requires within { to ≤ length text.now }
+    ensures high { result.newline ≤ to }
+    ensures line { result.newline ≤ at + line_len (drop at text.now) }
+    ensures found { result.newline < to → result.newline ≡ at + line_len (drop at text.now) }
+    ensures low { at ≤ result.solid }
+    ensures blank { (p : ℕ) → at ≤ p → p < result.solid → is_blank (slice_index text.now p) ≡ true }
+{
+    if text.len() - at < BLOCK {
+        let newline = newline_before(text, at, to);
+        return LineFront { newline, solid: at };
+    }
+    let near = first_in_block([b'\n'; 4], text, at);
+    let solid = first_other_in_block(*b" \t\n\r", text, at);
+    let newline = if near < at + BLOCK {
+        to.min(near)
+    } else if to <= at + BLOCK {
+        to
+    } else {
+        newline_before(text, at + BLOCK, to)
+    };
+    LineFront { newline, solid }
 }
 
 /// How many bytes stand before the first newline, or in all.

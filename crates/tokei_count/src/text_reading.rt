@@ -24,10 +24,10 @@ ghost use Rattle.tokei_count.specs.UnderWay.{IsReadBy, IsUnderWay, reading_insid
 ghost use Rattle.tokei_stats.specs.Seen.{stats_of, sums_of};
 ghost use Rattle.tokei_stats.specs.Statistics.{lines_of, plus};
 
-use crate::class::{Class, class_by};
+use crate::class::{Class, class_of_plain};
 use crate::glance::next_opener;
 use crate::items::Enclosure;
-use crate::line_ends::{line_end, line_len, line_stop, newline_before};
+use crate::line_ends::{line_end, line_front, line_len, line_stop};
 use crate::openings::{Block, block_at};
 use crate::place::Place;
 use crate::reader::Reader;
@@ -233,12 +233,12 @@ fn count_lines(reading: &Reading, so_far: &mut ReadSoFar, next: usize) -> Result
     let mut lines = Sums::new();
     let mut at = so_far.start;
     while at < next {
-        let newline = newline_before(text, at, next);
-        let stop = line_stop(text, newline);
+        let front = line_front(text, at, next);
+        let stop = line_stop(text, front.newline);
         if next < stop {
             break;
         }
-        lines = one_more(lines, class_by(reading, None, at, stop, None));
+        lines = one_more(lines, class_of_plain(reading, at, front.solid, stop));
         at = stop;
     }
     so_far.own = so_far.own.plus(lines)?;

@@ -60,6 +60,9 @@ pub fn blanks_end(text: &[u8], from: usize, to: usize) -> usize
     ensures blank { (p : ℕ) → from ≤ p → p < result → is_blank (slice_index text.now p) ≡ true }
     ensures found { result < to → is_blank (slice_index text.now result) ≡ false }
 {
+    if from < to && !is_whitespace(text[from]) {
+        return from;
+    }
     // few blanks are others than these
     let mut at = first_not_of_four(*b" \t\n\r", text, from, to);
     while at < to && is_whitespace(text[at]) {

@@ -1,13 +1,12 @@
-use Rattle.std.proofs.Common.{rules, ◌≡◌, ◌∙◌, ◌+◌, ◌<◌, ◌≤◌, ℕ, List, length, drop, ap, sym, subst, refl, arith, length-drop}
-use Rattle.tokei_stats.specs.Overflow.{CountsFit}
+use Rattle.std.proofs.Common.{◌≡◌, ◌+◌, ◌<◌, ◌≤◌, ℕ, List, length, drop, ap, arith}
 use Rattle.tokei_count.specs.Lines.{first_line}
 use Rattle.tokei_count.proofs.LineEnds.{line_stops, line_goes_over}
 use Rattle.tokei_count.proofs.OpenersInLines.{opener_later}
 use Rattle.tokei_count.proofs.StepReading.{line_some, lines_of-one}
 use Rattle.tokei_stats.specs.Seen.{sums_of}
-use Rattle.tokei_stats.specs.Statistics.{Counts, lines_of, no_lines}
+use Rattle.tokei_stats.specs.Statistics.{lines_of}
 use Rattle.tokei_count.specs.ReadingOf.{openers_in}
-use Rattle.tokei_count.proofs.UnderWay.{gone_on, none_more, counts_fit, counted_on, skipped_more}
+use Rattle.tokei_count.proofs.UnderWay.{gone_on, none_more, counts_fit, skipped_more}
 use Rattle.tokei_count.proofs.text_reading.count_lines.Goals as goal
 use Rattle.tokei_count.proofs.text_reading.count_lines.Goals.{else-loop-at-test, then-loop-at-test+then-next-stop}
 
@@ -23,15 +22,15 @@ pub loop-at-preserved : goal.loop-at-preserved
 loop-at-preserved c =
     let text : List ℕ = c.args.reading.now.text.now in
     let at : ℕ = c.loop-at.at in
-    let e = c.newline_before-newline.ensures in
+    let e = c.line_front-front.ensures in
     let some : at < length text = omega (arith, c.loop-at-test.true, c.requires.within) in
     let stop_is : c.line_stop-stop.result ≡ at + length (first_line (drop at text)) =
-    line_stops text at c.newline_before-newline.result c.args.next c.line_stop-stop.result c.loop-at-test.true c.requires.within e.high e.line e.found c.line_stop-stop.ensures.more c.line_stop-stop.ensures.last c.if-next-stop.false in
+    line_stops text at c.line_front-front.result.newline c.args.next c.line_stop-stop.result c.loop-at-test.true c.requires.within e.high e.line e.found c.line_stop-stop.ensures.more c.line_stop-stop.ensures.last c.if-next-stop.false in
     let low : at ≤ c.line_stop-stop.result = omega (arith, stop_is) in
     record {
-      under_way = skipped_more c.args.reading.now c.args.so_far.now c.loop-at.lines c.one_more-lines.result at c.line_stop-stop.result c.args.next c.class_by.result
-          c.loop-at.invariant.under_way c.one_more-lines.ensures some c.requires.plain stop_is c.loop-at.invariant.next c.if-next-stop.false c.class_by.ensures;
-      few = omega (arith, c.loop-at.invariant.few, ap lines_of c.one_more-lines.ensures, lines_of-one (sums_of c.loop-at.lines) c.class_by.result, stop_is, line_some text at some);
+      under_way = skipped_more c.args.reading.now c.args.so_far.now c.loop-at.lines c.one_more-lines.result at c.line_stop-stop.result c.args.next c.class_of_plain.result
+          c.loop-at.invariant.under_way c.one_more-lines.ensures some c.requires.plain stop_is c.loop-at.invariant.next c.if-next-stop.false c.class_of_plain.ensures;
+      few = omega (arith, c.loop-at.invariant.few, ap lines_of c.one_more-lines.ensures, lines_of-one (sums_of c.loop-at.lines) c.class_of_plain.result, stop_is, line_some text at some);
       high = c.if-next-stop.false;
       next = opener_later (openers_in c.args.reading.now) text at c.line_stop-stop.result c.args.next low c.if-next-stop.false c.loop-at.invariant.next;
     }
@@ -44,6 +43,6 @@ returns-clause-more c some =
     elim c.loop-at-test.branch [
       | else-loop-at-test w ↦ omega (arith, w.loop-at-test, c.loop-at.invariant.high, line_some c.args.reading.now.text.now c.loop-at.at some)
       | then-loop-at-test+then-next-stop w ↦
-          let e = w.newline_before-newline.ensures in
-          line_goes_over c.args.reading.now.text.now c.loop-at.at w.newline_before-newline.result c.args.next w.line_stop-stop.result w.loop-at-test.true c.requires.within e.high e.line e.found w.line_stop-stop.ensures.more w.line_stop-stop.ensures.last w.if-next-stop.true
+          let e = w.line_front-front.ensures in
+          line_goes_over c.args.reading.now.text.now c.loop-at.at w.line_front-front.result.newline c.args.next w.line_stop-stop.result w.loop-at-test.true c.requires.within e.high e.line e.found w.line_stop-stop.ensures.more w.line_stop-stop.ensures.last w.if-next-stop.true
     ]

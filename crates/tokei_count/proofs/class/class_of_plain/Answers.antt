@@ -1,0 +1,32 @@
+use Rattle.std.proofs.Common.{◌≡◌, ℕ, List, [], Some, None, ◌-◌, drop, take, false, sym, ap, ◌∙◌, refl}
+use Rattle.tokei_table.specs.Bytes.{trim_start}
+use Rattle.tokei_table.specs.Row.{Row}
+use Rattle.tokei_count.specs.Class.{class_of}
+use Rattle.tokei_count.specs.ReadingOf.{row_in}
+use Rattle.tokei_count.specs.declared.reading.Reading.{Reading}
+use Rattle.tokei_count.proofs.CodeHeads.{code_head, blank_part}
+use Rattle.tokei_count.proofs.class.class_of_plain.Goals as goal
+
+-- the bytes of the part
+abbrev bytes : Reading → ℕ → ℕ → List ℕ
+bytes r start stop = take (stop - start) (drop start r.text.now)
+
+pub returns-in-Some-Blank : goal.returns-in-Some-Blank
+returns-in-Some-Blank c =
+    let r : Reading = c.args.reading.now in
+    let blank : trim_start (bytes r c.args.start c.args.stop) ≡ [] =
+    c.class_by_front.ensures.blank (c.in-Some-Blank.is ∙ ap Some c.in-Some-Blank.field-0-is) in
+    sym (blank_part (row_in r) r.docs_are_comments (bytes r c.args.start c.args.stop) None blank)
+
+pub returns-in-Some-Code : goal.returns-in-Some-Code
+returns-in-Some-Code c =
+    let r : Reading = c.args.reading.now in
+    let literate : (row_in r).literate ≡ false = ap (λ (g : Row). g.literate) (sym r.row) ∙ c.if-not-syntax.true in
+    sym (code_head (row_in r) r.sound r.matchers.now r.matched r.docs_are_comments None literate refl (bytes r c.args.start c.args.stop)
+    (c.class_by_front.ensures.code (c.in-Some-Code.is ∙ ap Some c.in-Some-Code.field-0-is)))
+
+pub returns : goal.returns
+returns c =
+    let r : Reading = c.args.reading.now in
+    c.class_of.ensures ∙ ap (λ (g : Row). class_of g r.docs_are_comments
+    (record { begun = None; bytes = bytes r c.args.start c.args.stop; ended = None })) r.row
