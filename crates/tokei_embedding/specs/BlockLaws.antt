@@ -1,7 +1,7 @@
 -- Laws of the blocks: how far each reaches, and where none opens.
 use Rattle.std.specs.Prelude.{◌≡◌, ℕ, ◌+◌, ◌<◌, ◌≤◌, true, false, ◌==◌, is_some, None, Some}
 use Rattle.std.specs.Prelude.{List, ◌∷◌, ◌++◌, length, drop, codes}
-use Rattle.tokei_syntax.specs.Bytes.{is_blank, begins}
+use Rattle.tokei_syntax.specs.Bytes.{is_blank, begins, newline}
 use Rattle.tokei_syntax.specs.FirstOpener.{first_opener}
 use Rattle.tokei_embedding.specs.DocComments.{DocBlock, doc_block, doc_marks, first_line}
 use Rattle.tokei_embedding.specs.Fences.{Fence, fence, fence_block}
@@ -39,18 +39,20 @@ TargetsReach =
 
 -- No block opens where a newline stands.
 pub record NoneAtNewline (part t : List ℕ) (place : ℕ) : Type 0 where
-  pub fence : fence_block part place (10 ∷ t) ≡ None
-  pub tag : (g : Tag) → tag_block g part place (10 ∷ t) ≡ None
-  pub doc : doc_block (10 ∷ t) ≡ None
-  pub target : target_block part place (10 ∷ t) ≡ None
+  pub fence : fence_block part place (newline ∷ t) ≡ None
+  pub tag : (g : Tag) → tag_block g part place (newline ∷ t) ≡ None
+  pub doc : doc_block (newline ∷ t) ≡ None
+  pub target : target_block part place (newline ∷ t) ≡ None
 
 abbrev pub NewlinesOpenNothing : Type 0
-NewlinesOpenNothing = (part t tail : List ℕ) (place : ℕ) → 10 ∷ t ≡ drop place part ++ tail → NoneAtNewline part t place
+NewlinesOpenNothing =
+    (part t tail : List ℕ) (place : ℕ) → newline ∷ t ≡ drop place part ++ tail → NoneAtNewline part t place
 
 -- A block of doc comments opens at a blank of a line exactly where one opens at the byte behind it.
 abbrev pub DocsOpenBeforeBlanks : Type 0
 DocsOpenBeforeBlanks =
-    (b : ℕ) (t : List ℕ) → is_blank b ≡ true → (b == 10) ≡ false → is_some (doc_block (b ∷ t)) ≡ is_some (doc_block t)
+    (b : ℕ) (t : List ℕ) → is_blank b ≡ true → (b == newline) ≡ false
+    → is_some (doc_block (b ∷ t)) ≡ is_some (doc_block t)
 
 -- No block opens at a place of a part where its opener doesn't stand. Blanks may stand before the mark of a doc
 -- comment, so none of these opens where no mark stands in the rest of the line.

@@ -1,7 +1,7 @@
 -- Rust's doc comments: lines that begin with `///` or `//!`.
 use Rattle.std.specs.Prelude.{ℕ, ◌+◌, ◌==◌, if◌then◌else◌, Option, None, Some, option_map}
 use Rattle.std.specs.Prelude.{List, [], ◌∷◌, ◌++◌, length, take, drop, codes}
-use Rattle.tokei_syntax.specs.Bytes.{trim_start, begins}
+use Rattle.tokei_syntax.specs.Bytes.{trim_start, begins, newline}
 
 -- The byte before the first line of the others.
 abbrev pub in_front : ℕ → List (List ℕ) → List (List ℕ)
@@ -11,12 +11,12 @@ in_front b (line ∷ lines) = (b ∷ line) ∷ lines
 -- The lines of a text, each through its newline.
 abbrev pub lines_of : List ℕ → List (List ℕ)
 lines_of [] = []
-lines_of (b ∷ t) = if b == 10 then (b ∷ []) ∷ lines_of t else in_front b (lines_of t)
+lines_of (b ∷ t) = if b == newline then (b ∷ []) ∷ lines_of t else in_front b (lines_of t)
 
 -- The text through its first newline.
 abbrev pub first_line : List ℕ → List ℕ
 first_line [] = []
-first_line (b ∷ t) = if b == 10 then b ∷ [] else b ∷ first_line t
+first_line (b ∷ t) = if b == newline then b ∷ [] else b ∷ first_line t
 
 -- The marks.
 abbrev pub doc_marks : List (List ℕ)

@@ -1,5 +1,6 @@
 -- What searches remember of a text.
-use Rattle.std.specs.Prelude.{◌≡◌, ℕ, ◌+◌, ◌<◌, ◌≤◌, true, false, List, length, drop, slice_index, Option, None, Some}
+use Rattle.std.specs.Prelude.{◌≡◌, ℕ, ◌+◌, ◌<◌, ◌≤◌, true, false, List, length, drop, slice_index}
+use Rattle.std.specs.Prelude.{codes, Option, None, Some}
 use Rattle.tokei_syntax.specs.Bytes.{is_blank}
 use Rattle.memchr.specs.Find.{OccursAt}
 use Rattle.tokei_embedding.specs.DocComments.{first_line, front_mark, mark_of, marked_len, lines_of}
@@ -55,3 +56,9 @@ pub record IsMarkPlace (text : List ℕ) (from place : ℕ) : Type 0 where
 abbrev pub IsDocEnd : Sought → ℕ → ℕ → Type 0
 IsDocEnd s from end = (k : ℕ) → from ≤ k → k < end → mark_of (first_line (drop k s.text)) ≡ Some s.token
     → k + marked_len s.token (lines_of (drop k s.text)) ≡ end
+
+-- Searches of one text for the marks of doc comments, and for where the blocks of each mark end.
+pub record SearchDocs (text : List ℕ) (marks : List ℕ) (outer inner : Sought) : Type 0 where
+  pub of_text : marks ≡ text
+  pub of_outer : outer ≡ sought text (codes "///")
+  pub of_inner : inner ≡ sought text (codes "//!")

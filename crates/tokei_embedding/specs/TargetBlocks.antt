@@ -1,9 +1,13 @@
 -- Lingua Franca's blocks of the target language, and the target itself.
+use Rattle.std.specs.Char.{is_ascii_alphanumeric}
 use Rattle.std.specs.Option.{option_or}
-use Rattle.std.specs.Prelude.{ℕ, suc, ◌+◌, Bool, true, false, ◌&&◌, ◌||◌, ◌==◌, nat_le, nat_lt, if◌then◌else◌}
+use Rattle.std.specs.Prelude.{ℕ, suc, ◌+◌, Bool, true, false, ◌&&◌, ◌||◌, ◌==◌, nat_lt, if◌then◌else◌}
 use Rattle.std.specs.Prelude.{List, [], ◌∷◌, length, take, drop, codes, Option, None, Some}
-use Rattle.tokei_syntax.specs.Bytes.{is_blank, trim_start, begins}
+use Rattle.tokei_syntax.specs.Bytes.{is_blank, trim_start, begins, newline}
 use Rattle.tokei_embedding.specs.Searches.{first_of, is_at}
+
+abbrev pub underscore : ℕ
+underscore = 95
 
 -- A block: its contents, and the length from its opener to before its closer.
 pub record TargetBlock : Type 0 where
@@ -28,9 +32,9 @@ target_from rest = target_with (target_contents (drop 2 rest) (first_of (codes "
 abbrev pub target_block : List ℕ → ℕ → List ℕ → Option TargetBlock
 target_block part place rest = if is_at place (first_of (codes "{=") part) then Some (target_from rest) else None
 
--- Word bytes are ASCII's letters and digits, and `_`.
+-- Word bytes are ASCII's letters and digits, and the underscore.
 abbrev pub is_word : ℕ → Bool
-is_word b = (nat_le 97 b && nat_le b 122) || (nat_le 65 b && nat_le b 90) || (nat_le 48 b && nat_le b 57) || (b == 95)
+is_word b = is_ascii_alphanumeric b || b == underscore
 
 -- How many word bytes stand at the front.
 abbrev pub word_len : List ℕ → ℕ
@@ -40,7 +44,7 @@ word_len (b ∷ t) = if is_word b then suc (word_len t) else 0
 -- Whether nothing but blanks stands before the first newline, or before the end.
 abbrev pub ends_line : List ℕ → Bool
 ends_line [] = true
-ends_line (b ∷ t) = (b == 10) || (is_blank b && ends_line t)
+ends_line (b ∷ t) = (b == newline) || (is_blank b && ends_line t)
 
 -- Whether a target's word may end before this text: blanks that hold a newline or reach the end, or a semicolon or an
 -- opening brace behind optional blanks.

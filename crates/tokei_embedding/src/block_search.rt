@@ -1,8 +1,8 @@
 //! The search for the blocks of one text.
-ghost use Rattle.std.specs.Prelude.{◌≡◌, ℕ, ◌-◌, ◌≤◌, ◌<◌, true, IfSome, List, length, drop, codes, option_map};
+ghost use Rattle.std.specs.Prelude.{◌≡◌, ℕ, ◌-◌, ◌≤◌, ◌<◌, true, IfSome, List, length, drop, option_map};
 ghost use Rattle.tokei_embedding.specs.DocComments.{doc_block};
 ghost use Rattle.tokei_embedding.specs.NextOpenings.{part_of, OpensNoElement};
-ghost use Rattle.tokei_embedding.specs.Remembered.{sought};
+ghost use Rattle.tokei_embedding.specs.Remembered.{SearchDocs};
 ghost use Rattle.tokei_embedding.specs.Searches.{first_of, is_at};
 ghost use Rattle.tokei_embedding.specs.Seen.{tag_seen};
 ghost use Rattle.tokei_embedding.specs.Tags.{token_of, tag_block};
@@ -36,8 +36,8 @@ impl<'a> Model for BlockSearch<'a> {
 
     ghost view = { λ s. s.text.now };
 
-    ghost invariant = { λ s. IfSome s.tags (λ tags. tags ≡ s.text.now) × (s.marks ≡ s.text.now)
-        × (s.outer_docs ≡ sought s.text.now (codes "///")) × (s.inner_docs ≡ sought s.text.now (codes "//!"))
+    ghost invariant = { λ s. IfSome s.tags (λ tags. tags ≡ s.text.now)
+        × SearchDocs s.text.now s.marks s.outer_docs s.inner_docs
         × IfSome s.target (λ t. option_map (λ w. w.now) t ≡ target_of s.text.now) };
 }
 

@@ -59,7 +59,7 @@ pub fn target_at<'a>(text: &'a [u8], from: usize, place: usize, to: usize) -> Op
 fn is_word(byte: u8) -> bool
     ensures { result ≡ is_word byte }
 {
-    matches!(byte, b'a'..=b'z' | b'A'..=b'Z' | b'0'..=b'9' | b'_')
+    byte.is_ascii_alphanumeric() || byte == b'_'
 }
 
 /// How many word bytes stand at the front.
