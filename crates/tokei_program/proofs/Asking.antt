@@ -1,9 +1,11 @@
 -- What a command line asks for is written, where the list or the counts are.
-use Rattle.std.proofs.Common.{◌≡◌, ◌≢◌, ℕ, List, [], true, false, Option, Result, Ok, Err, OnOk, inr, sym, subst}
+use Rattle.std.proofs.Common.{◌≡◌, ◌≢◌, ℕ, List, [], true, false, Option, Result, Ok, Err, IfOk, OnOk, String, inr, string_bytes, sym, subst}
+use Rattle.std.specs.Global.{Global}
 use Rattle.tokei_cli.specs.CommandLines.{inputs_of}
 use Rattle.tokei_cli.specs.Lines.{IsLineOf}
 use Rattle.tokei_cli.specs.declared.cli.Cli.{Cli}
 use Rattle.tokei_folders.specs.Tree.{Tree}
+use Rattle.tokei_program.specs.Beside.{IsBeside, ShowsNotes}
 use Rattle.tokei_program.specs.declared.environment.Env.{Env}
 use Rattle.tokei_program.specs.Writing.{Writes, WritesAsked, WritesBy, WritesCounts, WritesList}
 
@@ -31,3 +33,9 @@ either_is words c env t input old new (Ok a) spelled written = inr (record {
   spelled = spelled;
   asked = written;
 })
+
+-- notes are shown as the command line of the words wants them
+pub beside_is : {E : Type 0} (words : List (List ℕ)) (c : Cli) (r : Result (String Global) E) → IsLineOf words c
+    → IfOk r (λ text. ShowsNotes c (string_bytes text)) → IfOk r (λ text. IsBeside words (string_bytes text))
+beside_is words c (Err e) spelled shows = tt
+beside_is words c (Ok text) spelled shows = inr (record { line = c; spelled = spelled; shows = shows })

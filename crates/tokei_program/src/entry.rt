@@ -1,10 +1,11 @@
 //! The whole program but for its real ends.
-ghost use Rattle.std.specs.Prelude.{◌≡◌, ◌≢◌, ◌<◌, ◌≤◌, [], IfErr, OnOk, map};
+ghost use Rattle.std.specs.Prelude.{◌≡◌, ◌≢◌, ◌<◌, ◌≤◌, [], ◌++◌, IfErr, IfOk, OnOk, map, string_bytes};
 ghost use Rattle.tokei_cli.specs.CommandLines.{inputs_of};
 ghost use Rattle.std.specs.Io.KnownBytes.{Appends};
 ghost use Rattle.tokei_folders.specs.Answers.{Told};
 ghost use Rattle.tokei_io.specs.Faults.{faults_after};
 ghost use Rattle.tokei_program.specs.Choices.{Chooses};
+ghost use Rattle.tokei_program.specs.Beside.{IsBeside, SaysBeside, ShowsNotes, ended, notes_text};
 ghost use Rattle.tokei_program.specs.Messages.{Says};
 ghost use Rattle.tokei_program.specs.Statuses.{status_of};
 ghost use Rattle.tokei_program.specs.Writing.{Writes, WritesAsked, WritesCounts, WritesList};
@@ -35,14 +36,25 @@ fn put<W: Sink>(writer: &mut W, text: &str) -> Result<(), Ending>
     }
 }
 
+/// Puts a line and its newline behind the text.
+fn push_line(text: &mut String, line: &str) -> Result<(), AllocError>
+    ensures { OnOk result (string_bytes text.new ≡ string_bytes text.old ++ ended line.now) }
+{
+    text.push_str(line)?;
+    text.push('\n')?;
+    Ok(())
+}
+
 /// The lines of what a run passed over, of those that are shown where `--verbose` was given so often.
-fn note_text(alloc: Global, notes: &[Note], verbose: u8) -> Result<String, AllocError> {
+fn notes_text(alloc: Global, notes: &[Note], verbose: u8) -> Result<String, AllocError>
+    ensures { IfOk result (λ text. string_bytes text ≡ notes_text verbose notes.now) }
+{
     let mut lines = Lines::new(alloc);
     log_notes(notes, verbose, &mut lines)?;
     let mut text = String::new(alloc);
-    for line in lines.as_slice() {
-        text.push_str(line.as_str())?;
-        text.push('\n')?;
+    let shown = lines.as_slice();
+    for line in shown {
+        push_line(&mut text, line.as_str())?;
     }
     Ok(text)
 }
@@ -61,13 +73,14 @@ fn counted<F: Folders, S: Source, W: Sink>(
     ensures same { F.tree folders.new ≡ F.tree folders.old }
     ensures told { Told (F.tree folders.old) (λ t. OnOk result (WritesCounts
         cli.now env.now t (S.remaining input.old) (W.contents out.old) (W.contents out.new))) }
+    ensures beside { IfOk result (λ text. ShowsNotes cli.now (string_bytes text)) }
     ensures fault { W.faults out.old < u64.MAX → OnOk result (W.faults out.new ≡ W.faults out.old) }
     ensures failed { IfErr result (λ e. status_of e ≡ 1) }
 {
     let table = table_of(alloc, cli, folders)?;
     let job = prepared(alloc, cli, choices, env, &table, folders, input)?;
     let notes = run(alloc, &table, folders, &job, out)?;
-    let text = note_text(alloc, &notes, cli.verbose)?;
+    let text = notes_text(alloc, &notes, cli.verbose)?;
     Ok(text)
 }
 
@@ -81,6 +94,7 @@ fn listed<F: Folders, W: Sink>(
     ensures same { F.tree folders.new ≡ F.tree folders.old }
     ensures told { Told (F.tree folders.old) (λ t. OnOk result (WritesList
         cli.now t (W.contents out.old) (W.contents out.new))) }
+    ensures beside { IfOk result (λ text. ShowsNotes cli.now (string_bytes text)) }
     ensures fault { W.faults out.old < u64.MAX → OnOk result (W.faults out.new ≡ W.faults out.old) }
     ensures failed { IfErr result (λ e. status_of e ≡ 1) }
 {
@@ -103,6 +117,7 @@ fn followed<F: Folders, S: Source, W: Sink>(
     ensures same { F.tree folders.new ≡ F.tree folders.old }
     ensures told { Told (F.tree folders.old) (λ t. OnOk result (WritesAsked
         cli.now env.now t (S.remaining input.old) (W.contents out.old) (W.contents out.new))) }
+    ensures beside { IfOk result (λ text. ShowsNotes cli.now (string_bytes text)) }
     ensures fault { W.faults out.old < u64.MAX → OnOk result (W.faults out.new ≡ W.faults out.old) }
     ensures unwritten { IfErr result (λ e. status_of e ≡ 2 → out.new ≡ out.old) }
     ensures unread { IfErr result (λ e. status_of e ≡ 2 → (folders.new ≡ folders.old) × (input.new ≡ input.old)) }
@@ -127,6 +142,7 @@ fn answered<F: Folders, S: Source, W: Sink>(
     ensures same { F.tree folders.new ≡ F.tree folders.old }
     ensures told { Told (F.tree folders.old) (λ t. OnOk result (Writes
         (map (λ w. w.now) words.now) env.now t (S.remaining input.old) (W.contents out.old) (W.contents out.new))) }
+    ensures beside { IfOk result (λ text. IsBeside (map (λ w. w.now) words.now) (string_bytes text)) }
     ensures fault { W.faults out.old < u64.MAX → OnOk result (W.faults out.new ≡ W.faults out.old) }
     ensures unwritten { IfErr result (λ e. status_of e ≡ 2 → out.new ≡ out.old) }
     ensures unread { IfErr result (λ e. status_of e ≡ 2 → (folders.new ≡ folders.old) × (input.new ≡ input.old)) }
@@ -178,7 +194,8 @@ fn say<E: Sink>(alloc: Global, ending: &Ending, err: &mut E) -> Result<(), Endin
 /// said beside it to `err`.
 ///
 /// With status 0 `out` has gained, over a known tree, help, the version, or what the command line of the words asks for: the
-/// list of languages, or what `run` writes for its job. A refused command line is seen before anything is read or written.
+/// list of languages, or what `run` writes for its job; and `err` has gained nothing, or notes of what was passed over, as
+/// many as the command line shows. A refused command line is seen before anything is read or written.
 /// Any other status than 1 says that neither writer had a fault. Where the status is 1 and `err` had no fault, one message
 /// stands in it.
 pub fn program<F: Folders, S: Source, W: Sink, E: Sink>(
@@ -193,6 +210,7 @@ pub fn program<F: Folders, S: Source, W: Sink, E: Sink>(
     ensures same { F.tree folders.new ≡ F.tree folders.old }
     ensures written { Told (F.tree folders.old) (λ t. result ≡ 0 → Writes
         (map (λ w. w.now) words.now) env.now t (S.remaining input.old) (W.contents out.old) (W.contents out.new)) }
+    ensures beside { result ≡ 0 → SaysBeside (map (λ w. w.now) words.now) (E.contents err.old) (E.contents err.new) }
     ensures status { result ≤ 2 }
     ensures refused { result ≡ 2 → out.new ≡ out.old }
     ensures unread { result ≡ 2 → (folders.new ≡ folders.old) × (input.new ≡ input.old) }

@@ -1,7 +1,10 @@
 -- What was asked for is what the program writes.
 use Rattle.std.proofs.Common.{map}
-use Rattle.tokei_program.proofs.Asking.{either_is}
+use Rattle.tokei_program.proofs.Asking.{beside_is, either_is}
 use Rattle.tokei_program.proofs.entry.answered.Goals as goal
 
 pub returns-in-Ok-clause-told : goal.returns-in-Ok-clause-told
 returns-in-Ok-clause-told g c t told = either_is (map (λ w. w.now) c.args.words.now) c.in-Ok.cli c.args.env.now t (g.S.Source.remaining c.args.input.now) (g.W.Sink.contents c.args.out.now) (g.W.Sink.contents c.followed.new.out) c.followed.result c.in-Ok.ensures.of_words (c.followed.ensures.told t told)
+
+pub returns-in-Ok-clause-beside : goal.returns-in-Ok-clause-beside
+returns-in-Ok-clause-beside g c = beside_is (map (λ w. w.now) c.args.words.now) c.in-Ok.cli c.followed.result c.in-Ok.ensures.of_words c.followed.ensures.beside
