@@ -9,8 +9,6 @@ PROGRAM = f"{CRATE}/out/tokei_bench_count"
 
 
 def build():
-    """Proves and builds the program where that hasn't been done."""
-    built = subprocess.run(["rt", "run", "--", "C"], cwd=CRATE, stdin=subprocess.DEVNULL, stdout=subprocess.DEVNULL,
-                           stderr=subprocess.DEVNULL, check=False)
-    if built.returncode != 0:
+    """Proves and builds the program where that hasn't been done, with the libraries below it side by side."""
+    if subprocess.run([f"{TOP}/tools/build", "tokei_bench_count"], check=False).returncode != 0:
         sys.exit("tokei_bench_count can't be built: run rt check in its folder")
