@@ -4,6 +4,7 @@ pub mod Fits
 pub mod Leading
 pub mod Stepping
 pub mod Stack
+pub mod Encloses
 pub mod Lines
 pub mod LineEnd
 pub mod Childless

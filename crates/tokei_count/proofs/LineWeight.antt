@@ -6,7 +6,6 @@ use Rattle.tokei_notebook.specs.Cells.{notebook_cells}
 use Rattle.tokei_stats.specs.Ordered.{IsOrdered}
 use Rattle.tokei_stats.specs.Overflow.{Fits}
 use Rattle.tokei_stats.specs.Statistics.{Statistics, empty, lines_of, summary}
-use Rattle.tokei_stats.specs.Statistics.Blobs.{none}
 use Rattle.tokei_count.specs.Items.{Block}
 use Rattle.tokei_count.specs.Languages.{Languages, is_notebook}
 use Rattle.tokei_count.specs.Modes.{Mark, marks}

@@ -20,6 +20,7 @@ use Rattle.tokei_count.specs.UnderWay.{IsUnderWay, reading_inside, steps_inside}
 use Rattle.tokei_count.specs.Walked.{ReadsTo, Breaks}
 use Rattle.tokei_count.specs.declared.class.Class.{Class}
 use Rattle.tokei_count.specs.declared.items.Enclosure.{Enclosure}
+use Rattle.tokei_count.specs.declared.openings.Block as CodeBlock
 use Rattle.tokei_count.specs.declared.reading.Reading.{Reading}
 use Rattle.tokei_count.specs.declared.text_reading.ReadSoFar.{ReadSoFar}
 use Rattle.tokei_count.specs.declared.walk.PartEnd.TheVariants.{Line, Broken}
@@ -56,16 +57,16 @@ sums_with a b = record { blanks = a.blanks + b.blanks; code = a.code + b.code; c
 -- what was read so far, with those lines more, up to that place
 abbrev pub gone_on : ReadSoFar → Sums → ℕ → ReadSoFar
 gone_on p lines at =
-    record { own = sums_with p.own lines; blobs = p.blobs; own_steps = p.own_steps; inner_steps = p.inner_steps; behind_child = p.behind_child; start = at; stack = p.stack; search = p.search }
+    record { own = sums_with p.own lines; blobs = p.blobs; own_steps = p.own_steps; inner_steps = p.inner_steps; behind_child = p.behind_child; start = at; stack = p.stack; search = p.search; child = p.child }
 
 -- the lines are told by their counts
 pub same_sums : (a b : Sums) → sums_of a ≡ sums_of b → a ≡ b
 same_sums a b e = ap (λ (m : Counts). record { blanks = m.blanks; code = m.code; comments = m.comments }) e
 
 pub counted_on : (r : Reading) (p : ReadSoFar) (o : Sums) (at : ℕ) → (lines : Sums) → sums_of o ≡ sums_of (sums_with p.own lines) → IsUnderWay r (gone_on p lines at)
-    → IsUnderWay r (record { own = o; blobs = p.blobs; own_steps = p.own_steps; inner_steps = p.inner_steps; behind_child = p.behind_child; start = at; stack = p.stack; search = p.search })
+    → IsUnderWay r (record { own = o; blobs = p.blobs; own_steps = p.own_steps; inner_steps = p.inner_steps; behind_child = p.behind_child; start = at; stack = p.stack; search = p.search; child = p.child })
 counted_on r p o at lines e way =
-    subst (λ (s : Sums). IsUnderWay r (record { own = s; blobs = p.blobs; own_steps = p.own_steps; inner_steps = p.inner_steps; behind_child = p.behind_child; start = at; stack = p.stack; search = p.search }))
+    subst (λ (s : Sums). IsUnderWay r (record { own = s; blobs = p.blobs; own_steps = p.own_steps; inner_steps = p.inner_steps; behind_child = p.behind_child; start = at; stack = p.stack; search = p.search; child = p.child }))
     (same_sums (sums_with p.own lines) o (sym e)) way
 
 module _ (r : Reading) (p : ReadSoFar) (way : IsUnderWay r p) where
@@ -76,7 +77,7 @@ module _ (r : Reading) (p : ReadSoFar) (way : IsUnderWay r p) where
       let c : 0 ≡ lines.code = ap (λ (m : Counts). m.code) (sym none) in
       let d : 0 ≡ lines.comments = ap (λ (m : Counts). m.comments) (sym none) in
       let same : p.own ≡ sums_with p.own lines = same_sums p.own (sums_with p.own lines) (counts_same _ _ (omega arith) (omega arith) (omega arith)) in
-      subst (λ (s : Sums). IsUnderWay r (record { own = s; blobs = p.blobs; own_steps = p.own_steps; inner_steps = p.inner_steps; behind_child = p.behind_child; start = p.start; stack = p.stack; search = p.search })) same way
+      subst (λ (s : Sums). IsUnderWay r (record { own = s; blobs = p.blobs; own_steps = p.own_steps; inner_steps = p.inner_steps; behind_child = p.behind_child; start = p.start; stack = p.stack; search = p.search; child = p.child })) same way
 
   -- the counts so far fit where the whole does
   pub counts_fit : Fits (reading_of r) → CountsFit (sums_of p.own)
@@ -138,11 +139,11 @@ module _ (r : Reading) (p : ReadSoFar) (way : IsUnderWay r p) where
     line_sum_fits : Fits (reading_of r) → CountsFit (plus own (one_of class))
     line_sum_fits fits = line_fits r.table.now r.docs_are_comments r.levels r.language text own blobs p.behind_child c rest counted n class d line way.lines fits
 
-    line_on : (o : Sums) (m : ℕ) (h : List ℕ) → sums_of o ≡ plus own (one_of class) → h ≡ text → m ≤ behind → (behind < length text → IsPart text p.behind_child behind behind)
+    line_on : (o : Sums) (m : ℕ) (h : List ℕ) (k : CodeBlock.Block) → sums_of o ≡ plus own (one_of class) → h ≡ text → m ≤ behind → (behind < length text → IsPart text p.behind_child behind behind)
         → (r.skips ≡ true → AreUnderWay r.table.now r.levels r.language text m p.inner_steps p.behind_child d (drop n rest))
         → (r.skips ≡ true → first_opener (openers (row_in r)) text ≡ None → (d ≡ []) × (lines_of (sums_of o) ≤ behind))
-        → IsUnderWay r (record { own = o; blobs = p.blobs; own_steps = m; inner_steps = p.inner_steps; behind_child = p.behind_child; start = behind; stack = s; search = h })
-    line_on o m h own_is searched few part taken quiet =
+        → IsUnderWay r (record { own = o; blobs = p.blobs; own_steps = m; inner_steps = p.inner_steps; behind_child = p.behind_child; start = behind; stack = s; search = h; child = k })
+    line_on o m h k own_is searched few part taken quiet =
         let went : IsCounted r.table.now r.docs_are_comments r.levels r.language text (plus own (one_of class)) blobs p.behind_child d (drop n rest) = line_read r.table.now r.docs_are_comments r.levels r.language text own blobs p.behind_child c rest counted n class d line in
         let moved : IsCounted r.table.now r.docs_are_comments r.levels r.language text (plus own (one_of class)) blobs p.behind_child d (drop behind text) = subst (IsCounted r.table.now r.docs_are_comments r.levels r.language text (plus own (one_of class)) blobs p.behind_child d) there went in
         let now : IsCounted r.table.now r.docs_are_comments r.levels r.language text (sums_of o) blobs p.behind_child d (drop behind text) = subst (λ (m : Counts). IsCounted r.table.now r.docs_are_comments r.levels r.language text m blobs p.behind_child d (drop behind text)) (sym own_is) moved in
@@ -184,8 +185,8 @@ module _ (r : Reading) (p : ReadSoFar) (way : IsUnderWay r p) where
     pub skipped_fits : Fits (reading_of r) → CountsFit (plus own (one_of class))
     skipped_fits fits = line_sum_fits class stop line.0 p.stack low line.1 fits
 
-    pub skipped_on : (o : Sums) → sums_of o ≡ plus own (one_of class) → IsUnderWay r (record { own = o; blobs = p.blobs; own_steps = p.own_steps; inner_steps = p.inner_steps; behind_child = p.behind_child; start = stop; stack = p.stack; search = p.search })
-    skipped_on o own_is = line_on class stop line.0 p.stack low line.1 o p.own_steps p.search own_is way.searched (omega (arith, way.few, low))
+    pub skipped_on : (o : Sums) → sums_of o ≡ plus own (one_of class) → IsUnderWay r (record { own = o; blobs = p.blobs; own_steps = p.own_steps; inner_steps = p.inner_steps; behind_child = p.behind_child; start = stop; stack = p.stack; search = p.search; child = p.child })
+    skipped_on o own_is = line_on class stop line.0 p.stack low line.1 o p.own_steps p.search p.child own_is way.searched (omega (arith, way.few, low))
         (λ more. glance_part text p.behind_child p.start stop (way.part some) stop_is some more)
         (λ skipped. line_skipped r.table.now r.levels r.language text p.own_steps p.inner_steps p.behind_child c rest (stepped skipped) r.docs_are_comments (stop - p.start) line.0 class c line.1
         (glance_walked (openers (row_in r)) c (stop - p.start) rest plain size holds_none))
@@ -196,13 +197,13 @@ module _ (r : Reading) (p : ReadSoFar) (way : IsUnderWay r p) where
     pub walked_fits : Fits (reading_of r) → CountsFit (plus own (one_of class))
     walked_fits fits = line_sum_fits class behind made s part.some part.reads fits
 
-    pub walked_on : (o : Sums) (h : List ℕ) → sums_of o ≡ plus own (one_of class) → h ≡ text → (r.skips ≡ true → is_walked (openers_in r) (innermost c) (first_line rest) ≡ true)
-        → IsUnderWay r (record { own = o; blobs = p.blobs; own_steps = p.own_steps + made; inner_steps = p.inner_steps; behind_child = p.behind_child; start = behind; stack = s; search = h })
-    walked_on o h own_is searched walked =
+    pub walked_on : (o : Sums) (h : List ℕ) (k : CodeBlock.Block) → sums_of o ≡ plus own (one_of class) → h ≡ text → (r.skips ≡ true → is_walked (openers_in r) (innermost c) (first_line rest) ≡ true)
+        → IsUnderWay r (record { own = o; blobs = p.blobs; own_steps = p.own_steps + made; inner_steps = p.inner_steps; behind_child = p.behind_child; start = behind; stack = s; search = h; child = k })
+    walked_on o h k own_is searched walked =
         let size : behind - p.start ≡ length (first_line rest) = omega (arith, part.line) in
         let reach : take (behind - p.start) rest ≡ first_line rest = ap (λ m. take m rest) size ∙ take-first rest in
         let held = λ (skipped : r.skips ≡ true). ap (λ os. is_walked os (innermost c) (first_line rest)) (sym (openers_are r)) ∙ walked skipped in
-        line_on class behind made s part.some part.reads o (p.own_steps + made) h own_is searched (omega (arith, way.few, part.some, part.few)) part.part
+        line_on class behind made s part.some part.reads o (p.own_steps + made) h k own_is searched (omega (arith, way.few, part.some, part.few)) part.part
         (λ skipped. line_steps r.table.now r.levels r.language text p.own_steps p.inner_steps p.behind_child c rest (stepped skipped) r.docs_are_comments (behind - p.start) made class (chain_of s.items) part.reads
         (ap (is_walked (openers (row_in r)) (innermost c)) reach ∙ held skipped))
         (λ skipped none. absurd (unwalked skipped none (walked skipped)))

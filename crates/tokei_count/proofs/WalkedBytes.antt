@@ -1,5 +1,5 @@
 -- At most one choice begins at a byte.
-use Rattle.std.proofs.Common.{ℕ, ◌+◌, ◌≤◌, Bool, true, false, List, [], ◌∷◌, length, None, arith}
+use Rattle.std.proofs.Common.{ℕ, ◌≤◌, Bool, true, false, List, [], ◌∷◌, length, arith}
 use Rattle.tokei_count.specs.Glance.{is_walked}
 use Rattle.tokei_count.specs.Languages.{Languages}
 use Rattle.tokei_count.specs.Steps.{walked_choices, walked_bytes, own_steps, own_work, steps, work}

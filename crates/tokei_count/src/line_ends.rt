@@ -20,8 +20,8 @@ fn far_line_len(text: &[u8]) -> usize
     }
 }
 
-/// How far newlines are mostly found from the place `at` on, and no further than `to`: nothing near, where no block of the
-/// text begins there.
+/// How far newlines are mostly found from the place `at` on, and no further than `to`: nothing near, where no block of
+/// the text begins there.
 #[inline(always)]
 fn near_end(text: &[u8], at: usize, to: usize) -> usize
     requires order { at ≤ to }

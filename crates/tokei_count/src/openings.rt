@@ -15,6 +15,7 @@ ghost use Rattle.tokei_count.specs.Seen.{block_of};
 
 use crate::line_ends::line_stop;
 use crate::place::Place;
+use crate::reading::Reading;
 use tokei_embedding::{BlockSearch, Tag, fence_at, next_doc, next_fence, next_target, target_at};
 use tokei_stats::Sums;
 use tokei_table::ext::{trim, trim_first_and_last_line_of_whitespace};
@@ -39,6 +40,18 @@ pub(crate) struct Block<'a> {
 impl<'a> Block<'a> {
     ghost use Rattle.tokei_count.specs.Seen.{block_of};
     ghost use Rattle.tokei_stats.specs.Seen.{sums_of};
+
+    /// An empty child at the front of the reading's text, of its language.
+    pub fn empty(reading: &Reading<'a>) -> Block<'a> {
+        Block {
+            language: reading.language,
+            contents: &reading.text[..0],
+            is_doc: false,
+            size: 0,
+            code: 0,
+            comments: 0,
+        }
+    }
 
     /// The lines that the child adds to its parent.
     pub fn share(&self) -> Sums

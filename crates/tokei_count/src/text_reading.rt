@@ -28,7 +28,7 @@ use crate::class::{Class, class_of_plain};
 use crate::glance::next_opener;
 use crate::items::Enclosure;
 use crate::line_ends::{line_end, line_front, line_len, line_stop};
-use crate::openings::{Block, block_at};
+use crate::openings::Block;
 use crate::place::Place;
 use crate::reader::Reader;
 use crate::reading::Reading;
@@ -62,21 +62,6 @@ fn is_notebook(syntax: &Syntax) -> bool
     ensures { result ≡ is_notebook (row_of syntax.now) }
 {
     syntax.key.as_str() == "Jupyter"
-}
-
-/// The child that opens at the place.
-fn child_at<'a>(place: &Place<'_, 'a>, search: &mut BlockSearch<'a>) -> Block<'a>
-    requires here { IsAt place.now }
-    requires opens { is_some (block_here place.now) ≡ true }
-    requires inside { place.now.at < place.now.end }
-    requires searched { search.old ≡ text_of place.now }
-    ensures same { search.new ≡ search.old }
-    ensures child { block_here place.now ≡ Some (block_of result) }
-{
-    match block_at(place, search) {
-        Some(block) => block,
-        None => unreachable!(),
-    }
 }
 
 /// What the lines of a doc comment say, where the child's text stands in some.
@@ -163,6 +148,8 @@ pub(crate) struct ReadSoFar<'a> {
     /// The items that enclose that place.
     pub stack: Vec<Enclosure<'a>>,
     pub search: BlockSearch<'a>,
+    /// The child that was found last; an empty one before any was.
+    pub child: Block<'a>,
 }
 
 impl<'a> ReadSoFar<'a> {
@@ -182,6 +169,7 @@ impl<'a> ReadSoFar<'a> {
             start: 0,
             stack: Vec::new(alloc),
             search: BlockSearch::new(reading.text),
+            child: Block::empty(reading),
         }
     }
 }
@@ -330,7 +318,12 @@ fn read_walked<'a>(
         at: so_far.start,
         end,
     };
-    let part = read_part(&place, &mut so_far.search, &mut so_far.stack)?;
+    let part = read_part(
+        &place,
+        &mut so_far.search,
+        &mut so_far.stack,
+        &mut so_far.child,
+    )?;
     so_far.own_steps += part.steps;
     match part.end {
         PartEnd::Line(class, behind) => {
@@ -338,13 +331,11 @@ fn read_walked<'a>(
             so_far.start = behind;
         }
         PartEnd::Broken(at) => {
-            let there = Place { at, ..place };
-            let child = child_at(&there, &mut so_far.search);
-            so_far.own = so_far.own.plus(child.share())?;
-            let read = read_child(reader, reading, &child)?;
-            add_blob(&mut so_far.blobs, child.language, read.stats)?;
+            so_far.own = so_far.own.plus(so_far.child.share())?;
+            let read = read_child(reader, reading, &so_far.child)?;
+            add_blob(&mut so_far.blobs, so_far.child.language, read.stats)?;
             so_far.inner_steps = capped_sum(so_far.inner_steps, read.steps);
-            so_far.start = at + child.size;
+            so_far.start = at + so_far.child.size;
             so_far.behind_child = reading.text.len() - so_far.start;
         }
     }

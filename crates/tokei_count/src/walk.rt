@@ -1,20 +1,20 @@
 //! A part is walked with a stack of the items that enclose the place.
-ghost use Rattle.std.specs.Prelude.{◌≡◌, ◌+◌, ◌-◌, ◌<◌, ◌≤◌, true, false, None, is_some, IfOk, length};
+ghost use Rattle.std.specs.Prelude.{◌≡◌, ℕ, ◌+◌, ◌-◌, ◌<◌, ◌≤◌, true, false, None, Some, is_some, IfOk, length};
 ghost use Rattle.tokei_count.specs.Choice.Choice.{takes_byte};
 ghost use Rattle.tokei_count.specs.Lines.{line_len};
 ghost use Rattle.tokei_count.specs.Modes.{innermost};
 ghost use Rattle.tokei_count.specs.Places.{Begins, Childless, IsAt, LeadsTo, StopsAt};
-ghost use Rattle.tokei_count.specs.Places.{block_here, choice_here, text_from, text_of};
+ghost use Rattle.tokei_count.specs.Places.{block_from, block_here, choice_here, text_from, text_of};
 ghost use Rattle.tokei_count.specs.ReadingOf.{row_in, blocks_of};
 ghost use Rattle.tokei_count.specs.Progress.{IsPart, IsClosable};
-ghost use Rattle.tokei_count.specs.Seen.{choice_of, mode_of, chain_of};
+ghost use Rattle.tokei_count.specs.Seen.{block_of, choice_of, mode_of, chain_of};
 ghost use Rattle.tokei_count.specs.Walked.{Moves, Reads};
 
 use crate::choice::{Choice, choose};
 use crate::class::{Class, class_by};
 use crate::items::{Enclosure, Kind};
 use crate::line_ends::line_stop;
-use crate::openings::{block_at, next_child};
+use crate::openings::{Block, block_at, next_child};
 use crate::place::Place;
 use crate::plain_bytes::{is_plain_byte, plain_end};
 use std::alloc::AllocError;
@@ -56,25 +56,36 @@ fn innermost<'a>(stack: &[Enclosure<'a>]) -> Option<Enclosure<'a>>
     stack.last().copied()
 }
 
-/// Whether a child opens at the place, in that mode. In an item none does, and none is looked for.
-fn opens_at<'a>(
+/// Whether a child opens at the place, which is put into `found`. In an item none does, and none is looked for; nor is
+/// one before `child`, where none opens in plain text.
+#[inline(always)]
+fn finds_child<'a>(
     place: &Place<'_, 'a>,
-    mode: Option<Enclosure<'a>>,
+    stack: &[Enclosure<'a>],
+    child: usize,
     search: &mut BlockSearch<'a>,
+    found: &mut Block<'a>,
 ) -> bool
     requires here { IsAt place.now }
-    requires some { place.now.at < length (text_of place.now) }
+    requires some { place.now.at < place.now.end }
+    requires childless { place.now.at < child → innermost (chain_of stack.now) ≡ None → block_here place.now ≡ None }
     requires searched { search.old ≡ text_of place.now }
     ensures same { search.new ≡ search.old }
-    ensures opens { result ≡ true → is_some (block_here place.now) ≡ true }
-    ensures none { result ≡ false → mode_of mode.entry ≡ None → block_here place.now ≡ None }
+    ensures found { result ≡ true → block_here place.now ≡ Some (block_of found.new) }
+    ensures none { result ≡ false → innermost (chain_of stack.now) ≡ None → block_here place.now ≡ None }
 {
-    if mode.is_some() {
+    if place.at < child || !stack.is_empty() {
         return false;
     }
-    let at = place.at;
-    let end = place.end;
-    at < end && block_at(place, search).is_some()
+    // a place of its own, so that the walk's stands in no memory
+    let here = Place { ..*place };
+    match block_at(&here, search) {
+        Some(block) => {
+            *found = block;
+            true
+        }
+        None => false,
+    }
 }
 
 /// The choice at the place, which is one step; `opens` says whether a child can open there, and `plain` that nothing
@@ -142,30 +153,26 @@ fn take_bytes<'a>(
     next
 }
 
-/// Takes the choice at a place, which `choice_at` makes. No child opens in plain text from the place to before `child`.
+/// Takes the choice at a place, which `choice_at` makes; `opens` says whether a child can open there.
 #[inline(always)]
 fn take_choice<'a>(
     place: &Place<'_, 'a>,
-    search: &mut BlockSearch<'a>,
     stack: &mut Vec<Enclosure<'a>>,
-    child: usize,
+    opens: bool,
     steps: &mut usize,
 ) -> Result<Move, AllocError>
     requires closable { IsClosable (chain_of stack.old.items) }
     requires here { IsAt place.now }
     requires some { place.now.at < place.now.end }
     requires room { steps.old < length (text_of place.now) }
-    requires childless { place.now.at < child → innermost (chain_of stack.old.items) ≡ None
-        → block_here place.now ≡ None }
-    requires searched { search.old ≡ text_of place.now }
-    ensures same { search.new ≡ search.old }
+    requires child { opens ≡ true → is_some (block_here place.now) ≡ true }
+    requires childless { opens ≡ false → innermost (chain_of stack.old.items) ≡ None → block_here place.now ≡ None }
     ensures counted { steps.new ≡ steps.old + 1 }
+    ensures child { IfOk result (λ m. m ≡ Move.Child → opens ≡ true) }
     ensures takes { IfOk result (Moves (row_in place.now.reading.now) (blocks_of place.now.reading.now)
         place.now.behind_child (chain_of stack.old.items) (chain_of stack.new.items) (text_of place.now) place.now.at) }
 {
-    let at = place.at;
     let mode = innermost(stack);
-    let opens = child <= at && opens_at(place, mode, search);
     match choice_at(place, mode, opens, false, steps) {
         Choice::Closes => match stack.pop() {
             Some(enclosure) => Ok(Move::On(enclosure.closer.len())),
@@ -229,11 +236,12 @@ fn look_ahead<'a>(
 }
 
 /// Reads the part that begins at the place. Where the reading skips, it looks for the part's children ahead, and at a
-/// byte at which no choice can begin it looks no further.
+/// byte at which no choice can begin it looks no further. The child that breaks the part off is put into `found`.
 pub(crate) fn read_part<'a>(
     part: &Place<'_, 'a>,
     search: &mut BlockSearch<'a>,
     stack: &mut Vec<Enclosure<'a>>,
+    found: &mut Block<'a>,
 ) -> Result<PartRead, AllocError>
     requires closable { IsClosable (chain_of stack.old.items) }
     requires begins { Begins part.now }
@@ -243,6 +251,8 @@ pub(crate) fn read_part<'a>(
     ensures reads { IfOk result (Reads (row_in part.now.reading.now) (blocks_of part.now.reading.now)
         part.now.behind_child part.now.reading.now.docs_are_comments (chain_of stack.old.items)
         (chain_of stack.new.items) part.now.start (text_of part.now)) }
+    ensures found { IfOk result (λ r. (at : ℕ) → r.end ≡ PartEnd.Broken at
+        → block_from part.now at ≡ Some (block_of found.new)) }
 {
     let reading = part.reading;
     let start = part.start;
@@ -260,7 +270,8 @@ pub(crate) fn read_part<'a>(
             continue;
         }
         let there = Place { at, ..*part };
-        match take_choice(&there, search, stack, ahead, &mut steps)? {
+        let opens = finds_child(&there, stack, ahead, search, found);
+        match take_choice(&there, stack, opens, &mut steps)? {
             Move::On(len) => at += len,
             Move::Rest => at = stop,
             Move::Child => {

@@ -1,4 +1,4 @@
-use Rattle.std.proofs.Common.{◌≡◌, map, get_or, ◌≤◌, ◌<◌, ◌+◌, ◌-◌, ◌∙◌, ℕ, List, [], ◌∷◌, suc, zero, Bool, true, false, Err, ap, sym, subst, length, drop, refl, arith}
+use Rattle.std.proofs.Common.{◌≡◌, map, get_or, ◌≤◌, ◌<◌, ◌+◌, ◌-◌, ◌∙◌, ℕ, List, [], ◌∷◌, Err, ap, sym, subst, length, drop, refl, arith}
 use Rattle.std.proofs.lemmas.List.{drop_all}
 use Rattle.std.proofs.lemmas.Result.{err_from_is_err_and}
 use Rattle.tokei_table.specs.Families.{family_of}
@@ -9,21 +9,21 @@ use Rattle.tokei_count.specs.Items.{Block}
 use Rattle.tokei_count.specs.NotebookCells.{cell_block, cell_blocks}
 use Rattle.tokei_count.specs.Openings.{languages_of}
 use Rattle.tokei_count.specs.Gathered.{gathered}
-use Rattle.tokei_count.specs.PlainReading.{reading, child_reading}
+use Rattle.tokei_count.specs.PlainReading.{child_reading}
 use Rattle.tokei_count.specs.ReadingOf.{row_in, blocks_of}
 use Rattle.tokei_count.specs.Seen.{chain_of, block_of}
 use Rattle.tokei_count.specs.Steps.{steps, child_steps, capped, sum_over}
 use Rattle.tokei_count.specs.Walked.{ReadsTo}
 use Rattle.tokei_stats.specs.Overflow.{CountsFit, Fits}
 use Rattle.tokei_stats.specs.Seen.{sums_of, blobs_of, entries_of, stats_of}
-use Rattle.tokei_stats.specs.Statistics.{Counts, Statistics, Blobs, plus, at, put, joined, sum}
+use Rattle.tokei_stats.specs.Statistics.{Counts, Blobs, plus, at, put, joined, sum}
 use Rattle.tokei_stats.specs.Statistics.Statistics.{node}
 use Rattle.tokei_stats.specs.declared.error.CountError.TheVariants.{Overflow}
-use Rattle.tokei_count.proofs.LineEnds.{end_is, end_within, end_later}
+use Rattle.tokei_count.proofs.LineEnds.{end_later}
 use Rattle.tokei_count.proofs.NotebookReading.{known_at, begun, cells_begun, cells_split, cell_read, cell_fits, cell_blob_fits, cell_reading, cells_whole}
-use Rattle.tokei_count.proofs.StepReading.{knows_later, child_steps-is, steps-notebook, steps-no_notebook, capped-left, capped_middle, capped-twice, matchers_at, line_some}
+use Rattle.tokei_count.proofs.StepReading.{knows_later, child_steps-is, steps-notebook, steps-no_notebook, capped-left, capped_middle, capped-twice, matchers_at}
 use Rattle.tokei_count.proofs.TextReading.{reading-no_notebook}
-use Rattle.tokei_count.proofs.UnderWay.{first_end, openers_lines, all_read, all_made, unwalked, walked_here, walked_fits, walked_on, child_deep, child_known, broken_fits, inner_fits, added_fits, broken_on}
+use Rattle.tokei_count.proofs.UnderWay.{first_end, all_read, all_made, unwalked, walked_fits, walked_on, child_deep, child_known, broken_fits, inner_fits, added_fits, broken_on}
 use Rattle.tokei_count.proofs.text_reading.+read_text.Goals as goal
 
 pub read_notebook-returns-then-levels-eq0-clause-reads : goal.read_notebook-returns-then-levels-eq0-clause-reads
@@ -161,49 +161,41 @@ pub read_walked-returns-in_err-so_far-in-Line-clause-overflow : goal.read_walked
 read_walked-returns-in_err-so_far-in-Line-clause-overflow t c = λ is fits. c.in_err-so_far-in-Line.ensures.past (subst (λ (m : Counts). CountsFit (plus (sums_of c.args.so_far.now.own) m)) (sym c.counted_as.ensures)
     (walked_fits c.args.reading.now c.args.so_far.now c.requires.under_way c.in-Line.class c.in-Line.behind c.in_ok-part.part.steps c.read_part.new.stack (subst (ReadsTo (row_in c.args.reading.now) (blocks_of c.args.reading.now) c.args.so_far.now.behind_child c.args.reading.now.docs_are_comments (chain_of c.args.so_far.now.stack.items) (chain_of c.read_part.new.stack.items) c.args.so_far.now.start c.args.reading.now.text.now c.in_ok-part.part.steps) c.in-Line.is c.in_ok-part.ensures.reads) fits))
 
-pub read_walked-child_at-child-requires-clause-here : goal.read_walked-child_at-child-requires-clause-here
-read_walked-child_at-child-requires-clause-here t c =
-    let part = subst (ReadsTo (row_in c.args.reading.now) (blocks_of c.args.reading.now) c.args.so_far.now.behind_child c.args.reading.now.docs_are_comments (chain_of c.args.so_far.now.stack.items) (chain_of c.read_part.new.stack.items) c.args.so_far.now.start c.args.reading.now.text.now c.in_ok-part.part.steps) c.in-Broken.is c.in_ok-part.ensures.reads in
-    record {
-      part = part.3.part;
-      line = end_later c.args.reading.now.text.now c.args.so_far.now.start c.in-Broken.at c.args.end part.3.part.low c.requires.end (omega (arith, part.3.inside, c.requires.end));
-    }
-
 pub read_walked-returns-in_err-so_far-in-Broken-clause-overflow : goal.read_walked-returns-in_err-so_far-in-Broken-clause-overflow
 read_walked-returns-in_err-so_far-in-Broken-clause-overflow t c = λ is fits. c.in_err-so_far-in-Broken.ensures.past (subst (λ (m : Counts). CountsFit (plus (sums_of c.args.so_far.now.own) m)) (sym c.share.ensures)
-    (broken_fits c.args.reading.now c.args.so_far.now c.requires.under_way c.in-Broken.at c.in_ok-part.part.steps (chain_of c.read_part.new.stack.items) (block_of c.child_at-child.result) (subst (ReadsTo (row_in c.args.reading.now) (blocks_of c.args.reading.now) c.args.so_far.now.behind_child c.args.reading.now.docs_are_comments (chain_of c.args.so_far.now.stack.items) (chain_of c.read_part.new.stack.items) c.args.so_far.now.start c.args.reading.now.text.now c.in_ok-part.part.steps) c.in-Broken.is c.in_ok-part.ensures.reads) c.child_at-child.ensures.child fits))
+    (broken_fits c.args.reading.now c.args.so_far.now c.requires.under_way c.in-Broken.at c.in_ok-part.part.steps (chain_of c.read_part.new.stack.items) (block_of c.read_part.new.found) (subst (ReadsTo (row_in c.args.reading.now) (blocks_of c.args.reading.now) c.args.so_far.now.behind_child c.args.reading.now.docs_are_comments (chain_of c.args.so_far.now.stack.items) (chain_of c.read_part.new.stack.items) c.args.so_far.now.start c.args.reading.now.text.now c.in_ok-part.part.steps) c.in-Broken.is c.in_ok-part.ensures.reads) (c.in_ok-part.ensures.found c.in-Broken.at c.in-Broken.is) fits))
 
 pub read_walked-read_child-requires : goal.read_walked-read_child-requires
 read_walked-read_child-requires t c =
-    (omega (arith, c.decreases), (c.requires.reader, (c.requires.indexed, (child_deep c.args.reading.now c.args.so_far.now c.requires.under_way c.in-Broken.at c.in_ok-part.part.steps (chain_of c.read_part.new.stack.items) (block_of c.child_at-child.result) (subst (ReadsTo (row_in c.args.reading.now) (blocks_of c.args.reading.now) c.args.so_far.now.behind_child c.args.reading.now.docs_are_comments (chain_of c.args.so_far.now.stack.items) (chain_of c.read_part.new.stack.items) c.args.so_far.now.start c.args.reading.now.text.now c.in_ok-part.part.steps) c.in-Broken.is c.in_ok-part.ensures.reads) c.child_at-child.ensures.child, child_known c.args.reading.now c.args.so_far.now c.requires.under_way c.in-Broken.at c.in_ok-part.part.steps (chain_of c.read_part.new.stack.items) (block_of c.child_at-child.result) (subst (ReadsTo (row_in c.args.reading.now) (blocks_of c.args.reading.now) c.args.so_far.now.behind_child c.args.reading.now.docs_are_comments (chain_of c.args.so_far.now.stack.items) (chain_of c.read_part.new.stack.items) c.args.so_far.now.start c.args.reading.now.text.now c.in_ok-part.part.steps) c.in-Broken.is c.in_ok-part.ensures.reads) c.child_at-child.ensures.child))))
+    (omega (arith, c.decreases), (c.requires.reader, (c.requires.indexed, (child_deep c.args.reading.now c.args.so_far.now c.requires.under_way c.in-Broken.at c.in_ok-part.part.steps (chain_of c.read_part.new.stack.items) (block_of c.read_part.new.found) (subst (ReadsTo (row_in c.args.reading.now) (blocks_of c.args.reading.now) c.args.so_far.now.behind_child c.args.reading.now.docs_are_comments (chain_of c.args.so_far.now.stack.items) (chain_of c.read_part.new.stack.items) c.args.so_far.now.start c.args.reading.now.text.now c.in_ok-part.part.steps) c.in-Broken.is c.in_ok-part.ensures.reads) (c.in_ok-part.ensures.found c.in-Broken.at c.in-Broken.is), child_known c.args.reading.now c.args.so_far.now c.requires.under_way c.in-Broken.at c.in_ok-part.part.steps (chain_of c.read_part.new.stack.items) (block_of c.read_part.new.found) (subst (ReadsTo (row_in c.args.reading.now) (blocks_of c.args.reading.now) c.args.so_far.now.behind_child c.args.reading.now.docs_are_comments (chain_of c.args.so_far.now.stack.items) (chain_of c.read_part.new.stack.items) c.args.so_far.now.start c.args.reading.now.text.now c.in_ok-part.part.steps) c.in-Broken.is c.in_ok-part.ensures.reads) (c.in_ok-part.ensures.found c.in-Broken.at c.in-Broken.is)))))
 
 pub read_walked-returns-in_err-read-in-Broken-clause-overflow : goal.read_walked-returns-in_err-read-in-Broken-clause-overflow
 read_walked-returns-in_err-read-in-Broken-clause-overflow t c =
     let p = err_from_is_err_and c.from_residual-in_err-read-in-Broken.result c.from_residual-in_err-read-in-Broken.ensures.1 in
     rw (p.1, p.2) (λ is fits.
     let same : c.in_err-read-in-Broken.field-0.0 ≡ Overflow = cc in
-    c.in_err-read-in-Broken.ensures.overflow (ap Err same) (inner_fits c.args.reading.now c.args.so_far.now c.requires.under_way c.in-Broken.at c.in_ok-part.part.steps (chain_of c.read_part.new.stack.items) (block_of c.child_at-child.result) (subst (ReadsTo (row_in c.args.reading.now) (blocks_of c.args.reading.now) c.args.so_far.now.behind_child c.args.reading.now.docs_are_comments (chain_of c.args.so_far.now.stack.items) (chain_of c.read_part.new.stack.items) c.args.so_far.now.start c.args.reading.now.text.now c.in_ok-part.part.steps) c.in-Broken.is c.in_ok-part.ensures.reads) c.child_at-child.ensures.child fits))
+    c.in_err-read-in-Broken.ensures.overflow (ap Err same) (inner_fits c.args.reading.now c.args.so_far.now c.requires.under_way c.in-Broken.at c.in_ok-part.part.steps (chain_of c.read_part.new.stack.items) (block_of c.read_part.new.found) (subst (ReadsTo (row_in c.args.reading.now) (blocks_of c.args.reading.now) c.args.so_far.now.behind_child c.args.reading.now.docs_are_comments (chain_of c.args.so_far.now.stack.items) (chain_of c.read_part.new.stack.items) c.args.so_far.now.start c.args.reading.now.text.now c.in_ok-part.part.steps) c.in-Broken.is c.in_ok-part.ensures.reads) (c.in_ok-part.ensures.found c.in-Broken.at c.in-Broken.is) fits))
 
 pub read_walked-returns-in_err-add_blob-in-Broken-clause-overflow : goal.read_walked-returns-in_err-add_blob-in-Broken-clause-overflow
 read_walked-returns-in_err-add_blob-in-Broken-clause-overflow t c =
-    let k : Block = block_of c.child_at-child.result in
+    let k : Block = block_of c.read_part.new.found in
     let old : Blobs = blobs_of (entries_of c.args.so_far.now.blobs.entries) in
     let p = err_from_is_err_and c.from_residual-in_err-add_blob-in-Broken.result c.from_residual-in_err-add_blob-in-Broken.ensures.1 in
     rw (p.1, p.2) (λ is fits.
     let same : c.in_err-add_blob-in-Broken.field-0.0 ≡ Overflow = cc in
     c.in_err-add_blob-in-Broken.ensures.overflow (ap Err same)
-    (subst (λ s. Fits (joined (at old k.language) (λ o. sum o s) s)) (sym c.in_ok-read-in-Broken.ensures.reads) (added_fits c.args.reading.now c.args.so_far.now c.requires.under_way c.in-Broken.at c.in_ok-part.part.steps (chain_of c.read_part.new.stack.items) (block_of c.child_at-child.result) (subst (ReadsTo (row_in c.args.reading.now) (blocks_of c.args.reading.now) c.args.so_far.now.behind_child c.args.reading.now.docs_are_comments (chain_of c.args.so_far.now.stack.items) (chain_of c.read_part.new.stack.items) c.args.so_far.now.start c.args.reading.now.text.now c.in_ok-part.part.steps) c.in-Broken.is c.in_ok-part.ensures.reads) c.child_at-child.ensures.child fits)))
+    (subst (λ s. Fits (joined (at old k.language) (λ o. sum o s) s)) (sym c.in_ok-read-in-Broken.ensures.reads) (added_fits c.args.reading.now c.args.so_far.now c.requires.under_way c.in-Broken.at c.in_ok-part.part.steps (chain_of c.read_part.new.stack.items) (block_of c.read_part.new.found) (subst (ReadsTo (row_in c.args.reading.now) (blocks_of c.args.reading.now) c.args.so_far.now.behind_child c.args.reading.now.docs_are_comments (chain_of c.args.so_far.now.stack.items) (chain_of c.read_part.new.stack.items) c.args.so_far.now.start c.args.reading.now.text.now c.in_ok-part.part.steps) c.in-Broken.is c.in_ok-part.ensures.reads) (c.in_ok-part.ensures.found c.in-Broken.at c.in-Broken.is) fits)))
 
 pub read_walked-returns-in_ok-so_far-in-Line-clause-under_way : goal.read_walked-returns-in_ok-so_far-in-Line-clause-under_way
-read_walked-returns-in_ok-so_far-in-Line-clause-under_way t c = walked_on c.args.reading.now c.args.so_far.now c.requires.under_way c.in-Line.class c.in-Line.behind c.in_ok-part.part.steps c.read_part.new.stack (subst (ReadsTo (row_in c.args.reading.now) (blocks_of c.args.reading.now) c.args.so_far.now.behind_child c.args.reading.now.docs_are_comments (chain_of c.args.so_far.now.stack.items) (chain_of c.read_part.new.stack.items) c.args.so_far.now.start c.args.reading.now.text.now c.in_ok-part.part.steps) c.in-Line.is c.in_ok-part.ensures.reads) c.in_ok-so_far-in-Line.field-0 c.read_part.new.search
+read_walked-returns-in_ok-so_far-in-Line-clause-under_way t c = walked_on c.args.reading.now c.args.so_far.now c.requires.under_way c.in-Line.class c.in-Line.behind c.in_ok-part.part.steps c.read_part.new.stack (subst (ReadsTo (row_in c.args.reading.now) (blocks_of c.args.reading.now) c.args.so_far.now.behind_child c.args.reading.now.docs_are_comments (chain_of c.args.so_far.now.stack.items) (chain_of c.read_part.new.stack.items) c.args.so_far.now.start c.args.reading.now.text.now c.in_ok-part.part.steps) c.in-Line.is c.in_ok-part.ensures.reads) c.in_ok-so_far-in-Line.field-0 c.read_part.new.search c.read_part.new.found
     (c.in_ok-so_far-in-Line.ensures.ok ∙ ap (plus (sums_of c.args.so_far.now.own)) c.counted_as.ensures) (c.in_ok-part.ensures.same ∙ c.requires.under_way.searched) c.requires.walked
 
 pub read_walked-returns-in_ok-add_blob-in-Broken-clause-under_way : goal.read_walked-returns-in_ok-add_blob-in-Broken-clause-under_way
 read_walked-returns-in_ok-add_blob-in-Broken-clause-under_way t c =
-    let k : Block = block_of c.child_at-child.result in
+    let k : Block = block_of c.read_part.new.found in
     let old : Blobs = blobs_of (entries_of c.args.so_far.now.blobs.entries) in
-    broken_on c.args.reading.now c.args.so_far.now c.requires.under_way c.in-Broken.at c.in_ok-part.part.steps (chain_of c.read_part.new.stack.items) (block_of c.child_at-child.result) (subst (ReadsTo (row_in c.args.reading.now) (blocks_of c.args.reading.now) c.args.so_far.now.behind_child c.args.reading.now.docs_are_comments (chain_of c.args.so_far.now.stack.items) (chain_of c.read_part.new.stack.items) c.args.so_far.now.start c.args.reading.now.text.now c.in_ok-part.part.steps) c.in-Broken.is c.in_ok-part.ensures.reads) c.child_at-child.ensures.child _
+    broken_on c.args.reading.now c.args.so_far.now c.requires.under_way c.in-Broken.at c.in_ok-part.part.steps (chain_of c.read_part.new.stack.items) (block_of c.read_part.new.found) (subst (ReadsTo (row_in c.args.reading.now) (blocks_of c.args.reading.now) c.args.so_far.now.behind_child c.args.reading.now.docs_are_comments (chain_of c.args.so_far.now.stack.items) (chain_of c.read_part.new.stack.items) c.args.so_far.now.start c.args.reading.now.text.now c.in_ok-part.part.steps) c.in-Broken.is c.in_ok-part.ensures.reads) (c.in_ok-part.ensures.found c.in-Broken.at c.in-Broken.is) _
     (c.in_ok-so_far-in-Broken.ensures.ok ∙ ap (plus (sums_of c.args.so_far.now.own)) c.share.ensures)
     (c.in_ok-add_blob-in-Broken.ensures.ok ∙ ap (λ s'. put old k.language (joined (at old k.language) (λ s. sum s s') s')) c.in_ok-read-in-Broken.ensures.reads)
     refl (λ skipped. c.capped_sum-so_far.ensures ∙ ap (λ m. capped (c.args.so_far.now.inner_steps + m)) (c.in_ok-read-in-Broken.ensures.steps skipped))
-    refl refl refl (c.child_at-child.ensures.same ∙ c.in_ok-part.ensures.same ∙ c.requires.under_way.searched) c.requires.walked
+    refl refl refl (c.in_ok-part.ensures.same ∙ c.requires.under_way.searched) c.requires.walked

@@ -1,21 +1,20 @@
-use Rattle.std.proofs.Common.{◌≡◌, ◌∙◌, ℕ, ◌+◌, ◌-◌, ◌<◌, ◌≤◌, refl, sym, ap, subst, List, length, take, drop, arith, length-drop}
+use Rattle.std.proofs.Common.{◌≡◌, ◌∙◌, ℕ, ◌+◌, ◌-◌, ◌<◌, ◌≤◌, refl, sym, ap, subst, Some, List, length, take, drop, arith, length-drop}
 use Rattle.std.proofs.lemmas.List.{drop-drop}
 use Rattle.tokei_count.specs.Class.{class_of}
 use Rattle.tokei_count.specs.Lines.{first_line, line_len}
-use Rattle.tokei_count.specs.Matchers.{matchers_of}
 use Rattle.tokei_count.specs.Modes.{innermost}
+use Rattle.tokei_count.specs.Places.{block_from}
 use Rattle.tokei_count.specs.ReadingOf.{row_in, blocks_of}
 use Rattle.tokei_count.specs.Progress.{Leads, Goes, IsPart, ReadsLine, newlines}
-use Rattle.tokei_count.specs.Seen.{chain_of, mode_of}
+use Rattle.tokei_count.specs.Seen.{block_of, chain_of, mode_of}
 use Rattle.tokei_count.specs.Walked.{Moves}
 use Rattle.tokei_count.specs.declared.walk.Move.TheVariants.{Child}
 use Rattle.tokei_count.proofs.Blocks.{blocks_fit}
-use Rattle.tokei_count.proofs.Leading.{lead_none, at_newline, line_len-drop}
+use Rattle.tokei_count.proofs.Leading.{lead_none, line_len-drop}
 use Rattle.tokei_count.proofs.LineEnds.{end_is, end_within, end_behind, ends_more, first_line-low, first_line-high}
 use Rattle.tokei_count.proofs.Lines.{line_reads, take-first}
 use Rattle.tokei_count.proofs.PartFronts.{part_on, part_anew}
 use Rattle.tokei_count.proofs.PartReading.{block_opens, child_read_at}
-use Rattle.tokei_count.proofs.PlainBytes.{plain_byte}
 use Rattle.tokei_count.proofs.Walking.{led_on, run_on, reached}
 use Rattle.tokei_count.proofs.walk.read_part.Goals as goal
 use Rattle.tokei_count.proofs.walk.read_part.Goals.{then-at-stop, else-at-stop}
@@ -91,7 +90,7 @@ loop-at-preserved-in-On c =
     let rest_is : drop c.in-On.len (drop at text) ≡ drop next text = drop-drop c.in-On.len at text in
     let line_next : end ≡ next + line_len (drop next text) = omega (arith, line, goes.within, line_is, ap line_len rest_is) in
     record {
-      same = c.in_ok-len.ensures.same ∙ c.look_ahead-ahead.ensures.same ∙ c.loop-at.invariant.same;
+      same = c.finds_child-opens.ensures.same ∙ c.look_ahead-ahead.ensures.same ∙ c.loop-at.invariant.same;
       leads = led_on (row_in c.args.part.now.reading.now) (blocks_of c.args.part.now.reading.now) c.args.part.now.behind_child text c.args.part.now.start at (chain_of c.args.stack.now.items) (chain_of c.loop-at.stack.items) (chain_of c.take_choice.new.stack.items)
           (reached next end - c.args.part.now.start) c.take_bytes-at.new.steps c.in-On.len 1 (c.take_choice.new.steps - (next - end)) part.low
           led
@@ -127,7 +126,7 @@ loop-at-preserved c =
     let there : reached stop end ≡ at + line_len (drop at text) = omega (arith, line, stop_here, low) in
     let line_next : line_len (drop (at + line_len (drop at text)) text) ≡ 0 = ap line_len (sym (drop-drop (line_len (drop at text)) at text)) ∙ line_len-drop (line_len (drop at text)) (drop at text) (omega arith) ∙ omega arith in
     record {
-      same = c.in_ok-len.ensures.same ∙ c.look_ahead-ahead.ensures.same ∙ c.loop-at.invariant.same;
+      same = c.finds_child-opens.ensures.same ∙ c.look_ahead-ahead.ensures.same ∙ c.loop-at.invariant.same;
       leads = led_on (row_in c.args.part.now.reading.now) (blocks_of c.args.part.now.reading.now) c.args.part.now.behind_child text c.args.part.now.start at (chain_of c.args.stack.now.items) (chain_of c.loop-at.stack.items) (chain_of c.take_choice.new.stack.items)
           (reached stop end - c.args.part.now.start) c.take_bytes-at.new.steps (line_len (drop at text)) (1 - newlines (drop at text)) (c.take_choice.new.steps - (stop - end)) part.low
           led
@@ -166,6 +165,11 @@ returns-in-Child-clause-reads c =
         inside = omega (arith, c.requires.begins.line, more);
       },
     )
+
+pub returns-in-Child-clause-found : goal.returns-in-Child-clause-found
+returns-in-Child-clause-found c = λ at is.
+    let here : c.take_bytes-at.result ≡ at = cc in
+    subst (λ m. block_from c.args.part.now m ≡ Some (block_of c.finds_child-opens.new.found)) here (c.finds_child-opens.ensures.found (c.in_ok-len.ensures.child c.in-Child.is))
 
 pub returns-clause-reads : goal.returns-clause-reads
 returns-clause-reads c =

@@ -1,10 +1,8 @@
-use Rattle.std.proofs.Common.{◌≡◌, ◌<◌, ◌∙◌, ap, sym, ℕ, nat_le, refl, true, false, is_some, Option, None, Some, List, [], ◌-◌, take, drop, arith}
-use Rattle.std.proofs.lemmas.Bool.Decides.{nat_tests}
+use Rattle.std.proofs.Common.{◌≡◌, ◌<◌, ◌∙◌, ap, sym, ℕ, true, is_some, Option, None, List, [], ◌-◌, take, drop, arith}
 use Rattle.std.proofs.lemmas.List.{append-nil}
 use Rattle.tokei_table.specs.RowOf.{pair_of}
 use Rattle.tokei_count.specs.Choice.{Choice, choice, or_else}
 use Rattle.tokei_count.specs.Choice.Choice.{closes, escapes, child_opens, opens, passes_over, begins_line_comment, takes_byte}
-use Rattle.tokei_count.specs.Items.{Block}
 use Rattle.tokei_count.specs.Lines.{line_len}
 use Rattle.tokei_count.specs.Modes.{innermost}
 use Rattle.tokei_count.specs.ReadingOf.{row_in, blocks_of}
@@ -17,7 +15,6 @@ use Rattle.tokei_count.proofs.Blocks.{blocks_fit}
 use Rattle.tokei_count.proofs.Stack.{closer_pops, opener_pushes, no_pop, child_opens-plain}
 use Rattle.tokei_count.proofs.Stepping.{goes_byte, goes_escape, goes_pass, goes_rest}
 use Rattle.tokei_count.proofs.walk.take_choice.Goals as goal
-use Rattle.tokei_count.proofs.walk.take_choice.Goals.{then-child-at, else-child-at}
 
 -- the choice at the place, for a stack
 abbrev at_stack : Reading → ℕ → List ℕ → List Code.Enclosure → Choice
@@ -27,25 +24,15 @@ at_stack r l u es = choice (row_in r) (innermost (chain_of es)) (blocks_of r l u
 by_mode : (r : Reading) (l : ℕ) (u : List ℕ) (seen es : List Code.Enclosure) (mode : Option Code.Enclosure) → seen ≡ es → mode_of mode ≡ innermost (chain_of seen) → choice (row_in r) (mode_of mode) (blocks_of r l u) u ≡ at_stack r l u es
 by_mode r l u seen es mode e is = ap (λ m. choice (row_in r) m (blocks_of r l u) u) is ∙ ap (at_stack r l u) e
 
-not_both : false ≡ true → ⊥
-not_both h = cc
-
 pub choice_at-requires-clause-child : goal.choice_at-requires-clause-child
-choice_at-requires-clause-child c = λ _ some. elim c.if-child-at.branch [
-  | then-child-at w ↦ w.opens_at-opens.ensures.opens (sym w.opens-is ∙ some)
-  | else-child-at w ↦ let off : nat_le c.args.child c.args.place.now.at ≡ false = grind (arith, nat_tests, w.if-child-at.false) in
-      absurd (not_both (sym off ∙ sym w.opens-is ∙ some))
-]
+choice_at-requires-clause-child c = λ _ some. c.requires.child some
 
 -- in an item no child is looked for
 pub choice_at-requires-clause-childless : goal.choice_at-requires-clause-childless
 choice_at-requires-clause-childless c = λ _ unseen plain.
     let none : innermost (chain_of c.args.stack.now.items) ≡ None =
     ap (λ es. innermost (chain_of es)) (sym c.deref.ensures.value) ∙ sym c.innermost-mode.ensures ∙ plain in
-    elim c.if-child-at.branch [
-      | then-child-at w ↦ w.opens_at-opens.ensures.none (sym w.opens-is ∙ unseen) plain
-      | else-child-at w ↦ c.requires.childless w.if-child-at.false none
-    ]
+    c.requires.childless unseen none
 
 pub returns-in-TakesByte-clause-takes : goal.returns-in-TakesByte-clause-takes
 returns-in-TakesByte-clause-takes c =
@@ -83,13 +70,11 @@ pub returns-in-ChildOpens-clause-takes : goal.returns-in-ChildOpens-clause-takes
 returns-in-ChildOpens-clause-takes c =
     let u : List ℕ = drop c.args.place.now.at c.args.place.now.reading.now.text.now in
     let here : at_stack c.args.place.now.reading.now c.args.place.now.behind_child u c.args.stack.now.items ≡ or_else (blocks_of c.args.place.now.reading.now c.args.place.now.behind_child u) child_opens takes_byte = sym (by_mode c.args.place.now.reading.now c.args.place.now.behind_child u c.deref.result.now c.args.stack.now.items c.innermost-mode.result c.deref.ensures.value c.innermost-mode.ensures) ∙ sym c.choice_at.ensures.choice ∙ ap (choice_of (blocks_of c.args.place.now.reading.now c.args.place.now.behind_child u)) c.in-ChildOpens.is in
-    let seen : c.if-child-at.opens ≡ true = c.choice_at.ensures.child c.in-ChildOpens.is in
-    let some : is_some (block_here c.args.place.now) ≡ true = elim c.if-child-at.branch [
-      | then-child-at w ↦ w.opens_at-opens.ensures.opens (sym w.opens-is ∙ seen)
-      | else-child-at w ↦ let off : nat_le c.args.child c.args.place.now.at ≡ false = grind (arith, nat_tests, w.if-child-at.false) in
-          absurd (not_both (sym off ∙ sym w.opens-is ∙ seen))
-    ] in
+    let some : is_some (block_here c.args.place.now) ≡ true = c.requires.child (c.choice_at.ensures.child c.in-ChildOpens.is) in
     child_opens-plain (row_in c.args.place.now.reading.now) (blocks_of c.args.place.now.reading.now) c.args.place.now.behind_child c.args.stack.now.items u some here
+
+pub returns-in-ChildOpens-clause-child : goal.returns-in-ChildOpens-clause-child
+returns-in-ChildOpens-clause-child c = λ _. c.choice_at.ensures.child c.in-ChildOpens.is
 
 pub returns-in_ok-push-in-Opens-clause-takes : goal.returns-in_ok-push-in-Opens-clause-takes
 returns-in_ok-push-in-Opens-clause-takes c =
