@@ -210,7 +210,22 @@ pub(crate) fn class_by(
 }
 
 /// The class of the line of the reading's text from `start` to before `stop`, which no item encloses at either end, as
-/// `class_of` has it. Only blanks stand before `solid`.
+/// `class_of` has it. It stands in no caller's code, since most lines are told by their fronts.
+#[inline(never)]
+fn class_of_line(reading: &Reading, start: usize, stop: usize) -> Class
+    requires order { start ≤ stop }
+    requires within { stop ≤ length reading.now.text.now }
+    ensures { result ≡ class_of (row_in reading.now) reading.now.docs_are_comments (record {
+      begun = None;
+      bytes = take (stop - start) (drop start reading.now.text.now);
+      ended = None;
+    }) }
+{
+    let bytes = &reading.text[start..stop];
+    class_of(reading.syntax, reading.docs_are_comments, None, bytes, None)
+}
+
+/// The same. Only blanks stand before `solid`.
 #[inline(always)]
 pub(crate) fn class_of_plain(reading: &Reading, start: usize, solid: usize, stop: usize) -> Class
     requires order { start ≤ stop }
@@ -225,10 +240,8 @@ pub(crate) fn class_of_plain(reading: &Reading, start: usize, solid: usize, stop
 {
     let syntax = reading.syntax;
     match class_by_front(reading.matchers, reading.text, start, solid, stop) {
-        Some(Class::Blank) => return Class::Blank,
-        Some(Class::Code) if !syntax.literate => return Class::Code,
-        _ => {}
+        Some(Class::Blank) => Class::Blank,
+        Some(Class::Code) if !syntax.literate => Class::Code,
+        _ => class_of_line(reading, start, stop),
     }
-    let bytes = &reading.text[start..stop];
-    class_of(syntax, reading.docs_are_comments, None, bytes, None)
 }

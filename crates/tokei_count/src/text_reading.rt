@@ -174,30 +174,22 @@ impl<'a> ReadSoFar<'a> {
     }
 }
 
-/// The lines, with one of the class more.
+/// Counts one line more, of the class.
 #[inline(always)]
-fn one_more(lines: Sums, class: Class) -> Sums
-    requires room { lines_of (sums_of lines) + 1 < 2 ^ 64 }
-    ensures { sums_of result ≡ plus (sums_of lines) (one_of class) }
+fn one_more(lines: &mut Sums, class: Class)
+    requires room { lines_of (sums_of lines.old) + 1 < 2 ^ 64 }
+    ensures { sums_of lines.new ≡ plus (sums_of lines.old) (one_of class) }
 {
     match class {
-        Class::Blank => Sums {
-            blanks: lines.blanks + 1,
-            ..lines
-        },
-        Class::Code => Sums {
-            code: lines.code + 1,
-            ..lines
-        },
-        Class::Comment => Sums {
-            comments: lines.comments + 1,
-            ..lines
-        },
+        Class::Blank => lines.blanks += 1,
+        Class::Code => lines.code += 1,
+        Class::Comment => lines.comments += 1,
     }
 }
 
 /// Counts the next lines, one after another, which stop before the first opener, at `next`, or with the text. Their
 /// counts and place stand in no memory meanwhile.
+#[inline(never)]
 fn count_lines(reading: &Reading, so_far: &mut ReadSoFar, next: usize) -> Result<(), CountError>
     requires under_way { IsUnderWay reading.now so_far.old }
     requires plain { chain_of so_far.old.stack.items ≡ [] }
@@ -226,7 +218,7 @@ fn count_lines(reading: &Reading, so_far: &mut ReadSoFar, next: usize) -> Result
         if next < stop {
             break;
         }
-        lines = one_more(lines, class_of_plain(reading, at, front.solid, stop));
+        one_more(&mut lines, class_of_plain(reading, at, front.solid, stop));
         at = stop;
     }
     so_far.own = so_far.own.plus(lines)?;

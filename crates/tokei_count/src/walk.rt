@@ -56,8 +56,32 @@ fn innermost<'a>(stack: &[Enclosure<'a>]) -> Option<Enclosure<'a>>
     stack.last().copied()
 }
 
-/// Whether a child opens at the place, which is put into `found`. In an item none does, and none is looked for; nor is
-/// one before `child`, where none opens in plain text.
+/// Whether a child opens at the place, which is put into `found`. It stands in no caller's code, since few choices come
+/// to it.
+#[inline(never)]
+fn finds_block<'a>(
+    place: &Place<'_, 'a>,
+    search: &mut BlockSearch<'a>,
+    found: &mut Block<'a>,
+) -> bool
+    requires here { IsAt place.now }
+    requires some { place.now.at < place.now.end }
+    requires searched { search.old ≡ text_of place.now }
+    ensures same { search.new ≡ search.old }
+    ensures found { result ≡ true → block_here place.now ≡ Some (block_of found.new) }
+    ensures none { result ≡ false → block_here place.now ≡ None }
+{
+    match block_at(place, search) {
+        Some(block) => {
+            *found = block;
+            true
+        }
+        None => false,
+    }
+}
+
+/// The same in plain text. In an item none opens, and none is looked for; nor is one before `child`, where none opens in
+/// plain text.
 #[inline(always)]
 fn finds_child<'a>(
     place: &Place<'_, 'a>,
@@ -79,13 +103,7 @@ fn finds_child<'a>(
     }
     // a place of its own, so that the walk's stands in no memory
     let here = Place { ..*place };
-    match block_at(&here, search) {
-        Some(block) => {
-            *found = block;
-            true
-        }
-        None => false,
-    }
+    finds_block(&here, search, found)
 }
 
 /// The choice at the place, which is one step; `opens` says whether a child can open there, and `plain` that nothing

@@ -1,7 +1,6 @@
 use Rattle.std.proofs.Common.{◌≡◌, ℕ, List, [], Some, None, ◌-◌, drop, take, false, sym, ap, ◌∙◌, refl}
 use Rattle.tokei_table.specs.Bytes.{trim_start}
 use Rattle.tokei_table.specs.Row.{Row}
-use Rattle.tokei_count.specs.Class.{class_of}
 use Rattle.tokei_count.specs.ReadingOf.{row_in}
 use Rattle.tokei_count.specs.declared.reading.Reading.{Reading}
 use Rattle.tokei_count.proofs.CodeHeads.{code_head, blank_part}
@@ -24,9 +23,3 @@ returns-in-Some-Code c =
     let literate : (row_in r).literate ≡ false = ap (λ (g : Row). g.literate) (sym r.row) ∙ c.if-not-syntax.true in
     sym (code_head (row_in r) r.sound r.matchers.now r.matched r.docs_are_comments None literate refl (bytes r c.args.start c.args.stop)
     (c.class_by_front.ensures.code (c.in-Some-Code.is ∙ ap Some c.in-Some-Code.field-0-is)))
-
-pub returns : goal.returns
-returns c =
-    let r : Reading = c.args.reading.now in
-    c.class_of.ensures ∙ ap (λ (g : Row). class_of g r.docs_are_comments
-    (record { begun = None; bytes = bytes r c.args.start c.args.stop; ended = None })) r.row
