@@ -1,6 +1,6 @@
 //! A table of few languages, and a tree of files in them, small enough that each allocation can be made to fail in turn.
-use crate::statistics::files;
 use std::alloc::{AllocError, Global};
+use tokei_statistics_rows::trees::files;
 use tokei_stats::{CodeStats, Report};
 use tokei_table::{LanguageTable, LanguageType, TableError};
 use tokei_walk::{Call, Fault, MemoryFolders};

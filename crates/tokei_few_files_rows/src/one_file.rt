@@ -1,11 +1,11 @@
 //! What one file is: its language by its head, and its report, or its path where it has none.
 use crate::few_languages::{few_languages, few_of, report_of_markdown, tree};
-use crate::statistics::{bench_table, files};
 use std::alloc::{AllocError, Global};
 use std::test::Fail;
 use tokei_config::Config;
 use tokei_count::Counter;
 use tokei_statistics::{ParseFault, from_shebang, parse_file};
+use tokei_statistics_rows::trees::{bench_table, files};
 use tokei_stats::Report;
 use tokei_table::{LanguageTable, LanguageType, TableError};
 use tokei_walk::{Call, FailingFolders, Fault, Folders};
