@@ -3,13 +3,14 @@ ghost use Rattle.std.specs.Prelude.{◌≡◌, Ok, Some, IfOk, string_bytes};
 ghost use Rattle.serde_json.specs.Read.{read};
 ghost use Rattle.serde_json.specs.View.{view};
 ghost use Rattle.serde_json.specs.Written.{compact_text};
+ghost use Rattle.tokei_earlier.specs.Outcome.{outcome_of_text};
 ghost use Rattle.tokei_json.specs.Document.{document};
-ghost use Rattle.tokei_json.specs.Outcome.{outcome_of_text};
 ghost use Rattle.tokei_languages.specs.Seen.{languages_of};
 
 use anyhow::bail;
 use serde_json::Value;
 use std::alloc::Global;
+use tokei_earlier::from_text;
 use tokei_json::Format;
 use tokei_languages::Languages;
 use tokei_table::LanguageTable;
@@ -92,7 +93,7 @@ fn printed(alloc: Global, input: &Input) -> anyhow::Result<String>
 fn parsed(alloc: Global, input: &Input) -> anyhow::Result<Languages>
     ensures { IfOk result (λ ls. outcome_of_text input.now.table.now input.now.text.now ≡ Ok (languages_of ls)) }
 {
-    Ok(Format::parse(alloc, input.table, input.text)?)
+    Ok(from_text(alloc, input.table, input.text)?)
 }
 
 /// The value of the input's text.

@@ -1,13 +1,2 @@
-pub mod Bytes
-pub mod Commuting
-pub mod Depth
-pub mod Insertions
 pub mod Members
-pub mod Names
 pub mod NoFloats
-pub mod ReadBack
-pub mod ReadBackValues
-pub mod ReadDocument
-pub mod Sound
-pub mod SoundLayout
-pub mod SoundNames

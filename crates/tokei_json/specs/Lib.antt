@@ -1,11 +1,2 @@
-pub mod Adding
 pub mod Document
 pub mod Formats
-pub mod InOrder
-pub mod Known
-pub mod LanguageMaps
-pub mod Layout
-pub mod Levels
-pub mod Outcome
-pub mod Reading
-pub mod ReadingBack

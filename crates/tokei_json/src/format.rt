@@ -1,9 +1,20 @@
-//! The formats of a document.
-ghost use Rattle.std.specs.Prelude.{◌≡◌, map};
+//! The formats of a document, and its text.
+ghost use Rattle.std.specs.Prelude.{◌≡◌, ◌≤◌, IfOk, IsErrOf, Some, map, string_bytes};
+ghost use Rattle.serde_json.specs.Data.{depth};
+ghost use Rattle.serde_json.specs.Read.{max_depth, read};
+ghost use Rattle.serde_json.specs.Written.{compact_text};
+ghost use Rattle.tokei_json.specs.Document.{document};
 ghost use Rattle.tokei_json.specs.Formats.{all_words, format_of_word, supported_words, unsupported_words};
+ghost use Rattle.tokei_languages.specs.Seen.{languages_of};
+ghost use Rattle.tokei_languages.specs.Summaries.{languages_summary};
+ghost use Rattle.tokei_stats.specs.Overflow.{CountsFit};
 
+use crate::write::to_value;
+use std::alloc::Global;
 use std::str::FromStr;
 use thiserror::Error;
+use tokei_languages::{CountError, Languages};
+use tokei_table::LanguageTable;
 
 /// A format in which languages are printed and read.
 #[derive(Clone, Copy, Debug, PartialEq, Eq)]
@@ -23,6 +34,26 @@ pub enum FormatError {
 }
 
 impl Format {
+    /// The compact text of `to_value`. `Overflow` only where a count of the total passes the greatest `usize`, or `Memory`.
+    pub fn print(
+        self,
+        alloc: Global,
+        table: &LanguageTable,
+        languages: &Languages,
+    ) -> Result<String, CountError>
+        ensures text { IfOk result (λ s. string_bytes s
+            ≡ compact_text (document table.now (languages_of languages.now))) }
+        ensures reads_back { IfOk result (λ s. depth (document table.now (languages_of languages.now)) ≤ max_depth
+            → read (string_bytes s) ≡ Some (document table.now (languages_of languages.now))) }
+        ensures overflow { IsErrOf result CountError.Overflow
+            → ¬ CountsFit (languages_summary (languages_of languages.now)) }
+    {
+        let Format::Json = self;
+        let value = to_value(alloc, table, languages)?;
+        let text = value.to_string(alloc)?;
+        Ok(text)
+    }
+
     /// The words of the formats that can be had.
     pub fn supported() -> &'static [&'static str]
         ensures { map (λ w. w.now) result.now ≡ supported_words }

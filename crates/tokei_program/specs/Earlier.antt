@@ -2,7 +2,7 @@
 use Rattle.std.specs.Prelude.{ℕ, List, [], Option, None, Some, bytes_eq, codes, if◌then◌else◌, ⊤, IfSome}
 use Rattle.std.specs.Option.{option_or}
 use Rattle.tokei_folders.specs.Tree.{Tree}
-use Rattle.tokei_json.specs.Adding.{IsAdded}
+use Rattle.tokei_earlier.specs.Adding.{IsAdded}
 use Rattle.tokei_languages.specs.declared.languages.Languages.{Languages}
 use Rattle.tokei_languages.specs.Seen.{languages_of}
 use Rattle.tokei_program.specs.Tables.{content_at}

@@ -2,7 +2,9 @@
 use crate::runs::{bench, job};
 use std::alloc::Global;
 use std::test::Fail;
-use tokei::{Counted, Format, Job, LanguageTable, MemoryFolders, RunError, Streaming, Wanted, run};
+use tokei::{
+    Counted, Format, Job, LanguageTable, MemoryFolders, RunError, Streaming, Wanted, from_text, run,
+};
 
 /// Two reports whose sum is too large.
 const REPORTS: &str = concat!(
@@ -39,7 +41,7 @@ fn job_of(
 ) -> Result<Job, Fail> {
     let (wanted, files, compact) = output;
     let mut job = job(alloc, wanted)?;
-    job.earlier = Some(Format::parse(alloc, table, earlier)?);
+    job.earlier = Some(from_text(alloc, table, earlier)?);
     job.files = files;
     job.compact = compact;
     Ok(job)

@@ -1,5 +1,6 @@
 //! Notebooks below a root: which of their lines count, and as what.
-use crate::statistics::{bench_table, counted, files, gains, key, row_of};
+use crate::statistics::{counted, gains, key, row_of};
+use crate::trees::{bench_table, files};
 use std::alloc::Global;
 use std::test::Fail;
 use tokei_config::Config;

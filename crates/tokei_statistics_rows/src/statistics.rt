@@ -1,8 +1,8 @@
 //! What folders in memory count, by the bench table.
+use crate::trees::{bench_table, files, owned};
 use std::alloc::Global;
 use std::collections::BTreeMap;
 use std::test::Fail;
-use tokei_bench::bench_json;
 use tokei_config::{Config, LanguageConfig};
 use tokei_count::CountError;
 use tokei_languages::{Language, Languages};
@@ -13,11 +13,7 @@ use tokei_walk::{Call, Fault, Folders, MemoryFolders};
 /// Blanks, code and comments of a language, how many reports it has, and whether it is marked.
 pub type Row = (usize, usize, usize, usize, bool);
 
-/// The bench table.
-pub fn bench_table(alloc: Global) -> Result<LanguageTable, &'static str> {
-    LanguageTable::from_json(alloc, bench_json()).map_err(|_| "the bench table is refused")
-}
-
+/// What was counted of a language.
 pub fn row_of(language: &Language) -> Row {
     (
         language.blanks,
@@ -34,30 +30,12 @@ pub fn row(table: &LanguageTable, languages: &Languages, name: &str) -> Option<R
     languages.get(language).map(|l| row_of(l))
 }
 
-/// The texts as owned ones.
-pub fn owned(alloc: Global, texts: &[&str]) -> Result<Vec<String>, CountError> {
-    let mut strings = Vec::new(alloc);
-    for text in texts {
-        strings.push(String::from_str(alloc, text)?)?;
-    }
-    Ok(strings)
-}
-
 /// The language of that name.
 pub fn key(table: &LanguageTable, name: &str) -> Result<LanguageType, Fail> {
     match LanguageType::from_name(table, name) {
         Some(key) => Ok(key),
         None => Err(Fail::from("no such language")),
     }
-}
-
-/// Files of these places and contents.
-pub fn files(alloc: Global, contents: &[(&str, &[u8])]) -> Result<MemoryFolders, Fault> {
-    let mut folders = MemoryFolders::new(alloc);
-    for (place, content) in contents {
-        folders.add_file(place, content)?;
-    }
-    Ok(folders)
 }
 
 /// Files of these places and contents, where some places refuse a call.

@@ -1,0 +1,2 @@
+pub mod LanguageMaps
+pub mod Layout

@@ -1,0 +1,4 @@
+pub mod InOrder
+pub mod Known
+pub mod Levels
+pub mod ReadingBack
