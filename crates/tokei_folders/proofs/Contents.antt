@@ -1,6 +1,5 @@
 -- What a read answers, and that a told tree is sound.
-use Rattle.std.proofs.Common.{◌≡◌, ℕ, List, true, false, Option, Some, None, Result, Ok, Err, refl, sym, ap, ◌∙◌}
-use Rattle.tokei_folders.specs.declared.fs.Fault.{Fault}
+use Rattle.std.proofs.Common.{◌≡◌, ℕ, List, true, false, Option, Some, None, Ok, Err, refl, sym, ap, ◌∙◌}
 use Rattle.tokei_folders.specs.declared.fs.Fault.TheVariants.{Refused}
 use Rattle.tokei_folders.specs.declared.nodes.Node.{Node}
 use Rattle.tokei_folders.specs.declared.nodes.Node.TheVariants.{File as file, Folder as folder}

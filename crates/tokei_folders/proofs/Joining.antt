@@ -45,7 +45,7 @@ pub names-append : (xs ys : List (List ℕ)) → filter is_name (xs ++ ys) ≡ f
 names-append [] ys = refl
 names-append (x ∷ xs) ys = ap (λ (q : List (List ℕ)). cond (is_name x) (x ∷ q) q) (names-append xs ys) ∙ filter_step (is_name x) x (filter is_name xs) (filter is_name ys)
 
-names_of_seam : (xs ys : List ℕ) → names_of (xs ++ 47 ∷ ys) ≡ names_of xs ++ names_of ys
+pub names_of_seam : (xs ys : List ℕ) → names_of (xs ++ 47 ∷ ys) ≡ names_of xs ++ names_of ys
 unfolding names_of
 names_of_seam xs ys = ap (filter is_name) (split_seam xs ys) ∙ names-append (slice_split is_slash xs) (slice_split is_slash ys)
 

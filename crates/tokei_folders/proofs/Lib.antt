@@ -1,6 +1,7 @@
 pub mod Adding
 pub mod FoldersAbove
 pub mod Joining
+pub mod LastNames
 pub mod ListEnds
 pub mod NameOrder
 pub mod Placing

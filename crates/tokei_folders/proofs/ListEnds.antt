@@ -1,7 +1,5 @@
 -- The last item of a list.
-use Rattle.std.specs.Borrow.{Bor}
-use Rattle.std.specs.List.{last_or}
-use Rattle.std.proofs.Common.{◌≡◌, ℕ, suc, Bool, true, false, cond, filter, map, Option, Some, sym, ◌-◌, ◌==◌, List, [], ◌∷◌, ◌++◌, length, take, refl, ap, ◌∙◌, arith}
+use Rattle.std.proofs.Common.{◌≡◌, ℕ, suc, ◌-◌, ◌==◌, List, [], ◌∷◌, ◌++◌, length, take, refl, ap, ◌∙◌, arith}
 use Rattle.tokei_folders.specs.Ends.{ends_in, without_last}
 
 pub ends_in-push : (e c : ℕ) (xs : List ℕ) → ends_in e (xs ++ c ∷ []) ≡ (c == e)
@@ -23,12 +21,3 @@ without_last-push (y ∷ z ∷ xs) x = ap (λ (ys : List _). y ∷ ys) (without_
 
 pub without_last_of_take : {X : Type 0} (xs ys : List X) → ys ≡ take (length xs - 1) xs → ys ≡ without_last xs
 without_last_of_take xs ys is = is ∙ without_last-take xs
-
-last_step : {X : Type 0} (b : Bool) (o : Option X) (y : X) (rest : List X) (z : Option X) → ((q : Option X) → z ≡ last_or q rest) → z ≡ last_or o (cond b (y ∷ rest) rest)
-last_step true o y rest z h = h (Some y)
-last_step false o y rest z h = h o
-
--- an item that passes a test and comes last is the last that passes
-pub last_kept : {X : Type 0} (p : X → Bool) (o : Option X) (ys : List (Bor X)) (x : Bor X) → p x.now ≡ true → Some x.now ≡ last_or o (filter p (map (λ y. y.now) (ys ++ x ∷ [])))
-last_kept p o [] x e = ap (λ b. last_or o (cond b (x.now ∷ []) [])) (sym e)
-last_kept p o (y ∷ ys) x e = last_step (p y.now) o y.now (filter p (map (λ y. y.now) (ys ++ x ∷ []))) (Some x.now) (λ q. last_kept p q ys x e)

@@ -32,18 +32,18 @@ pub fn names(alloc: Global, place: &str) -> Result<Items<Text>, AllocError>
     Ok(names)
 }
 
-/// The last name of a place, where it has one. It takes no memory.
-#[tactic(auto, unfolding(crate::specs::Tree::names_of))]
+/// The last name of a place, where it has one. It takes no memory, and looks at the place from its end.
 pub fn last_name(place: &str) -> Option<&str>
     ensures { option_map (λ n. n.now) result ≡ last_or None (names_of place.entry.now) }
 {
-    let mut last = None;
-    for piece in place.split('/') {
+    let mut rest = place;
+    while let Some((front, piece)) = rest.rsplit_once('/') {
         if is_name(piece) {
-            last = Some(piece);
+            return Some(piece);
         }
+        rest = front;
     }
-    last
+    if is_name(rest) { Some(rest) } else { None }
 }
 
 /// The order of two lists of names: name by name, in bytes.
