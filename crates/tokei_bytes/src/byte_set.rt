@@ -13,8 +13,8 @@ const FEW: usize = 4;
 #[derive(Drop)]
 pub struct ByteSet {
     flags: Vec<bool>,
-    /// The first `count` of them are the bytes of the set, where those are at most four, and each is one where there are
-    /// any.
+    /// The first `count` of them are the bytes of the set, where those are at most four, and each is one where there
+    /// are any.
     few: [u8; 4],
     count: usize,
 }
