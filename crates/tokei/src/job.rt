@@ -1,6 +1,6 @@
 //! What a run counts, and what it writes.
 use tokei_config::Config;
-use tokei_json::Format;
+use tokei_format::Format;
 use tokei_languages::Languages;
 use tokei_options::Sort;
 use tokei_print::{NumberFormatStyle, Streaming};

@@ -14,8 +14,8 @@ use crate::report::table_text;
 use crate::stream::{Rows, stream};
 use std::alloc::Global;
 use tokei_folders::Folders;
+use tokei_format::Format;
 use tokei_io::Sink;
-use tokei_json::Format;
 use tokei_table::LanguageTable;
 use tokei_walk::Note;
 

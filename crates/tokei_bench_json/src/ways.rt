@@ -10,8 +10,7 @@ ghost use Rattle.tokei_languages.specs.Seen.{languages_of};
 use anyhow::bail;
 use serde_json::Value;
 use std::alloc::Global;
-use tokei_earlier::from_text;
-use tokei_json::Format;
+use tokei_format::Format;
 use tokei_languages::Languages;
 use tokei_table::LanguageTable;
 
@@ -93,7 +92,7 @@ fn printed(alloc: Global, input: &Input) -> anyhow::Result<String>
 fn parsed(alloc: Global, input: &Input) -> anyhow::Result<Languages>
     ensures { IfOk result (λ ls. outcome_of_text input.now.table.now input.now.text.now ≡ Ok (languages_of ls)) }
 {
-    Ok(from_text(alloc, input.table, input.text)?)
+    Ok(Format::parse(alloc, input.table, input.text)?)
 }
 
 /// The value of the input's text.

@@ -1,8 +1,8 @@
 //! Languages written as a JSON document.
 #![tactic(auto)]
 
-pub mod format;
+pub mod text;
 pub mod write;
 
-pub use format::{Format, FormatError};
+pub use text::to_text;
 pub use write::{report_line, to_value};

@@ -11,8 +11,9 @@ ghost use Rattle.tokei_languages.specs.Seen.{children_of, language_of, languages
 
 use std::alloc::Global;
 use std::collections::BTreeMap;
-use tokei_earlier::{InputError, from_text, from_value};
-use tokei_json::{Format, to_value};
+use tokei_earlier::{InputError, from_value};
+use tokei_format::Format;
+use tokei_json::to_value;
 use tokei_languages::{CountError, Language, Languages};
 use tokei_stats::Report;
 use tokei_stats::laws::statistics_are_ordered;
@@ -93,7 +94,7 @@ pub fn printed_and_read(
     let _count = table.len();
     languages_are_in_order(languages);
     match Format::Json.print(alloc, table, languages) {
-        Ok(text) => from_text(alloc, table, text.as_str()),
+        Ok(text) => Format::parse(alloc, table, text.as_str()),
         Err(CountError::Overflow) => Err(InputError::Overflow),
         Err(CountError::Memory) => Err(InputError::Memory),
     }

@@ -1,9 +1,10 @@
 //! Documents printed and read, texts refused for each cause, and readers that fail.
 use std::alloc::{AllocError, Global};
 use std::test::Fail;
-use tokei_earlier::{InputError, add_input, from_text, from_value};
+use tokei_earlier::{InputError, add_input, from_value};
+use tokei_format::{Format, FormatError};
 use tokei_io::{Counted, FailOnce};
-use tokei_json::{Format, FormatError, to_value};
+use tokei_json::to_value;
 use tokei_languages::{CountError, Language, Languages};
 use tokei_stats::Report;
 use tokei_table::{LanguageTable, LanguageType};
@@ -34,7 +35,7 @@ fn table(alloc: Global) -> Result<LanguageTable, InputError> {
 
 /// How many languages a text names, or what it is refused for.
 fn named(alloc: Global, table: &LanguageTable, text: &str) -> Result<usize, InputError> {
-    Ok(from_text(alloc, table, text)?.len())
+    Ok(Format::parse(alloc, table, text)?.len())
 }
 
 /// What a text is refused for, if it is.
@@ -74,7 +75,7 @@ fn is_printed(alloc: Global, table: &LanguageTable, languages: &Languages) -> Re
 
 /// Whether these languages are read from the document of one file.
 fn is_read(alloc: Global, table: &LanguageTable, languages: &Languages) -> Result<bool, Fail> {
-    let read = from_text(alloc, table, ONE_FILE)?;
+    let read = Format::parse(alloc, table, ONE_FILE)?;
     Ok(read == *languages)
 }
 
@@ -113,7 +114,7 @@ fn earlier_results_into_no_languages(rt: HostRuntime) -> Result<(), Fail> {
 /// The languages of a document that names one alone.
 fn of_one_name(alloc: Global, table: &LanguageTable, name: &str) -> Result<Languages, Fail> {
     let text = format!(in alloc; "{{\"{name}\":{L},\"Total\":0}}")?;
-    Ok(from_text(alloc, table, text.as_str())?)
+    Ok(Format::parse(alloc, table, text.as_str())?)
 }
 
 /// Whether a document that names one language alone by this name holds C#, and is printed with the name of C#.
@@ -269,11 +270,11 @@ fn nested(alloc: Global, levels: usize) -> Result<String, Fail> {
 
 /// Whether what is printed of a text's languages is read back as the same, or what the text is refused for.
 fn is_read_back(alloc: Global, table: &LanguageTable, text: &str) -> Result<bool, InputError> {
-    let read = from_text(alloc, table, text)?;
+    let read = Format::parse(alloc, table, text)?;
     let Ok(printed) = Format::Json.print(alloc, table, &read) else {
         return Ok(false);
     };
-    Ok(from_text(alloc, table, printed.as_str())? == read)
+    Ok(Format::parse(alloc, table, printed.as_str())? == read)
 }
 
 /// The same of a document of one report whose blobs are so many levels deep.
@@ -469,8 +470,8 @@ fn refused_print(rt: HostRuntime) {
 }
 
 /// Whether the languages of one file are read, where memory suffices, and else the answer is out of memory.
-fn reads_or_fails(alloc: Global, table: &LanguageTable) -> bool {
-    match from_text(alloc, table, ONE_FILE) {
+fn parses_or_fails(alloc: Global, table: &LanguageTable) -> bool {
+    match Format::parse(alloc, table, ONE_FILE) {
         Ok(read) => match one_file(alloc, table) {
             Ok(languages) => read == languages,
             Err(_) => true,
@@ -480,9 +481,9 @@ fn reads_or_fails(alloc: Global, table: &LanguageTable) -> bool {
 }
 
 #[test]
-fn refused_from_text(rt: HostRuntime) {
+fn refused_parse(rt: HostRuntime) {
     if let Ok(table) = table(rt.alloc()) {
-        assert!(rt; reads_or_fails(rt.alloc(), &table));
+        assert!(rt; parses_or_fails(rt.alloc(), &table));
     }
 }
 

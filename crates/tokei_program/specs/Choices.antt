@@ -4,9 +4,9 @@ use Rattle.std.specs.Result.{result_ok}
 use Rattle.tokei.specs.declared.job.Wanted.{Wanted}
 use Rattle.tokei.specs.declared.job.Wanted.TheVariants.{Stream, Document, Table}
 use Rattle.tokei_cli.specs.declared.cli.Cli.{Cli}
-use Rattle.tokei_json.specs.declared.format.Format.{Format}
-use Rattle.tokei_json.specs.declared.format.FormatError.{FormatError}
-use Rattle.tokei_json.specs.Formats.{format_of_word}
+use Rattle.tokei_format.specs.declared.format.Format.{Format}
+use Rattle.tokei_format.specs.declared.format.FormatError.{FormatError}
+use Rattle.tokei_format.specs.Formats.{format_of_word}
 use Rattle.tokei_options.specs.declared.sort.Sort.{Sort}
 use Rattle.tokei_options.specs.declared.sort.SortError.{SortError}
 use Rattle.tokei_options.specs.Sorts.{sort_of_word}

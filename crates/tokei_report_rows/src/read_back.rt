@@ -1,7 +1,7 @@
 //! Documents that are read back.
 use std::alloc::{AllocError, Global};
 use std::test::Fail;
-use tokei::{Config, Format, Language, LanguageTable, LanguageType, Languages, Report, from_text};
+use tokei::{Config, Format, Language, LanguageTable, LanguageType, Languages, Report};
 use tokei_run_rows::runs::bench;
 use tokei_run_rows::trees::{Files, LARGE, MAIN, MARKDOWN, NOTEBOOK, TWO, folders};
 use tokei_statistics::CountFiles;
@@ -109,7 +109,7 @@ fn reports(languages: &Languages) -> usize {
 /// Whether what is printed of the languages is read back as the same languages.
 fn is_read_back(alloc: Global, table: &LanguageTable, languages: &Languages) -> Result<bool, Fail> {
     let text = Format::Json.print(alloc, table, languages)?;
-    let read = from_text(alloc, table, &text)?;
+    let read = Format::parse(alloc, table, &text)?;
     Ok(read == *languages)
 }
 

@@ -3,7 +3,7 @@ use crate::runs::{framed, job};
 use crate::trees::{Files, LARGE, TWO};
 use std::alloc::{AllocError, Global};
 use std::test::Fail;
-use tokei::{Format, Job, LanguageTable, RunError, Streaming, Wanted, from_text};
+use tokei::{Format, Job, LanguageTable, RunError, Streaming, Wanted};
 
 /// A form of output.
 #[derive(Clone, Copy, Debug)]
@@ -161,7 +161,7 @@ pub fn known_job(
     let mut job = job(alloc, wanted)?;
     if let Known::Large = known {
         job.files = true;
-        match from_text(alloc, table, EARLIER) {
+        match Format::parse(alloc, table, EARLIER) {
             Ok(earlier) => job.earlier = Some(earlier),
             Err(_) => return Err(RunError::Memory),
         }

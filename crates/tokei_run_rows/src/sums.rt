@@ -2,9 +2,7 @@
 use crate::runs::{bench, job};
 use std::alloc::Global;
 use std::test::Fail;
-use tokei::{
-    Counted, Format, Job, LanguageTable, MemoryFolders, RunError, Streaming, Wanted, from_text, run,
-};
+use tokei::{Counted, Format, Job, LanguageTable, MemoryFolders, RunError, Streaming, Wanted, run};
 
 /// Two reports whose sum is too large.
 const REPORTS: &str = concat!(
@@ -41,7 +39,7 @@ fn job_of(
 ) -> Result<Job, Fail> {
     let (wanted, files, compact) = output;
     let mut job = job(alloc, wanted)?;
-    job.earlier = Some(from_text(alloc, table, earlier)?);
+    job.earlier = Some(Format::parse(alloc, table, earlier)?);
     job.files = files;
     job.compact = compact;
     Ok(job)

@@ -1,18 +1,20 @@
-//! The formats of a document, and its text.
-ghost use Rattle.std.specs.Prelude.{◌≡◌, ◌≤◌, IfOk, IsErrOf, Some, map, string_bytes};
+//! The formats of a document, and its text, which is printed and read.
+ghost use Rattle.std.specs.Prelude.{◌≡◌, ◌≢◌, ◌≤◌, IfErr, IfOk, IsErrOf, Some, Ok, Err, map, string_bytes};
 ghost use Rattle.serde_json.specs.Data.{depth};
 ghost use Rattle.serde_json.specs.Read.{max_depth, read};
 ghost use Rattle.serde_json.specs.Written.{compact_text};
+ghost use Rattle.tokei_earlier.specs.Outcome.{outcome_of_text};
 ghost use Rattle.tokei_json.specs.Document.{document};
-ghost use Rattle.tokei_json.specs.Formats.{all_words, format_of_word, supported_words, unsupported_words};
+ghost use Rattle.tokei_format.specs.Formats.{all_words, format_of_word, supported_words, unsupported_words};
 ghost use Rattle.tokei_languages.specs.Seen.{languages_of};
 ghost use Rattle.tokei_languages.specs.Summaries.{languages_summary};
 ghost use Rattle.tokei_stats.specs.Overflow.{CountsFit};
 
-use crate::write::to_value;
 use std::alloc::Global;
 use std::str::FromStr;
 use thiserror::Error;
+use tokei_earlier::{InputError, from_text};
+use tokei_json::to_text;
 use tokei_languages::{CountError, Languages};
 use tokei_table::LanguageTable;
 
@@ -49,9 +51,18 @@ impl Format {
             → ¬ CountsFit (languages_summary (languages_of languages.now)) }
     {
         let Format::Json = self;
-        let value = to_value(alloc, table, languages)?;
-        let text = value.to_string(alloc)?;
-        Ok(text)
+        to_text(alloc, table, languages)
+    }
+
+    /// The languages of a text. Refused is exactly what has a cause of `InputError` from `Empty` to `NamedTwice`, and of
+    /// those that apply the first is answered; `Memory` comes only where an allocation failed.
+    pub fn parse(alloc: Global, table: &LanguageTable, text: &str) -> Result<Languages, InputError>
+        ensures languages { IfOk result (λ ls. outcome_of_text table.now text.now ≡ Ok (languages_of ls)) }
+        ensures refused { IfErr result (λ e. e ≢ InputError.Memory → outcome_of_text table.now text.now ≡ Err e) }
+        ensures not_unreadable { result ≢ Err InputError.Unreadable }
+        ensures not_overflow { result ≢ Err InputError.Overflow }
+    {
+        from_text(alloc, table, text)
     }
 
     /// The words of the formats that can be had.

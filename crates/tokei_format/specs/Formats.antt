@@ -1,9 +1,9 @@
 -- The words of formats.
 use Rattle.std.specs.Prelude.{ℕ, List, [], ◌∷◌, ◌||◌, Result, Ok, Err, codes, bytes_eq, if◌then◌else◌}
-use Rattle.tokei_json.specs.declared.format.Format.{Format}
-use Rattle.tokei_json.specs.declared.format.Format.TheVariants.{Json}
-use Rattle.tokei_json.specs.declared.format.FormatError.{FormatError}
-use Rattle.tokei_json.specs.declared.format.FormatError.TheVariants.{NotBuilt, Unknown}
+use Rattle.tokei_format.specs.declared.format.Format.{Format}
+use Rattle.tokei_format.specs.declared.format.Format.TheVariants.{Json}
+use Rattle.tokei_format.specs.declared.format.FormatError.{FormatError}
+use Rattle.tokei_format.specs.declared.format.FormatError.TheVariants.{NotBuilt, Unknown}
 
 abbrev pub supported_words : List (List ℕ)
 supported_words = codes "json" ∷ []
