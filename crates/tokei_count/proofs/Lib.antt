@@ -53,3 +53,4 @@ pub mod CalmChoices
 pub mod ByChoices
 pub mod UnwalkedParts
 pub mod WalkedOpenings
+pub mod CalmLines

@@ -1,5 +1,6 @@
 -- What contracts say of counting: the items of a text and their parts, the class of each part, the children, the plain
 -- reading, its steps and its weight.
+pub mod Calm
 pub mod Choice
 pub mod Class
 pub mod Countings

@@ -1,5 +1,5 @@
 //! What a part counts as.
-ghost use Rattle.std.specs.Prelude.{◌≡◌, ℕ, ◌-◌, ◌<◌, ◌≤◌, true, None, Some, [], drop, length, slice_index, take};
+ghost use Rattle.std.specs.Prelude.{◌≡◌, ℕ, List, ◌-◌, ◌<◌, ◌≤◌, true, None, Some, [], drop, length, slice_index, take};
 ghost use Rattle.tokei_table.specs.Bytes.{is_blank, trim, trim_start};
 ghost use Rattle.tokei_table.specs.RowOf.{pairs_of, row_of};
 ghost use Rattle.tokei_count.specs.Class.{encloses, opens_with, class_of, head_of};
@@ -206,6 +206,21 @@ pub(crate) fn class_by(
         begun,
         &reading.text[start..stop],
         ended,
+    )
+}
+
+/// The class of each line that begins and ends within the item, as `class_of` has it: its bytes say nothing.
+pub(crate) fn class_within(reading: &Reading, item: Enclosure) -> Class
+    ensures { (bytes : List ℕ) → result ≡ class_of (row_in reading.now) reading.now.docs_are_comments
+        (record { begun = mode_of (Some item.entry); bytes = bytes; ended = mode_of (Some item.entry) }) }
+{
+    let mode = Some(item);
+    class_of(
+        reading.syntax,
+        reading.docs_are_comments,
+        mode,
+        &reading.text[..0],
+        mode,
     )
 }
 

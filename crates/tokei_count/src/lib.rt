@@ -5,6 +5,7 @@
 #![tactic(auto)]
 
 mod beginnings;
+mod calm;
 mod choice;
 mod class;
 mod counter;

@@ -35,7 +35,7 @@ pub(crate) fn is_plain_byte(matchers: &LanguageMatchers, mode: Option<Enclosure>
 /// From the place `at` of the text to before the answer, which goes no further than `to`, no choice but the byte
 /// itself can begin at a byte, in that item.
 #[inline(always)]
-fn item_end(
+pub(crate) fn item_end(
     matchers: &LanguageMatchers,
     inner: Enclosure,
     text: &[u8],

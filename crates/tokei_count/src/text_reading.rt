@@ -7,6 +7,7 @@ ghost use Rattle.tokei_table.specs.Openers.{openers};
 ghost use Rattle.tokei_table.specs.RowOf.{row_of};
 ghost use Rattle.tokei_table.specs.WellFormed.{has_tokens};
 ghost use Rattle.tokei_embedding.specs.DocComments.{doc_text};
+ghost use Rattle.tokei_count.specs.Calm.{IsCalm};
 ghost use Rattle.tokei_count.specs.Glance.{is_walked, opener_place};
 ghost use Rattle.tokei_count.specs.Glanced.{Knows};
 ghost use Rattle.tokei_count.specs.Languages.{is_notebook};
@@ -18,21 +19,22 @@ ghost use Rattle.tokei_count.specs.Places.{IsAt, block_here, text_of};
 ghost use Rattle.tokei_count.specs.Modes.{innermost};
 ghost use Rattle.tokei_count.specs.Readers.{reading_by, steps_by};
 ghost use Rattle.tokei_count.specs.ReadingOf.{line_from, openers_in, reading_of, row_in};
-ghost use Rattle.tokei_count.specs.Seen.{block_of, chain_of};
+ghost use Rattle.tokei_count.specs.Seen.{block_of, chain_of, mode_of};
 ghost use Rattle.tokei_count.specs.Steps.{capped};
 ghost use Rattle.tokei_count.specs.UnderWay.{IsReadBy, IsUnderWay, reading_inside, steps_inside};
 ghost use Rattle.tokei_stats.specs.Seen.{stats_of, sums_of};
 ghost use Rattle.tokei_stats.specs.Statistics.{lines_of, plus};
 
-use crate::class::{Class, class_of_plain};
+use crate::calm::calm_end;
+use crate::class::{Class, class_of_plain, class_within};
 use crate::glance::next_opener;
 use crate::items::Enclosure;
-use crate::line_ends::{line_end, line_front, line_len, line_stop};
+use crate::line_ends::{line_end, line_front, line_len, line_stop, newline_before};
 use crate::openings::Block;
 use crate::place::Place;
 use crate::reader::Reader;
 use crate::reading::Reading;
-use crate::walk::{PartEnd, read_part};
+use crate::walk::{PartEnd, innermost, read_part};
 use std::alloc::{AllocError, Global};
 use std::collections::BTreeMap;
 use tokei_embedding::{BlockSearch, doc_text};
@@ -226,6 +228,46 @@ fn count_lines(reading: &Reading, so_far: &mut ReadSoFar, next: usize) -> Result
     Ok(())
 }
 
+/// Counts the next lines that stop at `to` or before, all within the item that encloses them: up to there each choice
+/// takes its byte. Their counts and place stand in no memory meanwhile.
+#[inline(never)]
+fn count_within(
+    reading: &Reading,
+    so_far: &mut ReadSoFar,
+    item: Enclosure,
+    to: usize,
+) -> Result<(), CountError>
+    requires under_way { IsUnderWay reading.now so_far.old }
+    requires within { innermost (chain_of so_far.old.stack.items) ≡ mode_of (Some item) }
+    requires calm { IsCalm (row_in reading.now) item reading.now.text.now so_far.old.start to }
+    requires low { so_far.old.start ≤ to }
+    requires high { to ≤ length reading.now.text.now }
+    ensures under_way { OnOk result (IsUnderWay reading.now so_far.new) }
+    ensures low { OnOk result (so_far.old.start ≤ so_far.new.start) }
+    ensures high { OnOk result (so_far.new.start ≤ to) }
+    ensures clear { OnOk result (to ≤ so_far.new.start + line_len (drop so_far.new.start reading.now.text.now)) }
+    ensures same { so_far.new.stack ≡ so_far.old.stack }
+    ensures overflow { IsErrOf result CountError.Overflow → ¬ Fits (reading_of reading.now) }
+{
+    let text = reading.text;
+    let class = class_within(reading, item);
+    let mut lines = Sums::new();
+    let mut at = so_far.start;
+    while at < to {
+        let newline = newline_before(text, at, to);
+        let stop = line_stop(text, newline);
+        if to < stop {
+            break;
+        }
+        one_more(&mut lines, class);
+        at = stop;
+    }
+    so_far.own = so_far.own.plus(lines)?;
+    so_far.own_steps += at - so_far.start;
+    so_far.start = at;
+    Ok(())
+}
+
 /// Counts the lines before the next part that is walked, and answers a place up to which that part has no newline.
 /// `next` is where an earlier search for openers came to, and becomes where this one does.
 fn skip_lines(
@@ -248,8 +290,13 @@ fn skip_lines(
         → first_opener (openers (row_in reading.now)) reading.now.text.now ≡ None → IsOk result }
     ensures overflow { IsErrOf result CountError.Overflow → ¬ Fits (reading_of reading.now) }
 {
-    if !reading.skips || !so_far.stack.is_empty() {
+    if !reading.skips {
         return Ok(so_far.start);
+    }
+    if let Some(item) = innermost(&so_far.stack) {
+        let to = calm_end(reading, item, so_far.start);
+        count_within(reading, so_far, item, to)?;
+        return Ok(to);
     }
     let to = next_opener(reading.matchers, reading.text, so_far.start, *next);
     *next = to;

@@ -50,7 +50,7 @@ pub(crate) struct PartRead {
 
 /// The innermost of the items, which is the last of the stack.
 #[inline(always)]
-fn innermost<'a>(stack: &[Enclosure<'a>]) -> Option<Enclosure<'a>>
+pub(crate) fn innermost<'a>(stack: &[Enclosure<'a>]) -> Option<Enclosure<'a>>
     ensures { mode_of result ≡ innermost (chain_of stack.now) }
 {
     stack.last().copied()
