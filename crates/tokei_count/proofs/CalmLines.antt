@@ -45,6 +45,14 @@ pub calm_bytes : (r : Reading) (item : CodeEnclosure.Enclosure) (at to : ℕ) �
 calm_bytes r item at to within plain =
     λ p low high. plain_byte_at (row_in r) r.sound (mode_of (Some item)) None r.text.now p r.matchers.now r.matched (omega (arith, within, high)) (plain p low high) (λ none. refl)
 
+-- a search that stays at its place or goes no further than to its end
+pub high_end : (at end to : ℕ) → at ≤ to → (at < end → end ≤ to) → end ≤ to
+high_end at end to order high = by_case (below_or at end)
+  where
+    by_case : (at < end) ⊎ (end ≤ at) → end ≤ to
+    by_case (inl h) = high h
+    by_case (inr h) = omega (arith, h, order)
+
 -- a stretch, a byte, and a stretch behind it
 pub calm_on : (r : Reading) (item : CodeEnclosure.Enclosure) (at next to : ℕ) → IsCalm (row_in r) item r.text.now at next → TakesByteAt (row_in r) item r.text.now next
     → IsCalm (row_in r) item r.text.now (next + 1) to → IsCalm (row_in r) item r.text.now at to

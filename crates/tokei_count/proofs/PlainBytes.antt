@@ -10,7 +10,7 @@ use Rattle.tokei_table.specs.Row.{Pair, Row}
 use Rattle.tokei_table.specs.Sound.{is_token, is_pair, IsSound}
 use Rattle.tokei_count.specs.Choice.{choice, choice_in_plain, choice_within, choice_in_string, choice_in_comment, opened, any_begins, is_escape, or_else, met_in_comment}
 use Rattle.tokei_count.specs.Choice.Choice.{closes, escapes, opens, takes_byte}
-use Rattle.tokei_count.specs.Items.{Block, Mode}
+use Rattle.tokei_count.specs.Items.{Block, Enclosure, Mode}
 use Rattle.tokei_count.specs.Matchers.{begins_opener, begins_choice, begins_in_comment, flags, Matchers, matchers_of}
 use Rattle.tokei_count.specs.PlainBytes.{BeginsNone, BeginsNoneWithin, IsOutside, IsPlainByte}
 use Rattle.tokei_count.specs.Seen.{choice_of}
@@ -163,26 +163,37 @@ none_begun r b m is h = sym (flag_at (begins_choice r) 256 b h.small) ∙ ap (λ
 none_begun_in_comment : (r : Row) (b : ℕ) (m : Matchers) → m ≡ matchers_of r → IsOutside m.begins_in_comment b → begins_in_comment r b ≡ false
 none_begun_in_comment r b m is h = sym (flag_at (begins_in_comment r) 256 b h.small) ∙ ap (λ (n : Matchers). slice_index_or n.begins_in_comment b false) (sym is) ∙ h.outside
 
-pub plain_byte : (r : Row) (s : IsSound r) (mode : Mode) (o : Option Block) (b : ℕ) (u : List ℕ) (m : Matchers) → u ≡ b ∷ drop 1 u → m ≡ matchers_of r → IsPlainByte m mode b → (mode ≡ None → o ≡ None) → choice r mode o u ≡ takes_byte
+-- in an item, where nothing but its closer can begin at the byte, and that doesn't stand there
+pub byte_within : (r : Row) (s : IsSound r) (i : Enclosure) (o : Option Block) (b : ℕ) (u : List ℕ) (m : Matchers) → u ≡ b ∷ drop 1 u → m ≡ matchers_of r → BeginsNoneWithin m i.kind b → begins i.closer u ≡ false → choice r (Some i) o u ≡ takes_byte
 unfolding choice
-plain_byte r s mode o b u m e is h none = ap (choice r mode o) e ∙ by_mode mode h none
+byte_within r s i o b u m is known h none = ap (choice r (Some i) o) is ∙ by_kind i.kind i.closer h (ap (begins i.closer) (sym is) ∙ none)
   where
     by_kind : (k : Kind) (closer : List ℕ) → BeginsNoneWithin m k b → begins closer (b ∷ drop 1 u) ≡ false → choice_within r k closer (b ∷ drop 1 u) ≡ takes_byte
     by_kind DocString closer h e = in_string r b (drop 1 u) h false closer e
     by_kind VerbatimString closer h e = in_string r b (drop 1 u) h true closer e
     by_kind OrdinaryString closer h e = in_string r b (drop 1 u) h false closer e
-    by_kind MultiLineComment closer h e = in_comment r s b (drop 1 u) (none_begun_in_comment r b m is h) closer e
+    by_kind MultiLineComment closer h e = in_comment r s b (drop 1 u) (none_begun_in_comment r b m known h) closer e
 
-    by_mode : (mode : Mode) → IsPlainByte m mode b → (mode ≡ None → o ≡ None) → choice r mode o (b ∷ drop 1 u) ≡ takes_byte
-    by_mode None h none = in_plain r s b (drop 1 u) (none_begun r b m is h) o (none refl)
-    by_mode (Some i) h none = by_kind i.kind i.closer h.0 (not_begun i.closer b (drop 1 u) h.2 h.1)
+pub plain_byte : (r : Row) (s : IsSound r) (mode : Mode) (o : Option Block) (b : ℕ) (u : List ℕ) (m : Matchers) → u ≡ b ∷ drop 1 u → m ≡ matchers_of r → IsPlainByte m mode b → (mode ≡ None → o ≡ None) → choice r mode o u ≡ takes_byte
+unfolding choice
+plain_byte r s mode o b u m e is h none = by_mode mode h none
+  where
+    by_mode : (mode : Mode) → IsPlainByte m mode b → (mode ≡ None → o ≡ None) → choice r mode o u ≡ takes_byte
+    by_mode None h none = ap (choice r None o) e ∙ in_plain r s b (drop 1 u) (none_begun r b m is h) o (none refl)
+    by_mode (Some i) h none = byte_within r s i o b u m e is h.0 (ap (begins i.closer) e ∙ not_begun i.closer b (drop 1 u) h.2 h.1)
+
+-- the byte at a place of a text, and the bytes behind it
+text_here : (text : List ℕ) (at : ℕ) → at < length text → drop at text ≡ get_or text at 0 ∷ drop 1 (drop at text)
+text_here text at some =
+    let one : suc at ≡ at + 1 = omega arith in
+    drop-cons text at 0 some ∙ ap (λ n. get_or text at 0 ∷ drop n text) one ∙ ap (λ w. get_or text at 0 ∷ w) (sym (drop-drop 1 at text))
+
+pub byte_within_at : (r : Row) (s : IsSound r) (i : Enclosure) (o : Option Block) (text : List ℕ) (at : ℕ) (m : Matchers) → m ≡ matchers_of r → at < length text → BeginsNoneWithin m i.kind (get_or text at 0) → begins i.closer (drop at text) ≡ false → choice r (Some i) o (drop at text) ≡ takes_byte
+byte_within_at r s i o text at m known some h none = byte_within r s i o (get_or text at 0) (drop at text) m (text_here text at some) known h none
 
 -- the same at a place of a text
 pub plain_byte_at : (r : Row) (s : IsSound r) (mode : Mode) (o : Option Block) (text : List ℕ) (at : ℕ) (m : Matchers) → m ≡ matchers_of r → at < length text → IsPlainByte m mode (get_or text at 0) → (mode ≡ None → o ≡ None) → choice r mode o (drop at text) ≡ takes_byte
-plain_byte_at r s mode o text at m e some h none =
-    let one : suc at ≡ at + 1 = omega arith in
-    let here : drop at text ≡ get_or text at 0 ∷ drop 1 (drop at text) = drop-cons text at 0 some ∙ ap (λ n. get_or text at 0 ∷ drop n text) one ∙ ap (λ w. get_or text at 0 ∷ w) (sym (drop-drop 1 at text)) in
-    plain_byte r s mode o (get_or text at 0) (drop at text) m here e h none
+plain_byte_at r s mode o text at m e some h none = plain_byte r s mode o (get_or text at 0) (drop at text) m (text_here text at some) e h none
 
 -- a choice that is no child, in an item or where no child can open, is the same whatever can open there
 pub same_choice : (r : Row) (mode : Mode) (o : Option Block) (u : List ℕ) (x : CodeChoice.Choice) → (mode ≡ None → o ≡ None) → (x ≡ ChildOpens → false ≡ true) → choice_of None x ≡ choice r mode None u → choice_of o x ≡ choice r mode o u

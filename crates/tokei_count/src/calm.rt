@@ -3,25 +3,25 @@ ghost use Rattle.std.specs.Prelude.{◌≡◌, ◌<◌, ◌≤◌, true, length}
 ghost use Rattle.tokei_count.specs.Calm.{IsCalm, TakesByteAt};
 ghost use Rattle.tokei_count.specs.ReadingOf.{row_in};
 
-use crate::choice::{Choice, choose};
+use crate::choice::stands;
 use crate::items::Enclosure;
-use crate::plain_bytes::item_end;
+use crate::plain_bytes::{begins_none_within, plain_end};
 use crate::reading::Reading;
 
-/// Whether the choice at the place, which the item encloses, takes its byte.
-#[inline(never)]
+/// Whether nothing but the item's closer can begin at the place, which the item encloses, and that doesn't stand there:
+/// as at a star in a comment that no slash follows.
+#[inline(always)]
 fn takes_byte(reading: &Reading, item: Enclosure, at: usize) -> bool
     requires { at < length reading.now.text.now }
     ensures { result ≡ true → TakesByteAt (row_in reading.now) item.entry reading.now.text.now at }
 {
-    match choose(reading.syntax, Some(item), false, &reading.text[at..]) {
-        Choice::TakesByte => true,
-        _ => false,
-    }
+    let text = reading.text;
+    begins_none_within(reading.matchers, item.kind, text[at]) && !stands(item.closer, &text[at..])
 }
 
 /// From the place `at` of the reading's text to before the answer each choice takes its byte, where the item encloses
-/// them: mostly up to the item's closer, an escape or an opener.
+/// them: up to the item's closer, or to where an escape or an opener can begin.
+#[inline(never)]
 pub(crate) fn calm_end(reading: &Reading, item: Enclosure, at: usize) -> usize
     requires { at ≤ length reading.now.text.now }
     ensures low { at ≤ result }
@@ -29,9 +29,10 @@ pub(crate) fn calm_end(reading: &Reading, item: Enclosure, at: usize) -> usize
     ensures calm { IsCalm (row_in reading.now) item.entry reading.now.text.now at result }
 {
     let text = reading.text;
-    let mut next = item_end(reading.matchers, item, text, at, text.len());
+    let mode = Some(item);
+    let mut next = plain_end(reading.matchers, mode, text, at, text.len());
     while next < text.len() && takes_byte(reading, item, next) {
-        next = item_end(reading.matchers, item, text, next + 1, text.len());
+        next = plain_end(reading.matchers, mode, text, next + 1, text.len());
     }
     next
 }

@@ -32,7 +32,7 @@ pub(crate) enum Choice<'a> {
 
 /// Whether the token stands at the front of the text. One or two bytes, as most tokens have, are compared in place.
 #[inline(always)]
-fn stands(token: &[u8], text: &[u8]) -> bool
+pub(crate) fn stands(token: &[u8], text: &[u8]) -> bool
     ensures { result ≡ begins token.now text.now }
 {
     match (token, text) {

@@ -9,7 +9,7 @@ use tokei_bytes::first_of_four;
 
 /// Whether no escape, opener or line comment can begin at the byte in an item of that kind.
 #[inline(always)]
-fn begins_none_within(matchers: &LanguageMatchers, kind: Kind, byte: u8) -> bool
+pub(crate) fn begins_none_within(matchers: &LanguageMatchers, kind: Kind, byte: u8) -> bool
     ensures { result ≡ true → BeginsNoneWithin matchers.now kind byte }
 {
     match kind {
@@ -35,7 +35,7 @@ pub(crate) fn is_plain_byte(matchers: &LanguageMatchers, mode: Option<Enclosure>
 /// From the place `at` of the text to before the answer, which goes no further than `to`, no choice but the byte
 /// itself can begin at a byte, in that item.
 #[inline(always)]
-pub(crate) fn item_end(
+fn item_end(
     matchers: &LanguageMatchers,
     inner: Enclosure,
     text: &[u8],
@@ -61,7 +61,7 @@ pub(crate) fn item_end(
 }
 
 /// From the place `at` of the text to before the answer, which goes no further than `to`, no choice but the byte
-/// itself and a child can begin at a byte, in that mode.
+/// itself and a child can begin at a byte, in that mode. Often one begins at the place itself, and nothing is searched.
 #[inline(always)]
 pub(crate) fn plain_end(
     matchers: &LanguageMatchers,
@@ -76,7 +76,7 @@ pub(crate) fn plain_end(
     ensures plain { (p : ℕ) → at ≤ p → p < result
         → IsPlainByte matchers.now (mode_of mode.entry) (slice_index text.now p) }
 {
-    if to <= at {
+    if to <= at || !is_plain_byte(matchers, mode, text[at]) {
         return at;
     }
     match mode {

@@ -251,20 +251,20 @@ fn count_within(
 {
     let text = reading.text;
     let class = class_within(reading, item);
-    let mut lines = Sums::new();
-    let mut at = so_far.start;
-    while at < to {
-        let newline = newline_before(text, at, to);
+    let mut within = Sums::new();
+    let mut next = so_far.start;
+    while next < to {
+        let newline = newline_before(text, next, to);
         let stop = line_stop(text, newline);
         if to < stop {
             break;
         }
-        one_more(&mut lines, class);
-        at = stop;
+        one_more(&mut within, class);
+        next = stop;
     }
-    so_far.own = so_far.own.plus(lines)?;
-    so_far.own_steps += at - so_far.start;
-    so_far.start = at;
+    so_far.own = so_far.own.plus(within)?;
+    so_far.own_steps += next - so_far.start;
+    so_far.start = next;
     Ok(())
 }
 
@@ -294,7 +294,14 @@ fn skip_lines(
         return Ok(so_far.start);
     }
     if let Some(item) = innermost(&so_far.stack) {
+        // a closer of one byte mostly stands in the same line
+        if item.closer.len() < 2 {
+            return Ok(so_far.start);
+        }
         let to = calm_end(reading, item, so_far.start);
+        if to <= so_far.start {
+            return Ok(so_far.start);
+        }
         count_within(reading, so_far, item, to)?;
         return Ok(to);
     }

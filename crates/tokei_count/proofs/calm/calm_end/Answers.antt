@@ -1,21 +1,24 @@
-use Rattle.std.proofs.Common.{ℕ, ◌+◌, arith}
-use Rattle.tokei_count.proofs.CalmLines.{calm_on, calm_bytes}
+use Rattle.std.proofs.Common.{ℕ, ◌+◌, ◌≤◌, length, arith}
+use Rattle.tokei_count.proofs.CalmLines.{calm_on, calm_bytes, high_end}
 use Rattle.tokei_count.proofs.calm.calm_end.Goals as goal
 
 pub loop-next-init : goal.loop-next-init
-loop-next-init c = record {
-  low = c.item_end-next.ensures.low;
-  high = c.item_end-next.ensures.high;
-  calm = calm_bytes c.args.reading.now c.args.item c.args.at c.item_end-next.result c.item_end-next.ensures.high c.item_end-next.ensures.plain;
-}
+loop-next-init c =
+    let high : c.plain_end-next.result ≤ length c.args.reading.now.text.now = high_end c.args.at c.plain_end-next.result _ c.requires c.plain_end-next.ensures.high in
+    record {
+      low = c.plain_end-next.ensures.low;
+      high = high;
+      calm = calm_bytes c.args.reading.now c.args.item c.args.at c.plain_end-next.result high c.plain_end-next.ensures.plain;
+    }
 
 pub loop-next-preserved : goal.loop-next-preserved
 loop-next-preserved c =
     let next : ℕ = c.loop-next.next in
-    let e = c.item_end-next-in-loop-next.ensures in
+    let e = c.plain_end-next-in-loop-next.ensures in
+    let high : c.plain_end-next-in-loop-next.result ≤ length c.args.reading.now.text.now = high_end (next + 1) c.plain_end-next-in-loop-next.result _ (omega (arith, c.loop-next-test.true)) e.high in
     record {
       low = omega (arith, c.loop-next.invariant.low, e.low);
-      high = e.high;
-      calm = calm_on c.args.reading.now c.args.item c.args.at next c.item_end-next-in-loop-next.result c.loop-next.invariant.calm (c.takes_byte.ensures c.if-takes_byte.true)
-          (calm_bytes c.args.reading.now c.args.item (next + 1) c.item_end-next-in-loop-next.result e.high e.plain);
+      high = high;
+      calm = calm_on c.args.reading.now c.args.item c.args.at next c.plain_end-next-in-loop-next.result c.loop-next.invariant.calm (c.takes_byte.ensures c.if-takes_byte.true)
+          (calm_bytes c.args.reading.now c.args.item (next + 1) c.plain_end-next-in-loop-next.result high e.plain);
     }

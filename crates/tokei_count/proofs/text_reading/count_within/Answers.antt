@@ -8,30 +8,30 @@ use Rattle.tokei_stats.specs.Statistics.{lines_of}
 use Rattle.tokei_count.proofs.UnderWay.{counts_fit}
 use Rattle.tokei_count.proofs.text_reading.count_within.Goals as goal
 
-pub loop-at-init : goal.loop-at-init
-loop-at-init c = record {
-  under_way = none_within c.args.reading.now c.args.so_far.now c.requires.under_way c.new-lines.result c.new-lines.ensures;
-  few = omega (arith, ap lines_of c.new-lines.ensures);
+pub loop-next-init : goal.loop-next-init
+loop-next-init c = record {
+  under_way = none_within c.args.reading.now c.args.so_far.now c.requires.under_way c.new-within.result c.new-within.ensures;
+  few = omega (arith, ap lines_of c.new-within.ensures);
   low = omega arith;
   high = c.requires.low;
 }
 
-pub loop-at-preserved : goal.loop-at-preserved
-loop-at-preserved c =
+pub loop-next-preserved : goal.loop-next-preserved
+loop-next-preserved c =
     let text : List ℕ = c.args.reading.now.text.now in
-    let at : ℕ = c.loop-at.at in
+    let at : ℕ = c.loop-next.next in
     let e = c.newline_before-newline.ensures in
-    let some : at < length text = omega (arith, c.loop-at-test.true, c.requires.high) in
+    let some : at < length text = omega (arith, c.loop-next-test.true, c.requires.high) in
     let stop_is : c.line_stop-stop.result ≡ at + length (first_line (drop at text)) =
-    line_stops text at c.newline_before-newline.result c.args.to c.line_stop-stop.result c.loop-at-test.true c.requires.high e.high e.line e.found c.line_stop-stop.ensures.more c.line_stop-stop.ensures.last c.if-to-stop.false in
+    line_stops text at c.newline_before-newline.result c.args.to c.line_stop-stop.result c.loop-next-test.true c.requires.high e.high e.line e.found c.line_stop-stop.ensures.more c.line_stop-stop.ensures.last c.if-to-stop.false in
     record {
-      under_way = calm_more c.args.reading.now c.args.so_far.now c.args.item c.loop-at.lines c.one_more.new.lines at c.line_stop-stop.result c.args.to c.class_within-class.result
-          c.loop-at.invariant.low c.loop-at.invariant.under_way c.one_more.ensures some c.requires.within stop_is c.if-to-stop.false
-          (λ p low high. c.requires.calm p (omega (arith, c.loop-at.invariant.low, low)) high) c.class_within-class.ensures;
-      few = omega (arith, c.loop-at.invariant.few, ap lines_of c.one_more.ensures, lines_of-one (sums_of c.loop-at.lines) c.class_within-class.result, stop_is, line_some text at some);
-      low = omega (arith, c.loop-at.invariant.low, stop_is);
+      under_way = calm_more c.args.reading.now c.args.so_far.now c.args.item c.loop-next.within c.one_more.new.lines at c.line_stop-stop.result c.args.to c.class_within-class.result
+          c.loop-next.invariant.low c.loop-next.invariant.under_way c.one_more.ensures some c.requires.within stop_is c.if-to-stop.false
+          (λ p low high. c.requires.calm p (omega (arith, c.loop-next.invariant.low, low)) high) c.class_within-class.ensures;
+      few = omega (arith, c.loop-next.invariant.few, ap lines_of c.one_more.ensures, lines_of-one (sums_of c.loop-next.within) c.class_within-class.result, stop_is, line_some text at some);
+      low = omega (arith, c.loop-next.invariant.low, stop_is);
       high = c.if-to-stop.false;
     }
 
 pub returns-in_err-so_far-clause-overflow : goal.returns-in_err-so_far-clause-overflow
-returns-in_err-so_far-clause-overflow c = λ is fits. c.in_err-so_far.ensures.past (counts_fit c.args.reading.now (gone_within c.args.so_far.now c.loop-at.lines c.loop-at.at) c.loop-at.invariant.under_way fits)
+returns-in_err-so_far-clause-overflow c = λ is fits. c.in_err-so_far.ensures.past (counts_fit c.args.reading.now (gone_within c.args.so_far.now c.loop-next.within c.loop-next.next) c.loop-next.invariant.under_way fits)
