@@ -6,8 +6,8 @@ use Rattle.std.proofs.Math.Seq.{drop-append_seam}
 use Rattle.tokei_table.specs.Row.{Row}
 use Rattle.tokei_table.specs.Lookups.{row_at}
 use Rattle.tokei_table.specs.Families.{family_of}
-use Rattle.tokei_table.specs.declared.family.Family.{Family}
-use Rattle.tokei_table.specs.declared.family.Family.TheVariants.{Plain, Markdown, HtmlLike, Rust, LinguaFranca, Jupyter}
+use Rattle.tokei_table.specs.Family.{Family}
+use Rattle.tokei_table.specs.Family.TheVariants.{Plain, Markdown, HtmlLike, Rust, LinguaFranca, Jupyter}
 use Rattle.tokei_embedding.specs.Fences.{fence_block}
 use Rattle.tokei_embedding.specs.Tags.{tag_block}
 use Rattle.tokei_embedding.specs.DocComments.{doc_block}

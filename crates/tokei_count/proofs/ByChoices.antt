@@ -5,7 +5,7 @@ use Rattle.tokei_table.proofs.RowSound.{sound_row}
 use Rattle.tokei_table.specs.Openers.{openers}
 use Rattle.tokei_table.specs.Row.{Pair, Row}
 use Rattle.tokei_table.specs.Sound.{IsSound}
-use Rattle.tokei_table.specs.WellFormed.{has_tokens}
+use Rattle.tokei_table.specs.Tokens.{has_tokens}
 use Rattle.tokei_count.specs.Choice.{Choice}
 use Rattle.tokei_count.specs.Choice.Choice.{closes, escapes, child_opens, opens, passes_over, begins_line_comment, takes_byte}
 use Rattle.tokei_count.specs.Glance.{holds}

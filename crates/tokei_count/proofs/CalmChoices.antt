@@ -4,7 +4,7 @@ use Rattle.tokei_table.specs.Bytes.{begins, begins_with_one}
 use Rattle.tokei_table.specs.Families.{family_of}
 use Rattle.tokei_table.specs.Openers.{starts_of, tag_starts, child_openers, openers}
 use Rattle.tokei_table.specs.Row.{Pair, Row}
-use Rattle.tokei_table.specs.WellFormed.{has_tokens}
+use Rattle.tokei_table.specs.Tokens.{has_tokens}
 use Rattle.tokei_count.specs.Choice.{choice, opened, any_begins, is_escape}
 use Rattle.tokei_count.specs.Choice.Choice.{escapes, opens, passes_over, begins_line_comment, takes_byte}
 use Rattle.tokei_count.specs.Glance.{holds}

@@ -4,7 +4,7 @@ use Rattle.tokei_table.proofs.RowSound.{sound_row}
 use Rattle.tokei_table.specs.Lookups.{row_at}
 use Rattle.tokei_table.specs.Openers.{openers}
 use Rattle.tokei_table.specs.Row.{Row}
-use Rattle.tokei_table.specs.WellFormed.{has_tokens}
+use Rattle.tokei_table.specs.Tokens.{has_tokens}
 use Rattle.tokei_count.specs.Class.{class_of}
 use Rattle.tokei_count.specs.Glance.{holds, is_walked}
 use Rattle.tokei_count.specs.Lines.{first_line}

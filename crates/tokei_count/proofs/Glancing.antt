@@ -7,7 +7,7 @@ use Rattle.tokei_table.specs.Families.{family_of}
 use Rattle.tokei_table.specs.Openers.{starts_of, tag_starts, child_openers, openers}
 use Rattle.tokei_table.specs.Row.{Pair, Row}
 use Rattle.tokei_table.specs.Sound.{IsSound}
-use Rattle.tokei_table.specs.WellFormed.{has_tokens}
+use Rattle.tokei_table.specs.Tokens.{has_tokens}
 use Rattle.tokei_count.specs.Choice.{Choice, choice, opened, any_begins, is_escape, or_else, choice_in_plain}
 use Rattle.tokei_count.specs.Choice.Choice.{closes, escapes, child_opens, opens, passes_over, begins_line_comment, takes_byte}
 use Rattle.tokei_count.specs.Glance.{holds}

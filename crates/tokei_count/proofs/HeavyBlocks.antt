@@ -7,8 +7,8 @@ use Rattle.tokei_table.specs.OuterLines.{start_behind, end_behind, first_stop, l
 use Rattle.tokei_table.specs.Row.{Row}
 use Rattle.tokei_table.specs.Lookups.{row_at}
 use Rattle.tokei_table.specs.Families.{family_of}
-use Rattle.tokei_table.specs.declared.family.Family.{Family}
-use Rattle.tokei_table.specs.declared.family.Family.TheVariants.{Plain, Markdown, HtmlLike, Rust, LinguaFranca, Jupyter}
+use Rattle.tokei_table.specs.Family.{Family}
+use Rattle.tokei_table.specs.Family.TheVariants.{Plain, Markdown, HtmlLike, Rust, LinguaFranca, Jupyter}
 use Rattle.tokei_embedding.specs.Fences.{fence_block}
 use Rattle.tokei_embedding.specs.Tags.{tag_block}
 use Rattle.tokei_embedding.specs.DocComments.{doc_block}

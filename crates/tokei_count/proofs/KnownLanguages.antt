@@ -8,8 +8,8 @@ use Rattle.tokei_table.specs.Bytes.{trim}
 use Rattle.tokei_table.specs.Row.{Row}
 use Rattle.tokei_table.specs.Lookups.{row_at, first_where, has_name, has_name_in_any_case, has_mime}
 use Rattle.tokei_table.specs.Families.{family_of}
-use Rattle.tokei_table.specs.declared.family.Family.{Family}
-use Rattle.tokei_table.specs.declared.family.Family.TheVariants.{Plain, Markdown, HtmlLike, Rust, LinguaFranca, Jupyter}
+use Rattle.tokei_table.specs.Family.{Family}
+use Rattle.tokei_table.specs.Family.TheVariants.{Plain, Markdown, HtmlLike, Rust, LinguaFranca, Jupyter}
 use Rattle.tokei_embedding.specs.Fences.{Fence, fence_block}
 use Rattle.tokei_embedding.specs.Tags.{tag_block}
 use Rattle.tokei_embedding.specs.DocComments.{doc_block}

@@ -4,7 +4,7 @@ use Rattle.std.proofs.lemmas.List.{drop-drop}
 use Rattle.tokei_table.specs.Row.{Row}
 use Rattle.tokei_table.specs.Lookups.{row_at}
 use Rattle.tokei_table.specs.Families.{family_of}
-use Rattle.tokei_table.specs.declared.family.Family.{Family}
+use Rattle.tokei_table.specs.Family.{Family}
 use Rattle.tokei_count.specs.Lines.{first_line, line_len}
 use Rattle.tokei_count.specs.Openings.{block_by, languages_of}
 use Rattle.tokei_count.specs.Parts.{part_front}

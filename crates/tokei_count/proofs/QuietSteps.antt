@@ -6,7 +6,7 @@ use Rattle.tokei_table.specs.FirstOpener.{first_opener}
 use Rattle.tokei_table.specs.Lookups.{row_at}
 use Rattle.tokei_table.specs.Openers.{openers}
 use Rattle.tokei_table.specs.Row.{Row}
-use Rattle.tokei_table.specs.WellFormed.{has_tokens}
+use Rattle.tokei_table.specs.Tokens.{has_tokens}
 use Rattle.tokei_count.specs.Derivation.{items_of}
 use Rattle.tokei_count.specs.Glance.{holds, is_walked}
 use Rattle.tokei_count.specs.Items.{Block}

@@ -2,7 +2,8 @@
 use Rattle.std.proofs.Common.{◌≡◌, ℕ, suc, zero, ◌≤◌, ◌⊎◌, inl, inr, true, List, [], ◌∷◌, arith}
 use Rattle.std.specs.List.{list_all}
 use Rattle.tokei_table.specs.Row.{Row}
-use Rattle.tokei_table.specs.WellFormed.{IsWellFormed, has_tokens}
+use Rattle.tokei_table.specs.Tokens.{has_tokens}
+use Rattle.tokei_table.specs.WellFormed.{IsWellFormed}
 use Rattle.tokei_count.specs.Steps.{capped}
 use Rattle.tokei_count.specs.WeightLaws.{HaveTokens}
 use Rattle.tokei_count.proofs.Fits.{and_left, and_right}

@@ -5,9 +5,9 @@ use Rattle.tokei_table.specs.Families.{family_of}
 use Rattle.tokei_table.specs.Openers.{starts_of, tag_starts, child_openers, openers}
 use Rattle.tokei_table.specs.Row.{Pair, Row}
 use Rattle.tokei_table.specs.Sound.{no_newline, is_token, is_pair}
-use Rattle.tokei_table.specs.WellFormed.{has_tokens}
-use Rattle.tokei_table.specs.declared.family.Family.{Family}
-use Rattle.tokei_table.specs.declared.family.Family.TheVariants.{Plain, Markdown, HtmlLike, Rust, LinguaFranca, Jupyter}
+use Rattle.tokei_table.specs.Tokens.{has_tokens}
+use Rattle.tokei_table.specs.Family.{Family}
+use Rattle.tokei_table.specs.Family.TheVariants.{Plain, Markdown, HtmlLike, Rust, LinguaFranca, Jupyter}
 use Rattle.tokei_count.proofs.Fits.{and_left, and_right}
 
 both : (a b : Bool) → a ≡ true → b ≡ true → (a && b) ≡ true

@@ -3,7 +3,7 @@ use Rattle.std.proofs.Common.{◌≡◌, ℕ, ◌+◌, ◌<◌, ◌≤◌, Bool,
 use Rattle.std.proofs.lemmas.List.{append-nil, length-take-le}
 use Rattle.tokei_table.specs.Openers.{openers}
 use Rattle.tokei_table.specs.Row.{Row}
-use Rattle.tokei_table.specs.WellFormed.{has_tokens}
+use Rattle.tokei_table.specs.Tokens.{has_tokens}
 use Rattle.tokei_count.specs.Derivation.{items_of}
 use Rattle.tokei_count.specs.Glance.{holds, is_walked}
 use Rattle.tokei_count.specs.Items.{Block, Mode}

@@ -2,7 +2,7 @@
 use Rattle.std.proofs.Common.{◌≡◌, ℕ, suc, zero, ◌+◌, ◌<◌, false, true, Bool, cond, List, [], ◌∷◌, length, refl, ◌∙◌, ap, arith}
 use Rattle.tokei_table.specs.Lookups.{row_at}
 use Rattle.tokei_table.specs.Row.{Row}
-use Rattle.tokei_table.specs.WellFormed.{has_tokens}
+use Rattle.tokei_table.specs.Tokens.{has_tokens}
 use Rattle.tokei_count.specs.Items.{Block}
 use Rattle.tokei_count.specs.Languages.{is_notebook}
 use Rattle.tokei_count.specs.NotebookCells.{cell_blocks}

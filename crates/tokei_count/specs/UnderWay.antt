@@ -2,7 +2,7 @@
 use Rattle.std.specs.Prelude.{◌≡◌, ℕ, ◌+◌, ◌<◌, ◌≤◌, true, false, List, [], None, drop, length}
 use Rattle.tokei_table.specs.FirstOpener.{first_opener}
 use Rattle.tokei_table.specs.Openers.{openers}
-use Rattle.tokei_table.specs.WellFormed.{has_tokens}
+use Rattle.tokei_table.specs.Tokens.{has_tokens}
 use Rattle.tokei_count.specs.Items.{Block}
 use Rattle.tokei_count.specs.Languages.{is_notebook}
 use Rattle.tokei_count.specs.Openings.{languages_of}

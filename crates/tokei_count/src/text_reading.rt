@@ -5,7 +5,7 @@ ghost use Rattle.tokei_table.specs.FirstOpener.{first_opener};
 ghost use Rattle.tokei_table.specs.Lookups.{row_at};
 ghost use Rattle.tokei_table.specs.Openers.{openers};
 ghost use Rattle.tokei_table.specs.RowOf.{row_of};
-ghost use Rattle.tokei_table.specs.WellFormed.{has_tokens};
+ghost use Rattle.tokei_table.specs.Tokens.{has_tokens};
 ghost use Rattle.tokei_embedding.specs.DocComments.{doc_text};
 ghost use Rattle.tokei_count.specs.Calm.{IsCalm};
 ghost use Rattle.tokei_count.specs.Glance.{is_walked, opener_place};

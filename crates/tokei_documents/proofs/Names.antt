@@ -4,7 +4,7 @@ use Rattle.std.proofs.lemmas.Slice.Eq.{bytes_eq-Decides}
 use Rattle.std.specs.List.{list_any}
 use Rattle.tokei_table.specs.Lookups.{first_where, has_name, row_at}
 use Rattle.tokei_table.specs.Row.{Row}
-use Rattle.tokei_table.specs.WellFormed.{shares_name, names_twice, is_total}
+use Rattle.tokei_table.specs.RowNames.{shares_name, names_twice, is_total}
 
 pub left_false : (a b : Bool) → (a || b) ≡ false → a ≡ false
 left_false true b h = h

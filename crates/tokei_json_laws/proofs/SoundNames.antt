@@ -15,7 +15,7 @@ use Rattle.tokei_stats.specs.Statistics.Blobs.{none, blob}
 use Rattle.tokei_table.specs.Layout.{all_items}
 use Rattle.tokei_table.specs.Lookups.{row_at}
 use Rattle.tokei_table.specs.Row.{Row}
-use Rattle.tokei_table.specs.WellFormed.{names_twice, is_total}
+use Rattle.tokei_table.specs.RowNames.{names_twice, is_total}
 use Rattle.tokei_json.specs.Document.{name_of, statistics_data, blobs_data, report_data, reports_data, named_data, language_data, document}
 use Rattle.tokei_documents.specs.LanguageMaps.{language_named, all_names, has_both, names_once, passes, statistics_pass, each_passes, report_passes, reports_pass, lists_pass, language_passes, languages_pass, all_known, all_once}
 use Rattle.tokei_json_laws.specs.Known.{AreKnown, BlobsAreKnown}

@@ -3,4 +3,3 @@ pub mod Characters
 pub mod KeyOrder
 pub mod Pairs
 pub mod RowKinds
-pub mod RowParts

@@ -1,11 +1,6 @@
--- Lemmas on rows, look-ups and the indexes of a table.
+-- Lemmas on tables.
+pub use Rattle.tokei_row_queries.proofs.IsUtf8
+pub use Rattle.tokei_row_queries.proofs.RowSound
 pub use Rattle.tokei_syntax.proofs.Finds
-pub mod Dots
-pub mod ExtendedRows
-pub mod MetNames
-pub mod Nonempty
-pub mod OfTable
-pub mod PathSuffixes
-pub mod RowSound
-pub mod TextIndex
+pub mod ExtendedTables
 pub mod Utf8

@@ -21,13 +21,3 @@ data_read bytes d u r = chosen (is_utf8 bytes) (read bytes) (is_utf8-from_IsUtf8
 pub data_none : (bytes : List ℕ) → (IsUtf8 bytes → ⊥) → data_of bytes ≡ None
 unfolding data_of
 data_none bytes un = left_out (is_utf8 bytes) (read bytes) (λ e. un (IsUtf8-from_is_utf8 bytes e))
-
-pub utf8_true : (bytes : List ℕ) → IsUtf8 bytes → is_utf8 bytes ≡ true
-utf8_true bytes u = is_utf8-from_IsUtf8 bytes u
-
-pub utf8_false : (bytes : List ℕ) → (IsUtf8 bytes → ⊥) → is_utf8 bytes ≡ false
-utf8_false bytes un = by (is_utf8 bytes) (λ e. un (IsUtf8-from_is_utf8 bytes e))
-  where
-    by : (b : Bool) → (b ≡ true → ⊥) → b ≡ false
-    by true unlike = absurd (unlike refl)
-    by false unlike = refl

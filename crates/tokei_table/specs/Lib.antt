@@ -1,4 +1,13 @@
 -- What contracts say of a table: which texts are tables, the rows of one, and its look-ups.
+pub use Rattle.tokei_row_queries.specs.Extended
+pub use Rattle.tokei_row_queries.specs.Fallbacks
+pub use Rattle.tokei_row_queries.specs.Families
+pub use Rattle.tokei_row_queries.specs.Lookups
+pub use Rattle.tokei_row_queries.specs.Openers
+pub use Rattle.tokei_row_queries.specs.RowNames
+pub use Rattle.tokei_row_queries.specs.Shebangs
+pub use Rattle.tokei_row_queries.specs.Tokens
+pub use Rattle.tokei_row_queries.specs.declared.family.Family
 pub use Rattle.tokei_rows.specs.Escaped
 pub use Rattle.tokei_rows.specs.Escapes
 pub use Rattle.tokei_rows.specs.Layout
@@ -13,17 +22,7 @@ pub use Rattle.tokei_syntax.specs.RowOf
 pub use Rattle.tokei_syntax.specs.Slices
 pub use Rattle.tokei_syntax.specs.Sound
 pub use Rattle.tokei_syntax.specs.TrimLaws
-pub mod Extended
-pub mod Families
 pub mod Listed
-pub mod Lookups
-pub mod Openers
 pub mod Outcome
-pub mod Shebangs
 pub mod TableLaws
 pub mod WellFormed
--- The code's own words, which no public contract has:
-pub mod Indexed
-pub mod MetNames
-pub mod PathSuffixes
-pub mod TextIndex

@@ -3,23 +3,17 @@
 
 pub mod error;
 mod extend;
-pub mod family;
 pub mod language_type;
 pub mod lookups;
-mod names;
 mod openers;
-mod path_suffixes;
 pub mod table;
 pub mod table_laws;
-mod text_index;
-mod tokens;
-mod well_formed;
 
 pub use error::TableError;
-pub use family::Family;
 pub use language_type::LanguageType;
 pub use lookups::has_extension;
 pub use table::LanguageTable;
+pub use tokei_row_queries::{Family, family};
 pub use tokei_syntax::{
     OpenerIndex, Syntax, contains_slice, ext, is_blank_text, is_line_ending_whitespace,
     is_whitespace, laws, opener_index, syntax, trim, trim_first_and_last_line_of_whitespace,

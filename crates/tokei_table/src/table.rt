@@ -1,52 +1,44 @@
 //! The table of languages.
 ghost use Rattle.std.specs.Prelude.{◌≡◌, ◌≢◌, ◌<◌, ◌==◌, Err, Some, None, length, map, IfOk, MatchResult, nat_lt, true};
 ghost use Rattle.serde_json.specs.View.{view};
-ghost use Rattle.tokei_table.specs.Extended.{addition_of, extended};
+ghost use Rattle.tokei_row_queries.specs.Extended.{addition_of, extended};
 ghost use Rattle.tokei_table.specs.Outcome.{data_of, outcome};
-ghost use Rattle.tokei_table.specs.WellFormed.{IsWellFormed, has_tokens};
+ghost use Rattle.tokei_row_queries.specs.Tokens.{has_tokens};
+ghost use Rattle.tokei_table.specs.WellFormed.{IsWellFormed};
 ghost use Rattle.tokei_syntax.specs.Sound.{IsSound};
 ghost use Rattle.tokei_syntax.specs.RowOf.{row_of};
-ghost use Rattle.tokei_table.specs.Lookups.{row_at};
-ghost use Rattle.tokei_table.specs.PathSuffixes.{suffixed_from};
-ghost use Rattle.tokei_table.specs.TextIndex.{entries_from, group_of, in_group};
+ghost use Rattle.tokei_row_queries.specs.Lookups.{row_at};
 ghost use Rattle.tokei_table.specs.declared.error.TableError.TheVariants.{NotJson as NotJsonFault};
 ghost use Rattle.tokei_table.specs.declared.error.TableError.TheVariants.{Memory as MemoryFault};
 
 use crate::error::TableError;
 use crate::extend::extended_rows;
 use crate::language_type::LanguageType;
-use crate::names::names_twice;
-use crate::path_suffixes::suffixed_places;
-use crate::text_index::TextIndex;
-use crate::well_formed::{all_have_fallbacks, all_have_tokens, names_total};
 use serde_json::Value;
 use std::alloc::{AllocError, Global};
 use std::marker::Model;
+use tokei_row_queries::IndexedRows;
+use tokei_row_queries::names::names_twice;
+use tokei_row_queries::well_formed::{all_have_fallbacks, all_have_tokens, names_total};
 use tokei_rows::{has_layout, is_escaped_table, rows_at};
 use tokei_syntax::Syntax;
 
 /// The table of languages, which contracts see as its rows, in the byte order of their keys.
 #[derive(Drop)]
 pub struct LanguageTable {
-    rows: Vec<Syntax>,
-    by_extension: TextIndex,
-    by_filename: TextIndex,
-    suffixed: Vec<usize>,
+    rows: IndexedRows,
 }
 
 impl Model for LanguageTable {
-    ghost use Rattle.std.specs.Prelude.{List, map};
+    ghost use Rattle.std.specs.Prelude.{List};
     ghost use Rattle.tokei_syntax.specs.Row.{Row};
-    ghost use Rattle.tokei_syntax.specs.RowOf.{row_of};
-    ghost use Rattle.tokei_table.specs.Indexed.{IsIndexed};
     ghost use Rattle.tokei_table.specs.WellFormed.{IsWellFormed};
 
     ghost Value = { List Row };
 
-    ghost view = { λ t. map row_of t.rows.items };
+    ghost view = { λ t. t.rows };
 
-    ghost invariant = { λ t. IsWellFormed (map row_of t.rows.items)
-        × IsIndexed (map row_of t.rows.items) t.by_extension t.by_filename t.suffixed.items };
+    ghost invariant = { λ t. IsWellFormed t.rows };
 }
 
 #[tactic(auto, unfolding(crate::specs::Outcome::data_of))]
@@ -67,21 +59,13 @@ fn data(alloc: Global, bytes: &[u8]) -> Result<Value, TableError>
     }
 }
 
-/// The table of these rows, with an index of their extensions and of whole names of files, and with the places of those
-/// that have path suffixes.
+/// The table of these rows, with what look-ups need beside them.
 fn indexed(alloc: Global, rows: Vec<Syntax>) -> Result<LanguageTable, AllocError>
     requires { IsWellFormed (map row_of rows.items) }
     ensures { IfOk result (λ t. t ≡ map row_of rows.items) }
 {
-    let by_extension = TextIndex::of_extensions(alloc, &rows)?;
-    let by_filename = TextIndex::of_filenames(alloc, &rows)?;
-    let suffixed = suffixed_places(alloc, &rows)?;
-    Ok(LanguageTable {
-        rows,
-        by_extension,
-        by_filename,
-        suffixed,
-    })
+    let rows = IndexedRows::new(alloc, rows)?;
+    Ok(LanguageTable { rows })
 }
 
 impl LanguageTable {
@@ -118,28 +102,14 @@ impl LanguageTable {
     pub(crate) fn rows(&self) -> &[Syntax]
         ensures { map row_of result.now ≡ self.entry.now }
     {
-        self.rows.as_slice()
+        self.rows.rows()
     }
 
-    /// Places of rows, in their order, among which are those of the rows with that extension.
-    pub(crate) fn extension_places(&self, extension: &[u8]) -> &[usize]
-        ensures { result.now ≡ in_group (group_of extension.now) (entries_from (λ r. r.extensions) 0 self.entry.now) }
+    /// The rows with their index.
+    pub(crate) fn indexed_rows(&self) -> &IndexedRows
+        ensures { result.now ≡ self.entry.now }
     {
-        self.by_extension.places(extension)
-    }
-
-    /// The same of a whole name of a file.
-    pub(crate) fn filename_places(&self, name: &[u8]) -> &[usize]
-        ensures { result.now ≡ in_group (group_of name.now) (entries_from (λ r. r.filenames) 0 self.entry.now) }
-    {
-        self.by_filename.places(name)
-    }
-
-    /// The places of the rows that have a path suffix, in their order.
-    pub(crate) fn suffixed(&self) -> &[usize]
-        ensures { result.now ≡ suffixed_from 0 self.entry.now }
-    {
-        self.suffixed.as_slice()
+        &self.rows
     }
 
     /// How many languages there are.
@@ -147,21 +117,21 @@ impl LanguageTable {
         ensures value { result ≡ length self.now }
         ensures well_formed { IsWellFormed self.now }
     {
-        self.rows.len()
+        self.rows.rows().len()
     }
 
     /// Whether there are no languages.
     pub fn is_empty(&self) -> bool
         ensures { result ≡ (length self.now == 0) }
     {
-        self.rows.is_empty()
+        self.rows.rows().is_empty()
     }
 
     /// Whether the language is one of this table.
     pub fn has(&self, language: LanguageType) -> bool
         ensures { result ≡ nat_lt language (length self.now) }
     {
-        language.index() < self.rows.len()
+        language.index() < self.rows.rows().len()
     }
 
     /// The language's row as read. All its tokens are neither empty nor all blank, and none holds a newline.
@@ -171,7 +141,7 @@ impl LanguageTable {
         ensures tokens { has_tokens (row_of result.now) ≡ true }
         ensures sound { IsSound (row_of result.now) }
     {
-        &self.rows[language.index()]
+        &self.rows.rows()[language.index()]
     }
 
     /// The table in which, in its order, each language gains those of the extensions listed for it that no language
@@ -183,7 +153,7 @@ impl LanguageTable {
     ) -> Result<LanguageTable, AllocError>
         ensures { IfOk result (λ t. t ≡ extended self.now (map addition_of additions.now)) }
     {
-        let rows = extended_rows(alloc, &self.rows, additions)?;
+        let rows = extended_rows(alloc, self.rows.rows(), additions)?;
         indexed(alloc, rows)
     }
 }

@@ -1,6 +1,6 @@
 use Rattle.std.proofs.Common.{◌≡◌, ◌+◌, ◌∙◌, length, drop, sym}
 use Rattle.tokei_table.specs.Families.{family_of}
-use Rattle.tokei_table.specs.declared.family.Family.TheVariants.{Markdown, HtmlLike, LinguaFranca}
+use Rattle.tokei_table.specs.Family.TheVariants.{Markdown, HtmlLike, LinguaFranca}
 use Rattle.tokei_count.specs.Lines.{first_line}
 use Rattle.tokei_count.specs.ReadingOf.{row_in}
 use Rattle.tokei_count.proofs.LineEnds.{end_within, end_is, end_behind}

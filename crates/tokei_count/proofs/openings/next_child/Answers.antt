@@ -1,7 +1,7 @@
 use Rattle.std.proofs.Common.{◌≡◌, ℕ, ◌-◌, ◌<◌, None, List, length, take, drop, sym, ap, subst, ◌∙◌, arith, length-drop, option_map}
 use Rattle.std.specs.Prelude.{option_and_then}
 use Rattle.tokei_table.specs.Families.{family_of}
-use Rattle.tokei_table.specs.declared.family.Family.TheVariants.{Markdown, HtmlLike, LinguaFranca}
+use Rattle.tokei_table.specs.Family.TheVariants.{Markdown, HtmlLike, LinguaFranca}
 use Rattle.tokei_embedding.specs.Tags.{tag_block}
 use Rattle.tokei_embedding.specs.declared.tags.Tag.{Tag}
 use Rattle.tokei_embedding.specs.declared.tags.Tag.TheVariants.{Script, Style, Template}

@@ -3,7 +3,7 @@ use Rattle.serde_json.specs.View.{view}
 use Rattle.serde_json.specs.Find.{get}
 use Rattle.tokei_rows.specs.Layout.{is_html_kind}
 use Rattle.tokei_rows.specs.Rows.{text_at, kind_at, texts_at, pairs_at, truth_at, tags_at, name_or, row_in}
-use Rattle.tokei_rows.proofs.RowParts.{same_row}
+use Rattle.tokei_syntax.proofs.RowParts.{same_row}
 use Rattle.tokei_rows.proofs.rows.row.Goals as goal
 
 pub returns : goal.returns

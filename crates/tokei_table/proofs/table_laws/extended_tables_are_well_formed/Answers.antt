@@ -1,4 +1,4 @@
-use Rattle.tokei_table.proofs.ExtendedRows.{extended_well_formed}
+use Rattle.tokei_table.proofs.ExtendedTables.{extended_well_formed}
 use Rattle.tokei_table.proofs.table_laws.extended_tables_are_well_formed.Goals as goal
 
 pub returns : goal.returns

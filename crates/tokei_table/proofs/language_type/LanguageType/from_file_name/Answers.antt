@@ -1,9 +1,11 @@
-use Rattle.std.proofs.Common.{◌∙◌}
-use Rattle.tokei_table.specs.Lookups.{from_lowered_name}
-use Rattle.tokei_table.proofs.OfTable.{name_within, same_within}
+use Rattle.std.proofs.Common.{◌∙◌, ap}
+use Rattle.tokei_row_queries.specs.Lookups.{from_lowered_name}
+use Rattle.tokei_row_queries.proofs.OfTable.{name_within, same_within}
 use Rattle.tokei_table.proofs.language_type.LanguageType.from_file_name.Goals as goal
 
 pub returns-clause-of_table : goal.returns-clause-of_table
 returns-clause-of_table c =
     same_within c.args.table.now c.language.result (from_lowered_name c.args.table.now c.as_bytes.result.now)
-    (c.language.ensures ∙ c.in_lowered_name.ensures) (name_within c.args.table.now c.as_bytes.result.now)
+    (c.language.ensures ∙ c.in_lowered_name.ensures
+    ∙ ap (λ rs. from_lowered_name rs c.as_bytes.result.now) c.indexed_rows.ensures)
+    (name_within c.args.table.now c.as_bytes.result.now)

@@ -1,17 +1,21 @@
-use Rattle.std.proofs.Common.{◌≡◌, ◌∙◌, ap, true, length, arith}
+use Rattle.std.proofs.Common.{◌≡◌, ◌∙◌, ap, sym, subst, true, length, arith}
 use Rattle.std.proofs.lemmas.List.{length-map}
+use Rattle.std.specs.List.{list_all}
 use Rattle.tokei_syntax.specs.RowOf.{row_of}
-use Rattle.tokei_table.specs.WellFormed.{has_tokens}
-use Rattle.tokei_table.proofs.RowSound.{all_at, sound_row}
+use Rattle.tokei_row_queries.specs.Tokens.{has_tokens}
+use Rattle.tokei_row_queries.proofs.RowSound.{all_at, sound_row}
 use Rattle.tokei_table.proofs.table.LanguageTable.syntax.Goals as goal
 
-tokens : (c : goal.After-index-2) → has_tokens (row_of c.index-2.result.now) ≡ true
-tokens c = ap (λ s. has_tokens (row_of s)) c.index-2.ensures
-    ∙ all_at has_tokens row_of c.self.inside.rows.items c.index.result c.index-2.result.now c.self.invariant.0.tokens
-    (omega (arith, c.requires, c.index.ensures, ap length c.self.view_is, length-map c.self.inside.rows.items row_of))
+tokens : (c : goal.After-index-rows-index) → has_tokens (row_of c.index-rows-index.result) ≡ true
+tokens c =
+    let rows = c.rows.result.now in
+    ap (λ s. has_tokens (row_of s)) c.index-rows-index.is
+    ∙ all_at has_tokens row_of rows c.index.result c.index-rows-index.result
+    (subst (λ rs. list_all has_tokens rs ≡ true) (sym c.rows.ensures) c.self.invariant.tokens)
+    (omega (arith, c.requires, c.index.ensures, ap length c.self.view_is, ap length c.rows.ensures, length-map rows row_of))
 
 pub returns-clause-tokens : goal.returns-clause-tokens
 returns-clause-tokens c = tokens c
 
 pub returns-clause-sound : goal.returns-clause-sound
-returns-clause-sound c = sound_row (row_of c.index-2.result.now) (tokens c)
+returns-clause-sound c = sound_row (row_of c.index-rows-index.result) (tokens c)

@@ -1,0 +1,10 @@
+use Rattle.std.proofs.Common.{◌≡◌, ◌+◌, drop, map, option_map}
+use Rattle.tokei_row_queries.specs.Lookups.{first_where}
+use Rattle.tokei_row_queries.specs.Lookups.{has_name}
+use Rattle.tokei_syntax.specs.RowOf.{row_of}
+use Rattle.tokei_row_queries.proofs.lookups.with_name.Given as goal
+
+abbrev pub invariant-loop-i : goal.invariant-loop-i
+invariant-loop-i l =
+    first_where (has_name l.word) (map row_of l.rows)
+    ≡ option_map (λ k. l.i + k) (first_where (has_name l.word) (map row_of (drop l.i l.rows)))

@@ -1,0 +1,12 @@
+-- What a table keeps beside its rows, so that no look-up walks over all of them.
+use Rattle.std.specs.Prelude.{◌≡◌, ℕ, List}
+use Rattle.tokei_syntax.specs.Row.{Row}
+use Rattle.tokei_row_queries.specs.PathSuffixes.{suffixed_from}
+use Rattle.tokei_row_queries.specs.TextIndex.{AreGroups, entries_from}
+
+-- The groups are those of the rows' extensions and of their whole names of files, and the places are of the rows that
+-- have path suffixes.
+pub record IsIndexed (rows : List Row) (extensions filenames : List (List ℕ)) (places : List ℕ) : Type 0 where
+  pub by_extension : AreGroups (entries_from (λ r. r.extensions) 0 rows) extensions
+  pub by_filename : AreGroups (entries_from (λ r. r.filenames) 0 rows) filenames
+  pub suffixed : places ≡ suffixed_from 0 rows

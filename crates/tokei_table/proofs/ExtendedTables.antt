@@ -1,0 +1,29 @@
+-- Further extensions leave a table well formed.
+use Rattle.std.proofs.Common.{◌≡◌, ℕ, ◌+◌, List, [], ◌∷◌, ◌++◌, refl, sym, ◌∙◌, ap, subst}
+use Rattle.std.specs.List.Sorted.{IsStrictlySortedBy}
+use Rattle.std.specs.Ordering.{nat_cmp}
+use Rattle.std.specs.Cmp.Lexicographic.{slice_cmp}
+use Rattle.tokei_row_queries.proofs.ExtendedRows.{same_tokens, same_names, same_totals, same_fallbacks}
+use Rattle.tokei_row_queries.specs.Extended.{gained, listed_for, extended_from, extended, extensions_of}
+use Rattle.tokei_rows.specs.KeyOrder.{keys_of}
+use Rattle.tokei_syntax.specs.Row.{Row}
+use Rattle.tokei_table.specs.WellFormed.{IsWellFormed}
+
+module _ (adds : List (ℕ × List (List ℕ))) where
+  same_keys : (rs : List Row) (n : ℕ) (known : List (List ℕ)) → keys_of (extended_from n known adds rs) ≡ keys_of rs
+  same_keys [] n known = refl
+  same_keys (r ∷ rs) n known = ap (λ ks. r.key ∷ ks) (same_keys rs (n + 1) (known ++ gained known (listed_for n adds)))
+
+  pub extended_well_formed : (rs : List Row) → IsWellFormed rs → IsWellFormed (extended rs adds)
+  extended_well_formed rs w =
+      let known = extensions_of rs in
+      record {
+        ordered = subst (IsStrictlySortedBy (slice_cmp nat_cmp)) (sym (same_keys rs 0 known)) w.ordered;
+        tokens = same_tokens adds rs 0 known ∙ w.tokens;
+        named_once = same_names adds rs 0 known ∙ w.named_once;
+        no_total = same_totals adds rs 0 known ∙ w.no_total;
+        fallbacks = same_fallbacks adds rs 0 known rs 0 known ∙ w.fallbacks;
+      }
+
+pub same_well_formed : (rs ss : List Row) → rs ≡ ss → IsWellFormed ss → IsWellFormed rs
+same_well_formed rs ss e w = subst IsWellFormed (sym e) w
