@@ -1,8 +1,8 @@
 -- Why a run ended, from why one of its steps was refused.
 use Rattle.tokei_stats.specs.declared.error.CountError.{CountError}
 use Rattle.tokei_stats.specs.declared.error.CountError.TheVariants.{Memory as NoMemory, Overflow as SumOverflow}
-use Rattle.tokei_print.specs.declared.error.PrintError.{PrintError}
-use Rattle.tokei_print.specs.declared.error.PrintError.TheVariants.{Memory as NoRoom, Overflow as RowOverflow, Write as BufferFault}
+use Rattle.tokei_layout.specs.declared.error.PrintError.{PrintError}
+use Rattle.tokei_layout.specs.declared.error.PrintError.TheVariants.{Memory as NoRoom, Overflow as RowOverflow, Write as BufferFault}
 use Rattle.tokei.specs.declared.error.RunError.{RunError}
 use Rattle.tokei.specs.declared.error.RunError.TheVariants.{Memory, Overflow}
 

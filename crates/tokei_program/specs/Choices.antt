@@ -10,11 +10,11 @@ use Rattle.tokei_format.specs.Formats.{format_of_word}
 use Rattle.tokei_options.specs.declared.sort.Sort.{Sort}
 use Rattle.tokei_options.specs.declared.sort.SortError.{SortError}
 use Rattle.tokei_options.specs.Sorts.{sort_of_word}
-use Rattle.tokei_print.specs.declared.number_format.NumberFormatStyle.{NumberFormatStyle}
-use Rattle.tokei_print.specs.declared.number_format.NumberFormatStyle.TheVariants.{Plain}
-use Rattle.tokei_print.specs.declared.streaming.Streaming.{Streaming}
-use Rattle.tokei_print.specs.Forms.{ParsesForm}
-use Rattle.tokei_print.specs.Styles.{ParsesStyle}
+use Rattle.tokei_styles.specs.declared.number_format.NumberFormatStyle.{NumberFormatStyle}
+use Rattle.tokei_styles.specs.declared.number_format.NumberFormatStyle.TheVariants.{Plain}
+use Rattle.tokei_styles.specs.declared.streaming.Streaming.{Streaming}
+use Rattle.tokei_styles.specs.Forms.{ParsesForm}
+use Rattle.tokei_styles.specs.Styles.{ParsesStyle}
 use Rattle.tokei_program.specs.Words.{ReadsAs}
 
 -- a word gives the format that it names
