@@ -1,5 +1,5 @@
-//! How printed rows are laid out: names and numbers in their places, what stands above rows and between them, the rows of a
-//! file that holds other languages, and the rows of a stream.
+//! How printed rows are laid out: names and numbers in their places, what stands above rows and between them, the rows
+//! of a file that holds other languages, and the rows of a stream.
 #![tactic(auto)]
 
 mod blob_rows;

@@ -2,7 +2,8 @@
 ghost use Rattle.std.specs.Prelude.{◌≡◌, IfOk, IsErrOf, filter, not, string_bytes};
 ghost use Rattle.tokei_languages.specs.Seen.{report_of};
 ghost use Rattle.tokei_layout.specs.Names.{name_in};
-ghost use Rattle.tokei_print.specs.FileRows.{file_block, file_blocks, file_row, file_rows, has_row_alone, listed_files, no_blobs};
+ghost use Rattle.tokei_print.specs.FileRows.{file_block, file_blocks, file_row, file_rows, has_row_alone};
+ghost use Rattle.tokei_print.specs.FileRows.{listed_files, no_blobs};
 ghost use Rattle.tokei_print.specs.FilesFit.{FileBlockFits, FileBlocksFit};
 ghost use Rattle.tokei_print.specs.Listed.{reports_in};
 ghost use Rattle.tokei_stats.specs.Seen.{blobs_of, entries_of};

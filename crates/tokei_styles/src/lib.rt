@@ -1,4 +1,5 @@
-//! The styles of what is printed: how the digits of a number are grouped, the forms of a stream, and the widths of columns.
+//! The styles of what is printed: how the digits of a number are grouped, the forms of a stream, and the widths of
+//! columns.
 #![tactic(auto)]
 
 pub mod columns;
