@@ -7,7 +7,7 @@ use Rattle.tokei_layout.specs.Names.{name_in}
 use Rattle.tokei_print.specs.Results.{results_text}
 use Rattle.tokei_print.specs.Total.{total_text}
 use Rattle.tokei_table.specs.Row.{Row}
-use Rattle.tokei.specs.declared.job.Job.{Job}
+use Rattle.tokei_job.specs.declared.job.Job.{Job}
 use Rattle.tokei.specs.Output.{report_text, sort_of, warning_of}
 
 -- four texts, one behind the other

@@ -18,9 +18,9 @@ use Rattle.tokei_styles.specs.declared.streaming.Streaming.{Streaming}
 use Rattle.tokei_styles.specs.Styles.{separator_of}
 use Rattle.tokei_print.specs.Total.{total_text}
 use Rattle.tokei_table.specs.Row.{Row}
-use Rattle.tokei.specs.declared.job.Job.{Job}
-use Rattle.tokei.specs.declared.job.Wanted.{Wanted}
-use Rattle.tokei.specs.declared.job.Wanted.TheVariants.{Stream, Document, Table}
+use Rattle.tokei_job.specs.declared.job.Job.{Job}
+use Rattle.tokei_job.specs.declared.job.Wanted.{Wanted}
+use Rattle.tokei_job.specs.declared.job.Wanted.TheVariants.{Stream, Document, Table}
 use Rattle.tokei.specs.Runs.{counting_of, files_of, languages_after}
 use Rattle.tokei.specs.Sorted.{listed_by}
 use Rattle.tokei.specs.Streams.{stream_text}

@@ -10,21 +10,20 @@ ghost use Rattle.tokei_styles.specs.declared.streaming.Streaming.TheVariants.{Si
 ghost use Rattle.tokei_statistics.specs.Runs.{FileFits, ReadingsFit};
 ghost use Rattle.tokei_statistics.specs.Seen.{counting_of as counting_value};
 ghost use Rattle.tokei_walk.specs.Walks.{to_come};
-ghost use Rattle.tokei.specs.declared.error.RunError.TheVariants.{Overflow as SumOverflow, Write as WriteFault};
+ghost use Rattle.tokei_job.specs.declared.error.RunError.TheVariants.{Overflow as SumOverflow, Write as WriteFault};
 ghost use Rattle.tokei.specs.Output.{WritesStream};
 ghost use Rattle.tokei.specs.Runs.{earlier_of, files_of};
 ghost use Rattle.tokei.specs.Streams.{file_row, heading_of, report_of_file, report_row, rows_of, stream_text};
 ghost use Rattle.tokei.specs.Sums.{StreamFits};
 
 use crate::counting::earlier;
-use crate::error::RunError;
-use crate::job::Job;
 use crate::running::put;
 use std::alloc::Global;
 use tokei_config::Config;
 use tokei_count::Counter;
 use tokei_folders::Folders;
 use tokei_io::Sink;
+use tokei_job::{Job, RunError};
 use tokei_json::report_line;
 use tokei_print::{PrintError, Streaming, print_stream_heading, print_stream_row};
 use tokei_statistics::{Counting, ParseFault, rules};

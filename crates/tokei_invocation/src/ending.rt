@@ -1,11 +1,11 @@
 //! How a run of the program ends where it doesn't do what was asked.
 ghost use Rattle.std.specs.Prelude.{IfOk, string_bytes};
-ghost use Rattle.tokei_program.specs.Messages.{IsMessage};
+ghost use Rattle.tokei_invocation.specs.Messages.{IsMessage};
 
 use std::alloc::{AllocError, AllocFailed, Global};
 use thiserror::Error;
-use tokei::RunError;
 use tokei_cli::OutputError;
+use tokei_job::RunError;
 use tokei_table::TableError;
 
 /// Why nothing is counted, or why the count isn't shown.
@@ -42,7 +42,7 @@ pub enum Ending {
 
 impl Ending {
     ghost use Rattle.std.specs.Prelude.{◌≡◌, ◌≢◌};
-    ghost use Rattle.tokei_program.specs.Statuses.{status_of};
+    ghost use Rattle.tokei_invocation.specs.Statuses.{status_of};
 
     /// The exit status: 2 where the command line is refused, else 1.
     pub fn status(&self) -> u8
@@ -56,7 +56,7 @@ impl Ending {
     }
 
     /// The line that says on standard error how the run ended.
-    #[tactic(auto, using(crate::proofs::Saying::line_is_message))]
+    #[tactic(auto, using(crate::proofs::Causes::line_is_message))]
     pub fn line(&self, alloc: Global) -> Result<String, AllocError>
         ensures { IfOk result (λ line. IsMessage (string_bytes line)) }
     {
@@ -67,7 +67,7 @@ impl Ending {
 
 impl From<AllocError> for Ending {
     ghost use Rattle.std.specs.Prelude.{◌≡◌};
-    ghost use Rattle.tokei_program.specs.declared.ending.Ending.TheVariants.{Memory};
+    ghost use Rattle.tokei_invocation.specs.declared.ending.Ending.TheVariants.{Memory};
 
     ghost from_gives = { λ _ e. e ≡ Memory };
 
@@ -78,7 +78,7 @@ impl From<AllocError> for Ending {
 
 impl<T: Drop> From<AllocFailed<T>> for Ending {
     ghost use Rattle.std.specs.Prelude.{◌≡◌};
-    ghost use Rattle.tokei_program.specs.declared.ending.Ending.TheVariants.{Memory};
+    ghost use Rattle.tokei_invocation.specs.declared.ending.Ending.TheVariants.{Memory};
 
     ghost from_gives = { λ _ e. e ≡ Memory };
 
@@ -89,7 +89,7 @@ impl<T: Drop> From<AllocFailed<T>> for Ending {
 
 impl From<OutputError> for Ending {
     ghost use Rattle.std.specs.Prelude.{◌≡◌};
-    ghost use Rattle.tokei_program.specs.Statuses.{status_of};
+    ghost use Rattle.tokei_invocation.specs.Statuses.{status_of};
 
     ghost from_gives = { λ _ e. status_of e ≡ 1 };
 
@@ -103,7 +103,7 @@ impl From<OutputError> for Ending {
 
 impl From<TableError> for Ending {
     ghost use Rattle.std.specs.Prelude.{◌≡◌};
-    ghost use Rattle.tokei_program.specs.Statuses.{status_of};
+    ghost use Rattle.tokei_invocation.specs.Statuses.{status_of};
 
     ghost from_gives = { λ _ e. status_of e ≡ 1 };
 
@@ -117,7 +117,7 @@ impl From<TableError> for Ending {
 
 impl From<RunError> for Ending {
     ghost use Rattle.std.specs.Prelude.{◌≡◌};
-    ghost use Rattle.tokei_program.specs.Statuses.{status_of};
+    ghost use Rattle.tokei_invocation.specs.Statuses.{status_of};
 
     ghost from_gives = { λ _ e. status_of e ≡ 1 };
 

@@ -1,9 +1,9 @@
 //! The variables that the program asks for, and the folders of configuration files that they name.
 ghost use Rattle.std.specs.Prelude.{◌≡◌, IfOk};
-ghost use Rattle.tokei_program.specs.Directories.{AreDirs, config_folder_of, is_absolute, text_of};
+ghost use Rattle.tokei_invocation.specs.Directories.{AreDirs, config_folder_of, is_absolute, text_of};
 
 use std::alloc::{AllocError, Global};
-use tokei::ConfigDirs;
+use tokei_config::ConfigDirs;
 
 /// The variables that the program asks for, where they are set.
 #[derive(Drop)]

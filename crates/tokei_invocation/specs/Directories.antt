@@ -2,7 +2,7 @@
 use Rattle.std.specs.Prelude.{◌≡◌, ℕ, ◌==◌, List, [], ◌∷◌, ◌++◌, Bool, false, Option, None, Some, option_map, String, string_bytes, codes, if◌then◌else◌}
 use Rattle.std.specs.Global.{Global}
 use Rattle.tokei_config.specs.declared.files.ConfigDirs.{ConfigDirs}
-use Rattle.tokei_program.specs.declared.environment.Env.{Env}
+use Rattle.tokei_invocation.specs.declared.environment.Env.{Env}
 
 -- the bytes of a text, where there is one
 abbrev pub text_of : Option (String Global) → Option (List ℕ)

@@ -1,7 +1,7 @@
 //! Why a run ended without its output.
 use std::alloc::{AllocError, AllocFailed};
 use thiserror::Error;
-use tokei_print::PrintError;
+use tokei_layout::PrintError;
 use tokei_stats::CountError;
 
 /// Why a run ended without its output. What was written until then stands.
@@ -20,7 +20,7 @@ pub enum RunError {
 
 impl From<AllocError> for RunError {
     ghost use Rattle.std.specs.Prelude.{◌≡◌};
-    ghost use Rattle.tokei.specs.declared.error.RunError.TheVariants.{Memory};
+    ghost use Rattle.tokei_job.specs.declared.error.RunError.TheVariants.{Memory};
 
     ghost from_gives = { λ _ e. e ≡ Memory };
 
@@ -31,7 +31,7 @@ impl From<AllocError> for RunError {
 
 impl<T: Drop> From<AllocFailed<T>> for RunError {
     ghost use Rattle.std.specs.Prelude.{◌≡◌};
-    ghost use Rattle.tokei.specs.declared.error.RunError.TheVariants.{Memory};
+    ghost use Rattle.tokei_job.specs.declared.error.RunError.TheVariants.{Memory};
 
     ghost from_gives = { λ _ e. e ≡ Memory };
 
@@ -42,7 +42,7 @@ impl<T: Drop> From<AllocFailed<T>> for RunError {
 
 impl From<CountError> for RunError {
     ghost use Rattle.std.specs.Prelude.{◌≡◌};
-    ghost use Rattle.tokei.specs.Errors.{error_of_count};
+    ghost use Rattle.tokei_job.specs.Errors.{error_of_count};
 
     ghost from_gives = { λ refused e. e ≡ error_of_count refused };
 
@@ -57,7 +57,7 @@ impl From<CountError> for RunError {
 /// A report is made in memory first, so a fault of its writer says that memory ran out.
 impl From<PrintError> for RunError {
     ghost use Rattle.std.specs.Prelude.{◌≡◌};
-    ghost use Rattle.tokei.specs.Errors.{error_of_print};
+    ghost use Rattle.tokei_job.specs.Errors.{error_of_print};
 
     ghost from_gives = { λ refused e. e ≡ error_of_print refused };
 

@@ -1,7 +1,7 @@
 -- The exit statuses of the program.
 use Rattle.std.specs.Prelude.{ℕ}
-use Rattle.tokei_program.specs.declared.ending.Ending.{Ending}
-use Rattle.tokei_program.specs.declared.ending.Ending.TheVariants.{Refused, NoTable, Table, Input, Unreadable, Missing, Memory, Overflow, Write}
+use Rattle.tokei_invocation.specs.declared.ending.Ending.{Ending}
+use Rattle.tokei_invocation.specs.declared.ending.Ending.TheVariants.{Refused, NoTable, Table, Input, Unreadable, Missing, Memory, Overflow, Write}
 
 -- the exit status of a run that doesn't do what was asked
 abbrev pub status_of : Ending → ℕ

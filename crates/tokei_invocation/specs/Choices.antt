@@ -1,8 +1,8 @@
 -- What the words of a command line choose: what is written, by which column it is sorted, and how numbers are shown.
 use Rattle.std.specs.Prelude.{◌≡◌, ℕ, List, Option, None, Some, Result, unwrap_or}
 use Rattle.std.specs.Result.{result_ok}
-use Rattle.tokei.specs.declared.job.Wanted.{Wanted}
-use Rattle.tokei.specs.declared.job.Wanted.TheVariants.{Stream, Document, Table}
+use Rattle.tokei_job.specs.declared.job.Wanted.{Wanted}
+use Rattle.tokei_job.specs.declared.job.Wanted.TheVariants.{Stream, Document, Table}
 use Rattle.tokei_cli.specs.declared.cli.Cli.{Cli}
 use Rattle.tokei_format.specs.declared.format.Format.{Format}
 use Rattle.tokei_format.specs.declared.format.FormatError.{FormatError}
@@ -15,7 +15,7 @@ use Rattle.tokei_styles.specs.declared.number_format.NumberFormatStyle.TheVarian
 use Rattle.tokei_styles.specs.declared.streaming.Streaming.{Streaming}
 use Rattle.tokei_styles.specs.Forms.{ParsesForm}
 use Rattle.tokei_styles.specs.Styles.{ParsesStyle}
-use Rattle.tokei_program.specs.Words.{ReadsAs}
+use Rattle.tokei_invocation.specs.Words.{ReadsAs}
 
 -- a word gives the format that it names
 abbrev pub GivesFormat : List ℕ → Result Format FormatError → Type 0

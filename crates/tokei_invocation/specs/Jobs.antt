@@ -1,6 +1,6 @@
 -- The run that a command line asks for.
 use Rattle.std.specs.Prelude.{◌≡◌, ℕ, List, Option}
-use Rattle.tokei.specs.declared.job.Job.{Job}
+use Rattle.tokei_job.specs.declared.job.Job.{Job}
 use Rattle.tokei_cli.specs.CommandLines.{inputs_of, excludes_of, file_input_of}
 use Rattle.tokei_cli.specs.declared.cli.Cli.{Cli}
 use Rattle.tokei_cli.specs.Overriding.{overridden}
@@ -9,12 +9,12 @@ use Rattle.tokei_config.specs.declared.files.ConfigDirs.{ConfigDirs}
 use Rattle.tokei_config.specs.Files.{configuration}
 use Rattle.tokei_config.specs.Seen.{settings_of}
 use Rattle.tokei_folders.specs.Tree.{Tree}
-use Rattle.tokei_program.specs.Choices.{Chooses}
-use Rattle.tokei_program.specs.Columns.{columns_of}
-use Rattle.tokei_program.specs.declared.environment.Env.{Env}
-use Rattle.tokei_program.specs.Directories.{AreDirs}
-use Rattle.tokei_program.specs.Earlier.{AreEarlier}
-use Rattle.tokei_program.specs.Roots.{AllStand}
+use Rattle.tokei_invocation.specs.Choices.{Chooses}
+use Rattle.tokei_invocation.specs.Columns.{columns_of}
+use Rattle.tokei_invocation.specs.declared.environment.Env.{Env}
+use Rattle.tokei_invocation.specs.Directories.{AreDirs}
+use Rattle.tokei_invocation.specs.Earlier.{AreEarlier}
+use Rattle.tokei_invocation.specs.Roots.{AllStand}
 use Rattle.tokei_table.specs.Row.{Row}
 use Rattle.tokei_walk.specs.Walks.{texts_of}
 

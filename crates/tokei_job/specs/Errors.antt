@@ -3,8 +3,8 @@ use Rattle.tokei_stats.specs.declared.error.CountError.{CountError}
 use Rattle.tokei_stats.specs.declared.error.CountError.TheVariants.{Memory as NoMemory, Overflow as SumOverflow}
 use Rattle.tokei_layout.specs.declared.error.PrintError.{PrintError}
 use Rattle.tokei_layout.specs.declared.error.PrintError.TheVariants.{Memory as NoRoom, Overflow as RowOverflow, Write as BufferFault}
-use Rattle.tokei.specs.declared.error.RunError.{RunError}
-use Rattle.tokei.specs.declared.error.RunError.TheVariants.{Memory, Overflow}
+use Rattle.tokei_job.specs.declared.error.RunError.{RunError}
+use Rattle.tokei_job.specs.declared.error.RunError.TheVariants.{Memory, Overflow}
 
 -- a run ends as its sums do
 abbrev pub error_of_count : CountError → RunError

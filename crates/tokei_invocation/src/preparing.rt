@@ -2,23 +2,27 @@
 ghost use Rattle.std.specs.Prelude.{◌≡◌, true, IfErr, IfOk, OnOk, Some, Ok, map, option_map, string_bytes};
 ghost use Rattle.tokei_cli.specs.CommandLines.{file_input_of, inputs_of, table_of as table_named};
 ghost use Rattle.tokei_folders.specs.Answers.{Told};
-ghost use Rattle.tokei_program.specs.Choices.{Chooses};
-ghost use Rattle.tokei_program.specs.Columns.{columns_of};
-ghost use Rattle.tokei_program.specs.Earlier.{AreEarlier, AreRead, bytes_named};
-ghost use Rattle.tokei_program.specs.Jobs.{IsConfig, IsJob, IsJobOf};
-ghost use Rattle.tokei_program.specs.Roots.{AllStand, stands};
-ghost use Rattle.tokei_program.specs.Statuses.{status_of};
-ghost use Rattle.tokei_program.specs.Tables.{table_at};
+ghost use Rattle.tokei_invocation.specs.Choices.{Chooses};
+ghost use Rattle.tokei_invocation.specs.Columns.{columns_of};
+ghost use Rattle.tokei_invocation.specs.Earlier.{AreEarlier, AreRead, bytes_named};
+ghost use Rattle.tokei_invocation.specs.Jobs.{IsConfig, IsJob, IsJobOf};
+ghost use Rattle.tokei_invocation.specs.Roots.{AllStand, stands};
+ghost use Rattle.tokei_invocation.specs.Statuses.{status_of};
+ghost use Rattle.tokei_invocation.specs.Tables.{table_at};
 ghost use Rattle.tokei_walk.specs.Walks.{texts_of};
 
 use crate::choices::Choices;
 use crate::ending::Ending;
 use crate::environment::{Env, config_dirs};
 use std::alloc::{AllocError, Global};
-use tokei::{
-    Config, Counted, Fault, Folders, InputError, Job, LanguageTable, Languages, Source, add_input,
-};
 use tokei_cli::Cli;
+use tokei_config::Config;
+use tokei_earlier::{InputError, add_input};
+use tokei_folders::{Fault, Folders};
+use tokei_io::{Counted, Source};
+use tokei_job::Job;
+use tokei_languages::Languages;
+use tokei_table::LanguageTable;
 
 /// The table that the command line names.
 pub fn table_of<F: Folders>(

@@ -3,7 +3,7 @@ use tokei_config::Config;
 use tokei_format::Format;
 use tokei_languages::Languages;
 use tokei_options::Sort;
-use tokei_print::{NumberFormatStyle, Streaming};
+use tokei_styles::{NumberFormatStyle, Streaming};
 
 /// What a run writes.
 #[derive(Debug, Drop)]

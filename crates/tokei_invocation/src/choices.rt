@@ -1,13 +1,16 @@
 //! The words of a command line that are read by the types that they name.
 ghost use Rattle.std.specs.Prelude.{◌≡◌, IfOk};
-ghost use Rattle.tokei_program.specs.Choices.{Chooses, wanted_of};
-ghost use Rattle.tokei_program.specs.Words.{ReadsAs};
+ghost use Rattle.tokei_invocation.specs.Choices.{Chooses, wanted_of};
+ghost use Rattle.tokei_invocation.specs.Words.{ReadsAs};
 
 use crate::ending::Ending;
 use std::alloc::Global;
 use std::str::FromStr;
-use tokei::{Format, NumberFormatStyle, Sort, Streaming, Wanted};
 use tokei_cli::Cli;
+use tokei_format::Format;
+use tokei_job::Wanted;
+use tokei_options::Sort;
+use tokei_styles::{NumberFormatStyle, Streaming};
 
 /// What the words of a command line choose.
 #[derive(Drop)]

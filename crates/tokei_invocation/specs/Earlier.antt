@@ -5,7 +5,7 @@ use Rattle.tokei_folders.specs.Tree.{Tree}
 use Rattle.tokei_earlier.specs.Adding.{IsAdded}
 use Rattle.tokei_languages.specs.declared.languages.Languages.{Languages}
 use Rattle.tokei_languages.specs.Seen.{languages_of}
-use Rattle.tokei_program.specs.Tables.{content_at}
+use Rattle.tokei_invocation.specs.Tables.{content_at}
 use Rattle.tokei_table.specs.Row.{Row}
 
 -- what a name means that is no file's: `stdin` what stands on standard input, and any other name itself
