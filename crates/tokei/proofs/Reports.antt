@@ -1,13 +1,13 @@
 -- A report that is written in four steps.
 use Rattle.std.proofs.Common.{◌≡◌, ℕ, List, [], ◌++◌, Bool, ◌∙◌, ap, append_assoc, is_some}
 use Rattle.tokei_languages.specs.Values.{LanguageValue}
-use Rattle.tokei_print.specs.Heading.{header}
-use Rattle.tokei_print.specs.declared.layout.Layout.{Layout}
-use Rattle.tokei_print.specs.Names.{name_in}
+use Rattle.tokei_layout.specs.Heading.{header}
+use Rattle.tokei_layout.specs.declared.layout.Layout.{Layout}
+use Rattle.tokei_layout.specs.Names.{name_in}
 use Rattle.tokei_print.specs.Results.{results_text}
 use Rattle.tokei_print.specs.Total.{total_text}
 use Rattle.tokei_table.specs.Row.{Row}
-use Rattle.tokei.specs.declared.job.Job.{Job}
+use Rattle.tokei_job.specs.declared.job.Job.{Job}
 use Rattle.tokei.specs.Output.{report_text, sort_of, warning_of}
 
 -- four texts, one behind the other

@@ -1,5 +1,4 @@
 pub mod Runs
-pub mod Errors
 pub mod Output
 pub mod Sorted
 pub mod Streams

@@ -10,17 +10,17 @@ use Rattle.tokei_languages.specs.Sorting.{sorted_languages}
 use Rattle.tokei_languages.specs.Summaries.{any_inaccurate}
 use Rattle.tokei_languages.specs.Values.{LanguageValue}
 use Rattle.tokei_options.specs.declared.sort.Sort.{Sort}
-use Rattle.tokei_print.specs.Heading.{header, warning}
-use Rattle.tokei_print.specs.declared.layout.Layout.{Layout}
-use Rattle.tokei_print.specs.Names.{name_in}
+use Rattle.tokei_layout.specs.Heading.{header, warning}
+use Rattle.tokei_layout.specs.declared.layout.Layout.{Layout}
+use Rattle.tokei_layout.specs.Names.{name_in}
 use Rattle.tokei_print.specs.Results.{results_text}
-use Rattle.tokei_print.specs.declared.streaming.Streaming.{Streaming}
-use Rattle.tokei_print.specs.Styles.{separator_of}
+use Rattle.tokei_styles.specs.declared.streaming.Streaming.{Streaming}
+use Rattle.tokei_styles.specs.Styles.{separator_of}
 use Rattle.tokei_print.specs.Total.{total_text}
 use Rattle.tokei_table.specs.Row.{Row}
-use Rattle.tokei.specs.declared.job.Job.{Job}
-use Rattle.tokei.specs.declared.job.Wanted.{Wanted}
-use Rattle.tokei.specs.declared.job.Wanted.TheVariants.{Stream, Document, Table}
+use Rattle.tokei_job.specs.declared.job.Job.{Job}
+use Rattle.tokei_job.specs.declared.job.Wanted.{Wanted}
+use Rattle.tokei_job.specs.declared.job.Wanted.TheVariants.{Stream, Document, Table}
 use Rattle.tokei.specs.Runs.{counting_of, files_of, languages_after}
 use Rattle.tokei.specs.Sorted.{listed_by}
 use Rattle.tokei.specs.Streams.{stream_text}

@@ -12,7 +12,7 @@ use Rattle.tokei_statistics.specs.Runs.{Counting, languages_of_run}
 use Rattle.tokei_table.specs.Row.{Row}
 use Rattle.tokei_walk.specs.declared.kept_file.KeptFile.{KeptFile}
 use Rattle.tokei_walk.specs.Walks.{texts_of}
-use Rattle.tokei.specs.declared.job.Job.{Job}
+use Rattle.tokei_job.specs.declared.job.Job.{Job}
 
 -- the languages of earlier runs, none where there are none
 abbrev pub earlier_of : Option Languages → List (ℕ × LanguageValue)

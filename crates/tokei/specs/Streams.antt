@@ -6,11 +6,11 @@ use Rattle.serde_json.specs.Written.{compact_text}
 use Rattle.tokei_folders.specs.Tree.{Tree}
 use Rattle.tokei_json.specs.Document.{line_data}
 use Rattle.tokei_languages.specs.Values.{ReportValue}
-use Rattle.tokei_print.specs.Names.{name_in}
-use Rattle.tokei_print.specs.StreamRows.{stream_heading, stream_row}
-use Rattle.tokei_print.specs.Rules.{newline}
-use Rattle.tokei_print.specs.declared.streaming.Streaming.{Streaming}
-use Rattle.tokei_print.specs.declared.streaming.Streaming.TheVariants.{Simple, Json}
+use Rattle.tokei_layout.specs.Names.{name_in}
+use Rattle.tokei_layout.specs.StreamRows.{stream_heading, stream_row}
+use Rattle.tokei_layout.specs.Rules.{newline}
+use Rattle.tokei_styles.specs.declared.streaming.Streaming.{Streaming}
+use Rattle.tokei_styles.specs.declared.streaming.Streaming.TheVariants.{Simple, Json}
 use Rattle.tokei_statistics.specs.Contents.{stats_at}
 use Rattle.tokei_statistics.specs.Runs.{Counting, language_of_file}
 use Rattle.tokei_stats.specs.Statistics.{own}

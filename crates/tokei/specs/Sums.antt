@@ -12,9 +12,9 @@ use Rattle.tokei_print.specs.Total.{TotalFits}
 use Rattle.tokei_statistics.specs.Runs.{ReadingsFit, RunFits}
 use Rattle.tokei_stats.specs.Overflow.{CountsFit}
 use Rattle.tokei_table.specs.Row.{Row}
-use Rattle.tokei.specs.declared.job.Job.{Job}
-use Rattle.tokei.specs.declared.job.Wanted.{Wanted}
-use Rattle.tokei.specs.declared.job.Wanted.TheVariants.{Stream, Document, Table}
+use Rattle.tokei_job.specs.declared.job.Job.{Job}
+use Rattle.tokei_job.specs.declared.job.Wanted.{Wanted}
+use Rattle.tokei_job.specs.declared.job.Wanted.TheVariants.{Stream, Document, Table}
 use Rattle.tokei.specs.Output.{sort_of}
 use Rattle.tokei.specs.Runs.{counting_of, earlier_of, files_of, languages_after}
 use Rattle.tokei.specs.Sorted.{listed_by}

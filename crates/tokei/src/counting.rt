@@ -4,14 +4,13 @@ ghost use Rattle.tokei_folders.specs.Answers.{Told};
 ghost use Rattle.tokei_languages.specs.Seen.{languages_of};
 ghost use Rattle.tokei_walk.specs.Notes.{Grows, notes_of_excludes};
 ghost use Rattle.tokei_walk.specs.Walks.{texts_of};
-ghost use Rattle.tokei.specs.declared.error.RunError.TheVariants.{Overflow as SumOverflow, Write};
+ghost use Rattle.tokei_job.specs.declared.error.RunError.TheVariants.{Overflow as SumOverflow, Write};
 ghost use Rattle.tokei.specs.Runs.{earlier_of, languages_after};
 ghost use Rattle.tokei.specs.Sums.{TallyFits};
 
-use crate::error::RunError;
-use crate::job::Job;
 use std::alloc::Global;
 use tokei_folders::Folders;
+use tokei_job::{Job, RunError};
 use tokei_languages::Languages;
 use tokei_statistics::CountFiles;
 use tokei_stats::CountError;

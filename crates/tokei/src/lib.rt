@@ -3,14 +3,10 @@
 #![tactic(auto)]
 
 mod counting;
-pub mod error;
-pub mod job;
 mod report;
 pub mod running;
 mod stream;
 
-pub use error::RunError;
-pub use job::{Job, Wanted};
 pub use running::run;
 pub use tokei_config::{Config, ConfigDirs, LanguageConfig};
 pub use tokei_count::{
@@ -26,6 +22,8 @@ pub use tokei_folders::{
 pub use tokei_format::{Format, FormatError};
 pub use tokei_ignore::{IgnoreFile, Pattern, PatternError, Verdict};
 pub use tokei_io::{Counted, FailOnce, Sink, Source};
+pub use tokei_job::{Job, RunError, Wanted};
+pub use tokei_job::{error, job};
 pub use tokei_json::{report_line, to_value};
 pub use tokei_languages::{Language, Languages};
 pub use tokei_options::{Sort, SortError};

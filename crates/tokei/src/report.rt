@@ -4,16 +4,15 @@ ghost use Rattle.std.specs.Ordering.{is_lt};
 ghost use Rattle.tokei_languages.specs.Seen.{language_of, languages_of};
 ghost use Rattle.tokei_languages.specs.Sorting.{sorted_languages};
 ghost use Rattle.tokei_print.specs.Listed.{languages_in};
-ghost use Rattle.tokei.specs.declared.error.RunError.TheVariants.{Overflow, Write};
+ghost use Rattle.tokei_job.specs.declared.error.RunError.TheVariants.{Overflow, Write};
 ghost use Rattle.tokei.specs.Output.{columns_of, sort_of, warning_of, IsReport, IsTable};
 ghost use Rattle.tokei.specs.Sorted.{count_of, in_list_order, language_goes_first, languages_sorted, listed_by};
 ghost use Rattle.tokei.specs.Sums.{ReportFits, TableFits};
 
-use crate::error::RunError;
-use crate::job::Job;
 use std::alloc::{AllocError, Global};
 use std::cmp::Ordering;
 use tokei_io::Counted;
+use tokei_job::{Job, RunError};
 use tokei_languages::{Language, Languages};
 use tokei_options::Sort;
 use tokei_print::{PrintError, Printer};

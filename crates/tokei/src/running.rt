@@ -2,20 +2,19 @@
 ghost use Rattle.std.specs.Prelude.{◌≡◌, ◌≢◌, ◌<◌, Err, IfErr, OnOk};
 ghost use Rattle.std.specs.Io.KnownBytes.{Appends};
 ghost use Rattle.tokei_folders.specs.Answers.{Told};
-ghost use Rattle.tokei.specs.declared.error.RunError.TheVariants.{Overflow as SumOverflow, Write as WriteFault};
+ghost use Rattle.tokei_job.specs.declared.error.RunError.TheVariants.{Overflow as SumOverflow, Write as WriteFault};
 ghost use Rattle.tokei.specs.Output.{Outputs, WritesDocument, WritesTable};
 ghost use Rattle.tokei.specs.Refused.{IsUntouched};
 ghost use Rattle.tokei.specs.Sums.{DocumentFits, EarlierFits, Fits, RunTableFits};
 
 use crate::counting::tally_of;
-use crate::error::RunError;
-use crate::job::{Job, Wanted};
 use crate::report::table_text;
 use crate::stream::{Rows, stream};
 use std::alloc::Global;
 use tokei_folders::Folders;
 use tokei_format::Format;
 use tokei_io::Sink;
+use tokei_job::{Job, RunError, Wanted};
 use tokei_table::LanguageTable;
 use tokei_walk::Note;
 

@@ -1,18 +1,13 @@
 -- The rows of files.
-use Rattle.std.proofs.Common.{◌≡◌, ℕ, zero, suc, List, [], ◌∷◌, Bool, true, false, IsTrue, length, replicate, refl, ap, arith}
+use Rattle.std.proofs.Common.{◌≡◌, ℕ, List, [], ◌∷◌, Bool, true, false, IsTrue, length, refl, arith}
 use Rattle.std.proofs.lemmas.Bool.Decides.{nat_tests}
 use Rattle.std.specs.Prelude.{◌==◌, ◌↔◌}
-use Rattle.std.specs.List.{repeat}
 use Rattle.tokei_languages.specs.Values.{ReportValue, LanguageValue}
 use Rattle.tokei_stats.specs.declared.stats.CodeStats.{CodeStats}
 use Rattle.tokei_stats.specs.Seen.{blobs_of, entries_of}
 use Rattle.tokei_print.specs.FileRows.{file_rows, no_blobs}
-use Rattle.tokei_print.specs.Layouts.{Layout}
+use Rattle.tokei_layout.specs.declared.layout.Layout.{Layout}
 use Rattle.tokei_print.specs.Results.{language_blocks}
-
-pub dashes : (n : ℕ) → repeat {A = ℕ} n (45 ∷ []) ≡ replicate n 45
-dashes zero = refl
-dashes (suc n) = ap (λ (r : List ℕ). 45 ∷ r) (dashes n)
 
 pub empty_blobs : (r : Bool) (es : List (ℕ × CodeStats)) → (IsTrue r ↔ (length es ≡ 0)) → r ≡ no_blobs (blobs_of (entries_of es))
 empty_blobs true [] h = refl

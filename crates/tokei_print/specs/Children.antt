@@ -1,15 +1,12 @@
 -- The rows of the languages inside the files of another, and the subtotal below them.
-use Rattle.std.specs.Prelude.{ℕ, ◌-◌, List, [], ◌∷◌, ◌++◌, false, codes, length}
+use Rattle.std.specs.Prelude.{ℕ, List, [], ◌∷◌, ◌++◌, false, codes, length}
 use Rattle.tokei_languages.specs.Summaries.{language_summary, reports_summary}
 use Rattle.tokei_languages.specs.Values.{ReportValue, LanguageValue}
-use Rattle.tokei_stats.specs.ReportRow.{name_cell}
-use Rattle.tokei_stats.specs.Statistics.{Counts}
-use Rattle.tokei_table.specs.Bytes.{space}
-use Rattle.tokei_print.specs.Cells.{subtotal_cells}
-use Rattle.tokei_print.specs.LanguageRow.{files_and_counts}
-use Rattle.tokei_print.specs.Layouts.{Layout, separator_in}
-use Rattle.tokei_print.specs.NameSection.{name_section}
-use Rattle.tokei_print.specs.Rules.{newline}
+use Rattle.tokei_layout.specs.FilesAndCounts.{files_and_counts}
+use Rattle.tokei_layout.specs.Layouts.{separator_in}
+use Rattle.tokei_layout.specs.declared.layout.Layout.{Layout}
+use Rattle.tokei_layout.specs.NameSection.{name_section}
+use Rattle.tokei_layout.specs.Subtotal.{subtotal}
 
 -- a child's reports and the sums of their summaries; with no report there are none, and no newline either
 abbrev pub child_counts : Layout → List ReportValue → List ℕ
@@ -26,15 +23,6 @@ abbrev pub child_rows : Layout → (ℕ → List ℕ) → List (ℕ × List Repo
 child_rows layout names [] = []
 child_rows layout names (child ∷ children) =
     child_row layout (names child.0) child.1 ++ child_rows layout names children
-
--- how many places the name of a report's row or of a subtotal has, less the two that a report's row adds
-abbrev pub path_places : ℕ → ℕ
-path_places columns = columns - 56
-
--- counts that take in those of the texts inside
-abbrev pub subtotal : Layout → List ℕ → Counts → List ℕ
-subtotal layout name n =
-    space ∷ (name_cell (path_places layout.columns) name ++ (subtotal_cells (separator_in layout) n ++ newline))
 
 -- the rows of a language's children, and their subtotal
 abbrev pub children_block : Layout → (ℕ → List ℕ) → LanguageValue → List ℕ

@@ -1,17 +1,13 @@
 -- The rows of a language's files: first those of files with no other language inside, then the others with their blobs.
-use Rattle.std.specs.Prelude.{ℕ, ◌-◌, List, [], ◌∷◌, ◌++◌, ◌==◌, ◌||◌, Bool, true, false, not, codes, filter, length}
-use Rattle.std.specs.Prelude.{replicate, if◌then◌else◌}
+use Rattle.std.specs.Prelude.{ℕ, List, [], ◌∷◌, ◌++◌, ◌==◌, ◌||◌, Bool, true, false, not, codes, filter, length}
 use Rattle.tokei_languages.specs.Values.{ReportValue}
+use Rattle.tokei_layout.specs.BlobRows.{blob_rows, name_line, own_row}
+use Rattle.tokei_layout.specs.declared.layout.Layout.{Layout}
+use Rattle.tokei_layout.specs.Rules.{newline}
+use Rattle.tokei_layout.specs.Subtotal.{path_places, subtotal}
 use Rattle.tokei_stats.specs.ReportRow.{report_row}
-use Rattle.tokei_stats.specs.Statistics.{Statistics, Blobs, own, blobs, summary}
+use Rattle.tokei_stats.specs.Statistics.{Blobs, own, blobs, summary}
 use Rattle.tokei_stats.specs.Statistics.Blobs.{none, blob}
-use Rattle.tokei_table.specs.Bytes.{space}
-use Rattle.tokei_print.specs.Cells.{number_cells}
-use Rattle.tokei_print.specs.Children.{path_places, subtotal}
-use Rattle.tokei_print.specs.LanguageRow.{files_places}
-use Rattle.tokei_print.specs.Layouts.{Layout, separator_in}
-use Rattle.tokei_print.specs.NameSection.{name_section}
-use Rattle.tokei_print.specs.Rules.{newline}
 
 -- a report's row of its own counts
 abbrev pub file_row : Layout → ReportValue → List ℕ
@@ -20,31 +16,6 @@ file_row layout report = report_row (path_places layout.columns) report.name (ow
 abbrev pub file_rows : Layout → List ReportValue → List ℕ
 file_rows layout [] = []
 file_rows layout (report ∷ reports) = file_row layout report ++ file_rows layout reports
-
-abbrev pub dash : ℕ
-dash = 45
-
--- a file's name: alone where no other file stands above, and else between dashes
-abbrev pub name_line : Layout → Bool → List ℕ → List ℕ
-name_line layout first name =
-    if first then space ∷ (name ++ newline)
-    else codes "-- " ++ (name ++ (space ∷ (replicate (layout.columns - 4 - length name) dash ++ newline)))
-
--- the own counts of a file, under the name of its language
-abbrev pub own_row : Layout → List ℕ → Statistics → List ℕ
-own_row layout name stats = codes " |-" ++ (report_row (path_places layout.columns - 3) name (own stats) ++ newline)
-
--- the own counts of a language inside a file
-abbrev pub blob_row : Layout → Bool → List ℕ → Statistics → List ℕ
-blob_row layout inaccurate name stats =
-    name_section layout.columns inaccurate name (codes " |-")
-    ++ (space ∷ (replicate files_places space ++ (number_cells (separator_in layout) (own stats) ++ newline)))
-
--- a row for each language inside, in their order
-abbrev pub blob_rows : Layout → (ℕ → List ℕ) → Bool → Blobs → List ℕ
-blob_rows layout names inaccurate none = []
-blob_rows layout names inaccurate (blob key stats rest) =
-    blob_row layout inaccurate (names key) stats ++ blob_rows layout names inaccurate rest
 
 -- the rows of a file that holds other languages, of a language of this name and mark
 abbrev pub file_block : Layout → (ℕ → List ℕ) → Bool → List ℕ → Bool → ReportValue → List ℕ

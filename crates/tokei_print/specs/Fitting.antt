@@ -1,14 +1,10 @@
--- When a sum that a row shows fits the code's numbers.
-use Rattle.std.specs.Prelude.{ℕ, ◌<◌, ◌^◌, List, [], ◌∷◌, ⊤}
+-- When the sums that the rows of the languages inside another show fit the code's numbers.
+use Rattle.std.specs.Prelude.{ℕ, List, [], ◌∷◌, ⊤}
 use Rattle.tokei_languages.specs.Summaries.{language_summary, reports_summary}
 use Rattle.tokei_languages.specs.Values.{ReportValue, LanguageValue}
-use Rattle.tokei_stats.specs.Statistics.{Counts, lines_of}
+use Rattle.tokei_layout.specs.Fitting.{LinesFit}
 
--- the lines are at most the greatest `usize`
-abbrev pub LinesFit : Counts → Type 0
-LinesFit n = lines_of n < 2 ^ 64
-
--- so are those of each child's row
+-- the lines of each child's row are at most the greatest `usize`
 abbrev pub ChildrenFit : List (ℕ × List ReportValue) → Type 0
 ChildrenFit [] = ⊤
 ChildrenFit (child ∷ children) = LinesFit (reports_summary child.1) × ChildrenFit children

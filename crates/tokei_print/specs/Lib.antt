@@ -1,23 +1,11 @@
 -- What contracts say of what is printed: the rows of languages, files and totals, streams, and when the sums fit.
-pub mod Cells
 pub mod Children
 pub mod FileRows
 pub mod FilesFit
 pub mod Fitting
-pub mod Forms
-pub mod Grouping
-pub mod Heading
 pub mod LanguageRow
-pub mod Layouts
 pub mod Listed
 pub mod NameOrder
-pub mod NameSection
-pub mod Names
-pub mod Printing
-pub mod Refusals
 pub mod Results
 pub mod ResultsFit
-pub mod Rules
-pub mod StreamRows
-pub mod Styles
 pub mod Total

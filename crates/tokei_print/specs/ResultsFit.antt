@@ -3,7 +3,8 @@ use Rattle.std.specs.Prelude.{◌≡◌, ℕ, Bool, true, false, List, [], ◌�
 use Rattle.tokei_languages.specs.Values.{LanguageValue}
 use Rattle.tokei_print.specs.FileRows.{with_blocks}
 use Rattle.tokei_print.specs.FilesFit.{FileBlocksFit}
-use Rattle.tokei_print.specs.Fitting.{ChildrenBlockFits, LinesFit}
+use Rattle.tokei_layout.specs.Fitting.{LinesFit}
+use Rattle.tokei_print.specs.Fitting.{ChildrenBlockFits}
 use Rattle.tokei_print.specs.NameOrder.{in_order}
 use Rattle.tokei_print.specs.Results.{group_of, shows_children}
 

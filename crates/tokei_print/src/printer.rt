@@ -1,11 +1,12 @@
 //! Writes the rows of a report.
-use crate::error::PrintError;
-use crate::layout::Layout;
-use crate::number_format::NumberFormat;
-use crate::results::Showing;
+use crate::language_row::language_row;
+use crate::results::{Showing, results};
+use crate::total::total;
 use std::alloc::Global;
 use tokei_io::Sink;
 use tokei_languages::{Language, Languages};
+use tokei_layout::{Layout, PrintError};
+use tokei_styles::NumberFormat;
 use tokei_table::{LanguageTable, LanguageType};
 
 /// Writes the rows of a report to a sink. After a refused call nothing is said of the bytes that it wrote.
@@ -20,13 +21,13 @@ impl<W: Sink + Drop> Printer<W> {
     ghost use Rattle.std.specs.Prelude.{◌≡◌, ◌≢◌, ◌<◌, ◌≤◌, Ok, Err, None, Some, IfOk, IfErr, IsErrOf, OnOk, option_map};
     ghost use Rattle.std.specs.Io.KnownBytes.{Appends};
     ghost use Rattle.tokei_languages.specs.Seen.{language_of, languages_of};
-    ghost use Rattle.tokei_print.specs.Fitting.{LinesFit};
-    ghost use Rattle.tokei_print.specs.Heading.{header, warning};
+    ghost use Rattle.tokei_layout.specs.Fitting.{LinesFit};
+    ghost use Rattle.tokei_layout.specs.Heading.{header, warning};
     ghost use Rattle.tokei_print.specs.LanguageRow.{language_row};
-    ghost use Rattle.tokei_print.specs.NameSection.{name_section, prefix_of};
-    ghost use Rattle.tokei_print.specs.Printing.{faults_after_printing};
+    ghost use Rattle.tokei_layout.specs.NameSection.{name_section, prefix_of};
+    ghost use Rattle.tokei_layout.specs.Printing.{faults_after_printing};
     ghost use Rattle.tokei_print.specs.Listed.{languages_in};
-    ghost use Rattle.tokei_print.specs.Names.{name_in};
+    ghost use Rattle.tokei_layout.specs.Names.{name_in};
     ghost use Rattle.tokei_print.specs.Results.{results_text};
     ghost use Rattle.tokei_print.specs.ResultsFit.{ResultsFit};
     ghost use Rattle.tokei_print.specs.Total.{total_text, TotalFits};
@@ -124,7 +125,7 @@ impl<W: Sink + Drop> Printer<W> {
         ensures overflow { IsErrOf result PrintError.Overflow → ¬ LinesFit (language_of language.now).counts }
         ensures layout { self.new.layout ≡ self.old.layout }
     {
-        let text = self.layout.language_row(self.alloc, language, name)?;
+        let text = language_row(&self.layout, self.alloc, language, name)?;
         self.put(text.as_str())
     }
 
@@ -151,7 +152,7 @@ impl<W: Sink + Drop> Printer<W> {
             compact,
             sorted,
         };
-        let text = self.layout.results(self.alloc, showing, languages)?;
+        let text = results(&self.layout, self.alloc, showing, languages)?;
         self.put(text.as_str())
     }
 
@@ -165,7 +166,7 @@ impl<W: Sink + Drop> Printer<W> {
         ensures overflow { IsErrOf result PrintError.Overflow → ¬ TotalFits (languages_of languages.now) }
         ensures layout { self.new.layout ≡ self.old.layout }
     {
-        let text = self.layout.total(self.alloc, languages)?;
+        let text = total(&self.layout, self.alloc, languages)?;
         self.put(text.as_str())
     }
 }

@@ -1,14 +1,19 @@
 //! The rows of all languages.
-ghost use Rattle.std.specs.Prelude.{◌≡◌};
+ghost use Rattle.std.specs.Prelude.{◌≡◌, IfOk, IsErrOf, string_bytes};
 ghost use Rattle.tokei_languages.specs.Seen.{language_of};
-ghost use Rattle.tokei_print.specs.Results.{is_empty_language, is_of_group, shows_children};
+ghost use Rattle.tokei_layout.specs.Names.{name_in};
+ghost use Rattle.tokei_print.specs.Listed.{languages_in};
+ghost use Rattle.tokei_print.specs.Results.{counts_block, files_block, group_of, is_empty_language, is_of_group};
+ghost use Rattle.tokei_print.specs.Results.{language_block, language_blocks, parting, results_text, shows_children};
+ghost use Rattle.tokei_print.specs.ResultsFit.{LanguageFits, LanguagesFit, ResultsFit};
 
-use crate::file_rows::ListedLanguage;
-use crate::layout::Layout;
-use crate::names::name_of;
+use crate::children::children_block;
+use crate::file_rows::{ListedLanguage, listed_files};
+use crate::language_row::language_row;
 use crate::ordered::in_order;
 use std::alloc::Global;
 use tokei_languages::Language;
+use tokei_layout::{Layout, name_of};
 use tokei_stats::CountError;
 use tokei_table::{LanguageTable, LanguageType};
 
@@ -32,7 +37,6 @@ struct Group {
 }
 
 /// Whether no line was counted and no other language is inside.
-#[tactic(auto, using(crate::proofs::EmptyLanguages::empty_language))]
 fn is_empty(language: &Language) -> bool
     ensures { result ≡ is_empty_language (language_of language.now) }
 {
@@ -60,148 +64,139 @@ fn is_of_group(language: &Language, compact: bool, with_children: bool) -> bool
     }
 }
 
-impl Layout {
-    ghost use Rattle.std.specs.Prelude.{◌≡◌, IfOk, IsErrOf, string_bytes};
-    ghost use Rattle.tokei_languages.specs.Seen.{language_of};
-    ghost use Rattle.tokei_print.specs.Listed.{languages_in};
-    ghost use Rattle.tokei_print.specs.Names.{name_in};
-    ghost use Rattle.tokei_print.specs.Results.{counts_block, files_block, group_of, language_block, language_blocks, parting, results_text};
-    ghost use Rattle.tokei_print.specs.ResultsFit.{LanguageFits, LanguagesFit, ResultsFit};
+/// What parts a language with more than one row from those above.
+fn parting<'a>(layout: &'a Layout, language: &Language, compact: bool, first: bool) -> &'a str
+    ensures { result.now ≡ parting layout.entry.now compact first (language_of language.entry.now) }
+{
+    if first {
+        ""
+    } else if shows_children(language, compact) || layout.list_files {
+        layout.subrow()
+    } else {
+        ""
+    }
+}
 
-    /// What parts a language with more than one row from those above.
-    fn parting(&self, language: &Language, compact: bool, first: bool) -> &str
-        ensures { result.now ≡ parting self.entry.now compact first (language_of language.entry.now) }
-    {
-        if first {
-            ""
-        } else if shows_children(language, compact) || self.list_files {
-            self.subrow()
-        } else {
-            ""
+/// A language's own row, and those of its children.
+fn counts_block(
+    layout: &Layout,
+    alloc: Global,
+    showing: Showing,
+    name: &str,
+    language: &Language,
+) -> Result<String, CountError>
+    ensures ok { IfOk result (λ s. string_bytes s ≡ counts_block layout.now
+        (name_in showing.entry.table.now) showing.entry.compact name.now (language_of language.now)) }
+    ensures overflow { IsErrOf result CountError.Overflow
+        → ¬ LanguageFits layout.now.list_files showing.entry.compact showing.entry.sorted (language_of language.now) }
+{
+    let row = language_row(layout, alloc, language, name)?;
+    if !shows_children(language, showing.compact) {
+        return Ok(row);
+    }
+    let children = children_block(layout, alloc, showing.table, language)?;
+    let (row, children) = (row.as_str(), children.as_str());
+    Ok(format!(in alloc; "{row}{children}")?)
+}
+
+/// The rows of a language's files, where they are listed.
+fn files_block(
+    layout: &Layout,
+    alloc: Global,
+    showing: Showing,
+    name: &str,
+    language: &Language,
+) -> Result<String, CountError>
+    ensures ok { IfOk result (λ s. string_bytes s ≡ files_block layout.now
+        (name_in showing.entry.table.now) showing.entry.compact showing.entry.sorted name.now (language_of language.now)) }
+    ensures overflow { IsErrOf result CountError.Overflow
+        → ¬ LanguageFits layout.now.list_files showing.entry.compact showing.entry.sorted (language_of language.now) }
+{
+    if !layout.list_files {
+        return Ok(String::new(alloc));
+    }
+    let reports = in_order(alloc, &language.reports, showing.sorted)?;
+    let listed = ListedLanguage {
+        table: showing.table,
+        name,
+        inaccurate: language.inaccurate,
+    };
+    let files = listed_files(layout, alloc, listed, showing.compact, &reports)?;
+    let (subrow, files) = (layout.subrow(), files.as_str());
+    Ok(format!(in alloc; "{subrow}{files}")?)
+}
+
+/// All rows of a language.
+fn language_block(
+    layout: &Layout,
+    alloc: Global,
+    showing: Showing,
+    first: bool,
+    entry: &(LanguageType, &Language),
+) -> Result<String, CountError>
+    ensures ok { IfOk result (λ s. string_bytes s ≡ language_block layout.now (name_in showing.entry.table.now)
+        showing.entry.compact showing.entry.sorted first entry.now.0 (language_of entry.now.1.now)) }
+    ensures overflow { IsErrOf result CountError.Overflow
+        → ¬ LanguageFits layout.now.list_files showing.entry.compact showing.entry.sorted (language_of entry.now.1.now) }
+{
+    let language = entry.1;
+    let name = name_of(showing.table, entry.0);
+    let counts = counts_block(layout, alloc, showing, name, language)?;
+    let files = files_block(layout, alloc, showing, name, language)?;
+    let parting = parting(layout, language, showing.compact, first);
+    let (counts, files) = (counts.as_str(), files.as_str());
+    Ok(format!(in alloc; "{parting}{counts}{files}")?)
+}
+
+/// The rows of the languages of a group, one after the other.
+fn group_rows(
+    layout: &Layout,
+    alloc: Global,
+    showing: Showing,
+    group: Group,
+    languages: &[(LanguageType, &Language)],
+) -> Result<String, CountError>
+    ensures ok { IfOk result (λ s. string_bytes s ≡ language_blocks layout.now (name_in showing.entry.table.now)
+        showing.entry.compact showing.entry.sorted group.first
+        (group_of showing.entry.compact group.with_children (languages_in languages.now))) }
+    ensures overflow { IsErrOf result CountError.Overflow
+        → ¬ LanguagesFit layout.now.list_files showing.entry.compact showing.entry.sorted
+        (group_of showing.entry.compact group.with_children (languages_in languages.now)) }
+{
+    let mut rows = String::new(alloc);
+    let mut first = group.first;
+    for entry in languages {
+        if is_of_group(entry.1, showing.compact, group.with_children) {
+            rows.push_str(&language_block(layout, alloc, showing, first, entry)?)?;
+            first = false;
         }
     }
+    Ok(rows)
+}
 
-    /// A language's own row, and those of its children.
-    fn counts_block(
-        &self,
-        alloc: Global,
-        showing: Showing,
-        name: &str,
-        language: &Language,
-    ) -> Result<String, CountError>
-        ensures ok { IfOk result (λ s. string_bytes s ≡ counts_block self.now
-            (name_in showing.entry.table.now) showing.entry.compact name.now (language_of language.now)) }
-        ensures overflow { IsErrOf result CountError.Overflow
-            → ¬ LanguageFits self.now.list_files showing.entry.compact showing.entry.sorted (language_of language.now) }
-    {
-        let row = self.language_row(alloc, language, name)?;
-        if !shows_children(language, showing.compact) {
-            return Ok(row);
-        }
-        let children = self.children_block(alloc, showing.table, language)?;
-        let (row, children) = (row.as_str(), children.as_str());
-        Ok(format!(in alloc; "{row}{children}")?)
-    }
-
-    /// The rows of a language's files, where they are listed.
-    fn files_block(
-        &self,
-        alloc: Global,
-        showing: Showing,
-        name: &str,
-        language: &Language,
-    ) -> Result<String, CountError>
-        ensures ok { IfOk result (λ s. string_bytes s ≡ files_block self.now
-            (name_in showing.entry.table.now) showing.entry.compact showing.entry.sorted name.now (language_of language.now)) }
-        ensures overflow { IsErrOf result CountError.Overflow
-            → ¬ LanguageFits self.now.list_files showing.entry.compact showing.entry.sorted (language_of language.now) }
-    {
-        if !self.list_files {
-            return Ok(String::new(alloc));
-        }
-        let reports = in_order(alloc, &language.reports, showing.sorted)?;
-        let listed = ListedLanguage {
-            table: showing.table,
-            name,
-            inaccurate: language.inaccurate,
-        };
-        let files = self.listed_files(alloc, listed, showing.compact, &reports)?;
-        let (subrow, files) = (self.subrow(), files.as_str());
-        Ok(format!(in alloc; "{subrow}{files}")?)
-    }
-
-    /// All rows of a language.
-    fn language_block(
-        &self,
-        alloc: Global,
-        showing: Showing,
-        first: bool,
-        entry: &(LanguageType, &Language),
-    ) -> Result<String, CountError>
-        ensures ok { IfOk result (λ s. string_bytes s ≡ language_block self.now (name_in showing.entry.table.now)
-            showing.entry.compact showing.entry.sorted first entry.now.0 (language_of entry.now.1.now)) }
-        ensures overflow { IsErrOf result CountError.Overflow
-            → ¬ LanguageFits self.now.list_files showing.entry.compact showing.entry.sorted (language_of entry.now.1.now) }
-    {
-        let language = entry.1;
-        let name = name_of(showing.table, entry.0);
-        let counts = self.counts_block(alloc, showing, name, language)?;
-        let files = self.files_block(alloc, showing, name, language)?;
-        let parting = self.parting(language, showing.compact, first);
-        let (counts, files) = (counts.as_str(), files.as_str());
-        Ok(format!(in alloc; "{parting}{counts}{files}")?)
-    }
-
-    /// The rows of the languages of a group, one after the other.
-    fn group_rows(
-        &self,
-        alloc: Global,
-        showing: Showing,
-        group: Group,
-        languages: &[(LanguageType, &Language)],
-    ) -> Result<String, CountError>
-        ensures ok { IfOk result (λ s. string_bytes s ≡ language_blocks self.now (name_in showing.entry.table.now)
-            showing.entry.compact showing.entry.sorted group.first
-            (group_of showing.entry.compact group.with_children (languages_in languages.now))) }
-        ensures overflow { IsErrOf result CountError.Overflow
-            → ¬ LanguagesFit self.now.list_files showing.entry.compact showing.entry.sorted
-            (group_of showing.entry.compact group.with_children (languages_in languages.now)) }
-    {
-        let mut rows = String::new(alloc);
-        let mut first = group.first;
-        for entry in languages {
-            if is_of_group(entry.1, showing.compact, group.with_children) {
-                rows.push_str(&self.language_block(alloc, showing, first, entry)?)?;
-                first = false;
-            }
-        }
-        Ok(rows)
-    }
-
-    /// The rows of all languages.
-    #[tactic(auto, using(crate::proofs::Files::no_blocks))]
-    pub(crate) fn results(
-        &self,
-        alloc: Global,
-        showing: Showing,
-        languages: &[(LanguageType, &Language)],
-    ) -> Result<String, CountError>
-        ensures ok { IfOk result (λ s. string_bytes s ≡ results_text self.now (name_in showing.entry.table.now)
-            showing.entry.compact showing.entry.sorted (languages_in languages.now)) }
-        ensures overflow { IsErrOf result CountError.Overflow
-            → ¬ ResultsFit self.now.list_files showing.entry.compact showing.entry.sorted (languages_in languages.now) }
-    {
-        let alone = Group {
-            with_children: false,
-            first: true,
-        };
-        let alone = self.group_rows(alloc, showing, alone, languages)?;
-        let others = Group {
-            with_children: true,
-            first: alone.is_empty(),
-        };
-        let others = self.group_rows(alloc, showing, others, languages)?;
-        let (alone, others) = (alone.as_str(), others.as_str());
-        Ok(format!(in alloc; "{alone}{others}")?)
-    }
+/// The rows of all languages.
+#[tactic(auto, using(crate::proofs::Files::no_blocks))]
+pub(crate) fn results(
+    layout: &Layout,
+    alloc: Global,
+    showing: Showing,
+    languages: &[(LanguageType, &Language)],
+) -> Result<String, CountError>
+    ensures ok { IfOk result (λ s. string_bytes s ≡ results_text layout.now (name_in showing.entry.table.now)
+        showing.entry.compact showing.entry.sorted (languages_in languages.now)) }
+    ensures overflow { IsErrOf result CountError.Overflow
+        → ¬ ResultsFit layout.now.list_files showing.entry.compact showing.entry.sorted (languages_in languages.now) }
+{
+    let alone = Group {
+        with_children: false,
+        first: true,
+    };
+    let alone = group_rows(layout, alloc, showing, alone, languages)?;
+    let others = Group {
+        with_children: true,
+        first: alone.is_empty(),
+    };
+    let others = group_rows(layout, alloc, showing, others, languages)?;
+    let (alone, others) = (alone.as_str(), others.as_str());
+    Ok(format!(in alloc; "{alone}{others}")?)
 }

@@ -1,13 +1,12 @@
 //! The row of all languages together.
-ghost use Rattle.std.specs.Prelude.{◌≡◌, ◌<◌, ◌^◌, IfOk, IfErr, OnErr};
+ghost use Rattle.std.specs.Prelude.{◌≡◌, ◌<◌, ◌^◌, IfOk, IfErr, IsErrOf, OnErr, string_bytes};
 ghost use Rattle.tokei_languages.specs.Seen.{languages_of};
 ghost use Rattle.tokei_languages.specs.Summaries.{reports_by_language};
-ghost use Rattle.tokei_print.specs.Total.{report_count};
+ghost use Rattle.tokei_print.specs.Total.{report_count, total_text, TotalFits};
 
-use crate::language_row::files_and_counts;
-use crate::layout::Layout;
 use std::alloc::Global;
 use tokei_languages::Languages;
+use tokei_layout::{Layout, files_and_counts};
 use tokei_stats::CountError;
 
 /// How many reports there are of all languages.
@@ -27,23 +26,21 @@ fn count_reports(languages: &Languages) -> Result<usize, CountError>
     Ok(files)
 }
 
-impl Layout {
-    ghost use Rattle.std.specs.Prelude.{◌≡◌, IfOk, IsErrOf, string_bytes};
-    ghost use Rattle.tokei_languages.specs.Seen.{languages_of};
-    ghost use Rattle.tokei_print.specs.Total.{total_text, TotalFits};
-
-    /// The row of all languages together, between two rows. `Overflow` only where a sum that it shows passes the greatest
-    /// `usize`.
-    pub(crate) fn total(&self, alloc: Global, languages: &Languages) -> Result<String, CountError>
-        ensures ok { IfOk result (λ s. string_bytes s ≡ total_text self.now (languages_of languages.now)) }
-        ensures overflow { IsErrOf result CountError.Overflow → ¬ TotalFits (languages_of languages.now) }
-    {
-        let row = self.row();
-        let files = count_reports(languages)?;
-        let counts = languages.summary_counts()?;
-        let section = self.name_section(alloc, languages.is_inaccurate(), "Total", "")?;
-        let rest = files_and_counts(alloc, self.format, files, counts)?;
-        let (section, rest) = (section.as_str(), rest.as_str());
-        Ok(format!(in alloc; "{row}{section}{rest}{row}")?)
-    }
+/// The row of all languages together, between two rows. `Overflow` only where a sum that it shows passes the greatest
+/// `usize`.
+pub(crate) fn total(
+    layout: &Layout,
+    alloc: Global,
+    languages: &Languages,
+) -> Result<String, CountError>
+    ensures ok { IfOk result (λ s. string_bytes s ≡ total_text layout.now (languages_of languages.now)) }
+    ensures overflow { IsErrOf result CountError.Overflow → ¬ TotalFits (languages_of languages.now) }
+{
+    let row = layout.row();
+    let files = count_reports(languages)?;
+    let counts = languages.summary_counts()?;
+    let section = layout.name_section(alloc, languages.is_inaccurate(), "Total", "")?;
+    let rest = files_and_counts(alloc, layout.format, files, counts)?;
+    let (section, rest) = (section.as_str(), rest.as_str());
+    Ok(format!(in alloc; "{row}{section}{rest}{row}")?)
 }

@@ -3,7 +3,7 @@ use Rattle.std.proofs.Common.{ℕ, List, [], ◌∷◌, ◌++◌, Option, refl, 
 use Rattle.std.specs.Io.KnownBytes.{Appends}
 use Rattle.tokei_cli.specs.Printing.{failure_text}
 use Rattle.tokei_program.specs.declared.entry.TheConstants.{NO_MEMORY}
-use Rattle.tokei_program.specs.Messages.{IsMessage, Says}
+use Rattle.tokei_invocation.specs.Messages.{IsMessage, Says}
 
 pub refused_input_is_message : (name : List ℕ) → IsMessage (failure_text name)
 refused_input_is_message name = record {
@@ -13,10 +13,6 @@ refused_input_is_message name = record {
 
 pub no_memory_is_message : IsMessage NO_MEMORY.now
 no_memory_is_message = record { cause = codes " out of memory"; is = refl }
-
--- a line is a message
-pub line_is_message : (cause : List ℕ) → IsMessage (codes "Error: " ++ (cause ++ 10 ∷ []))
-line_is_message cause = record { cause = 32 ∷ cause; is = refl }
 
 -- a message that was put is said
 pub said : (old new : Option (List ℕ)) (text : List ℕ) → IsMessage text → Appends old new text → Says old new

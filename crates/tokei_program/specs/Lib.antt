@@ -1,12 +1,2 @@
 pub mod Beside
-pub mod Choices
-pub mod Columns
-pub mod Directories
-pub mod Earlier
-pub mod Jobs
-pub mod Messages
-pub mod Roots
-pub mod Statuses
-pub mod Tables
-pub mod Words
 pub mod Writing

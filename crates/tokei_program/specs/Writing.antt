@@ -1,7 +1,7 @@
 -- What the program writes where it did what was asked.
 use Rattle.std.specs.Prelude.{◌≡◌, ◌≢◌, ℕ, List, [], Bool, true, false, Option, Some, Ok, ◌⊎◌}
 use Rattle.std.specs.Io.KnownBytes.{Appends}
-use Rattle.tokei.specs.declared.job.Job.{Job}
+use Rattle.tokei_job.specs.declared.job.Job.{Job}
 use Rattle.tokei.specs.Output.{Outputs}
 use Rattle.tokei_cli.specs.CommandLines.{inputs_of, table_of}
 use Rattle.tokei_cli.specs.declared.cli.Cli.{Cli}
@@ -9,9 +9,9 @@ use Rattle.tokei_cli.specs.Lines.{IsLineOf}
 use Rattle.tokei_cli.specs.Printing.{languages_text}
 use Rattle.tokei_cli.specs.Texts.{IsAskedFor}
 use Rattle.tokei_folders.specs.Tree.{Tree}
-use Rattle.tokei_program.specs.declared.environment.Env.{Env}
-use Rattle.tokei_program.specs.Jobs.{IsJobOf}
-use Rattle.tokei_program.specs.Tables.{table_at}
+use Rattle.tokei_invocation.specs.declared.environment.Env.{Env}
+use Rattle.tokei_invocation.specs.Jobs.{IsJobOf}
+use Rattle.tokei_invocation.specs.Tables.{table_at}
 use Rattle.tokei_table.specs.Row.{Row}
 
 -- behind what stood there a writer has what the run of a command line outputs

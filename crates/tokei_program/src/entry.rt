@@ -4,20 +4,17 @@ ghost use Rattle.tokei_cli.specs.CommandLines.{inputs_of};
 ghost use Rattle.std.specs.Io.KnownBytes.{Appends};
 ghost use Rattle.tokei_folders.specs.Answers.{Told};
 ghost use Rattle.tokei_io.specs.Faults.{faults_after};
-ghost use Rattle.tokei_program.specs.Choices.{Chooses};
+ghost use Rattle.tokei_invocation.specs.Choices.{Chooses};
 ghost use Rattle.tokei_program.specs.Beside.{IsBeside, SaysBeside, ShowsNotes, ended, notes_text};
-ghost use Rattle.tokei_program.specs.Messages.{Says};
-ghost use Rattle.tokei_program.specs.Statuses.{status_of};
+ghost use Rattle.tokei_invocation.specs.Messages.{Says};
+ghost use Rattle.tokei_invocation.specs.Statuses.{status_of};
 ghost use Rattle.tokei_program.specs.Writing.{Writes, WritesAsked, WritesCounts, WritesList};
 
-use crate::choices::Choices;
-use crate::ending::Ending;
-use crate::environment::Env;
-use crate::preparing::{prepared, table_of};
 use log::sink::Lines;
 use std::alloc::{AllocError, Global};
 use tokei::{Folders, Note, Sink, Source, run};
 use tokei_cli::{Cli, CliError, OutputError, print_input_parse_failure, print_supported_languages};
+use tokei_invocation::{Choices, Ending, Env, prepared, table_of};
 use tokei_notes::log_notes;
 
 /// What is said where there is no memory for other words.

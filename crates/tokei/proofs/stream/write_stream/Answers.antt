@@ -12,7 +12,7 @@ use Rattle.tokei_walk.specs.declared.kept_file.KeptFile.{KeptFile}
 use Rattle.tokei_walk.specs.declared.levels.Rules.{Rules}
 use Rattle.tokei_walk.specs.Kept.{kept_in}
 use Rattle.tokei_walk.specs.Walks.{excludes_of, texts_of, to_come}
-use Rattle.tokei.specs.declared.error.RunError.TheVariants.{Overflow}
+use Rattle.tokei_job.specs.declared.error.RunError.TheVariants.{Overflow}
 use Rattle.tokei.specs.Runs.{files_of}
 use Rattle.tokei.specs.Streams.{heading_of, rows_of}
 use Rattle.tokei.proofs.stream.write_stream.Goals as goal

@@ -1,0 +1,2 @@
+-- What contracts say of how a run ends.
+pub mod Errors

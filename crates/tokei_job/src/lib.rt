@@ -1,0 +1,8 @@
+//! What a run counts and writes, and why it ends without its output.
+#![tactic(auto)]
+
+pub mod error;
+pub mod job;
+
+pub use error::RunError;
+pub use job::{Job, Wanted};

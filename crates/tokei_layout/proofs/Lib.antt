@@ -1,0 +1,3 @@
+pub mod Dashes
+pub mod Headings
+pub mod Padding

@@ -1,0 +1,7 @@
+-- When a sum that a row shows fits the code's numbers.
+use Rattle.std.specs.Prelude.{◌<◌, ◌^◌}
+use Rattle.tokei_stats.specs.Statistics.{Counts, lines_of}
+
+-- the lines are at most the greatest `usize`
+abbrev pub LinesFit : Counts → Type 0
+LinesFit n = lines_of n < 2 ^ 64

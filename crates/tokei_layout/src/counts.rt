@@ -1,0 +1,41 @@
+//! The counts of a row: those of statistics, and how many files have them.
+ghost use Rattle.std.specs.Prelude.{◌≡◌, IfOk, IsErrOf, OnOk, string_bytes};
+ghost use Rattle.tokei_stats.specs.Seen.{counts_of, sums_of};
+ghost use Rattle.tokei_layout.specs.FilesAndCounts.{files_and_counts};
+ghost use Rattle.tokei_layout.specs.Fitting.{LinesFit};
+ghost use Rattle.tokei_styles.specs.Grouping.{separator_text};
+
+use crate::cells::number_cells;
+use std::alloc::Global;
+use tokei_stats::{CodeStats, CountError, Sums};
+use tokei_styles::NumberFormat;
+
+/// The own counts of these statistics.
+pub fn own_counts(stats: &CodeStats) -> Sums
+    ensures { sums_of result ≡ counts_of stats.now }
+{
+    Sums {
+        blanks: stats.blanks,
+        code: stats.code,
+        comments: stats.comments,
+    }
+}
+
+/// How many files, and their counts. `Overflow` exactly where the lines pass the greatest `usize`.
+#[tactic(auto, using(crate::proofs::Padding::styled_right))]
+pub fn files_and_counts(
+    alloc: Global,
+    format: NumberFormat,
+    files: usize,
+    counts: Sums,
+) -> Result<String, CountError>
+    ensures ok { IfOk result (λ s. string_bytes s
+        ≡ files_and_counts (separator_text format.separator) files (sums_of counts)) }
+    ensures fits { OnOk result (LinesFit (sums_of counts)) }
+    ensures overflow { IsErrOf result CountError.Overflow → ¬ LinesFit (sums_of counts) }
+{
+    let cells = number_cells(alloc, format, counts)?;
+    let files = format.grouped(alloc, files)?;
+    let (files, cells) = (files.as_str(), cells.as_str());
+    Ok(format!(in alloc; " {files:>8}{cells}\n")?)
+}
