@@ -23,7 +23,6 @@ pub use tokei_format::{Format, FormatError};
 pub use tokei_ignore::{IgnoreFile, Pattern, PatternError, Verdict};
 pub use tokei_io::{Counted, FailOnce, Sink, Source};
 pub use tokei_job::{Job, RunError, Wanted};
-pub use tokei_job::{error, job};
 pub use tokei_json::{report_line, to_value};
 pub use tokei_languages::{Language, Languages};
 pub use tokei_options::{Sort, SortError};
