@@ -2,6 +2,8 @@
 use Rattle.std.specs.Prelude.{ℕ, zero, suc, Bool, ◌||◌, ◌==◌, List, [], ◌∷◌, ◌++◌}
 use Rattle.std.specs.List.{list_any}
 use Rattle.tokei_table.specs.Escapes.{backslash}
+use Rattle.tokei_table.specs.Families.{family_of}
+use Rattle.tokei_table.specs.Family.{Family}
 use Rattle.tokei_table.specs.FirstOpener.{is_first_of}
 use Rattle.tokei_table.specs.Openers.{openers}
 use Rattle.tokei_table.specs.Row.{Pair, Row}
@@ -27,16 +29,18 @@ abbrev pub flags : (ℕ → Bool) → ℕ → List Bool
 flags f zero = []
 flags f (suc n) = flags f n ++ f n ∷ []
 
--- the openers that a part is searched for, and for each byte whether a choice can begin at it, in plain text and in a
--- comment
+-- the openers that a part is searched for, for each byte whether a choice can begin at it, in plain text and in a
+-- comment, and how the language opens children
 pub record Matchers : Type 0 where
   pub openers : List (List ℕ)
   pub begins : List Bool
   pub begins_in_comment : List Bool
+  pub family : Family
 
 abbrev pub matchers_of : Row → Matchers
 matchers_of r = record {
   openers = openers r;
   begins = flags (begins_choice r) 256;
   begins_in_comment = flags (begins_in_comment r) 256;
+  family = family_of r.key;
 }

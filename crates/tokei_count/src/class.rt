@@ -224,39 +224,40 @@ pub(crate) fn class_within(reading: &Reading, item: Enclosure) -> Class
     )
 }
 
-/// The class of the line of the reading's text from `start` to before `stop`, which no item encloses at either end, as
-/// `class_of` has it. It stands in no caller's code, since most lines are told by their fronts.
+/// The class of a line that no item encloses at either end, as `class_of` has it. It stands in no caller's code, since
+/// most lines are told by their fronts, and takes values, so that the caller's stand in no memory.
 #[inline(never)]
-fn class_of_line(reading: &Reading, start: usize, stop: usize) -> Class
-    requires order { start ≤ stop }
-    requires within { stop ≤ length reading.now.text.now }
-    ensures { result ≡ class_of (row_in reading.now) reading.now.docs_are_comments (record {
-      begun = None;
-      bytes = take (stop - start) (drop start reading.now.text.now);
-      ended = None;
-    }) }
+fn class_of_line(syntax: &Syntax, docs_are_comments: bool, bytes: &[u8]) -> Class
+    ensures { result ≡ class_of (row_of syntax.now) docs_are_comments
+        (record { begun = None; bytes = bytes.now; ended = None }) }
 {
-    let bytes = &reading.text[start..stop];
-    class_of(reading.syntax, reading.docs_are_comments, None, bytes, None)
+    class_of(syntax, docs_are_comments, None, bytes, None)
 }
 
-/// The same. Only blanks stand before `solid`.
+/// The class of the line of a text from `start` to before `stop`, in the reading's language, which no item encloses at
+/// either end, as `class_of` has it. Only blanks stand before `solid`.
 #[inline(always)]
-pub(crate) fn class_of_plain(reading: &Reading, start: usize, solid: usize, stop: usize) -> Class
+pub(crate) fn class_of_plain(
+    reading: &Reading,
+    text: &[u8],
+    start: usize,
+    solid: usize,
+    stop: usize,
+) -> Class
     requires order { start ≤ stop }
-    requires within { stop ≤ length reading.now.text.now }
+    requires within { stop ≤ length text.now }
     requires low { start ≤ solid }
-    requires solid { (p : ℕ) → start ≤ p → p < solid → is_blank (slice_index reading.now.text.now p) ≡ true }
+    requires solid { (p : ℕ) → start ≤ p → p < solid → is_blank (slice_index text.now p) ≡ true }
     ensures { result ≡ class_of (row_in reading.now) reading.now.docs_are_comments (record {
       begun = None;
-      bytes = take (stop - start) (drop start reading.now.text.now);
+      bytes = take (stop - start) (drop start text.now);
       ended = None;
     }) }
 {
     let syntax = reading.syntax;
-    match class_by_front(reading.matchers, reading.text, start, solid, stop) {
+    match class_by_front(reading.matchers, text, start, solid, stop) {
         Some(Class::Blank) => Class::Blank,
         Some(Class::Code) if !syntax.literate => Class::Code,
-        _ => class_of_line(reading, start, stop),
+        _ => class_of_line(syntax, reading.docs_are_comments, &text[start..stop]),
     }
 }

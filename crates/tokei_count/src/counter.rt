@@ -1,6 +1,6 @@
 //! What the texts of a table's languages are counted with.
-ghost use Rattle.std.specs.Prelude.{◌≡◌, ◌<◌, length, map, IfOk};
-ghost use Rattle.tokei_table.specs.Lookups.{row_at};
+ghost use Rattle.std.specs.Prelude.{◌≡◌, ◌<◌, codes, length, map, IfOk};
+ghost use Rattle.tokei_table.specs.Lookups.{first_where, has_name, row_at};
 ghost use Rattle.tokei_table.specs.Openers.{openers};
 ghost use Rattle.tokei_table.specs.WellFormed.{IsWellFormed};
 ghost use Rattle.tokei_count.specs.Matchers.{matchers_of};
@@ -17,11 +17,14 @@ use tokei_table::{LanguageTable, LanguageType};
 pub struct Counter<'a> {
     table: &'a LanguageTable,
     matchers: Vec<LanguageMatchers>,
+    /// The language of doc comments, where the table has it.
+    markdown: Option<LanguageType>,
 }
 
 impl<'a> Model for Counter<'a> {
-    ghost use Rattle.std.specs.Prelude.{◌≡◌, List, map};
+    ghost use Rattle.std.specs.Prelude.{◌≡◌, List, codes, map};
     ghost use Rattle.tokei_count.specs.Matchers.{matchers_of};
+    ghost use Rattle.tokei_table.specs.Lookups.{first_where, has_name};
     ghost use Rattle.tokei_table.specs.Row.{Row};
     ghost use Rattle.tokei_table.specs.WellFormed.{IsWellFormed};
 
@@ -29,7 +32,8 @@ impl<'a> Model for Counter<'a> {
 
     ghost view = { λ c. c.table.now };
 
-    ghost invariant = { λ c. (c.matchers.items ≡ map matchers_of c.table.now) × IsWellFormed c.table.now };
+    ghost invariant = { λ c. (c.matchers.items ≡ map matchers_of c.table.now) × IsWellFormed c.table.now
+        × (c.markdown ≡ first_where (has_name (codes "Markdown")) c.table.now) };
 }
 
 impl<'a> Counter<'a> {
@@ -38,7 +42,12 @@ impl<'a> Counter<'a> {
         ensures { IfOk result (λ c. c ≡ table.now) }
     {
         let matchers = all_matchers(alloc, table)?;
-        Ok(Counter { table, matchers })
+        let markdown = LanguageType::from_name(table, "Markdown");
+        Ok(Counter {
+            table,
+            matchers,
+            markdown,
+        })
     }
 
     /// The table.
@@ -55,6 +64,13 @@ impl<'a> Counter<'a> {
         ensures { result.now ≡ openers (row_at self.entry.now language) }
     {
         self.matchers[language.index()].shared()
+    }
+
+    /// The language of doc comments, where the table has it.
+    pub(crate) fn markdown(&self) -> &Option<LanguageType>
+        ensures { result.now ≡ first_where (has_name (codes "Markdown")) self.entry.now }
+    {
+        &self.markdown
     }
 
     /// The matchers of each language of the table, in its order.

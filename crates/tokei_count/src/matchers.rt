@@ -11,15 +11,17 @@ use crate::shared_matchers::SharedMatchers;
 use std::alloc::{AllocError, Global};
 use std::marker::Model;
 use tokei_bytes::ByteSet;
-use tokei_table::{LanguageTable, LanguageType};
+use tokei_table::{Family, LanguageTable, LanguageType};
 
-/// What the texts of a language are searched and walked with: its openers, and the bytes at which a choice other than
-/// the byte itself, a closer and a child can begin, in plain text and in a comment. Contracts see all three.
+/// What the texts of a language are searched and walked with: its openers, the bytes at which a choice other than the
+/// byte itself, a closer and a child can begin, in plain text and in a comment, and how they open children. Contracts
+/// see all four.
 #[derive(Drop)]
 pub(crate) struct LanguageMatchers {
     shared: SharedMatchers,
     begins: ByteSet,
     begins_in_comment: ByteSet,
+    family: Family,
 }
 
 impl Model for LanguageMatchers {
@@ -27,7 +29,12 @@ impl Model for LanguageMatchers {
 
     ghost Value = { Matchers };
 
-    ghost view = { λ m. record { openers = m.shared; begins = m.begins; begins_in_comment = m.begins_in_comment } };
+    ghost view = { λ m. record {
+      openers = m.shared;
+      begins = m.begins;
+      begins_in_comment = m.begins_in_comment;
+      family = m.family;
+    } };
 }
 
 impl LanguageMatchers {
@@ -44,10 +51,12 @@ impl LanguageMatchers {
         let syntax = table.syntax(language);
         let begins = beginnings(alloc, syntax)?;
         let begins_in_comment = beginnings_in_comment(alloc, syntax)?;
+        let family = Family::of_key(syntax.key.as_str());
         Ok(LanguageMatchers {
             shared,
             begins,
             begins_in_comment,
+            family,
         })
     }
 
@@ -63,6 +72,13 @@ impl LanguageMatchers {
         ensures { result ≡ first_opener self.now.openers text.now }
     {
         self.shared.first_in(text)
+    }
+
+    /// How texts of the language open children.
+    pub(crate) fn family(&self) -> Family
+        ensures { result ≡ self.now.family }
+    {
+        self.family
     }
 
     /// Whether a choice other than the byte itself, a closer and a child can begin at the byte.

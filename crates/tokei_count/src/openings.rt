@@ -236,8 +236,12 @@ fn rust_block<'a>(place: &Place<'_, 'a>, search: &mut BlockSearch<'a>) -> Option
     let reading = place.reading;
     let size = search.doc_at(place.at)?;
     let rest = &reading.text[place.at..];
+    let language = match reading.markdown {
+        Some(language) => *language,
+        None => reading.language,
+    };
     Some(Block {
-        language: fallback(reading.table, reading.language, "Markdown"),
+        language,
         contents: &rest[..size],
         is_doc: true,
         size,

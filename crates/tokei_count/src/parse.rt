@@ -54,6 +54,7 @@ pub fn parse_counted(
         alloc,
         table: counter.table(),
         matchers: counter.matchers_by_language(),
+        markdown: counter.markdown(),
         docs_are_comments,
         skips: true,
     };

@@ -36,6 +36,7 @@ pub fn count_plain(
         alloc,
         table: counter.table(),
         matchers: counter.matchers_by_language(),
+        markdown: counter.markdown(),
         docs_are_comments,
         skips: false,
     };

@@ -1,7 +1,10 @@
 //! How the texts of a table's languages are read.
+ghost use Rattle.std.specs.Prelude.{◌≡◌, codes};
+ghost use Rattle.tokei_table.specs.Lookups.{first_where, has_name};
+
 use crate::matchers::LanguageMatchers;
 use std::alloc::Global;
-use tokei_table::LanguageTable;
+use tokei_table::{LanguageTable, LanguageType};
 
 /// How the texts of a table's languages are read.
 #[derive(Clone, Copy)]
@@ -10,8 +13,11 @@ pub(crate) struct Reader<'a> {
     pub table: &'a LanguageTable,
     /// What texts are searched and walked with, by language.
     pub matchers: &'a [LanguageMatchers],
+    /// The language of doc comments, where the table has it: it is looked up once, and not for each of them.
+    pub markdown: &'a Option<LanguageType>,
     /// Whether doc strings are treated as comments.
     pub docs_are_comments: bool,
     /// Whether parts that begin plain and hold no opener are skipped, by the matchers, or walked as the others are.
     pub skips: bool,
+    ghost docs: { markdown.now ≡ first_where (has_name (codes "Markdown")) table.now },
 }

@@ -1,7 +1,7 @@
 //! A text that is read.
-ghost use Rattle.std.specs.Prelude.{◌≡◌, ◌<◌, length};
+ghost use Rattle.std.specs.Prelude.{◌≡◌, ◌<◌, codes, length};
 ghost use Rattle.tokei_table.specs.Families.{family_of};
-ghost use Rattle.tokei_table.specs.Lookups.{row_at};
+ghost use Rattle.tokei_table.specs.Lookups.{first_where, has_name, row_at};
 ghost use Rattle.tokei_table.specs.Row.{Row};
 ghost use Rattle.tokei_table.specs.RowOf.{row_of};
 ghost use Rattle.tokei_table.specs.Sound.{IsSound};
@@ -19,6 +19,8 @@ pub(crate) struct Reading<'a> {
     /// The row of the language, and how it opens children: both are asked for at each search.
     pub syntax: &'a Syntax,
     pub family: Family,
+    /// The language of doc comments, where the table has it.
+    pub markdown: &'a Option<LanguageType>,
     /// What texts of the language are searched and walked with.
     pub matchers: &'a LanguageMatchers,
     pub text: &'a [u8],
@@ -32,5 +34,6 @@ pub(crate) struct Reading<'a> {
     ghost row: { row_of syntax.now ≡ row_at table.now language },
     ghost sound: { IsSound (row_at table.now language) },
     ghost matched: { matchers.now ≡ matchers_of (row_at table.now language) },
+    ghost docs: { markdown.now ≡ first_where (has_name (codes "Markdown")) table.now },
     ghost opens: { family ≡ family_of (row_at table.now language).key },
 }

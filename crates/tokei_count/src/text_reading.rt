@@ -41,7 +41,6 @@ use tokei_embedding::{BlockSearch, doc_text};
 use tokei_notebook::cells;
 use tokei_stats::{CodeStats, CountError, Sums, add_blob};
 use tokei_table::ext::trim;
-use tokei_table::family::Family;
 use tokei_table::{LanguageType, Syntax};
 
 /// A text that was read.
@@ -220,7 +219,10 @@ fn count_lines(reading: &Reading, so_far: &mut ReadSoFar, next: usize) -> Result
         if next < stop {
             break;
         }
-        one_more(&mut lines, class_of_plain(reading, at, front.solid, stop));
+        one_more(
+            &mut lines,
+            class_of_plain(reading, text, at, front.solid, stop),
+        );
         at = stop;
     }
     so_far.own = so_far.own.plus(lines)?;
@@ -410,12 +412,14 @@ pub(crate) fn read_text<'a>(
     if is_notebook(syntax) {
         return read_notebook(reader, language, text, levels);
     }
+    let matchers = &reader.matchers[language.index()];
     let reading = Reading {
         table: reader.table,
         language,
         syntax,
-        family: Family::of_key(syntax.key.as_str()),
-        matchers: &reader.matchers[language.index()],
+        family: matchers.family(),
+        markdown: reader.markdown,
+        matchers,
         text,
         docs_are_comments: reader.docs_are_comments,
         levels,

@@ -7,19 +7,19 @@ use Rattle.tokei_count.proofs.CodeHeads.{code_head, blank_part}
 use Rattle.tokei_count.proofs.class.class_of_plain.Goals as goal
 
 -- the bytes of the part
-abbrev bytes : Reading → ℕ → ℕ → List ℕ
-bytes r start stop = take (stop - start) (drop start r.text.now)
+abbrev bytes : List ℕ → ℕ → ℕ → List ℕ
+bytes text start stop = take (stop - start) (drop start text)
 
 pub returns-in-Some-Blank : goal.returns-in-Some-Blank
 returns-in-Some-Blank c =
     let r : Reading = c.args.reading.now in
-    let blank : trim_start (bytes r c.args.start c.args.stop) ≡ [] =
+    let blank : trim_start (bytes c.args.text.now c.args.start c.args.stop) ≡ [] =
     c.class_by_front.ensures.blank (c.in-Some-Blank.is ∙ ap Some c.in-Some-Blank.field-0-is) in
-    sym (blank_part (row_in r) r.docs_are_comments (bytes r c.args.start c.args.stop) None blank)
+    sym (blank_part (row_in r) r.docs_are_comments (bytes c.args.text.now c.args.start c.args.stop) None blank)
 
 pub returns-in-Some-Code : goal.returns-in-Some-Code
 returns-in-Some-Code c =
     let r : Reading = c.args.reading.now in
     let literate : (row_in r).literate ≡ false = ap (λ (g : Row). g.literate) (sym r.row) ∙ c.if-not-syntax.true in
-    sym (code_head (row_in r) r.sound r.matchers.now r.matched r.docs_are_comments None literate refl (bytes r c.args.start c.args.stop)
+    sym (code_head (row_in r) r.sound r.matchers.now r.matched r.docs_are_comments None literate refl (bytes c.args.text.now c.args.start c.args.stop)
     (c.class_by_front.ensures.code (c.in-Some-Code.is ∙ ap Some c.in-Some-Code.field-0-is)))

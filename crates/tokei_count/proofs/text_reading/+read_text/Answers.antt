@@ -1,11 +1,11 @@
 use Rattle.std.proofs.Common.{◌≡◌, map, get_or, ◌≤◌, ◌<◌, ◌+◌, ◌-◌, ◌∙◌, ℕ, List, [], ◌∷◌, Err, ap, sym, subst, length, drop, refl, arith}
 use Rattle.std.proofs.lemmas.List.{drop_all}
 use Rattle.std.proofs.lemmas.Result.{err_from_is_err_and}
-use Rattle.tokei_table.specs.Families.{family_of}
 use Rattle.tokei_table.specs.Row.{Row}
 use Rattle.tokei_notebook.specs.Cells.{cell_of, AreKnown}
 use Rattle.tokei_notebook.specs.declared.notebook.Cell.{Cell}
 use Rattle.tokei_count.specs.Items.{Block}
+use Rattle.tokei_count.specs.Matchers.{Matchers}
 use Rattle.tokei_count.specs.NotebookCells.{cell_block, cell_blocks}
 use Rattle.tokei_count.specs.Openings.{languages_of}
 use Rattle.tokei_count.specs.Gathered.{gathered}
@@ -114,7 +114,9 @@ pub read_text-invariant_of-reading-clause-matched : goal.read_text-invariant_of-
 read_text-invariant_of-reading-clause-matched t c = ap (λ ms. get_or ms c.index.result c.index-reader-index.result) c.requires.indexed ∙ matchers_at c.args.reader.table.now c.args.language c.index.result c.index-reader-index.result c.index.ensures c.requires.known
 
 pub read_text-invariant_of-reading-clause-opens : goal.read_text-invariant_of-reading-clause-opens
-read_text-invariant_of-reading-clause-opens t c = c.of_key.ensures ∙ ap family_of c.as_str.ensures.value ∙ ap (λ (r : Row). family_of r.key) c.syntax-syntax.ensures.row
+read_text-invariant_of-reading-clause-opens t c =
+    c.family.ensures
+    ∙ ap (λ (m : Matchers). m.family) (ap (λ ms. get_or ms c.index.result c.index-reader-index.result) c.requires.indexed ∙ matchers_at c.args.reader.table.now c.args.language c.index.result c.index-reader-index.result c.index.ensures c.requires.known)
 
 pub read_child-read_text-requires : goal.read_child-read_text-requires
 read_child-read_text-requires t c = (omega (arith, c.requires.deep, c.decreases), (subst (λ (rows : List Row). c.args.child.now.language < length rows) c.requires.reader.table c.requires.known, c.requires.indexed))
