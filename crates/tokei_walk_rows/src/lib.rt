@@ -1,13 +1,7 @@
-//! Worked rows of folders in memory and of the system, ignore files, walks and the lines of their notes. They stand here,
-//! above those crates, since the tests of a crate are proved together with the whole of it.
+//! Worked rows of walks over told and odd folders and those of the system. They stand here, above those crates, since the
+//! tests of a crate are proved together with the whole of it.
 #![tactic(auto)]
 
-#[cfg(test)]
-mod ignore_files;
-#[cfg(test)]
-mod memory;
-#[cfg(test)]
-mod notes;
 #[cfg(test)]
 mod odd_folders;
 #[cfg(test)]
