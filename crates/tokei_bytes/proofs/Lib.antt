@@ -1,2 +1,4 @@
 pub mod Blocks
+pub mod Parts
+pub mod Rests
 pub mod Sets

@@ -44,9 +44,7 @@ fn is_one_of(bytes: [u8; 4], byte: u8) -> bool
     byte == bytes[0] || byte == bytes[1] || byte == bytes[2] || byte == bytes[3]
 }
 
-/// The same search one place at a time, for the end of a text, where no block is left. It stands in no caller's code,
-/// since it is rarely run.
-#[inline(never)]
+/// The same search one place at a time, for a text that has no block.
 fn first_by_one(bytes: [u8; 4], text: &[u8], from: usize, to: usize) -> usize
     requires order { from ≤ to }
     requires within { to ≤ length text.now }
@@ -57,6 +55,39 @@ fn first_by_one(bytes: [u8; 4], text: &[u8], from: usize, to: usize) -> usize
         at += 1;
     }
     at
+}
+
+/// The same search up to the end of a text that has fewer than `BLOCK` bytes from `from` on: in the block that ends
+/// with it.
+#[inline(always)]
+fn first_in_last_block(bytes: [u8; 4], text: &[u8], from: usize) -> usize
+    requires long { BLOCK ≤ length text.now }
+    requires short { length text.now < from + BLOCK }
+    requires within { from ≤ length text.now }
+    ensures { IsFirstPlace (is_one_of bytes) text.now from (length text.now) result }
+{
+    let base = text.len() - BLOCK;
+    let left = marks(bytes, u8x32::from_slice(&text[base..])) >> (from - base);
+    if left == 0 {
+        return text.len();
+    }
+    from + left.trailing_zeros() as usize
+}
+
+/// The same search from a place on from which the text has fewer than `BLOCK` bytes. It stands in no caller's code, since
+/// it is rarely run.
+#[inline(never)]
+fn first_in_rest(bytes: [u8; 4], text: &[u8], from: usize, to: usize) -> usize
+    requires order { from ≤ to }
+    requires within { to ≤ length text.now }
+    requires short { length text.now < from + BLOCK }
+    ensures { IsFirstPlace (is_one_of bytes) text.now from to result }
+{
+    if text.len() < BLOCK {
+        return first_by_one(bytes, text, from, to);
+    }
+    // The block goes on to the text's end, where a hit is none.
+    to.min(first_in_last_block(bytes, text, from))
 }
 
 /// The first place of the text, from `from` to before `to`, whose byte is one of the four, or `to` where there is none.
@@ -70,7 +101,7 @@ pub fn first_of_four(bytes: [u8; 4], text: &[u8], from: usize, to: usize) -> usi
     let mut at = from;
     while at < to {
         if text.len() - at < BLOCK {
-            return first_by_one(bytes, text, at, to);
+            return first_in_rest(bytes, text, at, to);
         }
         // The block may go on past `to`, where a hit is none.
         let place = first_in_block(bytes, text, at);

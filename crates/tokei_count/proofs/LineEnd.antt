@@ -9,10 +9,6 @@ line_len-at [] n l h f = absurd (omega arith)
 line_len-at (b ∷ t) zero l h f = rw h refl
 line_len-at (b ∷ t) (suc n) l h f = rw (f zero (omega arith)) (ap suc (line_len-at t n (omega arith) h (λ k i. f (suc k) (omega arith))))
 
-pub line_len-all : (t : List ℕ) → ((k : ℕ) → k < length t → (get_or t k 0 == 10) ≡ false) → length t ≡ line_len t
-line_len-all [] f = refl
-line_len-all (b ∷ t) f = rw (f zero (omega arith)) (ap suc (line_len-all t (λ k i. f (suc k) (omega arith))))
-
 pub not_true : (x : Bool) → (x ≡ true → ⊥) → x ≡ false
 not_true true h = absurd (h refl)
 not_true false h = refl
@@ -44,25 +40,6 @@ newline_behind text at end low high before =
     line_len-behind (drop at text) n (omega (arith, length-drop at text, low, high))
     (λ k i. ap (λ b. b == 10) (get_or-drop at text k 0) ∙ before (at + k) (omega arith) (omega (arith, i, low))) in
     omega (arith, is, ap line_len there, low)
-
--- the line of the first bytes
-pub line_len-take : (n : ℕ) (u : List ℕ) → line_len (take n u) ≤ line_len u
-line_len-take zero u = omega arith
-line_len-take (suc n) [] = omega arith
-line_len-take (suc n) (b ∷ t) = by_test (b == 10) (line_len-take n t)
-  where
-    by_test : (x : Bool) → line_len (take n t) ≤ line_len t → cond x 0 (suc (line_len (take n t))) ≤ cond x 0 (suc (line_len t))
-    by_test true h = omega arith
-    by_test false h = omega (arith, h)
-
-pub line_len-cut : (n : ℕ) (u : List ℕ) → line_len (take n u) < n → n ≤ length u → line_len (take n u) ≡ line_len u
-line_len-cut zero u h l = absurd (omega (arith, h))
-line_len-cut (suc n) [] h l = absurd (omega (arith, l))
-line_len-cut (suc n) (b ∷ t) h l = by_test (b == 10) h (line_len-cut n t)
-  where
-    by_test : (x : Bool) → cond x 0 (suc (line_len (take n t))) < suc n → (line_len (take n t) < n → n ≤ length t → line_len (take n t) ≡ line_len t) → cond x 0 (suc (line_len (take n t))) ≡ cond x 0 (suc (line_len t))
-    by_test true h f = refl
-    by_test false h f = ap suc (f (omega (arith, h)) (omega (arith, l)))
 
 pub drop_none : {A : Type 0} (xs : List A) → drop 0 xs ≡ xs
 drop_none [] = refl

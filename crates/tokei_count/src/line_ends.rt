@@ -3,40 +3,7 @@ ghost use Rattle.std.specs.Prelude.{◌≡◌, ℕ, ◌+◌, ◌<◌, ◌≤◌,
 ghost use Rattle.tokei_table.specs.Bytes.{is_blank};
 ghost use Rattle.tokei_count.specs.Lines.{line_len};
 
-use memchr::memchr;
-use tokei_bytes::{BLOCK, first_in_block, first_of_four, first_other_in_block};
-
-/// How many bytes are searched for a newline before a far search: few lines have more.
-const NEAR: usize = 128;
-
-/// How many bytes stand before the first newline, or in all, where that is mostly far.
-fn far_line_len(text: &[u8]) -> usize
-    ensures value { result ≡ line_len text.now }
-    ensures within { result ≤ length text.now }
-{
-    match memchr(b'\n', text) {
-        Some(at) => at,
-        None => text.len(),
-    }
-}
-
-/// How far newlines are mostly found from the place `at` on, and no further than `to`: nothing near, where no block of
-/// the text begins there.
-#[inline(always)]
-fn near_end(text: &[u8], at: usize, to: usize) -> usize
-    requires order { at ≤ to }
-    requires within { to ≤ length text.now }
-    ensures low { at ≤ result }
-    ensures high { result ≤ to }
-{
-    if text.len() - at < BLOCK {
-        at
-    } else if to - at < NEAR {
-        to
-    } else {
-        at + NEAR
-    }
-}
+use tokei_bytes::{BLOCK, first_in_block, first_of_one, first_other_in_block};
 
 /// The first newline of the text from the place `at` on, or `to` where none stands before that. It is mostly near.
 #[inline(always)]
@@ -47,12 +14,7 @@ pub(crate) fn newline_before(text: &[u8], at: usize, to: usize) -> usize
     ensures line { result ≤ at + line_len (drop at text.now) }
     ensures found { result < to → result ≡ at + line_len (drop at text.now) }
 {
-    let near = near_end(text, at, to);
-    let end = first_of_four([b'\n'; 4], text, at, near);
-    if end < near || near == to {
-        return end;
-    }
-    near + far_line_len(&text[near..to])
+    first_of_one(b'\n', text, at, to)
 }
 
 /// What one look at the front of a line shows.

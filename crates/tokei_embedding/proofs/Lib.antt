@@ -3,7 +3,6 @@ pub mod BlockLaws
 pub mod DocEnds
 pub mod DocLaws
 pub mod FenceBlocks
-pub mod FirstBytes
 pub mod FirstFences
 pub mod FirstPlaces
 pub mod LastPlaces

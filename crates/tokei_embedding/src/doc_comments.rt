@@ -2,8 +2,8 @@
 ghost use Rattle.std.specs.Prelude.{◌≡◌, ◌≤◌, ◌<◌, IfOk, length, option_map};
 ghost use Rattle.tokei_embedding.specs.DocComments.{first_line, front_mark, marked_len, lines_of, doc_text};
 
-use memchr::memchr;
 use std::alloc::{AllocError, Global};
+use tokei_bytes::first_of_one;
 use tokei_syntax::ext::trim_start;
 
 /// The text through its first newline.
@@ -12,9 +12,11 @@ pub fn first_line(text: &[u8]) -> &[u8]
     ensures within { length result.now ≤ length text.now }
     ensures some { 0 < length text.now → 0 < length result.now }
 {
-    match memchr(b'\n', text) {
-        Some(at) => &text[..at + 1],
-        None => text,
+    let newline = first_of_one(b'\n', text, 0, text.len());
+    if newline < text.len() {
+        &text[..newline + 1]
+    } else {
+        text
     }
 }
 

@@ -6,7 +6,8 @@ ghost use Rattle.tokei_embedding.specs.Fences.{first_fence, closing_len, fence_f
 ghost use Rattle.tokei_embedding.specs.Searches.{first_of};
 ghost use Rattle.tokei_embedding.specs.Seen.{fence_seen};
 
-use crate::searches::{first_byte, is_at};
+use crate::searches::is_at;
+use tokei_bytes::first_of_one;
 use tokei_syntax::ext::is_whitespace;
 
 const FENCE: &[u8] = b"```";
@@ -83,7 +84,7 @@ fn next_backticks(text: &[u8], from: usize, to: usize) -> usize
     let mut at = from;
     while to - at > 2 {
         // no fence begins two places or more before the next backtick behind it
-        let third = first_byte(b'`', text, at + 2, to);
+        let third = first_of_one(b'`', text, at + 2, to);
         if third == to {
             return to;
         }

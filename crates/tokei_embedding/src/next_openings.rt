@@ -9,8 +9,9 @@ ghost use Rattle.tokei_embedding.specs.Searches.{first_of, is_at};
 
 use crate::doc_comments::front_mark;
 use crate::fences::first_fence;
-use crate::searches::{first_byte, first_of};
+use crate::searches::first_of;
 use crate::target_blocks::OPENER;
+use tokei_bytes::first_of_one;
 use tokei_syntax::ext::is_whitespace;
 
 /// The place in the text of what was found in the part that begins at `start`, where it stands at `at` or behind it;
@@ -85,12 +86,12 @@ pub fn next_doc(text: &[u8], at: usize, to: usize) -> usize
     ensures none { (p : ℕ) → at ≤ p → p < result → doc_block (drop p text.now) ≡ None }
     ensures exact { result < to → is_some (doc_block (drop result text.now)) ≡ true }
 {
-    let mut slash = first_byte(b'/', text, at, to);
+    let mut slash = first_of_one(b'/', text, at, to);
     while slash < to {
         if front_mark(&text[slash..to]).is_some() {
             return blanks_start(text, at, slash);
         }
-        slash = first_byte(b'/', text, slash + 1, to);
+        slash = first_of_one(b'/', text, slash + 1, to);
     }
     to
 }

@@ -2,11 +2,13 @@
 use Rattle.std.proofs.Common.{◌≡◌, ℕ, zero, suc, ◌+◌, ◌<◌, ◌≤◌, ◌==◌, ◌||◌, Bool, true, false, cond, List, [], ◌∷◌}
 use Rattle.std.proofs.Common.{◌++◌, length, get_or, Option, None, Some, option_map, refl, sym, ap, ◌∙◌, arith}
 use Rattle.std.proofs.Common.{true≢false, bytes_eq}
+use Rattle.std.specs.Str.{str_to_ascii_lowercase}
 use Rattle.std.proofs.lemmas.Bool.Decides.{Decides-eqb}
 use Rattle.std.proofs.lemmas.Slice.Eq.{bytes_eq-Decides}
 use Rattle.tokei_syntax.specs.Row.{Row}
-use Rattle.tokei_row_queries.specs.Lookups.{first_where, holds, row_at}
+use Rattle.tokei_row_queries.specs.Lookups.{first_where, holds, row_at, has_name, has_name_in_any_case}
 use Rattle.tokei_row_queries.specs.TextIndex.{group_of, entries_of, entries_from, in_group, first_among}
+use Rattle.tokei_row_queries.specs.TextIndex.{names, lowered_name}
 
 not_true : (b : Bool) → (b ≡ true → ⊥) → b ≡ false
 not_true true un = absurd (un refl)
@@ -106,6 +108,18 @@ pub first_of_group : (test : Row → Bool) (texts : Row → List (List ℕ)) (t 
 first_of_group test texts t same rows =
     leads test texts t same rows rows 0 (λ k. let e : 0 + k ≡ k = omega arith in ap (row_at rows) e)
     ∙ unmoved (first_where test rows)
+
+or_none : (b : Bool) → b ≡ (b || false)
+or_none true = refl
+or_none false = refl
+
+-- the texts that name a row are its key and its name
+pub is_name : (word : List ℕ) (r : Row) → has_name word r ≡ holds (names r) word
+is_name word r = ap (λ b. bytes_eq r.key word || b) (or_none (bytes_eq r.name word))
+
+pub is_lowered_name : (word : List ℕ) (r : Row)
+    → has_name_in_any_case word r ≡ holds (lowered_name r) (str_to_ascii_lowercase word)
+is_lowered_name word r = or_none (bytes_eq (str_to_ascii_lowercase r.name) (str_to_ascii_lowercase word))
 
 -- each place of a group is one of the table
 abbrev pub Below : ℕ → List ℕ → Type 0

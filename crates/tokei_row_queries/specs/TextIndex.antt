@@ -1,6 +1,7 @@
 -- Which rows have a text, by groups of texts: an index that a look-up goes by, in place of a walk over the table.
 use Rattle.std.specs.Prelude.{◌≡◌, ℕ, ◌+◌, ◌*◌, ◌%◌, ◌<◌, ◌==◌, Bool, if◌then◌else◌, List, [], ◌∷◌, ◌++◌, length}
 use Rattle.std.specs.Prelude.{slice_index_or, Option, Some, None}
+use Rattle.std.specs.Str.{str_to_ascii_lowercase}
 use Rattle.tokei_syntax.specs.Row.{Row}
 use Rattle.tokei_row_queries.specs.Lookups.{row_at}
 
@@ -19,6 +20,14 @@ entries_of place (t ∷ ts) = (group_of t, place) ∷ entries_of place ts
 abbrev pub entries_from : (Row → List (List ℕ)) → ℕ → List Row → List (ℕ × ℕ)
 entries_from texts place [] = []
 entries_from texts place (r ∷ rs) = entries_of place (texts r) ++ entries_from texts (place + 1) rs
+
+-- The texts that name a row.
+abbrev pub names : Row → List (List ℕ)
+names r = r.key ∷ r.name ∷ []
+
+-- Its name in ASCII lower case, alone in a list.
+abbrev pub lowered_name : Row → List (List ℕ)
+lowered_name r = str_to_ascii_lowercase r.name ∷ []
 
 -- The places that stand beside that group.
 abbrev pub in_group : ℕ → List (ℕ × ℕ) → List ℕ

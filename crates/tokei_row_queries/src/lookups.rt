@@ -38,16 +38,32 @@ fn ends_with_one(suffixes: &[String], name: &[u8]) -> bool
     false
 }
 
-/// The first row with that key or name.
-pub fn with_name(rows: &[Syntax], word: &str) -> Option<usize>
-    ensures { result ≡ first_where (has_name word.now) (map row_of rows.now) }
+/// The row at one of the places.
+fn row(rows: &[Syntax], place: usize) -> &Syntax
+    requires { place < length rows.now }
+    ensures { row_of result.now ≡ row_at (map row_of rows.entry.now) place }
 {
-    for (i, row) in rows.iter().enumerate() {
+    &rows[place]
+}
+
+fn first_with_name(rows: &[Syntax], places: &[usize], word: &str) -> Option<usize>
+    requires { (k : ℕ) → k < length places.now → slice_index places.now k < length rows.now }
+    ensures { result ≡ first_among (has_name word.now) (map row_of rows.now) places.now }
+{
+    for place in places {
+        let row = row(rows, *place);
         if row.key.as_str() == word || row.name.as_str() == word {
-            return Some(i);
+            return Some(*place);
         }
     }
     None
+}
+
+/// The first row with that key or name.
+pub fn with_name(rows: &IndexedRows, word: &str) -> Option<usize>
+    ensures { result ≡ first_where (has_name word.now) rows.now }
+{
+    first_with_name(rows.rows(), rows.name_places(word.as_bytes()), word)
 }
 
 fn is_same_in_any_case(name: &str, word: &str) -> bool
@@ -56,16 +72,23 @@ fn is_same_in_any_case(name: &str, word: &str) -> bool
     name.eq_ignore_ascii_case(word)
 }
 
-/// The first row whose name is that word in any ASCII case.
-pub fn with_name_in_any_case(rows: &[Syntax], word: &str) -> Option<usize>
-    ensures { result ≡ first_where (has_name_in_any_case word.now) (map row_of rows.now) }
+fn first_with_name_in_any_case(rows: &[Syntax], places: &[usize], word: &str) -> Option<usize>
+    requires { (k : ℕ) → k < length places.now → slice_index places.now k < length rows.now }
+    ensures { result ≡ first_among (has_name_in_any_case word.now) (map row_of rows.now) places.now }
 {
-    for (i, row) in rows.iter().enumerate() {
-        if is_same_in_any_case(row.name.as_str(), word) {
-            return Some(i);
+    for place in places {
+        if is_same_in_any_case(row(rows, *place).name.as_str(), word) {
+            return Some(*place);
         }
     }
     None
+}
+
+/// The first row whose name is that word in any ASCII case.
+pub fn with_name_in_any_case(rows: &IndexedRows, word: &str) -> Option<usize>
+    ensures { result ≡ first_where (has_name_in_any_case word.now) rows.now }
+{
+    first_with_name_in_any_case(rows.rows(), rows.lowered_name_places(word.as_bytes()), word)
 }
 
 /// The first row with that MIME type.
@@ -78,14 +101,6 @@ pub fn with_mime(rows: &[Syntax], mime: &[u8]) -> Option<usize>
         }
     }
     None
-}
-
-/// The row at one of the places.
-fn row(rows: &[Syntax], place: usize) -> &Syntax
-    requires { place < length rows.now }
-    ensures { row_of result.now ≡ row_at (map row_of rows.entry.now) place }
-{
-    &rows[place]
 }
 
 fn first_with_extension(rows: &[Syntax], places: &[usize], extension: &[u8]) -> Option<usize>

@@ -1,7 +1,9 @@
 //! Which rows of a table have a text, found without a walk over the table.
 ghost use Rattle.std.specs.Prelude.{◌≡◌, ◌<◌, ◌++◌, [], map, IfOk, OnOk, slice_index_or};
+ghost use Rattle.std.specs.Str.{str_to_ascii_lowercase};
 ghost use Rattle.tokei_syntax.specs.RowOf.{row_of, tokens_of};
 ghost use Rattle.tokei_row_queries.specs.TextIndex.{group_of, entries_of, entries_from, in_group, AreGroups};
+ghost use Rattle.tokei_row_queries.specs.TextIndex.{names, lowered_name};
 
 use std::alloc::{AllocError, Global};
 use std::marker::Model;
@@ -60,6 +62,21 @@ fn group_of(text: &[u8]) -> usize
     }
 }
 
+/// The number of the group of a text's ASCII lower case.
+fn lowered_group_of(text: &[u8]) -> usize
+    ensures value { result ≡ group_of (str_to_ascii_lowercase text.now) }
+    ensures within { result < 256 }
+{
+    match text {
+        [] => 0,
+        [only] => only.to_ascii_lowercase() as usize,
+        [first, second, ..] => {
+            let first = first.to_ascii_lowercase() as usize;
+            (first + 37 * second.to_ascii_lowercase() as usize) % GROUPS
+        }
+    }
+}
+
 fn add_entries(
     entries: &mut Vec<(usize, usize)>,
     place: usize,
@@ -91,6 +108,29 @@ fn filename_entries(alloc: Global, rows: &[Syntax]) -> Result<Vec<(usize, usize)
     let mut entries = Vec::new(alloc);
     for (place, row) in rows.iter().enumerate() {
         add_entries(&mut entries, place, &row.filenames)?;
+    }
+    Ok(entries)
+}
+
+/// The group of each key and each name, beside the row's place.
+fn name_entries(alloc: Global, rows: &[Syntax]) -> Result<Vec<(usize, usize)>, AllocError>
+    ensures { IfOk result (λ v. v.items ≡ entries_from names 0 (map row_of rows.now)) }
+{
+    let mut entries = Vec::new(alloc);
+    for (place, row) in rows.iter().enumerate() {
+        entries.push((group_of(row.key.as_bytes()), place))?;
+        entries.push((group_of(row.name.as_bytes()), place))?;
+    }
+    Ok(entries)
+}
+
+/// The group of each name's ASCII lower case, beside the row's place.
+fn lowered_name_entries(alloc: Global, rows: &[Syntax]) -> Result<Vec<(usize, usize)>, AllocError>
+    ensures { IfOk result (λ v. v.items ≡ entries_from lowered_name 0 (map row_of rows.now)) }
+{
+    let mut entries = Vec::new(alloc);
+    for (place, row) in rows.iter().enumerate() {
+        entries.push((lowered_group_of(row.name.as_bytes()), place))?;
     }
     Ok(entries)
 }
@@ -147,11 +187,34 @@ impl TextIndex {
         TextIndex::of_entries(alloc, &entries)
     }
 
+    /// The index of the rows' keys and names. It fails where memory runs out.
+    pub(crate) fn of_names(alloc: Global, rows: &[Syntax]) -> Result<TextIndex, AllocError>
+        ensures { IfOk result (λ x. AreGroups (entries_from names 0 (map row_of rows.now)) x) }
+    {
+        let entries = name_entries(alloc, rows)?;
+        TextIndex::of_entries(alloc, &entries)
+    }
+
+    /// The index of the names in ASCII lower case. It fails where memory runs out.
+    pub(crate) fn of_lowered_names(alloc: Global, rows: &[Syntax]) -> Result<TextIndex, AllocError>
+        ensures { IfOk result (λ x. AreGroups (entries_from lowered_name 0 (map row_of rows.now)) x) }
+    {
+        let entries = lowered_name_entries(alloc, rows)?;
+        TextIndex::of_entries(alloc, &entries)
+    }
+
     /// The places of the rows with a text of that one's group, in the order of the table.
     pub(crate) fn places(&self, text: &[u8]) -> &[usize]
         ensures places { result.now ≡ slice_index_or self.entry.now (group_of text.now) [] }
         ensures within { group_of text.now < 256 }
     {
         self.groups[group_of(text)].places()
+    }
+    /// The same of the group of the text's ASCII lower case.
+    pub(crate) fn lowered_places(&self, text: &[u8]) -> &[usize]
+        ensures places { result.now ≡ slice_index_or self.entry.now (group_of (str_to_ascii_lowercase text.now)) [] }
+        ensures within { group_of (str_to_ascii_lowercase text.now) < 256 }
+    {
+        self.groups[lowered_group_of(text)].places()
     }
 }

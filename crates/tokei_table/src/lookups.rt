@@ -28,7 +28,7 @@ impl LanguageType {
         ensures value { result ≡ first_where (has_name name.now) table.now }
         ensures of_table { IfSome result (λ l. l < length table.now) }
     {
-        language(with_name(table.rows(), name))
+        language(with_name(table.indexed_rows(), name))
     }
 
     /// The language whose name is that word in any ASCII case.
@@ -36,7 +36,7 @@ impl LanguageType {
         ensures value { result ≡ first_where (has_name_in_any_case word.now) table.now }
         ensures of_table { IfSome result (λ l. l < length table.now) }
     {
-        language(with_name_in_any_case(table.rows(), word))
+        language(with_name_in_any_case(table.indexed_rows(), word))
     }
 
     /// The language with that MIME type.

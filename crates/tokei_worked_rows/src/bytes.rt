@@ -1,7 +1,7 @@
 //! Places that were counted by hand, and the search held against a plain loop.
 use std::alloc::Global;
 use std::test::Fail;
-use tokei_bytes::{ByteSet, first_not_of_four, first_of_four};
+use tokei_bytes::{ByteSet, first_not_of_four, first_of_four, first_of_one};
 
 /// The four bytes that are searched for.
 const FOUR: [u8; 4] = *b"abcd";
@@ -271,6 +271,55 @@ fn texts_are_clear_up_to_a_byte_of_the_set(rt: HostRuntime) -> Result<(), Fail> 
         let found = ends_of(rt.alloc(), bytes, *other, text)?;
         let want = Some((*clear, *apart, bytes.contains(&b'/')));
         assert_eq!(rt; found, want, "of {bytes:?}");
+    }
+    Ok(())
+}
+
+/// What the search for `a` answers, where the two places are in order and within the text.
+fn search_for_one(text: &[u8], from: usize, to: usize) -> Option<usize> {
+    if from <= to && to <= text.len() {
+        Some(first_of_one(b'a', text, from, to))
+    } else {
+        None
+    }
+}
+
+/// The same by a plain loop.
+fn plain_search_for_one(text: &[u8], from: usize, to: usize) -> Option<usize> {
+    if to < from || text.len() < to {
+        return None;
+    }
+    for (place, byte) in text.iter().enumerate() {
+        if from <= place && place < to && *byte == b'a' {
+            return Some(place);
+        }
+    }
+    Some(to)
+}
+
+/// The first of many pairs of places between which the search and the plain loop differ in a text of 300 dots with `a` in
+/// that place, if there is one.
+fn unlike_with_hit(alloc: Global, hit: usize) -> Result<Option<(usize, usize)>, Fail> {
+    let text = text_with(alloc, 300, hit, b'a')?;
+    for seventh in 0..44usize {
+        for eleventh in 0..29usize {
+            let (from, to) = (seventh * 7, eleventh * 11);
+            if search_for_one(&text, from, to) != plain_search_for_one(&text, from, to) {
+                return Ok(Some((from, to)));
+            }
+        }
+    }
+    Ok(None)
+}
+
+/// Hits near the front, where a near search ends, behind it and near the end; one at 999 stands in no text.
+const HITS: [usize; 8] = [0, 5, 127, 128, 200, 275, 299, 999];
+
+#[test]
+fn the_search_for_one_byte_answers_as_a_plain_loop(rt: HostRuntime) -> Result<(), Fail> {
+    for hit in &HITS {
+        let unlike = unlike_with_hit(rt.alloc(), *hit)?;
+        assert_eq!(rt; unlike, None, "of {hit}");
     }
     Ok(())
 }

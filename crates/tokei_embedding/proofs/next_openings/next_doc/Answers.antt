@@ -1,4 +1,5 @@
-use Rattle.std.proofs.Common.{◌≡◌, ◌∙◌, ◌+◌, ◌-◌, take, drop, subst, sym, true, false, is_some, arith}
+use Rattle.std.proofs.Common.{◌≡◌, ◌∙◌, ◌+◌, ◌-◌, take, drop, get_or, subst, sym, true, false, is_some, arith}
+use Rattle.std.proofs.lemmas.Bool.Decides.{Decides-eqb}
 use Rattle.tokei_embedding.proofs.NextDocs.{NoMarks, no_doc, a_doc, mark_found, marks_to, marks_over, none_before, mark_behind_blanks, none_in_line}
 use Rattle.tokei_embedding.specs.DocComments.{front_mark}
 use Rattle.tokei_embedding.proofs.next_openings.next_doc.Goals as goal
@@ -6,12 +7,12 @@ use Rattle.tokei_embedding.proofs.next_openings.next_doc.Goals as goal
 pub loop-slash-init : goal.loop-slash-init
 loop-slash-init c =
     let a = c.args in
-    let e = c.first_byte-slash.ensures in
+    let e = c.first_of_one-slash.ensures in
     record {
       low = e.low;
       high = e.high;
-      found = e.found;
-      none = marks_to a.text.now a.at a.to a.at c.first_byte-slash.result (omega arith) e.high c.requires.ends (λ j l m. absurd (omega (arith, l))) e.passed;
+      found = λ l. (Decides-eqb (get_or a.text.now c.first_of_one-slash.result 0) 47).0 (e.found l);
+      none = marks_to a.text.now a.at a.to a.at c.first_of_one-slash.result (omega arith) e.high c.requires.ends (λ j l m. absurd (omega (arith, l))) e.passed;
     }
 
 pub loop-slash-preserved : goal.loop-slash-preserved
@@ -19,14 +20,14 @@ loop-slash-preserved c =
     let a = c.args in
     let i = c.loop-slash.invariant in
     let slash = c.loop-slash.slash in
-    let e = c.first_byte-slash-in-loop-slash.ensures in
+    let e = c.first_of_one-slash-in-loop-slash.ensures in
     let none_there : is_some (front_mark (take (a.to - slash) (drop slash a.text.now))) ≡ false =
     mark_found (λ m. m.now) c.front_mark.result (take (a.to - slash) (drop slash a.text.now)) false c.front_mark.ensures (sym c.is_some.ensures ∙ c.if-is_some.false) in
     record {
       low = omega (arith, i.low, e.low);
       high = e.high;
-      found = e.found;
-      none = marks_to a.text.now a.at a.to (slash + 1) c.first_byte-slash-in-loop-slash.result (omega (arith, i.low)) e.high c.requires.ends
+      found = λ l. (Decides-eqb (get_or a.text.now c.first_of_one-slash-in-loop-slash.result 0) 47).0 (e.found l);
+      none = marks_to a.text.now a.at a.to (slash + 1) c.first_of_one-slash-in-loop-slash.result (omega (arith, i.low)) e.high c.requires.ends
           (marks_over a.text.now a.at a.to slash (slash + 1) (omega arith) i.low c.loop-slash-test.true i.none none_there) e.passed;
     }
 

@@ -6,5 +6,5 @@ use Rattle.tokei_table.proofs.language_type.LanguageType.from_name.Goals as goal
 pub returns-clause-of_table : goal.returns-clause-of_table
 returns-clause-of_table c =
     same_within c.args.table.now c.language.result (first_where (has_name c.args.name.now) c.args.table.now)
-    (c.language.ensures ∙ c.with_name.ensures ∙ ap (first_where (has_name c.args.name.now)) c.rows.ensures)
+    (c.language.ensures ∙ c.with_name.ensures ∙ ap (first_where (has_name c.args.name.now)) c.indexed_rows.ensures)
     (first_within (has_name c.args.name.now) c.args.table.now)

@@ -8,5 +8,5 @@ returns-clause-of_table c =
     same_within c.args.table.now c.language.result
     (first_where (has_name_in_any_case c.args.word.now) c.args.table.now)
     (c.language.ensures ∙ c.with_name_in_any_case.ensures
-    ∙ ap (first_where (has_name_in_any_case c.args.word.now)) c.rows.ensures)
+    ∙ ap (first_where (has_name_in_any_case c.args.word.now)) c.indexed_rows.ensures)
     (first_within (has_name_in_any_case c.args.word.now) c.args.table.now)
