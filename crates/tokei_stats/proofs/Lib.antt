@@ -5,5 +5,4 @@ pub mod BlobsAt
 pub mod SumsOrdered
 pub mod SumLaws
 pub mod MapsOrdered
-pub mod Padding
 pub mod Equality

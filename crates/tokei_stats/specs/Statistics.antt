@@ -3,12 +3,7 @@ use Rattle.std.specs.Prelude.{ℕ, ◌+◌, Option, None, Some}
 use Rattle.std.specs.Ordering.{nat_cmp}
 use Rattle.std.specs.declared.cmp.Ordering.{Ordering}
 use Rattle.std.specs.declared.cmp.Ordering.TheVariants.{Less, Equal, Greater}
-
--- how many lines are blank, code and comments
-pub record Counts : Type 0 where
-  pub blanks : ℕ
-  pub code : ℕ
-  pub comments : ℕ
+pub use Rattle.tokei_report_row.specs.Counts.{Counts, lines_of}
 
 mutual
   pub data Statistics : Type 0 where
@@ -29,10 +24,6 @@ own (node n bs) = n
 
 abbrev pub blobs : Statistics → Blobs
 blobs (node n bs) = bs
-
--- all lines, of whatever class
-abbrev pub lines_of : Counts → ℕ
-lines_of n = n.blanks + n.code + n.comments
 
 abbrev pub plus : Counts → Counts → Counts
 plus a b = record { blanks = a.blanks + b.blanks; code = a.code + b.code; comments = a.comments + b.comments }

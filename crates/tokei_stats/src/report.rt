@@ -1,9 +1,9 @@
 //! The statistics of a file under its name.
 use crate::error::CountError;
-use crate::report_row::ReportRow;
 use crate::stats::CodeStats;
 use std::alloc::Global;
 use std::fmt;
+use tokei_report_row::{CountsCells, ReportRow};
 
 /// The statistics of a file, and the name under which it is shown.
 #[derive(Debug, PartialEq, Drop)]
@@ -61,7 +61,12 @@ impl Report {
         requires { width ≤ 65535 }
         ensures { result ≡ report_row width (string_bytes self.now.name) (counts_of self.now.stats) }
     {
-        ReportRow::new(&self.name, &self.stats, width)
+        let counts = CountsCells {
+            blanks: self.stats.blanks,
+            code: self.stats.code,
+            comments: self.stats.comments,
+        };
+        ReportRow::new(&self.name, counts, width)
     }
 }
 

@@ -1,9 +1,9 @@
 -- The row of a report as a text, without the newline that a printer ends it with: a space, the name, and the four
 -- counts.
 use Rattle.std.specs.Prelude.{ℕ, ◌+◌, ◌-◌, List, ◌∷◌, ◌++◌, length, drop, nat_lt, if◌then◌else◌}
-use Rattle.tokei_stats.specs.Places.{left_in, number_in}
-use Rattle.tokei_stats.specs.Statistics.{Counts, lines_of}
-use Rattle.tokei_table.specs.Bytes.{space}
+use Rattle.tokei_report_row.specs.Places.{left_in, number_in}
+use Rattle.tokei_report_row.specs.Counts.{Counts, lines_of}
+use Rattle.tokei_syntax.specs.Bytes.{space}
 use Rattle.tokei_text.specs.Boundaries.{boundary_from}
 
 -- the bar that stands for the beginning of a shortened name

@@ -13,8 +13,8 @@ pub(crate) struct NameCell<'a> {
 ghost use Rattle.std.specs.Prelude.{◌≡◌, ◌≤◌, ◌-◌, ◌++◌, length};
 
 impl NameCell<'_> {
-    ghost use Rattle.tokei_stats.specs.Places.{left_in};
-    ghost use Rattle.tokei_stats.specs.ReportRow.{name_cell};
+    ghost use Rattle.tokei_report_row.specs.Places.{left_in};
+    ghost use Rattle.tokei_report_row.specs.ReportRow.{name_cell};
 
     /// The bar of a shortened name, or none, and what of the name is shown behind it.
     #[tactic(auto, using(crate::proofs::Padding::shortened_cell))]
@@ -35,7 +35,7 @@ impl NameCell<'_> {
 
 impl fmt::Display for NameCell<'_> {
     ghost use Rattle.std.specs.Prelude.{Some};
-    ghost use Rattle.tokei_stats.specs.ReportRow.{name_cell};
+    ghost use Rattle.tokei_report_row.specs.ReportRow.{name_cell};
 
     ghost output = { λ cell. Some (name_cell cell.places cell.name.now) };
 

@@ -1,7 +1,7 @@
 -- Texts in places of a printed row. Places count characters, and a text that is longer is not cut.
 use Rattle.std.specs.Prelude.{ℕ, ◌-◌, List, ◌++◌, length, replicate, decimal}
 use Rattle.std.specs.Fmt.{char_count}
-use Rattle.tokei_table.specs.Bytes.{space}
+use Rattle.tokei_syntax.specs.Bytes.{space}
 
 -- left in n places
 abbrev pub left_in : ℕ → List ℕ → List ℕ

@@ -6,8 +6,8 @@ use lib.Utf8.{encode}
 use Rattle.std.specs.Prelude.{◌==◌, ◌&&◌, nat_lt, drop}
 use Rattle.std.specs.List.{repeat}
 use Rattle.std.specs.Fmt.{padded, padded_integral, format_spec, take_chars, char_count, is_char_start, styled_text}
-use Rattle.tokei_stats.specs.Places.{left_in}
-use Rattle.tokei_stats.specs.ReportRow.{name_cell}
+use Rattle.tokei_report_row.specs.Places.{left_in}
+use Rattle.tokei_report_row.specs.ReportRow.{name_cell}
 use Rattle.tokei_text.specs.Boundaries.{boundary_from}
 
 one_at_most : (x : Bool) (m k : ℕ) → m ≤ k → (if x then 1 else 0) + m ≤ suc k

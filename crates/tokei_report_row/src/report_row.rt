@@ -1,7 +1,6 @@
 //! The row that shows a report.
 use crate::counts_cells::CountsCells;
 use crate::name_cell::NameCell;
-use crate::stats::CodeStats;
 use std::fmt;
 use std::marker::Model;
 
@@ -17,8 +16,7 @@ pub struct ReportRow<'a> {
 }
 
 ghost use Rattle.std.specs.Prelude.{◌≡◌, ◌≤◌, List, ℕ, Some};
-ghost use Rattle.tokei_stats.specs.ReportRow.{report_row};
-ghost use Rattle.tokei_stats.specs.Seen.{counts_of};
+ghost use Rattle.tokei_report_row.specs.ReportRow.{report_row};
 
 impl<'a> Model for ReportRow<'a> {
     ghost Value = { List ℕ };
@@ -30,17 +28,18 @@ impl<'a> Model for ReportRow<'a> {
 }
 
 impl<'a> ReportRow<'a> {
-    /// The row of these statistics under this name, with `width + 2` places for the name.
-    pub(crate) fn new(name: &'a str, stats: &CodeStats, width: usize) -> ReportRow<'a>
+    /// The row of these counts under this name, with `width + 2` places for the name.
+    pub fn new(name: &'a str, counts: CountsCells, width: usize) -> ReportRow<'a>
         requires { width ≤ 65535 }
-        ensures { result ≡ report_row width name.now (counts_of stats.now) }
+        ensures { result ≡ report_row width name.now
+            (record { blanks = counts.blanks; code = counts.code; comments = counts.comments }) }
     {
         ReportRow {
             name,
             width,
-            blanks: stats.blanks,
-            code: stats.code,
-            comments: stats.comments,
+            blanks: counts.blanks,
+            code: counts.code,
+            comments: counts.comments,
         }
     }
 }

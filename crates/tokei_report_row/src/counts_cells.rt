@@ -4,15 +4,15 @@ use std::fmt;
 /// Lines, code, comments and blanks, each behind a space and right in 12 places. The lines are the exact sum of the
 /// three counts, also where it passes `usize`.
 #[derive(Clone, Copy)]
-pub(crate) struct CountsCells {
-    pub(crate) blanks: usize,
-    pub(crate) code: usize,
-    pub(crate) comments: usize,
+pub struct CountsCells {
+    pub blanks: usize,
+    pub code: usize,
+    pub comments: usize,
 }
 
 impl fmt::Display for CountsCells {
     ghost use Rattle.std.specs.Prelude.{Some};
-    ghost use Rattle.tokei_stats.specs.ReportRow.{counts_cells};
+    ghost use Rattle.tokei_report_row.specs.ReportRow.{counts_cells};
 
     ghost output = { λ n. Some (counts_cells (record { blanks = n.blanks; code = n.code; comments = n.comments })) };
 

@@ -1,0 +1,12 @@
+-- How many lines a text has of each class.
+use Rattle.std.specs.Prelude.{ℕ, ◌+◌}
+
+-- how many lines are blank, code and comments
+pub record Counts : Type 0 where
+  pub blanks : ℕ
+  pub code : ℕ
+  pub comments : ℕ
+
+-- all lines, of whatever class
+abbrev pub lines_of : Counts → ℕ
+lines_of n = n.blanks + n.code + n.comments
