@@ -141,6 +141,15 @@ pub blank_part : (g : Row) (docs_are_comments : Bool) (t : List ℕ) (ended : Mo
 unfolding class_of
 blank_part g docs_are_comments t ended e = rw (no_head t e) refl
 
+head_not_blank : (m : Matchers) (t v : List ℕ) → trim_start t ≡ v → FrontBeginsNone m v → all_blank t ≡ false
+head_not_blank m t [] e k = absurd k
+head_not_blank m t (b ∷ w) e k = front_not_blank t b w e
+
+-- in a literate language a part with such a head is a comment
+pub literate_head : (g : Row) (docs_are_comments : Bool) (m : Matchers) (t : List ℕ) (ended : Mode) → g.literate ≡ true → HasCodeHead m t → class_of g docs_are_comments (record { begun = None; bytes = t; ended = ended }) ≡ Comment
+unfolding class_of
+literate_head g docs_are_comments m t ended literate h = rw (head_not_blank m t (trim_start t) refl h.head, literate) refl
+
 -- no byte before place h is no blank, and the one there, where there is one, isn't
 pub front_at : (u : List ℕ) (h : ℕ) → h ≤ length u → ((k : ℕ) → k < h → is_blank (get_or u k 0) ≡ true) → (h < length u → is_blank (get_or u h 0) ≡ false) → trim_start u ≡ drop h u
 front_at [] zero l f g = refl

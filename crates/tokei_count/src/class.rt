@@ -257,7 +257,8 @@ pub(crate) fn class_of_plain(
     let syntax = reading.syntax;
     match class_by_front(reading.matchers, text, start, solid, stop) {
         Some(Class::Blank) => Class::Blank,
-        Some(Class::Code) if !syntax.literate => Class::Code,
+        Some(Class::Code) if syntax.literate => Class::Comment,
+        Some(Class::Code) => Class::Code,
         _ => class_of_line(syntax, reading.docs_are_comments, &text[start..stop]),
     }
 }

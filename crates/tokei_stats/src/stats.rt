@@ -31,7 +31,7 @@ impl fmt::Debug for CodeStats {
 
 impl CodeStats {
     ghost use Rattle.std.specs.Prelude.{◌≡◌, ◌<◌, IfOk, OnOk, OnErr, IfErr, IsErrOf, IsTrue};
-    ghost use Rattle.tokei_stats.specs.Statistics.{empty, sum, summary, lines_of, plus};
+    ghost use Rattle.tokei_stats.specs.Statistics.{blobs, empty, sum, summary, lines_of, plus};
     ghost use Rattle.tokei_stats.specs.Statistics.Statistics.{node};
     ghost use Rattle.tokei_stats.specs.Statistics.Blobs.{none};
     ghost use Rattle.tokei_stats.specs.Overflow.{CountsFit, Fits};
@@ -143,6 +143,22 @@ impl CodeStats {
         Ok(())
     }
 
+    /// Adds other statistics that have no blobs: the three numbers. A refusal changes nothing.
+    fn add_lines(&mut self, other: &CodeStats) -> Result<(), CountError>
+        requires { blobs (stats_of other.now) ≡ none }
+        ensures ok { OnOk result (stats_of self.new ≡ sum (stats_of self.old) (stats_of other.now)) }
+        ensures overflow { IsErrOf result CountError.Overflow → ¬ Fits (sum (stats_of self.old) (stats_of other.now)) }
+        ensures err { OnErr result (self.new ≡ self.old) }
+    {
+        let blanks = sum_of(self.blanks, other.blanks)?;
+        let code = sum_of(self.code, other.code)?;
+        let comments = sum_of(self.comments, other.comments)?;
+        self.blanks = blanks;
+        self.code = code;
+        self.comments = comments;
+        Ok(())
+    }
+
     /// The counts of all nodes, added up.
     fn sums(&self) -> Result<Sums, CountError>
         ensures sum { IfOk result (λ n. sums_of n ≡ summary (stats_of self.now)) }
@@ -209,9 +225,11 @@ pub fn add_blob(
         → ¬ Fits (joined (at (blobs_of (entries_of blobs.old.entries)) language) (λ s. sum s (stats_of stats))
         (stats_of stats)) }
 {
-    let both = match blobs.get(&language) {
-        Some(there) => stats.added_to(there)?,
-        None => stats,
-    };
-    put(blobs, language, both)
+    if let Some(there) = blobs.get_mut(&language) {
+        if stats.blobs.is_empty() {
+            return there.add_lines(&stats);
+        }
+        return there.add(&stats);
+    }
+    put(blobs, language, stats)
 }

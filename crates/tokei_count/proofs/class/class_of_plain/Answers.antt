@@ -1,9 +1,9 @@
-use Rattle.std.proofs.Common.{◌≡◌, ℕ, List, [], Some, None, ◌-◌, drop, take, false, sym, ap, ◌∙◌, refl}
+use Rattle.std.proofs.Common.{◌≡◌, ℕ, List, [], Some, None, ◌-◌, drop, take, true, false, sym, ap, ◌∙◌, refl}
 use Rattle.tokei_table.specs.Bytes.{trim_start}
 use Rattle.tokei_table.specs.Row.{Row}
 use Rattle.tokei_count.specs.ReadingOf.{row_in}
 use Rattle.tokei_count.specs.declared.reading.Reading.{Reading}
-use Rattle.tokei_count.proofs.CodeHeads.{code_head, blank_part}
+use Rattle.tokei_count.proofs.CodeHeads.{code_head, literate_head, blank_part}
 use Rattle.tokei_count.proofs.class.class_of_plain.Goals as goal
 
 -- the bytes of the part
@@ -20,6 +20,13 @@ returns-in-Some-Blank c =
 pub returns-in-Some-Code : goal.returns-in-Some-Code
 returns-in-Some-Code c =
     let r : Reading = c.args.reading.now in
-    let literate : (row_in r).literate ≡ false = ap (λ (g : Row). g.literate) (sym r.row) ∙ c.if-not-syntax.true in
-    sym (code_head (row_in r) r.sound r.matchers.now r.matched r.docs_are_comments None literate refl (bytes c.args.text.now c.args.start c.args.stop)
+    let literate : (row_in r).literate ≡ true = ap (λ (g : Row). g.literate) (sym r.row) ∙ c.if-syntax.true in
+    sym (literate_head (row_in r) r.docs_are_comments r.matchers.now (bytes c.args.text.now c.args.start c.args.stop) None literate
     (c.class_by_front.ensures.code (c.in-Some-Code.is ∙ ap Some c.in-Some-Code.field-0-is)))
+
+pub returns-in-Some-Code-2 : goal.returns-in-Some-Code-2
+returns-in-Some-Code-2 c =
+    let r : Reading = c.args.reading.now in
+    let literate : (row_in r).literate ≡ false = ap (λ (g : Row). g.literate) (sym r.row) ∙ c.if-syntax.false in
+    sym (code_head (row_in r) r.sound r.matchers.now r.matched r.docs_are_comments None literate refl (bytes c.args.text.now c.args.start c.args.stop)
+    (c.class_by_front.ensures.code (c.in-Some-Code.is ∙ ap Some c.in-Some-Code-2.field-0-is)))

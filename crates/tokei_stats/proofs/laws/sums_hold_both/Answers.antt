@@ -1,4 +1,4 @@
-use Rattle.std.proofs.Common.{◌≡◌, ℕ, refl}
+use Rattle.std.proofs.Common.{refl}
 use Rattle.tokei_stats.specs.Ordered.{IsOrdered}
 use Rattle.tokei_stats.specs.Statistics.{Statistics, sum}
 use Rattle.tokei_stats.specs.Statistics.Statistics.{node}

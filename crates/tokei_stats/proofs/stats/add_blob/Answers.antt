@@ -1,33 +1,67 @@
-use Rattle.std.proofs.Common.{◌≡◌, ◌∙◌, ap, sym, subst, option_map, Result, Ok, Err, OnOk}
-use Rattle.std.specs.Ordering.{nat_cmp}
-use Rattle.std.specs.Map.{lookup}
-use Rattle.std.specs.BTreeMap.{is_at}
-use Rattle.std.proofs.lemmas.Result.{err_from_is_err_and}
-use Rattle.tokei_stats.specs.Statistics.{joined, sum}
+use Rattle.std.proofs.Common.{◌≡◌, ◌∙◌, ℕ, List, ap, sym, subst, option_map, Some, Result, Ok, Err, OnOk, OnErr, BTreeMap, nat_cmp}
+use Rattle.std.specs.Map.{lookup, set_value}
+use Rattle.std.specs.BTreeMap.{insert_entry, is_at}
+use Rattle.std.specs.List.Sorted.{IsStrictlySortedBy}
+use Rattle.std.specs.Map.{keys_of}
+use Rattle.std.proofs.lemmas.Map.Steps.{set_value_same}
+use Rattle.tokei_stats.specs.Statistics.{at, joined, put, sum}
 use Rattle.tokei_stats.specs.Overflow.{Fits}
-use Rattle.tokei_stats.specs.Seen.{stats_of}
-use Rattle.tokei_stats.specs.declared.error.CountError.TheVariants.{Overflow}
+use Rattle.tokei_stats.specs.Seen.{blobs_of, entries_of, stats_of}
+use Rattle.tokei_stats.specs.declared.stats.CodeStats.{CodeStats}
 use Rattle.tokei_stats.proofs.Adding.{put_one, at_entries}
+use Rattle.tokei_stats.proofs.BlobsSet.{set_inserts}
 use Rattle.tokei_stats.proofs.stats.add_blob.Goals as goal
-use Rattle.tokei_stats.proofs.stats.add_blob.Goals.{in-Some+in_ok-both-in-Some, in-None}
 
 on_ok : {A B : Type 0} {P Q : Type 0} (r : Result A B) → (P → Q) → OnOk r P → OnOk r Q
 on_ok (Ok x) f h = f h
 on_ok (Err e) f h = h
 
-pub returns-in_err-both-in-Some-clause-overflow : goal.returns-in_err-both-in-Some-clause-overflow
-returns-in_err-both-in-Some-clause-overflow c =
-    let p = err_from_is_err_and c.from_residual.result c.from_residual.ensures.1 in
-    let there = at_entries c.args.blobs.now.entries c.args.language ∙ ap (option_map stats_of) (sym c.in-Some.ensures.value) in
-    rw (p.1, p.2) (λ is fits.
-    let same : c.in_err-both-in-Some.field-0.0 ≡ Overflow = cc in
-    c.in_err-both-in-Some.ensures.overflow (ap Err same) (subst (λ o. Fits (joined o (λ s. sum s (stats_of c.args.stats)) (stats_of c.args.stats))) there fits))
+on_err : {A B : Type 0} {P Q : Type 0} (r : Result A B) → (P → Q) → OnErr r P → OnErr r Q
+on_err (Ok x) f h = h
+on_err (Err e) f h = f h
+
+-- The value v that the language has becomes w.
+module _ (old new : List (ℕ × CodeStats)) (k : ℕ) (v w more : CodeStats) (there : Some v ≡ lookup (is_at (nat_cmp k)) old) (set : new ≡ set_value (is_at (nat_cmp k)) old w) where
+  added : IsStrictlySortedBy nat_cmp (keys_of old) → stats_of w ≡ sum (stats_of v) (stats_of more)
+      → blobs_of (entries_of new) ≡ put (blobs_of (entries_of old)) k (joined (at (blobs_of (entries_of old)) k) (λ s. sum s (stats_of more)) (stats_of more))
+  added sorted e =
+      put_one old new k w more
+      (e ∙ ap (λ o. joined (option_map stats_of o) (λ s. sum s (stats_of more)) (stats_of more)) there)
+      (set ∙ set_inserts old k v w sorted (sym there))
+
+  kept : w ≡ v → new ≡ old
+  kept e = set ∙ ap (set_value (is_at (nat_cmp k)) old) e ∙ set_value_same (is_at (nat_cmp k)) old v (sym there)
+
+  fits_there : Fits (joined (at (blobs_of (entries_of old)) k) (λ s. sum s (stats_of more)) (stats_of more)) → Fits (sum (stats_of v) (stats_of more))
+  fits_there = subst (λ o. Fits (joined o (λ s. sum s (stats_of more)) (stats_of more))) (at_entries old k ∙ ap (option_map stats_of) (sym there))
+
+pub returns-then-is_empty-clause-ok : goal.returns-then-is_empty-clause-ok
+returns-then-is_empty-clause-ok c =
+    on_ok c.add_lines.result (added c.args.blobs.now.entries _ c.args.language c.in-Some.there.now c.add_lines.new.self c.args.stats c.in-Some.ensures.value (c.get_mut.follows.holds c.add_lines.new.self).0 c.in-Some.ensures.ordered) c.add_lines.ensures.ok
+
+pub returns-then-is_empty-clause-err : goal.returns-then-is_empty-clause-err
+returns-then-is_empty-clause-err c =
+    on_err c.add_lines.result (kept c.args.blobs.now.entries _ c.args.language c.in-Some.there.now c.add_lines.new.self c.args.stats c.in-Some.ensures.value (c.get_mut.follows.holds c.add_lines.new.self).0) c.add_lines.ensures.err
+
+pub returns-then-is_empty-clause-overflow : goal.returns-then-is_empty-clause-overflow
+returns-then-is_empty-clause-overflow c is fits =
+    c.add_lines.ensures.overflow is (fits_there c.args.blobs.now.entries _ c.args.language c.in-Some.there.now c.add_lines.new.self c.args.stats c.in-Some.ensures.value (c.get_mut.follows.holds c.add_lines.new.self).0 fits)
+
+pub returns-in-Some-clause-ok : goal.returns-in-Some-clause-ok
+returns-in-Some-clause-ok c =
+    on_ok c.add.result (added c.args.blobs.now.entries _ c.args.language c.in-Some.there.now c.add.new.self c.args.stats c.in-Some.ensures.value (c.get_mut.follows.holds c.add.new.self).0 c.in-Some.ensures.ordered) c.add.ensures.ok
+
+pub returns-in-Some-clause-err : goal.returns-in-Some-clause-err
+returns-in-Some-clause-err c =
+    on_err c.add.result (kept c.args.blobs.now.entries _ c.args.language c.in-Some.there.now c.add.new.self c.args.stats c.in-Some.ensures.value (c.get_mut.follows.holds c.add.new.self).0) c.add.ensures.err
+
+pub returns-in-Some-clause-overflow : goal.returns-in-Some-clause-overflow
+returns-in-Some-clause-overflow c is fits =
+    c.add.ensures.overflow is (fits_there c.args.blobs.now.entries _ c.args.language c.in-Some.there.now c.add.new.self c.args.stats c.in-Some.ensures.value (c.get_mut.follows.holds c.add.new.self).0 fits)
 
 pub returns-clause-ok : goal.returns-clause-ok
 returns-clause-ok c =
-    let joined_is : stats_of c.match-get.both ≡ joined (option_map stats_of (lookup (is_at (nat_cmp c.args.language)) c.args.blobs.now.entries)) (λ s. sum s (stats_of c.args.stats)) (stats_of c.args.stats) =
-    elim c.match-get.branch [
-      | in-Some+in_ok-both-in-Some w ↦ ap stats_of w.both-is ∙ w.in_ok-both-in-Some.ensures.ok ∙ ap (λ o. joined (option_map stats_of o) (λ s. sum s (stats_of c.args.stats)) (stats_of c.args.stats)) w.in-Some.ensures.value
-      | in-None w ↦ ap stats_of w.both-is ∙ ap (λ o. joined (option_map stats_of o) (λ s. sum s (stats_of c.args.stats)) (stats_of c.args.stats)) w.in-None.ensures.value
-    ] in
-    on_ok c.put.result (λ e. put_one c.args.blobs.now.entries c.put.new.blobs.entries c.args.language c.match-get.both c.args.stats joined_is e) c.put.ensures.ok
+    let old = c.args.blobs.now.entries in
+    on_ok c.put.result (λ e. put_one old c.put.new.blobs.entries c.args.language c.args.stats c.args.stats
+    (ap (λ o. joined (option_map stats_of o) (λ s. sum s (stats_of c.args.stats)) (stats_of c.args.stats)) c.in_default.ensures.value)
+    (e ∙ ap (λ (m : BTreeMap ℕ CodeStats). insert_entry nat_cmp m.entries c.args.language c.args.stats) c.get_mut.follows.holds-at-none)) c.put.ensures.ok
