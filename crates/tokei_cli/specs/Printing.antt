@@ -1,7 +1,7 @@
 -- What the program prints beside reports.
 use Rattle.std.specs.Prelude.{ℕ, ◌+◌, List, [], ◌∷◌, ◌++◌, Result, Ok, Err, codes, flat_map}
 use Rattle.std.specs.List.{join_by}
-use Rattle.tokei_stats.specs.Places.{left_in}
+use Rattle.tokei_report_row.specs.Places.{left_in}
 use Rattle.tokei_syntax.specs.Bytes.{newline, space}
 use Rattle.tokei_syntax.specs.Row.{Row}
 use Rattle.tokei_cli.specs.declared.output_error.OutputError.{OutputError}

@@ -24,7 +24,7 @@ fn put<S: Sink>(writer: &mut S, text: &str) -> Result<(), OutputError>
 }
 
 /// A line of the list: a name left in 40 places, a space, and what stands beside it.
-#[tactic(auto, using(tokei_stats::proofs::Padding::styled_left))]
+#[tactic(auto, using(tokei_report_row::proofs::Padding::styled_left))]
 fn list_line(alloc: Global, name: &str, beside: &str) -> Result<String, AllocError>
     ensures { IfOk result (λ s. string_bytes s ≡ list_line name.now beside.now) }
 {

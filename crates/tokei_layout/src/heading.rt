@@ -8,7 +8,7 @@ impl Layout {
     ghost use Rattle.tokei_layout.specs.Heading.{column_names, header};
 
     /// The names of the columns.
-    #[tactic(auto, using(crate::proofs::Padding::styled_right, tokei_stats::proofs::Padding::styled_left))]
+    #[tactic(auto, using(crate::proofs::Padding::styled_right, tokei_report_row::proofs::Padding::styled_left))]
     fn column_names(&self, alloc: Global) -> Result<String, AllocError>
         ensures { IfOk result (λ s. string_bytes s ≡ column_names self.now.columns) }
     {

@@ -41,7 +41,7 @@ pub fn print_stream_heading<W: Sink>(writer: &mut W) -> Result<(), PrintError>
 }
 
 /// Lines, code, comments and blanks, each behind a space and right in 12 places; the lines are their exact sum.
-#[tactic(auto, using(tokei_stats::proofs::Padding::padded_right))]
+#[tactic(auto, using(tokei_report_row::proofs::Padding::padded_right))]
 fn plain_cells(alloc: Global, counts: Sums) -> Result<String, AllocError>
     ensures { IfOk result (λ s. string_bytes s ≡ counts_cells (sums_of counts)) }
 {
@@ -51,7 +51,7 @@ fn plain_cells(alloc: Global, counts: Sums) -> Result<String, AllocError>
 }
 
 /// A file's row in a stream of columns.
-#[tactic(auto, using(crate::proofs::Padding::styled_right, tokei_stats::proofs::Padding::styled_left))]
+#[tactic(auto, using(crate::proofs::Padding::styled_right, tokei_report_row::proofs::Padding::styled_left))]
 fn stream_row(alloc: Global, language: &str, report: &Report) -> Result<String, AllocError>
     ensures { IfOk result (λ s. string_bytes s
         ≡ stream_row language.now (string_bytes report.now.name) (counts_of report.now.stats)) }
