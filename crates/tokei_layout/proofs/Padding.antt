@@ -6,7 +6,7 @@ use lib.Utf8.{encode}
 use Rattle.std.specs.List.{repeat}
 use Rattle.std.specs.Fmt.{padded, format_spec, take_chars, char_count, styled_text}
 use Rattle.std.proofs.lemmas.Str.{encode_ascii}
-use Rattle.tokei_stats.proofs.Padding.{char_count-le, take_chars_all}
+use Rattle.tokei_report_row.proofs.Padding.{char_count-le, take_chars_all}
 use Rattle.tokei_stats.specs.Places.{left_in}
 use Rattle.tokei_stats.specs.ReportRow.{name_cell}
 use Rattle.tokei_layout.specs.Cells.{right_in}
