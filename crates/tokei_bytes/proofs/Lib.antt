@@ -1,3 +1,4 @@
+pub mod Bits
 pub mod Blocks
 pub mod Parts
 pub mod Rests

@@ -10,7 +10,7 @@ one_more true r h = refl
 one_more false r h = h
 
 -- one of the first n is one of all
-among : (n : ℕ) (bs : List ℕ) (x : ℕ) → is_one_of (take n bs) x ≡ true → is_one_of bs x ≡ true
+pub among : (n : ℕ) (bs : List ℕ) (x : ℕ) → is_one_of (take n bs) x ≡ true → is_one_of bs x ≡ true
 among zero bs x h = cc
 among (suc n) [] x h = cc
 among (suc n) (b ∷ bs) x h = by_test (x == b) h (among n bs x)

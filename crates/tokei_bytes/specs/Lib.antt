@@ -2,3 +2,4 @@
 pub mod FirstPlace
 pub mod OneOf
 pub mod ByteSets
+pub mod Pairs

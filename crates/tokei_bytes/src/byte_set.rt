@@ -1,7 +1,8 @@
 //! Sets of bytes that a text is searched for.
-ghost use Rattle.std.specs.Prelude.{◌≡◌, ◌≤◌, ◌==◌, ◌||◌, length};
+ghost use Rattle.std.specs.Prelude.{◌≡◌, ℕ, ◌<◌, ◌≤◌, ◌==◌, ◌||◌, true, length, IfSome};
 ghost use Rattle.tokei_bytes.specs.ByteSets.{HasFew, is_in};
 ghost use Rattle.tokei_bytes.specs.FirstPlace.{IsFirstPlace};
+ghost use Rattle.tokei_bytes.specs.OneOf.{is_one_of};
 
 use crate::one_of::first_of_four;
 use std::marker::Model;
@@ -57,6 +58,18 @@ impl ByteSet {
         ensures { result ≡ is_in self.now byte }
     {
         self.flags[byte as usize]
+    }
+
+    /// The bytes of the set, some more than once, where they are one to four.
+    #[inline(always)]
+    pub fn few(&self) -> Option<[u8; 4]>
+        ensures holds { IfSome result (λ few. (b : ℕ) → b < 256 → is_in self.now b ≡ true → is_one_of few b ≡ true) }
+        ensures held { IfSome result (λ few. (b : ℕ) → is_one_of few b ≡ true → is_in self.now b ≡ true) }
+    {
+        if self.count == 0 || FEW < self.count {
+            return None;
+        }
+        Some(self.few)
     }
 
     /// The first place of the text, from `from` to before `to`, whose byte is in the set, or `to` where none is. A

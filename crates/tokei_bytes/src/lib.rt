@@ -7,9 +7,11 @@
 mod byte_set;
 mod near;
 mod one_of;
+mod pairs;
 
 pub use byte_set::ByteSet;
 pub use near::first_of_one;
 pub use one_of::{
     BLOCK, SHORT_BLOCK, first_in_block, first_not_of_four, first_of_four, first_other_in_block,
 };
+pub use pairs::next_pair;

@@ -14,7 +14,7 @@ pub const SHORT_BLOCK: usize = 16;
 
 /// Bit k is set where lane k is one of the four.
 #[inline(always)]
-fn marks(bytes: [u8; 4], lanes: u8x32) -> u64
+pub(crate) fn marks(bytes: [u8; 4], lanes: u8x32) -> u64
     ensures { result ≡ mask_l (map (is_one_of bytes) lanes) }
 {
     let front = lanes.simd_eq(u8x32::splat(bytes[0])) | lanes.simd_eq(u8x32::splat(bytes[1]));

@@ -1,4 +1,4 @@
--- In a string or a comment no child opens.
+-- In a string or a comment neither a child opens nor a line comment begins.
 use Rattle.std.proofs.Common.{◌≡◌, ℕ, Bool, true, false, ◌||◌, cond, List, Option, None, Some}
 use Rattle.std.specs.Prelude.{⊤}
 use Rattle.tokei_table.specs.Bytes.{begins}
@@ -9,40 +9,44 @@ use Rattle.tokei_count.specs.Choice.Choice.{closes, escapes, child_opens, opens,
 use Rattle.tokei_count.specs.declared.items.Kind.{Kind}
 use Rattle.tokei_count.specs.declared.items.Kind.TheVariants.{DocString, VerbatimString, OrdinaryString, MultiLineComment}
 
--- the choice is no child
-abbrev IsNoChild : Choice → Type 0
-IsNoChild closes = ⊤
-IsNoChild escapes = ⊤
-IsNoChild (child_opens k) = ⊥
-IsNoChild (opens k p) = ⊤
-IsNoChild (passes_over p) = ⊤
-IsNoChild begins_line_comment = ⊤
-IsNoChild takes_byte = ⊤
+-- the choice can be made in an item
+abbrev IsWithin : Choice → Type 0
+IsWithin closes = ⊤
+IsWithin escapes = ⊤
+IsWithin (child_opens k) = ⊥
+IsWithin (opens k p) = ⊤
+IsWithin (passes_over p) = ⊤
+IsWithin begins_line_comment = ⊥
+IsWithin takes_byte = ⊤
 
-cond_no_child : (x : Bool) (a b : Choice) → IsNoChild a → IsNoChild b → IsNoChild (cond x a b)
-cond_no_child true a b h k = h
-cond_no_child false a b h k = k
+cond_within : (x : Bool) (a b : Choice) → IsWithin a → IsWithin b → IsWithin (cond x a b)
+cond_within true a b h k = h
+cond_within false a b h k = k
 
-else_no_child : (o : Option Pair) (f : Pair → Choice) (b : Choice) → ((p : Pair) → IsNoChild (f p)) → IsNoChild b → IsNoChild (or_else o f b)
-else_no_child None f b h k = k
-else_no_child (Some p) f b h k = h p
+else_within : (o : Option Pair) (f : Pair → Choice) (b : Choice) → ((p : Pair) → IsWithin (f p)) → IsWithin b → IsWithin (or_else o f b)
+else_within None f b h k = k
+else_within (Some p) f b h k = h p
 
-string_no_child : (g : Row) (verbatim : Bool) (closer u : List ℕ) → IsNoChild (choice_in_string g verbatim closer u)
-string_no_child g verbatim closer u = cond_no_child (begins closer u) closes _ tt (cond_no_child (cond verbatim false (is_escape g u)) escapes takes_byte tt tt)
+string_within : (g : Row) (verbatim : Bool) (closer u : List ℕ) → IsWithin (choice_in_string g verbatim closer u)
+string_within g verbatim closer u = cond_within (begins closer u) closes _ tt (cond_within (cond verbatim false (is_escape g u)) escapes takes_byte tt tt)
 
-comment_no_child : (g : Row) (closer u : List ℕ) → IsNoChild (choice_in_comment g closer u)
-comment_no_child g closer u =
-    cond_no_child (is_escape g u) escapes _ tt
-    (cond_no_child (begins closer u) closes _ tt
-    (else_no_child (opened g.multi_line_comments u) (met_in_comment g) _ (λ p. cond_no_child (g.nested || has_pair g.nested_comments p) (opens MultiLineComment p) (passes_over p) tt tt)
-    (else_no_child (opened g.nested_comments u) (opens MultiLineComment) takes_byte (λ p. tt) tt)))
+comment_within : (g : Row) (closer u : List ℕ) → IsWithin (choice_in_comment g closer u)
+comment_within g closer u =
+    cond_within (is_escape g u) escapes _ tt
+    (cond_within (begins closer u) closes _ tt
+    (else_within (opened g.multi_line_comments u) (met_in_comment g) _ (λ p. cond_within (g.nested || has_pair g.nested_comments p) (opens MultiLineComment p) (passes_over p) tt tt)
+    (else_within (opened g.nested_comments u) (opens MultiLineComment) takes_byte (λ p. tt) tt)))
+
+by_kind : (g : Row) (q : Kind) (closer u : List ℕ) → IsWithin (choice_within g q closer u)
+by_kind g DocString closer u = string_within g false closer u
+by_kind g VerbatimString closer u = string_within g true closer u
+by_kind g OrdinaryString closer u = string_within g false closer u
+by_kind g MultiLineComment closer u = comment_within g closer u
 
 pub within_no_child : (g : Row) (e : Enclosure) (o : Option Block) (u : List ℕ) (k : Block) → choice g (Some e) o u ≡ child_opens k → ⊥
 unfolding choice
-within_no_child g e o u k h = let n : IsNoChild (choice_within g e.kind e.closer u) = by_kind e.kind in rw h at n
-  where
-    by_kind : (q : Kind) → IsNoChild (choice_within g q e.closer u)
-    by_kind DocString = string_no_child g false e.closer u
-    by_kind VerbatimString = string_no_child g true e.closer u
-    by_kind OrdinaryString = string_no_child g false e.closer u
-    by_kind MultiLineComment = comment_no_child g e.closer u
+within_no_child g e o u k h = let n : IsWithin (choice_within g e.kind e.closer u) = by_kind g e.kind e.closer u in rw h at n
+
+pub within_no_line_comment : (g : Row) (e : Enclosure) (o : Option Block) (u : List ℕ) → choice g (Some e) o u ≡ begins_line_comment → ⊥
+unfolding choice
+within_no_line_comment g e o u h = let n : IsWithin (choice_within g e.kind e.closer u) = by_kind g e.kind e.closer u in rw h at n

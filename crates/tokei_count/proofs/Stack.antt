@@ -2,11 +2,11 @@
 use Rattle.std.proofs.Common.{◌≡◌, ◌<◌, ◌∙◌, ℕ, List, [], ◌∷◌, ◌++◌, None, map, length, ap, sym, subst, refl, Option, Some, is_some, true}
 use Rattle.std.proofs.lemmas.List.{reverse-append}
 use Rattle.tokei_count.specs.declared.items.Enclosure as Code
-use Rattle.tokei_count.proofs.Childless.{within_no_child}
+use Rattle.tokei_count.proofs.Childless.{within_no_child, within_no_line_comment}
 use Rattle.tokei_count.proofs.Stepping.{goes_opener, goes_closer, no_closer}
 use Rattle.tokei_count.specs.Choice.{Choice, choice, or_else}
-use Rattle.tokei_count.specs.Choice.Choice.{closes, opens, child_opens, takes_byte}
-use Rattle.tokei_count.specs.Items.{Block, enclosure}
+use Rattle.tokei_count.specs.Choice.Choice.{closes, opens, child_opens, begins_line_comment, takes_byte}
+use Rattle.tokei_count.specs.Items.{Block, Mode, enclosure}
 use Rattle.tokei_count.specs.Lines.{line_len}
 use Rattle.tokei_count.specs.Modes.{Chain, innermost}
 use Rattle.tokei_count.specs.Progress.{Goes, OpensChild, OpensInLine, IsClosable}
@@ -52,3 +52,8 @@ child_opens-plain g block l xs u s e = by_block (block l u) refl s e
     by_block : (o : Option Block) → block l u ≡ o → is_some o ≡ true → choice g (innermost (chain_of xs)) (block l u) u ≡ or_else o child_opens takes_byte → (k : Block) × OpensChild g block l (chain_of xs) k (chain_of xs) u
     by_block None f s e = cc
     by_block (Some k) f s e = (k, by_chain k (chain_of xs) e)
+
+-- a line comment begins in plain text alone
+pub line_comment_plain : (g : Row) (block : ℕ → List ℕ → Option Block) (l : ℕ) (m : Mode) (u : List ℕ) → choice g m (block l u) u ≡ begins_line_comment → m ≡ None
+line_comment_plain g block l None u e = refl
+line_comment_plain g block l (Some h) u e = absurd (within_no_line_comment g h (block l u) u e)

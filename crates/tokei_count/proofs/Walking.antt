@@ -31,3 +31,12 @@ run_on g block l text start old at end steps more c d inside part led low all we
     led_on g block l text start old c d d (at - start) steps (at - old) (at - old) more (omega (arith, part.low, here))
     (subst (λ j. Leads g block l c (old - start) j d (drop start text)) none (subst (λ m. Leads g block l c (m - start) (steps - (old - end)) d (drop start text)) here led))
     went (omega (arith, low)) (sym all)
+
+-- the same in an item that encloses them all, of which `old` choices came before
+pub bytes_on : (g : Row) (block : ℕ → List ℕ → Option Block) (l : ℕ) (text : List ℕ) (start from at old steps more : ℕ) (c d e : Chain) → start ≤ from → from ≤ at → old ≤ steps → more ≡ steps + (at - from) → d ≡ c → e ≡ d
+    → Leads g block l c (from - start) (steps - old) c (drop start text) → Leads g block l e (at - from) (at - from) e (drop from text) → Leads g block l c (at - start) (more - old) d (drop start text)
+bytes_on g block l text start from at old steps more c d e low on few all same held led went =
+    led_on g block l text start from c d d (at - start) (steps - old) (at - from) (at - from) (more - old) low
+    (subst (λ f. Leads g block l c (from - start) (steps - old) f (drop start text)) (sym same) led)
+    (subst (λ f. Leads g block l f (at - from) (at - from) f (drop from text)) held went)
+    (omega (arith, low, on)) (omega (arith, few, all))

@@ -7,7 +7,7 @@ use Rattle.tokei_count.specs.Modes.{Chain}
 use Rattle.tokei_count.specs.Progress.{IsPart, Goes, OpensChild, ReadsLine, ReadsChild, newlines}
 use Rattle.tokei_count.specs.declared.class.Class.{Class}
 use Rattle.tokei_count.specs.declared.walk.Move.{Move}
-use Rattle.tokei_count.specs.declared.walk.Move.TheVariants.{On, Rest, Child}
+use Rattle.tokei_count.specs.declared.walk.Move.TheVariants.{On, Turn, Rest, Child}
 use Rattle.tokei_count.specs.declared.walk.PartEnd.{PartEnd}
 use Rattle.tokei_count.specs.declared.walk.PartEnd.TheVariants.{Line, Broken}
 use Rattle.tokei_count.specs.declared.walk.PartRead.{PartRead}
@@ -15,6 +15,7 @@ use Rattle.tokei_count.specs.declared.walk.PartRead.{PartRead}
 -- the choice at the place `at` takes some bytes, or the rest of its line with the newline, or a child opens there
 abbrev pub Moves : Row → (ℕ → List ℕ → Option Block) → ℕ → Chain → Chain → List ℕ → ℕ → Move → Type 0
 Moves r block l c d text at (On n) = Goes r block l c n 1 d (drop at text)
+Moves r block l c d text at (Turn n) = Goes r block l c n 1 d (drop at text)
 Moves r block l c d text at Rest =
     Goes r block l c (line_len (drop at text)) (1 - newlines (drop at text)) d (drop at text)
 Moves r block l c d text at Child = (k : Block) × OpensChild r block l c k d (drop at text)

@@ -5,7 +5,7 @@ ghost use Rattle.tokei_count.specs.ReadingOf.{row_in};
 
 use crate::choice::stands;
 use crate::items::Enclosure;
-use crate::plain_bytes::{begins_none_within, plain_end};
+use crate::plain_bytes::{begins_none_within, item_end};
 use crate::reading::Reading;
 
 /// Whether nothing but the item's closer can begin at the place, which the item encloses, and that doesn't stand there:
@@ -29,10 +29,9 @@ pub(crate) fn calm_end(reading: &Reading, item: Enclosure, at: usize) -> usize
     ensures calm { IsCalm (row_in reading.now) item.entry reading.now.text.now at result }
 {
     let text = reading.text;
-    let mode = Some(item);
-    let mut next = plain_end(reading.matchers, mode, text, at, text.len());
+    let mut next = item_end(reading.matchers, item, text, at, text.len());
     while next < text.len() && takes_byte(reading, item, next) {
-        next = plain_end(reading.matchers, mode, text, next + 1, text.len());
+        next = item_end(reading.matchers, item, text, next + 1, text.len());
     }
     next
 }

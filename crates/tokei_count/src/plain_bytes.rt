@@ -1,5 +1,5 @@
 //! Bytes at which nothing but the byte itself, or a child, can begin.
-ghost use Rattle.std.specs.Prelude.{◌≡◌, ℕ, ◌<◌, ◌≤◌, ◌==◌, true, Some, length, slice_index};
+ghost use Rattle.std.specs.Prelude.{◌≡◌, ℕ, ◌<◌, ◌≤◌, ◌==◌, true, None, Some, length, slice_index};
 ghost use Rattle.tokei_count.specs.PlainBytes.{BeginsNoneWithin, IsPlainByte};
 ghost use Rattle.tokei_count.specs.Seen.{mode_of};
 
@@ -33,39 +33,25 @@ pub(crate) fn is_plain_byte(matchers: &LanguageMatchers, mode: Option<Enclosure>
 }
 
 /// From the place `at` of the text to before the answer, which goes no further than `to`, no choice but the byte
-/// itself can begin at a byte, in that item.
+/// itself and a child can begin at a byte, in plain text. Often one begins at the place itself, and nothing is searched.
 #[inline(always)]
-fn item_end(
-    matchers: &LanguageMatchers,
-    inner: Enclosure,
-    text: &[u8],
-    at: usize,
-    to: usize,
-) -> usize
-    requires order { at ≤ to }
-    requires within { to ≤ length text.now }
+pub(crate) fn plain_end(matchers: &LanguageMatchers, text: &[u8], at: usize, to: usize) -> usize
+    requires { to ≤ length text.now }
     ensures low { at ≤ result }
-    ensures high { result ≤ to }
-    ensures plain { (p : ℕ) → at ≤ p → p < result
-        → IsPlainByte matchers.now (mode_of (Some inner.entry)) (slice_index text.now p) }
+    ensures high { at < result → result ≤ to }
+    ensures plain { (p : ℕ) → at ≤ p → p < result → IsPlainByte matchers.now None (slice_index text.now p) }
 {
-    match inner.closer {
-        [] => at,
-        [first, ..] => match inner.kind {
-            Kind::DocString | Kind::VerbatimString | Kind::OrdinaryString => {
-                first_of_four([*first, b'\\', *first, b'\\'], text, at, to)
-            }
-            Kind::MultiLineComment => matchers.comment_end(*first, text, at, to),
-        },
+    if to <= at || matchers.begins(text[at]) {
+        return at;
     }
+    matchers.plain_end(text, at, to)
 }
 
-/// From the place `at` of the text to before the answer, which goes no further than `to`, no choice but the byte
-/// itself and a child can begin at a byte, in that mode. Often one begins at the place itself, and nothing is searched.
+/// The same in an item.
 #[inline(always)]
-pub(crate) fn plain_end(
+pub(crate) fn item_end(
     matchers: &LanguageMatchers,
-    mode: Option<Enclosure>,
+    inner: Enclosure,
     text: &[u8],
     at: usize,
     to: usize,
@@ -74,13 +60,18 @@ pub(crate) fn plain_end(
     ensures low { at ≤ result }
     ensures high { at < result → result ≤ to }
     ensures plain { (p : ℕ) → at ≤ p → p < result
-        → IsPlainByte matchers.now (mode_of mode.entry) (slice_index text.now p) }
+        → IsPlainByte matchers.now (mode_of (Some inner.entry)) (slice_index text.now p) }
 {
-    if to <= at || !is_plain_byte(matchers, mode, text[at]) {
+    if to <= at || !is_plain_byte(matchers, Some(inner), text[at]) {
         return at;
     }
-    match mode {
-        None => matchers.plain_end(text, at, to),
-        Some(inner) => item_end(matchers, inner, text, at, to),
+    match inner.closer {
+        [] => at,
+        [first, ..] => match inner.kind {
+            Kind::DocString | Kind::VerbatimString | Kind::OrdinaryString => {
+                first_of_four([*first, b'\\', *first, b'\\'], text, at, to)
+            }
+            Kind::MultiLineComment => matchers.comment_end(*first, text, at, to),
+        },
     }
 }

@@ -1,12 +1,13 @@
 //! A part is walked with a stack of the items that enclose the place.
-ghost use Rattle.std.specs.Prelude.{◌≡◌, ℕ, ◌+◌, ◌-◌, ◌<◌, ◌≤◌, true, false, None, Some, is_some, IfOk, length};
+ghost use Rattle.std.specs.Prelude.{◌≡◌, ℕ, ◌+◌, ◌-◌, ◌<◌, ◌≤◌, true, false, None, Some, is_some, IfOk, length, slice_index};
 ghost use Rattle.tokei_count.specs.Choice.Choice.{takes_byte};
 ghost use Rattle.tokei_count.specs.Lines.{line_len};
 ghost use Rattle.tokei_count.specs.Modes.{innermost};
-ghost use Rattle.tokei_count.specs.Places.{Begins, Childless, IsAt, LeadsTo, StopsAt};
+ghost use Rattle.tokei_count.specs.PlainBytes.{IsPlainByte};
+ghost use Rattle.tokei_count.specs.Places.{Begins, Childless, IsAt, LeadsTo};
 ghost use Rattle.tokei_count.specs.Places.{block_from, block_here, choice_here, text_from, text_of};
 ghost use Rattle.tokei_count.specs.ReadingOf.{row_in, blocks_of};
-ghost use Rattle.tokei_count.specs.Progress.{IsPart, IsClosable};
+ghost use Rattle.tokei_count.specs.Progress.{IsPart, IsClosable, Leads};
 ghost use Rattle.tokei_count.specs.Seen.{block_of, choice_of, mode_of, chain_of};
 ghost use Rattle.tokei_count.specs.Walked.{Moves, Reads};
 
@@ -16,7 +17,7 @@ use crate::items::{Enclosure, Kind};
 use crate::line_ends::line_stop;
 use crate::openings::{Block, block_at, next_child};
 use crate::place::Place;
-use crate::plain_bytes::{is_plain_byte, plain_end};
+use crate::plain_bytes::{is_plain_byte, item_end, plain_end};
 use std::alloc::AllocError;
 use tokei_embedding::BlockSearch;
 
@@ -25,6 +26,8 @@ use tokei_embedding::BlockSearch;
 pub(crate) enum Move {
     /// It takes so many bytes of its line.
     On(usize),
+    /// The same, and an item is closed or opened.
+    Turn(usize),
     /// It takes the rest of its line, and the newline there.
     Rest,
     /// A child opens.
@@ -80,25 +83,23 @@ fn finds_block<'a>(
     }
 }
 
-/// The same in plain text. In an item none opens, and none is looked for; nor is one before `child`, where none opens in
-/// plain text.
+/// The same in plain text, where none opens before `child`.
 #[inline(always)]
 fn finds_child<'a>(
     place: &Place<'_, 'a>,
-    stack: &[Enclosure<'a>],
     child: usize,
     search: &mut BlockSearch<'a>,
     found: &mut Block<'a>,
 ) -> bool
     requires here { IsAt place.now }
     requires some { place.now.at < place.now.end }
-    requires childless { place.now.at < child → innermost (chain_of stack.now) ≡ None → block_here place.now ≡ None }
+    requires childless { place.now.at < child → block_here place.now ≡ None }
     requires searched { search.old ≡ text_of place.now }
     ensures same { search.new ≡ search.old }
     ensures found { result ≡ true → block_here place.now ≡ Some (block_of found.new) }
-    ensures none { result ≡ false → innermost (chain_of stack.now) ≡ None → block_here place.now ≡ None }
+    ensures none { result ≡ false → block_here place.now ≡ None }
 {
-    if place.at < child || !stack.is_empty() {
+    if place.at < child {
         return false;
     }
     // a place of its own, so that the walk's stands in no memory
@@ -138,19 +139,24 @@ fn choice_at<'a>(
     )
 }
 
-/// Takes the bytes from the place on at which nothing but the byte itself can begin, and answers the place behind
-/// them. Each is a choice, which `choice_at` makes. No child opens in plain text from the place to before `child`.
+/// Takes the bytes from the place on to before `to`, if that lies ahead, and answers the place behind them. Nothing but
+/// the byte itself can begin at any, in the mode of the stack's items. Each is a choice, which `choice_at` makes.
 #[inline(always)]
 fn take_bytes<'a>(
     place: &Place<'_, 'a>,
     stack: &[Enclosure<'a>],
-    child: usize,
+    mode: Option<Enclosure<'a>>,
+    to: usize,
     steps: &mut usize,
 ) -> usize
+    requires mode { mode_of mode ≡ innermost (chain_of stack.now) }
     requires closable { IsClosable (chain_of stack.now) }
     requires here { IsAt place.now }
     requires few { steps.old ≤ place.now.at - place.now.start }
-    requires childless { innermost (chain_of stack.now) ≡ None → Childless place.now child }
+    requires within { place.now.at < to → to ≤ place.now.end }
+    requires plain { (p : ℕ) → place.now.at ≤ p → p < to
+        → IsPlainByte place.now.reading.now.matchers.now (mode_of mode) (slice_index (text_of place.now) p) }
+    requires childless { innermost (chain_of stack.now) ≡ None → Childless place.now to }
     ensures low { place.now.at ≤ result }
     ensures high { result ≤ place.now.end }
     ensures part { IsPart (text_of place.now) place.now.behind_child place.now.start result }
@@ -158,12 +164,8 @@ fn take_bytes<'a>(
     ensures counted { steps.new ≡ steps.old + (result - place.now.at) }
     ensures leads { LeadsTo place.now (chain_of stack.now) result }
 {
-    let reading = place.reading;
-    let mode = innermost(stack);
-    let to = place.end.min(child);
-    let plain = plain_end(reading.matchers, mode, reading.text, place.at, to);
     let mut next = place.at;
-    while next < plain {
+    while next < to {
         let here = Place { at: next, ..*place };
         let _byte = choice_at(&here, mode, false, true, steps);
         next += 1;
@@ -171,14 +173,17 @@ fn take_bytes<'a>(
     next
 }
 
-/// Takes the choice at a place, which `choice_at` makes; `opens` says whether a child can open there.
+/// Takes the choice at a place, which `choice_at` makes, in the mode of the stack's items; `opens` says whether a child
+/// can open there.
 #[inline(always)]
 fn take_choice<'a>(
     place: &Place<'_, 'a>,
     stack: &mut Vec<Enclosure<'a>>,
+    mode: Option<Enclosure<'a>>,
     opens: bool,
     steps: &mut usize,
 ) -> Result<Move, AllocError>
+    requires mode { mode_of mode ≡ innermost (chain_of stack.old.items) }
     requires closable { IsClosable (chain_of stack.old.items) }
     requires here { IsAt place.now }
     requires some { place.now.at < place.now.end }
@@ -187,13 +192,14 @@ fn take_choice<'a>(
     requires childless { opens ≡ false → innermost (chain_of stack.old.items) ≡ None → block_here place.now ≡ None }
     ensures counted { steps.new ≡ steps.old + 1 }
     ensures child { IfOk result (λ m. m ≡ Move.Child → opens ≡ true) }
+    ensures plain { IfOk result (λ m. m ≡ Move.Rest → innermost (chain_of stack.old.items) ≡ None) }
+    ensures kept { IfOk result (λ m. (n : ℕ) → m ≡ Move.On n → stack.new.items ≡ stack.old.items) }
     ensures takes { IfOk result (Moves (row_in place.now.reading.now) (blocks_of place.now.reading.now)
         place.now.behind_child (chain_of stack.old.items) (chain_of stack.new.items) (text_of place.now) place.now.at) }
 {
-    let mode = innermost(stack);
     match choice_at(place, mode, opens, false, steps) {
         Choice::Closes => match stack.pop() {
-            Some(enclosure) => Ok(Move::On(enclosure.closer.len())),
+            Some(enclosure) => Ok(Move::Turn(enclosure.closer.len())),
             None => unreachable!(),
         },
         Choice::Escapes => Ok(Move::On(2)),
@@ -202,7 +208,7 @@ fn take_choice<'a>(
             let opener = pair.0.as_bytes();
             let closer = pair.1.as_bytes();
             stack.push(Enclosure { kind, closer })?;
-            Ok(Move::On(opener.len()))
+            Ok(Move::Turn(opener.len()))
         }
         Choice::PassesOver(pair) => {
             let opener = pair.0.as_bytes();
@@ -226,31 +232,49 @@ fn take_newline<'a>(place: &Place<'_, 'a>, mode: Option<Enclosure<'a>>, steps: &
     let _newline = choice_at(place, mode, false, plain, steps);
 }
 
-/// From the place to before the answer no child opens in plain text. In an item that is the rest of the line, which
-/// stops at `stop`, and nothing is searched; else `child` becomes the part's next child, or stays where nothing is to
-/// be skipped.
+/// Takes the choices from the place on within the item that encloses it, up to behind its closer or another item's opener,
+/// or to the line's end, and answers the place behind them.
 #[inline(always)]
-fn look_ahead<'a>(
+fn take_within<'a>(
     place: &Place<'_, 'a>,
-    search: &mut BlockSearch<'a>,
-    stack: &[Enclosure],
-    stop: usize,
-    child: &mut usize,
-) -> usize
+    stack: &mut Vec<Enclosure<'a>>,
+    item: Enclosure<'a>,
+    steps: &mut usize,
+) -> Result<usize, AllocError>
+    requires within { mode_of (Some item) ≡ innermost (chain_of stack.old.items) }
+    requires closable { IsClosable (chain_of stack.old.items) }
     requires here { IsAt place.now }
-    requires inside { place.now.at < stop }
-    requires line { StopsAt place.now stop }
-    requires childless { Childless place.now child.old }
-    requires searched { search.old ≡ text_of place.now }
-    ensures same { search.new ≡ search.old }
-    ensures childless { Childless place.now child.new }
-    ensures ahead { innermost (chain_of stack.now) ≡ None → Childless place.now result }
+    requires some { place.now.at < place.now.end }
+    requires few { steps.old ≤ place.now.at - place.now.start }
+    ensures on { IfOk result (λ at. place.now.at < at) }
+    ensures closable { IfOk result (λ at. IsClosable (chain_of stack.new.items)) }
+    ensures part { IfOk result (λ at. IsPart (text_of place.now) place.now.behind_child place.now.start at) }
+    ensures line { IfOk result (λ at. place.now.end ≡ at + line_len (text_from place.now at)) }
+    ensures more { steps.old ≤ steps.new }
+    ensures few { IfOk result (λ at. steps.new ≤ at - place.now.start) }
+    ensures leads { IfOk result (λ at. Leads (row_in place.now.reading.now) (blocks_of place.now.reading.now)
+        place.now.behind_child (chain_of stack.old.items) (at - place.now.at) (steps.new - steps.old)
+        (chain_of stack.new.items) (text_from place.now place.now.at)) }
 {
-    if place.reading.skips && !stack.is_empty() {
-        return stop;
+    let reading = place.reading;
+    let mode = Some(item);
+    let end = place.end;
+    let mut at = place.at;
+    while at < end {
+        let here = Place { at, ..*place };
+        let plain = item_end(reading.matchers, item, reading.text, at, end);
+        at = take_bytes(&here, stack, mode, plain, steps);
+        if end <= at {
+            return Ok(at);
+        }
+        let there = Place { at, ..*place };
+        match take_choice(&there, stack, mode, false, steps)? {
+            Move::On(len) => at += len,
+            Move::Turn(len) => return Ok(at + len),
+            Move::Rest | Move::Child => unreachable!(),
+        }
     }
-    *child = next_child(place, search, stop, *child);
-    *child
+    Ok(at)
 }
 
 /// Reads the part that begins at the place. Where the reading skips, it looks for the part's children ahead, and at a
@@ -282,15 +306,20 @@ pub(crate) fn read_part<'a>(
     let mut at = start;
     while at < end {
         let here = Place { at, ..*part };
-        let ahead = look_ahead(&here, search, stack, stop, &mut child);
-        at = take_bytes(&here, stack, ahead, &mut steps);
+        if let Some(item) = innermost(stack) {
+            at = take_within(&here, stack, item, &mut steps)?;
+            continue;
+        }
+        child = next_child(&here, search, stop, child);
+        let plain = plain_end(reading.matchers, reading.text, at, end.min(child));
+        at = take_bytes(&here, stack, None, plain, &mut steps);
         if end <= at {
             continue;
         }
         let there = Place { at, ..*part };
-        let opens = finds_child(&there, stack, ahead, search, found);
-        match take_choice(&there, stack, opens, &mut steps)? {
-            Move::On(len) => at += len,
+        let opens = finds_child(&there, child, search, found);
+        match take_choice(&there, stack, None, opens, &mut steps)? {
+            Move::On(len) | Move::Turn(len) => at += len,
             Move::Rest => at = stop,
             Move::Child => {
                 let end = PartEnd::Broken(at);

@@ -1,7 +1,7 @@
 -- Which openers can stand at the front of a text: by its first byte those of a group, by its second one fewer.
 use Rattle.std.proofs.Common.{◌≡◌, ℕ, suc, zero, ◌+◌, ◌-◌, ◌<◌, ◌≤◌, Bool, true, false, ◌&&◌, ◌||◌, ◌==◌, cond}
 use Rattle.std.proofs.Common.{nat_eq, List, [], ◌∷◌, length, take, drop, get_or, None, Some, refl, sym, ◌∙◌, ap}
-use Rattle.std.proofs.Common.{subst, arith, inl, inr}
+use Rattle.std.proofs.Common.{subst, arith, inl, inr, not, IfSome, Option}
 use Rattle.std.specs.List.{list_any, list_all}
 use Rattle.std.proofs.lemmas.Bool.Decides.{Decides-eqb}
 use Rattle.std.proofs.lemmas.Bool.{cases_lt}
@@ -11,6 +11,9 @@ use Rattle.tokei_syntax.proofs.FirstBytes.{part_reads, part_len}
 use Rattle.tokei_syntax.specs.Bytes.{begins}
 use Rattle.tokei_syntax.specs.FirstOpener.{is_nonempty, is_first_of, is_first}
 use Rattle.tokei_bytes.specs.OneOf.{is_one_of}
+use Rattle.tokei_bytes.specs.ByteSets.{is_in}
+use Rattle.tokei_bytes.specs.Pairs.{counts_at}
+use Rattle.tokei_syntax.specs.NearBytes.{SameBytes}
 use Rattle.tokei_syntax.specs.OpenerGroups.{with_first, goes_on_with, HasFlags, IsIndexOf, is_whole_with}
 use Rattle.tokei_syntax.specs.Bytes.{begins_with_one}
 
@@ -238,6 +241,23 @@ none_up_to os t i j f g k h = elim (cases_lt k i) [
   | inr a ↦ g k a h
 ]
 
+-- the same from a place on
+pub none_on : (os : List (List ℕ)) (t : List ℕ) (from i j : ℕ)
+    → ((k : ℕ) → from ≤ k → k < i → begins_with_one os (drop k t) ≡ false)
+    → ((k : ℕ) → i ≤ k → k < j → begins_with_one os (drop k t) ≡ false) → (k : ℕ) → from ≤ k → k < j
+    → begins_with_one os (drop k t) ≡ false
+none_on os t from i j f g k a h = elim (cases_lt k i) [
+  | inl b ↦ f k a b
+  | inr b ↦ g k b h
+]
+
+pub none_behind_one : (os : List (List ℕ)) (t : List ℕ) (from i : ℕ)
+    → ((k : ℕ) → from ≤ k → k < i → begins_with_one os (drop k t) ≡ false) → begins_with_one os (drop i t) ≡ false
+    → (k : ℕ) → from ≤ k → k < i + 1 → begins_with_one os (drop k t) ≡ false
+none_behind_one os t from i before here =
+    none_on os t from i (i + 1) before
+    (λ k a h. let same : k ≡ i = omega (arith, a, h) in ap (λ j. begins_with_one os (drop j t)) same ∙ here)
+
 -- at a place, and behind it
 pub none_behind : (os : List (List ℕ)) (t : List ℕ) (i j : ℕ)
     → ((k : ℕ) → k < i → begins_with_one os (drop k t) ≡ false) → begins_with_one os (drop i t) ≡ false
@@ -258,3 +278,43 @@ no_byte bs i x l e y = clash (sym (ap (λ s. is_one_of s x) (drop_all i bs l)) �
   where
     clash : false ≡ true → ⊥
     clash h = absurd (cc)
+
+-- few bytes that have all of a set have those with which an opener goes on
+pub few_tell : (few : Option (List ℕ)) (os : List (List ℕ)) (flags : List Bool) → HasFlags goes_on_with os flags
+    → IfSome few (λ f. (y : ℕ) → y < 256 → is_in flags y ≡ true → is_one_of f y ≡ true)
+    → IfSome few (λ f. (y : ℕ) → y < 256 → list_any (goes_on_with y) os ≡ true → is_one_of f y ≡ true)
+few_tell None os flags s h = h
+few_tell (Some f) os flags s h = λ y l e. h y l (s.each y l ∙ e)
+
+-- a byte of a list that counts only before some others stands before another
+parts : (x y z : Bool) → (x && (not y || z)) ≡ false → x ≡ true → (y ≡ true) × (z ≡ false)
+parts true true false h e = (refl, refl)
+parts true true true h e = absurd (cc)
+parts true false z h e = absurd (cc)
+parts false y z h e = absurd (cc)
+
+contrary : false ≡ true → ⊥
+contrary h = absurd (cc)
+
+-- where no byte stands that can begin an opener, or one of a group with a byte behind it with which none of them goes on
+pub pair_apart : (os g : List (List ℕ)) (firsts : List ℕ) (groups : List (List (List ℕ))) → IsIndexOf os firsts groups
+    → (near seconds : List ℕ) (byte : ℕ) → SameBytes near firsts
+    → ((y : ℕ) → y < 256 → list_any (goes_on_with y) g ≡ true → is_one_of seconds y ≡ true)
+    → ((s : List ℕ) → begins_with_one g (byte ∷ s) ≡ begins_with_one os (byte ∷ s))
+    → (t : List ℕ) (k : ℕ) → k + 1 < length t → get_or t (k + 1) 0 < 256 → counts_at near byte seconds t k ≡ false
+    → begins_with_one os (drop k t) ≡ false
+pair_apart os g firsts groups index near seconds byte same has group t k inside fits none =
+    by (is_one_of near (get_or t k 0)) refl
+  where
+    x : ℕ
+    x = get_or t k 0
+
+    y : ℕ
+    y = get_or t (k + 1) 0
+
+    by : (b : Bool) → is_one_of near (get_or t k 0) ≡ b → begins_with_one os (drop k t) ≡ false
+    by false e = apart_at os firsts groups index t k (omega (arith, inside)) (λ h. contrary (sym e ∙ same x ∙ h))
+    by true e =
+        let p = parts (is_one_of near x) (x == byte) (is_one_of seconds y) none e in
+        sym (group_at g os byte group t k (omega (arith, inside)) ((Decides-eqb x byte).0 p.0))
+        ∙ second_apart g t k inside (not_true (list_any (goes_on_with y) g) (λ h. contrary (sym p.1 ∙ has y fits h)))

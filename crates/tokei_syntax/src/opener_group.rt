@@ -1,22 +1,24 @@
 //! Openers with one first byte.
-ghost use Rattle.std.specs.Prelude.{◌≡◌, ◌+◌, ◌≤◌, ◌<◌, ℕ, true, false, length, drop, IfOk, slice_index};
+ghost use Rattle.std.specs.Prelude.{◌≡◌, ◌+◌, ◌≤◌, ◌<◌, ℕ, true, false, length, drop, IfOk, IfSome, slice_index};
 ghost use Rattle.std.specs.Prelude.{slice_index_or};
 ghost use Rattle.std.specs.List.{list_any, list_all};
 ghost use Rattle.tokei_syntax.specs.FirstOpener.{is_first_of};
 ghost use Rattle.tokei_syntax.specs.OpenerGroups.{goes_on_with, is_whole_with, HasFlags};
 ghost use Rattle.tokei_syntax.specs.RowOf.{tokens_of};
+ghost use Rattle.tokei_bytes.specs.OneOf.{is_one_of};
 ghost use Rattle.tokei_syntax.specs.Bytes.{begins_with_one};
 
 use crate::ext::begins_with_one;
 use std::alloc::{AllocError, Global};
 use std::marker::Model;
+use tokei_bytes::ByteSet;
 
 /// Some openers, with tables of what can follow a first byte of theirs. Contracts see the list of the openers.
 #[derive(Drop)]
 pub(crate) struct OpenerGroup {
     openers: Vec<String>,
-    /// For each byte whether one of the openers can go on with it behind its first one.
-    seconds: Vec<bool>,
+    /// The bytes with which one of the openers can go on behind its first one.
+    seconds: ByteSet,
     /// For each byte whether one of the openers stands wherever that byte follows its first one.
     wholes: Vec<bool>,
 }
@@ -30,7 +32,7 @@ impl Model for OpenerGroup {
 
     ghost view = { λ g. tokens_of g.openers.items };
 
-    ghost invariant = { λ g. HasFlags goes_on_with (tokens_of g.openers.items) g.seconds.items
+    ghost invariant = { λ g. HasFlags goes_on_with (tokens_of g.openers.items) g.seconds
         × HasFlags is_whole_with (tokens_of g.openers.items) g.wholes.items };
 }
 
@@ -104,7 +106,7 @@ impl OpenerGroup {
     pub(crate) fn new(alloc: Global, openers: Vec<String>) -> Result<OpenerGroup, AllocError>
         ensures { IfOk result (λ g. g ≡ tokens_of openers.items) }
     {
-        let seconds = seconds_of(alloc, &openers)?;
+        let seconds = ByteSet::new(seconds_of(alloc, &openers)?);
         let wholes = wholes_of(alloc, &openers)?;
         Ok(OpenerGroup {
             openers,
@@ -118,7 +120,16 @@ impl OpenerGroup {
     fn goes_on(&self, byte: u8) -> bool
         ensures { result ≡ list_any (goes_on_with byte) self.now }
     {
-        self.seconds[byte as usize]
+        self.seconds.has(byte)
+    }
+
+    /// The bytes with which one of the openers can go on behind its first one, where they are one to four.
+    #[inline(always)]
+    pub(crate) fn few_seconds(&self) -> Option<[u8; 4]>
+        ensures { IfSome result (λ few. (y : ℕ) → y < 256
+            → list_any (goes_on_with y) self.now ≡ true → is_one_of few y ≡ true) }
+    {
+        self.seconds.few()
     }
 
     /// Whether one of the openers stands wherever the byte follows its first one.

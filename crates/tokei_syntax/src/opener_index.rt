@@ -1,5 +1,5 @@
 //! The openers of a language, ready for a search of a text.
-ghost use Rattle.std.specs.Prelude.{◌≡◌, ◌↔◌, ◌≤◌, ◌<◌, ℕ, List, ◌∷◌, length, map, drop, slice_index, ◌||◌, true};
+ghost use Rattle.std.specs.Prelude.{◌≡◌, ◌↔◌, ◌+◌, ◌≤◌, ◌<◌, ℕ, List, ◌∷◌, length, map, drop, slice_index, ◌||◌, true};
 ghost use Rattle.std.specs.Prelude.{false};
 ghost use Rattle.std.specs.Prelude.{IfOk, IfSome, IsSome, OnOk, MatchOption};
 ghost use Rattle.std.specs.List.{list_all};
@@ -15,13 +15,19 @@ use crate::opener_group::OpenerGroup;
 use memchr::{memchr, memchr2, memchr3};
 use std::alloc::{AllocError, Global};
 use std::marker::Model;
-use tokei_bytes::first_of_four;
+use tokei_bytes::{first_of_four, next_pair};
 
 /// How many bytes are searched at first for more than three bytes.
 const FIRST_BLOCK: usize = 64;
 
-/// The most bytes that are searched at a time for more than three bytes.
+/// The most bytes that are searched at a time for more than three bytes, or for bytes by those behind them.
 const LARGEST_BLOCK: usize = 4096;
+
+/// How close a byte that can begin an opener stands to the place behind another one, where such are taken to come often.
+const CLOSE: usize = 8;
+
+/// How many bytes are searched at first for bytes by those behind them.
+const FIRST_WIDTH: usize = 32;
 
 /// How many bytes are close by. Further ahead the searches of `memchr` are quicker.
 const NEAR: usize = 256;
@@ -317,24 +323,91 @@ impl OpenerIndex {
         }
     }
 
+    /// Whether an opener stands at the place.
+    #[inline(always)]
+    fn stands_at(&self, text: &[u8], at: usize) -> bool
+        requires { at < length text.now }
+        ensures { result ≡ begins_with_one self.now (drop at text.now) }
+    {
+        match self.group_of(text[at]) {
+            Some(group) => group.stands(text, at),
+            None => false,
+        }
+    }
+
+    /// Up to which place no opener stands, from a place on and mostly no further than `to`. The byte, with which those of
+    /// the group begin, is told by the one behind it. It stands in no caller's code, since it is rarely run.
+    #[inline(never)]
+    fn passed_by_pairs(
+        &self,
+        group: &OpenerGroup,
+        byte: u8,
+        text: &[u8],
+        from: usize,
+        to: usize,
+    ) -> usize
+        requires order { from ≤ to }
+        requires inside { to ≤ length text.now }
+        requires group { (t : List ℕ) → begins_with_one group.now (byte ∷ t) ≡ begins_with_one self.now (byte ∷ t) }
+        ensures low { from ≤ result }
+        ensures within { result ≤ length text.now }
+        ensures none { (k : ℕ) → from ≤ k → k < result → begins_with_one self.now (drop k text.now) ≡ false }
+    {
+        let mut at = from;
+        if let (Some(near), Some(seconds)) = (self.near, group.few_seconds()) {
+            while at < to {
+                at = next_pair(near, byte, seconds, text, at, to);
+                if to <= at || self.stands_at(text, at) {
+                    return at;
+                }
+                at += 1;
+            }
+        }
+        at
+    }
+
+    /// Up to which place no opener stands, from a place on at which one of the group can stand but doesn't. In the
+    /// `width` bytes behind it other places are passed over that need no more than a look at two bytes.
+    #[inline(always)]
+    fn passed(&self, group: &OpenerGroup, text: &[u8], at: usize, width: usize) -> usize
+        requires inside { at < length text.now }
+        requires group { (t : List ℕ) → begins_with_one group.now (slice_index text.now at ∷ t)
+            ≡ begins_with_one self.now (slice_index text.now at ∷ t) }
+        ensures low { at < result }
+        ensures within { result ≤ length text.now }
+        ensures none { (k : ℕ) → at + 1 ≤ k → k < result → begins_with_one self.now (drop k text.now) ≡ false }
+    {
+        let from = at + 1;
+        if width == 0 {
+            return group.passed(text[at], text, from);
+        }
+        let to = from + width.min(text.len() - from);
+        self.passed_by_pairs(group, text[at], text, from, to)
+    }
+
     /// The least place of the text at which some opener stands, None where there is none. It takes no memory.
     pub fn first_in(&self, text: &[u8]) -> Option<usize>
         ensures { result ≡ first_opener self.now text.now }
     {
         let mut from = 0;
+        // how far bytes are told by those behind them: where such come close behind one another
+        let mut width = 0;
         while from < text.len() {
             let at = self.next_first(text, from);
             if at == text.len() {
                 return None;
             }
-            let byte = text[at];
-            from = match self.group_of(byte) {
+            width = if at - from < CLOSE {
+                (width * 2 + FIRST_WIDTH).min(LARGEST_BLOCK)
+            } else {
+                0
+            };
+            from = match self.group_of(text[at]) {
                 Some(group) => {
                     if group.stands(text, at) {
                         return Some(at);
                     }
-                    // a byte that can begin an opener often stands many times side by side, as in a line of slashes
-                    group.passed(byte, text, at + 1)
+                    self.passed(group, text, at, width)
                 }
                 None => at + 1,
             };

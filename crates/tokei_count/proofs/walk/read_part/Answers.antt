@@ -1,14 +1,17 @@
-use Rattle.std.proofs.Common.{◌≡◌, ◌∙◌, ℕ, ◌+◌, ◌-◌, ◌<◌, ◌≤◌, refl, sym, ap, subst, Some, List, length, take, drop, arith, length-drop}
+use Rattle.std.proofs.Common.{◌≡◌, ◌∙◌, ℕ, ◌+◌, ◌-◌, ◌<◌, ◌≤◌, refl, sym, ap, subst, Some, Option, ◌⊎◌, inl, inr, List, length, take, drop, arith, length-drop}
 use Rattle.std.proofs.lemmas.List.{drop-drop}
 use Rattle.tokei_count.specs.Class.{class_of}
 use Rattle.tokei_count.specs.Lines.{first_line, line_len}
-use Rattle.tokei_count.specs.Modes.{innermost}
+use Rattle.tokei_count.specs.Items.{Block}
+use Rattle.tokei_count.specs.Modes.{Chain, innermost}
+use Rattle.tokei_table.specs.Row.{Row}
 use Rattle.tokei_count.specs.Places.{block_from}
 use Rattle.tokei_count.specs.ReadingOf.{row_in, blocks_of}
 use Rattle.tokei_count.specs.Progress.{Leads, Goes, IsPart, ReadsLine, newlines}
 use Rattle.tokei_count.specs.Seen.{block_of, chain_of, mode_of}
 use Rattle.tokei_count.specs.Walked.{Moves}
-use Rattle.tokei_count.specs.declared.walk.Move.TheVariants.{Child}
+use Rattle.tokei_count.specs.declared.walk.Move.{Move}
+use Rattle.tokei_count.specs.declared.walk.Move.TheVariants.{On, Turn, Child}
 use Rattle.tokei_count.proofs.Blocks.{blocks_fit}
 use Rattle.tokei_count.proofs.Leading.{lead_none, line_len-drop}
 use Rattle.tokei_count.proofs.LineEnds.{end_is, end_within, end_behind, ends_more, first_line-low, first_line-high}
@@ -18,6 +21,13 @@ use Rattle.tokei_count.proofs.PartReading.{block_opens, child_read_at}
 use Rattle.tokei_count.proofs.Walking.{led_on, run_on, reached}
 use Rattle.tokei_count.proofs.walk.read_part.Goals as goal
 use Rattle.tokei_count.proofs.walk.read_part.Goals.{then-at-stop, else-at-stop}
+
+-- both take so many bytes
+goes_on_or_turns : (r : Row) (block : ℕ → List ℕ → Option Block) (l : ℕ) (c d : Chain) (text : List ℕ) (at : ℕ) (m : Move) (n : ℕ) → (m ≡ On n) ⊎ (m ≡ Turn n) → Moves r block l c d text at m → Goes r block l c n 1 d (drop at text)
+goes_on_or_turns r block l c d text at m n is moves = elim is [
+  | inl e ↦ subst (Moves r block l c d text at) e moves
+  | inr e ↦ subst (Moves r block l c d text at) e moves
+]
 
 pub loop-at-init : goal.loop-at-init
 loop-at-init c =
@@ -56,7 +66,7 @@ loop-at-preserved-then-end-at c =
     run_on (row_in c.args.part.now.reading.now) (blocks_of c.args.part.now.reading.now) c.args.part.now.behind_child text c.args.part.now.start c.loop-at.at at end c.loop-at.steps c.take_bytes-at.new.steps (chain_of c.args.stack.now.items) (chain_of c.loop-at.stack.items) c.loop-at-test.true c.loop-at.invariant.part c.loop-at.invariant.leads c.take_bytes-at.ensures.low c.take_bytes-at.ensures.counted went in
     let all : c.take_bytes-at.new.steps ≡ c.take_bytes-at.new.steps - (at - end) = omega (arith, c.take_bytes-at.ensures.high) in
     record {
-      same = c.look_ahead-ahead.ensures.same ∙ c.loop-at.invariant.same;
+      same = c.next_child-child.ensures.same ∙ c.loop-at.invariant.same;
       leads = subst (λ j. Leads (row_in c.args.part.now.reading.now) (blocks_of c.args.part.now.reading.now) c.args.part.now.behind_child (chain_of c.args.stack.now.items) (reached at end - c.args.part.now.start) j (chain_of c.loop-at.stack.items) (drop c.args.part.now.start text)) all
           (subst (λ m. Leads (row_in c.args.part.now.reading.now) (blocks_of c.args.part.now.reading.now) c.args.part.now.behind_child (chain_of c.args.stack.now.items) (m - c.args.part.now.start) c.take_bytes-at.new.steps (chain_of c.loop-at.stack.items) (drop c.args.part.now.start text)) (sym there) led);
       closable = c.loop-at.invariant.closable;
@@ -65,11 +75,43 @@ loop-at-preserved-then-end-at c =
       few = omega (arith, c.loop-at.invariant.few, c.loop-at.invariant.part.low, c.loop-at-test.true, c.take_bytes-at.ensures.low, c.take_bytes-at.ensures.counted);
       begun = omega (arith, c.take_bytes-at.ensures.high);
       high = omega (arith, c.take_bytes-at.ensures.high, stop_is, c.requires.begins.line, first_line-low (drop c.args.part.now.start text));
-      childless = λ p low high. c.look_ahead-ahead.ensures.childless p (omega (arith, low, c.take_bytes-at.ensures.low)) high;
+      childless = λ p low high. c.next_child-child.ensures.childless p (omega (arith, low, c.take_bytes-at.ensures.low)) high;
     }
 
-pub loop-at-preserved-in-On : goal.loop-at-preserved-in-On
-loop-at-preserved-in-On c =
+-- choices in an item lead on to behind its end, or to the line's end
+pub loop-at-preserved-in-Some : goal.loop-at-preserved-in-Some
+loop-at-preserved-in-Some c =
+    let p = c.args.part.now in
+    let text : List ℕ = p.reading.now.text.now in
+    let end : ℕ = p.end in
+    let at : ℕ = c.in_ok-at.at in
+    let e = c.in_ok-at.ensures in
+    let stop_is : c.line_stop-stop.result ≡ p.start + length (first_line (drop p.start text)) = end_is text p.start end c.line_stop-stop.result c.requires.begins.part.high c.requires.begins.line c.line_stop-stop.ensures.more c.line_stop-stop.ensures.last in
+    let here : reached c.loop-at.at end ≡ c.loop-at.at = omega (arith, c.loop-at-test.true) in
+    let low : p.start ≤ c.loop-at.at = omega (arith, here, c.loop-at.invariant.part.low) in
+    let behind : at ≤ end = omega (arith, e.line) in
+    let there : reached at end ≡ at = omega (arith, behind) in
+    let all : c.take_within.new.steps ≡ c.take_within.new.steps - (at - end) = omega (arith, behind) in
+    let led : Leads (row_in p.reading.now) (blocks_of p.reading.now) p.behind_child (chain_of c.args.stack.now.items) (c.loop-at.at - p.start) c.loop-at.steps (chain_of c.loop-at.stack.items) (drop p.start text) =
+    let none : c.loop-at.steps - (c.loop-at.at - end) ≡ c.loop-at.steps = omega (arith, c.loop-at-test.true) in
+    subst (λ j. Leads (row_in p.reading.now) (blocks_of p.reading.now) p.behind_child (chain_of c.args.stack.now.items) (c.loop-at.at - p.start) j (chain_of c.loop-at.stack.items) (drop p.start text)) none
+    (subst (λ m. Leads (row_in p.reading.now) (blocks_of p.reading.now) p.behind_child (chain_of c.args.stack.now.items) (m - p.start) (c.loop-at.steps - (c.loop-at.at - end)) (chain_of c.loop-at.stack.items) (drop p.start text)) here c.loop-at.invariant.leads) in
+    record {
+      same = c.loop-at.invariant.same;
+      leads = led_on (row_in p.reading.now) (blocks_of p.reading.now) p.behind_child text p.start c.loop-at.at (chain_of c.args.stack.now.items) (chain_of c.loop-at.stack.items) (chain_of c.take_within.new.stack.items)
+          (reached at end - p.start) c.loop-at.steps (at - c.loop-at.at) (c.take_within.new.steps - c.loop-at.steps) (c.take_within.new.steps - (at - end)) low led e.leads
+          (omega (arith, there, e.on, low)) (omega (arith, all, e.more));
+      closable = e.closable;
+      part = subst (IsPart text p.behind_child p.start) (sym there) e.part;
+      line = e.line ∙ ap (λ m. m + line_len (drop m text)) (sym there);
+      few = e.few;
+      begun = omega (arith, behind);
+      high = omega (arith, behind, stop_is, c.requires.begins.line, first_line-low (drop p.start text));
+      childless = λ q ahead high. c.loop-at.invariant.childless q (omega (arith, ahead, e.on)) high;
+    }
+
+pub loop-at-preserved : goal.loop-at-preserved
+loop-at-preserved c =
     let text : List ℕ = c.args.part.now.reading.now.text.now in
     let end : ℕ = c.args.part.now.end in
     let at : ℕ = c.take_bytes-at.result in
@@ -77,7 +119,7 @@ loop-at-preserved-in-On c =
     let next : ℕ = at + c.in-On.len in
     let stop_is : c.line_stop-stop.result ≡ c.args.part.now.start + length (first_line (drop c.args.part.now.start text)) = end_is text c.args.part.now.start end c.line_stop-stop.result c.requires.begins.part.high c.requires.begins.line c.line_stop-stop.ensures.more c.line_stop-stop.ensures.last in
     let goes : Goes (row_in c.args.part.now.reading.now) (blocks_of c.args.part.now.reading.now) c.args.part.now.behind_child (chain_of c.loop-at.stack.items) c.in-On.len 1 (chain_of c.take_choice.new.stack.items) (drop at text) =
-    subst (Moves (row_in c.args.part.now.reading.now) (blocks_of c.args.part.now.reading.now) c.args.part.now.behind_child (chain_of c.loop-at.stack.items) (chain_of c.take_choice.new.stack.items) text at) c.in-On.is c.in_ok-len.ensures.takes in
+    goes_on_or_turns (row_in c.args.part.now.reading.now) (blocks_of c.args.part.now.reading.now) c.args.part.now.behind_child (chain_of c.loop-at.stack.items) (chain_of c.take_choice.new.stack.items) text at c.in_ok-len.field-0 c.in-On.len c.in-On.is c.in_ok-len.ensures.takes in
     let part : IsPart text c.args.part.now.behind_child c.args.part.now.start at = c.take_bytes-at.ensures.part in
     let line : end ≡ at + line_len (drop at text) = c.take_bytes-at.ensures.line in
     let went : Leads (row_in c.args.part.now.reading.now) (blocks_of c.args.part.now.reading.now) c.args.part.now.behind_child (chain_of c.loop-at.stack.items) (at - c.loop-at.at) (at - c.loop-at.at) (chain_of c.loop-at.stack.items) (drop c.loop-at.at text) =
@@ -90,7 +132,7 @@ loop-at-preserved-in-On c =
     let rest_is : drop c.in-On.len (drop at text) ≡ drop next text = drop-drop c.in-On.len at text in
     let line_next : end ≡ next + line_len (drop next text) = omega (arith, line, goes.within, line_is, ap line_len rest_is) in
     record {
-      same = c.finds_child-opens.ensures.same ∙ c.look_ahead-ahead.ensures.same ∙ c.loop-at.invariant.same;
+      same = c.finds_child-opens.ensures.same ∙ c.next_child-child.ensures.same ∙ c.loop-at.invariant.same;
       leads = led_on (row_in c.args.part.now.reading.now) (blocks_of c.args.part.now.reading.now) c.args.part.now.behind_child text c.args.part.now.start at (chain_of c.args.stack.now.items) (chain_of c.loop-at.stack.items) (chain_of c.take_choice.new.stack.items)
           (reached next end - c.args.part.now.start) c.take_bytes-at.new.steps c.in-On.len 1 (c.take_choice.new.steps - (next - end)) part.low
           led
@@ -101,11 +143,11 @@ loop-at-preserved-in-On c =
       few = omega (arith, c.loop-at.invariant.few, c.loop-at.invariant.part.low, c.loop-at-test.true, c.take_bytes-at.ensures.low, c.take_bytes-at.ensures.counted, goes.some, part.low, c.in_ok-len.ensures.counted);
       begun = omega (arith, behind);
       high = omega (arith, behind, stop_is, c.requires.begins.line, first_line-low (drop c.args.part.now.start text));
-      childless = λ p low high. c.look_ahead-ahead.ensures.childless p (omega (arith, low)) high;
+      childless = λ p low high. c.next_child-child.ensures.childless p (omega (arith, low)) high;
     }
 
-pub loop-at-preserved : goal.loop-at-preserved
-loop-at-preserved c =
+pub loop-at-preserved-in-Rest-1 : goal.loop-at-preserved-in-Rest-1
+loop-at-preserved-in-Rest-1 c =
     let text : List ℕ = c.args.part.now.reading.now.text.now in
     let end : ℕ = c.args.part.now.end in
     let stop : ℕ = c.line_stop-stop.result in
@@ -126,7 +168,7 @@ loop-at-preserved c =
     let there : reached stop end ≡ at + line_len (drop at text) = omega (arith, line, stop_here, low) in
     let line_next : line_len (drop (at + line_len (drop at text)) text) ≡ 0 = ap line_len (sym (drop-drop (line_len (drop at text)) at text)) ∙ line_len-drop (line_len (drop at text)) (drop at text) (omega arith) ∙ omega arith in
     record {
-      same = c.finds_child-opens.ensures.same ∙ c.look_ahead-ahead.ensures.same ∙ c.loop-at.invariant.same;
+      same = c.finds_child-opens.ensures.same ∙ c.next_child-child.ensures.same ∙ c.loop-at.invariant.same;
       leads = led_on (row_in c.args.part.now.reading.now) (blocks_of c.args.part.now.reading.now) c.args.part.now.behind_child text c.args.part.now.start at (chain_of c.args.stack.now.items) (chain_of c.loop-at.stack.items) (chain_of c.take_choice.new.stack.items)
           (reached stop end - c.args.part.now.start) c.take_bytes-at.new.steps (line_len (drop at text)) (1 - newlines (drop at text)) (c.take_choice.new.steps - (stop - end)) part.low
           led
@@ -137,7 +179,7 @@ loop-at-preserved c =
       few = omega (arith, c.loop-at.invariant.few, c.loop-at.invariant.part.low, c.loop-at-test.true, c.take_bytes-at.ensures.low, c.take_bytes-at.ensures.counted, goes.some, part.low, c.in_ok-len.ensures.counted, stop_here, low);
       begun = omega (arith, line, stop_here, high, c.in_ok-len.ensures.counted);
       high = omega arith;
-      childless = λ p low high. c.look_ahead-ahead.ensures.childless p (omega (arith, low, stop_here)) high;
+      childless = λ p low high. c.next_child-child.ensures.childless p (omega (arith, low, stop_here)) high;
     }
 
 pub returns-in-Child-clause-reads : goal.returns-in-Child-clause-reads
@@ -222,8 +264,8 @@ returns-clause-reads c =
 pub line_stop-stop-requires : goal.line_stop-stop-requires
 line_stop-stop-requires c = end_within c.args.part.now.reading.now.text.now c.args.part.now.start c.args.part.now.end c.requires.begins.part.high c.requires.begins.line
 
-pub look_ahead-ahead-requires-clause-here : goal.look_ahead-ahead-requires-clause-here
-look_ahead-ahead-requires-clause-here c =
+pub next_child-child-requires-clause-here : goal.next_child-child-requires-clause-here
+next_child-child-requires-clause-here c =
     let text : List ℕ = c.args.part.now.reading.now.text.now in
     let here : reached c.loop-at.at c.args.part.now.end ≡ c.loop-at.at = omega (arith, c.loop-at-test.true) in
     record {
@@ -231,8 +273,8 @@ look_ahead-ahead-requires-clause-here c =
       line = c.loop-at.invariant.line ∙ ap (λ m. m + line_len (drop m text)) here;
     }
 
-pub look_ahead-ahead-requires-clause-inside : goal.look_ahead-ahead-requires-clause-inside
-look_ahead-ahead-requires-clause-inside c =
+pub next_child-child-requires-clause-inside : goal.next_child-child-requires-clause-inside
+next_child-child-requires-clause-inside c =
     let text : List ℕ = c.args.part.now.reading.now.text.now in
     let end : ℕ = c.args.part.now.end in
     let at : ℕ = c.loop-at.at in
@@ -241,14 +283,14 @@ look_ahead-ahead-requires-clause-inside c =
     let line : end ≡ at + line_len (drop at text) = c.loop-at.invariant.line ∙ ap (λ m. m + line_len (drop m text)) here in
     end_behind text at end c.line_stop-stop.result part.high line c.loop-at-test.true c.line_stop-stop.ensures.more c.line_stop-stop.ensures.last
 
-pub loop-at-smaller : goal.loop-at-smaller
-loop-at-smaller c =
+pub loop-at-smaller-in-Rest-1 : goal.loop-at-smaller-in-Rest-1
+loop-at-smaller-in-Rest-1 c =
     let text : List ℕ = c.args.part.now.reading.now.text.now in
     let stop_is : c.line_stop-stop.result ≡ c.args.part.now.start + length (first_line (drop c.args.part.now.start text)) = end_is text c.args.part.now.start c.args.part.now.end c.line_stop-stop.result c.requires.begins.part.high c.requires.begins.line c.line_stop-stop.ensures.more c.line_stop-stop.ensures.last in
     omega (arith, c.loop-at-test.true, stop_is, c.requires.begins.line, first_line-low (drop c.args.part.now.start text))
 
-pub look_ahead-ahead-requires-clause-line : goal.look_ahead-ahead-requires-clause-line
-look_ahead-ahead-requires-clause-line c =
+pub next_child-child-requires-clause-line : goal.next_child-child-requires-clause-line
+next_child-child-requires-clause-line c =
     let text : List ℕ = c.args.part.now.reading.now.text.now in
     let end : ℕ = c.args.part.now.end in
     let at : ℕ = c.loop-at.at in
@@ -300,5 +342,10 @@ overflow_add-at c =
     let stop_is : c.line_stop-stop.result ≡ c.args.part.now.start + length (first_line (drop c.args.part.now.start text)) = end_is text c.args.part.now.start end c.line_stop-stop.result c.requires.begins.part.high c.requires.begins.line c.line_stop-stop.ensures.more c.line_stop-stop.ensures.last in
     let line : end ≡ at + line_len (drop at text) = c.take_bytes-at.ensures.line in
     let goes : Goes (row_in c.args.part.now.reading.now) (blocks_of c.args.part.now.reading.now) c.args.part.now.behind_child (chain_of c.loop-at.stack.items) c.in-On.len 1 (chain_of c.take_choice.new.stack.items) (drop at text) =
-    subst (Moves (row_in c.args.part.now.reading.now) (blocks_of c.args.part.now.reading.now) c.args.part.now.behind_child (chain_of c.loop-at.stack.items) (chain_of c.take_choice.new.stack.items) text at) c.in-On.is c.in_ok-len.ensures.takes in
+    goes_on_or_turns (row_in c.args.part.now.reading.now) (blocks_of c.args.part.now.reading.now) c.args.part.now.behind_child (chain_of c.loop-at.stack.items) (chain_of c.take_choice.new.stack.items) text at c.in_ok-len.field-0 c.in-On.len c.in-On.is c.in_ok-len.ensures.takes in
     omega (arith, line, goes.within, stop_is, c.requires.begins.line, first_line-low (drop c.args.part.now.start text), c.line_stop-stop.type_inv)
+
+pub plain_end-plain-requires : goal.plain_end-plain-requires
+plain_end-plain-requires c =
+    let within = end_within c.args.part.now.reading.now.text.now c.args.part.now.start c.args.part.now.end c.requires.begins.part.high c.requires.begins.line in
+    omega (arith, within, c.min.ensures)

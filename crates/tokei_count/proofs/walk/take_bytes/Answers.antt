@@ -30,11 +30,6 @@ loop-next-init c =
           (lead_none (row_in c.args.place.now.reading.now) (blocks_of c.args.place.now.reading.now) c.args.place.now.behind_child (chain_of c.args.stack.now) (drop c.args.place.now.at c.args.place.now.reading.now.text.now));
     }
 
-pub plain_end-plain-requires : goal.plain_end-plain-requires
-plain_end-plain-requires c =
-    let within : c.args.place.now.end ≤ length c.args.place.now.reading.now.text.now = end_within c.args.place.now.reading.now.text.now c.args.place.now.at c.args.place.now.end c.requires.here.part.high c.requires.here.line in
-    omega (arith, within, c.min-to.ensures)
-
 pub choice_at-byte-requires-clause-here : goal.choice_at-byte-requires-clause-here
 choice_at-byte-requires-clause-here c = record { part = c.loop-next.invariant.part; line = c.loop-next.invariant.line }
 
@@ -44,17 +39,17 @@ choice_at-byte-requires-clause-childless c = λ other _ _. absurd (not_false oth
 pub choice_at-byte-requires-clause-room : goal.choice_at-byte-requires-clause-room
 choice_at-byte-requires-clause-room c =
     let within : c.args.place.now.end ≤ length c.args.place.now.reading.now.text.now = end_within c.args.place.now.reading.now.text.now c.args.place.now.at c.args.place.now.end c.requires.here.part.high c.requires.here.line in
-    omega (arith, within, c.loop-next-test.true, c.plain_end-plain.ensures.high (omega (arith, c.loop-next.invariant.low, c.loop-next-test.true)), c.min-to.ensures, c.loop-next.invariant.counted, c.loop-next.invariant.low, c.requires.few)
+    omega (arith, within, c.loop-next-test.true, c.requires.within (omega (arith, c.loop-next.invariant.low, c.loop-next-test.true)), c.loop-next.invariant.counted, c.loop-next.invariant.low, c.requires.few)
 
 -- nothing else begins at the byte
 pub choice_at-byte-requires-clause-plain : goal.choice_at-byte-requires-clause-plain
 choice_at-byte-requires-clause-plain c = λ _.
     let text : List ℕ = c.args.place.now.reading.now.text.now in
     let next : ℕ = c.loop-next.next in
-    let last = c.plain_end-plain.ensures.high (omega (arith, c.loop-next.invariant.low, c.loop-next-test.true)) in
+    let last = c.requires.within (omega (arith, c.loop-next.invariant.low, c.loop-next-test.true)) in
     let within : c.args.place.now.end ≤ length text = end_within text c.args.place.now.at c.args.place.now.end c.requires.here.part.high c.requires.here.line in
-    plain_byte_at (row_in c.args.place.now.reading.now) c.args.place.now.reading.now.sound (mode_of c.innermost-mode.result) (blocks_of c.args.place.now.reading.now c.args.place.now.behind_child (drop next text)) text next c.args.place.now.reading.now.matchers.now c.args.place.now.reading.now.matched (omega (arith, c.loop-next-test.true, last, c.min-to.ensures, within))
-    (c.plain_end-plain.ensures.plain next c.loop-next.invariant.low c.loop-next-test.true) (λ plain. c.requires.childless (sym c.innermost-mode.ensures ∙ plain) next c.loop-next.invariant.low (omega (arith, c.loop-next-test.true, last, c.min-to.ensures)))
+    plain_byte_at (row_in c.args.place.now.reading.now) c.args.place.now.reading.now.sound (mode_of c.args.mode) (blocks_of c.args.place.now.reading.now c.args.place.now.behind_child (drop next text)) text next c.args.place.now.reading.now.matchers.now c.args.place.now.reading.now.matched (omega (arith, c.loop-next-test.true, last, within))
+    (c.requires.plain next c.loop-next.invariant.low c.loop-next-test.true) (λ plain. c.requires.childless (sym c.requires.mode ∙ plain) next c.loop-next.invariant.low (omega (arith, c.loop-next-test.true, last)))
 
 pub loop-next-preserved : goal.loop-next-preserved
 loop-next-preserved c =
@@ -62,11 +57,11 @@ loop-next-preserved c =
     let next : ℕ = c.loop-next.next in
     let u : List ℕ = drop next text in
     let within : c.args.place.now.end ≤ length text = end_within text c.args.place.now.at c.args.place.now.end c.requires.here.part.high c.requires.here.line in
-    let last = c.plain_end-plain.ensures.high (omega (arith, c.loop-next.invariant.low, c.loop-next-test.true)) in
-    let more : next < c.args.place.now.end = omega (arith, c.loop-next-test.true, last, c.min-to.ensures) in
-    let ahead : next < c.args.child = omega (arith, c.loop-next-test.true, last, c.min-to.ensures) in
+    let last = c.requires.within (omega (arith, c.loop-next.invariant.low, c.loop-next-test.true)) in
+    let more : next < c.args.place.now.end = omega (arith, c.loop-next-test.true, last) in
+    let ahead : next < c.args.to = omega (arith, c.loop-next-test.true, last) in
     let some : 0 < line_len u = omega (arith, more, c.loop-next.invariant.line) in
-    let byte = subst (λ m. IsPlainByte c.args.place.now.reading.now.matchers.now m (get_or text next 0)) c.innermost-mode.ensures (c.plain_end-plain.ensures.plain next c.loop-next.invariant.low c.loop-next-test.true) in
+    let byte = subst (λ m. IsPlainByte c.args.place.now.reading.now.matchers.now m (get_or text next 0)) c.requires.mode (c.requires.plain next c.loop-next.invariant.low c.loop-next-test.true) in
     let goes : Goes (row_in c.args.place.now.reading.now) (blocks_of c.args.place.now.reading.now) c.args.place.now.behind_child (chain_of c.args.stack.now) 1 1 (chain_of c.args.stack.now) u =
     goes_byte (row_in c.args.place.now.reading.now) (blocks_of c.args.place.now.reading.now) c.args.place.now.behind_child c.args.place.now.reading.now.sound (blocks_fit c.args.place.now.reading.now).in_line (chain_of c.args.stack.now) u c.requires.closable some
     (plain_byte_at (row_in c.args.place.now.reading.now) c.args.place.now.reading.now.sound (innermost (chain_of c.args.stack.now)) (blocks_of c.args.place.now.reading.now c.args.place.now.behind_child u) text next c.args.place.now.reading.now.matchers.now c.args.place.now.reading.now.matched (omega (arith, more, within)) byte (λ plain. c.requires.childless plain next c.loop-next.invariant.low ahead)) in

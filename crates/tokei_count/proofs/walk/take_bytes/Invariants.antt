@@ -16,4 +16,4 @@ invariant-loop-next l = record {
 }
 
 abbrev pub decreases-loop-next : goal.decreases-loop-next
-decreases-loop-next l = l.plain - l.next
+decreases-loop-next l = l.to - l.next

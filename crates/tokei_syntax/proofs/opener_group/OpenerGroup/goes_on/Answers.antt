@@ -1,4 +1,4 @@
-use Rattle.std.proofs.Common.{◌∙◌, ap, arith}
+use Rattle.std.proofs.Common.{◌∙◌, ap, false, arith}
 use Rattle.std.specs.List.{list_any}
 use Rattle.tokei_syntax.specs.RowOf.{tokens_of}
 use Rattle.tokei_syntax.specs.OpenerGroups.{goes_on_with}
@@ -7,8 +7,8 @@ use Rattle.tokei_syntax.proofs.opener_group.OpenerGroup.goes_on.Goals as goal
 
 pub returns : goal.returns
 returns c =
-    c.index.ensures
+    c.has.ensures
     ∙ flag_is goes_on_with
-    (tokens_of c.self.inside.openers.items) c.self.inside.seconds.items c.self.invariant.0 c.args.byte
-    (omega arith) c.index.result.now
+    (tokens_of c.self.inside.openers.items) c.self.inside.seconds c.self.invariant.0 c.args.byte
+    (omega arith) false
     ∙ ap (list_any (goes_on_with c.args.byte)) c.self.view_is

@@ -2,11 +2,12 @@ use Rattle.std.proofs.Common.{◌<◌, length, get_or, sym, refl, ◌∙◌, ari
 use Rattle.tokei_syntax.proofs.FirstPlaces.{first_at, first_none}
 use Rattle.tokei_syntax.proofs.OpenerGroups.{group_at, none_up_to, none_behind}
 use Rattle.tokei_syntax.proofs.opener_index.OpenerIndex.first_in.Goals as goal
+use Rattle.tokei_syntax.proofs.opener_index.OpenerIndex.first_in.Goals.{then-at-from-lt-CLOSE, else-at-from-lt-CLOSE}
 
 pub returns-then-at-text : goal.returns-then-at-text
 returns-then-at-text c =
     let before = none_up_to c.args.self.now c.args.text.now c.loop-from.from c.next_first-at.result
-    c.loop-from.invariant.1 c.next_first-at.ensures.none in
+    c.loop-from.invariant.none c.next_first-at.ensures.none in
     first_none c.args.self.now c.args.text.now (λ k h. before k (omega (arith, h, c.if-at-text.true)))
 
 pub returns-then-stands : goal.returns-then-stands
@@ -14,7 +15,7 @@ returns-then-stands c =
     let at = c.next_first-at.result in
     let inside : at < length c.args.text.now = omega (arith, c.next_first-at.ensures.within, c.if-at-text.false) in
     first_at c.args.self.now c.args.text.now at inside
-    (none_up_to c.args.self.now c.args.text.now c.loop-from.from at c.loop-from.invariant.1
+    (none_up_to c.args.self.now c.args.text.now c.loop-from.from at c.loop-from.invariant.none
     c.next_first-at.ensures.none)
     (sym (group_at c.in-Some.group.now c.args.self.now
     (get_or c.args.text.now at 0) c.in-Some.ensures.group c.args.text.now at inside refl)
@@ -25,18 +26,20 @@ loop-from-preserved-else-stands c =
     let at = c.next_first-at.result in
     let text = c.args.text.now in
     let os = c.args.self.now in
-    let byte = get_or text at 0 in
-    let inside : at < length text = omega (arith, c.next_first-at.ensures.within, c.if-at-text.false) in (
-      c.passed-from.ensures.within,
-      none_behind os text at c.passed-from.result
-          (none_up_to os text c.loop-from.from at c.loop-from.invariant.1 c.next_first-at.ensures.none)
-          (sym (group_at c.in-Some.group.now os byte c.in-Some.ensures.group text at inside refl)
+    let inside : at < length text = omega (arith, c.next_first-at.ensures.within, c.if-at-text.false) in
+    record {
+      within = c.passed-from.ensures.within;
+      none = none_behind os text at c.passed-from.result
+          (none_up_to os text c.loop-from.from at c.loop-from.invariant.none c.next_first-at.ensures.none)
+          (sym (group_at c.in-Some.group.now os (get_or text at 0) c.in-Some.ensures.group text at inside refl)
           ∙ sym c.stands.ensures ∙ c.if-stands.false)
-          (λ k a h. sym (group_at c.in-Some.group.now os byte c.in-Some.ensures.group text k
-          (omega (arith, h, c.passed-from.ensures.within)) (c.passed-from.ensures.run k a h))
-          ∙ c.passed-from.ensures.none k a h),
-    )
+          c.passed-from.ensures.none;
+      narrow = elim c.if-at-from-lt-CLOSE.branch [
+        | then-at-from-lt-CLOSE w ↦ omega (arith, w.min-width.ensures, w.width-is)
+        | else-at-from-lt-CLOSE w ↦ omega (arith, w.width-is)
+      ];
+    }
 
 pub returns : goal.returns
 returns c = first_none c.args.self.now c.args.text.now
-    (λ k h. c.loop-from.invariant.1 k (omega (arith, h, c.loop-from-test.false)))
+    (λ k h. c.loop-from.invariant.none k (omega (arith, h, c.loop-from-test.false)))
