@@ -54,18 +54,26 @@ pub set : (x : Bool) → flag x ≡ 1 → x ≡ true
 set true h = refl
 set false h = absurd (omega (arith, h))
 
--- one of a byte that is named four times is that byte
-four_of_one : (x b : ℕ) → is_one_of (b ∷ b ∷ b ∷ b ∷ []) x ≡ (x == b)
-four_of_one x b = by (x == b)
-  where
-    by : (y : Bool) → cond y true (cond y true (cond y true (cond y true false))) ≡ y
-    by true = refl
-    by false = refl
+-- the bits of m say of each of 32 places from i on whether p holds there
+module _ (p : ℕ → Bool) (i m : ℕ) (inside : (k : ℕ) → k < 32 → bit_at m k ≡ flag (p (i + k))) (past : (k : ℕ) → 32 ≤ k → bit_at m k ≡ 0) where
+  pub none_told : (n : ℕ) → n ≤ 32 → ((k : ℕ) → k < n → bit_at m k ≡ 0) → (q : ℕ) → i ≤ q → q < i + n → p q ≡ false
+  none_told n most clear q low high =
+      let place : i + (q - i) ≡ q = omega (arith, low) in
+      ap p (sym place) ∙ unset (p (i + (q - i))) (sym (inside (q - i) (omega (arith, low, high, most))) ∙ clear (q - i) (omega (arith, low, high)))
+
+  pub one_told : (k : ℕ) → k < 32 → bit_at m k ≡ 1 → p (i + k) ≡ true
+  one_told k l one = set (p (i + k)) (sym (inside k l) ∙ one)
+
+  pub low_told : (k : ℕ) → bit_at m k ≡ 1 → k < 32
+  low_told k one = elim (cases_lt k 32) [
+    | inl low ↦ low
+    | inr high ↦ absurd (omega (arith, one, past k high))
+  ]
 
 -- of the 32 bytes of the text from place i on h is the mask of those in the list, f of the first, and b of the seconds behind
 module _ (bytes : List ℕ) (first : ℕ) (seconds text : List ℕ) (i h f b m : ℕ) (room : i + 32 < length text)
     (here : h ≡ mask_l (map (is_one_of bytes) (chunk i 32 text)))
-    (firsts : f ≡ mask_l (map (is_one_of (first ∷ first ∷ first ∷ first ∷ [])) (chunk i 32 text)))
+    (firsts : f ≡ mask_l (map (λ x. x == first) (chunk i 32 text)))
     (behind : b ≡ mask_l (map (is_one_of seconds) (chunk (i + 1) 32 text)))
     (small : f < 2 ^ 64)
     (marked : m ≡ bit_and h (bit_or (bit_not w64 f) b)) where
@@ -76,31 +84,82 @@ module _ (bytes : List ℕ) (first : ℕ) (seconds text : List ℕ) (i h f b m :
       ∙ bit_of_three h f b k small (omega (arith, l))
       ∙ ap₂ (λ x y. min x y) (bit_in (is_one_of bytes) 32 text i h (omega (arith, room)) here k l)
       (ap₂ (λ x y. max x y)
-      (ap (λ n. 1 - n) (bit_in (is_one_of (first ∷ first ∷ first ∷ first ∷ [])) 32 text i f (omega (arith, room)) firsts k l
-      ∙ ap (λ y. cond y 1 0) (four_of_one (get_or text (i + k) 0) first)))
+      (ap (λ n. 1 - n) (bit_in (λ x. x == first) 32 text i f (omega (arith, room)) firsts k l))
       (bit_in (is_one_of seconds) 32 text (i + 1) b (omega (arith, room)) behind k l
       ∙ ap (λ j. cond (is_one_of seconds (get_or text j 0)) 1 0) next))
       ∙ by_tests (is_one_of bytes (get_or text (i + k) 0)) (get_or text (i + k) 0 == first) (is_one_of seconds (get_or text (i + k + 1) 0))
 
+  none_past : (k : ℕ) → 32 ≤ k → bit_at m k ≡ 0
+  none_past k past =
+      let none : bit_at h k ≡ 0 = bit_past (is_one_of bytes) 32 text i h (omega (arith, room)) here k past in
+      ap (λ n. bit_at n k) marked ∙ bit_at_and h (bit_or (bit_not w64 f) b) k
+      ∙ ap (λ n. min n (bit_at (bit_or (bit_not w64 f) b) k)) none ∙ zero-min (bit_at (bit_or (bit_not w64 f) b) k)
+
   pub none_here : (n : ℕ) → n ≤ 32 → ((k : ℕ) → k < n → bit_at m k ≡ 0) → (p : ℕ) → i ≤ p → p < i + n
       → counts_at bytes first seconds text p ≡ false
-  none_here n most clear p low high =
-      let place : i + (p - i) ≡ p = omega (arith, low) in
-      ap (counts_at bytes first seconds text) (sym place)
-      ∙ unset (counts_at bytes first seconds text (i + (p - i))) (sym (bit_here (p - i) (omega (arith, low, high, most))) ∙ clear (p - i) (omega (arith, low, high)))
+  none_here = none_told (counts_at bytes first seconds text) i m bit_here none_past
 
   pub one_here : (k : ℕ) → k < 32 → bit_at m k ≡ 1 → counts_at bytes first seconds text (i + k) ≡ true
-  one_here k l one = set (counts_at bytes first seconds text (i + k)) (sym (bit_here k l) ∙ one)
+  one_here = one_told (counts_at bytes first seconds text) i m bit_here none_past
 
   pub bit_low : (k : ℕ) → bit_at m k ≡ 1 → k < 32
-  bit_low k one = elim (cases_lt k 32) [
-    | inl inside ↦ inside
-    | inr past ↦
-        let none : bit_at h k ≡ 0 = bit_past (is_one_of bytes) 32 text i h (omega (arith, room)) here k past in
-        absurd (omega (
-          arith,
-          one,
-          ap (λ n. bit_at n k) marked ∙ bit_at_and h (bit_or (bit_not w64 f) b) k
-              ∙ ap (λ n. min n (bit_at (bit_or (bit_not w64 f) b) k)) none ∙ zero-min (bit_at (bit_or (bit_not w64 f) b) k),
-        ))
-  ]
+  bit_low = low_told (counts_at bytes first seconds text) i m bit_here none_past
+
+-- a bit of the first mask that the second one hasn't, or one of the second that the third one has
+bit_of_two : (o f b k : ℕ) → f < 2 ^ 64 → k < 64
+    → bit_at (bit_or (bit_and o (bit_not w64 f)) (bit_and f b)) k ≡ max (min (bit_at o k) (1 - bit_at f k)) (min (bit_at f k) (bit_at b k))
+bit_of_two o f b k small within =
+    bit_at_or (bit_and o (bit_not w64 f)) (bit_and f b) k
+    ∙ ap₂ (λ x y. max x y) (bit_at_and o (bit_not w64 f) k ∙ ap (λ n. min (bit_at o k) n) (bit_at_not w64 f k small within)) (bit_at_and f b k)
+
+two_by_tests : (x y z : Bool) → max (min (flag x) (1 - flag y)) (min (flag y) (flag z)) ≡ flag (cond x true (cond y true false) && (not y || cond z true false))
+two_by_tests true true true = refl
+two_by_tests true true false = refl
+two_by_tests true false true = refl
+two_by_tests true false false = refl
+two_by_tests false true true = refl
+two_by_tests false true false = refl
+two_by_tests false false true = refl
+two_by_tests false false false = refl
+
+-- the same for two bytes, of which o marks the other one, and for one second
+module _ (other first second : ℕ) (text : List ℕ) (i o f b m : ℕ) (room : i + 32 < length text)
+    (others : o ≡ mask_l (map (λ x. x == other) (chunk i 32 text)))
+    (firsts : f ≡ mask_l (map (λ x. x == first) (chunk i 32 text)))
+    (behind : b ≡ mask_l (map (λ x. x == second) (chunk (i + 1) 32 text)))
+    (small : f < 2 ^ 64)
+    (marked : m ≡ bit_or (bit_and o (bit_not w64 f)) (bit_and f b)) where
+  two_here : (k : ℕ) → k < 32 → bit_at m k ≡ flag (counts_at (other ∷ first ∷ []) first (second ∷ []) text (i + k))
+  two_here k l =
+      let next : i + 1 + k ≡ i + k + 1 = omega arith in
+      let x : ℕ = get_or text (i + k) 0 in
+      let y : ℕ = get_or text (i + k + 1) 0 in
+      let at_first : bit_at f k ≡ flag (x == first) = bit_in (λ x. x == first) 32 text i f (omega (arith, room)) firsts k l in
+      let at_other : bit_at o k ≡ flag (x == other) = bit_in (λ x. x == other) 32 text i o (omega (arith, room)) others k l in
+      let at_second : bit_at b k ≡ flag (y == second) =
+      bit_in (λ x. x == second) 32 text (i + 1) b (omega (arith, room)) behind k l
+      ∙ ap (λ j. flag (get_or text j 0 == second)) next in
+      ap (λ n. bit_at n k) marked
+      ∙ bit_of_two o f b k small (omega (arith, l))
+      ∙ ap₂ (λ u v. max u v) (ap₂ (λ u v. min u v) at_other (ap (λ n. 1 - n) at_first)) (ap₂ (λ u v. min u v) at_first at_second)
+      ∙ two_by_tests (x == other) (x == first) (y == second)
+
+  two_past : (k : ℕ) → 32 ≤ k → bit_at m k ≡ 0
+  two_past k past =
+      let no_other : bit_at o k ≡ 0 = bit_past (λ x. x == other) 32 text i o (omega (arith, room)) others k past in
+      let no_first : bit_at f k ≡ 0 = bit_past (λ x. x == first) 32 text i f (omega (arith, room)) firsts k past in
+      ap (λ n. bit_at n k) marked
+      ∙ bit_at_or (bit_and o (bit_not w64 f)) (bit_and f b) k
+      ∙ ap₂ (λ u v. max u v)
+      (bit_at_and o (bit_not w64 f) k ∙ ap (λ n. min n (bit_at (bit_not w64 f) k)) no_other ∙ zero-min (bit_at (bit_not w64 f) k))
+      (bit_at_and f b k ∙ ap (λ n. min n (bit_at b k)) no_first ∙ zero-min (bit_at b k))
+
+  pub none_of_two : (n : ℕ) → n ≤ 32 → ((k : ℕ) → k < n → bit_at m k ≡ 0) → (p : ℕ) → i ≤ p → p < i + n
+      → counts_at (other ∷ first ∷ []) first (second ∷ []) text p ≡ false
+  none_of_two = none_told (counts_at (other ∷ first ∷ []) first (second ∷ []) text) i m two_here two_past
+
+  pub one_of_two : (k : ℕ) → k < 32 → bit_at m k ≡ 1 → counts_at (other ∷ first ∷ []) first (second ∷ []) text (i + k) ≡ true
+  one_of_two = one_told (counts_at (other ∷ first ∷ []) first (second ∷ []) text) i m two_here two_past
+
+  pub low_of_two : (k : ℕ) → bit_at m k ≡ 1 → k < 32
+  low_of_two = low_told (counts_at (other ∷ first ∷ []) first (second ∷ []) text) i m two_here two_past

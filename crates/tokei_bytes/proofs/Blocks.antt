@@ -75,6 +75,21 @@ mask_of_four (a ∷ b ∷ []) v four long = absurd (omega arith)
 mask_of_four (a ∷ b ∷ c ∷ []) v four long = absurd (omega arith)
 mask_of_four (a ∷ b ∷ c ∷ d ∷ e ∷ bs) v four long = absurd (omega arith)
 
+-- `to_bitmask` of one comparison
+one_top : (p : Bool) → top 7 (cond p 255 0) ≡ p
+one_top true = refl
+one_top false = refl
+
+tops_of_one : (b : ℕ) (v : List ℕ) → map (top 7) (map (λ x. hit x b) v) ≡ map (λ x. x == b) v
+tops_of_one b [] = refl
+tops_of_one b (x ∷ v) = ap₂ (λ y r. y ∷ r) (one_top (eqb x b)) (tops_of_one b v)
+
+pub mask_of_one : (b : ℕ) (v : List ℕ) → length v ≡ 32 → mask_l (map (top 7) (zip2 hit v (replicate 32 b))) % 2 ^ 64 ≡ mask_l (map (λ x. x == b) v)
+mask_of_one b v long =
+    ap (λ l. mask_l (map (top 7) l) % 2 ^ 64) (zip2_splat hit v 32 b long)
+    ∙ ap (λ l. mask_l l % 2 ^ 64) (tops_of_one b v)
+    ∙ mask_l-mod (map (λ x. x == b) v) 64 (omega (arith, length-map v (λ x. x == b)))
+
 -- a lane of the four comparisons by which it is none of them
 abbrev pub miss : ℕ → ℕ → ℕ
 miss x y = cond (not (eqb x y)) 255 0

@@ -22,6 +22,14 @@ pub(crate) fn marks(bytes: [u8; 4], lanes: u8x32) -> u64
     (front | back).to_bitmask()
 }
 
+/// Bit k is set where lane k is the byte: one comparison, where four of the same byte would be four.
+#[inline(always)]
+pub(crate) fn marks_of_one(byte: u8, lanes: u8x32) -> u64
+    ensures { result ≡ mask_l (map (λ x. x == byte) lanes) }
+{
+    lanes.simd_eq(u8x32::splat(byte)).to_bitmask()
+}
+
 /// The first place of the `BLOCK` places of the text from `from` on whose byte is one of the four, or the place behind
 /// them where there is none. A place counts the bytes of the text before it.
 #[inline(always)]

@@ -1,5 +1,5 @@
 -- What a part counts as: the first of ten rules that fits.
-use Rattle.std.specs.Prelude.{ℕ, Bool, true, false, ◌&&◌, ◌||◌, not, if◌then◌else◌, List, None, Some, codes}
+use Rattle.std.specs.Prelude.{ℕ, Bool, true, false, ◌&&◌, ◌||◌, not, if◌then◌else◌, List, Option, option_map, None, Some, codes}
 use Rattle.std.specs.List.{list_any}
 use Rattle.std.specs.Str.{bytes_eq}
 use Rattle.tokei_table.specs.Bytes.{begins, ends, trim, all_blank}
@@ -25,6 +25,10 @@ is_doc_string DocString = true
 is_doc_string VerbatimString = false
 is_doc_string OrdinaryString = false
 is_doc_string MultiLineComment = false
+
+-- the kind of the item, in plain text none
+abbrev pub kind_in : Mode → Option Kind
+kind_in m = option_map (λ e. e.kind) m
 
 abbrev pub is_plain : Mode → Bool
 is_plain None = true

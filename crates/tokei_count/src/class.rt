@@ -2,7 +2,8 @@
 ghost use Rattle.std.specs.Prelude.{◌≡◌, ℕ, List, ◌-◌, ◌<◌, ◌≤◌, true, None, Some, [], drop, length, slice_index, take};
 ghost use Rattle.tokei_table.specs.Bytes.{is_blank, trim, trim_start};
 ghost use Rattle.tokei_table.specs.RowOf.{pairs_of, row_of};
-ghost use Rattle.tokei_count.specs.Class.{encloses, opens_with, class_of, head_of};
+ghost use Rattle.tokei_count.specs.Class.{encloses, opens_with, class_of, head_of, kind_in};
+ghost use Rattle.tokei_count.specs.Items.{Mode};
 ghost use Rattle.tokei_count.specs.Class.{in_comment, in_string, in_doc_string, ends_opened};
 ghost use Rattle.tokei_count.specs.CodeHeads.{HasCodeHead};
 ghost use Rattle.tokei_count.specs.ReadingOf.{row_in};
@@ -172,41 +173,51 @@ fn class_by_front(
     Some(Class::Code)
 }
 
-/// The class of the part of the reading's text from `start` to before `stop`, which began and ended in these modes, as
-/// `class_of` has it. That is asked only where neither the part's front nor the modes tell.
+/// Whether an item of that kind is a comment.
+fn is_comment(kind: Option<Kind>) -> bool
+    ensures { (m : Mode) → kind_in m ≡ kind → result ≡ in_comment m }
+{
+    match kind {
+        Some(kind) => kind == Kind::MultiLineComment,
+        None => false,
+    }
+}
+
+/// The class of the part of the reading's text from `start` to before `stop`, which began in an item of that kind, or in
+/// plain text, and ended in that mode, as `class_of` has it. That is asked only where neither the part's front nor the
+/// kind and the mode tell.
 #[inline(always)]
 pub(crate) fn class_by(
     reading: &Reading,
-    begun: Option<Enclosure>,
+    begun: Option<Kind>,
     start: usize,
     stop: usize,
     ended: Option<Enclosure>,
 ) -> Class
     requires order { start ≤ stop }
     requires within { stop ≤ length reading.now.text.now }
-    ensures { result ≡ class_of (row_in reading.now) reading.now.docs_are_comments (record {
-      begun = mode_of begun.entry;
+    ensures { (m : Mode) → kind_in m ≡ begun → result ≡ class_of (row_in reading.now) reading.now.docs_are_comments (record {
+      begun = m;
       bytes = take (stop - start) (drop start reading.now.text.now);
       ended = mode_of ended.entry;
     }) }
 {
     let syntax = reading.syntax;
-    if begun.is_none() {
-        match class_by_front(reading.matchers, reading.text, start, start, stop) {
-            Some(Class::Blank) => return Class::Blank,
-            Some(Class::Code) if !syntax.literate && !in_doc_string(ended) => return Class::Code,
-            _ => {}
+    let docs_are_comments = reading.docs_are_comments;
+    let bytes = &reading.text[start..stop];
+    match begun {
+        None => match class_by_front(reading.matchers, reading.text, start, start, stop) {
+            Some(Class::Blank) => Class::Blank,
+            Some(Class::Code) if !syntax.literate && !in_doc_string(ended) => Class::Code,
+            _ => class_of(syntax, docs_are_comments, None, bytes, ended),
+        },
+        Some(_) if is_comment(begun) && !in_string(ended) => Class::Comment,
+        Some(kind) => {
+            let closer = &reading.text[..0];
+            let mode = Some(Enclosure { kind, closer });
+            class_of(syntax, docs_are_comments, mode, bytes, ended)
         }
-    } else if in_comment(begun) && !in_string(ended) {
-        return Class::Comment;
     }
-    class_of(
-        syntax,
-        reading.docs_are_comments,
-        begun,
-        &reading.text[start..stop],
-        ended,
-    )
 }
 
 /// The class of each line that begins and ends within the item, as `class_of` has it: its bytes say nothing.

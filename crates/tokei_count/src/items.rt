@@ -1,4 +1,7 @@
 //! The items that can enclose a place of a text.
+ghost use Rattle.std.specs.Prelude.{◌≡◌};
+ghost use Rattle.tokei_count.specs.Class.{kind_in};
+ghost use Rattle.tokei_count.specs.Seen.{mode_of};
 
 /// What an item with a body is.
 #[derive(Clone, Copy, Debug, PartialEq, Eq)]
@@ -14,4 +17,15 @@ pub enum Kind {
 pub struct Enclosure<'a> {
     pub kind: Kind,
     pub closer: &'a [u8],
+}
+
+/// The kind of the item, where there is one.
+#[inline(always)]
+pub(crate) fn kind_of(mode: Option<Enclosure>) -> Option<Kind>
+    ensures { result ≡ kind_in (mode_of mode.entry) }
+{
+    match mode {
+        Some(item) => Some(item.kind),
+        None => None,
+    }
 }

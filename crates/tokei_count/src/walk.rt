@@ -13,7 +13,7 @@ ghost use Rattle.tokei_count.specs.Walked.{Moves, Reads};
 
 use crate::choice::{Choice, choose};
 use crate::class::{Class, class_by};
-use crate::items::{Enclosure, Kind};
+use crate::items::{Enclosure, Kind, kind_of};
 use crate::line_ends::line_stop;
 use crate::openings::{Block, block_at, next_child};
 use crate::place::Place;
@@ -299,7 +299,7 @@ pub(crate) fn read_part<'a>(
     let reading = part.reading;
     let start = part.start;
     let end = part.end;
-    let begun = innermost(stack);
+    let begun = kind_of(innermost(stack));
     let stop = line_stop(reading.text, end);
     let mut steps = 0;
     let mut child = start;

@@ -1,6 +1,6 @@
 use Rattle.std.proofs.Common.{◌≡◌, ◌∙◌, ℕ, ◌+◌, ◌-◌, ◌<◌, ◌≤◌, refl, sym, ap, subst, Some, Option, ◌⊎◌, inl, inr, List, length, take, drop, arith, length-drop}
 use Rattle.std.proofs.lemmas.List.{drop-drop}
-use Rattle.tokei_count.specs.Class.{class_of}
+use Rattle.tokei_count.specs.Class.{class_of, kind_in}
 use Rattle.tokei_count.specs.Lines.{first_line, line_len}
 use Rattle.tokei_count.specs.Items.{Block}
 use Rattle.tokei_count.specs.Modes.{Chain, innermost}
@@ -230,11 +230,10 @@ returns-clause-reads c =
     let none_left : line_len (drop end text) ≡ 0 = omega (arith, line) in
     let first_is : stop - c.args.part.now.start ≡ length (first_line u) = omega (arith, stop_is) in
     let bytes_is : take (stop - c.args.part.now.start) u ≡ first_line u = ap (λ n. take n u) first_is ∙ take-first u in
-    let begun_is = c.innermost-begun.ensures ∙ ap (λ w. innermost (chain_of w)) c.deref.ensures.value in
+    let begun_is = c.innermost.ensures ∙ ap (λ w. innermost (chain_of w)) c.deref.ensures.value in
     let ended_is = c.innermost-2.ensures ∙ ap (λ w. innermost (chain_of w)) c.deref-2.ensures.value in
     let class_is : c.class_by-class.result ≡ class_of (row_in c.args.part.now.reading.now) c.args.part.now.reading.now.docs_are_comments (record { begun = innermost (chain_of c.args.stack.now.items); bytes = first_line u; ended = innermost (chain_of c.loop-at.stack.items) }) =
-    c.class_by-class.ensures
-    ∙ ap (λ b. class_of (row_in c.args.part.now.reading.now) c.args.part.now.reading.now.docs_are_comments (record { begun = b; bytes = take (stop - c.args.part.now.start) u; ended = mode_of c.innermost-2.result })) begun_is
+    c.class_by-class.ensures (innermost (chain_of c.args.stack.now.items)) (sym (c.kind_of-begun.ensures ∙ ap kind_in begun_is))
     ∙ ap (λ b. class_of (row_in c.args.part.now.reading.now) c.args.part.now.reading.now.docs_are_comments (record { begun = innermost (chain_of c.args.stack.now.items); bytes = b; ended = mode_of c.innermost-2.result })) bytes_is
     ∙ ap (λ b. class_of (row_in c.args.part.now.reading.now) c.args.part.now.reading.now.docs_are_comments (record { begun = innermost (chain_of c.args.stack.now.items); bytes = first_line u; ended = b })) ended_is in
     let whole : reached at end - c.args.part.now.start ≡ line_len u = omega (arith, here, c.requires.begins.line) in

@@ -1,4 +1,4 @@
-use Rattle.std.proofs.Common.{◌≡◌, ◌<◌, ◌∙◌, ap, sym, ℕ, true, is_some, Option, None, List, [], ◌-◌, take, drop, arith}
+use Rattle.std.proofs.Common.{◌≡◌, ◌<◌, ◌∙◌, ap, sym, ℕ, true, is_some, Option, List, [], ◌-◌, take, drop, arith}
 use Rattle.std.proofs.lemmas.List.{append-nil}
 use Rattle.tokei_table.specs.RowOf.{pair_of}
 use Rattle.tokei_count.specs.Choice.{Choice, choice, or_else}
