@@ -111,8 +111,10 @@ const MANY: &[&str] = &["\"", "'", "<!--", "<script", "/*"];
 
 const LONG: &[&str] = &["abcde", "abd", "x"];
 
+const FENCE: &[&str] = &["```"];
+
 /// Openers, a text, and the first place of one.
-const SEARCHES: [(&[&str], &str, Option<usize>); 15] = [
+const SEARCHES: [(&[&str], &str, Option<usize>); 18] = [
     (MARKS, "a'''", Some(1)),
     (MARKS, "abc", None),
     (MARKS, "", None),
@@ -120,6 +122,9 @@ const SEARCHES: [(&[&str], &str, Option<usize>); 15] = [
     (COMMENT, "/////", None),
     (COMMENT, "/////////////////////////////////////*", Some(36)),
     (DOCS, "// //! x \"", Some(3)),
+    (COMMENT, "/ / / / / / / / / / / / / / / / / / / / / / / / / / / / /* c", Some(56)),
+    (FENCE, "` `` ` `` ` `` ` `` ` `` ` `` ` `` ` `` ` `` ```", Some(45)),
+    (DOCS, "/ / / / / / / / / / / / / / / / / / / / // //! \"", Some(43)),
     (LETTERS, "xyzcb", Some(3)),
     (MANY, "a < b <!- <script", Some(10)),
     (MANY, "plain", None),

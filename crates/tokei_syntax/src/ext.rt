@@ -3,7 +3,7 @@ ghost use Rattle.std.specs.Prelude.{◌≡◌, ◌==◌, ℕ, ◌≤◌, ◌<◌
 ghost use Rattle.tokei_syntax.specs.Slices.{contains_slice};
 ghost use Rattle.tokei_syntax.specs.OuterLines.{is_stop, first_stop, last_stop, start_behind, is_return_newline};
 ghost use Rattle.tokei_syntax.specs.OuterLines.{end_behind, trim_outer_lines};
-ghost use Rattle.tokei_syntax.specs.Bytes.{is_blank, all_blank, trim_start, trim_end, trim, begins_with_one};
+ghost use Rattle.tokei_syntax.specs.Bytes.{is_blank, all_blank, trim_start, trim_end, trim, begins, begins_with_one};
 ghost use Rattle.tokei_syntax.specs.RowOf.{tokens_of};
 
 use memchr::memmem;
@@ -98,13 +98,25 @@ pub fn contains_slice(text: &[u8], needle: &[u8]) -> bool
     !needle.is_empty() && memmem::find(text, needle).is_some()
 }
 
+/// Whether the token stands at the front of the text. Three bytes, as the longest of most languages have, are compared in
+/// place.
+#[inline(always)]
+fn begins(token: &[u8], text: &[u8]) -> bool
+    ensures { result ≡ begins token.now text.now }
+{
+    match (token, text) {
+        ([a, b, c], [x, y, z, ..]) => *a == *x && *b == *y && *c == *z,
+        _ => text.starts_with(token),
+    }
+}
+
 /// Whether one of the texts stands at the front of that one.
 #[tactic(auto, unfolding(crate::specs::Bytes::begins_with_one))]
 pub fn begins_with_one(beginnings: &[String], text: &[u8]) -> bool
     ensures { result ≡ begins_with_one (tokens_of beginnings.now) text.now }
 {
     for beginning in beginnings {
-        if text.starts_with(beginning.as_bytes()) {
+        if begins(beginning.as_bytes(), text) {
             return true;
         }
     }
