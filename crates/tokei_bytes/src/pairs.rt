@@ -5,8 +5,8 @@ ghost use Rattle.tokei_bytes.specs.Pairs.{counts_at};
 use crate::one_of::{BLOCK, marks, marks_of_one};
 use std::simd::prelude::*;
 
-/// The first place of the `BLOCK` places of the text from `from` on at which one of the four bytes stands, and where that
-/// is `first`, one of the four seconds behind it; or the place behind them where there is none.
+/// The first place of the `BLOCK` places of the text from `from` on at which one of the four bytes stands, and where
+/// that is `first`, one of the four seconds behind it; or the place behind them where there is none.
 #[inline(always)]
 fn first_pair_in_block(
     bytes: [u8; 4],
@@ -31,9 +31,9 @@ fn first_pair_in_block(
     from + marked.trailing_zeros() as usize
 }
 
-/// The first place of the text from `from` on at which one of the four bytes stands, and where that is `first`, one of the
-/// four seconds behind it; or a place from which on it isn't sought: `to` or up to a block behind, or one from which the
-/// text has no block and a byte more.
+/// The first place of the text from `from` on at which one of the four bytes stands, and where that is `first`, one of
+/// the four seconds behind it; or a place from which on it isn't sought: `to` or up to a block behind, or one from
+/// which the text has no block and a byte more.
 #[inline(always)]
 fn pair_between(
     bytes: [u8; 4],
@@ -47,7 +47,8 @@ fn pair_between(
     ensures low { from ≤ result }
     ensures inside { from < result → result < length text.now }
     ensures passed { (p : ℕ) → from ≤ p → p < result → counts_at bytes first seconds text.now p ≡ false }
-    ensures found { result < to → result + BLOCK < length text.now → counts_at bytes first seconds text.now result ≡ true }
+    ensures found { result < to → result + BLOCK < length text.now
+        → counts_at bytes first seconds text.now result ≡ true }
 {
     let mut at = from;
     while at < to && BLOCK < text.len() - at {
@@ -116,7 +117,8 @@ pub fn next_pair(
     ensures low { from ≤ result }
     ensures inside { from < result → result < length text.now }
     ensures passed { (p : ℕ) → from ≤ p → p < result → counts_at bytes first seconds text.now p ≡ false }
-    ensures found { result < to → result + BLOCK < length text.now → counts_at bytes first seconds text.now result ≡ true }
+    ensures found { result < to → result + BLOCK < length text.now
+        → counts_at bytes first seconds text.now result ≡ true }
 {
     let [a, b, c, d] = bytes;
     let [second, q, r, s] = seconds;

@@ -183,9 +183,9 @@ fn is_comment(kind: Option<Kind>) -> bool
     }
 }
 
-/// The class of the part of the reading's text from `start` to before `stop`, which began in an item of that kind, or in
-/// plain text, and ended in that mode, as `class_of` has it. That is asked only where neither the part's front nor the
-/// kind and the mode tell.
+/// The class of the part of the reading's text from `start` to before `stop`, which began in an item of that kind, or
+/// in plain text, and ended in that mode, as `class_of` has it. That is asked only where neither the part's front nor
+/// the kind and the mode tell.
 #[inline(always)]
 pub(crate) fn class_by(
     reading: &Reading,
@@ -196,11 +196,12 @@ pub(crate) fn class_by(
 ) -> Class
     requires order { start ≤ stop }
     requires within { stop ≤ length reading.now.text.now }
-    ensures { (m : Mode) → kind_in m ≡ begun → result ≡ class_of (row_in reading.now) reading.now.docs_are_comments (record {
-      begun = m;
-      bytes = take (stop - start) (drop start reading.now.text.now);
-      ended = mode_of ended.entry;
-    }) }
+    ensures { (m : Mode) → kind_in m ≡ begun
+        → result ≡ class_of (row_in reading.now) reading.now.docs_are_comments (record {
+          begun = m;
+          bytes = take (stop - start) (drop start reading.now.text.now);
+          ended = mode_of ended.entry;
+        }) }
 {
     let syntax = reading.syntax;
     let docs_are_comments = reading.docs_are_comments;

@@ -33,7 +33,8 @@ pub(crate) fn is_plain_byte(matchers: &LanguageMatchers, mode: Option<Enclosure>
 }
 
 /// From the place `at` of the text to before the answer, which goes no further than `to`, no choice but the byte
-/// itself and a child can begin at a byte, in plain text. Often one begins at the place itself, and nothing is searched.
+/// itself and a child can begin at a byte, in plain text. Often one begins at the place itself, and nothing is
+/// searched.
 #[inline(always)]
 pub(crate) fn plain_end(matchers: &LanguageMatchers, text: &[u8], at: usize, to: usize) -> usize
     requires { to ≤ length text.now }

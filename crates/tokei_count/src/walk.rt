@@ -1,5 +1,6 @@
 //! A part is walked with a stack of the items that enclose the place.
-ghost use Rattle.std.specs.Prelude.{◌≡◌, ℕ, ◌+◌, ◌-◌, ◌<◌, ◌≤◌, true, false, None, Some, is_some, IfOk, length, slice_index};
+ghost use Rattle.std.specs.Prelude.{◌≡◌, ℕ, ◌+◌, ◌-◌, ◌<◌, ◌≤◌, true, false, None, Some, is_some, IfOk, length};
+ghost use Rattle.std.specs.Prelude.{slice_index};
 ghost use Rattle.tokei_count.specs.Choice.Choice.{takes_byte};
 ghost use Rattle.tokei_count.specs.Lines.{line_len};
 ghost use Rattle.tokei_count.specs.Modes.{innermost};
@@ -232,8 +233,8 @@ fn take_newline<'a>(place: &Place<'_, 'a>, mode: Option<Enclosure<'a>>, steps: &
     let _newline = choice_at(place, mode, false, plain, steps);
 }
 
-/// Takes the choices from the place on within the item that encloses it, up to behind its closer or another item's opener,
-/// or to the line's end, and answers the place behind them.
+/// Takes the choices from the place on within the item that encloses it, up to behind its closer or another item's
+/// opener, or to the line's end, and answers the place behind them.
 #[inline(always)]
 fn take_within<'a>(
     place: &Place<'_, 'a>,

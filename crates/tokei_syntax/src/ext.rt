@@ -98,8 +98,8 @@ pub fn contains_slice(text: &[u8], needle: &[u8]) -> bool
     !needle.is_empty() && memmem::find(text, needle).is_some()
 }
 
-/// Whether the token stands at the front of the text. Three bytes, as the longest of most languages have, are compared in
-/// place.
+/// Whether the token stands at the front of the text. Three bytes, as the longest of most languages have, are compared
+/// in place.
 #[inline(always)]
 fn begins(token: &[u8], text: &[u8]) -> bool
     ensures { result ≡ begins token.now text.now }

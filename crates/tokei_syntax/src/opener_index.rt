@@ -23,7 +23,8 @@ const FIRST_BLOCK: usize = 64;
 /// The most bytes that are searched at a time for more than three bytes, or for bytes by those behind them.
 const LARGEST_BLOCK: usize = 4096;
 
-/// How close a byte that can begin an opener stands to the place behind another one, where such are taken to come often.
+/// How close a byte that can begin an opener stands to the place behind another one, where such are taken to come
+/// often.
 const CLOSE: usize = 8;
 
 /// How many bytes are searched at first for bytes by those behind them.
@@ -335,8 +336,8 @@ impl OpenerIndex {
         }
     }
 
-    /// Up to which place no opener stands, from a place on and mostly no further than `to`. The byte, with which those of
-    /// the group begin, is told by the one behind it. It stands in no caller's code, since it is rarely run.
+    /// Up to which place no opener stands, from a place on and mostly no further than `to`. The byte, with which those
+    /// of the group begin, is told by the one behind it. It stands in no caller's code, since it is rarely run.
     #[inline(never)]
     fn passed_by_pairs(
         &self,
