@@ -4,8 +4,23 @@ use Rattle.std.proofs.lemmas.List.{drop-drop}
 use Rattle.tokei_table.specs.Row.{Row}
 use Rattle.tokei_count.specs.Items.{Block}
 use Rattle.tokei_count.specs.Modes.{Chain}
-use Rattle.tokei_count.specs.Progress.{Leads, IsPart}
+use Rattle.tokei_count.specs.Places.{text_of}
+use Rattle.tokei_count.specs.Progress.{Leads, Goes, IsPart}
+use Rattle.tokei_count.specs.ReadingOf.{row_in, blocks_of}
+use Rattle.tokei_count.specs.Walked.{Moves}
+use Rattle.tokei_count.specs.declared.place.Place.{Place}
+use Rattle.tokei_count.specs.declared.walk.Move.{Move}
 use Rattle.tokei_count.proofs.Leading.{lead_on}
+
+-- how a part leads on, what a choice at a place of it does, and what it takes
+abbrev pub LeadsIn : Place → Chain → ℕ → ℕ → Chain → List ℕ → Type 0
+LeadsIn p = Leads (row_in p.reading.now) (blocks_of p.reading.now) p.behind_child
+
+abbrev pub MovesIn : Place → Chain → Chain → ℕ → Move → Type 0
+MovesIn p c d at = Moves (row_in p.reading.now) (blocks_of p.reading.now) p.behind_child c d (text_of p) at
+
+abbrev pub GoesIn : Place → Chain → ℕ → ℕ → Chain → ℕ → Type 0
+GoesIn p c n j d at = Goes (row_in p.reading.now) (blocks_of p.reading.now) p.behind_child c n j d (drop at (text_of p))
 
 -- behind the bytes from `start` to `at`, through k bytes more
 pub led_on : (g : Row) (block : ℕ → List ℕ → Option Block) (l : ℕ) (text : List ℕ) (start at : ℕ) (c d e : Chain) (n j k y z : ℕ) → start ≤ at
