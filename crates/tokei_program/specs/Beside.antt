@@ -1,19 +1,10 @@
 -- What the program says beside what was asked for: notes of what a run passed over.
-use Rattle.std.specs.Prelude.{◌≡◌, ℕ, List, [], ◌∷◌, ◌++◌, Option, flat_map, ◌⊎◌}
+use Rattle.std.specs.Prelude.{◌≡◌, ℕ, List, [], Option, ◌⊎◌}
 use Rattle.std.specs.Io.KnownBytes.{Appends}
 use Rattle.tokei_cli.specs.declared.cli.Cli.{Cli}
 use Rattle.tokei_cli.specs.Lines.{IsLineOf}
-use Rattle.tokei_notes.specs.NoteLines.{filter_of, lines_of}
-use Rattle.tokei_table.specs.Bytes.{newline}
+use Rattle.tokei_messages.specs.NotesText.{notes_text}
 use Rattle.tokei_walk.specs.declared.kept_file.Note.{Note}
-
--- a line and its newline
-abbrev pub ended : List ℕ → List ℕ
-ended line = line ++ newline ∷ []
-
--- the lines of the notes that are shown where `--verbose` was given so often
-abbrev pub notes_text : ℕ → List Note → List ℕ
-notes_text verbose notes = flat_map ended (lines_of (filter_of verbose) notes)
 
 -- a text shows notes as the command line wants them
 pub record ShowsNotes (c : Cli) (text : List ℕ) : Type 0 where

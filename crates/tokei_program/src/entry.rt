@@ -1,60 +1,18 @@
 //! The whole program but for its real ends.
-ghost use Rattle.std.specs.Prelude.{◌≡◌, ◌≢◌, ◌<◌, ◌≤◌, [], ◌++◌, IfErr, IfOk, OnOk, map, string_bytes};
+ghost use Rattle.std.specs.Prelude.{◌≡◌, ◌≢◌, ◌<◌, ◌≤◌, [], IfErr, IfOk, OnOk, map, string_bytes};
 ghost use Rattle.tokei_cli.specs.CommandLines.{inputs_of};
-ghost use Rattle.std.specs.Io.KnownBytes.{Appends};
 ghost use Rattle.tokei_folders.specs.Answers.{Told};
-ghost use Rattle.tokei_io.specs.Faults.{faults_after};
 ghost use Rattle.tokei_invocation.specs.Choices.{Chooses};
-ghost use Rattle.tokei_program.specs.Beside.{IsBeside, SaysBeside, ShowsNotes, ended, notes_text};
+ghost use Rattle.tokei_program.specs.Beside.{IsBeside, SaysBeside, ShowsNotes};
 ghost use Rattle.tokei_invocation.specs.Messages.{Says};
 ghost use Rattle.tokei_invocation.specs.Statuses.{status_of};
 ghost use Rattle.tokei_program.specs.Writing.{Writes, WritesAsked, WritesCounts, WritesList};
 
-use log::sink::Lines;
-use std::alloc::{AllocError, Global};
-use tokei::{Folders, Note, Sink, Source, run};
-use tokei_cli::{Cli, CliError, OutputError, print_input_parse_failure, print_supported_languages};
+use std::alloc::Global;
+use tokei::{Folders, Sink, Source, run};
+use tokei_cli::{Cli, CliError, print_supported_languages};
 use tokei_invocation::{Choices, Ending, Env, prepared, table_of};
-use tokei_notes::log_notes;
-
-/// What is said where there is no memory for other words.
-const NO_MEMORY: &str = "Error: out of memory\n";
-
-/// Puts a text behind what stands in the writer.
-fn put<W: Sink>(writer: &mut W, text: &str) -> Result<(), Ending>
-    ensures bytes { OnOk result (Appends (W.contents writer.old) (W.contents writer.new) text.now) }
-    ensures faults { W.faults writer.old < u64.MAX
-        → W.faults writer.new ≡ faults_after result (W.faults writer.old) }
-    ensures failed { IfErr result (λ e. status_of e ≡ 1) }
-{
-    match writer.put(text.as_bytes()) {
-        Ok(()) => Ok(()),
-        Err(_) => Err(Ending::Write),
-    }
-}
-
-/// Puts a line and its newline behind the text.
-fn push_line(text: &mut String, line: &str) -> Result<(), AllocError>
-    ensures { OnOk result (string_bytes text.new ≡ string_bytes text.old ++ ended line.now) }
-{
-    text.push_str(line)?;
-    text.push('\n')?;
-    Ok(())
-}
-
-/// The lines of what a run passed over, of those that are shown where `--verbose` was given so often.
-fn notes_text(alloc: Global, notes: &[Note], verbose: u8) -> Result<String, AllocError>
-    ensures { IfOk result (λ text. string_bytes text ≡ notes_text verbose notes.now) }
-{
-    let mut lines = Lines::new(alloc);
-    log_notes(notes, verbose, &mut lines)?;
-    let mut text = String::new(alloc);
-    let shown = lines.as_slice();
-    for line in shown {
-        push_line(&mut text, line.as_str())?;
-    }
-    Ok(text)
-}
+use tokei_messages::{notes_text, put, say};
 
 /// Counts what a command line names, and writes what it wants of that. What is to be said beside it is answered.
 fn counted<F: Folders, S: Source, W: Sink>(
@@ -152,37 +110,6 @@ fn answered<F: Folders, S: Source, W: Sink>(
         }
         Err(CliError::Refused(text)) => Err(Ending::Refused(text)),
         Err(CliError::Memory) => Err(Ending::Memory),
-    }
-}
-
-/// Says that the earlier results of this name are refused.
-#[tactic(auto, using(crate::proofs::Saying::no_memory_said, crate::proofs::Saying::refused_input_said))]
-fn say_refused_input<E: Sink>(alloc: Global, name: &str, err: &mut E) -> Result<(), Ending>
-    ensures said { OnOk result (Says (E.contents err.old) (E.contents err.new)) }
-    ensures faults { E.faults err.old < u64.MAX
-        → E.faults err.new ≡ faults_after result (E.faults err.old) }
-{
-    match print_input_parse_failure(alloc, name, err) {
-        Ok(()) => Ok(()),
-        Err(OutputError::Write) => Err(Ending::Write),
-        Err(OutputError::Memory) => put(err, NO_MEMORY),
-    }
-}
-
-/// Says how a run ended; where there is no memory for its words, that memory ran out.
-#[tactic(auto, using(crate::proofs::Saying::no_memory_said, crate::proofs::Saying::said))]
-fn say<E: Sink>(alloc: Global, ending: &Ending, err: &mut E) -> Result<(), Ending>
-    ensures said { status_of ending.now ≡ 1 → OnOk result (Says (E.contents err.old) (E.contents err.new)) }
-    ensures faults { E.faults err.old < u64.MAX
-        → E.faults err.new ≡ faults_after result (E.faults err.old) }
-{
-    match ending {
-        Ending::Refused(text) => put(err, text.as_str()),
-        Ending::Input(name) => say_refused_input(alloc, name.as_str(), err),
-        other => match other.line(alloc) {
-            Ok(line) => put(err, line.as_str()),
-            Err(_) => put(err, NO_MEMORY),
-        },
     }
 }
 

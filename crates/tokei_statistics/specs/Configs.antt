@@ -1,8 +1,8 @@
 -- What a configuration says of a run: which ignore rules are obeyed, and by what files are counted.
 use Rattle.std.specs.Prelude.{ℕ, Bool, false, not, ◌||◌, List, Option, unwrap_or}
-use Rattle.tokei_config.specs.Settings.{Settings, additions_in}
+use Rattle.tokei_config.specs.Settings.{Settings}
 use Rattle.tokei_folders.specs.Tree.{Tree}
-use Rattle.tokei_table.specs.Extended.{extended}
+use Rattle.tokei_paths.specs.Paths.{rows_by}
 use Rattle.tokei_table.specs.Row.{Row}
 use Rattle.tokei_walk.specs.declared.kept_file.KeptFile.{KeptFile}
 use Rattle.tokei_walk.specs.declared.levels.Rules.{Rules}
@@ -22,10 +22,6 @@ rules_of s = record {
   git = not (is_on s.no_ignore || is_on s.no_ignore_vcs);
   hidden = not (is_on s.hidden);
 }
-
--- the rows of the table in which languages have gained the extensions of the configuration
-abbrev pub rows_by : List Row → Settings → List Row
-rows_by rows s = extended rows (additions_in s)
 
 -- by what files are counted
 abbrev pub counting_by : List Row → Settings → Counting

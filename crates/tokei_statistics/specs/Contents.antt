@@ -5,12 +5,8 @@ use Rattle.tokei_count.specs.PlainReading.{reading, outermost_levels}
 use Rattle.tokei_stats.specs.Statistics.{Statistics}
 use Rattle.tokei_table.specs.Row.{Row}
 use Rattle.tokei_text.specs.Decoding.{decoded}
-use Rattle.tokei_folders.specs.Answers.{node_content}
-use Rattle.tokei_folders.specs.Tree.{Tree, node_at, names_of}
-
--- the content of the file at a place, where it can be read
-unfoldable pub content_at : Tree → List ℕ → Option (List ℕ)
-content_at t place = node_content (node_at t (names_of place))
+use Rattle.tokei_folders.specs.Tree.{Tree}
+use Rattle.tokei_paths.specs.Contents.{content_at}
 
 -- the statistics of a content in a language, where `docs` says whether doc strings count as comments
 unfoldable pub stats_in : List Row → Bool → ℕ → List ℕ → Statistics

@@ -10,7 +10,7 @@ use Rattle.tokei_walk.specs.declared.kept_file.KeptFile.{KeptFile}
 use Rattle.tokei_folders.specs.Tree.{Tree}
 use Rattle.tokei_statistics.specs.Contents.{stats_at}
 use Rattle.tokei_languages.specs.Merging.{merged_languages, with_report}
-use Rattle.tokei_statistics.specs.Paths.{language_by_path}
+use Rattle.tokei_paths.specs.Paths.{language_by_path}
 
 -- by what files are counted: the rows of the table, whether doc strings count as comments, and the languages that count,
 -- which are all where none are given

@@ -1,35 +1,19 @@
 //! The report of one file: what its content counts, decoded, in a language.
-ghost use Rattle.std.specs.Prelude.{◌≡◌, ◌≢◌, ◌<◌, None, Some, Err, length, OnOk, IfOk, IfErr, IsSomeAnd, string_bytes};
+ghost use Rattle.std.specs.Prelude.{◌≡◌, ◌≢◌, ◌<◌, None, Some, Err, length, IfOk, IsSomeAnd};
 ghost use Rattle.tokei_count.specs.Seen.{docs_of};
 ghost use Rattle.tokei_stats.specs.Overflow.{Fits};
 ghost use Rattle.tokei_stats.specs.Seen.{stats_of};
 ghost use Rattle.tokei_folders.specs.Answers.{Told};
-ghost use Rattle.tokei_folders.specs.declared.fs.Fault.TheVariants.{Refused as RefusedFault, Memory as MemoryFault};
 ghost use Rattle.tokei_statistics.specs.declared.error.ParseFault.TheVariants.{Refused as NotRead, Memory as OutOfMemory, Overflow as TooMany};
-ghost use Rattle.tokei_statistics.specs.Contents.{content_at, stats_at, stats_in};
+ghost use Rattle.tokei_paths.specs.Contents.{content_at};
+ghost use Rattle.tokei_statistics.specs.Contents.{stats_at, stats_in};
 
 use crate::error::ParseFault;
 use std::alloc::Global;
 use tokei_count::{CodeStats, CountConfig, Counter, Report, decode_text, parse_from_slice};
+use tokei_paths::content;
 use tokei_table::LanguageType;
-use tokei_walk::{Fault, Folders};
-
-/// The content of the file at a place; whether the walk has just listed it.
-fn content<F: Folders>(folders: &mut F, place: &str, listed: bool) -> Result<Vec<u8>, Fault>
-    ensures same { F.tree folders.new ≡ F.tree folders.old }
-    ensures told { Told (F.tree folders.old) (λ t. IfOk result (λ c.
-        content_at t place.now ≡ Some c.items)) }
-    ensures refused { result ≡ Err RefusedFault → Told (F.tree folders.old) (λ t.
-        content_at t place.now ≡ None) }
-    ensures honest { result ≢ Err MemoryFault → F.memory_faults folders.old < u64.MAX
-        → F.memory_faults folders.new ≡ F.memory_faults folders.old }
-{
-    if listed {
-        folders.read_listed(place)
-    } else {
-        folders.read(place)
-    }
-}
+use tokei_walk::Folders;
 
 /// By what files are counted.
 #[derive(Drop)]

@@ -11,10 +11,10 @@ ghost use Rattle.tokei_statistics.specs.Seen.{counting_of};
 
 use crate::contents::Counting;
 use crate::error::ParseFault;
-use crate::paths::language_of_path;
 use std::alloc::AllocError;
 use tokei_count::{CountError, Report};
 use tokei_languages::Languages;
+use tokei_paths::language_of_path;
 use tokei_table::LanguageType;
 use tokei_walk::{Folders, KeptFile, Note, Rules, Walk};
 

@@ -9,11 +9,10 @@ mod counting;
 mod error;
 pub mod laws;
 mod parsing;
-mod paths;
 mod statistics;
 
 pub use contents::Counting;
 pub use error::ParseFault;
 pub use parsing::parse_file;
-pub use paths::{from_path, from_shebang};
 pub use statistics::{CountFiles, rules};
+pub use tokei_paths::{from_path, from_shebang};

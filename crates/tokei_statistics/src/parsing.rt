@@ -6,7 +6,8 @@ ghost use Rattle.tokei_stats.specs.Overflow.{Fits};
 ghost use Rattle.tokei_stats.specs.Seen.{stats_of};
 ghost use Rattle.tokei_statistics.specs.declared.error.ParseFault.TheVariants.{Refused as NotRead, Memory as OutOfMemory, Overflow as TooMany};
 ghost use Rattle.tokei_statistics.specs.Configs.{is_on};
-ghost use Rattle.tokei_statistics.specs.Contents.{content_at, stats_at};
+ghost use Rattle.tokei_paths.specs.Contents.{content_at};
+ghost use Rattle.tokei_statistics.specs.Contents.{stats_at};
 
 use crate::contents::Counting;
 use crate::error::ParseFault;

@@ -2,8 +2,7 @@
 ghost use Rattle.std.specs.Prelude.{◌≡◌, ◌<◌, length, IfOk, IfSome, OnOk};
 ghost use Rattle.tokei_config.specs.Seen.{settings_of};
 ghost use Rattle.tokei_folders.specs.Answers.{Told};
-ghost use Rattle.tokei_statistics.specs.Configs.{rows_by};
-ghost use Rattle.tokei_statistics.specs.Paths.{name_of, language_by_head, language_by_path};
+ghost use Rattle.tokei_paths.specs.Paths.{name_of, language_by_head, language_by_path, rows_by};
 
 use std::alloc::{AllocError, Global};
 use tokei_config::Config;
@@ -42,7 +41,7 @@ pub fn from_shebang<F: Folders>(
 
 /// The language of the file at a path, by the table as it stands: by its name, and by its head where the name decides
 /// nothing and has no extension. `Memory` is the only refusal, and leaves the folders' tree as it was.
-pub(crate) fn language_of_path<F: Folders>(
+pub fn language_of_path<F: Folders>(
     alloc: Global,
     table: &LanguageTable,
     folders: &mut F,

@@ -2,7 +2,7 @@
 use Rattle.std.proofs.Common.{ℕ, List, [], ◌∷◌, ◌++◌, Option, refl, sym, ap, codes, append_assoc}
 use Rattle.std.specs.Io.KnownBytes.{Appends}
 use Rattle.tokei_cli.specs.Printing.{failure_text}
-use Rattle.tokei_program.specs.declared.entry.TheConstants.{NO_MEMORY}
+use Rattle.tokei_messages.specs.declared.saying.TheConstants.{NO_MEMORY}
 use Rattle.tokei_invocation.specs.Messages.{IsMessage, Says}
 
 pub refused_input_is_message : (name : List ℕ) → IsMessage (failure_text name)

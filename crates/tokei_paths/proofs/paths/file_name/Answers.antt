@@ -1,7 +1,7 @@
 use Rattle.std.proofs.Common.{refl}
-use Rattle.tokei_statistics.specs.Paths.{name_of}
-use Rattle.tokei_statistics.proofs.Deciding.{name_or_none}
-use Rattle.tokei_statistics.proofs.paths.file_name.Goals as goal
+use Rattle.tokei_paths.specs.Paths.{name_of}
+use Rattle.tokei_paths.proofs.Deciding.{name_or_none}
+use Rattle.tokei_paths.proofs.paths.file_name.Goals as goal
 
 pub returns : goal.returns
 unfolding name_of

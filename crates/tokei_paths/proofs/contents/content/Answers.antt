@@ -1,7 +1,7 @@
 use Rattle.tokei_folders.specs.Tree.{node_at, names_of}
-use Rattle.tokei_statistics.specs.Contents.{content_at}
-use Rattle.tokei_statistics.proofs.ReadFiles.{told_content, told_refused}
-use Rattle.tokei_statistics.proofs.contents.content.Goals as goal
+use Rattle.tokei_paths.specs.Contents.{content_at}
+use Rattle.tokei_paths.proofs.ReadFiles.{told_content, told_refused}
+use Rattle.tokei_paths.proofs.contents.content.Goals as goal
 
 pub returns-then-listed-clause-told : goal.returns-then-listed-clause-told
 unfolding content_at

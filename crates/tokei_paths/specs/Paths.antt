@@ -2,6 +2,8 @@
 -- nothing and has no extension.
 use Rattle.std.specs.Prelude.{ℕ, List, [], Option, None, is_some, unwrap_or, Result, Ok, Err, if◌then◌else◌}
 use Rattle.std.specs.List.{last_or}
+use Rattle.tokei_config.specs.Settings.{Settings, additions_in}
+use Rattle.tokei_table.specs.Extended.{extended}
 use Rattle.tokei_table.specs.Lookups.{or_else, extension_of, from_file_name}
 use Rattle.tokei_table.specs.Row.{Row}
 use Rattle.tokei_table.specs.Shebangs.{from_shebang}
@@ -27,3 +29,7 @@ abbrev pub language_by_path : Tree → List Row → List ℕ → Option ℕ
 language_by_path t rows path =
     or_else (from_file_name rows (name_of path)) (
     if is_some (extension_of (name_of path)) then None else language_by_head t rows path)
+
+-- the rows of the table in which languages have gained the extensions of the configuration
+abbrev pub rows_by : List Row → Settings → List Row
+rows_by rows s = extended rows (additions_in s)

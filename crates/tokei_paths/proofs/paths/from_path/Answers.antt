@@ -2,9 +2,9 @@ use Rattle.std.proofs.Common.{◌≡◌, ℕ, List, Option, IfOk, subst, ap}
 use Rattle.tokei_config.specs.Seen.{settings_of}
 use Rattle.tokei_config.specs.Settings.{additions_in}
 use Rattle.tokei_table.specs.Row.{Row}
-use Rattle.tokei_statistics.specs.Paths.{language_by_path}
-use Rattle.tokei_statistics.proofs.ExtendedLength.{of_both}
-use Rattle.tokei_statistics.proofs.paths.from_path.Goals as goal
+use Rattle.tokei_paths.specs.Paths.{language_by_path}
+use Rattle.tokei_paths.proofs.ExtendedLength.{of_both}
+use Rattle.tokei_paths.proofs.paths.from_path.Goals as goal
 
 pub returns-clause-told : goal.returns-clause-told
 returns-clause-told g c = λ t e.

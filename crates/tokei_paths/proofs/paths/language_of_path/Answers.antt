@@ -1,6 +1,6 @@
 use Rattle.std.proofs.Common.{sym, ◌∙◌}
-use Rattle.tokei_statistics.proofs.Deciding.{told_by_head}
-use Rattle.tokei_statistics.proofs.paths.language_of_path.Goals as goal
+use Rattle.tokei_paths.proofs.Deciding.{told_by_head}
+use Rattle.tokei_paths.proofs.paths.language_of_path.Goals as goal
 
 pub returns-in-None-2-clause-told : goal.returns-in-None-2-clause-told
 returns-in-None-2-clause-told g c = λ t e.

@@ -4,7 +4,7 @@ use Rattle.std.specs.Borrow.{Bor}
 use Rattle.tokei_table.specs.Lookups.{or_else, extension_of, from_file_name}
 use Rattle.tokei_table.specs.Row.{Row}
 use Rattle.tokei_folders.specs.Tree.{Tree}
-use Rattle.tokei_statistics.specs.Paths.{name_of, language_by_head, language_by_path}
+use Rattle.tokei_paths.specs.Paths.{name_of, language_by_head, language_by_path}
 
 -- the head decides, where it is asked: the name doesn't, and has no extension
 head_decides : (t : Tree) (rows : List Row) (path name : List ℕ) (o : Option ℕ) → name ≡ name_of path → None ≡ from_file_name rows name → false ≡ is_some (extension_of name) → o ≡ language_by_head t rows path → o ≡ language_by_path t rows path

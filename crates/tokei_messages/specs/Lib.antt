@@ -1,0 +1,2 @@
+-- What contracts say of what the program says.
+pub mod NotesText

@@ -1,0 +1,3 @@
+-- What contracts say of the file at a path: its language and its content.
+pub mod Contents
+pub mod Paths
