@@ -6,22 +6,22 @@ use Rattle.tokei_table.specs.Openers.{openers}
 use Rattle.tokei_table.specs.Row.{Pair, Row}
 use Rattle.tokei_table.specs.Sound.{IsSound}
 use Rattle.tokei_table.specs.Tokens.{has_tokens}
-use Rattle.tokei_count.specs.Choice.{Choice}
-use Rattle.tokei_count.specs.Choice.Choice.{closes, escapes, child_opens, opens, passes_over, begins_line_comment, takes_byte}
-use Rattle.tokei_count.specs.Glance.{holds}
-use Rattle.tokei_count.specs.Items.{Block, Enclosure, enclosure}
-use Rattle.tokei_count.specs.Lines.{first_line, line_len}
-use Rattle.tokei_count.specs.Modes.{Chain, innermost}
-use Rattle.tokei_count.specs.Modes.Mark.{byte_at, child_at}
-use Rattle.tokei_count.specs.Progress.{marks_ahead, Goes, IsClosable, FitsBlocks, newlines}
-use Rattle.tokei_count.proofs.Ahead.{marks_ahead-child}
+use Rattle.tokei_choice.specs.Choice.{Choice}
+use Rattle.tokei_choice.specs.Choice.Choice.{closes, escapes, child_opens, opens, passes_over, begins_line_comment, takes_byte}
+use Rattle.tokei_parts.specs.Glance.{holds}
+use Rattle.tokei_choice.specs.Items.{Block, Enclosure, enclosure}
+use Rattle.tokei_parts.specs.Lines.{first_line, line_len}
+use Rattle.tokei_parts.specs.Modes.{Chain, innermost}
+use Rattle.tokei_parts.specs.Modes.Mark.{byte_at, child_at}
+use Rattle.tokei_parts.specs.Progress.{marks_ahead, Goes, IsClosable, FitsBlocks, newlines}
+use Rattle.tokei_parts.proofs.Ahead.{marks_ahead-child}
 use Rattle.tokei_count.proofs.CalmChoices.{line-begins, none_opens, none_passed}
-use Rattle.tokei_count.proofs.Childless.{within_no_child}
-use Rattle.tokei_count.proofs.Fits.{FitsIn, choice_fits}
-use Rattle.tokei_count.proofs.Leading.{Ends, Breaks, line_split, newline_byte, marks_ahead-newline}
-use Rattle.tokei_count.proofs.Lines.{first_some}
+use Rattle.tokei_parts.proofs.Childless.{within_no_child}
+use Rattle.tokei_parts.proofs.Fits.{FitsIn, choice_fits}
+use Rattle.tokei_parts.proofs.Leading.{Ends, Breaks, line_split, newline_byte, marks_ahead-newline}
+use Rattle.tokei_parts.proofs.Lines.{first_some}
 use Rattle.tokei_count.proofs.OpeningsAhead.{openings_ahead, openings_ahead-byte, openings_ahead-escape, openings_ahead-pass, openings_ahead-rest, openings_ahead-opener, openings_ahead-closer, openings_ahead-child}
-use Rattle.tokei_count.proofs.Stepping.{chosen, top_closed, goes_byte, goes_escape, goes_pass, goes_opener, goes_rest, goes_closer, no_closer}
+use Rattle.tokei_parts.proofs.Stepping.{chosen, top_closed, goes_byte, goes_escape, goes_pass, goes_opener, goes_rest, goes_closer, no_closer}
 
 module _ (g : Row) (block : ℕ → List ℕ → Option Block) where
   -- One choice leads on from c to d through n bytes; j choices and x openings begin there. In plain text whose line holds

@@ -1,36 +1,35 @@
 -- A line within an item, in which each choice takes its byte, is one part, and the text goes on by it.
-use Rattle.std.proofs.Common.{◌≡◌, ◌∙◌, ℕ, zero, suc, ◌+◌, ◌-◌, ◌<◌, ◌≤◌, ◌⊎◌, inl, inr, true, List, length, drop, get_or, Option, None, Some, refl, sym, ap, subst, arith, length-drop}
+use Rattle.std.proofs.Common.{◌≡◌, ◌∙◌, ℕ, zero, suc, ◌+◌, ◌-◌, ◌<◌, ◌≤◌, true, List, length, drop, Option, None, Some, refl, sym, ap, subst, arith, length-drop}
 use Rattle.std.proofs.lemmas.List.{drop-drop}
 use Rattle.tokei_table.specs.Row.{Row}
-use Rattle.tokei_count.specs.Calm.{IsCalm, TakesByteAt}
-use Rattle.tokei_count.specs.Choice.{choice}
-use Rattle.tokei_count.specs.Choice.Choice.{takes_byte}
-use Rattle.tokei_count.specs.Class.{class_of}
-use Rattle.tokei_count.specs.Glance.{is_walked}
-use Rattle.tokei_count.specs.Items.{Block, Enclosure}
-use Rattle.tokei_count.specs.Lines.{first_line, line_len}
-use Rattle.tokei_count.specs.Modes.{Chain, innermost}
-use Rattle.tokei_count.specs.PlainBytes.{IsPlainByte}
-use Rattle.tokei_count.specs.PlainReading.{one_of}
-use Rattle.tokei_count.specs.Progress.{Leads, Goes, IsClosable, IsPart, ReadsLine, newlines}
-use Rattle.tokei_count.specs.ReadingOf.{row_in, blocks_of, openers_in}
-use Rattle.tokei_count.specs.Seen.{chain_of, mode_of}
+use Rattle.tokei_parts.specs.Calm.{IsCalm}
+use Rattle.tokei_choice.specs.Choice.{choice}
+use Rattle.tokei_choice.specs.Choice.Choice.{takes_byte}
+use Rattle.tokei_parts.specs.Class.{class_of}
+use Rattle.tokei_parts.specs.Glance.{is_walked}
+use Rattle.tokei_choice.specs.Items.{Block, Enclosure}
+use Rattle.tokei_parts.specs.Lines.{first_line, line_len}
+use Rattle.tokei_parts.specs.Modes.{Chain, innermost}
+use Rattle.tokei_parts.specs.Tally.{one_of}
+use Rattle.tokei_parts.specs.Progress.{Leads, Goes, IsClosable, IsPart, ReadsLine, newlines}
+use Rattle.tokei_parts.specs.ReadingOf.{row_in, blocks_of, openers_in}
+use Rattle.tokei_choice.specs.Seen.{mode_of}
+use Rattle.tokei_parts.specs.Seen.{chain_of}
 use Rattle.tokei_count.specs.UnderWay.{IsUnderWay}
-use Rattle.tokei_count.specs.Walked.{IsLine}
-use Rattle.tokei_count.specs.declared.class.Class.{Class}
-use Rattle.tokei_count.specs.declared.items.Enclosure as CodeEnclosure
-use Rattle.tokei_count.specs.declared.reading.Reading.{Reading}
+use Rattle.tokei_parts.specs.Walked.{IsLine}
+use Rattle.tokei_parts.specs.declared.class.Class.{Class}
+use Rattle.tokei_choice.specs.declared.items.Enclosure as CodeEnclosure
+use Rattle.tokei_parts.specs.declared.reading.Reading.{Reading}
 use Rattle.tokei_count.specs.declared.text_reading.ReadSoFar.{ReadSoFar}
 use Rattle.tokei_stats.specs.Seen.{sums_of}
 use Rattle.tokei_stats.specs.Statistics.{Counts, no_lines, plus}
 use Rattle.tokei_stats.specs.declared.sums.Sums.{Sums}
-use Rattle.tokei_count.proofs.Blocks.{blocks_fit}
-use Rattle.tokei_count.proofs.Leading.{lead_none, lead_on, line_len-drop}
-use Rattle.tokei_count.proofs.LineEnds.{below_or, first_line-low}
-use Rattle.tokei_count.proofs.Lines.{line_reads, first_within}
-use Rattle.tokei_count.proofs.PlainBytes.{plain_byte_at}
+use Rattle.tokei_parts.proofs.Blocks.{blocks_fit}
+use Rattle.tokei_parts.proofs.Leading.{lead_none, lead_on, line_len-drop}
+use Rattle.tokei_parts.proofs.LineEnds.{first_line-low}
+use Rattle.tokei_parts.proofs.Lines.{line_reads, first_within}
 use Rattle.tokei_count.proofs.StepReading.{glance_part, line_some}
-use Rattle.tokei_count.proofs.Stepping.{goes_byte}
+use Rattle.tokei_parts.proofs.Stepping.{goes_byte}
 use Rattle.tokei_count.proofs.TextReading.{counts_same}
 use Rattle.tokei_count.proofs.UnderWay.{sums_with, none_more, walked_on}
 
@@ -38,33 +37,6 @@ use Rattle.tokei_count.proofs.UnderWay.{sums_with, none_more, walked_on}
 in_item : (g : Row) (e : Enclosure) (o : Option Block) (u : List ℕ) → choice g (Some e) o u ≡ choice g (Some e) None u
 unfolding choice
 in_item g e o u = refl
-
--- bytes at which nothing but the byte itself can begin
-pub calm_bytes : (r : Reading) (item : CodeEnclosure.Enclosure) (at to : ℕ) → to ≤ length r.text.now
-    → ((p : ℕ) → at ≤ p → p < to → IsPlainByte r.matchers.now (mode_of (Some item)) (get_or r.text.now p 0)) → IsCalm (row_in r) item r.text.now at to
-calm_bytes r item at to within plain =
-    λ p low high. plain_byte_at (row_in r) r.sound (mode_of (Some item)) None r.text.now p r.matchers.now r.matched (omega (arith, within, high)) (plain p low high) (λ none. refl)
-
--- a search that stays at its place or goes no further than to its end
-pub high_end : (at end to : ℕ) → at ≤ to → (at < end → end ≤ to) → end ≤ to
-high_end at end to order high = by_case (below_or at end)
-  where
-    by_case : (at < end) ⊎ (end ≤ at) → end ≤ to
-    by_case (inl h) = high h
-    by_case (inr h) = omega (arith, h, order)
-
--- a stretch, a byte, and a stretch behind it
-pub calm_on : (r : Reading) (item : CodeEnclosure.Enclosure) (at next to : ℕ) → IsCalm (row_in r) item r.text.now at next → TakesByteAt (row_in r) item r.text.now next
-    → IsCalm (row_in r) item r.text.now (next + 1) to → IsCalm (row_in r) item r.text.now at to
-calm_on r item at next to before here behind = λ p low high. by_case p low high (below_or p next)
-  where
-    by_case : (p : ℕ) → at ≤ p → p < to → (p < next) ⊎ (next ≤ p) → TakesByteAt (row_in r) item r.text.now p
-    by_case p low high (inl b) = before p low b
-    by_case p low high (inr b) = by_next p low high (below_or next p) b
-      where
-        by_next : (p : ℕ) → at ≤ p → p < to → (next < p) ⊎ (p ≤ next) → next ≤ p → TakesByteAt (row_in r) item r.text.now p
-        by_next p low high (inl more) b = behind p (omega (arith, more)) high
-        by_next p low high (inr same) b = let is : next ≡ p = omega (arith, same, b) in subst (TakesByteAt (row_in r) item r.text.now) is here
 
 module _ (r : Reading) (l : ℕ) (c : Chain) (item : CodeEnclosure.Enclosure) (closable : IsClosable c) (within : innermost c ≡ mode_of (Some item)) where
   goes : (u : List ℕ) → 0 < line_len u → choice (row_in r) (mode_of (Some item)) None u ≡ takes_byte → Goes (row_in r) (blocks_of r) l c 1 1 c u

@@ -8,7 +8,7 @@ use Rattle.tokei_stats.specs.Statistics.Blobs.{none}
 use Rattle.tokei_stats.proofs.SumLaws.{associates, neutral_left, plus_associates}
 use Rattle.tokei_stats.proofs.SumsOrdered.{sum_ordered}
 use Rattle.tokei_count.specs.Gathered.{gathered, shares}
-use Rattle.tokei_count.specs.Items.{Block}
+use Rattle.tokei_choice.specs.Items.{Block}
 use Rattle.tokei_count.specs.NotebookCells.{cell_block}
 use Rattle.tokei_count.specs.PlainReading.{child_adds, children_add}
 

@@ -5,17 +5,17 @@ use Rattle.tokei_table.specs.Lookups.{row_at}
 use Rattle.tokei_table.specs.Openers.{openers}
 use Rattle.tokei_table.specs.Row.{Row}
 use Rattle.tokei_table.specs.Tokens.{has_tokens}
-use Rattle.tokei_count.specs.Class.{class_of}
-use Rattle.tokei_count.specs.Glance.{holds, is_walked}
-use Rattle.tokei_count.specs.Lines.{first_line}
-use Rattle.tokei_count.specs.Modes.{Chain, innermost}
-use Rattle.tokei_count.specs.Openings.{languages_of}
+use Rattle.tokei_parts.specs.Class.{class_of}
+use Rattle.tokei_parts.specs.Glance.{holds, is_walked}
+use Rattle.tokei_parts.specs.Lines.{first_line}
+use Rattle.tokei_parts.specs.Modes.{Chain, innermost}
+use Rattle.tokei_count.specs.Languages.{languages_of}
 use Rattle.tokei_count.specs.PlainReading.{blocks}
-use Rattle.tokei_count.specs.Progress.{ReadsLine, newlines}
-use Rattle.tokei_count.specs.declared.class.Class.{Class}
-use Rattle.tokei_count.proofs.Blocks.{by_levels}
+use Rattle.tokei_parts.specs.Progress.{ReadsLine, newlines}
+use Rattle.tokei_parts.specs.declared.class.Class.{Class}
+use Rattle.tokei_parts.proofs.Blocks.{by_levels}
 use Rattle.tokei_count.proofs.Glancing.{glance}
-use Rattle.tokei_count.proofs.Lines.{line_reads, take-first}
+use Rattle.tokei_parts.proofs.Lines.{line_reads, take-first}
 use Rattle.tokei_count.proofs.QuietBlocks.{quiet_blocks}
 
 module _ (rows : List Row) (docs_are_comments : Bool) (levels language : ℕ) (text : List ℕ) (l : ℕ) (u : List ℕ) (class : Class) where

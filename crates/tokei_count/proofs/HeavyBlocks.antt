@@ -19,17 +19,18 @@ use Rattle.tokei_embedding.specs.BlockLaws.{Reaches}
 use Rattle.tokei_embedding.proofs.BlockLaws.{fence_reach, tag_reach, target_reach}
 use Rattle.tokei_embedding.proofs.DocLaws.{doc_reach}
 use Rattle.tokei_stats.specs.Statistics.{lines_of}
-use Rattle.tokei_count.specs.Lines.{first_line}
-use Rattle.tokei_count.specs.Items.{Block}
-use Rattle.tokei_count.specs.MarkdownChildren.{known_piece, fence_as, fence_child}
-use Rattle.tokei_count.specs.HtmlChildren.{element_child, element_at, first_block}
-use Rattle.tokei_count.specs.RustChildren.{doc_child}
-use Rattle.tokei_count.specs.LinguaFrancaChildren.{target_child}
-use Rattle.tokei_count.specs.Openings.{block_by, languages_of}
-use Rattle.tokei_count.specs.Parts.{part_front}
+use Rattle.tokei_parts.specs.Lines.{first_line}
+use Rattle.tokei_choice.specs.Items.{Block}
+use Rattle.tokei_parts.specs.MarkdownChildren.{known_piece, fence_as, fence_child}
+use Rattle.tokei_parts.specs.HtmlChildren.{element_child, element_at, first_block}
+use Rattle.tokei_parts.specs.RustChildren.{doc_child}
+use Rattle.tokei_parts.specs.LinguaFrancaChildren.{target_child}
+use Rattle.tokei_count.specs.Languages.{languages_of}
+use Rattle.tokei_parts.specs.Openings.{block_by}
+use Rattle.tokei_parts.specs.Parts.{part_front}
 use Rattle.tokei_count.specs.PlainReading.{blocks}
-use Rattle.tokei_count.proofs.Lines.{take-first}
-use Rattle.tokei_count.proofs.Blocks.{drop_front}
+use Rattle.tokei_parts.proofs.Lines.{take-first}
+use Rattle.tokei_parts.proofs.Blocks.{drop_front}
 
 -- what a block takes beside its contents, and how many lines it adds
 pub record IsHeavy (k : Block) : Type 0 where

@@ -16,16 +16,17 @@ use Rattle.tokei_embedding.specs.DocComments.{doc_block}
 use Rattle.tokei_embedding.specs.TargetBlocks.{target_block, target_of}
 use Rattle.tokei_embedding.specs.declared.tags.Tag.{Tag}
 use Rattle.tokei_embedding.specs.declared.tags.Tag.TheVariants.{Script, Style, Template}
-use Rattle.tokei_count.specs.Lines.{first_line}
-use Rattle.tokei_count.specs.Items.{Block}
-use Rattle.tokei_count.specs.NamedLanguages.{by_word, by_name}
+use Rattle.tokei_parts.specs.Lines.{first_line}
+use Rattle.tokei_choice.specs.Items.{Block}
+use Rattle.tokei_parts.specs.NamedLanguages.{by_word, by_name}
 use Rattle.tokei_table.specs.Families.{fallback}
-use Rattle.tokei_count.specs.MarkdownChildren.{is_comma, first_named, known_piece, fence_as, fence_child}
-use Rattle.tokei_count.specs.HtmlChildren.{by_value, usual_key, element_child, element_at, first_block}
-use Rattle.tokei_count.specs.RustChildren.{doc_child}
-use Rattle.tokei_count.specs.LinguaFrancaChildren.{target_name, target_language, target_child}
-use Rattle.tokei_count.specs.Openings.{block_by, languages_of}
-use Rattle.tokei_count.specs.Parts.{part_front}
+use Rattle.tokei_parts.specs.MarkdownChildren.{is_comma, first_named, known_piece, fence_as, fence_child}
+use Rattle.tokei_parts.specs.HtmlChildren.{by_value, usual_key, element_child, element_at, first_block}
+use Rattle.tokei_parts.specs.RustChildren.{doc_child}
+use Rattle.tokei_parts.specs.LinguaFrancaChildren.{target_name, target_language, target_child}
+use Rattle.tokei_count.specs.Languages.{languages_of}
+use Rattle.tokei_parts.specs.Openings.{block_by}
+use Rattle.tokei_parts.specs.Parts.{part_front}
 use Rattle.tokei_count.specs.PlainReading.{blocks}
 
 -- what is there is below m

@@ -6,11 +6,11 @@ use Rattle.tokei_notebook.specs.Cells.{notebook_cells}
 use Rattle.tokei_stats.specs.Ordered.{IsOrdered}
 use Rattle.tokei_stats.specs.Overflow.{Fits}
 use Rattle.tokei_stats.specs.Statistics.{Statistics, empty, lines_of, summary}
-use Rattle.tokei_count.specs.Items.{Block}
+use Rattle.tokei_choice.specs.Items.{Block}
 use Rattle.tokei_count.specs.Languages.{Languages, is_notebook}
-use Rattle.tokei_count.specs.Modes.{Mark, marks}
+use Rattle.tokei_parts.specs.Modes.{Mark, marks}
 use Rattle.tokei_count.specs.NotebookCells.{cell_blocks}
-use Rattle.tokei_count.specs.Openings.{languages_of}
+use Rattle.tokei_count.specs.Languages.{languages_of}
 use Rattle.tokei_count.specs.Gathered.{shares}
 use Rattle.tokei_count.specs.PlainReading.{notebook_by, read_by, reading}
 use Rattle.tokei_count.specs.Steps.{items_in, children_in, sum_over}

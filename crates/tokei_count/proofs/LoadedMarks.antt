@@ -3,23 +3,23 @@ use Rattle.std.proofs.Common.{◌≡◌, ℕ, zero, suc, ◌-◌, ◌<◌, ◌�
 use Rattle.std.specs.Prelude.{⊤}
 use Rattle.tokei_table.specs.Row.{Row}
 use Rattle.tokei_table.specs.Sound.{IsSound}
-use Rattle.tokei_count.specs.Choice.{Choice, choice}
-use Rattle.tokei_count.specs.Choice.Choice.{closes, escapes, child_opens, opens, passes_over, begins_line_comment, takes_byte}
-use Rattle.tokei_count.specs.Derivation.{items_of, second}
-use Rattle.tokei_count.specs.Items.{Block, enclosure}
-use Rattle.tokei_count.specs.Lines.{first_line}
-use Rattle.tokei_count.specs.Modes.{Mark, Chain, innermost, marks, of_choice, closing}
-use Rattle.tokei_count.specs.Modes.Mark.{byte_at}
-use Rattle.tokei_count.specs.PlainReading.{children}
-use Rattle.tokei_count.specs.Progress.{marks_ahead, FitsBlocks, IsClosable}
-use Rattle.tokei_count.proofs.Ahead.{marks_ahead-byte, marks_ahead-escape, marks_ahead-pass, marks_ahead-rest, marks_ahead-opener, marks_ahead-closer, marks_ahead-child, marks_ahead-end}
-use Rattle.tokei_count.proofs.Childless.{within_no_child}
-use Rattle.tokei_count.proofs.Children.{children-append, children-of_choice, children-closing}
-use Rattle.tokei_count.proofs.Fits.{IsLocal, FitsIn, choice_fits}
-use Rattle.tokei_count.proofs.Lines.{first_some, first_within}
+use Rattle.tokei_choice.specs.Choice.{Choice, choice}
+use Rattle.tokei_choice.specs.Choice.Choice.{closes, escapes, child_opens, opens, passes_over, begins_line_comment, takes_byte}
+use Rattle.tokei_parts.specs.Derivation.{items_of, second}
+use Rattle.tokei_choice.specs.Items.{Block, enclosure}
+use Rattle.tokei_parts.specs.Lines.{first_line}
+use Rattle.tokei_parts.specs.Modes.{Mark, Chain, innermost, marks, of_choice, closing}
+use Rattle.tokei_parts.specs.Modes.Mark.{byte_at}
+use Rattle.tokei_parts.specs.Tally.{children}
+use Rattle.tokei_parts.specs.Progress.{marks_ahead, FitsBlocks, IsClosable}
+use Rattle.tokei_parts.proofs.Ahead.{marks_ahead-byte, marks_ahead-escape, marks_ahead-pass, marks_ahead-rest, marks_ahead-opener, marks_ahead-closer, marks_ahead-child, marks_ahead-end}
+use Rattle.tokei_parts.proofs.Childless.{within_no_child}
+use Rattle.tokei_parts.proofs.Children.{children-append, children-of_choice, children-closing}
+use Rattle.tokei_parts.proofs.Fits.{IsLocal, FitsIn, choice_fits}
+use Rattle.tokei_parts.proofs.Lines.{first_some, first_within}
 use Rattle.tokei_count.proofs.Loads.{load, load-append, load-of_choice, load-closing}
-use Rattle.tokei_count.proofs.PartFronts.{line_len_within}
-use Rattle.tokei_count.proofs.Stepping.{top_closed}
+use Rattle.tokei_parts.proofs.PartFronts.{line_len_within}
+use Rattle.tokei_parts.proofs.Stepping.{top_closed}
 
 -- what is said of each block of a list
 abbrev pub EachOf : (Block → Type 0) → List Block → Type 0

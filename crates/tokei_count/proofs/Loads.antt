@@ -1,19 +1,19 @@
 -- How many bytes marks have, and what that bounds.
 use Rattle.std.proofs.Common.{◌≡◌, ℕ, suc, ◌+◌, ◌≤◌, ◌==◌, Bool, true, false, cond, List, [], ◌∷◌, ◌++◌, length, drop, None, refl, ap, arith, length-append}
 use Rattle.tokei_table.specs.Row.{Row}
-use Rattle.tokei_count.specs.Class.{class_of}
-use Rattle.tokei_count.specs.Glance.{is_walked}
-use Rattle.tokei_count.specs.Items.{Block, Mode}
-use Rattle.tokei_count.specs.Lines.{first_line}
-use Rattle.tokei_count.specs.Modes.{Mark, Chain, innermost, inside, of_choice, closing, closing_from}
-use Rattle.tokei_count.specs.Modes.Mark.{byte_at, child_at}
-use Rattle.tokei_count.specs.Parts.{Part, cut}
-use Rattle.tokei_count.specs.PlainReading.{children, one_of, tally}
+use Rattle.tokei_parts.specs.Class.{class_of}
+use Rattle.tokei_parts.specs.Glance.{is_walked}
+use Rattle.tokei_choice.specs.Items.{Block, Mode}
+use Rattle.tokei_parts.specs.Lines.{first_line}
+use Rattle.tokei_parts.specs.Modes.{Mark, Chain, innermost, inside, of_choice, closing, closing_from}
+use Rattle.tokei_parts.specs.Modes.Mark.{byte_at, child_at}
+use Rattle.tokei_parts.specs.Parts.{Part, cut}
+use Rattle.tokei_parts.specs.Tally.{children, one_of, tally}
 use Rattle.tokei_count.specs.Steps.{sum_over}
-use Rattle.tokei_count.specs.Running.{choices_passed, running}
-use Rattle.tokei_count.specs.Stretches.{one_if}
-use Rattle.tokei_count.specs.declared.class.Class.{Class}
-use Rattle.tokei_count.specs.declared.class.Class.TheVariants.{Blank, Code, Comment}
+use Rattle.tokei_parts.specs.Running.{choices_passed, running}
+use Rattle.tokei_parts.specs.Stretches.{one_if}
+use Rattle.tokei_parts.specs.declared.class.Class.{Class}
+use Rattle.tokei_parts.specs.declared.class.Class.TheVariants.{Blank, Code, Comment}
 use Rattle.tokei_stats.specs.Statistics.{Counts, lines_of, plus}
 
 -- the bytes of the marks; a child has those that it takes

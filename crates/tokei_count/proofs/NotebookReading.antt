@@ -10,10 +10,10 @@ use Rattle.tokei_stats.specs.Statistics.{Statistics, Blobs, no_lines, at, put, j
 use Rattle.tokei_stats.specs.Statistics.Statistics.{node}
 use Rattle.tokei_stats.specs.Statistics.Blobs.{none}
 use Rattle.tokei_stats.specs.Overflow.{Fits, BlobsFit}
-use Rattle.tokei_count.specs.Items.{Block}
+use Rattle.tokei_choice.specs.Items.{Block}
 use Rattle.tokei_count.specs.Languages.{is_notebook}
 use Rattle.tokei_count.specs.NotebookCells.{cell_block, cell_blocks}
-use Rattle.tokei_count.specs.Openings.{languages_of}
+use Rattle.tokei_count.specs.Languages.{languages_of}
 use Rattle.tokei_count.specs.Gathered.{gathered}
 use Rattle.tokei_count.specs.PlainReading.{reading, child_reading}
 use Rattle.tokei_count.proofs.Fitting.{gathered-child, gathered-first}

@@ -12,17 +12,18 @@ use Rattle.tokei_table.specs.Family.TheVariants.{Plain, Markdown, HtmlLike, Rust
 use Rattle.tokei_embedding.specs.BlockLaws.{BeginWithOpeners}
 use Rattle.tokei_embedding.specs.declared.tags.Tag.TheVariants.{Script, Style, Template}
 use Rattle.tokei_embedding.proofs.Openers.{begin_with_openers}
-use Rattle.tokei_count.specs.Glance.{holds}
-use Rattle.tokei_count.specs.Lines.{first_line, line_len}
-use Rattle.tokei_count.specs.MarkdownChildren.{fence_child}
-use Rattle.tokei_count.specs.HtmlChildren.{element_child, element_at, first_block}
-use Rattle.tokei_count.specs.RustChildren.{doc_child}
-use Rattle.tokei_count.specs.LinguaFrancaChildren.{target_child}
-use Rattle.tokei_count.specs.Openings.{block_by, block_in, languages_of}
-use Rattle.tokei_count.specs.Parts.{part_front}
+use Rattle.tokei_parts.specs.Glance.{holds}
+use Rattle.tokei_parts.specs.Lines.{first_line, line_len}
+use Rattle.tokei_parts.specs.MarkdownChildren.{fence_child}
+use Rattle.tokei_parts.specs.HtmlChildren.{element_child, element_at, first_block}
+use Rattle.tokei_parts.specs.RustChildren.{doc_child}
+use Rattle.tokei_parts.specs.LinguaFrancaChildren.{target_child}
+use Rattle.tokei_count.specs.Languages.{languages_of}
+use Rattle.tokei_parts.specs.Openings.{block_by, block_in}
+use Rattle.tokei_parts.specs.Parts.{part_front}
 use Rattle.tokei_count.specs.PlainReading.{blocks}
-use Rattle.tokei_count.proofs.Blocks.{drop_front}
-use Rattle.tokei_count.proofs.OpenersInLines.{none_here, none_later, holds-back}
+use Rattle.tokei_parts.proofs.Blocks.{drop_front}
+use Rattle.tokei_parts.proofs.OpenersInLines.{none_here, none_later, holds-back}
 
 begins_none : (f : Family) (u : List ℕ) → first_opener (child_openers f) u ≡ None → begins_with_one (child_openers f) u ≡ false
 unfolding begins_with_one

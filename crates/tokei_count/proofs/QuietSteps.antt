@@ -7,26 +7,27 @@ use Rattle.tokei_table.specs.Lookups.{row_at}
 use Rattle.tokei_table.specs.Openers.{openers}
 use Rattle.tokei_table.specs.Row.{Row}
 use Rattle.tokei_table.specs.Tokens.{has_tokens}
-use Rattle.tokei_count.specs.Derivation.{items_of}
-use Rattle.tokei_count.specs.Glance.{holds, is_walked}
-use Rattle.tokei_count.specs.Items.{Block}
+use Rattle.tokei_parts.specs.Derivation.{items_of}
+use Rattle.tokei_parts.specs.Glance.{holds, is_walked}
+use Rattle.tokei_choice.specs.Items.{Block}
 use Rattle.tokei_count.specs.Languages.{is_notebook}
-use Rattle.tokei_count.specs.Lines.{first_line, line_len}
-use Rattle.tokei_count.specs.Modes.{Chain, marks}
-use Rattle.tokei_count.specs.Openings.{languages_of}
-use Rattle.tokei_count.specs.PlainReading.{blocks, children}
-use Rattle.tokei_count.specs.Progress.{marks_ahead, FitsBlocks}
+use Rattle.tokei_parts.specs.Lines.{first_line, line_len}
+use Rattle.tokei_parts.specs.Modes.{Chain, marks}
+use Rattle.tokei_count.specs.Languages.{languages_of}
+use Rattle.tokei_count.specs.PlainReading.{blocks}
+use Rattle.tokei_parts.specs.Tally.{children}
+use Rattle.tokei_parts.specs.Progress.{marks_ahead, FitsBlocks}
 use Rattle.tokei_count.specs.Steps.{with_children, own_steps, steps, sum_over}
-use Rattle.tokei_count.specs.Running.{choices_passed, running}
+use Rattle.tokei_parts.specs.Running.{choices_passed, running}
 use Rattle.tokei_count.specs.WeightLaws.{HaveTokens}
-use Rattle.tokei_count.proofs.Ahead.{marks_ahead-end}
-use Rattle.tokei_count.proofs.Blocks.{by_levels}
+use Rattle.tokei_parts.proofs.Ahead.{marks_ahead-end}
+use Rattle.tokei_parts.proofs.Blocks.{by_levels}
 use Rattle.tokei_count.proofs.ByChoices.{Takes, IsNewline, IsChild, by_choices}
 use Rattle.tokei_count.proofs.CalmChoices.{holds-behind}
-use Rattle.tokei_count.proofs.Cuts.{running_newline}
-use Rattle.tokei_count.proofs.Lines.{take-first}
-use Rattle.tokei_count.proofs.OpenersInLines.{none_here, none_next}
-use Rattle.tokei_count.proofs.PlainBytes.{or_left, or_right}
+use Rattle.tokei_parts.proofs.Cuts.{running_newline}
+use Rattle.tokei_parts.proofs.Lines.{take-first}
+use Rattle.tokei_parts.proofs.OpenersInLines.{none_here, none_next}
+use Rattle.tokei_parts.proofs.PlainBytes.{or_left, or_right}
 use Rattle.tokei_count.proofs.QuietBlocks.{quiet_blocks}
 use Rattle.tokei_count.proofs.Running.{own_steps-running}
 use Rattle.tokei_count.proofs.Weights.{every_token}

@@ -4,14 +4,14 @@ use Rattle.std.specs.List.{AllByRecursion}
 use Rattle.tokei_table.specs.Bytes.{newline}
 use Rattle.tokei_table.specs.Openers.{openers}
 use Rattle.tokei_table.specs.Row.{Row}
-use Rattle.tokei_count.specs.Glance.{is_walked}
-use Rattle.tokei_count.specs.Items.{Items, Mode}
-use Rattle.tokei_count.specs.Lines.{first_line}
-use Rattle.tokei_count.specs.Modes.{Mark, innermost, marks}
-use Rattle.tokei_count.specs.Modes.Mark.{byte_at, child_at}
-use Rattle.tokei_count.specs.Running.{Passed, running, choices_passed}
+use Rattle.tokei_parts.specs.Glance.{is_walked}
+use Rattle.tokei_choice.specs.Items.{Items, Mode}
+use Rattle.tokei_parts.specs.Lines.{first_line}
+use Rattle.tokei_parts.specs.Modes.{Mark, innermost, marks}
+use Rattle.tokei_parts.specs.Modes.Mark.{byte_at, child_at}
+use Rattle.tokei_parts.specs.Running.{Passed, running, choices_passed}
 use Rattle.tokei_count.specs.Steps.{own_steps, walked_choices}
-use Rattle.tokei_count.specs.Stretches.{Stretch, stretches, bytes_of, choices_of, one_if}
+use Rattle.tokei_parts.specs.Stretches.{Stretch, stretches, bytes_of, choices_of, one_if}
 
 -- the stretch, as the walk passes it
 abbrev pub passed_of : Stretch → Passed

@@ -6,29 +6,30 @@ use Rattle.tokei_table.specs.FirstOpener.{first_opener}
 use Rattle.tokei_table.specs.Lookups.{row_at}
 use Rattle.tokei_table.specs.Openers.{openers}
 use Rattle.tokei_table.specs.Row.{Row}
-use Rattle.tokei_count.specs.Glance.{holds, is_walked, opener_place}
-use Rattle.tokei_count.specs.Glanced.{AreInLine, Knows}
-use Rattle.tokei_count.specs.Items.{Block}
+use Rattle.tokei_parts.specs.Glance.{holds, is_walked, opener_place}
+use Rattle.tokei_parts.specs.Glanced.{AreInLine, Knows}
+use Rattle.tokei_choice.specs.Items.{Block}
 use Rattle.tokei_count.specs.Languages.{is_notebook}
-use Rattle.tokei_count.specs.Lines.{first_line, line_len}
-use Rattle.tokei_count.specs.Matchers.{Matchers, matchers_of}
-use Rattle.tokei_count.specs.Modes.{Chain, innermost}
+use Rattle.tokei_parts.specs.Lines.{first_line, line_len}
+use Rattle.tokei_parts.specs.Matchers.{Matchers, matchers_of}
+use Rattle.tokei_parts.specs.Modes.{Chain, innermost}
 use Rattle.tokei_count.specs.NotebookCells.{cell_blocks}
-use Rattle.tokei_count.specs.Openings.{languages_of}
-use Rattle.tokei_count.specs.PlainReading.{blocks, one_of}
-use Rattle.tokei_count.specs.Progress.{marks_ahead, children_left, steps_left, IsPart, ReadsLine, ReadsChild}
-use Rattle.tokei_count.proofs.Leading.{line_len-drop}
-use Rattle.tokei_count.proofs.LineEnds.{below_or}
-use Rattle.tokei_count.proofs.PartFronts.{line_len_within, part_on, part_anew}
+use Rattle.tokei_count.specs.Languages.{languages_of}
+use Rattle.tokei_count.specs.PlainReading.{blocks}
+use Rattle.tokei_parts.specs.Tally.{one_of}
+use Rattle.tokei_parts.specs.Progress.{marks_ahead, children_left, steps_left, IsPart, ReadsLine, ReadsChild}
+use Rattle.tokei_parts.proofs.Leading.{line_len-drop}
+use Rattle.tokei_parts.proofs.LineEnds.{below_or}
+use Rattle.tokei_parts.proofs.PartFronts.{line_len_within, part_on, part_anew}
 use Rattle.tokei_count.specs.Steps.{own_steps, items_in, children_in, sum_over, with_children, steps, child_steps, capped}
-use Rattle.tokei_count.specs.Running.{choices_passed, running}
-use Rattle.tokei_count.specs.declared.class.Class.{Class}
-use Rattle.tokei_count.specs.declared.class.Class.TheVariants.{Blank, Code, Comment}
+use Rattle.tokei_parts.specs.Running.{choices_passed, running}
+use Rattle.tokei_parts.specs.declared.class.Class.{Class}
+use Rattle.tokei_parts.specs.declared.class.Class.TheVariants.{Blank, Code, Comment}
 use Rattle.tokei_stats.specs.Statistics.{Counts, plus, lines_of}
-use Rattle.tokei_count.proofs.Ahead.{marks_ahead-end}
-use Rattle.tokei_count.proofs.Lines.{children_left-none, length-whole, length-broken, first_some}
+use Rattle.tokei_parts.proofs.Ahead.{marks_ahead-end}
+use Rattle.tokei_parts.proofs.Lines.{children_left-none, length-whole, length-broken, first_some}
 use Rattle.tokei_count.proofs.Running.{own_steps-running}
-use Rattle.tokei_count.proofs.OpenersInLines.{below, holds-line, none_next, place-later}
+use Rattle.tokei_parts.proofs.OpenersInLines.{below, holds-line, none_next, place-later}
 
 abbrev pub most : ℕ
 most = 340282366920938463463374607431768211455

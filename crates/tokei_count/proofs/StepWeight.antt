@@ -4,16 +4,16 @@ use Rattle.tokei_table.proofs.RowSound.{sound_row}
 use Rattle.tokei_table.specs.Lookups.{row_at}
 use Rattle.tokei_table.specs.Openers.{openers}
 use Rattle.tokei_table.specs.Row.{Row}
-use Rattle.tokei_count.specs.Items.{Block}
+use Rattle.tokei_choice.specs.Items.{Block}
 use Rattle.tokei_count.specs.Languages.{Languages, is_notebook}
-use Rattle.tokei_count.specs.Modes.{Mark, marks}
+use Rattle.tokei_parts.specs.Modes.{Mark, marks}
 use Rattle.tokei_count.specs.NotebookCells.{cell_blocks}
-use Rattle.tokei_count.specs.Openings.{languages_of}
+use Rattle.tokei_count.specs.Languages.{languages_of}
 use Rattle.tokei_count.specs.PlainReading.{blocks}
 use Rattle.tokei_count.specs.Steps.{own_steps, items_in, children_in, sum_over, with_children, steps}
 use Rattle.tokei_count.specs.Weight.{own_weight, extra, weight}
 use Rattle.tokei_count.specs.WeightLaws.{HaveTokens}
-use Rattle.tokei_count.proofs.Blocks.{by_levels}
+use Rattle.tokei_parts.proofs.Blocks.{by_levels}
 use Rattle.tokei_count.proofs.HeavyBlocks.{IsHeavy, blocks_heavy}
 use Rattle.tokei_count.proofs.LoadedMarks.{EachOf, IsLoaded, text_loaded}
 use Rattle.tokei_count.proofs.Loads.{sizes, choices_within}

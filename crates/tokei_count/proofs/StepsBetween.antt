@@ -2,13 +2,13 @@
 use Rattle.std.proofs.Common.{ℕ, List}
 use Rattle.tokei_table.specs.Lookups.{row_at}
 use Rattle.tokei_table.specs.Row.{Row}
-use Rattle.tokei_count.specs.Openings.{languages_of}
+use Rattle.tokei_count.specs.Languages.{languages_of}
 use Rattle.tokei_count.specs.OpeningItems.{own_openings}
 use Rattle.tokei_count.specs.PlainReading.{blocks}
 use Rattle.tokei_count.specs.StepLaw.{StepsLieBetween}
 use Rattle.tokei_count.specs.Steps.{own_steps}
 use Rattle.tokei_count.specs.WeightLaws.{HaveTokens}
-use Rattle.tokei_count.proofs.Blocks.{by_levels}
+use Rattle.tokei_parts.proofs.Blocks.{by_levels}
 use Rattle.tokei_count.proofs.ChildSums.{with_children-most}
 use Rattle.tokei_count.proofs.QuietBlocks.{quiet_blocks}
 use Rattle.tokei_count.proofs.WalkedBytes.{steps-most}

@@ -10,12 +10,13 @@ use Rattle.tokei_stats.proofs.SumLaws.{sum_summary}
 use Rattle.tokei_stats.proofs.SumsOrdered.{sum_ordered}
 use Rattle.tokei_table.specs.Row.{Row}
 use Rattle.tokei_count.specs.Gathered.{shares}
-use Rattle.tokei_count.specs.Items.{Block}
+use Rattle.tokei_choice.specs.Items.{Block}
 use Rattle.tokei_count.specs.Languages.{Languages, is_notebook}
-use Rattle.tokei_count.specs.Modes.{Mark, marks}
+use Rattle.tokei_parts.specs.Modes.{Mark, marks}
 use Rattle.tokei_count.specs.NotebookCells.{cell_block}
-use Rattle.tokei_count.specs.Parts.{parts_of}
-use Rattle.tokei_count.specs.PlainReading.{child_adds, children, children_add, notebook_by, read_by, reading, tally}
+use Rattle.tokei_parts.specs.Parts.{parts_of}
+use Rattle.tokei_parts.specs.Tally.{children, tally}
+use Rattle.tokei_count.specs.PlainReading.{child_adds, children_add, notebook_by, read_by, reading}
 use Rattle.tokei_count.specs.Steps.{items_in, sum_over}
 use Rattle.tokei_count.proofs.Gathered.{add-ordered}
 

@@ -6,7 +6,7 @@ use Rattle.tokei_table.specs.Tokens.{has_tokens}
 use Rattle.tokei_table.specs.WellFormed.{IsWellFormed}
 use Rattle.tokei_count.specs.Steps.{capped}
 use Rattle.tokei_count.specs.WeightLaws.{HaveTokens}
-use Rattle.tokei_count.proofs.Fits.{and_left, and_right}
+use Rattle.tokei_parts.proofs.Fits.{and_left, and_right}
 use Rattle.tokei_count.proofs.StepReading.{capped-is}
 
 pub have_tokens : (rows : List Row) → IsWellFormed rows → HaveTokens rows

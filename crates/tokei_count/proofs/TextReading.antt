@@ -2,27 +2,29 @@
 use Rattle.std.proofs.Common.{◌≡◌, ℕ, suc, zero, ◌+◌, ◌-◌, ◌<◌, Bool, true, false, cond, List, [], ◌∷◌, length, drop, Option, Some, sym, ◌∙◌, ap, subst, arith}
 use Rattle.tokei_table.specs.Row.{Row}
 use Rattle.tokei_table.specs.Lookups.{row_at}
-use Rattle.tokei_count.specs.Items.{Block}
-use Rattle.tokei_count.specs.Derivation.{items_of}
-use Rattle.tokei_count.specs.Modes.{Chain, Mark, marks}
-use Rattle.tokei_count.specs.Parts.{parts_of}
+use Rattle.tokei_choice.specs.Items.{Block}
+use Rattle.tokei_parts.specs.Derivation.{items_of}
+use Rattle.tokei_parts.specs.Modes.{Chain, Mark, marks}
+use Rattle.tokei_parts.specs.Parts.{parts_of}
 use Rattle.tokei_notebook.specs.Cells.{notebook_cells}
 use Rattle.tokei_count.specs.Languages.{is_notebook}
-use Rattle.tokei_count.specs.Openings.{languages_of}
+use Rattle.tokei_count.specs.Languages.{languages_of}
 use Rattle.tokei_count.specs.Gathered.{gathered, shares}
-use Rattle.tokei_count.specs.PlainReading.{blocks, reading, read_by, notebook_by, child_reading, children, one_of, tally}
+use Rattle.tokei_count.specs.PlainReading.{blocks}
+use Rattle.tokei_parts.specs.Tally.{children, one_of, tally}
+use Rattle.tokei_count.specs.PlainReading.{reading, read_by, notebook_by, child_reading}
 use Rattle.tokei_count.specs.NotebookCells.{cell_blocks}
-use Rattle.tokei_count.specs.Progress.{marks_ahead, counts_left, children_left, ReadsLine, ReadsChild}
+use Rattle.tokei_parts.specs.Progress.{marks_ahead, counts_left, children_left, ReadsLine, ReadsChild}
 use Rattle.tokei_stats.specs.Statistics.{Counts, Statistics, Blobs, plus, no_lines, empty, at, put, joined, sum}
 use Rattle.tokei_stats.specs.Statistics.Statistics.{node}
 use Rattle.tokei_stats.specs.Statistics.Blobs.{none}
 use Rattle.tokei_stats.specs.Overflow.{CountsFit, Fits, BlobsFit}
-use Rattle.tokei_count.specs.declared.class.Class.{Class}
+use Rattle.tokei_parts.specs.declared.class.Class.{Class}
 use Rattle.tokei_count.proofs.Fitting.{gathered-child, gathered-first}
 use Rattle.tokei_count.proofs.Gathered.{gathered-sum, gathered-cells}
 use Rattle.tokei_count.proofs.Summaries.{reading-ordered}
 use Rattle.tokei_stats.proofs.Fitting.{counts-left}
-use Rattle.tokei_count.proofs.Lines.{counts_left-none, children_left-none}
+use Rattle.tokei_parts.proofs.Lines.{counts_left-none, children_left-none}
 
 pub counts_same : (a b : Counts) → a.blanks ≡ b.blanks → a.code ≡ b.code → a.comments ≡ b.comments → a ≡ b
 counts_same a b x y z =

@@ -8,7 +8,7 @@ use Rattle.tokei_table.specs.Sound.{no_newline, is_token, is_pair}
 use Rattle.tokei_table.specs.Tokens.{has_tokens}
 use Rattle.tokei_table.specs.Family.{Family}
 use Rattle.tokei_table.specs.Family.TheVariants.{Plain, Markdown, HtmlLike, Rust, LinguaFranca, Jupyter}
-use Rattle.tokei_count.proofs.Fits.{and_left, and_right}
+use Rattle.tokei_parts.proofs.Fits.{and_left, and_right}
 
 both : (a b : Bool) → a ≡ true → b ≡ true → (a && b) ≡ true
 both true b e f = f

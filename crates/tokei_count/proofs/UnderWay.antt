@@ -4,26 +4,27 @@ use Rattle.std.proofs.lemmas.List.{drop-drop, drop_all}
 use Rattle.std.specs.Global.{Vec}
 use Rattle.tokei_table.specs.FirstOpener.{first_opener}
 use Rattle.tokei_table.specs.Openers.{openers}
-use Rattle.tokei_count.specs.Class.{class_of}
-use Rattle.tokei_count.specs.Glance.{holds, is_walked, opener_place}
-use Rattle.tokei_count.specs.Glanced.{AreInLine}
-use Rattle.tokei_count.specs.Items.{Block}
-use Rattle.tokei_count.specs.Lines.{first_line, line_len}
-use Rattle.tokei_count.specs.Modes.{Chain, innermost}
-use Rattle.tokei_count.specs.Openings.{languages_of}
-use Rattle.tokei_count.specs.PlainReading.{one_of}
-use Rattle.tokei_count.specs.Progress.{IsClosable, IsPart, ReadsLine}
-use Rattle.tokei_count.specs.ReadingOf.{row_in, blocks_of, reading_of, openers_in, line_from}
-use Rattle.tokei_count.specs.Seen.{chain_of}
+use Rattle.tokei_parts.specs.Class.{class_of}
+use Rattle.tokei_parts.specs.Glance.{holds, is_walked, opener_place}
+use Rattle.tokei_parts.specs.Glanced.{AreInLine}
+use Rattle.tokei_choice.specs.Items.{Block}
+use Rattle.tokei_parts.specs.Lines.{first_line, line_len}
+use Rattle.tokei_parts.specs.Modes.{Chain, innermost}
+use Rattle.tokei_count.specs.Languages.{languages_of}
+use Rattle.tokei_parts.specs.Tally.{one_of}
+use Rattle.tokei_parts.specs.Progress.{IsClosable, IsPart, ReadsLine}
+use Rattle.tokei_count.specs.Readers.{reading_of}
+use Rattle.tokei_parts.specs.ReadingOf.{row_in, blocks_of, openers_in, line_from}
+use Rattle.tokei_parts.specs.Seen.{chain_of}
 use Rattle.tokei_count.specs.Steps.{steps, capped}
 use Rattle.tokei_count.specs.UnderWay.{IsUnderWay, reading_inside, steps_inside}
-use Rattle.tokei_count.specs.Walked.{ReadsTo, Breaks}
-use Rattle.tokei_count.specs.declared.class.Class.{Class}
-use Rattle.tokei_count.specs.declared.items.Enclosure.{Enclosure}
-use Rattle.tokei_count.specs.declared.openings.Block as CodeBlock
-use Rattle.tokei_count.specs.declared.reading.Reading.{Reading}
+use Rattle.tokei_parts.specs.Walked.{ReadsTo, Breaks}
+use Rattle.tokei_parts.specs.declared.class.Class.{Class}
+use Rattle.tokei_choice.specs.declared.items.Enclosure.{Enclosure}
+use Rattle.tokei_parts.specs.declared.openings.Block as CodeBlock
+use Rattle.tokei_parts.specs.declared.reading.Reading.{Reading}
 use Rattle.tokei_count.specs.declared.text_reading.ReadSoFar.{ReadSoFar}
-use Rattle.tokei_count.specs.declared.walk.PartEnd.TheVariants.{Line, Broken}
+use Rattle.tokei_parts.specs.declared.walk.PartEnd.TheVariants.{Line, Broken}
 use Rattle.tokei_stats.specs.Overflow.{CountsFit, Fits}
 use Rattle.tokei_stats.specs.Seen.{sums_of, blobs_of, entries_of}
 use Rattle.tokei_stats.specs.Statistics.{Counts, Blobs, lines_of, no_lines, plus, at, put, joined, sum}
@@ -31,10 +32,10 @@ use Rattle.tokei_stats.specs.Statistics.Statistics.{node}
 use Rattle.tokei_stats.specs.declared.sums.Sums.{Sums}
 use Rattle.tokei_count.proofs.GlanceReading.{glance_reads, glance_walked}
 use Rattle.tokei_count.proofs.KnownLanguages.{blocks_known}
-use Rattle.tokei_count.proofs.LineEnd.{drop_none}
-use Rattle.tokei_count.proofs.Lines.{take-first, first_within}
-use Rattle.tokei_count.proofs.OpenersInLines.{holds-line, place-below, place-behind}
-use Rattle.tokei_count.proofs.PartFronts.{part_behind}
+use Rattle.tokei_parts.proofs.LineEnd.{drop_none}
+use Rattle.tokei_parts.proofs.Lines.{take-first, first_within}
+use Rattle.tokei_parts.proofs.OpenersInLines.{holds-line, place-below, place-behind}
+use Rattle.tokei_parts.proofs.PartFronts.{part_behind}
 use Rattle.tokei_count.proofs.StepReading.{AreUnderWay, not_walked, lines_of-one, steps_whole, line_steps, line_skipped, broken_steps, glance_part, line_some}
 use Rattle.tokei_count.proofs.TextReading.{IsCounted, read_whole, line_read, child_read, line_fits, share_fits, child_fits, blob_fits, levels_left, own_fits, counts_same}
 use Rattle.tokei_count.proofs.TokenOpeners.{openers_in_line}

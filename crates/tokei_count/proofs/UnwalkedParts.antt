@@ -5,21 +5,21 @@ use Rattle.std.proofs.lemmas.List.{append-nil}
 use Rattle.tokei_table.specs.Openers.{openers}
 use Rattle.tokei_table.specs.Row.{Row}
 use Rattle.tokei_table.specs.Tokens.{has_tokens}
-use Rattle.tokei_count.specs.Derivation.{items_of}
-use Rattle.tokei_count.specs.Glance.{holds, is_walked}
-use Rattle.tokei_count.specs.Items.{Block, Mode}
-use Rattle.tokei_count.specs.Lines.{first_line, line_len}
-use Rattle.tokei_count.specs.Modes.{Chain, Mark, innermost, marks}
+use Rattle.tokei_parts.specs.Derivation.{items_of}
+use Rattle.tokei_parts.specs.Glance.{holds, is_walked}
+use Rattle.tokei_choice.specs.Items.{Block, Mode}
+use Rattle.tokei_parts.specs.Lines.{first_line, line_len}
+use Rattle.tokei_parts.specs.Modes.{Chain, Mark, innermost, marks}
 use Rattle.tokei_count.specs.PartLaw.{IsInPlainText, UnwalkedStayPlain}
-use Rattle.tokei_count.specs.Parts.{cut}
-use Rattle.tokei_count.specs.Progress.{marks_ahead, FitsBlocks}
-use Rattle.tokei_count.specs.Running.{Passed, running}
-use Rattle.tokei_count.specs.Stretches.{stretches}
-use Rattle.tokei_count.proofs.Ahead.{marks_ahead-end}
+use Rattle.tokei_parts.specs.Parts.{cut}
+use Rattle.tokei_parts.specs.Progress.{marks_ahead, FitsBlocks}
+use Rattle.tokei_parts.specs.Running.{Passed, running}
+use Rattle.tokei_parts.specs.Stretches.{stretches}
+use Rattle.tokei_parts.proofs.Ahead.{marks_ahead-end}
 use Rattle.tokei_count.proofs.ByChoices.{Takes, IsNewline, IsChild, by_choices}
 use Rattle.tokei_count.proofs.CalmChoices.{holds-behind}
-use Rattle.tokei_count.proofs.Cuts.{cut_newline, running_newline}
-use Rattle.tokei_count.proofs.PartReading.{line_from}
+use Rattle.tokei_parts.proofs.Cuts.{cut_newline, running_newline}
+use Rattle.tokei_parts.proofs.PartReading.{line_from}
 use Rattle.tokei_count.proofs.Running.{running-is, each-stretch}
 
 -- a part that isn't walked begins plain and holds no opener

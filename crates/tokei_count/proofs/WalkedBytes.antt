@@ -1,9 +1,9 @@
 -- At most one choice begins at a byte.
 use Rattle.std.proofs.Common.{ℕ, ◌≤◌, Bool, true, false, List, [], ◌∷◌, length, arith}
-use Rattle.tokei_count.specs.Glance.{is_walked}
+use Rattle.tokei_parts.specs.Glance.{is_walked}
 use Rattle.tokei_count.specs.Languages.{Languages}
 use Rattle.tokei_count.specs.Steps.{walked_choices, walked_bytes, own_steps, own_work, steps, work}
-use Rattle.tokei_count.specs.Stretches.{Stretch, choices_of, one_if}
+use Rattle.tokei_parts.specs.Stretches.{Stretch, choices_of, one_if}
 use Rattle.tokei_count.proofs.ChildSums.{cond-most, with_children-most}
 
 one_if-most : (x : Bool) → one_if x ≤ 1

@@ -4,20 +4,20 @@ use Rattle.std.proofs.lemmas.List.{append-nil, length-take-le}
 use Rattle.tokei_table.specs.Openers.{openers}
 use Rattle.tokei_table.specs.Row.{Row}
 use Rattle.tokei_table.specs.Tokens.{has_tokens}
-use Rattle.tokei_count.specs.Derivation.{items_of}
-use Rattle.tokei_count.specs.Glance.{holds, is_walked}
-use Rattle.tokei_count.specs.Items.{Block, Mode}
-use Rattle.tokei_count.specs.Lines.{first_line, line_len}
-use Rattle.tokei_count.specs.Modes.{Chain, innermost}
+use Rattle.tokei_parts.specs.Derivation.{items_of}
+use Rattle.tokei_parts.specs.Glance.{holds, is_walked}
+use Rattle.tokei_choice.specs.Items.{Block, Mode}
+use Rattle.tokei_parts.specs.Lines.{first_line, line_len}
+use Rattle.tokei_parts.specs.Modes.{Chain, innermost}
 use Rattle.tokei_count.specs.OpeningItems.{own_openings}
-use Rattle.tokei_count.specs.Progress.{marks_ahead, FitsBlocks}
+use Rattle.tokei_parts.specs.Progress.{marks_ahead, FitsBlocks}
 use Rattle.tokei_count.specs.Steps.{own_steps}
-use Rattle.tokei_count.specs.Running.{choices_passed, Passed, running}
-use Rattle.tokei_count.proofs.Ahead.{marks_ahead-end}
+use Rattle.tokei_parts.specs.Running.{choices_passed, Passed, running}
+use Rattle.tokei_parts.proofs.Ahead.{marks_ahead-end}
 use Rattle.tokei_count.proofs.ByChoices.{Takes, IsNewline, IsChild, IsCarried, by_choices}
-use Rattle.tokei_count.proofs.Cuts.{running_newline}
+use Rattle.tokei_parts.proofs.Cuts.{running_newline}
 use Rattle.tokei_count.proofs.OpeningsAhead.{openings_ahead, openings_ahead-end}
-use Rattle.tokei_count.proofs.PartFronts.{line_len_within}
+use Rattle.tokei_parts.proofs.PartFronts.{line_len_within}
 use Rattle.tokei_count.proofs.Running.{own_steps-running}
 use Rattle.tokei_count.proofs.UnwalkedParts.{IsPlainSoFar, plain_first, unwalked_on, calm_on}
 

@@ -8,7 +8,7 @@ use Rattle.tokei_table.specs.Openers.{openers}
 use Rattle.tokei_table.specs.Row.{Row}
 use Rattle.tokei_count.specs.Languages.{is_notebook}
 use Rattle.tokei_count.specs.OpeningItems.{openings}
-use Rattle.tokei_count.specs.Openings.{languages_of}
+use Rattle.tokei_count.specs.Languages.{languages_of}
 use Rattle.tokei_count.specs.PlainReading.{reading, outermost_levels}
 use Rattle.tokei_count.specs.Seen.{docs_of}
 use Rattle.tokei_count.specs.Steps.{steps, work}

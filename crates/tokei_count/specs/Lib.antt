@@ -1,44 +1,19 @@
 -- What contracts say of counting: the items of a text and their parts, the class of each part, the children, the plain
 -- reading, its steps and its weight.
-pub mod Calm
-pub mod Choice
-pub mod Class
 pub mod Countings
-pub mod Derivation
-pub mod Glance
-pub mod HtmlChildren
-pub mod Items
 pub mod Languages
-pub mod Lines
-pub mod LinguaFrancaChildren
-pub mod MarkdownChildren
-pub mod Matchers
-pub mod Modes
-pub mod NamedLanguages
 pub mod NotebookCells
 pub mod OpeningItems
-pub mod Openings
 pub mod PartLaw
-pub mod Parts
 pub mod PlainReading
 pub mod QuietLaw
-pub mod RustChildren
 pub mod Seen
 pub mod Spelling
 pub mod StepLaw
 pub mod Steps
-pub mod Stretches
 pub mod Weight
 pub mod WeightLaws
 -- The code's own words, which no public contract has:
-pub mod CodeHeads
 pub mod Gathered
-pub mod Glanced
-pub mod Places
-pub mod PlainBytes
-pub mod Progress
 pub mod Readers
-pub mod ReadingOf
-pub mod Running
 pub mod UnderWay
-pub mod Walked

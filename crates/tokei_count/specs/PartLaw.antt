@@ -5,12 +5,12 @@ use Rattle.std.specs.List.{AllByRecursion}
 use Rattle.tokei_table.specs.Lookups.{row_at}
 use Rattle.tokei_table.specs.Openers.{openers}
 use Rattle.tokei_table.specs.Row.{Row}
-use Rattle.tokei_count.specs.Glance.{is_walked}
-use Rattle.tokei_count.specs.Modes.{Mark, marks}
-use Rattle.tokei_count.specs.Openings.{languages_of}
-use Rattle.tokei_count.specs.Parts.{Part, parts_of}
+use Rattle.tokei_parts.specs.Glance.{is_walked}
+use Rattle.tokei_parts.specs.Modes.{Mark, marks}
+use Rattle.tokei_count.specs.Languages.{languages_of}
+use Rattle.tokei_parts.specs.Parts.{Part, parts_of}
 use Rattle.tokei_count.specs.Steps.{items_in}
-use Rattle.tokei_count.specs.Stretches.{Stretch, stretches}
+use Rattle.tokei_parts.specs.Stretches.{Stretch, stretches}
 use Rattle.tokei_count.specs.WeightLaws.{HaveTokens}
 
 -- where it isn't walked it begins and ends in plain text

@@ -1,35 +1,15 @@
 -- The plain reading: the statistics of a text, by its derivation alone.
 use Rattle.std.specs.Prelude.{ℕ, zero, suc, Bool, List, [], ◌∷◌, if◌then◌else◌, Option}
 use Rattle.tokei_table.specs.Row.{Row}
-use Rattle.tokei_count.specs.Items.{Block}
-use Rattle.tokei_count.specs.Derivation.{items_of, no_child}
-use Rattle.tokei_count.specs.Modes.{Mark, marks}
-use Rattle.tokei_count.specs.Modes.Mark.{byte_at, child_at}
-use Rattle.tokei_count.specs.Parts.{Part, parts_of}
-use Rattle.tokei_count.specs.Class.{class_of}
+use Rattle.tokei_choice.specs.Items.{Block}
+use Rattle.tokei_parts.specs.Derivation.{items_of}
+use Rattle.tokei_parts.specs.Modes.{Mark, marks}
+use Rattle.tokei_parts.specs.Parts.{parts_of}
+use Rattle.tokei_parts.specs.Tally.{blocks_at, children, tally}
 use Rattle.tokei_count.specs.Languages.{Languages, is_notebook}
-use Rattle.tokei_stats.specs.Statistics.{Counts, Statistics, no_lines, plus, empty, sum}
+use Rattle.tokei_stats.specs.Statistics.{Statistics, empty, sum}
 use Rattle.tokei_stats.specs.Statistics.Statistics.{node}
 use Rattle.tokei_stats.specs.Statistics.Blobs.{none, blob}
-use Rattle.tokei_count.specs.declared.class.Class.{Class}
-use Rattle.tokei_count.specs.declared.class.Class.TheVariants.{Blank, Code, Comment}
-
--- one line of the class
-abbrev pub one_of : Class → Counts
-one_of Blank = record { blanks = 1; code = 0; comments = 0 }
-one_of Code = record { blanks = 0; code = 1; comments = 0 }
-one_of Comment = record { blanks = 0; code = 0; comments = 1 }
-
--- each counted part is 1 in the column of its class
-abbrev pub tally : Row → Bool → List Part → Counts
-tally r docs_are_comments [] = no_lines
-tally r docs_are_comments (p ∷ ps) = plus (one_of (class_of r docs_are_comments p)) (tally r docs_are_comments ps)
-
--- the children, in order
-abbrev pub children : List Mark → List Block
-children [] = []
-children (byte_at b x c ∷ ms) = children ms
-children (child_at k ∷ ms) = k ∷ children ms
 
 -- what a child adds to its parent: its share of the parent's own lines, and its statistics at its language
 abbrev pub child_adds : (Block → Statistics) → Block → Statistics
@@ -47,8 +27,7 @@ read_by r docs_are_comments read ms =
 
 -- the blocks that can open in a text, with so many levels left: with none left no child opens
 abbrev pub blocks : Languages → ℕ → ℕ → List ℕ → (ℕ → List ℕ → Option Block)
-blocks ls zero language t = no_child
-blocks ls (suc levels) language t = ls.block language t
+blocks ls levels language t = blocks_at ls.block levels language t
 
 -- the statistics of a notebook: what its cells add, which is each cell's at its language
 abbrev pub notebook_by : (Block → Statistics) → List Block → Statistics

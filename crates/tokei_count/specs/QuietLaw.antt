@@ -5,7 +5,7 @@ use Rattle.tokei_table.specs.Lookups.{row_at}
 use Rattle.tokei_table.specs.Openers.{openers}
 use Rattle.tokei_table.specs.Row.{Row}
 use Rattle.tokei_count.specs.Languages.{is_notebook}
-use Rattle.tokei_count.specs.Openings.{languages_of}
+use Rattle.tokei_count.specs.Languages.{languages_of}
 use Rattle.tokei_count.specs.Steps.{steps}
 use Rattle.tokei_count.specs.WeightLaws.{HaveTokens}
 

@@ -1,10 +1,11 @@
 -- What the readers of the code answer, as the definitions see it.
 use Rattle.std.specs.Prelude.{ℕ, List}
-use Rattle.tokei_count.specs.Openings.{languages_of}
+use Rattle.tokei_count.specs.Languages.{languages_of}
 use Rattle.tokei_count.specs.PlainReading.{reading}
 use Rattle.tokei_count.specs.Steps.{steps}
 use Rattle.tokei_stats.specs.Statistics.{Statistics}
 use Rattle.tokei_count.specs.declared.reader.Reader.{Reader}
+use Rattle.tokei_parts.specs.declared.reading.Reading.{Reading}
 
 -- the plain reading of a text, with so many levels left, in a language
 abbrev pub reading_by : Reader → ℕ → ℕ → List ℕ → Statistics
@@ -13,3 +14,7 @@ reading_by r levels language text = reading (languages_of r.table.now) r.docs_ar
 -- its steps
 abbrev pub steps_by : Reader → ℕ → ℕ → List ℕ → ℕ
 steps_by r levels language text = steps (languages_of r.table.now) levels language text
+
+-- the plain reading of a text that is read
+abbrev pub reading_of : Reading → Statistics
+reading_of r = reading (languages_of r.table.now) r.docs_are_comments r.levels r.language r.text.now

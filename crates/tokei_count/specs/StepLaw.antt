@@ -3,7 +3,7 @@ use Rattle.std.specs.Prelude.{ℕ, ◌≤◌, List}
 use Rattle.tokei_table.specs.Row.{Row}
 use Rattle.tokei_count.specs.Languages.{Languages}
 use Rattle.tokei_count.specs.OpeningItems.{openings}
-use Rattle.tokei_count.specs.Openings.{languages_of}
+use Rattle.tokei_count.specs.Languages.{languages_of}
 use Rattle.tokei_count.specs.Steps.{steps, work}
 use Rattle.tokei_count.specs.WeightLaws.{HaveTokens}
 

@@ -2,13 +2,14 @@
 use Rattle.std.specs.Prelude.{ℕ, zero, suc, ◌+◌, if◌then◌else◌, List, [], ◌∷◌, length, None, nat_le}
 use Rattle.tokei_table.specs.Openers.{openers}
 use Rattle.tokei_table.specs.Row.{Row}
-use Rattle.tokei_count.specs.Derivation.{items_of}
-use Rattle.tokei_count.specs.Glance.{is_walked}
-use Rattle.tokei_count.specs.Items.{Block, Items}
+use Rattle.tokei_parts.specs.Derivation.{items_of}
+use Rattle.tokei_parts.specs.Glance.{is_walked}
+use Rattle.tokei_choice.specs.Items.{Block, Items}
 use Rattle.tokei_count.specs.Languages.{Languages, is_notebook}
-use Rattle.tokei_count.specs.Modes.{marks}
-use Rattle.tokei_count.specs.PlainReading.{blocks, children}
-use Rattle.tokei_count.specs.Stretches.{Stretch, stretches, choices_of}
+use Rattle.tokei_parts.specs.Modes.{marks}
+use Rattle.tokei_count.specs.PlainReading.{blocks}
+use Rattle.tokei_parts.specs.Tally.{children}
+use Rattle.tokei_parts.specs.Stretches.{Stretch, stretches, choices_of}
 
 -- the choices of those stretches that are walked
 abbrev pub walked_choices : List (List ℕ) → List Stretch → ℕ

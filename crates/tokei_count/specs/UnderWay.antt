@@ -3,20 +3,20 @@ use Rattle.std.specs.Prelude.{◌≡◌, ℕ, ◌+◌, ◌<◌, ◌≤◌, true,
 use Rattle.tokei_table.specs.FirstOpener.{first_opener}
 use Rattle.tokei_table.specs.Openers.{openers}
 use Rattle.tokei_table.specs.Tokens.{has_tokens}
-use Rattle.tokei_count.specs.Items.{Block}
+use Rattle.tokei_choice.specs.Items.{Block}
 use Rattle.tokei_count.specs.Languages.{is_notebook}
-use Rattle.tokei_count.specs.Openings.{languages_of}
+use Rattle.tokei_count.specs.Languages.{languages_of}
 use Rattle.tokei_count.specs.Gathered.{gathered, shares}
 use Rattle.tokei_count.specs.PlainReading.{child_reading}
-use Rattle.tokei_count.specs.Progress.{counts_left, children_left, steps_left, IsClosable, IsPart}
-use Rattle.tokei_count.specs.ReadingOf.{row_in, blocks_of}
-use Rattle.tokei_count.specs.Seen.{chain_of}
+use Rattle.tokei_parts.specs.Progress.{counts_left, children_left, steps_left, IsClosable, IsPart}
+use Rattle.tokei_parts.specs.ReadingOf.{row_in, blocks_of}
+use Rattle.tokei_parts.specs.Seen.{chain_of}
 use Rattle.tokei_count.specs.Steps.{sum_over, child_steps, capped}
 use Rattle.tokei_stats.specs.Seen.{sums_of, blobs_of, entries_of}
 use Rattle.tokei_stats.specs.Statistics.{Counts, Statistics, Blobs, plus, lines_of}
 use Rattle.tokei_stats.specs.Statistics.Blobs.{none}
 use Rattle.tokei_count.specs.declared.reader.Reader.{Reader}
-use Rattle.tokei_count.specs.declared.reading.Reading.{Reading}
+use Rattle.tokei_parts.specs.declared.reading.Reading.{Reading}
 use Rattle.tokei_count.specs.declared.text_reading.ReadSoFar.{ReadSoFar}
 
 -- the text is read as the reader says

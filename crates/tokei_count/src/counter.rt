@@ -3,13 +3,12 @@ ghost use Rattle.std.specs.Prelude.{◌≡◌, ◌<◌, codes, length, map, IfOk
 ghost use Rattle.tokei_table.specs.Lookups.{first_where, has_name, row_at};
 ghost use Rattle.tokei_table.specs.Openers.{openers};
 ghost use Rattle.tokei_table.specs.WellFormed.{IsWellFormed};
-ghost use Rattle.tokei_count.specs.Matchers.{matchers_of};
+ghost use Rattle.tokei_parts.specs.Matchers.{matchers_of};
 
-use crate::matchers::{LanguageMatchers, all_matchers};
-use crate::shared_matchers::SharedMatchers;
 use std::alloc::{AllocError, Global};
 use std::marker::Model;
 use tokei_table::{LanguageTable, LanguageType};
+use tokei_parts::{LanguageMatchers, SharedMatchers, all_matchers};
 
 /// Counts texts in the languages of a table, which it borrows, with matchers of each of them. Contracts see it as that
 /// table.
@@ -23,7 +22,7 @@ pub struct Counter<'a> {
 
 impl<'a> Model for Counter<'a> {
     ghost use Rattle.std.specs.Prelude.{◌≡◌, List, codes, map};
-    ghost use Rattle.tokei_count.specs.Matchers.{matchers_of};
+    ghost use Rattle.tokei_parts.specs.Matchers.{matchers_of};
     ghost use Rattle.tokei_table.specs.Lookups.{first_where, has_name};
     ghost use Rattle.tokei_table.specs.Row.{Row};
     ghost use Rattle.tokei_table.specs.WellFormed.{IsWellFormed};

@@ -4,37 +4,23 @@
 //! the class of a part, where a child opens in a language of each family, the plain reading.
 #![tactic(auto)]
 
-mod beginnings;
-mod calm;
-mod choice;
-mod class;
 mod counter;
 mod file_context;
-mod glance;
-mod items;
 pub mod laws;
-mod line_ends;
-mod matchers;
-mod openings;
 mod parse;
-mod place;
-mod plain_bytes;
 mod plain_reading;
 mod reader;
-mod reading;
-mod shared_matchers;
 mod text_reading;
-mod walk;
 
 pub use counter::Counter;
 pub use file_context::{FileContext, LanguageContext};
 pub use parse::{parse_counted, parse_from_slice, parse_from_str};
 pub use plain_reading::count_plain;
-pub use shared_matchers::SharedMatchers;
 pub use tokei_captures::{
     Capture, HtmlLike, SimpleCapture, end_lf, end_markdown, end_script, end_style, end_template,
     start_lf, start_markdown, start_script, start_style, start_template,
 };
 pub use tokei_options::CountConfig;
+pub use tokei_parts::SharedMatchers;
 pub use tokei_stats::{CodeStats, CountError, Report, ReportRow};
 pub use tokei_text::{decode_text, find_char_boundary};

@@ -2,9 +2,9 @@
 ghost use Rattle.std.specs.Prelude.{◌≡◌, codes};
 ghost use Rattle.tokei_table.specs.Lookups.{first_where, has_name};
 
-use crate::matchers::LanguageMatchers;
 use std::alloc::Global;
 use tokei_table::{LanguageTable, LanguageType};
+use tokei_parts::{LanguageMatchers};
 
 /// How the texts of a table's languages are read.
 #[derive(Clone, Copy)]

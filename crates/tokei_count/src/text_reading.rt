@@ -7,34 +7,28 @@ ghost use Rattle.tokei_table.specs.Openers.{openers};
 ghost use Rattle.tokei_table.specs.RowOf.{row_of};
 ghost use Rattle.tokei_table.specs.Tokens.{has_tokens};
 ghost use Rattle.tokei_embedding.specs.DocComments.{doc_text};
-ghost use Rattle.tokei_count.specs.Calm.{IsCalm};
-ghost use Rattle.tokei_count.specs.Glance.{is_walked, opener_place};
-ghost use Rattle.tokei_count.specs.Glanced.{Knows};
+ghost use Rattle.tokei_parts.specs.Calm.{IsCalm};
+ghost use Rattle.tokei_parts.specs.Glance.{is_walked, opener_place};
+ghost use Rattle.tokei_parts.specs.Glanced.{Knows};
 ghost use Rattle.tokei_count.specs.Languages.{is_notebook};
-ghost use Rattle.tokei_count.specs.Lines.{line_len};
-ghost use Rattle.tokei_count.specs.Matchers.{matchers_of};
+ghost use Rattle.tokei_parts.specs.Lines.{line_len};
+ghost use Rattle.tokei_parts.specs.Matchers.{matchers_of};
 ghost use Rattle.tokei_stats.specs.Overflow.{Fits};
-ghost use Rattle.tokei_count.specs.PlainReading.{one_of};
-ghost use Rattle.tokei_count.specs.Places.{IsAt, block_here, text_of};
-ghost use Rattle.tokei_count.specs.Modes.{innermost};
+ghost use Rattle.tokei_parts.specs.Tally.{one_of};
+ghost use Rattle.tokei_parts.specs.Places.{IsAt, block_here, text_of};
+ghost use Rattle.tokei_parts.specs.Modes.{innermost};
 ghost use Rattle.tokei_count.specs.Readers.{reading_by, steps_by};
-ghost use Rattle.tokei_count.specs.ReadingOf.{line_from, openers_in, reading_of, row_in};
-ghost use Rattle.tokei_count.specs.Seen.{block_of, chain_of, mode_of};
+ghost use Rattle.tokei_count.specs.Readers.{reading_of};
+ghost use Rattle.tokei_parts.specs.ReadingOf.{line_from, openers_in, row_in};
+ghost use Rattle.tokei_choice.specs.Seen.{mode_of};
+ghost use Rattle.tokei_parts.specs.Seen.{block_of, chain_of};
 ghost use Rattle.tokei_count.specs.Steps.{capped};
 ghost use Rattle.tokei_count.specs.UnderWay.{IsReadBy, IsUnderWay, reading_inside, steps_inside};
 ghost use Rattle.tokei_stats.specs.Seen.{stats_of, sums_of};
 ghost use Rattle.tokei_stats.specs.Statistics.{lines_of, plus};
 
-use crate::calm::calm_end;
-use crate::class::{Class, class_of_plain, class_within};
-use crate::glance::next_opener;
-use crate::items::Enclosure;
-use crate::line_ends::{line_end, line_front, line_len, line_stop, newline_before};
-use crate::openings::Block;
-use crate::place::Place;
+use tokei_choice::Enclosure;
 use crate::reader::Reader;
-use crate::reading::Reading;
-use crate::walk::{PartEnd, innermost, read_part};
 use std::alloc::{AllocError, Global};
 use std::collections::BTreeMap;
 use tokei_embedding::{BlockSearch, doc_text};
@@ -42,6 +36,7 @@ use tokei_notebook::cells;
 use tokei_stats::{CodeStats, CountError, Sums, add_blob};
 use tokei_table::ext::trim;
 use tokei_table::{LanguageType, Syntax};
+use tokei_parts::{Block, Class, PartEnd, Place, Reading, calm_end, class_of_plain, class_within, innermost, line_end, line_front, line_len, line_stop, newline_before, next_opener, read_part};
 
 /// A text that was read.
 #[derive(Drop)]
@@ -96,6 +91,17 @@ fn counted_as(class: Class) -> Sums
             code: 0,
             comments: 1,
         },
+    }
+}
+
+/// The lines that the child adds to its parent.
+fn share_of(child: &Block) -> Sums
+    ensures { sums_of result ≡ (block_of child.now).share }
+{
+    Sums {
+        blanks: 0,
+        code: child.code,
+        comments: child.comments,
     }
 }
 
@@ -379,7 +385,7 @@ fn read_walked<'a>(
             so_far.start = behind;
         }
         PartEnd::Broken(at) => {
-            so_far.own = so_far.own.plus(so_far.child.share())?;
+            so_far.own = so_far.own.plus(share_of(&so_far.child))?;
             let read = read_child(reader, reading, &so_far.child)?;
             add_blob(&mut so_far.blobs, so_far.child.language, read.stats)?;
             so_far.inner_steps = capped_sum(so_far.inner_steps, read.steps);

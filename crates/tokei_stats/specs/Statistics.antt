@@ -1,9 +1,9 @@
 -- Statistics: a finite tree of three numbers, and of a tree for each of some languages, in the table's order.
-use Rattle.std.specs.Prelude.{ℕ, ◌+◌, Option, None, Some}
+use Rattle.std.specs.Prelude.{ℕ, Option, None, Some}
 use Rattle.std.specs.Ordering.{nat_cmp}
 use Rattle.std.specs.declared.cmp.Ordering.{Ordering}
 use Rattle.std.specs.declared.cmp.Ordering.TheVariants.{Less, Equal, Greater}
-pub use Rattle.tokei_report_row.specs.Counts.{Counts, lines_of}
+pub use Rattle.tokei_report_row.specs.Counts.{Counts, lines_of, no_lines, plus}
 
 mutual
   pub data Statistics : Type 0 where
@@ -13,9 +13,6 @@ mutual
     none : Blobs
     blob : ℕ → Statistics → Blobs → Blobs
 
-abbrev pub no_lines : Counts
-no_lines = record { blanks = 0; code = 0; comments = 0 }
-
 abbrev pub empty : Statistics
 empty = node no_lines none
 
@@ -24,9 +21,6 @@ own (node n bs) = n
 
 abbrev pub blobs : Statistics → Blobs
 blobs (node n bs) = bs
-
-abbrev pub plus : Counts → Counts → Counts
-plus a b = record { blanks = a.blanks + b.blanks; code = a.code + b.code; comments = a.comments + b.comments }
 
 -- by how the key stands to an entry's
 abbrev pub by_order : {A : Type 0} → Ordering → A → A → A → A

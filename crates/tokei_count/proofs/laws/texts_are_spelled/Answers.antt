@@ -1,8 +1,8 @@
 use Rattle.tokei_table.proofs.RowSound.{sound_row}
 use Rattle.tokei_table.specs.Lookups.{row_at}
-use Rattle.tokei_count.specs.Openings.{languages_of}
+use Rattle.tokei_count.specs.Languages.{languages_of}
 use Rattle.tokei_count.specs.PlainReading.{blocks}
-use Rattle.tokei_count.proofs.Blocks.{by_levels}
+use Rattle.tokei_parts.proofs.Blocks.{by_levels}
 use Rattle.tokei_count.proofs.SpelledItems.{spelled-items_of}
 use Rattle.tokei_count.proofs.Weights.{every_token}
 use Rattle.tokei_count.proofs.laws.texts_are_spelled.Goals as goal

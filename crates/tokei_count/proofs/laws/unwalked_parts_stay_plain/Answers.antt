@@ -1,7 +1,7 @@
 use Rattle.tokei_table.specs.Lookups.{row_at}
-use Rattle.tokei_count.specs.Openings.{languages_of}
+use Rattle.tokei_count.specs.Languages.{languages_of}
 use Rattle.tokei_count.specs.PlainReading.{blocks}
-use Rattle.tokei_count.proofs.Blocks.{by_levels}
+use Rattle.tokei_parts.proofs.Blocks.{by_levels}
 use Rattle.tokei_count.proofs.QuietBlocks.{quiet_blocks}
 use Rattle.tokei_count.proofs.UnwalkedParts.{stay_plain}
 use Rattle.tokei_count.proofs.Weights.{every_token}

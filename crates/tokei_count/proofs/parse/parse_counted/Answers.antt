@@ -3,7 +3,7 @@ use Rattle.std.proofs.Common.{◌≡◌, ℕ, ◌≤◌, List, Err, refl, sym, a
 use Rattle.std.proofs.lemmas.Result.{err_from_is_err_and}
 use Rattle.tokei_table.specs.Row.{Row}
 use Rattle.tokei_count.specs.Countings.{text_steps, text_openings, text_weight, all_lines}
-use Rattle.tokei_count.specs.Openings.{languages_of}
+use Rattle.tokei_count.specs.Languages.{languages_of}
 use Rattle.tokei_count.specs.PlainReading.{reading, outermost_levels}
 use Rattle.tokei_count.specs.Steps.{capped}
 use Rattle.tokei_stats.specs.Overflow.{Fits}

@@ -4,22 +4,22 @@ use Rattle.std.proofs.lemmas.Result.{err_from_is_err_and}
 use Rattle.tokei_table.specs.Row.{Row}
 use Rattle.tokei_notebook.specs.Cells.{cell_of, AreKnown}
 use Rattle.tokei_notebook.specs.declared.notebook.Cell.{Cell}
-use Rattle.tokei_count.specs.Items.{Block}
-use Rattle.tokei_count.specs.Matchers.{Matchers}
+use Rattle.tokei_choice.specs.Items.{Block}
+use Rattle.tokei_parts.specs.Matchers.{Matchers}
 use Rattle.tokei_count.specs.NotebookCells.{cell_block, cell_blocks}
-use Rattle.tokei_count.specs.Openings.{languages_of}
+use Rattle.tokei_count.specs.Languages.{languages_of}
 use Rattle.tokei_count.specs.Gathered.{gathered}
 use Rattle.tokei_count.specs.PlainReading.{child_reading}
-use Rattle.tokei_count.specs.ReadingOf.{row_in, blocks_of}
-use Rattle.tokei_count.specs.Seen.{chain_of, block_of}
+use Rattle.tokei_parts.specs.ReadingOf.{row_in, blocks_of}
+use Rattle.tokei_parts.specs.Seen.{chain_of, block_of}
 use Rattle.tokei_count.specs.Steps.{steps, child_steps, capped, sum_over}
-use Rattle.tokei_count.specs.Walked.{ReadsTo}
+use Rattle.tokei_parts.specs.Walked.{ReadsTo}
 use Rattle.tokei_stats.specs.Overflow.{CountsFit, Fits}
 use Rattle.tokei_stats.specs.Seen.{sums_of, blobs_of, entries_of, stats_of}
 use Rattle.tokei_stats.specs.Statistics.{Counts, Blobs, plus, at, put, joined, sum}
 use Rattle.tokei_stats.specs.Statistics.Statistics.{node}
 use Rattle.tokei_stats.specs.declared.error.CountError.TheVariants.{Overflow}
-use Rattle.tokei_count.proofs.LineEnds.{end_later}
+use Rattle.tokei_parts.proofs.LineEnds.{end_later}
 use Rattle.tokei_count.proofs.NotebookReading.{known_at, begun, cells_begun, cells_split, cell_read, cell_fits, cell_blob_fits, cell_reading, cells_whole}
 use Rattle.tokei_count.proofs.StepReading.{knows_later, child_steps-is, steps-notebook, steps-no_notebook, capped-left, capped_middle, capped-twice, matchers_at}
 use Rattle.tokei_count.proofs.TextReading.{reading-no_notebook}
@@ -164,7 +164,7 @@ read_walked-returns-in_err-so_far-in-Line-clause-overflow t c = λ is fits. c.in
     (walked_fits c.args.reading.now c.args.so_far.now c.requires.under_way c.in-Line.class c.in-Line.behind c.in_ok-part.part.steps c.read_part.new.stack (subst (ReadsTo (row_in c.args.reading.now) (blocks_of c.args.reading.now) c.args.so_far.now.behind_child c.args.reading.now.docs_are_comments (chain_of c.args.so_far.now.stack.items) (chain_of c.read_part.new.stack.items) c.args.so_far.now.start c.args.reading.now.text.now c.in_ok-part.part.steps) c.in-Line.is c.in_ok-part.ensures.reads) fits))
 
 pub read_walked-returns-in_err-so_far-in-Broken-clause-overflow : goal.read_walked-returns-in_err-so_far-in-Broken-clause-overflow
-read_walked-returns-in_err-so_far-in-Broken-clause-overflow t c = λ is fits. c.in_err-so_far-in-Broken.ensures.past (subst (λ (m : Counts). CountsFit (plus (sums_of c.args.so_far.now.own) m)) (sym c.share.ensures)
+read_walked-returns-in_err-so_far-in-Broken-clause-overflow t c = λ is fits. c.in_err-so_far-in-Broken.ensures.past (subst (λ (m : Counts). CountsFit (plus (sums_of c.args.so_far.now.own) m)) (sym c.share_of.ensures)
     (broken_fits c.args.reading.now c.args.so_far.now c.requires.under_way c.in-Broken.at c.in_ok-part.part.steps (chain_of c.read_part.new.stack.items) (block_of c.read_part.new.found) (subst (ReadsTo (row_in c.args.reading.now) (blocks_of c.args.reading.now) c.args.so_far.now.behind_child c.args.reading.now.docs_are_comments (chain_of c.args.so_far.now.stack.items) (chain_of c.read_part.new.stack.items) c.args.so_far.now.start c.args.reading.now.text.now c.in_ok-part.part.steps) c.in-Broken.is c.in_ok-part.ensures.reads) (c.in_ok-part.ensures.found c.in-Broken.at c.in-Broken.is) fits))
 
 pub read_walked-read_child-requires : goal.read_walked-read_child-requires
@@ -197,7 +197,7 @@ read_walked-returns-in_ok-add_blob-in-Broken-clause-under_way t c =
     let k : Block = block_of c.read_part.new.found in
     let old : Blobs = blobs_of (entries_of c.args.so_far.now.blobs.entries) in
     broken_on c.args.reading.now c.args.so_far.now c.requires.under_way c.in-Broken.at c.in_ok-part.part.steps (chain_of c.read_part.new.stack.items) (block_of c.read_part.new.found) (subst (ReadsTo (row_in c.args.reading.now) (blocks_of c.args.reading.now) c.args.so_far.now.behind_child c.args.reading.now.docs_are_comments (chain_of c.args.so_far.now.stack.items) (chain_of c.read_part.new.stack.items) c.args.so_far.now.start c.args.reading.now.text.now c.in_ok-part.part.steps) c.in-Broken.is c.in_ok-part.ensures.reads) (c.in_ok-part.ensures.found c.in-Broken.at c.in-Broken.is) _
-    (c.in_ok-so_far-in-Broken.ensures.ok ∙ ap (plus (sums_of c.args.so_far.now.own)) c.share.ensures)
+    (c.in_ok-so_far-in-Broken.ensures.ok ∙ ap (plus (sums_of c.args.so_far.now.own)) c.share_of.ensures)
     (c.in_ok-add_blob-in-Broken.ensures.ok ∙ ap (λ s'. put old k.language (joined (at old k.language) (λ s. sum s s') s')) c.in_ok-read-in-Broken.ensures.reads)
     refl (λ skipped. c.capped_sum-so_far.ensures ∙ ap (λ m. capped (c.args.so_far.now.inner_steps + m)) (c.in_ok-read-in-Broken.ensures.steps skipped))
     refl refl refl (c.in_ok-part.ensures.same ∙ c.requires.under_way.searched) c.requires.walked

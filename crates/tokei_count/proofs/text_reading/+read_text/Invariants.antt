@@ -1,12 +1,12 @@
 use Rattle.std.proofs.Common.{◌≡◌, ◌+◌, ◌*◌, map, ◌-◌, ◌≤◌, true, length, drop}
 use Rattle.tokei_notebook.specs.Cells.{cell_of}
 use Rattle.tokei_count.specs.NotebookCells.{cell_block, cell_blocks}
-use Rattle.tokei_count.specs.Lines.{line_len}
-use Rattle.tokei_count.specs.Openings.{languages_of}
+use Rattle.tokei_parts.specs.Lines.{line_len}
+use Rattle.tokei_count.specs.Languages.{languages_of}
 use Rattle.tokei_count.specs.Gathered.{gathered}
 use Rattle.tokei_count.specs.PlainReading.{child_reading}
-use Rattle.tokei_count.specs.Glanced.{Knows}
-use Rattle.tokei_count.specs.ReadingOf.{openers_in}
+use Rattle.tokei_parts.specs.Glanced.{Knows}
+use Rattle.tokei_parts.specs.ReadingOf.{openers_in}
 use Rattle.tokei_count.specs.Steps.{sum_over, child_steps, capped}
 use Rattle.tokei_count.specs.UnderWay.{IsUnderWay}
 use Rattle.tokei_stats.specs.Seen.{blobs_of, entries_of}

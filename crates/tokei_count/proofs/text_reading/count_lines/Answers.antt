@@ -1,11 +1,11 @@
 use Rattle.std.proofs.Common.{◌≡◌, ◌+◌, ◌<◌, ◌≤◌, ℕ, List, length, drop, ap, arith}
-use Rattle.tokei_count.specs.Lines.{first_line}
-use Rattle.tokei_count.proofs.LineEnds.{line_stops, line_goes_over}
-use Rattle.tokei_count.proofs.OpenersInLines.{opener_later}
+use Rattle.tokei_parts.specs.Lines.{first_line}
+use Rattle.tokei_parts.proofs.LineEnds.{line_stops, line_goes_over}
+use Rattle.tokei_parts.proofs.OpenersInLines.{opener_later}
 use Rattle.tokei_count.proofs.StepReading.{line_some, lines_of-one}
 use Rattle.tokei_stats.specs.Seen.{sums_of}
 use Rattle.tokei_stats.specs.Statistics.{lines_of}
-use Rattle.tokei_count.specs.ReadingOf.{openers_in}
+use Rattle.tokei_parts.specs.ReadingOf.{openers_in}
 use Rattle.tokei_count.proofs.UnderWay.{gone_on, none_more, counts_fit, skipped_more}
 use Rattle.tokei_count.proofs.text_reading.count_lines.Goals as goal
 use Rattle.tokei_count.proofs.text_reading.count_lines.Goals.{else-loop-at-test, then-loop-at-test+then-next-stop}

@@ -1,6 +1,6 @@
 use Rattle.std.proofs.Common.{◌-◌, ◌≡◌, ◌+◌, ◌≤◌, drop}
-use Rattle.tokei_count.specs.Glance.{opener_place}
-use Rattle.tokei_count.specs.ReadingOf.{openers_in}
+use Rattle.tokei_parts.specs.Glance.{opener_place}
+use Rattle.tokei_parts.specs.ReadingOf.{openers_in}
 use Rattle.tokei_count.specs.UnderWay.{IsUnderWay}
 use Rattle.tokei_stats.specs.Seen.{sums_of}
 use Rattle.tokei_stats.specs.Statistics.{lines_of}

@@ -1,7 +1,7 @@
 use Rattle.std.proofs.Common.{◌≡◌, ◌+◌, ◌<◌, ℕ, List, length, drop, ap, arith}
-use Rattle.tokei_count.specs.Lines.{first_line}
+use Rattle.tokei_parts.specs.Lines.{first_line}
 use Rattle.tokei_count.proofs.CalmLines.{calm_more, gone_within, none_within}
-use Rattle.tokei_count.proofs.LineEnds.{line_stops}
+use Rattle.tokei_parts.proofs.LineEnds.{line_stops}
 use Rattle.tokei_count.proofs.StepReading.{line_some, lines_of-one}
 use Rattle.tokei_stats.specs.Seen.{sums_of}
 use Rattle.tokei_stats.specs.Statistics.{lines_of}

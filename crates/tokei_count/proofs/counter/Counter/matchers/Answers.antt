@@ -1,5 +1,5 @@
 use Rattle.std.proofs.Common.{List, map, get_or, ◌∙◌, ap}
-use Rattle.tokei_count.specs.Matchers.{Matchers, matchers_of}
+use Rattle.tokei_parts.specs.Matchers.{Matchers, matchers_of}
 use Rattle.tokei_count.proofs.StepReading.{matchers_at}
 use Rattle.tokei_count.proofs.counter.Counter.matchers.Goals as goal
 

@@ -3,16 +3,16 @@ use Rattle.tokei_stats.specs.Seen.{blobs_of, entries_of}
 use Rattle.tokei_stats.specs.Statistics.{Counts, plus, lines_of, no_lines}
 use Rattle.tokei_stats.specs.Statistics.Blobs.{none}
 use Rattle.tokei_stats.proofs.SumLaws.{plus_commutes, plus_none}
-use Rattle.tokei_count.specs.Items.{Block}
-use Rattle.tokei_count.specs.Modes.{Chain}
+use Rattle.tokei_choice.specs.Items.{Block}
+use Rattle.tokei_parts.specs.Modes.{Chain}
 use Rattle.tokei_count.specs.Gathered.{shares}
-use Rattle.tokei_count.specs.Progress.{IsClosable, counts_left, children_left, steps_left}
-use Rattle.tokei_count.specs.ReadingOf.{row_in, blocks_of}
-use Rattle.tokei_count.specs.Seen.{chain_of}
+use Rattle.tokei_parts.specs.Progress.{IsClosable, counts_left, children_left, steps_left}
+use Rattle.tokei_parts.specs.ReadingOf.{row_in, blocks_of}
+use Rattle.tokei_parts.specs.Seen.{chain_of}
 use Rattle.tokei_count.specs.Steps.{sum_over, capped}
 use Rattle.tokei_count.specs.UnderWay.{steps_inside, blobs_with, all_counts, all_children, all_steps}
-use Rattle.tokei_count.specs.declared.reading.Reading.{Reading}
-use Rattle.tokei_count.proofs.PartFronts.{part_first}
+use Rattle.tokei_parts.specs.declared.reading.Reading.{Reading}
+use Rattle.tokei_parts.proofs.PartFronts.{part_first}
 use Rattle.tokei_count.proofs.text_reading.ReadSoFar.new.Goals as goal
 
 pub returns-clause-under_way : goal.returns-clause-under_way

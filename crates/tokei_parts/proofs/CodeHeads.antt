@@ -1,0 +1,209 @@
+-- A part at whose head nothing but code can begin is code, and a part of blanks is blank.
+use Rattle.std.proofs.Common.{◌≡◌, ℕ, zero, suc, ◌+◌, ◌-◌, ◌<◌, ◌≤◌, ◌==◌, Bool, true, false, ◌&&◌, ◌||◌, not, cond, List, [], ◌∷◌, None, Some, drop, take, length, length-drop, get_or, slice_index_or, refl, sym, ◌∙◌, ap, subst, arith}
+use Rattle.std.proofs.lemmas.List.{length-take-le, get_or-take, get_or-drop}
+use Rattle.std.proofs.Math.ListN.{drop_of_length-le}
+use Rattle.std.specs.List.{list_all}
+use Rattle.std.specs.Str.{bytes_eq}
+use Rattle.tokei_table.specs.Bytes.{ends, is_blank, all_blank, trim, trim_start, trim_end}
+use Rattle.tokei_table.specs.FirstOpener.{is_first_of}
+use Rattle.tokei_table.specs.Row.{Pair, Row}
+use Rattle.tokei_table.specs.Sound.{is_token, is_pair, IsSound}
+use Rattle.tokei_choice.specs.Choice.{any_begins}
+use Rattle.tokei_parts.specs.Class.{class_of, encloses, opens_with, head_of, is_comment, is_doc_string, keeps_columns, in_string, in_doc_string, in_comment, ends_opened}
+use Rattle.tokei_parts.specs.CodeHeads.{FrontBeginsNone, HasCodeHead}
+use Rattle.tokei_parts.specs.PlainBytes.{BeginsNone}
+use Rattle.tokei_parts.specs.Derivation.{closer_of}
+use Rattle.tokei_choice.specs.Items.{Mode}
+use Rattle.tokei_parts.specs.Matchers.{Matchers, matchers_of, begins_opener, begins_choice}
+use Rattle.tokei_parts.specs.declared.class.Class.TheVariants.{Blank, Code, Comment}
+use Rattle.tokei_choice.specs.declared.items.Kind.{Kind}
+use Rattle.tokei_choice.specs.declared.items.Kind.TheVariants.{DocString, VerbatimString, OrdinaryString, MultiLineComment}
+use Rattle.tokei_parts.proofs.Fits.{and_left, and_right}
+use Rattle.tokei_parts.proofs.PlainBytes.{flag_at, not_begun, token_some, none_begins, or_left, or_right}
+
+not_enclosed : (ps : List Pair) (b : ℕ) (t : List ℕ) → list_all is_pair ps ≡ true → begins_opener ps b ≡ false → encloses ps (b ∷ t) ≡ false
+not_enclosed [] b t s h = refl
+not_enclosed (p ∷ ps) b t s h =
+    let opener = and_left (is_token p.opener) (is_token p.closer) (and_left (is_pair p) (list_all is_pair ps) s) in
+    ap (λ y. (y && ends p.closer (b ∷ t)) || encloses ps (b ∷ t)) (not_begun p.opener b t (token_some p.opener opener) (or_left (is_first_of b p.opener) (begins_opener ps b) h))
+    ∙ not_enclosed ps b t (and_right (is_pair p) (list_all is_pair ps) s) (or_right (is_first_of b p.opener) (begins_opener ps b) h)
+
+not_opened : (ps : List Pair) (c : List ℕ) (b : ℕ) (t : List ℕ) → list_all is_pair ps ≡ true → begins_opener ps b ≡ false → opens_with ps (b ∷ t) c ≡ false
+not_opened [] c b t s h = refl
+not_opened (p ∷ ps) c b t s h =
+    let opener = and_left (is_token p.opener) (is_token p.closer) (and_left (is_pair p) (list_all is_pair ps) s) in
+    ap (λ y. (y && bytes_eq p.closer c) || opens_with ps (b ∷ t) c) (not_begun p.opener b t (token_some p.opener opener) (or_left (is_first_of b p.opener) (begins_opener ps b) h))
+    ∙ not_opened ps c b t (and_right (is_pair p) (list_all is_pair ps) s) (or_right (is_first_of b p.opener) (begins_opener ps b) h)
+
+-- what a byte at which no choice begins can't begin
+record StartsNothing (g : Row) (b : ℕ) (t : List ℕ) : Type 0 where
+  line : any_begins g.line_comment (b ∷ t) ≡ false
+  multi_line : encloses g.multi_line_comments (b ∷ t) ≡ false
+  nested : encloses g.nested_comments (b ∷ t) ≡ false
+  opens_multi_line : (c : List ℕ) → opens_with g.multi_line_comments (b ∷ t) c ≡ false
+  opens_nested : (c : List ℕ) → opens_with g.nested_comments (b ∷ t) c ≡ false
+
+starts_nothing : (g : Row) (s : IsSound g) (m : Matchers) (b : ℕ) (t : List ℕ) → m ≡ matchers_of g → BeginsNone m b → StartsNothing g b t
+starts_nothing g s m b t is h =
+    let none : begins_choice g b ≡ false = sym (flag_at (begins_choice g) 256 b h.small) ∙ ap (λ (n : Matchers). slice_index_or n.begins b false) (sym is) ∙ h.outside in
+    let h1 = or_right (b == 92) _ none in
+    let h2 = or_right (begins_opener g.quotes b) _ h1 in
+    let h3 = or_right (begins_opener g.verbatim_quotes b) _ h2 in
+    let h4 = or_right (begins_opener g.doc_quotes b) _ h3 in
+    let h5 = or_right (begins_opener g.multi_line_comments b) _ h4 in
+    let multi : begins_opener g.multi_line_comments b ≡ false = or_left (begins_opener g.multi_line_comments b) _ h4 in
+    let nested : begins_opener g.nested_comments b ≡ false = or_left (begins_opener g.nested_comments b) _ h5 in
+    record {
+      line = none_begins g.line_comment b t s.line_comment (or_right (begins_opener g.nested_comments b) _ h5);
+      multi_line = not_enclosed g.multi_line_comments b t s.multi_line_comments multi;
+      nested = not_enclosed g.nested_comments b t s.nested_comments nested;
+      opens_multi_line = λ c. not_opened g.multi_line_comments c b t s.multi_line_comments multi;
+      opens_nested = λ c. not_opened g.nested_comments c b t s.nested_comments nested;
+    }
+
+-- the first byte that isn't blank stays where the blanks at the end go
+trimmed_by : (x y : Bool) (b : ℕ) (t : List ℕ) → x ≡ false → cond (x && y) [] (b ∷ trim_end t) ≡ b ∷ trim_end t
+trimmed_by x y b t h = ap (λ z. cond (z && y) [] (b ∷ trim_end t)) h
+
+front_solid : (t : List ℕ) (b : ℕ) (w : List ℕ) → trim_start t ≡ b ∷ w → is_blank b ≡ false
+front_solid [] b w e = cc
+front_solid (a ∷ t) b w e = by_test (is_blank a) refl e (front_solid t b w)
+  where
+    by_test : (x : Bool) → is_blank a ≡ x → cond x (trim_start t) (a ∷ t) ≡ b ∷ w → (trim_start t ≡ b ∷ w → is_blank b ≡ false) → is_blank b ≡ false
+    by_test true f e ih = ih e
+    by_test false f e ih = let same : a ≡ b = cc in ap is_blank (sym same) ∙ f
+
+front_not_blank : (t : List ℕ) (b : ℕ) (w : List ℕ) → trim_start t ≡ b ∷ w → all_blank t ≡ false
+front_not_blank [] b w e = cc
+front_not_blank (a ∷ t) b w e = by_test (is_blank a) e (front_not_blank t b w)
+  where
+    by_test : (x : Bool) → cond x (trim_start t) (a ∷ t) ≡ b ∷ w → (trim_start t ≡ b ∷ w → all_blank t ≡ false) → (x && all_blank t) ≡ false
+    by_test true e ih = ih e
+    by_test false e ih = refl
+
+module _ (g : Row) (s : IsSound g) (m : Matchers) (is : m ≡ matchers_of g) (docs_are_comments : Bool) (ended : Mode) (plain : g.literate ≡ false) (no_doc : in_doc_string ended ≡ false) where
+  by_rules : (t : List ℕ) (a : ℕ) (t' : List ℕ) (b : ℕ) (w : List ℕ) → t ≡ a ∷ t' → trim t ≡ b ∷ w → all_blank t ≡ false → StartsNothing g a t' → StartsNothing g b w
+      → class_of g docs_are_comments (record { begun = None; bytes = t; ended = ended }) ≡ Code
+  unfolding class_of
+  by_rules t a t' b w e f blank h k =
+      let no_line : any_begins g.line_comment (head_of g t) ≡ false = by_columns (keeps_columns g.key) in
+      let no_enclosed : (encloses g.multi_line_comments (trim t) || encloses g.nested_comments (trim t)) ≡ false = ap (λ u. encloses g.multi_line_comments u || encloses g.nested_comments u) f ∙ ap (λ x. x || encloses g.nested_comments (b ∷ w)) k.multi_line ∙ k.nested in
+      let no_ended : ends_opened g (head_of g t) ended ≡ false = by_mode (in_comment ended) ∙ by_opened (keeps_columns g.key) in
+      ap (λ x. cond x Blank (cond g.literate Comment (cond (in_doc_string ended && docs_are_comments) Comment (cond (in_string ended) Code (cond (any_begins g.line_comment (head_of g t)) Comment (cond (encloses g.multi_line_comments (trim t) || encloses g.nested_comments (trim t)) Comment (cond (ends_opened g (head_of g t) ended) Comment Code))))))) blank
+      ∙ ap (λ x. cond x Comment (cond (in_doc_string ended && docs_are_comments) Comment (cond (in_string ended) Code (cond (any_begins g.line_comment (head_of g t)) Comment (cond (encloses g.multi_line_comments (trim t) || encloses g.nested_comments (trim t)) Comment (cond (ends_opened g (head_of g t) ended) Comment Code)))))) plain
+      ∙ ap (λ x. cond (x && docs_are_comments) Comment (cond (in_string ended) Code (cond (any_begins g.line_comment (head_of g t)) Comment (cond (encloses g.multi_line_comments (trim t) || encloses g.nested_comments (trim t)) Comment (cond (ends_opened g (head_of g t) ended) Comment Code))))) no_doc
+      ∙ ap (λ x. cond (in_string ended) Code (cond x Comment (cond (encloses g.multi_line_comments (trim t) || encloses g.nested_comments (trim t)) Comment (cond (ends_opened g (head_of g t) ended) Comment Code)))) no_line
+      ∙ ap (λ x. cond (in_string ended) Code (cond x Comment (cond (ends_opened g (head_of g t) ended) Comment Code))) no_enclosed
+      ∙ ap (λ x. cond (in_string ended) Code (cond x Comment Code)) no_ended
+      ∙ both (in_string ended)
+    where
+      both : (x : Bool) → cond x Code Code ≡ Code
+      both true = refl
+      both false = refl
+
+      by_columns : (x : Bool) → any_begins g.line_comment (cond x t (trim t)) ≡ false
+      by_columns true = ap (any_begins g.line_comment) e ∙ h.line
+      by_columns false = ap (any_begins g.line_comment) f ∙ k.line
+
+      none_opens : (x : Bool) (c : List ℕ) → (opens_with g.multi_line_comments (cond x t (trim t)) c || opens_with g.nested_comments (cond x t (trim t)) c) ≡ false
+      none_opens true c = ap (λ u. opens_with g.multi_line_comments u c || opens_with g.nested_comments u c) e ∙ ap (λ y. y || opens_with g.nested_comments (a ∷ t') c) (h.opens_multi_line c) ∙ h.opens_nested c
+      none_opens false c = ap (λ u. opens_with g.multi_line_comments u c || opens_with g.nested_comments u c) f ∙ ap (λ y. y || opens_with g.nested_comments (b ∷ w) c) (k.opens_multi_line c) ∙ k.opens_nested c
+
+      by_mode : (y : Bool) → (y && (opens_with g.multi_line_comments (head_of g t) (closer_of ended) || opens_with g.nested_comments (head_of g t) (closer_of ended))) ≡ (y && false)
+      by_mode y = ap (λ z. y && z) (none_opens (keeps_columns g.key) (closer_of ended))
+
+      by_opened : (x : Bool) → (in_comment ended && false) ≡ false
+      by_opened x = and_false (in_comment ended)
+        where
+          and_false : (y : Bool) → (y && false) ≡ false
+          and_false true = refl
+          and_false false = refl
+
+  pub code_head : (t : List ℕ) → HasCodeHead m t → class_of g docs_are_comments (record { begun = None; bytes = t; ended = ended }) ≡ Code
+  code_head t h = by_front t refl (trim_start t) refl h.first h.head
+    where
+      by_front : (u : List ℕ) → t ≡ u → (v : List ℕ) → trim_start t ≡ v → FrontBeginsNone m u → FrontBeginsNone m v → class_of g docs_are_comments (record { begun = None; bytes = t; ended = ended }) ≡ Code
+      by_front [] e v f i k = absurd i
+      by_front (a ∷ u) e [] f i k = absurd k
+      by_front (a ∷ u) e (b ∷ w) f i k =
+          let trimmed : trim t ≡ b ∷ trim_end w = ap trim_end f ∙ trimmed_by (is_blank b) (all_blank w) b w (front_solid t b w f) in
+          by_rules t a u b (trim_end w) e trimmed (front_not_blank t b w f) (starts_nothing g s m a u is i) (starts_nothing g s m b (trim_end w) is k)
+
+no_head : (t : List ℕ) → trim_start t ≡ [] → all_blank t ≡ true
+no_head [] e = refl
+no_head (a ∷ t) e = by_test (is_blank a) e (no_head t)
+  where
+    by_test : (x : Bool) → cond x (trim_start t) (a ∷ t) ≡ [] → (trim_start t ≡ [] → all_blank t ≡ true) → (x && all_blank t) ≡ true
+    by_test true e rest = rest e
+    by_test false e rest = cc
+
+pub blank_part : (g : Row) (docs_are_comments : Bool) (t : List ℕ) (ended : Mode) → trim_start t ≡ [] → class_of g docs_are_comments (record { begun = None; bytes = t; ended = ended }) ≡ Blank
+unfolding class_of
+blank_part g docs_are_comments t ended e = rw (no_head t e) refl
+
+head_not_blank : (m : Matchers) (t v : List ℕ) → trim_start t ≡ v → FrontBeginsNone m v → all_blank t ≡ false
+head_not_blank m t [] e k = absurd k
+head_not_blank m t (b ∷ w) e k = front_not_blank t b w e
+
+-- in a literate language a part with such a head is a comment
+pub literate_head : (g : Row) (docs_are_comments : Bool) (m : Matchers) (t : List ℕ) (ended : Mode) → g.literate ≡ true → HasCodeHead m t → class_of g docs_are_comments (record { begun = None; bytes = t; ended = ended }) ≡ Comment
+unfolding class_of
+literate_head g docs_are_comments m t ended literate h = rw (head_not_blank m t (trim_start t) refl h.head, literate) refl
+
+-- no byte before place h is no blank, and the one there, where there is one, isn't
+pub front_at : (u : List ℕ) (h : ℕ) → h ≤ length u → ((k : ℕ) → k < h → is_blank (get_or u k 0) ≡ true) → (h < length u → is_blank (get_or u h 0) ≡ false) → trim_start u ≡ drop h u
+front_at [] zero l f g = refl
+front_at [] (suc h) l f g = absurd (omega arith)
+front_at (a ∷ u) zero l f g = ap (λ x. cond x (trim_start u) (a ∷ u)) (g (omega arith))
+front_at (a ∷ u) (suc h) l f g = ap (λ x. cond x (trim_start u) (a ∷ u)) (f zero (omega arith)) ∙ front_at u h (omega arith) (λ k i. f (suc k) (omega arith)) (λ i. g (omega arith))
+
+begun_at : (m : Matchers) (u : List ℕ) (h : ℕ) → h < length u → BeginsNone m (get_or u h 0) → FrontBeginsNone m (drop h u)
+begun_at m [] h l n = absurd (omega arith)
+begun_at m (a ∷ u) zero l n = n
+begun_at m (a ∷ u) (suc h) l n = begun_at m u h (omega arith) n
+
+-- The part of the text t from place i to before place j, whose front blanks end at place h.
+module _ (t : List ℕ) (i j h : ℕ) (low : i ≤ h) (high : h ≤ j) (within : j ≤ length t)
+    (blank : (p : ℕ) → i ≤ p → p < h → is_blank (get_or t p 0) ≡ true) (solid : h < j → is_blank (get_or t h 0) ≡ false) where
+  abbrev pub part : List ℕ
+  part = take (j - i) (drop i t)
+
+  length-part : length part ≡ j - i
+  length-part = length-take-le (j - i) (drop i t) (omega (arith, length-drop i t))
+
+  byte_at : (k : ℕ) → k < j - i → get_or part k 0 ≡ get_or t (i + k) 0
+  byte_at k l = get_or-take (j - i) (drop i t) k 0 l ∙ get_or-drop i t k 0
+
+  pub front_is : trim_start part ≡ drop (h - i) part
+  front_is = front_at part (h - i) (omega (arith, length-part))
+      (λ k l. ap is_blank (byte_at k (omega arith)) ∙ blank (i + k) (omega arith) (omega arith))
+      (λ l. ap is_blank (byte_at (h - i) (omega (arith, length-part)) ∙ ap (λ p. get_or t p 0) (omega arith)) ∙ solid (omega (arith, length-part)))
+
+  pub blank_front : h ≡ j → trim_start part ≡ []
+  blank_front e = front_is ∙ drop_of_length-le part (omega (arith, length-part))
+
+  pub code_front : (m : Matchers) → h < j → BeginsNone m (get_or t i 0) → BeginsNone m (get_or t h 0) → HasCodeHead m part
+  code_front m l a b = record {
+    first = begun_at m part 0 (omega (arith, length-part)) (subst (BeginsNone m) (ap (λ p. get_or t p 0) (omega arith) ∙ sym (byte_at 0 (omega arith))) a);
+    head = subst (FrontBeginsNone m) (sym front_is) (begun_at m part (h - i) (omega (arith, length-part)) (subst (BeginsNone m) (ap (λ p. get_or t p 0) (omega arith) ∙ sym (byte_at (h - i) (omega arith))) b));
+  }
+
+-- a part that began in a comment and doesn't end in a string is a comment
+not_doc : (ended : Mode) → in_string ended ≡ false → in_doc_string ended ≡ false
+not_doc None h = refl
+not_doc (Some e) h = by_kind e.kind h
+  where
+    by_kind : (k : Kind) → not (is_comment k) ≡ false → is_doc_string k ≡ false
+    by_kind DocString h = cc
+    by_kind VerbatimString h = cc
+    by_kind OrdinaryString h = cc
+    by_kind MultiLineComment h = refl
+
+pub comment_part : (g : Row) (docs_are_comments : Bool) (t : List ℕ) (begun ended : Mode) → in_comment begun ≡ true → in_string ended ≡ false → class_of g docs_are_comments (record { begun = begun; bytes = t; ended = ended }) ≡ Comment
+unfolding class_of
+comment_part g docs_are_comments t None ended b e = cc
+comment_part g docs_are_comments t (Some x) ended b e = rw (not_doc ended e) (rw e (rw b (both g.literate)))
+  where
+    both : (y : Bool) → cond y Comment Comment ≡ Comment
+    both true = refl
+    both false = refl

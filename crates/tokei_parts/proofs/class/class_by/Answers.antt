@@ -1,0 +1,72 @@
+use Rattle.std.proofs.Common.{◌≡◌, ℕ, List, Bool, None, Some, [], ◌-◌, drop, take, false, refl, sym, ap, ◌∙◌}
+use Rattle.tokei_table.specs.Bytes.{trim_start}
+use Rattle.tokei_table.specs.Row.{Row}
+use Rattle.tokei_choice.specs.Items.{kind_in}
+use Rattle.tokei_parts.specs.Class.{class_of}
+use Rattle.tokei_choice.specs.Items.{Mode}
+use Rattle.tokei_parts.specs.ReadingOf.{row_in}
+use Rattle.tokei_choice.specs.Seen.{mode_of}
+use Rattle.tokei_choice.specs.declared.items.Kind.{Kind}
+use Rattle.tokei_choice.specs.declared.items.Kind.TheVariants.{DocString, VerbatimString, OrdinaryString, MultiLineComment}
+use Rattle.tokei_parts.specs.declared.reading.Reading.{Reading}
+use Rattle.tokei_parts.proofs.CodeHeads.{code_head, blank_part, comment_part}
+use Rattle.tokei_parts.proofs.class.class_by.Goals as goal
+
+plain_of : (m : Mode) → kind_in m ≡ None → m ≡ None
+plain_of None e = refl
+plain_of (Some x) e = absurd (cc)
+
+-- of the item in which a part began its kind alone counts
+by_kind : (g : Row) (docs_are_comments : Bool) (kind : Kind) (a b bytes : List ℕ) (ended : Mode)
+    → class_of g docs_are_comments (record { begun = Some (record { kind = kind; closer = a }); bytes = bytes; ended = ended })
+    ≡ class_of g docs_are_comments (record { begun = Some (record { kind = kind; closer = b }); bytes = bytes; ended = ended })
+unfolding class_of
+by_kind g docs_are_comments DocString a b bytes ended = refl
+by_kind g docs_are_comments VerbatimString a b bytes ended = refl
+by_kind g docs_are_comments OrdinaryString a b bytes ended = refl
+by_kind g docs_are_comments MultiLineComment a b bytes ended = refl
+
+by_begun : (g : Row) (docs_are_comments : Bool) (m : Mode) (kind : Kind) (closer bytes : List ℕ) (ended : Mode) → kind_in m ≡ Some kind
+    → class_of g docs_are_comments (record { begun = Some (record { kind = kind; closer = closer }); bytes = bytes; ended = ended })
+    ≡ class_of g docs_are_comments (record { begun = m; bytes = bytes; ended = ended })
+by_begun g docs_are_comments None kind closer bytes ended e = absurd (cc)
+by_begun g docs_are_comments (Some x) kind closer bytes ended e =
+    let same : kind ≡ x.kind = cc in
+    by_kind g docs_are_comments kind closer x.closer bytes ended
+    ∙ ap (λ k. class_of g docs_are_comments (record { begun = Some (record { kind = k; closer = x.closer }); bytes = bytes; ended = ended })) same
+
+-- the bytes of the part
+abbrev part_bytes : Reading → ℕ → ℕ → List ℕ
+part_bytes r start stop = take (stop - start) (drop start r.text.now)
+
+pub returns-in-Some-Blank : goal.returns-in-Some-Blank
+returns-in-Some-Blank c = λ m is.
+    let r : Reading = c.args.reading.now in
+    let part : List ℕ = part_bytes r c.args.start c.args.stop in
+    let blank : trim_start part ≡ [] = c.class_by_front.ensures.blank (c.in-Some-Blank.is ∙ ap Some c.in-Some-Blank.field-0-is) in
+    sym (ap (λ (n : Mode). class_of (row_in r) r.docs_are_comments (record { begun = n; bytes = part; ended = mode_of c.args.ended })) (plain_of m (is ∙ c.in-None.is))
+    ∙ blank_part (row_in r) r.docs_are_comments part (mode_of c.args.ended) blank)
+
+pub returns-in-Some-Code : goal.returns-in-Some-Code
+returns-in-Some-Code c = λ m is.
+    let r : Reading = c.args.reading.now in
+    let part : List ℕ = part_bytes r c.args.start c.args.stop in
+    let literate : (row_in r).literate ≡ false = ap (λ (g : Row). g.literate) (sym r.row) ∙ c.if-not-syntax.true in
+    sym (ap (λ (n : Mode). class_of (row_in r) r.docs_are_comments (record { begun = n; bytes = part; ended = mode_of c.args.ended })) (plain_of m (is ∙ c.in-None.is))
+    ∙ code_head (row_in r) r.sound r.matchers.now r.matched r.docs_are_comments (mode_of c.args.ended) literate
+    (sym c.in_doc_string.ensures ∙ c.if-not-in_doc_string.true) part
+    (c.class_by_front.ensures.code (c.in-Some-Code.is ∙ ap Some c.in-Some-Code.field-0-is)))
+
+pub returns-in-Some : goal.returns-in-Some
+returns-in-Some c = λ m is.
+    let r : Reading = c.args.reading.now in
+    sym (comment_part (row_in r) r.docs_are_comments (part_bytes r c.args.start c.args.stop) m (mode_of c.args.ended)
+    (sym (c.is_comment.ensures m is) ∙ c.if-is_comment.true) (sym c.in_string.ensures ∙ c.if-not-in_string.true))
+
+pub returns-in-Some-2 : goal.returns-in-Some-2
+returns-in-Some-2 c = λ m is.
+    let r : Reading = c.args.reading.now in
+    let part : List ℕ = part_bytes r c.args.start c.args.stop in
+    c.class_of-in-Some-2.ensures
+    ∙ ap (λ (g : Row). class_of g r.docs_are_comments (record { begun = Some (record { kind = c.in-Some-2.kind; closer = [] }); bytes = part; ended = mode_of c.args.ended })) r.row
+    ∙ by_begun (row_in r) r.docs_are_comments m c.in-Some-2.kind [] part (mode_of c.args.ended) (is ∙ c.in-Some-2.is)

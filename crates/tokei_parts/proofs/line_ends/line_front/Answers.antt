@@ -1,0 +1,47 @@
+use Rattle.std.proofs.Common.{◌≡◌, ◌∙◌, ℕ, ◌+◌, ◌<◌, ◌≤◌, ◌==◌, List, [], ◌∷◌, false, drop, length, get_or, ap, sym, arith}
+use Rattle.tokei_bytes.proofs.Blocks.{other_than, the_one}
+use Rattle.tokei_bytes.specs.OneOf.{is_one_of}
+use Rattle.tokei_parts.specs.Lines.{line_len}
+use Rattle.tokei_parts.proofs.LineEnd.{newline_at, newline_behind}
+use Rattle.tokei_parts.proofs.line_ends.line_front.Goals as goal
+
+-- no newline stands before the place to which the block was searched
+sought : (text : List ℕ) (at near : ℕ) → at ≤ near → near ≤ length text → ((p : ℕ) → at ≤ p → p < near → is_one_of (10 ∷ 10 ∷ 10 ∷ 10 ∷ []) (get_or text p 0) ≡ false)
+    → near + line_len (drop near text) ≡ at + line_len (drop at text)
+sought text at near low within passed = newline_behind text at near low within (λ k i j. other_than _ 10 (passed k i j))
+
+-- so where none stands in it, the line ends as it does from the block's end on
+ended : (text : List ℕ) (at near end : ℕ) → near ≡ end → near + line_len (drop near text) ≡ at + line_len (drop at text) → end + line_len (drop end text) ≡ at + line_len (drop at text)
+ended text at near end is behind = ap (λ m. m + line_len (drop m text)) (sym is) ∙ behind
+
+pub returns-then-near-at-clause-line : goal.returns-then-near-at-clause-line
+returns-then-near-at-clause-line c =
+    let e = c.first_in_block-near.ensures in
+    let within : c.first_in_block-near.result ≤ length c.args.text.now = omega (arith, e.high, c.if-text-at-lt-BLOCK.false, c.requires.order, c.requires.within) in
+    omega (arith, c.min-newline.ensures, sought c.args.text.now c.args.at c.first_in_block-near.result e.low within e.passed)
+
+pub returns-then-near-at-clause-found : goal.returns-then-near-at-clause-found
+returns-then-near-at-clause-found c below =
+    let e = c.first_in_block-near.ensures in
+    let here : c.min-newline.result ≡ c.first_in_block-near.result = omega (arith, c.min-newline.ensures, below) in
+    let is : c.first_in_block-near.result ≡ c.args.at + line_len (drop c.args.at c.args.text.now) =
+    newline_at c.args.text.now c.args.at c.first_in_block-near.result e.low (omega (arith, below, here, c.requires.within)) (ap (λ b. b == 10) (the_one _ 10 (e.found c.if-near-at.true))) (λ k i j. other_than _ 10 (e.passed k i j)) in
+    omega (arith, here, is)
+
+pub returns-then-to-at-clause-line : goal.returns-then-to-at-clause-line
+returns-then-to-at-clause-line c =
+    let e = c.first_in_block-near.ensures in
+    let within : c.first_in_block-near.result ≤ length c.args.text.now = omega (arith, e.high, c.if-text-at-lt-BLOCK.false, c.requires.order, c.requires.within) in
+    omega (arith, c.if-to-at.true, c.if-near-at.false, sought c.args.text.now c.args.at c.first_in_block-near.result e.low within e.passed)
+
+pub returns-else-to-at-clause-line : goal.returns-else-to-at-clause-line
+returns-else-to-at-clause-line c =
+    let e = c.first_in_block-near.ensures in
+    let within : c.first_in_block-near.result ≤ length c.args.text.now = omega (arith, e.high, c.if-text-at-lt-BLOCK.false, c.requires.order, c.requires.within) in
+    omega (arith, c.newline_before.ensures.line, ended c.args.text.now c.args.at c.first_in_block-near.result (c.args.at + 32) (omega (arith, e.high, c.if-near-at.false)) (sought c.args.text.now c.args.at c.first_in_block-near.result e.low within e.passed))
+
+pub returns-else-to-at-clause-found : goal.returns-else-to-at-clause-found
+returns-else-to-at-clause-found c below =
+    let e = c.first_in_block-near.ensures in
+    let within : c.first_in_block-near.result ≤ length c.args.text.now = omega (arith, e.high, c.if-text-at-lt-BLOCK.false, c.requires.order, c.requires.within) in
+    omega (arith, c.newline_before.ensures.found below, ended c.args.text.now c.args.at c.first_in_block-near.result (c.args.at + 32) (omega (arith, e.high, c.if-near-at.false)) (sought c.args.text.now c.args.at c.first_in_block-near.result e.low within e.passed))

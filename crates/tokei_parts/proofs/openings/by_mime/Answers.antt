@@ -1,0 +1,10 @@
+use Rattle.std.proofs.Common.{◌∙◌, ℕ, List}
+use Rattle.tokei_table.specs.Lookups.{first_where, has_mime}
+use Rattle.tokei_parts.proofs.Utf8.{utf8_some, utf8_none}
+use Rattle.tokei_parts.proofs.openings.by_mime.Goals as goal
+
+pub returns-in-Ok : goal.returns-in-Ok
+returns-in-Ok c = c.from_mime.ensures.value ∙ utf8_some c.args.mime.now c.in-Ok.mime.now (λ (w : List ℕ). first_where (has_mime w) c.args.table.now) c.in-Ok.ensures.cases.1 c.in-Ok.ensures.cases.0
+
+pub returns-in-Err : goal.returns-in-Err
+returns-in-Err c = utf8_none c.args.mime.now (first_where (has_mime c.args.mime.now) c.args.table.now) c.in-Err.ensures.cases.0

@@ -1,0 +1,15 @@
+-- Stretches within an item in which each choice takes its byte.
+use Rattle.std.specs.Prelude.{◌≡◌, ℕ, ◌<◌, ◌≤◌, List, drop, None, Some}
+use Rattle.tokei_table.specs.Row.{Row}
+use Rattle.tokei_choice.specs.Choice.{choice}
+use Rattle.tokei_choice.specs.Choice.Choice.{takes_byte}
+use Rattle.tokei_choice.specs.Seen.{mode_of}
+use Rattle.tokei_choice.specs.declared.items.Enclosure.{Enclosure}
+
+-- the choice at the place, which the item encloses, takes its byte
+abbrev pub TakesByteAt : Row → Enclosure → List ℕ → ℕ → Type 0
+TakesByteAt r item text p = choice r (mode_of (Some item)) None (drop p text) ≡ takes_byte
+
+-- so does each from the place `at` to before `to`
+abbrev pub IsCalm : Row → Enclosure → List ℕ → ℕ → ℕ → Type 0
+IsCalm r item text at to = (p : ℕ) → at ≤ p → p < to → TakesByteAt r item text p

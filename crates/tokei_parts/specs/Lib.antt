@@ -1,0 +1,26 @@
+-- What contracts say of the parts of a text: its items, the class of each part, the children, and how a walk leads on.
+pub mod Calm
+pub mod Class
+pub mod CodeHeads
+pub mod Derivation
+pub mod Glance
+pub mod Glanced
+pub mod HtmlChildren
+pub mod Lines
+pub mod LinguaFrancaChildren
+pub mod MarkdownChildren
+pub mod Matchers
+pub mod Modes
+pub mod NamedLanguages
+pub mod Openings
+pub mod Parts
+pub mod Places
+pub mod PlainBytes
+pub mod Progress
+pub mod ReadingOf
+pub mod Running
+pub mod RustChildren
+pub mod Seen
+pub mod Stretches
+pub mod Tally
+pub mod Walked

@@ -1,0 +1,25 @@
+-- The code's values as the definitions see them.
+use Rattle.std.specs.Prelude.{if◌then◌else◌, ℕ, List, map, reverse}
+use Rattle.tokei_table.specs.Bytes.{trim}
+use Rattle.tokei_embedding.specs.DocComments.{doc_text}
+use Rattle.tokei_choice.specs.Items.{Block}
+use Rattle.tokei_choice.specs.Seen.{enclosure_of}
+use Rattle.tokei_choice.specs.declared.items.Enclosure as CodeEnclosure
+use Rattle.tokei_parts.specs.Modes.{Chain}
+use Rattle.tokei_parts.specs.declared.openings.Block as CodeBlock
+
+-- the text of a child: a doc comment's lines are read without their marks, joined and trimmed
+abbrev pub contents_of : CodeBlock.Block → List ℕ
+contents_of k = if k.is_doc then trim (doc_text k.contents.now) else k.contents.now
+
+abbrev pub block_of : CodeBlock.Block → Block
+block_of k = record {
+  language = k.language;
+  contents = contents_of k;
+  size = k.size;
+  share = record { blanks = 0; code = k.code; comments = k.comments };
+}
+
+-- the items that enclose a place, from the stack on which the last is the innermost
+abbrev pub chain_of : List CodeEnclosure.Enclosure → Chain
+chain_of es = map enclosure_of (reverse es)

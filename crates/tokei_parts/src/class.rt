@@ -1,0 +1,276 @@
+//! What a part counts as.
+ghost use Rattle.std.specs.Prelude.{◌≡◌, ℕ, List, ◌-◌, ◌<◌, ◌≤◌, true, None, Some, [], drop, length, slice_index, take};
+ghost use Rattle.tokei_table.specs.Bytes.{is_blank, trim, trim_start};
+ghost use Rattle.tokei_table.specs.RowOf.{pairs_of, row_of};
+ghost use Rattle.tokei_choice.specs.Items.{kind_in};
+ghost use Rattle.tokei_parts.specs.Class.{encloses, opens_with, class_of, head_of};
+ghost use Rattle.tokei_choice.specs.Items.{Mode};
+ghost use Rattle.tokei_parts.specs.Class.{in_comment, in_string, in_doc_string, ends_opened};
+ghost use Rattle.tokei_parts.specs.CodeHeads.{HasCodeHead};
+ghost use Rattle.tokei_parts.specs.ReadingOf.{row_in};
+ghost use Rattle.tokei_choice.specs.Seen.{mode_of};
+
+use crate::matchers::LanguageMatchers;
+use crate::reading::Reading;
+use tokei_choice::{Enclosure, Kind, any_begins, begins};
+use tokei_table::Syntax;
+use tokei_table::ext::{blanks_end, is_blank_text, trim};
+
+/// What a line counts as.
+#[derive(Clone, Copy, Debug, PartialEq, Eq)]
+pub enum Class {
+    Blank,
+    Code,
+    Comment,
+}
+
+/// Whether a pair opens at the front of the text and closes at its end.
+fn encloses(pairs: &[(String, String)], text: &[u8]) -> bool
+    ensures { result ≡ encloses (pairs_of pairs.now) text.now }
+{
+    for pair in pairs {
+        if begins(&pair.0, text) && text.ends_with(pair.1.as_bytes()) {
+            return true;
+        }
+    }
+    false
+}
+
+/// Whether a pair with this closer opens at the front of the text.
+fn opens_with(pairs: &[(String, String)], text: &[u8], closer: &[u8]) -> bool
+    ensures { result ≡ opens_with (pairs_of pairs.now) text.now closer.now }
+{
+    for pair in pairs {
+        if begins(&pair.0, text) && pair.1.as_bytes() == closer {
+            return true;
+        }
+    }
+    false
+}
+
+fn in_comment(mode: Option<Enclosure>) -> bool
+    ensures { result ≡ in_comment (mode_of mode.entry) }
+{
+    match mode {
+        Some(enclosure) => enclosure.kind == Kind::MultiLineComment,
+        None => false,
+    }
+}
+
+fn in_string(mode: Option<Enclosure>) -> bool
+    ensures { result ≡ in_string (mode_of mode.entry) }
+{
+    match mode {
+        Some(enclosure) => enclosure.kind != Kind::MultiLineComment,
+        None => false,
+    }
+}
+
+fn in_doc_string(mode: Option<Enclosure>) -> bool
+    ensures { result ≡ in_doc_string (mode_of mode.entry) }
+{
+    match mode {
+        Some(enclosure) => enclosure.kind == Kind::DocString,
+        None => false,
+    }
+}
+
+/// The part without its blanks, which is `trimmed`, or as it stands where columns count.
+fn head_of<'t>(syntax: &Syntax, text: &'t [u8], trimmed: &'t [u8]) -> &'t [u8]
+    requires { trimmed.now ≡ trim text.now }
+    ensures { result.now ≡ head_of (row_of syntax.now) text.now }
+{
+    if syntax.key.as_str() == "FortranLegacy" || syntax.key.as_str() == "FortranModern" {
+        text
+    } else {
+        trimmed
+    }
+}
+
+/// Whether the part ends in a comment that a pair at its head could have opened.
+fn ends_opened(syntax: &Syntax, head: &[u8], ended: Option<Enclosure>) -> bool
+    ensures { result ≡ ends_opened (row_of syntax.now) head.now (mode_of ended.entry) }
+{
+    match ended {
+        Some(enclosure) => {
+            enclosure.kind == Kind::MultiLineComment
+                && (opens_with(&syntax.multi_line_comments, head, enclosure.closer)
+                    || opens_with(&syntax.nested_comments, head, enclosure.closer))
+        }
+        None => false,
+    }
+}
+
+/// The class of a part that began and ended in these modes; `docs_are_comments` says whether doc strings are treated as
+/// comments.
+#[tactic(auto, unfolding(crate::specs::Class::class_of))]
+#[inline(never)]
+pub fn class_of(
+    syntax: &Syntax,
+    docs_are_comments: bool,
+    begun: Option<Enclosure>,
+    bytes: &[u8],
+    ended: Option<Enclosure>,
+) -> Class
+    ensures { result ≡ class_of (row_of syntax.now) docs_are_comments
+        (record { begun = mode_of begun.entry; bytes = bytes.now; ended = mode_of ended.entry }) }
+{
+    if begun.is_none() && is_blank_text(bytes) {
+        return Class::Blank;
+    }
+    if syntax.literate || (in_doc_string(ended) && docs_are_comments) {
+        return Class::Comment;
+    }
+    if in_string(ended) {
+        return Class::Code;
+    }
+    if in_comment(begun) || (in_doc_string(begun) && docs_are_comments) {
+        return Class::Comment;
+    }
+    if in_string(begun) {
+        return Class::Code;
+    }
+    let trimmed = trim(bytes);
+    let head = head_of(syntax, bytes, trimmed);
+    if any_begins(&syntax.line_comment, head)
+        || encloses(&syntax.multi_line_comments, trimmed)
+        || encloses(&syntax.nested_comments, trimmed)
+        || ends_opened(syntax, head, ended)
+    {
+        return Class::Comment;
+    }
+    Class::Code
+}
+
+/// What the part of the text from `start` to before `stop` is by its front alone, where it begins plain: blank where
+/// all its bytes are, and code where neither a comment nor an opener can begin it or stand behind its front blanks,
+/// unless the language or the mode at its end says otherwise. Only blanks stand before `solid`.
+#[inline(always)]
+fn class_by_front(
+    matchers: &LanguageMatchers,
+    text: &[u8],
+    start: usize,
+    solid: usize,
+    stop: usize,
+) -> Option<Class>
+    requires order { start ≤ stop }
+    requires within { stop ≤ length text.now }
+    requires low { start ≤ solid }
+    requires solid { (p : ℕ) → start ≤ p → p < solid → is_blank (slice_index text.now p) ≡ true }
+    ensures blank { result ≡ Some Class.Blank → trim_start (take (stop - start) (drop start text.now)) ≡ [] }
+    ensures code { result ≡ Some Class.Code → HasCodeHead matchers.now (take (stop - start) (drop start text.now)) }
+{
+    if stop <= solid {
+        return Some(Class::Blank);
+    }
+    let head = blanks_end(text, solid, stop);
+    if head == stop {
+        return Some(Class::Blank);
+    }
+    if matchers.begins(text[start]) || matchers.begins(text[head]) {
+        return None;
+    }
+    Some(Class::Code)
+}
+
+/// Whether an item of that kind is a comment.
+fn is_comment(kind: Option<Kind>) -> bool
+    ensures { (m : Mode) → kind_in m ≡ kind → result ≡ in_comment m }
+{
+    match kind {
+        Some(kind) => kind == Kind::MultiLineComment,
+        None => false,
+    }
+}
+
+/// The class of the part of the reading's text from `start` to before `stop`, which began in an item of that kind, or
+/// in plain text, and ended in that mode, as `class_of` has it. That is asked only where neither the part's front nor
+/// the kind and the mode tell.
+#[inline(always)]
+pub fn class_by(
+    reading: &Reading,
+    begun: Option<Kind>,
+    start: usize,
+    stop: usize,
+    ended: Option<Enclosure>,
+) -> Class
+    requires order { start ≤ stop }
+    requires within { stop ≤ length reading.now.text.now }
+    ensures { (m : Mode) → kind_in m ≡ begun
+        → result ≡ class_of (row_in reading.now) reading.now.docs_are_comments (record {
+          begun = m;
+          bytes = take (stop - start) (drop start reading.now.text.now);
+          ended = mode_of ended.entry;
+        }) }
+{
+    let syntax = reading.syntax;
+    let docs_are_comments = reading.docs_are_comments;
+    let bytes = &reading.text[start..stop];
+    match begun {
+        None => match class_by_front(reading.matchers, reading.text, start, start, stop) {
+            Some(Class::Blank) => Class::Blank,
+            Some(Class::Code) if !syntax.literate && !in_doc_string(ended) => Class::Code,
+            _ => class_of(syntax, docs_are_comments, None, bytes, ended),
+        },
+        Some(_) if is_comment(begun) && !in_string(ended) => Class::Comment,
+        Some(kind) => {
+            let closer = &reading.text[..0];
+            let mode = Some(Enclosure { kind, closer });
+            class_of(syntax, docs_are_comments, mode, bytes, ended)
+        }
+    }
+}
+
+/// The class of each line that begins and ends within the item, as `class_of` has it: its bytes say nothing.
+pub fn class_within(reading: &Reading, item: Enclosure) -> Class
+    ensures { (bytes : List ℕ) → result ≡ class_of (row_in reading.now) reading.now.docs_are_comments
+        (record { begun = mode_of (Some item.entry); bytes = bytes; ended = mode_of (Some item.entry) }) }
+{
+    let mode = Some(item);
+    class_of(
+        reading.syntax,
+        reading.docs_are_comments,
+        mode,
+        &reading.text[..0],
+        mode,
+    )
+}
+
+/// The class of a line that no item encloses at either end, as `class_of` has it. It stands in no caller's code, since
+/// most lines are told by their fronts, and takes values, so that the caller's stand in no memory.
+#[inline(never)]
+fn class_of_line(syntax: &Syntax, docs_are_comments: bool, bytes: &[u8]) -> Class
+    ensures { result ≡ class_of (row_of syntax.now) docs_are_comments
+        (record { begun = None; bytes = bytes.now; ended = None }) }
+{
+    class_of(syntax, docs_are_comments, None, bytes, None)
+}
+
+/// The class of the line of a text from `start` to before `stop`, in the reading's language, which no item encloses at
+/// either end, as `class_of` has it. Only blanks stand before `solid`.
+#[inline(always)]
+pub fn class_of_plain(
+    reading: &Reading,
+    text: &[u8],
+    start: usize,
+    solid: usize,
+    stop: usize,
+) -> Class
+    requires order { start ≤ stop }
+    requires within { stop ≤ length text.now }
+    requires low { start ≤ solid }
+    requires solid { (p : ℕ) → start ≤ p → p < solid → is_blank (slice_index text.now p) ≡ true }
+    ensures { result ≡ class_of (row_in reading.now) reading.now.docs_are_comments (record {
+      begun = None;
+      bytes = take (stop - start) (drop start text.now);
+      ended = None;
+    }) }
+{
+    let syntax = reading.syntax;
+    match class_by_front(reading.matchers, text, start, solid, stop) {
+        Some(Class::Blank) => Class::Blank,
+        Some(Class::Code) if syntax.literate => Class::Comment,
+        Some(Class::Code) => Class::Code,
+        _ => class_of_line(syntax, reading.docs_are_comments, &text[start..stop]),
+    }
+}

@@ -1,0 +1,26 @@
+//! The parts of a text: each line of it that no child breaks off, the class of each, and the child that opens in it.
+#![tactic(auto)]
+
+mod beginnings;
+mod calm;
+mod class;
+mod glance;
+mod line_ends;
+mod matchers;
+mod openings;
+mod place;
+mod plain_bytes;
+mod reading;
+mod shared_matchers;
+mod walk;
+
+pub use calm::calm_end;
+pub use class::{Class, class_of_plain, class_within};
+pub use glance::next_opener;
+pub use line_ends::{line_end, line_front, line_len, line_stop, newline_before};
+pub use matchers::{LanguageMatchers, all_matchers};
+pub use openings::Block;
+pub use place::Place;
+pub use reading::Reading;
+pub use shared_matchers::SharedMatchers;
+pub use walk::{PartEnd, PartRead, innermost, read_part};

@@ -1,0 +1,140 @@
+//! What the texts of a language are searched and walked with.
+ghost use Rattle.std.specs.Prelude.{◌≡◌, ℕ, ◌<◌, ◌≤◌, ◌==◌, false, length, map, IfOk, slice_index, slice_index_or};
+ghost use Rattle.tokei_table.specs.FirstOpener.{first_opener};
+ghost use Rattle.tokei_table.specs.Lookups.{row_at};
+ghost use Rattle.tokei_table.specs.WellFormed.{IsWellFormed};
+ghost use Rattle.tokei_parts.specs.Matchers.{matchers_of};
+ghost use Rattle.tokei_parts.specs.PlainBytes.{IsOutside};
+
+use crate::beginnings::{beginnings, beginnings_in_comment};
+use crate::shared_matchers::SharedMatchers;
+use std::alloc::{AllocError, Global};
+use std::marker::Model;
+use tokei_bytes::ByteSet;
+use tokei_table::{Family, LanguageTable, LanguageType};
+
+/// What the texts of a language are searched and walked with: its openers, the bytes at which a choice other than the
+/// byte itself, a closer and a child can begin, in plain text and in a comment, and how they open children. Contracts
+/// see all four.
+#[derive(Drop)]
+pub struct LanguageMatchers {
+    shared: SharedMatchers,
+    begins: ByteSet,
+    begins_in_comment: ByteSet,
+    family: Family,
+}
+
+impl Model for LanguageMatchers {
+    ghost use Rattle.tokei_parts.specs.Matchers.{Matchers};
+
+    ghost Value = { Matchers };
+
+    ghost view = { λ m. record {
+      openers = m.shared;
+      begins = m.begins;
+      begins_in_comment = m.begins_in_comment;
+      family = m.family;
+    } };
+}
+
+impl LanguageMatchers {
+    /// The matchers of a language of the table. It fails where memory runs out.
+    fn new(
+        alloc: Global,
+        table: &LanguageTable,
+        language: LanguageType,
+    ) -> Result<LanguageMatchers, AllocError>
+        requires { language < length table.now }
+        ensures { IfOk result (λ m. m ≡ matchers_of (row_at table.now language)) }
+    {
+        let shared = SharedMatchers::new(alloc, table, language)?;
+        let syntax = table.syntax(language);
+        let begins = beginnings(alloc, syntax)?;
+        let begins_in_comment = beginnings_in_comment(alloc, syntax)?;
+        let family = Family::of_key(syntax.key.as_str());
+        Ok(LanguageMatchers {
+            shared,
+            begins,
+            begins_in_comment,
+            family,
+        })
+    }
+
+    /// Those of its openers alone.
+    pub fn shared(&self) -> &SharedMatchers
+        ensures { result.now ≡ self.entry.now.openers }
+    {
+        &self.shared
+    }
+
+    /// The least place of the text at which an opener stands, None where none does.
+    pub fn first_in(&self, text: &[u8]) -> Option<usize>
+        ensures { result ≡ first_opener self.now.openers text.now }
+    {
+        self.shared.first_in(text)
+    }
+
+    /// How texts of the language open children.
+    pub fn family(&self) -> Family
+        ensures { result ≡ self.now.family }
+    {
+        self.family
+    }
+
+    /// Whether a choice other than the byte itself, a closer and a child can begin at the byte.
+    #[inline(always)]
+    pub fn begins(&self, byte: u8) -> bool
+        ensures { result ≡ slice_index_or self.now.begins byte false }
+    {
+        self.begins.has(byte)
+    }
+
+    /// The same in a comment.
+    #[inline(always)]
+    pub fn begins_in_comment(&self, byte: u8) -> bool
+        ensures { result ≡ slice_index_or self.now.begins_in_comment byte false }
+    {
+        self.begins_in_comment.has(byte)
+    }
+
+    /// How far, from the place `at` of the text on and no further than `to`, no such choice can begin in plain text.
+    #[inline(always)]
+    pub fn plain_end(&self, text: &[u8], at: usize, to: usize) -> usize
+        requires order { at ≤ to }
+        requires within { to ≤ length text.now }
+        ensures low { at ≤ result }
+        ensures high { result ≤ to }
+        ensures none { (p : ℕ) → at ≤ p → p < result → IsOutside self.now.begins (slice_index text.now p) }
+    {
+        self.begins.clear_end(text, at, to)
+    }
+
+    /// The same in a comment whose closer's first byte is `first`, which doesn't stand there either.
+    #[inline(always)]
+    pub fn comment_end(&self, first: u8, text: &[u8], at: usize, to: usize) -> usize
+        requires order { at ≤ to }
+        requires within { to ≤ length text.now }
+        ensures low { at ≤ result }
+        ensures high { result ≤ to }
+        ensures none { (p : ℕ) → at ≤ p → p < result → IsOutside self.now.begins_in_comment (slice_index text.now p) }
+        ensures open { (p : ℕ) → at ≤ p → p < result → (slice_index text.now p == first) ≡ false }
+    {
+        self.begins_in_comment.clear_end_with(first, text, at, to)
+    }
+}
+
+/// The matchers of each language of the table, in its order.
+pub fn all_matchers(
+    alloc: Global,
+    table: &LanguageTable,
+) -> Result<Vec<LanguageMatchers>, AllocError>
+    ensures matchers { IfOk result (λ v. v.items ≡ map matchers_of table.now) }
+    ensures well_formed { IfOk result (λ v. IsWellFormed table.now) }
+{
+    let languages = LanguageType::list(alloc, table)?;
+    let mut all = Vec::with_capacity(alloc, table.len())?;
+    for (language, _) in languages.as_slice() {
+        all.push(LanguageMatchers::new(alloc, table, *language)?)?;
+    }
+    Ok(all)
+}
