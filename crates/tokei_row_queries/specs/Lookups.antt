@@ -1,6 +1,8 @@
 -- Which language of a table a word, a MIME type or the name of a file stands for.
-use Rattle.std.specs.Prelude.{ℕ, suc, Bool, ◌||◌, ◌==◌, if◌then◌else◌, List, [], ◌∷◌, bytes_eq, slice_index_or}
-use Rattle.std.specs.Prelude.{Option, Some, None, option_map}
+pub use Rattle.tokei_syntax.specs.Bytes.{holds}
+pub use Rattle.tokei_syntax.specs.FirstRows.{first_where, has_name}
+use Rattle.std.specs.Prelude.{ℕ, Bool, ◌==◌, if◌then◌else◌, List, [], ◌∷◌, bytes_eq, slice_index_or}
+use Rattle.std.specs.Prelude.{Option, Some, None}
 use Rattle.std.specs.List.{list_any}
 use Rattle.std.specs.Str.{str_to_ascii_lowercase}
 use Rattle.tokei_syntax.specs.Bytes.{ends}
@@ -11,23 +13,10 @@ use Rattle.tokei_syntax.specs.Row.{Row}
 abbrev pub row_at : List Row → ℕ → Row
 row_at rows language = slice_index_or rows language (new_row [])
 
--- The first language of whose row the condition is true.
-abbrev pub first_where : (Row → Bool) → List Row → Option ℕ
-first_where test [] = None
-first_where test (r ∷ rs) = if test r then Some 0 else option_map suc (first_where test rs)
-
 -- The first answer, or the second where there is none.
 abbrev pub or_else : Option ℕ → Option ℕ → Option ℕ
 or_else None other = other
 or_else (Some l) other = Some l
-
--- Whether a list of texts holds that one.
-abbrev pub holds : List (List ℕ) → List ℕ → Bool
-holds texts text = list_any (λ t. bytes_eq t text) texts
-
--- The condition of `from_name`: the word is the key or the name.
-abbrev pub has_name : List ℕ → Row → Bool
-has_name word r = bytes_eq r.key word || bytes_eq r.name word
 
 -- The condition of `from_str`: the word and the name are the same in any ASCII case.
 abbrev pub has_name_in_any_case : List ℕ → Row → Bool

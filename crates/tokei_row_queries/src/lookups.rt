@@ -1,7 +1,7 @@
 //! Which of the rows a word, a MIME type, a file's name or a script's head stands for. Of two rows the first is answered.
 ghost use Rattle.std.specs.Prelude.{◌≡◌, ℕ, ◌≤◌, ◌<◌, length, map, take, is_some, option_map, bytes_eq, slice_index};
 ghost use Rattle.std.specs.Str.{is_utf8, str_to_ascii_lowercase};
-ghost use Rattle.tokei_row_queries.specs.Lookups.{first_where, holds, has_name, has_name_in_any_case, has_mime};
+ghost use Rattle.tokei_row_queries.specs.Lookups.{first_where, has_name, has_name_in_any_case, has_mime};
 ghost use Rattle.tokei_row_queries.specs.Lookups.{has_extension, has_filename, ends_with_one, has_path_suffix};
 ghost use Rattle.tokei_row_queries.specs.Lookups.{extension_of, from_lowered_name, row_at};
 ghost use Rattle.tokei_row_queries.specs.Shebangs.{line_len, word_len, first_word, behind_word, has_env, from_env};
@@ -12,19 +12,9 @@ ghost use Rattle.tokei_syntax.specs.RowOf.{row_of, tokens_of};
 use crate::indexed_rows::IndexedRows;
 use memchr::memrchr;
 use tokei_syntax::Syntax;
-use tokei_syntax::ext::{begins_with_one, is_line_ending_whitespace, is_whitespace, trim_start};
-
-/// Whether that text is one of the list.
-pub(crate) fn holds(texts: &[String], text: &[u8]) -> bool
-    ensures { result ≡ holds (tokens_of texts.now) text.now }
-{
-    for known in texts {
-        if known.as_bytes() == text {
-            return true;
-        }
-    }
-    false
-}
+use tokei_syntax::ext::{
+    begins_with_one, holds, is_line_ending_whitespace, is_whitespace, trim_start,
+};
 
 #[tactic(auto, unfolding(crate::specs::Lookups::ends_with_one))]
 fn ends_with_one(suffixes: &[String], name: &[u8]) -> bool

@@ -1,5 +1,5 @@
 -- Bytes by their names; blanks, and what is left of a text without those at its ends.
-use Rattle.std.specs.Prelude.{ℕ, Bool, true, ◌&&◌, ◌||◌, ◌==◌, nat_le, nat_eq, if◌then◌else◌, List, [], ◌∷◌}
+use Rattle.std.specs.Prelude.{ℕ, Bool, true, ◌&&◌, ◌||◌, ◌==◌, nat_le, nat_eq, if◌then◌else◌, List, [], ◌∷◌, bytes_eq}
 use Rattle.std.specs.List.{list_any, starts_with, ends_with}
 
 abbrev pub tab : ℕ
@@ -48,3 +48,7 @@ begins_with_one tokens text = list_any (λ e. begins e text) tokens
 -- Whether the text ends with the token.
 abbrev pub ends : List ℕ → List ℕ → Bool
 ends token text = ends_with nat_eq text token
+
+-- Whether a list of texts holds that one.
+abbrev pub holds : List (List ℕ) → List ℕ → Bool
+holds texts text = list_any (λ t. bytes_eq t text) texts

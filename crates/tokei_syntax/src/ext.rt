@@ -3,7 +3,8 @@ ghost use Rattle.std.specs.Prelude.{◌≡◌, ◌==◌, ℕ, ◌≤◌, ◌<◌
 ghost use Rattle.tokei_syntax.specs.Slices.{contains_slice};
 ghost use Rattle.tokei_syntax.specs.OuterLines.{is_stop, first_stop, last_stop, start_behind, is_return_newline};
 ghost use Rattle.tokei_syntax.specs.OuterLines.{end_behind, trim_outer_lines};
-ghost use Rattle.tokei_syntax.specs.Bytes.{is_blank, all_blank, trim_start, trim_end, trim, begins, begins_with_one};
+ghost use Rattle.tokei_syntax.specs.Bytes.{is_blank, all_blank, trim_start, trim_end, trim};
+ghost use Rattle.tokei_syntax.specs.Bytes.{begins, begins_with_one, holds};
 ghost use Rattle.tokei_syntax.specs.RowOf.{tokens_of};
 
 use memchr::memmem;
@@ -117,6 +118,18 @@ pub fn begins_with_one(beginnings: &[String], text: &[u8]) -> bool
 {
     for beginning in beginnings {
         if begins(beginning.as_bytes(), text) {
+            return true;
+        }
+    }
+    false
+}
+
+/// Whether that text is one of the list.
+pub fn holds(texts: &[String], text: &[u8]) -> bool
+    ensures { result ≡ holds (tokens_of texts.now) text.now }
+{
+    for known in texts {
+        if known.as_bytes() == text {
             return true;
         }
     }

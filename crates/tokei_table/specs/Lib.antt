@@ -1,13 +1,13 @@
 -- What contracts say of a table: which texts are tables, the rows of one, and its look-ups.
-pub use Rattle.tokei_row_queries.specs.Extended
-pub use Rattle.tokei_row_queries.specs.Fallbacks
-pub use Rattle.tokei_row_queries.specs.Families
+pub use Rattle.tokei_row_rules.specs.Extended
+pub use Rattle.tokei_row_rules.specs.Fallbacks
+pub use Rattle.tokei_row_rules.specs.Families
 pub use Rattle.tokei_row_queries.specs.Lookups
-pub use Rattle.tokei_row_queries.specs.Openers
-pub use Rattle.tokei_row_queries.specs.RowNames
+pub use Rattle.tokei_row_rules.specs.Openers
+pub use Rattle.tokei_row_rules.specs.RowNames
 pub use Rattle.tokei_row_queries.specs.Shebangs
-pub use Rattle.tokei_row_queries.specs.Tokens
-pub use Rattle.tokei_row_queries.specs.declared.family.Family
+pub use Rattle.tokei_row_rules.specs.Tokens
+pub use Rattle.tokei_row_rules.specs.declared.family.Family
 pub use Rattle.tokei_rows.specs.Escaped
 pub use Rattle.tokei_rows.specs.Escapes
 pub use Rattle.tokei_rows.specs.Layout

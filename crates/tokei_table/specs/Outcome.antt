@@ -9,9 +9,9 @@ use Rattle.tokei_rows.specs.Escaped.{is_escaped_table}
 use Rattle.tokei_rows.specs.Layout.{has_layout}
 use Rattle.tokei_syntax.specs.Row.{Row}
 use Rattle.tokei_rows.specs.Rows.{rows_at}
-use Rattle.tokei_row_queries.specs.Fallbacks.{has_fallbacks}
-use Rattle.tokei_row_queries.specs.RowNames.{names_twice, is_total}
-use Rattle.tokei_row_queries.specs.Tokens.{has_tokens}
+use Rattle.tokei_row_rules.specs.Fallbacks.{has_fallbacks}
+use Rattle.tokei_row_rules.specs.RowNames.{names_twice, is_total}
+use Rattle.tokei_row_rules.specs.Tokens.{has_tokens}
 use Rattle.tokei_table.specs.declared.error.TableError.{TableError}
 use Rattle.tokei_table.specs.declared.error.TableError.TheVariants.{NotJson, Layout, Escape, Token, NamedTwice}
 use Rattle.tokei_table.specs.declared.error.TableError.TheVariants.{NamedTotal, Fallback}

@@ -1,9 +1,9 @@
 -- When the rows of a table can be counted with.
 use Rattle.std.specs.Prelude.{◌≡◌, true, false, List}
 use Rattle.std.specs.List.{list_all, list_any}
-use Rattle.tokei_row_queries.specs.Fallbacks.{has_fallbacks}
-use Rattle.tokei_row_queries.specs.RowNames.{names_twice, is_total}
-use Rattle.tokei_row_queries.specs.Tokens.{has_tokens}
+use Rattle.tokei_row_rules.specs.Fallbacks.{has_fallbacks}
+use Rattle.tokei_row_rules.specs.RowNames.{names_twice, is_total}
+use Rattle.tokei_row_rules.specs.Tokens.{has_tokens}
 use Rattle.tokei_rows.specs.KeyOrder.{IsInKeyOrder}
 use Rattle.tokei_syntax.specs.Row.{Row}
 

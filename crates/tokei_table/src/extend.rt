@@ -1,12 +1,12 @@
 //! A table in which languages gain extensions.
 ghost use Rattle.std.specs.Prelude.{◌≡◌, map, IfOk};
-ghost use Rattle.tokei_row_queries.specs.Extended.{addition_of, listed_for, extended};
+ghost use Rattle.tokei_row_rules.specs.Extended.{addition_of, listed_for, extended};
 ghost use Rattle.tokei_syntax.specs.RowOf.{tokens_of, row_of};
 
 use crate::language_type::LanguageType;
 use std::alloc::{AllocError, Global};
-use tokei_row_queries::extend::{all_extensions, gained, with_extensions};
-use tokei_row_queries::openers::add_texts;
+use tokei_row_rules::extend::{all_extensions, gained, with_extensions};
+use tokei_row_rules::openers::add_texts;
 use tokei_syntax::Syntax;
 
 /// What is listed for the language, in order.

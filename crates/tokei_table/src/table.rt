@@ -1,9 +1,9 @@
 //! The table of languages.
 ghost use Rattle.std.specs.Prelude.{◌≡◌, ◌≢◌, ◌<◌, ◌==◌, Err, Some, None, length, map, IfOk, MatchResult, nat_lt, true};
 ghost use Rattle.serde_json.specs.View.{view};
-ghost use Rattle.tokei_row_queries.specs.Extended.{addition_of, extended};
+ghost use Rattle.tokei_row_rules.specs.Extended.{addition_of, extended};
 ghost use Rattle.tokei_table.specs.Outcome.{data_of, outcome};
-ghost use Rattle.tokei_row_queries.specs.Tokens.{has_tokens};
+ghost use Rattle.tokei_row_rules.specs.Tokens.{has_tokens};
 ghost use Rattle.tokei_table.specs.WellFormed.{IsWellFormed};
 ghost use Rattle.tokei_syntax.specs.Sound.{IsSound};
 ghost use Rattle.tokei_syntax.specs.RowOf.{row_of};
@@ -18,8 +18,8 @@ use serde_json::Value;
 use std::alloc::{AllocError, Global};
 use std::marker::Model;
 use tokei_row_queries::IndexedRows;
-use tokei_row_queries::names::names_twice;
-use tokei_row_queries::well_formed::{all_have_fallbacks, all_have_tokens, names_total};
+use tokei_row_rules::names::names_twice;
+use tokei_row_rules::well_formed::{all_have_fallbacks, all_have_tokens, names_total};
 use tokei_rows::{has_layout, is_escaped_table, rows_at};
 use tokei_syntax::Syntax;
 

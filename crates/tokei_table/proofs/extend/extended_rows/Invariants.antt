@@ -1,5 +1,5 @@
 use Rattle.std.proofs.Common.{◌≡◌, ◌++◌, drop, map}
-use Rattle.tokei_row_queries.specs.Extended.{addition_of, extended_from, extended}
+use Rattle.tokei_row_rules.specs.Extended.{addition_of, extended_from, extended}
 use Rattle.tokei_syntax.specs.RowOf.{tokens_of, row_of}
 use Rattle.tokei_table.proofs.extend.extended_rows.Given as goal
 

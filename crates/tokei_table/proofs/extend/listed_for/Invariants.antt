@@ -1,5 +1,5 @@
 use Rattle.std.proofs.Common.{◌≡◌, ◌++◌, drop, map}
-use Rattle.tokei_row_queries.specs.Extended.{addition_of, listed_for}
+use Rattle.tokei_row_rules.specs.Extended.{addition_of, listed_for}
 use Rattle.tokei_syntax.specs.RowOf.{tokens_of}
 use Rattle.tokei_table.proofs.extend.listed_for.Given as goal
 
