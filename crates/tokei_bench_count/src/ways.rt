@@ -1,7 +1,7 @@
 //! The ways to count a text.
 ghost use Rattle.std.specs.Prelude.{◌≡◌, ◌/◌, ◌<◌, false, length, take, IfOk, IsErrOf};
 ghost use Rattle.memchr.specs.Find.{is_byte, places};
-ghost use Rattle.tokei_count.specs.Openings.{languages_of};
+ghost use Rattle.tokei_count.specs.Languages.{languages_of};
 ghost use Rattle.tokei_count.specs.PlainReading.{reading, outermost_levels};
 ghost use Rattle.tokei_stats.specs.Overflow.{Fits};
 ghost use Rattle.tokei_stats.specs.Seen.{stats_of};

@@ -3,8 +3,7 @@ use Rattle.std.specs.Prelude.{ℕ, Bool, true, false, ◌&&◌, ◌||◌, ◌==�
 use Rattle.std.specs.Prelude.{List, [], ◌∷◌, Option, None, Some, is_some, find}
 use Rattle.std.specs.List.{list_any}
 use Rattle.std.specs.Str.{bytes_eq}
-use Rattle.tokei_syntax.specs.Bytes.{begins}
-use Rattle.tokei_rows.specs.Escapes.{backslash}
+use Rattle.tokei_syntax.specs.Bytes.{backslash, begins}
 use Rattle.tokei_syntax.specs.Row.{Pair, Row}
 use Rattle.tokei_choice.specs.Items.{Block, Mode}
 use Rattle.tokei_choice.specs.declared.items.Kind.{Kind}

@@ -5,7 +5,8 @@ ghost use Rattle.tokei_syntax.specs.Bytes.{begins};
 ghost use Rattle.tokei_syntax.specs.RowOf.{pair_of, pairs_of, tokens_of, row_of};
 ghost use Rattle.tokei_choice.specs.Items.{Block};
 ghost use Rattle.tokei_choice.specs.Choice.{opened, any_begins, is_escape, has_pair, met_in_comment};
-ghost use Rattle.tokei_choice.specs.Choice.{choice_in_string, choice_in_comment, choice_in_plain, choice, comment_in_plain, opening_in_plain};
+ghost use Rattle.tokei_choice.specs.Choice.{choice_in_string, choice_in_comment, choice_in_plain, choice};
+ghost use Rattle.tokei_choice.specs.Choice.{comment_in_plain, opening_in_plain};
 ghost use Rattle.tokei_choice.specs.Seen.{choice_of, mode_of};
 
 use crate::items::{Enclosure, Kind};

@@ -7,8 +7,8 @@ ghost use Rattle.tokei_parts.specs.Matchers.{matchers_of};
 
 use std::alloc::{AllocError, Global};
 use std::marker::Model;
-use tokei_table::{LanguageTable, LanguageType};
 use tokei_parts::{LanguageMatchers, SharedMatchers, all_matchers};
+use tokei_table::{LanguageTable, LanguageType};
 
 /// Counts texts in the languages of a table, which it borrows, with matchers of each of them. Contracts see it as that
 /// table.

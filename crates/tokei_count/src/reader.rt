@@ -3,8 +3,8 @@ ghost use Rattle.std.specs.Prelude.{◌≡◌, codes};
 ghost use Rattle.tokei_table.specs.Lookups.{first_where, has_name};
 
 use std::alloc::Global;
+use tokei_parts::LanguageMatchers;
 use tokei_table::{LanguageTable, LanguageType};
-use tokei_parts::{LanguageMatchers};
 
 /// How the texts of a table's languages are read.
 #[derive(Clone, Copy)]

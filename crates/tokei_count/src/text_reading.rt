@@ -27,16 +27,19 @@ ghost use Rattle.tokei_count.specs.UnderWay.{IsReadBy, IsUnderWay, reading_insid
 ghost use Rattle.tokei_stats.specs.Seen.{stats_of, sums_of};
 ghost use Rattle.tokei_stats.specs.Statistics.{lines_of, plus};
 
-use tokei_choice::Enclosure;
 use crate::reader::Reader;
 use std::alloc::{AllocError, Global};
 use std::collections::BTreeMap;
+use tokei_choice::Enclosure;
 use tokei_embedding::{BlockSearch, doc_text};
 use tokei_notebook::cells;
+use tokei_parts::{
+    Block, Class, PartEnd, Place, Reading, calm_end, class_of_plain, class_within, innermost,
+    line_end, line_front, line_len, line_stop, newline_before, next_opener, read_part,
+};
 use tokei_stats::{CodeStats, CountError, Sums, add_blob};
 use tokei_table::ext::trim;
 use tokei_table::{LanguageType, Syntax};
-use tokei_parts::{Block, Class, PartEnd, Place, Reading, calm_end, class_of_plain, class_within, innermost, line_end, line_front, line_len, line_stop, newline_before, next_opener, read_part};
 
 /// A text that was read.
 #[derive(Drop)]

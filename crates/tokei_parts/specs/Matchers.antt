@@ -1,7 +1,7 @@
 -- What the texts of a language are searched and walked with.
 use Rattle.std.specs.Prelude.{ℕ, zero, suc, Bool, ◌||◌, ◌==◌, List, [], ◌∷◌, ◌++◌}
 use Rattle.std.specs.List.{list_any}
-use Rattle.tokei_table.specs.Escapes.{backslash}
+use Rattle.tokei_table.specs.Bytes.{backslash}
 use Rattle.tokei_table.specs.Families.{family_of}
 use Rattle.tokei_table.specs.Family.{Family}
 use Rattle.tokei_table.specs.FirstOpener.{is_first_of}

@@ -1,7 +1,7 @@
 -- Bytes at which nothing but the byte itself, or a child, can begin.
 use Rattle.std.specs.Prelude.{◌≡◌, ℕ, ◌<◌, ◌==◌, Bool, false, List, [], None, Some}
 use Rattle.tokei_bytes.specs.ByteSets.{is_in}
-use Rattle.tokei_table.specs.Escapes.{backslash}
+use Rattle.tokei_table.specs.Bytes.{backslash}
 use Rattle.tokei_table.specs.FirstOpener.{is_first_of}
 use Rattle.tokei_choice.specs.Items.{Mode}
 use Rattle.tokei_parts.specs.Matchers.{Matchers}

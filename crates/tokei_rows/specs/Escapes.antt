@@ -2,7 +2,7 @@
 use Rattle.std.specs.Prelude.{ℕ, ◌==◌, ◌&&◌, List, [], ◌∷◌, Bool, true, false, if◌then◌else◌, encode_utf8_all}
 use Rattle.std.specs.Prelude.{Option, Some, None, is_some, unwrap_or}
 use Rattle.std.specs.Str.{chars}
-use Rattle.tokei_syntax.specs.Bytes.{tab, newline, carriage_return}
+use Rattle.tokei_syntax.specs.Bytes.{tab, newline, carriage_return, backslash}
 
 abbrev pub nul : ℕ
 nul = 0
@@ -15,9 +15,6 @@ apostrophe = 39
 
 abbrev pub digit_0 : ℕ
 digit_0 = 48
-
-abbrev pub backslash : ℕ
-backslash = 92
 
 abbrev pub letter_n : ℕ
 letter_n = 110

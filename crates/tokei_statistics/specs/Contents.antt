@@ -1,6 +1,6 @@
 -- What a file of a known tree counts: the plain reading of its content, decoded.
 use Rattle.std.specs.Prelude.{ℕ, Bool, List, Option, option_map}
-use Rattle.tokei_count.specs.Openings.{languages_of}
+use Rattle.tokei_count.specs.Languages.{languages_of}
 use Rattle.tokei_count.specs.PlainReading.{reading, outermost_levels}
 use Rattle.tokei_stats.specs.Statistics.{Statistics}
 use Rattle.tokei_table.specs.Row.{Row}

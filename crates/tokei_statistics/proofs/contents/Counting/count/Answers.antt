@@ -1,5 +1,5 @@
 use Rattle.std.proofs.Common.{◌≡◌, ap, sym, ◌∙◌, subst, Err, rules, List, ℕ}
-use Rattle.tokei_count.specs.Openings.{languages_of}
+use Rattle.tokei_count.specs.Languages.{languages_of}
 use Rattle.tokei_count.specs.PlainReading.{reading, outermost_levels}
 use Rattle.tokei_count.specs.Seen.{docs_of}
 use Rattle.tokei_stats.specs.Overflow.{Fits}
