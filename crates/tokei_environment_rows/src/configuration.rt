@@ -1,156 +1,156 @@
 //! Runs of the program by the configuration that it finds, and what it says of bad lines and patterns.
-use crate::folders::{folders, text};
+use crate::runs::{File, UNSET, all_right, is_text, status};
 use std::alloc::{AllocError, Global};
-use std::test::Fail;
+use std::str::from_utf8;
 use tokei::Counted;
-use tokei_program::{Env, program};
+use tokei_program::Env;
 
-/// What a run wrote, and its status.
+/// What a run wrote, and its status; none where the folders can't be made.
 #[derive(Drop)]
 struct Outcome {
-    status: u8,
-    out: String,
-    err: String,
+    status: Option<u8>,
+    out: Vec<u8>,
+    err: Vec<u8>,
 }
 
-/// The text as an owned one, where there is one.
-fn owned(alloc: Global, text: Option<&str>) -> Result<Option<String>, AllocError> {
-    match text {
-        None => Ok(None),
-        Some(text) => Ok(Some(String::from_str(alloc, text)?)),
+/// The variables `XDG_CONFIG_HOME` and `HOME`; an empty one isn't set.
+type Variables = (&'static str, &'static str);
+
+/// The text as an owned one, where it isn't empty.
+fn owned(alloc: Global, text: &str) -> Result<Option<String>, AllocError> {
+    if text.is_empty() {
+        Ok(None)
+    } else {
+        Ok(Some(String::from_str(alloc, text)?))
     }
 }
 
-/// Runs the program over the bench table and these files, with these variables.
-fn ran_over(
-    alloc: Global,
-    files: &[(&str, &[u8])],
-    variables: (Option<&str>, Option<&str>),
-    words: &[&str],
-) -> Result<Outcome, Fail> {
-    let Ok(mut folders) = folders(alloc, files) else {
-        return Err(Fail::from("no folders"));
-    };
-    let env = Env {
-        xdg_config_home: owned(alloc, variables.0)?,
+/// The environment with these variables.
+fn env_of(alloc: Global, variables: Variables) -> Result<Env, AllocError> {
+    let xdg_config_home = owned(alloc, variables.0)?;
+    Ok(Env {
+        xdg_config_home,
         home: owned(alloc, variables.1)?,
-    };
-    let mut input = Counted::new(b"".as_slice());
-    let mut out = Counted::new(Vec::new(alloc));
-    let mut err = Counted::new(Vec::new(alloc));
-    let status = program(
-        alloc,
-        words,
-        &env,
-        &mut folders,
-        &mut input,
-        &mut out,
-        &mut err,
-    );
-    Ok(Outcome {
-        status,
-        out: text(out.inner)?,
-        err: text(err.inner)?,
     })
 }
 
-const HIDDEN: &str = r#"{"name":"src/.a.c""#;
+/// Runs the program over the bench table and these files.
+fn ran_in(alloc: Global, files: &[File<'_>], env: &Env, words: &[&str]) -> Outcome {
+    let mut input = Counted::new(b"".as_slice());
+    let mut out = Counted::new(Vec::new(alloc));
+    let mut err = Counted::new(Vec::new(alloc));
+    let status = status(alloc, files, env, words, &mut input, &mut out, &mut err);
+    Outcome {
+        status,
+        out: out.inner,
+        err: err.inner,
+    }
+}
 
 const HIDE: &[u8] = b"hidden = false\n";
 
 const SHOW: &[u8] = b"hidden = true\n";
 
-/// Whether a hidden file is counted with these two files in the folders, and these variables.
-fn counts_hidden(
-    alloc: Global,
-    files: [(&str, &[u8]); 2],
-    variables: (Option<&str>, Option<&str>),
-) -> Result<bool, Fail> {
-    let [first, second] = files;
-    let files = [first, second, ("src/.a.c", b"x;\n".as_slice())];
-    let ran = ran_over(alloc, &files, variables, &["tokei", "-o", "json", "src"])?;
-    if ran.status != 0 {
-        return Err(Fail::from("another status than 0"));
+const HIDDEN: File<'static> = ("src/.a.c", b"x;\n");
+
+/// The files, the variables, and whether the hidden file is counted.
+type Row = (&'static [File<'static>], Variables, bool);
+
+const IN_HOME: &str = "h/.config/tokei.toml";
+
+const BY_FOLDER: [Row; 7] = [
+    (
+        &[("tokei.toml", SHOW), ("h/tokei.toml", HIDE), HIDDEN],
+        ("", "h"),
+        true,
+    ),
+    (
+        &[("tokei.toml", HIDE), ("h/tokei.toml", SHOW), HIDDEN],
+        ("", "h"),
+        false,
+    ),
+    (
+        &[("x", HIDE), ("h/tokei.toml", SHOW), HIDDEN],
+        ("", "h"),
+        true,
+    ),
+    (&[("x", HIDE), (IN_HOME, SHOW), HIDDEN], ("", "h"), true),
+    (
+        &[("x", HIDE), (IN_HOME, SHOW), HIDDEN],
+        ("h/.config", ""),
+        false,
+    ),
+    (
+        &[("x", HIDE), ("d/tokei.toml", SHOW), HIDDEN],
+        ("/d", ""),
+        true,
+    ),
+    (&[("x", HIDE), (IN_HOME, SHOW), HIDDEN], ("/d", "h"), false),
+];
+
+const AS_EMPTY: [Row; 3] = [
+    (
+        &[("tokei.toml", b"hidden ="), (".tokeirc", SHOW), HIDDEN],
+        ("", ""),
+        false,
+    ),
+    (
+        &[("tokei.toml", b"\xff"), (".tokeirc", SHOW), HIDDEN],
+        ("", ""),
+        true,
+    ),
+    (
+        &[
+            ("tokei.toml", b"hidden = true\ncolumns = -1"),
+            ("x", HIDE),
+            HIDDEN,
+        ],
+        ("", ""),
+        false,
+    ),
+];
+
+/// Whether the hidden file is in the document that a run wrote; none where it wrote another thing.
+fn has_hidden(ran: &Outcome) -> Option<bool> {
+    match from_utf8(&ran.out) {
+        Ok(out) => if ran.status == Some(0) && is_text(&ran.err) {
+            Some(out.contains(r#"{"name":"src/.a.c""#))
+        } else {
+            None
+        },
+        Err(_) => None,
     }
-    Ok(ran.out.as_str().contains(HIDDEN))
+}
+
+/// The command line of a document.
+const DOCUMENT: &[&str] = &["tokei", "-o", "json", "src"];
+
+/// Whether the hidden file is counted with these variables; none where the run failed.
+fn counts_hidden(alloc: Global, files: &[File<'_>], variables: Variables) -> Option<bool> {
+    match env_of(alloc, variables) {
+        Ok(env) => has_hidden(&ran_in(alloc, files, &env, DOCUMENT)),
+        Err(_) => None,
+    }
+}
+
+/// The place of the first row of which a run counts otherwise, if there is such a row.
+fn first_wrong(alloc: Global, rows: &[Row]) -> Option<usize> {
+    for (at, (files, variables, counted)) in rows.iter().enumerate() {
+        if counts_hidden(alloc, files, *variables) != Some(*counted) {
+            return Some(at);
+        }
+    }
+    None
 }
 
 #[test]
-fn configuration_by_folder(rt: HostRuntime) -> Result<(), Fail> {
-    let config = "h/.config/tokei.toml";
-    for (files, variables, counted) in [
-        (
-            [("tokei.toml", SHOW), ("h/tokei.toml", HIDE)],
-            (None, Some("h")),
-            true,
-        ),
-        (
-            [("tokei.toml", HIDE), ("h/tokei.toml", SHOW)],
-            (None, Some("h")),
-            false,
-        ),
-        (
-            [("x", HIDE), ("h/tokei.toml", SHOW)],
-            (None, Some("h")),
-            true,
-        ),
-        ([("x", HIDE), (config, SHOW)], (None, Some("h")), true),
-        (
-            [("x", HIDE), (config, SHOW)],
-            (Some("h/.config"), None),
-            false,
-        ),
-        (
-            [("x", HIDE), ("d/tokei.toml", SHOW)],
-            (Some("/d"), None),
-            true,
-        ),
-        (
-            [("x", HIDE), (config, SHOW)],
-            (Some("/d"), Some("h")),
-            false,
-        ),
-    ] {
-        let hidden = counts_hidden(rt.alloc(), files, variables)?;
-        assert_eq!(rt; hidden, counted, "at {files:?} with {variables:?}");
-    }
-    Ok(())
+fn configuration_by_folder(rt: HostRuntime) {
+    all_right(&rt, first_wrong(rt.alloc(), &BY_FOLDER));
 }
 
 #[test]
-fn configuration_that_counts_as_empty(rt: HostRuntime) -> Result<(), Fail> {
-    for (files, counted) in [
-        (
-            [("tokei.toml", b"hidden =".as_slice()), (".tokeirc", SHOW)],
-            false,
-        ),
-        (
-            [("tokei.toml", b"\xff".as_slice()), (".tokeirc", SHOW)],
-            true,
-        ),
-        (
-            [
-                ("tokei.toml", b"hidden = true\ncolumns = -1".as_slice()),
-                ("x", HIDE),
-            ],
-            false,
-        ),
-    ] {
-        let hidden = counts_hidden(rt.alloc(), files, (None, None))?;
-        assert_eq!(rt; hidden, counted, "at {files:?}");
-    }
-    Ok(())
-}
-
-/// The document of `a.h` and `b.rs`, or of `a.h` alone, with this `tokei.toml`.
-fn with_config(alloc: Global, config: &str) -> Result<String, Fail> {
-    let files = [
-        ("tokei.toml", config.as_bytes()),
-        ("src/a.h", b"x;\n".as_slice()),
-        ("src/b.rs", b"fn f() {}\n".as_slice()),
-    ];
-    let ran = ran_over(alloc, &files, (None, None), &["tokei", "-o", "json", "src"])?;
-    Ok(ran.out)
+fn configuration_that_counts_as_empty(rt: HostRuntime) {
+    all_right(&rt, first_wrong(rt.alloc(), &AS_EMPTY));
 }
 
 const C_OF_A: &str =
@@ -159,48 +159,116 @@ const C_OF_A: &str =
 const RUST_OF_B: &str =
     r#""Rust":{"blanks":0,"children":{},"code":1,"comments":0,"inaccurate":false,"reports":[{"name":"src/b.rs""#;
 
-#[test]
-fn added_extensions(rt: HostRuntime) -> Result<(), Fail> {
-    for (config, counted) in [
-        ("[languages.C]\nextensions = [\"h\", \"rs\"]\n", true),
-        (
-            "[languages.D]\nextensions = [\"h\"]\n[languages.C]\nextensions = [\"h\"]\n",
-            true,
-        ),
-        ("[languages.C]\nextensions = [\"H\"]\n", false),
-        (
-            "[languages.C]\nextensions = [\"h\"]\n[languages.Nope]\nextensions = [\"x\"]\n",
-            false,
-        ),
-    ] {
-        let out = with_config(rt.alloc(), config)?;
-        assert_eq!(rt; out.as_str().starts_with(C_OF_A), counted, "at {config}");
-        assert!(rt; out.as_str().contains(RUST_OF_B), "at {config}");
+/// Whether the document that a run wrote begins with `a.h` as a file of C, and whether `b.rs` is in it as one of Rust; none
+/// where it is no text.
+fn has_both(ran: &Outcome) -> Option<(bool, bool)> {
+    match from_utf8(&ran.out) {
+        Ok(out) => if is_text(&ran.err) {
+            Some((out.starts_with(C_OF_A), out.contains(RUST_OF_B)))
+        } else {
+            None
+        },
+        Err(_) => None,
     }
-    Ok(())
+}
+
+const OF_A: File<'static> = ("src/a.h", b"x;\n");
+
+const OF_B: File<'static> = ("src/b.rs", b"fn f() {}\n");
+
+/// Files, and whether `a.h` is a file of C.
+const ADDED: [(&[File<'static>], bool); 4] = [
+    (
+        &[
+            (
+                "tokei.toml",
+                b"[languages.C]\nextensions = [\"h\", \"rs\"]\n",
+            ),
+            OF_A,
+            OF_B,
+        ],
+        true,
+    ),
+    (
+        &[
+            (
+                "tokei.toml",
+                b"[languages.D]\nextensions = [\"h\"]\n[languages.C]\nextensions = [\"h\"]\n",
+            ),
+            OF_A,
+            OF_B,
+        ],
+        true,
+    ),
+    (
+        &[
+            ("tokei.toml", b"[languages.C]\nextensions = [\"H\"]\n"),
+            OF_A,
+            OF_B,
+        ],
+        false,
+    ),
+    (
+        &[
+            (
+                "tokei.toml",
+                b"[languages.C]\nextensions = [\"h\"]\n[languages.Nope]\nextensions = [\"x\"]\n",
+            ),
+            OF_A,
+            OF_B,
+        ],
+        false,
+    ),
+];
+
+/// The place of the first row of which a run counts other files, if there is such a row.
+fn first_wrong_addition(alloc: Global) -> Option<usize> {
+    for (at, (files, counted)) in ADDED.iter().enumerate() {
+        if has_both(&ran_in(alloc, files, &UNSET, DOCUMENT)) != Some((*counted, true)) {
+            return Some(at);
+        }
+    }
+    None
 }
 
 #[test]
-fn notes_by_verbosity(rt: HostRuntime) -> Result<(), Fail> {
-    let files = [
-        ("src/.ignore", b"[a\n".as_slice()),
-        ("src/a.c", b"x;\n".as_slice()),
-    ];
-    for (words, said) in [
-        (["tokei", "-o", "json", "src"].as_slice(), ""),
-        (
-            ["tokei", "-v", "-o", "json", "src"].as_slice(),
-            "[WARN  bad line in ignore file] src/.ignore\n",
-        ),
-        (["tokei", "-vvvv", "-o", "json", "src"].as_slice(), ""),
-        (
-            ["tokei", "-o", "json", "-e", "[a", "src"].as_slice(),
-            "[ERROR exclude is no pattern] [a\n",
-        ),
-    ] {
-        let ran = ran_over(rt.alloc(), &files, (None, None), words)?;
-        assert_eq!(rt; ran.err.as_str(), said, "at {words:?}");
-        assert_eq!(rt; ran.status, 0, "at {words:?}");
+fn added_extensions(rt: HostRuntime) {
+    all_right(&rt, first_wrong_addition(rt.alloc()));
+}
+
+/// A bad line, and a file.
+const BAD_LINE: &[File<'static>] = &[("src/.ignore", b"[a\n"), ("src/a.c", b"x;\n")];
+
+/// A command line, and what is said beside the document.
+const NOTES: [(&[&str], &str); 4] = [
+    (&["tokei", "-o", "json", "src"], ""),
+    (
+        &["tokei", "-v", "-o", "json", "src"],
+        "[WARN  bad line in ignore file] src/.ignore\n",
+    ),
+    (&["tokei", "-vvvv", "-o", "json", "src"], ""),
+    (
+        &["tokei", "-o", "json", "-e", "[a", "src"],
+        "[ERROR exclude is no pattern] [a\n",
+    ),
+];
+
+/// Whether a run succeeded, said this, and wrote a text.
+fn is_said(ran: &Outcome, said: &str) -> bool {
+    ran.status == Some(0) && ran.err.as_slice() == said.as_bytes() && is_text(&ran.out)
+}
+
+/// The place of the first row of which something else is said, if there is such a row.
+fn first_wrong_note(alloc: Global) -> Option<usize> {
+    for (at, (words, said)) in NOTES.iter().enumerate() {
+        if !is_said(&ran_in(alloc, BAD_LINE, &UNSET, words), said) {
+            return Some(at);
+        }
     }
-    Ok(())
+    None
+}
+
+#[test]
+fn notes_by_verbosity(rt: HostRuntime) {
+    all_right(&rt, first_wrong_note(rt.alloc()));
 }
