@@ -13,6 +13,30 @@ fn with_members(alloc: Global, members: &str) -> Result<usize, TableError> {
     languages_in(alloc, text.as_bytes())
 }
 
+/// The first of the texts that isn't refused for that cause, if there is one.
+fn first_wrong(alloc: Global, texts: &[&'static str], cause: TableError) -> Option<&'static str> {
+    for text in texts {
+        if languages_in(alloc, text.as_bytes()) != Err(cause) {
+            return Some(*text);
+        }
+    }
+    None
+}
+
+/// The first of the members with which a language isn't refused for that cause, if there are some.
+fn first_wrong_members(
+    alloc: Global,
+    rows: &[&'static str],
+    cause: TableError,
+) -> Option<&'static str> {
+    for members in rows {
+        if with_members(alloc, members) != Err(cause) {
+            return Some(*members);
+        }
+    }
+    None
+}
+
 /// Texts that are tables, and how many languages each has. Of members of one name the last stands.
 const ACCEPTED: [(&str, usize); 12] = [
     (r#"{"languages":{}}"#, 0),
@@ -38,12 +62,19 @@ const ACCEPTED: [(&str, usize); 12] = [
     (r#"{"languages":{"X":{"other":1e2},"X":{}}}"#, 1),
 ];
 
+/// The first of them that has another count or is refused, if there is one.
+fn first_not_accepted(alloc: Global) -> Option<&'static str> {
+    for (text, want) in &ACCEPTED {
+        if languages_in(alloc, text.as_bytes()) != Ok(*want) {
+            return Some(*text);
+        }
+    }
+    None
+}
+
 #[test]
 fn accepted(rt: HostRuntime) {
-    for (text, want) in &ACCEPTED {
-        let told = languages_in(rt.alloc(), text.as_bytes());
-        assert_eq!(rt; told, Ok(*want), "at {text}");
-    }
+    assert_eq!(rt; first_not_accepted(rt.alloc()), None);
 }
 
 const NO_JSON: [&[u8]; 17] = [
@@ -66,12 +97,19 @@ const NO_JSON: [&[u8]; 17] = [
     b"{\"languages\":{},\"v\":nul}",
 ];
 
+/// The place of the first of them that isn't refused as no JSON, if there is one.
+fn first_json(alloc: Global) -> Option<usize> {
+    for (place, text) in NO_JSON.iter().enumerate() {
+        if languages_in(alloc, text) != Err(TableError::NotJson) {
+            return Some(place);
+        }
+    }
+    None
+}
+
 #[test]
 fn no_json(rt: HostRuntime) {
-    for text in &NO_JSON {
-        let told = languages_in(rt.alloc(), text);
-        assert_eq!(rt; told, Err(TableError::NotJson), "at {text:?}");
-    }
+    assert_eq!(rt; first_json(rt.alloc()), None);
 }
 
 /// The text of a table with a member to be passed over that is that many lists deep.
@@ -102,12 +140,19 @@ const DEPTHS: [(usize, Result<usize, TableError>); 4] = [
     (20_000, Err(TableError::NotJson)),
 ];
 
+/// The first depth at which another answer is given, if there is one.
+fn first_wrong_depth(alloc: Global) -> Option<usize> {
+    for (depth, want) in &DEPTHS {
+        if languages_behind_lists(alloc, *depth) != *want {
+            return Some(*depth);
+        }
+    }
+    None
+}
+
 #[test]
 fn too_deep(rt: HostRuntime) {
-    for (depth, want) in &DEPTHS {
-        let told = languages_behind_lists(rt.alloc(), *depth);
-        assert_eq!(rt; told, *want, "{depth} deep");
-    }
+    assert_eq!(rt; first_wrong_depth(rt.alloc()), None);
 }
 
 const NO_TABLE: [&str; 18] = [
@@ -133,10 +178,10 @@ const NO_TABLE: [&str; 18] = [
 
 #[test]
 fn no_table(rt: HostRuntime) {
-    for text in &NO_TABLE {
-        let told = languages_in(rt.alloc(), text.as_bytes());
-        assert_eq!(rt; told, Err(TableError::Layout), "at {text}");
-    }
+    assert_eq!(rt;
+        first_wrong(rt.alloc(), &NO_TABLE, TableError::Layout),
+        None
+    );
 }
 
 const OTHER_KINDS: [&str; 25] = [
@@ -169,10 +214,10 @@ const OTHER_KINDS: [&str; 25] = [
 
 #[test]
 fn members_of_other_kinds(rt: HostRuntime) {
-    for members in &OTHER_KINDS {
-        let told = with_members(rt.alloc(), members);
-        assert_eq!(rt; told, Err(TableError::Layout), "at {members}");
-    }
+    assert_eq!(rt;
+        first_wrong_members(rt.alloc(), &OTHER_KINDS, TableError::Layout),
+        None
+    );
 }
 
 const ESCAPES: [&str; 6] = [
@@ -186,10 +231,10 @@ const ESCAPES: [&str; 6] = [
 
 #[test]
 fn unknown_escapes(rt: HostRuntime) {
-    for members in &ESCAPES {
-        let told = with_members(rt.alloc(), members);
-        assert_eq!(rt; told, Err(TableError::Escape), "at {members}");
-    }
+    assert_eq!(rt;
+        first_wrong_members(rt.alloc(), &ESCAPES, TableError::Escape),
+        None
+    );
 }
 
 const TOKENS: [&str; 9] = [
@@ -206,10 +251,10 @@ const TOKENS: [&str; 9] = [
 
 #[test]
 fn bad_tokens(rt: HostRuntime) {
-    for members in &TOKENS {
-        let told = with_members(rt.alloc(), members);
-        assert_eq!(rt; told, Err(TableError::Token), "at {members}");
-    }
+    assert_eq!(rt;
+        first_wrong_members(rt.alloc(), &TOKENS, TableError::Token),
+        None
+    );
 }
 
 const NAMED_TWICE: [&str; 3] = [
@@ -220,10 +265,10 @@ const NAMED_TWICE: [&str; 3] = [
 
 #[test]
 fn named_twice(rt: HostRuntime) {
-    for text in &NAMED_TWICE {
-        let told = languages_in(rt.alloc(), text.as_bytes());
-        assert_eq!(rt; told, Err(TableError::NamedTwice), "at {text}");
-    }
+    assert_eq!(rt;
+        first_wrong(rt.alloc(), &NAMED_TWICE, TableError::NamedTwice),
+        None
+    );
 }
 
 const NAMED_TOTAL: [&str; 2] = [
@@ -233,10 +278,10 @@ const NAMED_TOTAL: [&str; 2] = [
 
 #[test]
 fn named_total(rt: HostRuntime) {
-    for text in &NAMED_TOTAL {
-        let told = languages_in(rt.alloc(), text.as_bytes());
-        assert_eq!(rt; told, Err(TableError::NamedTotal), "at {text}");
-    }
+    assert_eq!(rt;
+        first_wrong(rt.alloc(), &NAMED_TOTAL, TableError::NamedTotal),
+        None
+    );
 }
 
 const WITHOUT_FALLBACK: [&str; 7] = [
@@ -251,8 +296,8 @@ const WITHOUT_FALLBACK: [&str; 7] = [
 
 #[test]
 fn missing_fallbacks(rt: HostRuntime) {
-    for text in &WITHOUT_FALLBACK {
-        let told = languages_in(rt.alloc(), text.as_bytes());
-        assert_eq!(rt; told, Err(TableError::Fallback), "at {text}");
-    }
+    assert_eq!(rt;
+        first_wrong(rt.alloc(), &WITHOUT_FALLBACK, TableError::Fallback),
+        None
+    );
 }

@@ -1,29 +1,42 @@
 //! Look-ups in the bench table, and what it says of its languages.
-use crate::shown::{are_pairs, are_texts, bench, key_of};
+ghost use Rattle.std.specs.Prelude.{◌<◌, length};
+
+use crate::bench_json;
+use crate::shown::{Found, Way, are_pairs, are_texts, assert_right, bench, first_wrong_in, key_of};
 use std::alloc::{AllocError, Global};
-use std::test::Fail;
 use tokei_table::{Family, LanguageTable, LanguageType, TableError, has_extension};
 
-/// How many languages are listed, and whether the second is Batch, with its extensions, behind the first.
-fn listed(alloc: Global, table: &LanguageTable) -> Result<(usize, bool), AllocError> {
-    let listed = LanguageType::list(alloc, table)?;
-    let second = listed.len() > 1
+/// Whether the second language is Batch, with its extensions, behind the first.
+fn has_batch(table: &LanguageTable, listed: &[(LanguageType, &[String])]) -> bool {
+    listed.len() > 1
         && are_texts(listed[1].1, &["bat", "cmd"])
         && key_of(table, Some(listed[1].0)) == "Batch"
-        && listed[0].0 < listed[1].0;
-    Ok((listed.len(), second))
+        && listed[0].0 < listed[1].0
+}
+
+/// How many languages are listed, and whether the second is Batch, with its extensions, behind the first.
+fn listed(alloc: Global, table: &LanguageTable) -> Result<(usize, bool), TableError> {
+    let listed = LanguageType::list(alloc, table)?;
+    Ok((listed.len(), has_batch(table, listed.as_slice())))
+}
+
+/// The same of the bench table, or its own length and whether it is empty, where these are wrong.
+fn listed_of_bench(alloc: Global) -> Result<(usize, bool), TableError> {
+    let table = bench(alloc)?;
+    if (table.len(), table.is_empty()) == (20, false) {
+        listed(alloc, &table)
+    } else {
+        Ok((table.len(), table.is_empty()))
+    }
 }
 
 #[test]
-fn has_its_languages(rt: HostRuntime) -> Result<(), Fail> {
-    let table = bench(rt.alloc())?;
-    assert_eq!(rt; (table.len(), table.is_empty()), (20, false));
-    assert_eq!(rt; listed(rt.alloc(), &table)?, (20, true));
-    Ok(())
+fn has_its_languages(rt: HostRuntime) {
+    assert_eq!(rt; listed_of_bench(rt.alloc()), Ok((20, true)));
 }
 
 /// A name or a word, and the key of its language.
-const NAMES: [(&str, &str); 5] = [
+const NAMES: [Found; 5] = [
     ("Css", "Css"),
     ("CSS", "Css"),
     ("css", "none"),
@@ -31,7 +44,7 @@ const NAMES: [(&str, &str); 5] = [
     ("", "none"),
 ];
 
-const WORDS: [(&str, &str); 5] = [
+const WORDS: [Found; 5] = [
     ("CSS", "Css"),
     ("css", "Css"),
     ("CSharp", "none"),
@@ -39,62 +52,61 @@ const WORDS: [(&str, &str); 5] = [
     ("", "none"),
 ];
 
+/// The first text that finds another language in the bench table than is wanted, if there is one.
+fn first_wrong_in_bench(
+    alloc: Global,
+    way: Way,
+    rows: &[Found],
+) -> Result<Option<&'static str>, TableError> {
+    first_wrong_in(alloc, bench_json(), way, rows)
+}
+
 #[test]
-fn names_and_words(rt: HostRuntime) -> Result<(), Fail> {
-    let table = bench(rt.alloc())?;
-    for (name, want) in &NAMES {
-        let key = key_of(&table, LanguageType::from_name(&table, name));
-        assert_eq!(rt; key, *want, "of {name}");
-    }
-    for (word, want) in &WORDS {
-        let key = key_of(&table, LanguageType::from_str(&table, word));
-        assert_eq!(rt; key, *want, "of {word}");
-    }
-    Ok(())
+fn names_and_words(rt: HostRuntime) {
+    assert_right(&rt, first_wrong_in_bench(rt.alloc(), Way::Name, &NAMES));
+    assert_right(&rt, first_wrong_in_bench(rt.alloc(), Way::Word, &WORDS));
 }
 
 /// Whether the empty word finds the language whose key is empty, and so does the empty name.
+fn has_the_empty_key(table: &LanguageTable) -> bool {
+    let found = LanguageType::from_str(table, "");
+    found.is_some() && key_of(table, found) == "" && found == LanguageType::from_name(table, "")
+}
+
+/// The same in a table that has it.
 fn finds_the_empty_key(alloc: Global) -> Result<bool, TableError> {
     let table = LanguageTable::from_json(alloc, br#"{"languages":{"":{},"A":{}}}"#)?;
-    let found = LanguageType::from_str(&table, "");
-    Ok(
-        found.is_some()
-            && key_of(&table, found) == ""
-            && found == LanguageType::from_name(&table, ""),
-    )
+    Ok(has_the_empty_key(&table))
 }
 
 #[test]
-fn the_empty_word_is_a_key(rt: HostRuntime) -> Result<(), Fail> {
-    assert!(rt; finds_the_empty_key(rt.alloc())?);
-    Ok(())
+fn the_empty_word_is_a_key(rt: HostRuntime) {
+    assert_eq!(rt; finds_the_empty_key(rt.alloc()), Ok(true));
 }
 
 /// A media type or an extension, and the key of its language.
-const MEDIA_TYPES: [(&str, &str); 3] = [
+const MEDIA_TYPES: [Found; 3] = [
     ("application/javascript", "JavaScript"),
     ("text/javascript", "JavaScript"),
     ("TEXT/HTML", "none"),
 ];
 
-const EXTENSIONS: [(&str, &str); 3] = [("markdown", "Markdown"), ("MD", "none"), ("", "none")];
+const EXTENSIONS: [Found; 3] = [("markdown", "Markdown"), ("MD", "none"), ("", "none")];
 
 #[test]
-fn types_and_extensions(rt: HostRuntime) -> Result<(), Fail> {
-    let table = bench(rt.alloc())?;
-    for (mime, want) in &MEDIA_TYPES {
-        let key = key_of(&table, LanguageType::from_mime(&table, mime));
-        assert_eq!(rt; key, *want, "of {mime}");
-    }
-    for (extension, want) in &EXTENSIONS {
-        let key = key_of(&table, LanguageType::from_file_extension(&table, extension));
-        assert_eq!(rt; key, *want, "of {extension}");
-    }
-    Ok(())
+fn types_and_extensions(rt: HostRuntime) {
+    assert_right(
+        &rt,
+        first_wrong_in_bench(rt.alloc(), Way::MediaType, &MEDIA_TYPES),
+    );
+    assert_right(
+        &rt,
+        first_wrong_in_bench(rt.alloc(), Way::Extension, &EXTENSIONS),
+    );
 }
 
 /// A file's name, and the key of its language.
-const FILES: [(&str, &str); 6] = [
+const FILES: [Found; 6] = [
     ("Cargo.lock", "Toml"),
     ("A.RS", "Rust"),
     ("a.b.c", "C"),
@@ -113,20 +125,23 @@ const WITH_EXTENSION: [(&str, bool); 5] = [
 ];
 
 #[test]
-fn files(rt: HostRuntime) -> Result<(), Fail> {
-    let table = bench(rt.alloc())?;
-    for (name, want) in &FILES {
-        let found = LanguageType::from_file_name(rt.alloc(), &table, name)?;
-        assert_eq!(rt; key_of(&table, found), *want, "of {name}");
+fn files(rt: HostRuntime) {
+    assert_right(&rt, first_wrong_in_bench(rt.alloc(), Way::FileName, &FILES));
+}
+
+/// The first name of which the other is answered, if there is one.
+fn first_wrong_extension() -> Option<&'static str> {
+    for (name, has) in &WITH_EXTENSION {
+        if has_extension(name) != *has {
+            return Some(*name);
+        }
     }
-    Ok(())
+    None
 }
 
 #[test]
 fn names_with_an_extension(rt: HostRuntime) {
-    for (name, has) in &WITH_EXTENSION {
-        assert_eq!(rt; has_extension(name), *has, "of {name}");
-    }
+    assert_eq!(rt; first_wrong_extension(), None);
 }
 
 /// A table with path suffixes, which the bench table hasn't, so that their rank among the ways to find a file is shown.
@@ -135,7 +150,7 @@ const OF_SUFFIXES: &[u8] = br#"{"languages":{
             "B":{"path_suffixes":["_lists.txt","a.txt"],"extensions":["TXT"]},
             "C":{"filenames":["a.txt"],"path_suffixes":["_lists.txt"]}}}"#;
 
-const WAYS: [(&str, &str); 4] = [
+const WAYS: [Found; 4] = [
     ("A.txt", "C"),
     ("ba.txt", "B"),
     ("x_Lists.TXT", "B"),
@@ -143,19 +158,17 @@ const WAYS: [(&str, &str); 4] = [
 ];
 
 #[test]
-fn ways_to_find_a_file(rt: HostRuntime) -> Result<(), Fail> {
-    let table = LanguageTable::from_json(rt.alloc(), OF_SUFFIXES)?;
-    for (name, want) in &WAYS {
-        let found = LanguageType::from_file_name(rt.alloc(), &table, name)?;
-        assert_eq!(rt; key_of(&table, found), *want, "of {name}");
-    }
-    Ok(())
+fn ways_to_find_a_file(rt: HostRuntime) {
+    assert_right(
+        &rt,
+        first_wrong_in(rt.alloc(), OF_SUFFIXES, Way::FileName, &WAYS),
+    );
 }
 
 /// A table in which an extension is a capital, which no file's name has once it is in lower case.
 const OF_CAPITALS: &[u8] = br#"{"languages":{"A":{"extensions":["H"]},"B":{"extensions":["c"]}}}"#;
 
-const CAPITALS: [(&str, &str); 4] = [
+const CAPITALS: [Found; 4] = [
     ("a.H", "none"),
     ("a.h", "none"),
     ("a.C", "B"),
@@ -163,13 +176,11 @@ const CAPITALS: [(&str, &str); 4] = [
 ];
 
 #[test]
-fn capitals_of_a_table(rt: HostRuntime) -> Result<(), Fail> {
-    let table = LanguageTable::from_json(rt.alloc(), OF_CAPITALS)?;
-    for (name, want) in &CAPITALS {
-        let found = LanguageType::from_file_name(rt.alloc(), &table, name)?;
-        assert_eq!(rt; key_of(&table, found), *want, "of {name}");
-    }
-    Ok(())
+fn capitals_of_a_table(rt: HostRuntime) {
+    assert_right(
+        &rt,
+        first_wrong_in(rt.alloc(), OF_CAPITALS, Way::FileName, &CAPITALS),
+    );
 }
 
 /// The beginning of a file, and the key of its language.
@@ -185,14 +196,25 @@ const HEADS: [(&[u8], &str); 9] = [
     (b"", "none"),
 ];
 
-#[test]
-fn scripts(rt: HostRuntime) -> Result<(), Fail> {
-    let table = bench(rt.alloc())?;
-    for (head, want) in &HEADS {
-        let key = key_of(&table, LanguageType::from_shebang_bytes(&table, head));
-        assert_eq!(rt; key, *want, "of {head:?}");
+/// The place of the first head that finds another language than is wanted, if there is one.
+fn first_wrong_head(table: &LanguageTable) -> Option<usize> {
+    for (place, (head, want)) in HEADS.iter().enumerate() {
+        if key_of(table, LanguageType::from_shebang_bytes(table, head)) != *want {
+            return Some(place);
+        }
     }
-    Ok(())
+    None
+}
+
+/// The same in the bench table.
+fn first_wrong_script(alloc: Global) -> Result<Option<usize>, TableError> {
+    let table = bench(alloc)?;
+    Ok(first_wrong_head(&table))
+}
+
+#[test]
+fn scripts(rt: HostRuntime) {
+    assert_eq!(rt; first_wrong_script(rt.alloc()), Ok(None));
 }
 
 /// A head whose character of three bytes stands behind so many blanks.
@@ -219,32 +241,52 @@ fn key_of_head<'a>(
 // A character that is cut at byte 128 makes the line no UTF-8; one that ends there doesn't.
 const SPACES: [(usize, &str); 2] = [(114, "Bash"), (115, "none")];
 
-#[test]
-fn heads_end_at_byte_128(rt: HostRuntime) -> Result<(), Fail> {
-    let table = bench(rt.alloc())?;
+/// After how many blanks another language is found, if there is such a row.
+fn first_wrong_blanks(alloc: Global, table: &LanguageTable) -> Result<Option<usize>, TableError> {
     for (spaces, want) in &SPACES {
-        let key = key_of_head(rt.alloc(), &table, *spaces)?;
-        assert_eq!(rt; key, *want, "behind {spaces} blanks");
-    }
-    Ok(())
-}
-
-/// The first language whose members aren't as the bench table has them, if there is one.
-fn first_wrong(alloc: Global, table: &LanguageTable) -> Result<Option<LanguageType>, AllocError> {
-    for (language, _extensions) in LanguageType::list(alloc, table)? {
-        if !says_what_is_wanted(table, language) {
-            return Ok(Some(language));
+        if key_of_head(alloc, table, *spaces)? != *want {
+            return Ok(Some(*spaces));
         }
     }
     Ok(None)
 }
 
+/// The same in the bench table.
+fn first_wrong_long_head(alloc: Global) -> Result<Option<usize>, TableError> {
+    let table = bench(alloc)?;
+    first_wrong_blanks(alloc, &table)
+}
+
 #[test]
-fn members(rt: HostRuntime) -> Result<(), Fail> {
-    let table = bench(rt.alloc())?;
-    let wrong = first_wrong(rt.alloc(), &table)?;
-    assert_eq!(rt; key_of(&table, wrong), "none");
-    Ok(())
+fn heads_end_at_byte_128(rt: HostRuntime) {
+    assert_eq!(rt; first_wrong_long_head(rt.alloc()), Ok(None));
+}
+
+/// The place of the first language whose members aren't as the bench table has them, if there is one.
+fn first_wrong(table: &LanguageTable, listed: &[(LanguageType, &[String])]) -> Option<usize> {
+    for (language, _extensions) in listed {
+        if !says_what_is_wanted(table, *language) {
+            return Some(language.index());
+        }
+    }
+    None
+}
+
+/// The same of all languages of a table.
+fn first_wrong_of(alloc: Global, table: &LanguageTable) -> Result<Option<usize>, TableError> {
+    let listed = LanguageType::list(alloc, table)?;
+    Ok(first_wrong(table, listed.as_slice()))
+}
+
+/// The same of the bench table.
+fn first_wrong_of_bench(alloc: Global) -> Result<Option<usize>, TableError> {
+    let table = bench(alloc)?;
+    first_wrong_of(alloc, &table)
+}
+
+#[test]
+fn members(rt: HostRuntime) {
+    assert_eq!(rt; first_wrong_of_bench(rt.alloc()), Ok(None));
 }
 
 /// A table of kinds. No escapes are read in a kind, so a backslash stands for itself.
@@ -270,40 +312,87 @@ fn is_of_kind(table: &LanguageTable, key: &str, kind: &str, html: bool) -> bool 
     }
 }
 
-#[test]
-fn kinds(rt: HostRuntime) -> Result<(), Fail> {
-    let table = LanguageTable::from_json(rt.alloc(), OF_KINDS)?;
+/// The key of the first language of another kind, if there is one.
+fn first_wrong_kind(table: &LanguageTable) -> Option<&'static str> {
     for (key, kind, html) in &KINDS {
-        let right = is_of_kind(&table, key, kind, *html);
-        assert!(rt; right, "of {key}");
+        if !is_of_kind(table, key, kind, *html) {
+            return Some(*key);
+        }
     }
-    Ok(())
+    None
 }
 
-/// Whether the members of the language are as the bench table has them, of those that this test knows.
-fn says_what_is_wanted(table: &LanguageTable, language: LanguageType) -> bool {
-    if !table.has(language) {
-        return false;
-    }
+/// The same in the table of kinds.
+fn first_wrong_of_kinds(alloc: Global) -> Result<Option<&'static str>, TableError> {
+    let table = LanguageTable::from_json(alloc, OF_KINDS)?;
+    Ok(first_wrong_kind(&table))
+}
+
+#[test]
+fn kinds(rt: HostRuntime) {
+    assert_right(&rt, first_wrong_of_kinds(rt.alloc()));
+}
+
+/// Whether the pairs of a language are as the bench table has them, of those that this test knows.
+fn has_its_pairs(table: &LanguageTable, language: LanguageType) -> bool
+    requires { language < length table.now }
+{
     match language.key(table) {
-        "Bash" => are_texts(language.shebangs(table), &["#!/bin/bash"])
-            && language.name(table) == "BASH",
-        "CSharp" => are_pairs(language.verbatim_quotes(table), &[("@\"", "\"")])
-            && language.name(table) == "C#",
-        "D" => are_pairs(language.nested_comments(table), &[("/+", "+/")])
-            && !language.allows_nested(table),
-        "Html" => are_pairs(language.multi_line_comments(table), &[("<!--", "-->")])
-            && table.syntax(language).kind.as_str() == "html"
-            && language.family(table) == Family::HtmlLike,
+        "CSharp" => are_pairs(language.verbatim_quotes(table), &[("@\"", "\"")]),
+        "D" => are_pairs(language.nested_comments(table), &[("/+", "+/")]),
+        "Html" => are_pairs(language.multi_line_comments(table), &[("<!--", "-->")]),
         "Python" => are_pairs(
             language.doc_quotes(table),
             &[("\"\"\"", "\"\"\""), ("'''", "'''")],
         ),
-        "Rust" => are_texts(language.line_comments(table), &["//"])
-            && are_pairs(language.quotes(table), &[("\"", "\"")])
-            && language.allows_nested(table)
-            && !language.is_literate(table),
-        "Text" => language.is_literate(table) && language.name(table) == "Plain Text",
+        "Rust" => are_pairs(language.quotes(table), &[("\"", "\"")]),
         _ => true,
     }
+}
+
+/// The same of its texts.
+fn has_its_texts(table: &LanguageTable, language: LanguageType) -> bool
+    requires { language < length table.now }
+{
+    match language.key(table) {
+        "Bash" => are_texts(language.shebangs(table), &["#!/bin/bash"]),
+        "Rust" => are_texts(language.line_comments(table), &["//"]),
+        _ => true,
+    }
+}
+
+/// The same of its name.
+fn has_its_name(table: &LanguageTable, language: LanguageType) -> bool
+    requires { language < length table.now }
+{
+    let name = language.name(table);
+    match language.key(table) {
+        "Bash" => name == "BASH",
+        "CSharp" => name == "C#",
+        "Text" => name == "Plain Text",
+        _ => true,
+    }
+}
+
+/// The same of what it is: nested or not, literate or not, HTML or not.
+fn has_its_kind(table: &LanguageTable, language: LanguageType) -> bool
+    requires { language < length table.now }
+{
+    match language.key(table) {
+        "D" => !language.allows_nested(table),
+        "Rust" => language.allows_nested(table) && !language.is_literate(table),
+        "Text" => language.is_literate(table),
+        "Html" => table.syntax(language).kind.as_str() == "html"
+            && language.family(table) == Family::HtmlLike,
+        _ => true,
+    }
+}
+
+/// Whether the members of the language are as the bench table has them, of those that this test knows.
+fn says_what_is_wanted(table: &LanguageTable, language: LanguageType) -> bool {
+    table.has(language)
+        && has_its_pairs(table, language)
+        && has_its_texts(table, language)
+        && has_its_name(table, language)
+        && has_its_kind(table, language)
 }

@@ -1,23 +1,26 @@
 //! Openers of languages, and searches for them.
-use crate::shown::{are_texts, bench};
+use crate::shown::{are_texts, assert_right, bench};
 use std::alloc::{AllocError, Global};
-use std::test::Fail;
-use tokei_table::{LanguageTable, LanguageType, OpenerIndex};
+use tokei_table::{LanguageTable, LanguageType, OpenerIndex, TableError};
 
 /// Whether the important syntax of Python is this.
-fn is_important(alloc: Global, table: &LanguageTable, wanted: &[&str]) -> Result<bool, AllocError> {
+fn is_important(alloc: Global, table: &LanguageTable, wanted: &[&str]) -> Result<bool, TableError> {
     match LanguageType::from_name(table, "Python") {
         Some(python) => Ok(are_texts(&python.important_syntax(alloc, table)?, wanted)),
         None => Ok(false),
     }
 }
 
+/// The same in the bench table.
+fn is_important_in_bench(alloc: Global, wanted: &[&str]) -> Result<bool, TableError> {
+    let table = bench(alloc)?;
+    is_important(alloc, &table, wanted)
+}
+
 #[test]
-fn important_syntax(rt: HostRuntime) -> Result<(), Fail> {
-    let table = bench(rt.alloc())?;
-    let right = is_important(rt.alloc(), &table, &["\"", "'", "\"\"\"", "'''"])?;
-    assert!(rt; right);
-    Ok(())
+fn important_syntax(rt: HostRuntime) {
+    let right = is_important_in_bench(rt.alloc(), &["\"", "'", "\"\"\"", "'''"]);
+    assert_eq!(rt; right, Ok(true));
 }
 
 /// A language, and its openers.
@@ -55,14 +58,28 @@ fn opens_with(
     }
 }
 
-#[test]
-fn openers(rt: HostRuntime) -> Result<(), Fail> {
-    let table = bench(rt.alloc())?;
+/// The key of the first language with other openers, if there is one.
+fn first_wrong_openers(
+    alloc: Global,
+    table: &LanguageTable,
+) -> Result<Option<&'static str>, TableError> {
     for (key, wanted) in &OPENERS {
-        let right = opens_with(rt.alloc(), &table, key, wanted)?;
-        assert!(rt; right, "of {key}");
+        if !opens_with(alloc, table, key, wanted)? {
+            return Ok(Some(*key));
+        }
     }
-    Ok(())
+    Ok(None)
+}
+
+/// The same in the bench table.
+fn first_wrong_openers_of_bench(alloc: Global) -> Result<Option<&'static str>, TableError> {
+    let table = bench(alloc)?;
+    first_wrong_openers(alloc, &table)
+}
+
+#[test]
+fn openers(rt: HostRuntime) {
+    assert_right(&rt, first_wrong_openers_of_bench(rt.alloc()));
 }
 
 /// A language, a text, and the first place of an opener.
@@ -89,14 +106,28 @@ fn first_of_language(
     Ok(Some(index.first_in(text.as_bytes())))
 }
 
-#[test]
-fn searches_for_those_of_a_language(rt: HostRuntime) -> Result<(), Fail> {
-    let table = bench(rt.alloc())?;
+/// The first text in which an opener is found elsewhere, if there is one.
+fn first_wrong_place(
+    alloc: Global,
+    table: &LanguageTable,
+) -> Result<Option<&'static str>, TableError> {
     for (key, text, want) in &OF_LANGUAGES {
-        let first = first_of_language(rt.alloc(), &table, key, text)?;
-        assert_eq!(rt; first, Some(*want), "{key} in {text}");
+        if first_of_language(alloc, table, key, text)? != Some(*want) {
+            return Ok(Some(*text));
+        }
     }
-    Ok(())
+    Ok(None)
+}
+
+/// The same in the bench table.
+fn first_wrong_place_in_bench(alloc: Global) -> Result<Option<&'static str>, TableError> {
+    let table = bench(alloc)?;
+    first_wrong_place(alloc, &table)
+}
+
+#[test]
+fn searches_for_those_of_a_language(rt: HostRuntime) {
+    assert_right(&rt, first_wrong_place_in_bench(rt.alloc()));
 }
 
 const MARKS: &[&str] = &["\"", "\"\"\"", "'", "'''"];
@@ -160,12 +191,18 @@ fn first_of(
     Ok(Some(index.first_in(text.as_bytes())))
 }
 
-#[test]
-fn searches(rt: HostRuntime) -> Result<(), Fail> {
-    for (openers, text, want) in &SEARCHES {
-        let first = first_of(rt.alloc(), openers, text)?;
-        assert_eq!(rt; first, Some(*want), "in {text}");
+/// The place of the first search that answers something else, if there is one.
+fn first_wrong_search(alloc: Global) -> Result<Option<usize>, AllocError> {
+    for (place, (openers, text, want)) in SEARCHES.iter().enumerate() {
+        if first_of(alloc, openers, text)? != Some(*want) {
+            return Ok(Some(place));
+        }
     }
+    Ok(None)
+}
+
+#[test]
+fn searches(rt: HostRuntime) {
+    assert_eq!(rt; first_wrong_search(rt.alloc()), Ok(None));
     assert!(rt; !OpenerIndex::are_nonempty(&["a", ""]));
-    Ok(())
 }

@@ -1,20 +1,34 @@
 //! Calls whose allocations are made to fail in turn: out of memory is fine, else the answer is the right one.
-use crate::shown::{are_texts, bench, key_of};
+use crate::shown::{are_texts, bench, extended, key_of, owned};
 use std::alloc::{AllocError, Global};
+use std::process::Abort;
 use tokei_table::{LanguageTable, LanguageType, OpenerIndex, TableError};
 
-/// How many languages the bench table has.
-fn size_of_bench(alloc: Global) -> Result<usize, TableError> {
+/// What is wrong, if something is, or why nothing can be told.
+type Wrong = Result<Option<&'static str>, TableError>;
+
+/// Asserts that nothing is wrong, or that memory ran out.
+fn assert_right_or_memory(rt: &impl Abort, wrong: Wrong) {
+    assert!(rt;
+        wrong == Ok(None) || wrong == Err(TableError::Memory),
+        "{wrong:?}"
+    );
+}
+
+/// Nothing where that holds, and else that it doesn't.
+fn unless(holds: bool) -> Option<&'static str> {
+    if holds { None } else { Some("another answer") }
+}
+
+/// Whether the bench table has another number of languages.
+fn wrong_size_of_bench(alloc: Global) -> Wrong {
     let table = bench(alloc)?;
-    Ok(table.len())
+    Ok(unless(table.len() == 20))
 }
 
 #[test]
 fn refused_from_json(rt: HostRuntime) {
-    match size_of_bench(rt.alloc()) {
-        Err(refused) => assert_eq!(rt; refused, TableError::Memory),
-        Ok(size) => assert_eq!(rt; size, 20),
-    }
+    assert_right_or_memory(&rt, wrong_size_of_bench(rt.alloc()));
 }
 
 /// A text that is no table, and why.
@@ -45,15 +59,20 @@ fn cause_of(alloc: Global, text: &str) -> Option<TableError> {
     }
 }
 
+/// The first text that is refused for another cause, if there is one.
+fn first_wrong_cause(alloc: Global) -> Option<&'static str> {
+    for (text, cause) in &BAD_TABLES {
+        let refused = cause_of(alloc, text);
+        if refused != Some(*cause) && refused != Some(TableError::Memory) {
+            return Some(*text);
+        }
+    }
+    None
+}
+
 #[test]
 fn refused_from_json_of_a_bad_table(rt: HostRuntime) {
-    for (text, cause) in &BAD_TABLES {
-        let refused = cause_of(rt.alloc(), text);
-        assert!(rt;
-            refused == Some(*cause) || refused == Some(TableError::Memory),
-            "{refused:?} at {text}"
-        );
-    }
+    assert_right_or_memory(&rt, Ok(first_wrong_cause(rt.alloc())));
 }
 
 /// A table of two languages.
@@ -64,38 +83,41 @@ fn small_table(alloc: Global) -> Result<LanguageTable, TableError> {
     )
 }
 
-/// The extensions that the second language is to gain.
-fn more(alloc: Global) -> Result<Vec<String>, AllocError> {
-    Ok(vec![in alloc;
-        String::from_str(alloc, "a")?,
-        String::from_str(alloc, "b")?,
-    ]?)
+/// The table in which a language has gained two extensions.
+fn gains(
+    alloc: Global,
+    table: &LanguageTable,
+    language: LanguageType,
+) -> Result<LanguageTable, TableError> {
+    let more = owned(alloc, &["a", "b"])?;
+    extended(alloc, table, &[(language, more.as_slice())])
 }
 
-/// The table in which the second language has gained them.
-fn gains(alloc: Global, table: &LanguageTable) -> Result<LanguageTable, TableError> {
-    let Some(language) = LanguageType::from_name(table, "B") else {
-        return Err(TableError::Layout);
-    };
-    let more = more(alloc)?;
-    Ok(table.extended(alloc, &[(language, more.as_slice())])?)
+/// The small table in which the second language has gained them.
+fn gained(alloc: Global) -> Result<LanguageTable, TableError> {
+    let table = small_table(alloc)?;
+    match LanguageType::from_name(&table, "B") {
+        Some(language) => gains(alloc, &table, language),
+        None => Err(TableError::Layout),
+    }
 }
 
 /// Whether the second language has what it gained, and the first what was its own.
-fn has_gained(alloc: Global) -> Result<bool, TableError> {
-    let table = small_table(alloc)?;
-    let extended = gains(alloc, &table)?;
-    let second = LanguageType::from_file_extension(&extended, "b");
-    let first = LanguageType::from_file_extension(&extended, "a");
-    Ok(key_of(&extended, second) == "B" && key_of(&extended, first) == "A")
+fn finds_both(extended: &LanguageTable) -> bool {
+    let second = LanguageType::from_file_extension(extended, "b");
+    let first = LanguageType::from_file_extension(extended, "a");
+    key_of(extended, second) == "B" && key_of(extended, first) == "A"
+}
+
+/// Whether something else is found.
+fn wrong_gain(alloc: Global) -> Wrong {
+    let extended = gained(alloc)?;
+    Ok(unless(finds_both(&extended)))
 }
 
 #[test]
 fn refused_extended(rt: HostRuntime) {
-    match has_gained(rt.alloc()) {
-        Err(refused) => assert_eq!(rt; refused, TableError::Memory),
-        Ok(right) => assert!(rt; right),
-    }
+    assert_right_or_memory(&rt, wrong_gain(rt.alloc()));
 }
 
 /// Whether the first language is found by a file's name, or memory runs out.
@@ -126,25 +148,27 @@ fn opens_with_its_quote(alloc: Global, table: &LanguageTable) -> bool {
 }
 
 /// The look-up that tells something else, if there is one.
-fn wrong_look_up(alloc: Global) -> Result<Option<&'static str>, TableError> {
-    let table = small_table(alloc)?;
-    Ok(if !finds_a_file(alloc, &table) {
+fn wrong_look_up_in(alloc: Global, table: &LanguageTable) -> Option<&'static str> {
+    if !finds_a_file(alloc, table) {
         Some("from_file_name")
-    } else if !lists_both(alloc, &table) {
+    } else if !lists_both(alloc, table) {
         Some("list")
-    } else if !opens_with_its_quote(alloc, &table) {
+    } else if !opens_with_its_quote(alloc, table) {
         Some("openers")
     } else {
         None
-    })
+    }
+}
+
+/// The same in the small table.
+fn wrong_look_up(alloc: Global) -> Wrong {
+    let table = small_table(alloc)?;
+    Ok(wrong_look_up_in(alloc, &table))
 }
 
 #[test]
 fn refused_look_ups(rt: HostRuntime) {
-    match wrong_look_up(rt.alloc()) {
-        Err(refused) => assert_eq!(rt; refused, TableError::Memory),
-        Ok(wrong) => assert_eq!(rt; wrong, None),
-    }
+    assert_right_or_memory(&rt, wrong_look_up(rt.alloc()));
 }
 
 /// The first place of an opener.

@@ -1,0 +1,153 @@
+//! Readers that give few bytes at a time, that fail, or whose file is said to have another length.
+use std::alloc::{AllocError, Global};
+use std::fs::{Metadata, OpenFile};
+use std::io;
+use std::io::{Error, ErrorKind, Read};
+use tokei_real::reading::{all_by, all_of, head_of};
+
+/// A reader that gives a text, two bytes a read at most, and has then ended or fails.
+#[derive(Clone, Copy)]
+struct Slow<'a> {
+    left: &'a [u8],
+    fails: bool,
+}
+
+impl Read for Slow<'_> {
+    fn read(&mut self, buffer: &mut [u8]) -> io::Result<usize> {
+        if self.fails && self.left.is_empty() {
+            return Err(Error::from(ErrorKind::Other));
+        }
+        let n = buffer.len().min(self.left.len()).min(2);
+        let (given, left) = self.left.split_at(n);
+        buffer[..n].copy_from_slice(given);
+        self.left = left;
+        Ok(n)
+    }
+}
+
+/// Whether a file of five bytes is read that is said to have so many.
+fn is_read(alloc: Global, said: usize) -> bool {
+    let reader = Slow {
+        left: b"abcde",
+        fails: false,
+    };
+    match all_of(alloc, reader, said) {
+        Ok(bytes) => bytes.as_slice() == b"abcde".as_slice(),
+        Err(_) => false,
+    }
+}
+
+/// The first of these lengths by which it isn't, if there is one.
+fn first_wrong_length(alloc: Global) -> Option<usize> {
+    for said in [0, 1, 5, 6, 100, 70_000] {
+        if !is_read(alloc, said) {
+            return Some(said);
+        }
+    }
+    None
+}
+
+/// Whether a reader that fails gives neither the whole of a file nor its head.
+fn fails_whole_and_head(alloc: Global) -> (bool, bool) {
+    let failing = Slow {
+        left: b"abcde",
+        fails: true,
+    };
+    (
+        all_of(alloc, failing, 5).is_err(),
+        head_of(alloc, failing).is_err(),
+    )
+}
+
+#[test]
+fn files_of_another_length(rt: HostRuntime) {
+    assert_eq!(rt; first_wrong_length(rt.alloc()), None);
+    assert_eq!(rt; fails_whole_and_head(rt.alloc()), (true, true));
+}
+
+/// An open file that is said to have so many bytes, of which each read that gives some is interrupted before it.
+#[derive(Clone, Copy)]
+struct Changed<'a> {
+    inner: Slow<'a>,
+    said: u64,
+    interrupts: bool,
+}
+
+impl Read for Changed<'_> {
+    fn read(&mut self, buffer: &mut [u8]) -> io::Result<usize> {
+        self.interrupts = !self.interrupts;
+        if self.interrupts {
+            return Err(Error::from(ErrorKind::Interrupted));
+        }
+        self.inner.read(buffer)
+    }
+}
+
+impl OpenFile for Changed<'_> {
+    fn metadata(&self) -> io::Result<Metadata> {
+        Ok(Metadata::of_file(self.said))
+    }
+
+    fn set_len(&self, _size: u64) -> io::Result<()> {
+        Err(Error::from(ErrorKind::Unsupported))
+    }
+
+    fn sync_all(&self) -> io::Result<()> {
+        Err(Error::from(ErrorKind::Unsupported))
+    }
+
+    fn sync_data(&self) -> io::Result<()> {
+        Err(Error::from(ErrorKind::Unsupported))
+    }
+}
+
+/// The bytes of a buffer in which another file stood, and how many bytes the file is said to have.
+const BUFFERS: [(usize, u64); 9] = [
+    (0, 5),
+    (1, 0),
+    (2, 5),
+    (4, 1),
+    (5, 5),
+    (5, 70_000),
+    (6, 5),
+    (7, 0),
+    (100, 5),
+];
+
+/// Whether a file of five bytes is read by a buffer, or its reader's fault is answered.
+fn is_read_by(alloc: Global, buffer: &mut [u8], said: u64, fails: bool) -> bool {
+    let reader = Changed {
+        inner: Slow {
+            left: b"abcde",
+            fails,
+        },
+        said,
+        interrupts: false,
+    };
+    match all_by(alloc, reader, buffer) {
+        Ok(bytes) => !fails && bytes.as_slice() == b"abcde".as_slice(),
+        Err(_) => fails,
+    }
+}
+
+/// The same by one buffer of that length, of a file that is read and then of one that fails.
+fn is_read_twice(alloc: Global, length: usize, said: u64) -> Result<bool, AllocError> {
+    let mut buffer = vec![in alloc; b'x'; length]?;
+    Ok(is_read_by(alloc, &mut buffer, said, false) && is_read_by(alloc, &mut buffer, said, true))
+}
+
+/// The first buffer by which something else is answered, if there is one.
+fn first_wrong_buffer(alloc: Global) -> Result<Option<(usize, u64)>, AllocError> {
+    for (length, said) in BUFFERS {
+        if !is_read_twice(alloc, length, said)? {
+            return Ok(Some((length, said)));
+        }
+    }
+    Ok(None)
+}
+
+// A buffer that is too small, as large as the file, and larger; a file that grew or shrank since its length was asked.
+#[test]
+fn files_by_a_kept_buffer(rt: HostRuntime) {
+    assert_eq!(rt; first_wrong_buffer(rt.alloc()), Ok(None));
+}
