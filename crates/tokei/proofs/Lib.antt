@@ -1,5 +1,2 @@
 pub mod FileReports
-pub mod Filling
-pub mod Reports
 pub mod Rows
-pub mod Sorting

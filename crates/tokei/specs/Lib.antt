@@ -1,6 +1,5 @@
 pub mod Runs
 pub mod Output
-pub mod Sorted
 pub mod Streams
 pub mod Sums
 pub mod Refused

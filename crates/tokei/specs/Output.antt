@@ -1,76 +1,30 @@
 -- What a run writes: a document, the printed report, or a stream.
-use Rattle.std.specs.Prelude.{◌≡◌, ℕ, List, [], ◌++◌, Bool, true, false, Option, None, Some, is_some, nat_lt, if◌then◌else◌}
-use Rattle.std.specs.Option.{option_or}
+use Rattle.std.specs.Prelude.{ℕ, List, Option}
 use Rattle.std.specs.Io.KnownBytes.{Appends}
 use Rattle.serde_json.specs.Written.{compact_text}
-use Rattle.tokei_config.specs.Seen.{settings_of}
 use Rattle.tokei_folders.specs.Tree.{Tree}
 use Rattle.tokei_json.specs.Document.{document}
-use Rattle.tokei_languages.specs.Sorting.{sorted_languages}
-use Rattle.tokei_languages.specs.Summaries.{any_inaccurate}
-use Rattle.tokei_languages.specs.Values.{LanguageValue}
-use Rattle.tokei_options.specs.declared.sort.Sort.{Sort}
-use Rattle.tokei_layout.specs.Heading.{header, warning}
-use Rattle.tokei_layout.specs.declared.layout.Layout.{Layout}
-use Rattle.tokei_layout.specs.Names.{name_in}
-use Rattle.tokei_print.specs.Results.{results_text}
 use Rattle.tokei_styles.specs.declared.streaming.Streaming.{Streaming}
-use Rattle.tokei_styles.specs.Styles.{separator_of}
-use Rattle.tokei_print.specs.Total.{total_text}
 use Rattle.tokei_table.specs.Row.{Row}
 use Rattle.tokei_job.specs.declared.job.Job.{Job}
 use Rattle.tokei_job.specs.declared.job.Wanted.{Wanted}
 use Rattle.tokei_job.specs.declared.job.Wanted.TheVariants.{Stream, Document, Table}
+use Rattle.tokei_output.specs.Reports.{AppendsTable}
 use Rattle.tokei.specs.Runs.{counting_of, files_of, languages_after}
-use Rattle.tokei.specs.Sorted.{listed_by}
 use Rattle.tokei.specs.Streams.{stream_text}
-
--- the width of a report: 81 at least, and 65,535 at most
-abbrev pub columns_of : ℕ → ℕ
-columns_of n = if nat_lt n 81 then 81 else (if nat_lt 65535 n then 65535 else n)
-
--- the column by which a job sorts, if by any: its own, else the configuration's
-abbrev pub sort_of : Job → Option Sort
-sort_of job = option_or job.sort (settings_of job.config).sort
-
--- the note above a report some of whose languages couldn't be counted whole
-abbrev pub warning_of : List (ℕ × LanguageValue) → List ℕ
-warning_of languages = if any_inaccurate languages then warning else []
-
--- the rows of a report: languages as they are listed, and the total of all
-abbrev pub report_text : Layout → List Row → Job → List (ℕ × LanguageValue) → List (ℕ × LanguageValue) → List ℕ
-report_text layout rows job listed languages =
-    warning_of languages
-    ++ (header layout.columns
-    ++ (results_text layout (name_in rows) job.compact (is_some (sort_of job)) listed
-    ++ total_text layout languages))
-
--- a text is the report of languages, listed so, and laid out as the job says
-pub record IsReport (rows : List Row) (job : Job) (listed languages : List (ℕ × LanguageValue)) (text : List ℕ) : Type 0 where
-  pub layout : Layout
-  pub columns : layout.columns ≡ columns_of job.columns
-  pub files : layout.list_files ≡ job.files
-  pub format : layout.format.separator ≡ separator_of job.numbers
-  pub shown : text ≡ report_text layout rows job listed languages
 
 -- behind what stood there a writer has the document of a job's languages, and nothing else
 abbrev pub WritesDocument : List Row → Job → Tree → Option (List ℕ) → Option (List ℕ) → Type 0
 WritesDocument rows job t old new = Appends old new (compact_text (document rows (languages_after rows job t)))
 
--- a text is the report of languages: in the table's order, or in the order of the sort
-abbrev pub IsTable : Option Sort → List Row → Job → List (ℕ × LanguageValue) → List ℕ → Type 0
-IsTable None rows job languages text = IsReport rows job languages languages text
-IsTable (Some sort) rows job languages text = IsReport rows job (listed_by sort job.reverse languages) (sorted_languages sort languages) text
-
 -- the report of a job's languages is written
-pub record WritesTable (rows : List Row) (job : Job) (t : Tree) (old new : Option (List ℕ)) : Type 0 where
-  pub text : List ℕ
-  pub report : IsTable (sort_of job) rows job (languages_after rows job t) text
-  pub appended : Appends old new text
+abbrev pub WritesTable : List Row → Job → Tree → Option (List ℕ) → Option (List ℕ) → Type 0
+WritesTable rows job t old new = AppendsTable rows job (languages_after rows job t) old new
 
 -- behind what stood there a writer has the stream of a job's files, and nothing else
 abbrev pub WritesStream : Streaming → List Row → Job → Tree → Option (List ℕ) → Option (List ℕ) → Type 0
-WritesStream form rows job t old new = Appends old new (stream_text form rows (counting_of rows job) t (files_of job t))
+WritesStream form rows job t old new =
+    Appends old new (stream_text form rows (counting_of rows job) t (files_of job t))
 
 -- what a run writes
 abbrev pub Outputs : Wanted → List Row → Job → Tree → Option (List ℕ) → Option (List ℕ) → Type 0

@@ -1,11 +1,10 @@
--- The languages that a run shows: those of earlier runs merged with those of the files that are kept, all counts renewed.
-use Rattle.std.specs.Prelude.{ℕ, List, [], Option, None, Some}
+-- The languages that a run shows: those of earlier runs merged with those of the files that are kept, all counts
+-- renewed.
+use Rattle.std.specs.Prelude.{ℕ, List}
 use Rattle.tokei_config.specs.Seen.{settings_of}
 use Rattle.tokei_folders.specs.Tree.{Tree}
-use Rattle.tokei_languages.specs.declared.languages.Languages.{Languages}
 use Rattle.tokei_languages.specs.Merging.{merged_languages}
 use Rattle.tokei_languages.specs.Renewing.{renewed_languages}
-use Rattle.tokei_languages.specs.Seen.{languages_of}
 use Rattle.tokei_languages.specs.Values.{LanguageValue}
 use Rattle.tokei_statistics.specs.Configs.{counting_by, kept_by}
 use Rattle.tokei_statistics.specs.Runs.{Counting, languages_of_run}
@@ -13,11 +12,7 @@ use Rattle.tokei_table.specs.Row.{Row}
 use Rattle.tokei_walk.specs.declared.kept_file.KeptFile.{KeptFile}
 use Rattle.tokei_walk.specs.Walks.{texts_of}
 use Rattle.tokei_job.specs.declared.job.Job.{Job}
-
--- the languages of earlier runs, none where there are none
-abbrev pub earlier_of : Option Languages → List (ℕ × LanguageValue)
-earlier_of None = []
-earlier_of (Some languages) = languages_of languages
+use Rattle.tokei_job.specs.Earlier.{earlier_of}
 
 -- by what a job counts files
 abbrev pub counting_of : List Row → Job → Counting
@@ -30,4 +25,5 @@ files_of job t = kept_by (settings_of job.config) t (texts_of job.paths.items) (
 -- the languages that a run shows
 unfoldable pub languages_after : List Row → Job → Tree → List (ℕ × LanguageValue)
 languages_after rows job t =
-    renewed_languages (merged_languages (earlier_of job.earlier) (languages_of_run (counting_of rows job) t (files_of job t)))
+    renewed_languages
+    (merged_languages (earlier_of job.earlier) (languages_of_run (counting_of rows job) t (files_of job t)))

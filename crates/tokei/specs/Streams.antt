@@ -1,31 +1,15 @@
--- A stream: a row for each file that counts in a language and can be read, in the order of the walk, and nothing behind
--- the last one.
-use Rattle.std.specs.Prelude.{ℕ, List, [], ◌∷◌, ◌++◌, Option, None, Some, option_and_then, option_map}
+-- A stream: a row for each file that counts in a language and can be read, in the order of the walk, and nothing
+-- behind the last one.
+use Rattle.std.specs.Prelude.{ℕ, List, [], ◌++◌, Option, None, Some, option_and_then, option_map}
 use Rattle.std.specs.List.{flat_map}
-use Rattle.serde_json.specs.Written.{compact_text}
 use Rattle.tokei_folders.specs.Tree.{Tree}
-use Rattle.tokei_json.specs.Document.{line_data}
 use Rattle.tokei_languages.specs.Values.{ReportValue}
-use Rattle.tokei_layout.specs.Names.{name_in}
-use Rattle.tokei_layout.specs.StreamRows.{stream_heading, stream_row}
-use Rattle.tokei_layout.specs.Rules.{newline}
 use Rattle.tokei_styles.specs.declared.streaming.Streaming.{Streaming}
-use Rattle.tokei_styles.specs.declared.streaming.Streaming.TheVariants.{Simple, Json}
 use Rattle.tokei_statistics.specs.Contents.{stats_at}
 use Rattle.tokei_statistics.specs.Runs.{Counting, language_of_file}
-use Rattle.tokei_stats.specs.Statistics.{own}
 use Rattle.tokei_table.specs.Row.{Row}
+use Rattle.tokei_output.specs.Rows.{heading_of, report_row}
 use Rattle.tokei_walk.specs.declared.kept_file.KeptFile.{KeptFile}
-
--- what stands above the rows
-abbrev pub heading_of : Streaming → List ℕ
-heading_of Simple = stream_heading
-heading_of Json = []
-
--- the row of a file's report, under the name of its language
-abbrev pub report_row : Streaming → List Row → ℕ → ReportValue → List ℕ
-report_row Simple rows language r = stream_row (name_in rows language) r.name (own r.stats)
-report_row Json rows language r = compact_text (line_data rows language r) ++ newline
 
 -- the report of a file in a language, where the file can be read
 abbrev pub report_in : Counting → Tree → KeptFile → ℕ → Option (ℕ × ReportValue)

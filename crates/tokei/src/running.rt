@@ -1,6 +1,5 @@
 //! A whole run: what is counted is written.
 ghost use Rattle.std.specs.Prelude.{◌≡◌, ◌≢◌, ◌<◌, Err, IfErr, OnOk};
-ghost use Rattle.std.specs.Io.KnownBytes.{Appends};
 ghost use Rattle.tokei_folders.specs.Answers.{Told};
 ghost use Rattle.tokei_job.specs.declared.error.RunError.TheVariants.{Overflow as SumOverflow, Write as WriteFault};
 ghost use Rattle.tokei.specs.Output.{Outputs, WritesDocument, WritesTable};
@@ -8,31 +7,15 @@ ghost use Rattle.tokei.specs.Refused.{IsUntouched};
 ghost use Rattle.tokei.specs.Sums.{DocumentFits, EarlierFits, Fits, RunTableFits};
 
 use crate::counting::tally_of;
-use crate::report::table_text;
-use crate::stream::{Rows, stream};
+use crate::stream::stream;
 use std::alloc::Global;
 use tokei_folders::Folders;
 use tokei_format::Format;
 use tokei_io::Sink;
 use tokei_job::{Job, RunError, Wanted};
+use tokei_output::{Rows, put_document, put_table};
 use tokei_table::LanguageTable;
 use tokei_walk::Note;
-
-/// Puts a text behind what stands in the writer.
-pub(crate) fn put<W: Sink>(writer: &mut W, text: &[u8]) -> Result<(), RunError>
-    ensures bytes { OnOk result (Appends (W.contents writer.old) (W.contents writer.new) text.now) }
-    ensures fault { W.faults writer.old < u64.MAX → result ≡ Err WriteFault
-        → W.faults writer.old < W.faults writer.new }
-    ensures no_fault { W.faults writer.old < u64.MAX → result ≢ Err WriteFault
-        → W.faults writer.new ≡ W.faults writer.old }
-    ensures untouched { IfErr result (λ e. e ≢ WriteFault → W.contents writer.new ≡ W.contents writer.old) }
-    ensures overflow { result ≢ Err SumOverflow }
-{
-    match writer.put(text) {
-        Ok(()) => Ok(()),
-        Err(_) => Err(RunError::Write),
-    }
-}
 
 /// Counts the files of a job, and writes the document of what was counted.
 fn write_document<F: Folders, W: Sink>(
@@ -56,8 +39,7 @@ fn write_document<F: Folders, W: Sink>(
         → F.memory_faults folders.new ≡ F.memory_faults folders.old) }
 {
     let tally = tally_of(alloc, table, folders, job)?;
-    let text = Format::Json.print(alloc, table, &tally.languages)?;
-    put(writer, text.as_bytes())?;
+    put_document(alloc, table, &tally.languages, writer)?;
     Ok(tally.notes)
 }
 
@@ -83,17 +65,16 @@ fn write_table<F: Folders, W: Sink>(
         → F.memory_faults folders.new ≡ F.memory_faults folders.old) }
 {
     let tally = tally_of(alloc, table, folders, job)?;
-    let text = table_text(alloc, table, job, tally.languages)?;
-    put(writer, &text)?;
+    put_table(alloc, table, job, tally.languages, writer)?;
     Ok(tally.notes)
 }
 
-/// Counts the files of a job, beside the results of earlier runs, and writes what is wanted of them. What the walk passed
-/// over is answered.
+/// Counts the files of a job, beside the results of earlier runs, and writes what is wanted of them. What the walk
+/// passed over is answered.
 ///
 /// `Overflow` comes only where a sum passes the greatest `usize`, and `Write` only where the writer had a fault; after
-/// `Write` nothing is said of what was written. After `Memory` and `Overflow` nothing of a document or a report is written;
-/// of a stream nothing is said then. The folders keep their tree.
+/// `Write` nothing is said of what was written. After `Memory` and `Overflow` nothing of a document or a report is
+/// written; of a stream nothing is said then. The folders keep their tree.
 pub fn run<F: Folders, W: Sink>(
     alloc: Global,
     table: &LanguageTable,

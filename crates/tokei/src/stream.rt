@@ -1,120 +1,32 @@
 //! A row for each file, written as it is counted.
-ghost use Rattle.std.specs.Prelude.{◌≡◌, ◌≢◌, ◌<◌, Err, IfOk, IsErrOf, OnOk, option_map};
+ghost use Rattle.std.specs.Prelude.{◌≡◌, ◌≢◌, ◌<◌, Err, IfOk, IsErrOf, OnOk, option_map, true};
 ghost use Rattle.std.specs.Io.KnownBytes.{Appends};
 ghost use Rattle.tokei_config.specs.Seen.{settings_of};
 ghost use Rattle.tokei_folders.specs.Answers.{Told};
+ghost use Rattle.tokei_folders.specs.Tree.{Tree, is_sound};
 ghost use Rattle.tokei_languages.specs.Renewing.{RenewalFits};
 ghost use Rattle.tokei_languages.specs.Seen.{report_of as report_value};
-ghost use Rattle.tokei_layout.specs.Names.{name_in};
-ghost use Rattle.tokei_styles.specs.declared.streaming.Streaming.TheVariants.{Simple, Json};
 ghost use Rattle.tokei_statistics.specs.Runs.{FileFits, ReadingsFit};
 ghost use Rattle.tokei_statistics.specs.Seen.{counting_of as counting_value};
 ghost use Rattle.tokei_walk.specs.Walks.{to_come};
 ghost use Rattle.tokei_job.specs.declared.error.RunError.TheVariants.{Overflow as SumOverflow, Write as WriteFault};
+ghost use Rattle.tokei_job.specs.Earlier.{earlier_of};
 ghost use Rattle.tokei.specs.Output.{WritesStream};
-ghost use Rattle.tokei.specs.Runs.{earlier_of, files_of};
-ghost use Rattle.tokei.specs.Streams.{file_row, heading_of, report_of_file, report_row, rows_of, stream_text};
+ghost use Rattle.tokei.specs.Runs.{files_of};
+ghost use Rattle.tokei.specs.Streams.{file_row, report_of_file, rows_of, stream_text};
 ghost use Rattle.tokei.specs.Sums.{StreamFits};
 
-use crate::counting::earlier;
-use crate::running::put;
-use std::alloc::Global;
+use std::alloc::{AllocError, Global};
 use tokei_config::Config;
 use tokei_count::Counter;
 use tokei_folders::Folders;
 use tokei_io::Sink;
-use tokei_job::{Job, RunError};
-use tokei_json::report_line;
-use tokei_print::{PrintError, Streaming, print_stream_heading, print_stream_row};
+use tokei_job::{Job, RunError, earlier_languages};
+use tokei_output::{Rows, write_heading, write_row};
 use tokei_statistics::{Counting, ParseFault, rules};
 use tokei_stats::{CountError, Report};
-use tokei_table::{LanguageTable, LanguageType};
+use tokei_table::LanguageType;
 use tokei_walk::{KeptFile, Note, Walk};
-
-/// How the rows of a stream are written.
-#[derive(Drop)]
-pub(crate) struct Rows<'a> {
-    pub alloc: Global,
-    /// The table that names the languages.
-    pub table: &'a LanguageTable,
-    pub form: Streaming,
-}
-
-/// The name of a language; one that isn't of the table has an empty name.
-fn name_of(table: &LanguageTable, language: LanguageType) -> &str
-    ensures { result.now ≡ name_in table.entry.now language }
-{
-    if table.has(language) {
-        language.name(table)
-    } else {
-        ""
-    }
-}
-
-/// Writes the columns of a report.
-fn write_columns<W: Sink>(
-    rows: &Rows,
-    language: LanguageType,
-    report: &Report,
-    writer: &mut W,
-) -> Result<(), RunError>
-    ensures bytes { OnOk result (Appends (W.contents writer.old) (W.contents writer.new)
-        (report_row Simple rows.now.table.now language (report_value report.now))) }
-    ensures fault { W.faults writer.old < u64.MAX → result ≡ Err WriteFault
-        → W.faults writer.old < W.faults writer.new }
-    ensures no_fault { W.faults writer.old < u64.MAX → result ≢ Err WriteFault
-        → W.faults writer.new ≡ W.faults writer.old }
-    ensures overflow { result ≢ Err SumOverflow }
-{
-    let name = name_of(rows.table, language);
-    match print_stream_row(rows.alloc, writer, name, report) {
-        Ok(()) => Ok(()),
-        Err(PrintError::Memory) => Err(RunError::Memory),
-        Err(PrintError::Overflow) => Err(RunError::Overflow),
-        Err(PrintError::Write) => Err(RunError::Write),
-    }
-}
-
-/// Writes a report as one line of JSON.
-fn write_line<W: Sink>(
-    rows: &Rows,
-    language: LanguageType,
-    report: &Report,
-    writer: &mut W,
-) -> Result<(), RunError>
-    ensures bytes { OnOk result (Appends (W.contents writer.old) (W.contents writer.new)
-        (report_row Json rows.now.table.now language (report_value report.now))) }
-    ensures fault { W.faults writer.old < u64.MAX → result ≡ Err WriteFault
-        → W.faults writer.old < W.faults writer.new }
-    ensures no_fault { W.faults writer.old < u64.MAX → result ≢ Err WriteFault
-        → W.faults writer.new ≡ W.faults writer.old }
-    ensures overflow { result ≢ Err SumOverflow }
-{
-    let mut line = report_line(rows.alloc, rows.table, language, report)?;
-    line.push('\n')?;
-    put(writer, line.as_bytes())
-}
-
-/// Writes the row of a report.
-fn write_row<W: Sink>(
-    rows: &Rows,
-    language: LanguageType,
-    report: &Report,
-    writer: &mut W,
-) -> Result<(), RunError>
-    ensures bytes { OnOk result (Appends (W.contents writer.old) (W.contents writer.new)
-        (report_row rows.now.form rows.now.table.now language (report_value report.now))) }
-    ensures fault { W.faults writer.old < u64.MAX → result ≡ Err WriteFault
-        → W.faults writer.old < W.faults writer.new }
-    ensures no_fault { W.faults writer.old < u64.MAX → result ≢ Err WriteFault
-        → W.faults writer.new ≡ W.faults writer.old }
-    ensures overflow { result ≢ Err SumOverflow }
-{
-    match rows.form {
-        Streaming::Simple => write_columns(rows, language, report, writer),
-        Streaming::Json => write_line(rows, language, report, writer),
-    }
-}
 
 /// The report of a file beside its language, where it counts in one and can be read.
 fn report_of<F: Folders>(
@@ -198,33 +110,44 @@ fn write_rows<F: Folders, W: Sink>(
     Ok(())
 }
 
-/// Writes the heading of a stream, where it has one.
-fn write_heading<W: Sink>(form: Streaming, writer: &mut W) -> Result<(), RunError>
-    ensures bytes { OnOk result (Appends (W.contents writer.old) (W.contents writer.new) (heading_of form)) }
-    ensures fault { W.faults writer.old < u64.MAX → result ≡ Err WriteFault
-        → W.faults writer.old < W.faults writer.new }
-    ensures no_fault { W.faults writer.old < u64.MAX → result ≢ Err WriteFault
-        → W.faults writer.new ≡ W.faults writer.old }
-    ensures overflow { result ≢ Err SumOverflow }
-{
-    match form {
-        Streaming::Json => Ok(()),
-        Streaming::Simple => match print_stream_heading(writer) {
-            Ok(()) => Ok(()),
-            Err(PrintError::Memory) => Err(RunError::Memory),
-            Err(PrintError::Overflow) => Err(RunError::Overflow),
-            Err(PrintError::Write) => Err(RunError::Write),
-        },
-    }
-}
-
 /// Renews the counts of earlier results, which a stream doesn't show: it only asks whether they fit.
 fn test_earlier(alloc: Global, job: &Job) -> Result<(), CountError>
     ensures overflow { IsErrOf result CountError.Overflow → ¬ RenewalFits (earlier_of job.now.earlier) }
     ensures fits { OnOk result (RenewalFits (earlier_of job.now.earlier)) }
 {
-    let mut languages = earlier(alloc, job)?;
+    let mut languages = earlier_languages(alloc, job)?;
     languages.renew_counts()
+}
+
+/// A walk over the files of a job.
+fn walk_of(alloc: Global, job: &Job) -> Result<Walk, AllocError>
+    ensures { IfOk result (λ w. (t : Tree) → is_sound t ≡ true → to_come t w ≡ files_of job.now t) }
+{
+    Walk::new(alloc, &job.paths, &job.ignored, &rules(&job.config))
+}
+
+/// Writes the heading of a stream, and a row for each file that a walk still gives.
+fn write_headed<F: Folders, W: Sink>(
+    rows: &Rows,
+    counting: &Counting,
+    folders: &mut F,
+    walk: &mut Walk,
+    writer: &mut W,
+) -> Result<(), RunError>
+    ensures same { F.tree folders.new ≡ F.tree folders.old }
+    ensures told { Told (F.tree folders.old) (λ t. OnOk result (Appends (W.contents writer.old) (W.contents writer.new)
+        (stream_text rows.now.form rows.now.table.now (counting_value counting.now) t (to_come t walk.old)))) }
+    ensures overflow { result ≡ Err SumOverflow → Told (F.tree folders.old) (λ t.
+        ¬ ReadingsFit (counting_value counting.now) t (to_come t walk.old)) }
+    ensures fault { W.faults writer.old < u64.MAX → result ≡ Err WriteFault
+        → W.faults writer.old < W.faults writer.new }
+    ensures no_fault { W.faults writer.old < u64.MAX → result ≢ Err WriteFault
+        → W.faults writer.new ≡ W.faults writer.old }
+    ensures honest { OnOk result (F.memory_faults folders.old < u64.MAX
+        → F.memory_faults folders.new ≡ F.memory_faults folders.old) }
+{
+    write_heading(rows.form, writer)?;
+    write_rows(rows, counting, folders, walk, writer)
 }
 
 /// Writes the heading of a stream, and a row for each file of a job.
@@ -247,10 +170,8 @@ fn write_stream<F: Folders, W: Sink>(
     ensures honest { OnOk result (F.memory_faults folders.old < u64.MAX
         → F.memory_faults folders.new ≡ F.memory_faults folders.old) }
 {
-    let obeyed = rules(&job.config);
-    let mut walk = Walk::new(counting.alloc, &job.paths, &job.ignored, &obeyed)?;
-    write_heading(rows.form, writer)?;
-    write_rows(rows, counting, folders, &mut walk, writer)?;
+    let mut walk = walk_of(counting.alloc, job)?;
+    write_headed(rows, counting, folders, &mut walk, writer)?;
     Ok(walk.into_notes())
 }
 
@@ -264,8 +185,8 @@ fn types(config: &Config) -> Option<&[LanguageType]>
     }
 }
 
-/// Writes a row for each file of a job, as it is counted, and answers what the walk passed over. No report is kept, and no
-/// file is counted where the renewed counts of earlier results don't fit.
+/// Writes a row for each file of a job, as it is counted, and answers what the walk passed over. No report is kept,
+/// and no file is counted where the renewed counts of earlier results don't fit.
 pub(crate) fn stream<F: Folders, W: Sink>(
     rows: &Rows,
     folders: &mut F,

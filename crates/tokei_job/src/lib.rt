@@ -1,8 +1,10 @@
 //! What a run counts and writes, and why it ends without its output.
 #![tactic(auto)]
 
+pub mod earlier;
 pub mod error;
 pub mod job;
 
+pub use earlier::earlier_languages;
 pub use error::RunError;
 pub use job::{Job, Wanted};

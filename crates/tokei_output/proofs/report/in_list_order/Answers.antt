@@ -5,10 +5,10 @@ use Rattle.tokei_languages.specs.Seen.{language_of, languages_of}
 use Rattle.tokei_languages.specs.Values.{LanguageValue}
 use Rattle.tokei_languages.specs.declared.language.Language.{Language}
 use Rattle.tokei_print.specs.Listed.{languages_in}
-use Rattle.tokei.proofs.Sorting.{map-reverse}
-use Rattle.tokei.specs.Sorted.{languages_sorted}
-use Rattle.tokei.proofs.report.in_list_order.Goals as goal
-use Rattle.tokei.proofs.report.in_list_order.Goals.{then-reversed, else-reversed}
+use Rattle.tokei_output.proofs.Sorting.{map-reverse}
+use Rattle.tokei_output.specs.Sorted.{languages_sorted}
+use Rattle.tokei_output.proofs.report.in_list_order.Goals as goal
+use Rattle.tokei_output.proofs.report.in_list_order.Goals.{then-reversed, else-reversed}
 
 pub returns : goal.returns
 returns c =
@@ -16,8 +16,10 @@ returns c =
     let in_order = languages_sorted c.args.sort (languages_of c.args.languages.now) in
     elim c.if-reversed.branch [
       | then-reversed w ↦
-          ap (λ v. languages_in v.items) w.all-is ∙ ap languages_in w.reverse.ensures.items ∙ map-reverse view c.in_ok-all.all.items ∙ ap reverse c.in_ok-all.ensures
+          ap (λ v. languages_in v.items) w.all-is ∙ ap languages_in w.reverse.ensures.items
+          ∙ map-reverse view c.in_ok-all.all.items ∙ ap reverse c.in_ok-all.ensures
           ∙ ap (λ b. if b then reverse in_order else in_order) (sym w.if-reversed.true)
       | else-reversed w ↦
-          ap (λ v. languages_in v.items) w.all-is ∙ c.in_ok-all.ensures ∙ ap (λ b. if b then reverse in_order else in_order) (sym w.if-reversed.false)
+          ap (λ v. languages_in v.items) w.all-is ∙ c.in_ok-all.ensures
+          ∙ ap (λ b. if b then reverse in_order else in_order) (sym w.if-reversed.false)
     ]

@@ -8,12 +8,14 @@ use Rattle.std.specs.List.Sorted.{IsStrictlySortedBy}
 use Rattle.std.specs.Map.{keys_of}
 use Rattle.std.specs.BTreeMap.{insert_entry}
 
-all_at : {A : Type 0} (P : ℕ → Type 0) (old : List (ℕ × A)) (k : ℕ) (t : A) (rest : List (ℕ × A)) → AllByRecursion P (keys_of (old ++ (k, t) ∷ rest)) → P k
+all_at : {A : Type 0} (P : ℕ → Type 0) (old : List (ℕ × A)) (k : ℕ) (t : A) (rest : List (ℕ × A))
+    → AllByRecursion P (keys_of (old ++ (k, t) ∷ rest)) → P k
 all_at P [] k t rest h = h.0
 all_at P (a ∷ old) k t rest h = all_at P old k t rest h.1
 
 -- an entry above all goes to the end
-pub insert_last : {A : Type 0} (old : List (ℕ × A)) (k : ℕ) (t : A) (rest : List (ℕ × A)) → IsStrictlySortedBy nat_cmp (keys_of (old ++ (k, t) ∷ rest))
+pub insert_last : {A : Type 0} (old : List (ℕ × A)) (k : ℕ) (t : A) (rest : List (ℕ × A))
+    → IsStrictlySortedBy nat_cmp (keys_of (old ++ (k, t) ∷ rest))
     → insert_entry nat_cmp old k t ++ rest ≡ old ++ (k, t) ∷ rest
 unfolding IsStrictlySortedBy
 insert_last [] k t rest h = refl
@@ -25,7 +27,8 @@ insert_last (a ∷ old) k t rest h =
 
 -- one turn of a loop that fills a map in the order of its keys
 pub filled_more : {A : Type 0} (old new : List (ℕ × A)) (k : ℕ) (t u : A) (rest all : List (ℕ × A))
-    → new ≡ insert_entry nat_cmp old k t → t ≡ u → old ++ (k, u) ∷ rest ≡ all → IsStrictlySortedBy nat_cmp (keys_of all) → new ++ rest ≡ all
+    → new ≡ insert_entry nat_cmp old k t → t ≡ u → old ++ (k, u) ∷ rest ≡ all
+    → IsStrictlySortedBy nat_cmp (keys_of all) → new ++ rest ≡ all
 filled_more old new k t u rest all e f h sorted =
     let same : old ++ (k, t) ∷ rest ≡ all = ap (λ v. old ++ (k, v) ∷ rest) f ∙ h in
     ap (λ es. es ++ rest) e

@@ -8,16 +8,18 @@ use Rattle.tokei_print.specs.Results.{results_text}
 use Rattle.tokei_print.specs.Total.{total_text}
 use Rattle.tokei_table.specs.Row.{Row}
 use Rattle.tokei_job.specs.declared.job.Job.{Job}
-use Rattle.tokei.specs.Output.{report_text, sort_of, warning_of}
+use Rattle.tokei_output.specs.Reports.{report_text, sort_of, warning_of}
 
 -- four texts, one behind the other
-four : (b0 b1 b2 b3 b4 w h r t : List ℕ) → b0 ≡ [] → b1 ≡ b0 ++ w → b2 ≡ b1 ++ h → b3 ≡ b2 ++ r → b4 ≡ b3 ++ t → b4 ≡ w ++ (h ++ (r ++ t))
+four : (b0 b1 b2 b3 b4 w h r t : List ℕ)
+    → b0 ≡ [] → b1 ≡ b0 ++ w → b2 ≡ b1 ++ h → b3 ≡ b2 ++ r → b4 ≡ b3 ++ t → b4 ≡ w ++ (h ++ (r ++ t))
 four b0 b1 b2 b3 b4 w h r t z e1 e2 e3 e4 =
     e4 ∙ ap (λ x. x ++ t) (e3 ∙ ap (λ x. x ++ r) (e2 ∙ ap (λ x. x ++ h) (e1 ∙ ap (λ x. x ++ w) z)))
     ∙ append_assoc (w ++ h) r t ∙ append_assoc w h (r ++ t)
 
 -- the note, the header, the results and the total, while the layout stays
-pub report_of_steps : (rows : List Row) (job : Job) (listed languages : List (ℕ × LanguageValue)) (l0 l1 l2 l3 : Layout) (sorted : Bool) (b0 b1 b2 b3 b4 : List ℕ)
+pub report_of_steps : (rows : List Row) (job : Job) (listed languages : List (ℕ × LanguageValue))
+    (l0 l1 l2 l3 : Layout) (sorted : Bool) (b0 b1 b2 b3 b4 : List ℕ)
     → b0 ≡ [] → l1 ≡ l0 → l2 ≡ l1 → l3 ≡ l2 → sorted ≡ is_some (sort_of job)
     → b1 ≡ b0 ++ warning_of languages → b2 ≡ b1 ++ header l1.columns
     → b3 ≡ b2 ++ results_text l2 (name_in rows) job.compact sorted listed → b4 ≡ b3 ++ total_text l3 languages

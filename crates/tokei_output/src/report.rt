@@ -5,9 +5,9 @@ ghost use Rattle.tokei_languages.specs.Seen.{language_of, languages_of};
 ghost use Rattle.tokei_languages.specs.Sorting.{sorted_languages};
 ghost use Rattle.tokei_print.specs.Listed.{languages_in};
 ghost use Rattle.tokei_job.specs.declared.error.RunError.TheVariants.{Overflow, Write};
-ghost use Rattle.tokei.specs.Output.{columns_of, sort_of, warning_of, IsReport, IsTable};
-ghost use Rattle.tokei.specs.Sorted.{count_of, in_list_order, language_goes_first, languages_sorted, listed_by};
-ghost use Rattle.tokei.specs.Sums.{ReportFits, TableFits};
+ghost use Rattle.tokei_output.specs.Reports.{columns_of, sort_of, warning_of, IsReport, IsTable};
+ghost use Rattle.tokei_output.specs.Sorted.{count_of, in_list_order, language_goes_first, languages_sorted, listed_by};
+ghost use Rattle.tokei_output.specs.Sums.{ReportFits, TableFits};
 
 use std::alloc::{AllocError, Global};
 use std::cmp::Ordering;
@@ -57,7 +57,7 @@ fn listed(
 }
 
 /// The column by which a job sorts, if by any.
-pub(crate) fn sort_of(job: &Job) -> Option<Sort>
+fn sort_of(job: &Job) -> Option<Sort>
     ensures { result ≡ sort_of job.now }
 {
     job.sort.or(job.config.sort)
@@ -160,7 +160,8 @@ fn in_list_order(
     reversed: bool,
     languages: &Languages,
 ) -> Result<Vec<(LanguageType, &Language)>, AllocError>
-    ensures { IfOk result (λ v. languages_in v.items ≡ in_list_order sort reversed (languages_of languages.entry.now)) }
+    ensures { IfOk result (λ v. languages_in v.items
+        ≡ in_list_order sort reversed (languages_of languages.entry.now)) }
 {
     let mut all = sorted(alloc, sort, languages)?;
     if reversed {
@@ -191,7 +192,7 @@ fn sorted_report(
 }
 
 /// The report of languages, sorted where the job or its configuration says so.
-pub(crate) fn table_text(
+pub fn table_text(
     alloc: Global,
     table: &LanguageTable,
     job: &Job,

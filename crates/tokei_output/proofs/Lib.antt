@@ -1,0 +1,3 @@
+pub mod Putting
+pub mod Reports
+pub mod Sorting

@@ -1,0 +1,11 @@
+//! What the output of a run looks like: the document and the printed report of its languages, and the rows of a stream
+//! of its files.
+#![tactic(auto)]
+
+pub mod report;
+pub mod rows;
+pub mod writing;
+
+pub use report::table_text;
+pub use rows::{Rows, write_heading, write_row};
+pub use writing::{put_document, put_table};
