@@ -14,6 +14,9 @@ returns c =
     let GivesKept : Rules → List (String Global) → List (String Global) → Type 0 = λ rules ignored paths.
     IfOk c.new.result (λ w. (t : Tree) → is_sound t ≡ true
     → to_come t w ≡ kept_in (excludes_of (texts_of ignored)) rules t (texts_of paths)) in
-    subst (λ (r : Rules). GivesKept r _ _) c.rules.ensures
-    (subst (λ (xs : List (String Global)). GivesKept _ xs _) c.deref-2.ensures.value
-    (subst (λ (xs : List (String Global)). GivesKept _ _ xs) c.deref.ensures.value c.new.ensures.comes))
+    let job = c.args.job.now in
+    let rules = c.rules.result in
+    subst (λ (r : Rules). GivesKept r job.ignored.items job.paths.items) c.rules.ensures
+    (subst (λ (xs : List (String Global)). GivesKept rules xs job.paths.items) c.deref-2.ensures.value
+    (subst (λ (xs : List (String Global)). GivesKept rules c.deref-2.result.now xs) c.deref.ensures.value
+    c.new.ensures.comes))
