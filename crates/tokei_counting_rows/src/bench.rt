@@ -1,5 +1,6 @@
-//! The bench table, read.
+//! The bench table, read, and what a test of rows tells.
 use std::alloc::Global;
+use std::process::Abort;
 use tokei_bench::bench_json;
 use tokei_count::CountError;
 use tokei_table::{LanguageTable, TableError};
@@ -16,4 +17,9 @@ pub fn bench_or_memory(alloc: Global) -> Result<LanguageTable, CountError> {
         Err(TableError::Memory) => Err(CountError::Memory),
         Err(_) => Err(CountError::Overflow),
     }
+}
+
+/// Tells the place of the first wrong row, if there is such a row, or why the rows can't be counted.
+pub fn all_right(rt: &impl Abort, wrong: Result<Option<usize>, CountError>) {
+    assert_eq!(rt; wrong, Ok(None), "the place of the first wrong row");
 }

@@ -1,10 +1,9 @@
-//! Texts that no one writes: bytes that aren't UTF-8, elements of blanks alone, children inside one another past the last
-//! level.
-use crate::bench::bench;
+//! Texts that no one writes: bytes that aren't UTF-8, elements of blanks alone, children inside one another past the
+//! last level.
+use crate::bench::{all_right, bench_or_memory};
 use crate::every_call::{read_alone, told};
 use crate::lines::{Lines, own_of};
 use std::alloc::{AllocError, Global};
-use std::test::Fail;
 use tokei_count::{CodeStats, CountError};
 use tokei_table::{LanguageTable, LanguageType};
 
@@ -16,14 +15,25 @@ const HOSTILE: [(&str, &[u8], Lines, u128); 4] = [
     ("Html", b"<script>\r\n \r\n</script>", (1, 2, 0), 10),
 ];
 
-#[test]
-fn hostile_texts(rt: HostRuntime) -> Result<(), Fail> {
-    let table = bench(rt.alloc())?;
-    for (key, text, want, steps) in &HOSTILE {
-        let read = read_alone(rt.alloc(), &table, key, None, text)?;
-        assert_eq!(rt; read, Some((*want, *steps)), "{key} at {text:?}");
+/// The place of the first row of which other lines or steps are told by the table, if there is such a row.
+fn first_unlike(alloc: Global, table: &LanguageTable) -> Result<Option<usize>, CountError> {
+    for (at, (key, text, want, steps)) in HOSTILE.iter().enumerate() {
+        if read_alone(alloc, table, key, None, text)? != Some((*want, *steps)) {
+            return Ok(Some(at));
+        }
     }
-    Ok(())
+    Ok(None)
+}
+
+/// The same by the bench table.
+fn first_wrong(alloc: Global) -> Result<Option<usize>, CountError> {
+    let table = bench_or_memory(alloc)?;
+    first_unlike(alloc, &table)
+}
+
+#[test]
+fn hostile_texts(rt: HostRuntime) {
+    all_right(&rt, first_wrong(rt.alloc()));
 }
 
 /// The lines of the blob of the language that lies 50 deep and holds no blobs, where each text above it has no lines
@@ -79,12 +89,23 @@ const OPENINGS: [(u32, Lines, u128); 4] = [
     (200, (0, 150, 0), 500),
 ];
 
-#[test]
-fn fifty_levels(rt: HostRuntime) -> Result<(), Fail> {
-    let table = bench(rt.alloc())?;
-    for (count, want, steps) in &OPENINGS {
-        let read = read_openings(rt.alloc(), &table, *count)?;
-        assert_eq!(rt; read, Some((*want, *steps)), "{count} openings");
+/// The place of the first row of which other lines or steps are told by the table, if there is such a row.
+fn first_other_openings(alloc: Global, table: &LanguageTable) -> Result<Option<usize>, CountError> {
+    for (at, (count, want, steps)) in OPENINGS.iter().enumerate() {
+        if read_openings(alloc, table, *count)? != Some((*want, *steps)) {
+            return Ok(Some(at));
+        }
     }
-    Ok(())
+    Ok(None)
+}
+
+/// The same by the bench table.
+fn first_wrong_openings(alloc: Global) -> Result<Option<usize>, CountError> {
+    let table = bench_or_memory(alloc)?;
+    first_other_openings(alloc, &table)
+}
+
+#[test]
+fn fifty_levels(rt: HostRuntime) {
+    all_right(&rt, first_wrong_openings(rt.alloc()));
 }

@@ -1,9 +1,8 @@
 //! Worked rows of the calls that count a text, by the bench table: its lines and its steps.
-use crate::bench::bench;
+use crate::bench::{all_right, bench_or_memory};
 use crate::every_call::{read_alone, told};
 use crate::lines::{Blob, Lines, are};
 use std::alloc::{AllocError, Global};
-use std::test::Fail;
 use tokei_count::CountError;
 use tokei_table::LanguageTable;
 
@@ -29,14 +28,30 @@ const WORKED: [Row; 16] = [
     ("C", "x\n\n// y\n", (1, 1, 1), 0),
 ];
 
-#[test]
-fn worked_rows(rt: HostRuntime) -> Result<(), Fail> {
-    let table = bench(rt.alloc())?;
-    for (key, text, want, steps) in &WORKED {
-        let read = read_alone(rt.alloc(), &table, key, None, text.as_bytes())?;
-        assert_eq!(rt; read, Some((*want, *steps)), "{key} at {text:?}");
+/// The place of the first row of which other lines or steps are told by the table, if there is such a row.
+fn first_unlike(
+    alloc: Global,
+    table: &LanguageTable,
+    rows: &[Row],
+) -> Result<Option<usize>, CountError> {
+    for (at, (key, text, want, steps)) in rows.iter().enumerate() {
+        let read = read_alone(alloc, table, key, None, text.as_bytes())?;
+        if read != Some((*want, *steps)) {
+            return Ok(Some(at));
+        }
     }
-    Ok(())
+    Ok(None)
+}
+
+/// The same by the bench table.
+fn first_wrong(alloc: Global, rows: &[Row]) -> Result<Option<usize>, CountError> {
+    let table = bench_or_memory(alloc)?;
+    first_unlike(alloc, &table, rows)
+}
+
+#[test]
+fn worked_rows(rt: HostRuntime) {
+    all_right(&rt, first_wrong(rt.alloc(), &WORKED));
 }
 
 /// So many lines of two bytes, and then three lines of which two are in a comment.
@@ -55,12 +70,16 @@ fn read_long(alloc: Global, table: &LanguageTable) -> Result<Option<(Lines, u128
     read_alone(alloc, table, "C", None, &text)
 }
 
+/// The same by the bench table.
+fn long_by_bench(alloc: Global) -> Result<Option<(Lines, u128)>, CountError> {
+    let table = bench_or_memory(alloc)?;
+    read_long(alloc, &table)
+}
+
 #[test]
-fn plain_lines_take_no_steps(rt: HostRuntime) -> Result<(), Fail> {
-    let table = bench(rt.alloc())?;
-    let read = read_long(rt.alloc(), &table)?;
-    assert_eq!(rt; read, Some(((0, 1_001, 2), 13)));
-    Ok(())
+fn plain_lines_take_no_steps(rt: HostRuntime) {
+    let read = long_by_bench(rt.alloc());
+    assert!(rt; read == Ok(Some(((0, 1_001, 2), 13))));
 }
 
 /// Tables of the language `X` alone: a comment whose opener ends in a blank; verbatim strings and no other.
@@ -79,19 +98,31 @@ const TABLES: [Row; 2] = [
     ),
 ];
 
-/// What is read of a text in the language `X` of a table.
-fn read_by(alloc: Global, languages: &str, text: &str) -> Result<Option<(Lines, u128)>, Fail> {
-    let table = LanguageTable::from_json(alloc, languages.as_bytes())?;
-    Ok(read_alone(alloc, &table, "X", None, text.as_bytes())?)
+/// What is read of a text in the language `X` of a table; none where there is no such table.
+fn read_by(
+    alloc: Global,
+    languages: &str,
+    text: &str,
+) -> Result<Option<(Lines, u128)>, CountError> {
+    match LanguageTable::from_json(alloc, languages.as_bytes()) {
+        Ok(table) => read_alone(alloc, &table, "X", None, text.as_bytes()),
+        Err(_) => Ok(None),
+    }
+}
+
+/// The place of the first row of which other lines or steps are told by its table, if there is such a row.
+fn first_wrong_table(alloc: Global) -> Result<Option<usize>, CountError> {
+    for (at, (languages, text, want, steps)) in TABLES.iter().enumerate() {
+        if read_by(alloc, languages, text)? != Some((*want, *steps)) {
+            return Ok(Some(at));
+        }
+    }
+    Ok(None)
 }
 
 #[test]
-fn tables_of_one_language(rt: HostRuntime) -> Result<(), Fail> {
-    for (languages, text, want, steps) in &TABLES {
-        let read = read_by(rt.alloc(), languages, text)?;
-        assert_eq!(rt; read, Some((*want, *steps)), "at {text:?}");
-    }
-    Ok(())
+fn tables_of_one_language(rt: HostRuntime) {
+    all_right(&rt, first_wrong_table(rt.alloc()));
 }
 
 /// Whether doc strings are comments, a text of Python, its lines and its steps.
@@ -102,14 +133,26 @@ const DOC_STRINGS: [(Option<bool>, &str, Lines, u128); 4] = [
     (Some(true), "\"\"\"d\"\"\"\n", (0, 1, 0), 4),
 ];
 
-#[test]
-fn doc_strings(rt: HostRuntime) -> Result<(), Fail> {
-    let table = bench(rt.alloc())?;
-    for (docs, text, want, steps) in &DOC_STRINGS {
-        let read = read_alone(rt.alloc(), &table, "Python", *docs, text.as_bytes())?;
-        assert_eq!(rt; read, Some((*want, *steps)), "at {text}");
+/// The place of the first row of which other lines or steps are told by the table, if there is such a row.
+fn first_unlike_python(alloc: Global, table: &LanguageTable) -> Result<Option<usize>, CountError> {
+    for (at, (docs, text, want, steps)) in DOC_STRINGS.iter().enumerate() {
+        let read = read_alone(alloc, table, "Python", *docs, text.as_bytes())?;
+        if read != Some((*want, *steps)) {
+            return Ok(Some(at));
+        }
     }
-    Ok(())
+    Ok(None)
+}
+
+/// The same by the bench table.
+fn first_wrong_python(alloc: Global) -> Result<Option<usize>, CountError> {
+    let table = bench_or_memory(alloc)?;
+    first_unlike_python(alloc, &table)
+}
+
+#[test]
+fn doc_strings(rt: HostRuntime) {
+    all_right(&rt, first_wrong_python(rt.alloc()));
 }
 
 /// Rows without a child, of languages that have some elsewhere.
@@ -120,13 +163,8 @@ const WITHOUT_CHILD: [Row; 3] = [
 ];
 
 #[test]
-fn no_child_opens(rt: HostRuntime) -> Result<(), Fail> {
-    let table = bench(rt.alloc())?;
-    for (key, text, want, steps) in &WITHOUT_CHILD {
-        let read = read_alone(rt.alloc(), &table, key, None, text.as_bytes())?;
-        assert_eq!(rt; read, Some((*want, *steps)), "{key} at {text:?}");
-    }
-    Ok(())
+fn no_child_opens(rt: HostRuntime) {
+    all_right(&rt, first_wrong(rt.alloc(), &WITHOUT_CHILD));
 }
 
 /// A language, a text, its own lines, its blobs and its steps.
@@ -244,14 +282,29 @@ const CHILDREN: [WithChildren; 13] = [
     ),
 ];
 
-#[test]
-fn children(rt: HostRuntime) -> Result<(), Fail> {
-    let table = bench(rt.alloc())?;
-    for row in &CHILDREN {
-        let taken = steps_of(rt.alloc(), &table, row)?;
-        assert_eq!(rt; taken, Some(row.4), "{} at {}", row.0, row.1);
+/// The place of the first row of which other lines, blobs or steps are told by the table, if there is such a row.
+fn first_other_children(
+    alloc: Global,
+    table: &LanguageTable,
+    rows: &[WithChildren],
+) -> Result<Option<usize>, CountError> {
+    for (at, row) in rows.iter().enumerate() {
+        if steps_of(alloc, table, row)? != Some(row.4) {
+            return Ok(Some(at));
+        }
     }
-    Ok(())
+    Ok(None)
+}
+
+/// The same by the bench table.
+fn first_wrong_children(alloc: Global, rows: &[WithChildren]) -> Result<Option<usize>, CountError> {
+    let table = bench_or_memory(alloc)?;
+    first_other_children(alloc, &table, rows)
+}
+
+#[test]
+fn children(rt: HostRuntime) {
+    all_right(&rt, first_wrong_children(rt.alloc(), &CHILDREN));
 }
 
 const TWO_LANGUAGES: WithChildren = (
@@ -263,9 +316,6 @@ const TWO_LANGUAGES: WithChildren = (
 );
 
 #[test]
-fn children_of_two_languages(rt: HostRuntime) -> Result<(), Fail> {
-    let table = bench(rt.alloc())?;
-    let taken = steps_of(rt.alloc(), &table, &TWO_LANGUAGES)?;
-    assert_eq!(rt; taken, Some(11));
-    Ok(())
+fn children_of_two_languages(rt: HostRuntime) {
+    all_right(&rt, first_wrong_children(rt.alloc(), &[TWO_LANGUAGES]));
 }

@@ -1,7 +1,7 @@
 //! Every text of a few pieces, in languages of all families: every call tells the same of it.
 ghost use Rattle.std.specs.Prelude.{◌<◌, length};
 
-use crate::bench::bench;
+use crate::bench::{all_right, bench_or_memory};
 use crate::every_call::agreed;
 use std::alloc::{AllocError, Global};
 use std::test::Fail;
@@ -70,18 +70,24 @@ fn alike(alloc: Global, table: &LanguageTable, row: &Texts) -> Result<usize, Cou
     Ok(COUNT)
 }
 
-/// The first text of which two calls differ, if there is one.
+/// The place of the first row of which two calls differ in a text, if there is such a row.
 fn first_unlike(
     alloc: Global,
     table: &LanguageTable,
-    row: &Texts,
-) -> Result<Option<Vec<u8>>, CountError> {
-    let same = alike(alloc, table, row)?;
-    Ok(if same == COUNT {
-        None
-    } else {
-        Some(text_at(alloc, row.2, same)?)
-    })
+    rows: &[Texts],
+) -> Result<Option<usize>, CountError> {
+    for (at, row) in rows.iter().enumerate() {
+        if alike(alloc, table, row)? != COUNT {
+            return Ok(Some(at));
+        }
+    }
+    Ok(None)
+}
+
+/// The same by the bench table.
+fn first_wrong(alloc: Global, rows: &[Texts]) -> Result<Option<usize>, CountError> {
+    let table = bench_or_memory(alloc)?;
+    first_unlike(alloc, &table, rows)
 }
 
 /// The pieces of languages that have comments and strings.
@@ -94,13 +100,8 @@ const TEXTS: [Texts; 3] = [
 ];
 
 #[test]
-fn short_texts(rt: HostRuntime) -> Result<(), Fail> {
-    let table = bench(rt.alloc())?;
-    for row in &TEXTS {
-        let unlike = first_unlike(rt.alloc(), &table, row)?;
-        assert_eq!(rt; unlike, None, "of {}", row.0);
-    }
-    Ok(())
+fn short_texts(rt: HostRuntime) {
+    all_right(&rt, first_wrong(rt.alloc(), &TEXTS));
 }
 
 #[test]
@@ -146,11 +147,6 @@ const FAMILIES: [Texts; 9] = [
 ];
 
 #[test]
-fn short_texts_of_families(rt: HostRuntime) -> Result<(), Fail> {
-    let table = bench(rt.alloc())?;
-    for row in &FAMILIES {
-        let unlike = first_unlike(rt.alloc(), &table, row)?;
-        assert_eq!(rt; unlike, None, "of {}", row.0);
-    }
-    Ok(())
+fn short_texts_of_families(rt: HostRuntime) {
+    all_right(&rt, first_wrong(rt.alloc(), &FAMILIES));
 }

@@ -159,8 +159,8 @@ const C_OF_A: &str =
 const RUST_OF_B: &str =
     r#""Rust":{"blanks":0,"children":{},"code":1,"comments":0,"inaccurate":false,"reports":[{"name":"src/b.rs""#;
 
-/// Whether the document that a run wrote begins with `a.h` as a file of C, and whether `b.rs` is in it as one of Rust; none
-/// where it is no text.
+/// Whether the document that a run wrote begins with `a.h` as a file of C, and whether `b.rs` is in it as one of
+/// Rust; none where it is no text.
 fn has_both(ran: &Outcome) -> Option<(bool, bool)> {
     match from_utf8(&ran.out) {
         Ok(out) => if is_text(&ran.err) {

@@ -24,7 +24,8 @@ fn fill(folders: &mut MemoryFolders, files: &[File<'_>]) -> Result<(), Fault> {
     Ok(())
 }
 
-/// The status of the program over the bench table and these files, with these ends; none where the folders can't be made.
+/// The status of the program over the bench table and these files, with these ends; none where the folders can't be
+/// made.
 pub fn status<S: Source, W: Sink, E: Sink>(
     alloc: Global,
     files: &[File<'_>],

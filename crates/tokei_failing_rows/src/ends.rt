@@ -171,8 +171,8 @@ const SAYING: [&[&str]; 6] = [
     &["tokei", "-s", "size"],
 ];
 
-/// Whether a run of which the first write to `err` failed has status 1 and the output of a run without a fault, which says
-/// something.
+/// Whether a run of which the first write to `err` failed has status 1 and the output of a run without a fault,
+/// which says something.
 fn is_mute(ended: &Ended, right: &Ended) -> bool {
     (ended.failed, right.failed, ended.status) == (true, false, Some(1))
         && ended.out.as_slice() == right.out.as_slice()
@@ -243,8 +243,8 @@ const THREE: &str =
      \"code\":1,\"comments\":1}},{\"name\":\"src/b.rs\",\"stats\":{\"blanks\":0,\"blobs\":{},\"code\":1,\
      \"comments\":0}}]},\"code\":3,\"comments\":1,\"inaccurate\":false,\"reports\":[]}}";
 
-/// Whether a run with this status, which wrote and said these, ended with its output, or with status 1, a beginning of it and
-/// one line; where the folders couldn't be made, that is fine too.
+/// Whether a run with this status, which wrote and said these, ended with its output, or with status 1, a beginning
+/// of it and one line; where the folders couldn't be made, that is fine too.
 fn is_right(status: Option<u8>, written: &[u8], said: &[u8]) -> bool {
     match status {
         None => true,

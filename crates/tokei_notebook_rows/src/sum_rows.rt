@@ -1,10 +1,9 @@
 //! Sums of statistics, and what stands after a refused one.
-use crate::bench::{bench, bench_or_memory};
-use crate::every_call::counted;
-use crate::lines::{Blob, Lines, are, own_of};
 use std::alloc::Global;
-use std::test::Fail;
 use tokei_count::{CodeStats, CountError};
+use tokei_counting_rows::bench::bench_or_memory;
+use tokei_counting_rows::every_call::counted;
+use tokei_counting_rows::lines::{Blob, Lines, are, own_of};
 use tokei_table::LanguageTable;
 
 /// The statistics of a Markdown text with a fence of Rust and one of Python, or why they can't be had.
@@ -49,14 +48,16 @@ fn summary_of_both(alloc: Global, table: &LanguageTable) -> Result<(Lines, bool)
     Ok((own_of(&summary), summary.blobs.is_empty()))
 }
 
+/// The lines of the sum's summary, whether that has no blobs, and whether the sum has the blobs of both texts, by
+/// the bench table.
+fn sums_by_bench(alloc: Global) -> Result<((Lines, bool), bool), CountError> {
+    let table = bench_or_memory(alloc)?;
+    Ok((summary_of_both(alloc, &table)?, is_of_both(alloc, &table)?))
+}
+
 #[test]
-fn sums_by_number_and_language(rt: HostRuntime) -> Result<(), Fail> {
-    let table = bench(rt.alloc())?;
-    let summary = summary_of_both(rt.alloc(), &table)?;
-    assert_eq!(rt; summary, ((1, 4, 7), true));
-    let right = is_of_both(rt.alloc(), &table)?;
-    assert!(rt; right);
-    Ok(())
+fn sums_by_number_and_language(rt: HostRuntime) {
+    assert!(rt; sums_by_bench(rt.alloc()) == Ok((((1, 4, 7), true), true)));
 }
 
 /// Statistics of these blank and code lines.

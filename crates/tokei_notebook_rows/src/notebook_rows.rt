@@ -1,10 +1,9 @@
 //! Notebooks: a blob for the language of each cell, and no lines of their own.
-use crate::bench::{bench, bench_or_memory};
-use crate::every_call::{counted, told};
-use crate::lines::{Blob, Lines, are, child_of, own_of};
 use std::alloc::{AllocError, Global};
-use std::test::Fail;
 use tokei_count::{CodeStats, CountError};
+use tokei_counting_rows::bench::{all_right, bench_or_memory};
+use tokei_counting_rows::every_call::{counted, told};
+use tokei_counting_rows::lines::{Blob, Lines, are, child_of, own_of};
 use tokei_table::{LanguageTable, LanguageType};
 
 /// Whether the notebook has no lines, and blobs of these languages alone, each with these lines and no blobs.
@@ -49,14 +48,25 @@ const NOTEBOOKS: [(&str, &[Blob]); 6] = [
     ),
 ];
 
-#[test]
-fn notebooks(rt: HostRuntime) -> Result<(), Fail> {
-    let table = bench(rt.alloc())?;
-    for (text, blobs) in &NOTEBOOKS {
-        let right = reads(rt.alloc(), &table, text.as_bytes(), blobs)?;
-        assert!(rt; right, "{text}");
+/// The place of the first row of which the table tells other lines or blobs, if there is such a row.
+fn first_unlike(alloc: Global, table: &LanguageTable) -> Result<Option<usize>, CountError> {
+    for (at, (text, blobs)) in NOTEBOOKS.iter().enumerate() {
+        if !reads(alloc, table, text.as_bytes(), blobs)? {
+            return Ok(Some(at));
+        }
     }
-    Ok(())
+    Ok(None)
+}
+
+/// The same by the bench table.
+fn first_wrong(alloc: Global) -> Result<Option<usize>, CountError> {
+    let table = bench_or_memory(alloc)?;
+    first_unlike(alloc, &table)
+}
+
+#[test]
+fn notebooks(rt: HostRuntime) {
+    all_right(&rt, first_wrong(rt.alloc()));
 }
 
 /// The lines of a text and of all that is inside.
@@ -72,12 +82,16 @@ fn summary_of(
     }
 }
 
+/// The lines of a notebook and of all that is inside, by the bench table.
+fn summary_by_bench(alloc: Global, text: &[u8]) -> Result<Option<Lines>, CountError> {
+    let table = bench_or_memory(alloc)?;
+    summary_of(alloc, &table, "Jupyter", text)
+}
+
 #[test]
-fn cells_are_summed(rt: HostRuntime) -> Result<(), Fail> {
-    let table = bench(rt.alloc())?;
-    let summary = summary_of(rt.alloc(), &table, "Jupyter", TWO_LINES.as_bytes())?;
-    assert_eq!(rt; summary, Some((0, 2, 0)));
-    Ok(())
+fn cells_are_summed(rt: HostRuntime) {
+    let summary = summary_by_bench(rt.alloc(), TWO_LINES.as_bytes());
+    assert!(rt; summary == Ok(Some((0, 2, 0))));
 }
 
 const DAMAGED: [&str; 11] = [
@@ -98,16 +112,30 @@ const DAMAGED: [&str; 11] = [
 const NOT_UTF8: &[u8] =
     b"{\"cells\":[{\"cell_type\":\"code\",\"source\":[\"\xff\"]}],\"metadata\":{\"kernelspec\":{},\"language_info\":{}}}";
 
-#[test]
-fn damaged_notebooks(rt: HostRuntime) -> Result<(), Fail> {
-    let table = bench(rt.alloc())?;
-    for text in &DAMAGED {
-        let right = reads(rt.alloc(), &table, text.as_bytes(), &[])?;
-        assert!(rt; right, "{text}");
+/// The place of the first damaged notebook that the table reads, if there is such a notebook; the one that is no
+/// UTF-8 stands behind the others.
+fn first_read(alloc: Global, table: &LanguageTable) -> Result<Option<usize>, CountError> {
+    for (at, text) in DAMAGED.iter().enumerate() {
+        if !reads(alloc, table, text.as_bytes(), &[])? {
+            return Ok(Some(at));
+        }
     }
-    let right = reads(rt.alloc(), &table, NOT_UTF8, &[])?;
-    assert!(rt; right, "a cell that is no UTF-8");
-    Ok(())
+    Ok(if reads(alloc, table, NOT_UTF8, &[])? {
+        None
+    } else {
+        Some(DAMAGED.len())
+    })
+}
+
+/// The same by the bench table.
+fn first_read_by_bench(alloc: Global) -> Result<Option<usize>, CountError> {
+    let table = bench_or_memory(alloc)?;
+    first_read(alloc, &table)
+}
+
+#[test]
+fn damaged_notebooks(rt: HostRuntime) {
+    all_right(&rt, first_read_by_bench(rt.alloc()));
 }
 
 /// A notebook whose kernel is so many lists inside one another.
@@ -137,18 +165,29 @@ fn reads_nested(
     reads(alloc, table, &text, blobs)
 }
 
-/// How many lists stand inside one another, and the blobs. The notebook and its metadata are two levels of the 127 that
-/// JSON may nest.
+/// How many lists stand inside one another, and the blobs. The notebook and its metadata are two levels of the 127
+/// that JSON may nest.
 const DEPTHS: [(u32, &[Blob]); 2] = [(125, &[("Python", (0, 1, 0))]), (126, &[])];
 
-#[test]
-fn deep_notebooks(rt: HostRuntime) -> Result<(), Fail> {
-    let table = bench(rt.alloc())?;
-    for (depth, blobs) in &DEPTHS {
-        let right = reads_nested(rt.alloc(), &table, *depth, blobs)?;
-        assert!(rt; right, "{depth} lists");
+/// The place of the first depth at which the table tells other blobs, if there is such a depth.
+fn first_other_depth(alloc: Global, table: &LanguageTable) -> Result<Option<usize>, CountError> {
+    for (at, (depth, blobs)) in DEPTHS.iter().enumerate() {
+        if !reads_nested(alloc, table, *depth, blobs)? {
+            return Ok(Some(at));
+        }
     }
-    Ok(())
+    Ok(None)
+}
+
+/// The same by the bench table.
+fn first_wrong_depth(alloc: Global) -> Result<Option<usize>, CountError> {
+    let table = bench_or_memory(alloc)?;
+    first_other_depth(alloc, &table)
+}
+
+#[test]
+fn deep_notebooks(rt: HostRuntime) {
+    all_right(&rt, first_wrong_depth(rt.alloc()));
 }
 
 const FENCED_CELL: &[u8] =
@@ -175,15 +214,17 @@ fn read_fenced(
     }
 }
 
-#[test]
-fn cells_have_children(rt: HostRuntime) -> Result<(), Fail> {
-    let table = bench(rt.alloc())?;
-    let read = read_fenced(rt.alloc(), &table)?;
+/// Whether the notebook with a fence is read as it should by the bench table.
+fn reads_fenced(alloc: Global) -> Result<bool, CountError> {
+    let table = bench_or_memory(alloc)?;
     let inside = Some(((0, 0, 2), (0, 1, 0)));
-    assert_eq!(rt; read, Some(((0, 0, 0), inside, 1)));
-    let summary = summary_of(rt.alloc(), &table, "Jupyter", FENCED_CELL)?;
-    assert_eq!(rt; summary, Some((0, 1, 2)));
-    Ok(())
+    Ok(read_fenced(alloc, &table)? == Some(((0, 0, 0), inside, 1)))
+}
+
+#[test]
+fn cells_have_children(rt: HostRuntime) {
+    assert!(rt; reads_fenced(rt.alloc()) == Ok(true));
+    assert!(rt; summary_by_bench(rt.alloc(), FENCED_CELL) == Ok(Some((0, 1, 2))));
 }
 
 /// Whether two lines of Python in a cell are read as they should, where memory suffices.

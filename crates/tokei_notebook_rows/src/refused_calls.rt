@@ -2,13 +2,13 @@
 //! answer is the right one.
 ghost use Rattle.std.specs.Prelude.{◌<◌, length};
 
-use crate::bench::bench_or_memory;
-use crate::lines::{Blob, Lines, are};
 use std::alloc::Global;
 use tokei_count::{
     CodeStats, CountConfig, CountError, Counter, count_plain, parse_counted, parse_from_slice,
     parse_from_str,
 };
+use tokei_counting_rows::bench::bench_or_memory;
+use tokei_counting_rows::lines::{Blob, Lines, are};
 use tokei_table::LanguageType;
 
 /// A call that counts a text.
@@ -169,7 +169,8 @@ fn first_loud(alloc: Global) -> Result<Option<&'static str>, CountError> {
     Ok(None)
 }
 
-// Where the counter is made a text without opener takes no memory, so the allocation that fails next changes no answer.
+// Where the counter is made a text without opener takes no memory, so the allocation that fails next changes no
+// answer.
 #[test]
 fn refused_behind_the_counter(rt: HostRuntime) {
     match first_loud(rt.alloc()) {
