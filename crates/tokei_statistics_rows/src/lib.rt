@@ -1,9 +1,8 @@
-//! Worked rows of what trees in memory count, notebooks among them. They stand here, above that crate, since the tests of a
-//! crate are proved together with the whole of it.
+//! Worked rows of what trees in memory count. They stand here, above that crate, since the tests of a crate are
+//! proved together with the whole of it.
 #![tactic(auto)]
 
-#[cfg(test)]
-mod notebooks;
+pub mod runs;
 #[cfg(test)]
 mod statistics;
 pub mod trees;

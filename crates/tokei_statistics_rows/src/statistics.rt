@@ -1,42 +1,13 @@
 //! What folders in memory count, by the bench table.
+use crate::runs::{Row, counted, key, row, with_counts};
 use crate::trees::{bench_table, files, owned};
 use std::alloc::Global;
-use std::collections::BTreeMap;
 use std::test::Fail;
-use tokei_config::{Config, LanguageConfig};
-use tokei_count::CountError;
+use tokei_config::Config;
 use tokei_languages::{Language, Languages};
-use tokei_statistics::{CountFiles, from_path};
-use tokei_table::{LanguageTable, LanguageType};
-use tokei_walk::{Call, Fault, Folders, MemoryFolders};
-
-/// Blanks, code and comments of a language, how many reports it has, and whether it is marked.
-pub type Row = (usize, usize, usize, usize, bool);
-
-/// What was counted of a language.
-pub fn row_of(language: &Language) -> Row {
-    (
-        language.blanks,
-        language.code,
-        language.comments,
-        language.reports.len(),
-        language.inaccurate,
-    )
-}
-
-/// What was counted of the language with that name, if anything was.
-pub fn row(table: &LanguageTable, languages: &Languages, name: &str) -> Option<Row> {
-    let language = LanguageType::from_name(table, name)?;
-    languages.get(language).map(|l| row_of(l))
-}
-
-/// The language of that name.
-pub fn key(table: &LanguageTable, name: &str) -> Result<LanguageType, Fail> {
-    match LanguageType::from_name(table, name) {
-        Some(key) => Ok(key),
-        None => Err(Fail::from("no such language")),
-    }
-}
+use tokei_statistics::CountFiles;
+use tokei_table::LanguageTable;
+use tokei_walk::{Call, Fault, MemoryFolders};
 
 /// Files of these places and contents, where some places refuse a call.
 fn refusing(
@@ -49,32 +20,6 @@ fn refusing(
         folders.refuse_call(place, *call)?;
     }
     Ok(folders)
-}
-
-/// The languages and those of all files below the roots.
-fn with_counts<F: Folders>(
-    mut languages: Languages,
-    table: &LanguageTable,
-    folders: &mut F,
-    roots: &[&str],
-    config: &Config,
-) -> Result<Languages, CountError> {
-    let alloc = languages.allocator();
-    let roots = owned(alloc, roots)?;
-    let none = Vec::new(alloc);
-    let _notes = languages.get_statistics(table, folders, &roots, &none, config)?;
-    Ok(languages)
-}
-
-/// The languages of all files below a root.
-pub fn counted<F: Folders>(
-    alloc: Global,
-    table: &LanguageTable,
-    folders: &mut F,
-    root: &str,
-    config: &Config,
-) -> Result<Languages, CountError> {
-    with_counts(Languages::new(alloc), table, folders, &[root], config)
 }
 
 /// How many languages these files have, and the row of one of them.
@@ -256,12 +201,20 @@ fn rust_reports(
     Ok(row(&table, &languages, "Rust").map_or(0, |r| r.3))
 }
 
+/// The place of the first row of another number of reports, if there is such a row.
+fn first_wrong_switch(alloc: Global) -> Result<Option<usize>, Fail> {
+    for (at, (contents, root, on, count)) in SWITCHED.iter().enumerate() {
+        if rust_reports(alloc, contents, root, on)? != *count {
+            return Ok(Some(at));
+        }
+    }
+    Ok(None)
+}
+
 #[test]
 fn switches_leave_out_rules(rt: HostRuntime) -> Result<(), Fail> {
-    for (contents, root, on, count) in &SWITCHED {
-        let reports = rust_reports(rt.alloc(), contents, root, on)?;
-        assert_eq!(rt; reports, *count, "below {root} with {on}");
-    }
+    let wrong = first_wrong_switch(rt.alloc())?;
+    assert_eq!(rt; wrong, None);
     Ok(())
 }
 
@@ -285,79 +238,5 @@ fn what_is_refused_is_passed_over(rt: HostRuntime) -> Result<(), Fail> {
     );
     let told = rows_of(rt.alloc(), IGNORED, &[(".ignore", Call::Read)], "Rust")?;
     assert_eq!(rt; told, (1, Some((0, 1, 0, 1, false))));
-    Ok(())
-}
-
-/// A configuration by which languages gain extensions.
-pub fn gains(
-    alloc: Global,
-    table: &LanguageTable,
-    additions: &[(&str, &[&str])],
-) -> Result<Config, CountError> {
-    let mut languages = BTreeMap::new(alloc);
-    for (name, extensions) in additions {
-        if let Some(language) = LanguageType::from_name(table, name) {
-            let mut added = LanguageConfig::new(alloc);
-            added.extensions(owned(alloc, extensions)?);
-            languages.insert(language, added)?;
-        }
-    }
-    let mut config = Config::new();
-    config.languages = Some(languages);
-    Ok(config)
-}
-
-/// The languages of three files, by a configuration that adds extensions, where there is one.
-fn with_additions(
-    alloc: Global,
-    table: &LanguageTable,
-    additions: Option<&[(&str, &[&str])]>,
-) -> Result<Languages, Fail> {
-    let mut folders = files(alloc, &[("a.h", b"x;\n"), ("b.c", b"y;\n"), MAIN])?;
-    let config = match additions {
-        None => Config::new(),
-        Some(additions) => gains(alloc, table, additions)?,
-    };
-    Ok(counted(alloc, table, &mut folders, ".", &config)?)
-}
-
-/// The language of `a.h` by a configuration that adds extensions.
-fn language_of_h(
-    alloc: Global,
-    table: &LanguageTable,
-    additions: &[(&str, &[&str])],
-) -> Result<Option<LanguageType>, Fail> {
-    let config = gains(alloc, table, additions)?;
-    let mut folders = files(alloc, &[("a.h", b"x;\n")])?;
-    Ok(from_path(alloc, table, &mut folders, "a.h", &config)?)
-}
-
-#[test]
-fn languages_gain_extensions(rt: HostRuntime) -> Result<(), Fail> {
-    let table = bench_table(rt.alloc())?;
-    let languages = with_additions(rt.alloc(), &table, Some(&[("C", &["h", "rs"])]))?;
-    assert_eq!(rt; row(&table, &languages, "C"), Some((0, 2, 0, 2, false)));
-    assert_eq!(rt; row(&table, &languages, "Rust"), Some((0, 1, 0, 1, false)));
-    Ok(())
-}
-
-#[test]
-fn a_gained_extension_has_the_first_language(rt: HostRuntime) -> Result<(), Fail> {
-    let table = bench_table(rt.alloc())?;
-    let c = LanguageType::from_name(&table, "C");
-    let both = language_of_h(rt.alloc(), &table, &[("D", &["h"]), ("C", &["h"])])?;
-    assert_eq!(rt; both, c);
-    assert_eq!(rt; language_of_h(rt.alloc(), &table, &[("C", &["H"])])?, None);
-    assert_eq!(rt; language_of_h(rt.alloc(), &table, &[])?, None);
-    Ok(())
-}
-
-#[test]
-fn an_empty_addition_changes_nothing(rt: HostRuntime) -> Result<(), Fail> {
-    let table = bench_table(rt.alloc())?;
-    let plain = with_additions(rt.alloc(), &table, None)?;
-    assert_eq!(rt; plain.len(), 2);
-    assert!(rt; with_additions(rt.alloc(), &table, Some(&[]))? == plain);
-    assert!(rt; with_additions(rt.alloc(), &table, Some(&[("C", &[])]))? == plain);
     Ok(())
 }

@@ -1,10 +1,11 @@
 //! Notebooks below a root: which of their lines count, and as what.
-use crate::statistics::{counted, gains, key, row_of};
-use crate::trees::{bench_table, files};
+use crate::extensions::gains;
 use std::alloc::Global;
 use std::test::Fail;
 use tokei_config::Config;
 use tokei_languages::Language;
+use tokei_statistics_rows::runs::{counted, key, row_of};
+use tokei_statistics_rows::trees::{bench_table, files};
 use tokei_table::{LanguageTable, LanguageType};
 
 const CODE: &[u8] =
@@ -36,8 +37,8 @@ fn notebooks(
     }
 }
 
-/// How many languages a notebook's cells have, and the blank, code and comment lines of all of them. It has none of its
-/// own, and one report.
+/// How many languages a notebook's cells have, and the blank, code and comment lines of all of them. It has none of
+/// its own, and one report.
 fn children(
     alloc: Global,
     table: &LanguageTable,
