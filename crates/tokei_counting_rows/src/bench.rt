@@ -1,6 +1,5 @@
-//! The bench table, read, and what a test of rows tells.
+//! The bench table, read.
 use std::alloc::Global;
-use std::process::Abort;
 use tokei_bench::bench_json;
 use tokei_count::CountError;
 use tokei_table::{LanguageTable, TableError};
@@ -17,9 +16,4 @@ pub fn bench_or_memory(alloc: Global) -> Result<LanguageTable, CountError> {
         Err(TableError::Memory) => Err(CountError::Memory),
         Err(_) => Err(CountError::Overflow),
     }
-}
-
-/// Tells the place of the first wrong row, if there is such a row, or why the rows can't be counted.
-pub fn all_right(rt: &impl Abort, wrong: Result<Option<usize>, CountError>) {
-    assert_eq!(rt; wrong, Ok(None), "the place of the first wrong row");
 }

@@ -1,7 +1,8 @@
 //! Worked rows cut after each byte: of each piece every call tells the same, and neither its lines nor its steps are
 //! more than its bytes.
-use crate::bench::{all_right, bench_or_memory};
+use crate::bench::bench_or_memory;
 use crate::every_call::told;
+use crate::verdict::all_right;
 use std::alloc::Global;
 use tokei_count::{CodeStats, CountError};
 use tokei_table::LanguageTable;

@@ -1,8 +1,9 @@
 //! Texts that no one writes: bytes that aren't UTF-8, elements of blanks alone, children inside one another past the
 //! last level.
-use crate::bench::{all_right, bench_or_memory};
+use crate::bench::bench_or_memory;
 use crate::every_call::{read_alone, told};
 use crate::lines::{Lines, own_of};
+use crate::verdict::all_right;
 use std::alloc::{AllocError, Global};
 use tokei_count::{CodeStats, CountError};
 use tokei_table::{LanguageTable, LanguageType};

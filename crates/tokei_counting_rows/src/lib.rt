@@ -15,3 +15,5 @@ mod plain_rows;
 mod short_texts;
 #[cfg(test)]
 mod steps;
+#[cfg(test)]
+mod verdict;

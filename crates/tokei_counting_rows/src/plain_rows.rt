@@ -1,7 +1,8 @@
 //! Worked rows of the calls that count a text, by the bench table: its lines and its steps.
-use crate::bench::{all_right, bench_or_memory};
+use crate::bench::bench_or_memory;
 use crate::every_call::{read_alone, told};
 use crate::lines::{Blob, Lines, are};
+use crate::verdict::all_right;
 use std::alloc::{AllocError, Global};
 use tokei_count::CountError;
 use tokei_table::LanguageTable;

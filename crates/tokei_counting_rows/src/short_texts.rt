@@ -1,8 +1,9 @@
 //! Every text of a few pieces, in languages of all families: every call tells the same of it.
 ghost use Rattle.std.specs.Prelude.{◌<◌, length};
 
-use crate::bench::{all_right, bench_or_memory};
+use crate::bench::bench_or_memory;
 use crate::every_call::agreed;
+use crate::verdict::all_right;
 use std::alloc::{AllocError, Global};
 use std::test::Fail;
 use tokei_count::{CountConfig, CountError, Counter};

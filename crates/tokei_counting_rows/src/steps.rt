@@ -1,6 +1,6 @@
 //! How many steps a counted reading takes: one for each choice that it makes, none in what it skips.
-use crate::bench::all_right;
 use crate::plain_rows::long_text;
+use crate::verdict::all_right;
 use std::alloc::Global;
 use tokei_count::{CountConfig, CountError, Counter, parse_counted};
 use tokei_table::{LanguageTable, LanguageType};

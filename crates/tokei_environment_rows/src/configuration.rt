@@ -1,5 +1,6 @@
 //! Runs of the program by the configuration that it finds, and what it says of bad lines and patterns.
-use crate::runs::{File, UNSET, all_right, is_text, status};
+use crate::runs::{File, UNSET, is_text, status};
+use crate::verdict::all_right;
 use std::alloc::{AllocError, Global};
 use std::str::from_utf8;
 use tokei::Counted;

@@ -5,3 +5,5 @@
 #[cfg(test)]
 mod configuration;
 pub mod runs;
+#[cfg(test)]
+mod verdict;

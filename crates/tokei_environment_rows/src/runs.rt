@@ -1,6 +1,5 @@
 //! The program run over folders in memory, and whether what it wrote is a text.
 use std::alloc::Global;
-use std::process::Abort;
 use std::str::from_utf8;
 use tokei::{Fault, MemoryFolders, Sink, Source};
 use tokei_bench::bench_json;
@@ -45,9 +44,4 @@ pub fn status<S: Source, W: Sink, E: Sink>(
 /// Whether the bytes are a text.
 pub fn is_text(bytes: &[u8]) -> bool {
     from_utf8(bytes).is_ok()
-}
-
-/// Tells the place of the first wrong row, if there is such a row.
-pub fn all_right(rt: &impl Abort, wrong: Option<usize>) {
-    assert_eq!(rt; wrong, None, "the place of the first wrong row");
 }

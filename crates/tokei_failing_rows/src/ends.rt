@@ -1,7 +1,8 @@
 //! Runs of the program of which one write, one read or one allocation fails.
+use crate::verdict::all_right;
 use std::alloc::Global;
 use tokei::{Counted, FailOnce};
-use tokei_environment_rows::runs::{File, UNSET, all_right, is_text, status};
+use tokei_environment_rows::runs::{File, UNSET, is_text, status};
 
 const FILES: [File<'static>; 4] = [
     (

@@ -4,3 +4,5 @@
 
 #[cfg(test)]
 mod ends;
+#[cfg(test)]
+mod verdict;

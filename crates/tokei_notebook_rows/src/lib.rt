@@ -11,3 +11,5 @@ mod notebook_rows;
 mod refused_calls;
 #[cfg(test)]
 mod sum_rows;
+#[cfg(test)]
+mod verdict;

@@ -1,7 +1,8 @@
 //! Notebooks: a blob for the language of each cell, and no lines of their own.
+use crate::verdict::all_right;
 use std::alloc::{AllocError, Global};
 use tokei_count::{CodeStats, CountError};
-use tokei_counting_rows::bench::{all_right, bench_or_memory};
+use tokei_counting_rows::bench::bench_or_memory;
 use tokei_counting_rows::every_call::{counted, told};
 use tokei_counting_rows::lines::{Blob, Lines, are, child_of, own_of};
 use tokei_table::{LanguageTable, LanguageType};
