@@ -27,7 +27,7 @@ pub fn put<W: Sink>(writer: &mut W, text: &str) -> Result<(), Ending>
 }
 
 /// Says that the earlier results of this name are refused.
-#[tactic(auto, using(crate::proofs::Saying::no_memory_said, crate::proofs::Saying::refused_input_said))]
+#[tactic(auto, using(crate::proofs::Messages::no_memory_said, crate::proofs::Messages::refused_input_said))]
 fn say_refused_input<E: Sink>(alloc: Global, name: &str, err: &mut E) -> Result<(), Ending>
     ensures said { OnOk result (Says (E.contents err.old) (E.contents err.new)) }
     ensures faults { E.faults err.old < u64.MAX
@@ -42,7 +42,7 @@ fn say_refused_input<E: Sink>(alloc: Global, name: &str, err: &mut E) -> Result<
 
 /// Says how a run ended; where there is no memory for its words, that memory ran out. After a fault of the writer nothing is
 /// said of what was written.
-#[tactic(auto, using(crate::proofs::Saying::no_memory_said, crate::proofs::Saying::said))]
+#[tactic(auto, using(crate::proofs::Messages::no_memory_said, crate::proofs::Messages::said))]
 pub fn say<E: Sink>(alloc: Global, ending: &Ending, err: &mut E) -> Result<(), Ending>
     ensures said { status_of ending.now ≡ 1 → OnOk result (Says (E.contents err.old) (E.contents err.new)) }
     ensures faults { E.faults err.old < u64.MAX

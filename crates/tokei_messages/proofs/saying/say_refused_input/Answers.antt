@@ -1,5 +1,5 @@
 -- What is said where earlier results are refused.
-use Rattle.tokei_messages.proofs.Saying.{refused_input_said}
+use Rattle.tokei_messages.proofs.Messages.{refused_input_said}
 use Rattle.tokei_messages.proofs.saying.say_refused_input.Goals as goal
 
 pub returns-in-Ok-clause-said : goal.returns-in-Ok-clause-said
