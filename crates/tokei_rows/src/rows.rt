@@ -1,7 +1,8 @@
 //! The rows of a table that has its layout and but the known escapes.
-ghost use Rattle.std.specs.Prelude.{◌≡◌, option_map, map, IfOk, string_bytes};
+ghost use Rattle.std.specs.Prelude.{◌≡◌, option_map, map, IfOk, OnOk, string_bytes};
 ghost use Rattle.serde_json.specs.View.{view, items_view, members_view};
 ghost use Rattle.tokei_syntax.specs.RowOf.{pair_of, pairs_of, tokens_of, row_of};
+ghost use Rattle.tokei_rows.specs.Filled.{with_name, with_comments, with_quotes, with_finds};
 ghost use Rattle.tokei_rows.specs.KeyOrder.{IsInKeyOrder};
 ghost use Rattle.tokei_rows.specs.Rows.{text_of, text_at, kind_at, texts_of, texts_at, name_or};
 ghost use Rattle.tokei_rows.specs.Rows.{two_texts, pair_in, pairs_in, pairs_at, truth_at, tags_in, tags_at};
@@ -137,34 +138,65 @@ fn name_or(alloc: Global, key: &str, name: String) -> Result<String, AllocError>
     }
 }
 
+/// Gives the row the name, the kind and the truth values that stand in the member.
+fn read_name(alloc: Global, row: &mut Syntax, value: &Value) -> Result<(), AllocError>
+    ensures { OnOk result (row_of row.new ≡ with_name (row_of row.old) (view value.now)) }
+{
+    let name = text_at(alloc, value.get("name"))?;
+    row.name = name_or(alloc, row.key.as_str(), name)?;
+    row.kind = kind_at(alloc, value.get("kind"))?;
+    row.nested = truth_at(value.get("nested"));
+    row.literate = truth_at(value.get("literate"));
+    row.blank = truth_at(value.get("blank"));
+    Ok(())
+}
+
+/// Gives the row the comments, the further texts and the tags that stand in the member.
+fn read_comments(alloc: Global, row: &mut Syntax, value: &Value) -> Result<(), AllocError>
+    ensures { OnOk result (row_of row.new ≡ with_comments (row_of row.old) (view value.now)) }
+{
+    let html = is_html_kind(value.get("kind"));
+    row.line_comment = texts_at(alloc, value.get("line_comment"))?;
+    row.multi_line_comments = pairs_at(alloc, value.get("multi_line_comments"))?;
+    row.nested_comments = pairs_at(alloc, value.get("nested_comments"))?;
+    row.important_syntax = texts_at(alloc, value.get("important_syntax"))?;
+    row.contexts = tags_at(alloc, html, value.get("contexts"))?;
+    Ok(())
+}
+
+/// Gives the row the string literals that stand in the member.
+fn read_quotes(alloc: Global, row: &mut Syntax, value: &Value) -> Result<(), AllocError>
+    ensures { OnOk result (row_of row.new ≡ with_quotes (row_of row.old) (view value.now)) }
+{
+    row.quotes = pairs_at(alloc, value.get("quotes"))?;
+    row.verbatim_quotes = pairs_at(alloc, value.get("verbatim_quotes"))?;
+    row.doc_quotes = pairs_at(alloc, value.get("doc_quotes"))?;
+    Ok(())
+}
+
+/// Gives the row what it is found by as it stands in the member.
+fn read_finds(alloc: Global, row: &mut Syntax, value: &Value) -> Result<(), AllocError>
+    ensures { OnOk result (row_of row.new ≡ with_finds (row_of row.old) (view value.now)) }
+{
+    row.extensions = texts_at(alloc, value.get("extensions"))?;
+    row.filenames = texts_at(alloc, value.get("filenames"))?;
+    row.path_suffixes = texts_at(alloc, value.get("path_suffixes"))?;
+    row.mime = texts_at(alloc, value.get("mime"))?;
+    row.shebangs = texts_at(alloc, value.get("shebangs"))?;
+    row.env = texts_at(alloc, value.get("env"))?;
+    Ok(())
+}
+
 #[tactic(auto, unfolding(crate::specs::Rows::row_in))]
 fn row(alloc: Global, key: &str, value: &Value) -> Result<Syntax, AllocError>
     ensures { IfOk result (λ s. row_of s ≡ row_in key.now (view value.now)) }
 {
-    let html = is_html_kind(value.get("kind"));
-    let name = text_at(alloc, value.get("name"))?;
-    Ok(Syntax {
-        key: String::from_str(alloc, key)?,
-        name: name_or(alloc, key, name)?,
-        kind: kind_at(alloc, value.get("kind"))?,
-        line_comment: texts_at(alloc, value.get("line_comment"))?,
-        multi_line_comments: pairs_at(alloc, value.get("multi_line_comments"))?,
-        nested: truth_at(value.get("nested")),
-        nested_comments: pairs_at(alloc, value.get("nested_comments"))?,
-        quotes: pairs_at(alloc, value.get("quotes"))?,
-        verbatim_quotes: pairs_at(alloc, value.get("verbatim_quotes"))?,
-        doc_quotes: pairs_at(alloc, value.get("doc_quotes"))?,
-        literate: truth_at(value.get("literate")),
-        blank: truth_at(value.get("blank")),
-        important_syntax: texts_at(alloc, value.get("important_syntax"))?,
-        extensions: texts_at(alloc, value.get("extensions"))?,
-        filenames: texts_at(alloc, value.get("filenames"))?,
-        path_suffixes: texts_at(alloc, value.get("path_suffixes"))?,
-        mime: texts_at(alloc, value.get("mime"))?,
-        shebangs: texts_at(alloc, value.get("shebangs"))?,
-        env: texts_at(alloc, value.get("env"))?,
-        contexts: tags_at(alloc, html, value.get("contexts"))?,
-    })
+    let mut row = Syntax::new(alloc, key)?;
+    read_name(alloc, &mut row, value)?;
+    read_comments(alloc, &mut row, value)?;
+    read_quotes(alloc, &mut row, value)?;
+    read_finds(alloc, &mut row, value)?;
+    Ok(row)
 }
 
 fn rows(alloc: Global, members: &Map<String, Value>) -> Result<Vec<Syntax>, AllocError>

@@ -1,6 +1,6 @@
 //! The statistics of a text: a tree of counts.
 use crate::error::CountError;
-use crate::sums::{Sums, sum_of};
+use crate::sums::Sums;
 use std::alloc::Global;
 use std::collections::BTreeMap;
 use std::fmt;
@@ -42,6 +42,17 @@ impl CodeStats {
         ensures { stats_of result ≡ empty }
     {
         CodeStats::assembled(alloc, Sums::new(), BTreeMap::new(alloc))
+    }
+
+    /// The counts of the text itself.
+    pub fn own_counts(&self) -> Sums
+        ensures { sums_of result ≡ counts_of self.now }
+    {
+        Sums {
+            blanks: self.blanks,
+            code: self.code,
+            comments: self.comments,
+        }
     }
 
     /// All lines of the text itself, of whatever class; refused with `Overflow` where their number passes the greatest
@@ -105,9 +116,7 @@ impl CodeStats {
         ensures fits { OnOk result (Fits (sum (stats_of other.now) (stats_of self.now))) }
         ensures overflow { IsErrOf result CountError.Overflow → ¬ Fits (sum (stats_of other.now) (stats_of self.now)) }
     {
-        let blanks = sum_of(other.blanks, self.blanks)?;
-        let code = sum_of(other.code, self.code)?;
-        let comments = sum_of(other.comments, self.comments)?;
+        let own = other.own_counts().plus(self.own_counts())?;
         let CodeStats {
             blanks: _,
             code: _,
@@ -122,13 +131,7 @@ impl CodeStats {
             };
             put(&mut blobs, *language, both)?;
         }
-        Ok(CodeStats {
-            blanks,
-            code,
-            comments,
-            blobs,
-            alloc,
-        })
+        Ok(CodeStats::assembled(alloc, own, blobs))
     }
 
     /// Adds the other statistics, by number and by language, at every depth. `Overflow` exactly where a sum of two
@@ -150,28 +153,35 @@ impl CodeStats {
         ensures overflow { IsErrOf result CountError.Overflow → ¬ Fits (sum (stats_of self.old) (stats_of other.now)) }
         ensures err { OnErr result (self.new ≡ self.old) }
     {
-        let blanks = sum_of(self.blanks, other.blanks)?;
-        let code = sum_of(self.code, other.code)?;
-        let comments = sum_of(self.comments, other.comments)?;
-        self.blanks = blanks;
-        self.code = code;
-        self.comments = comments;
+        let both = self.own_counts().plus(other.own_counts())?;
+        self.blanks = both.blanks;
+        self.code = both.code;
+        self.comments = both.comments;
         Ok(())
     }
 
-    /// The counts of all nodes, added up.
-    fn sums(&self) -> Result<Sums, CountError>
+    /// Adds the other statistics, as `add`; where they have no blobs, the three numbers alone.
+    fn join(&mut self, other: &CodeStats) -> Result<(), CountError>
+        ensures ok { OnOk result (stats_of self.new ≡ sum (stats_of self.old) (stats_of other.now)) }
+        ensures overflow { IsErrOf result CountError.Overflow → ¬ Fits (sum (stats_of self.old) (stats_of other.now)) }
+        ensures err { OnErr result (self.new ≡ self.old) }
+    {
+        if other.blobs.is_empty() {
+            return self.add_lines(other);
+        }
+        self.add(other)
+    }
+
+    /// The counts of this text and of all texts inside it, added up: the counts of `summarise`, without its memory.
+    /// `Overflow` exactly where one of the three numbers passes the greatest `usize`.
+    pub fn summary_counts(&self) -> Result<Sums, CountError>
         ensures sum { IfOk result (λ n. sums_of n ≡ summary (stats_of self.now)) }
         ensures past { OnErr result (¬ CountsFit (summary (stats_of self.now))) }
         ensures overflow { IfErr result (λ e. e ≡ CountError.Overflow) }
     {
-        let mut sums = Sums {
-            blanks: self.blanks,
-            code: self.code,
-            comments: self.comments,
-        };
+        let mut sums = self.own_counts();
         for (_, stats) in self.blobs.iter() {
-            let inner = stats.sums()?;
+            let inner = stats.summary_counts()?;
             sums = sums.plus(inner)?;
         }
         Ok(sums)
@@ -184,7 +194,7 @@ impl CodeStats {
         ensures past { OnErr result (¬ CountsFit (summary (stats_of self.now))) }
         ensures overflow { IfErr result (λ e. e ≡ CountError.Overflow) }
     {
-        let sums = self.sums()?;
+        let sums = self.summary_counts()?;
         Ok(CodeStats::assembled(self.alloc, sums, BTreeMap::new(self.alloc)))
     }
 }
@@ -226,10 +236,7 @@ pub fn add_blob(
         (stats_of stats)) }
 {
     if let Some(there) = blobs.get_mut(&language) {
-        if stats.blobs.is_empty() {
-            return there.add_lines(&stats);
-        }
-        return there.add(&stats);
+        return there.join(&stats);
     }
     put(blobs, language, stats)
 }

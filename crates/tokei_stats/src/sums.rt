@@ -4,7 +4,7 @@ ghost use Rattle.std.specs.Prelude.{◌≡◌, ◌+◌, ◌≤◌, ◌^◌, IfOk
 use crate::error::CountError;
 
 /// The sum of two counts.
-pub(crate) fn sum_of(a: usize, b: usize) -> Result<usize, CountError>
+fn sum_of(a: usize, b: usize) -> Result<usize, CountError>
     ensures ok { IfOk result (λ n. n ≡ a + b) }
     ensures past { OnErr result (2 ^ 64 ≤ a + b) }
     ensures overflow { IfErr result (λ e. e ≡ CountError.Overflow) }

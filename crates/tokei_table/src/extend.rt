@@ -1,6 +1,6 @@
 //! A table in which languages gain extensions.
-ghost use Rattle.std.specs.Prelude.{◌≡◌, map, IfOk};
-ghost use Rattle.tokei_row_rules.specs.Extended.{addition_of, listed_for, extended};
+ghost use Rattle.std.specs.Prelude.{◌≡◌, ◌++◌, map, IfOk, OnOk};
+ghost use Rattle.tokei_row_rules.specs.Extended.{addition_of, extended, gained, listed_for, with_extensions};
 ghost use Rattle.tokei_syntax.specs.RowOf.{tokens_of, row_of};
 
 use crate::language_type::LanguageType;
@@ -26,6 +26,25 @@ fn listed_for(
     Ok(out)
 }
 
+/// The row with those of the extensions listed for it that aren't known yet, and which are known from then on.
+fn extended_row(
+    alloc: Global,
+    known: &mut Vec<String>,
+    place: usize,
+    row: &Syntax,
+    additions: &[(LanguageType, &[String])],
+) -> Result<Syntax, AllocError>
+    ensures row { IfOk result (λ s. row_of s ≡ with_extensions (row_of row.now)
+        (gained (tokens_of known.old.items) (listed_for place (map addition_of additions.now)))) }
+    ensures known { OnOk result (tokens_of known.new.items ≡ tokens_of known.old.items
+        ++ gained (tokens_of known.old.items) (listed_for place (map addition_of additions.now))) }
+{
+    let listed = listed_for(alloc, place, additions)?;
+    let more = gained(alloc, known, &listed)?;
+    add_texts(alloc, known, &more)?;
+    with_extensions(alloc, row, &more)
+}
+
 /// The rows in which each language gains those of its listed extensions that no language has yet.
 pub(crate) fn extended_rows(
     alloc: Global,
@@ -37,10 +56,7 @@ pub(crate) fn extended_rows(
     let mut known = all_extensions(alloc, rows)?;
     let mut out = Vec::new(alloc);
     for (place, row) in rows.iter().enumerate() {
-        let listed = listed_for(alloc, place, additions)?;
-        let more = gained(alloc, &known, &listed)?;
-        out.push(with_extensions(alloc, row, &more)?)?;
-        add_texts(alloc, &mut known, &more)?;
+        out.push(extended_row(alloc, &mut known, place, row, additions)?)?;
     }
     Ok(out)
 }

@@ -1,8 +1,10 @@
 //! The table of languages.
-ghost use Rattle.std.specs.Prelude.{◌≡◌, ◌≢◌, ◌<◌, ◌==◌, Err, Some, None, length, map, IfOk, MatchResult, nat_lt, true};
+ghost use Rattle.std.specs.Prelude.{◌≡◌, ◌≢◌, ◌<◌, ◌==◌, Ok, Err, Some, None, length, map, nat_lt, true};
+ghost use Rattle.std.specs.Prelude.{IfOk, OnOk, MatchResult};
 ghost use Rattle.serde_json.specs.View.{view};
 ghost use Rattle.tokei_row_rules.specs.Extended.{addition_of, extended};
-ghost use Rattle.tokei_table.specs.Outcome.{data_of, outcome};
+ghost use Rattle.tokei_rows.specs.KeyOrder.{IsInKeyOrder};
+ghost use Rattle.tokei_table.specs.Outcome.{data_of, outcome, outcome_of_value, tested};
 ghost use Rattle.tokei_row_rules.specs.Tokens.{has_tokens};
 ghost use Rattle.tokei_table.specs.WellFormed.{IsWellFormed};
 ghost use Rattle.tokei_syntax.specs.Sound.{IsSound};
@@ -59,6 +61,47 @@ fn data(alloc: Global, bytes: &[u8]) -> Result<Value, TableError>
     }
 }
 
+/// The rows of a table's JSON value, in the order of their keys.
+#[tactic(auto, unfolding(crate::specs::Outcome::outcome_of_value))]
+fn rows_of(alloc: Global, value: &Value) -> Result<Vec<Syntax>, TableError>
+    ensures value { result ≢ Err MemoryFault
+        → MatchResult result (λ v. outcome_of_value (view value.now) ≡ tested (map row_of v.items))
+        (λ e. outcome_of_value (view value.now) ≡ Err e) }
+    ensures ordered { IfOk result (λ v. IsInKeyOrder (map row_of v.items)) }
+{
+    if !has_layout(value) {
+        return Err(TableError::Layout);
+    }
+    if !is_escaped_table(value.get("languages")) {
+        return Err(TableError::Escape);
+    }
+    Ok(rows_at(alloc, value.get("languages"))?)
+}
+
+/// Tests whether rows in the order of their keys can be counted with.
+#[tactic(auto, unfolding(crate::specs::Outcome::tested))]
+fn test(alloc: Global, rows: &[Syntax]) -> Result<(), TableError>
+    requires { IsInKeyOrder (map row_of rows.now) }
+    ensures value { result ≢ Err MemoryFault
+        → MatchResult result (λ _. tested (map row_of rows.now) ≡ Ok (map row_of rows.now))
+        (λ e. tested (map row_of rows.now) ≡ Err e) }
+    ensures well_formed { OnOk result (IsWellFormed (map row_of rows.now)) }
+{
+    if !all_have_tokens(rows) {
+        return Err(TableError::Token);
+    }
+    if names_twice(alloc, rows)? {
+        return Err(TableError::NamedTwice);
+    }
+    if names_total(rows) {
+        return Err(TableError::NamedTotal);
+    }
+    if !all_have_fallbacks(rows) {
+        return Err(TableError::Fallback);
+    }
+    Ok(())
+}
+
 /// The table of these rows, with what look-ups need beside them.
 fn indexed(alloc: Global, rows: Vec<Syntax>) -> Result<LanguageTable, AllocError>
     requires { IsWellFormed (map row_of rows.items) }
@@ -71,30 +114,12 @@ fn indexed(alloc: Global, rows: Vec<Syntax>) -> Result<LanguageTable, AllocError
 impl LanguageTable {
     /// Reads a table from its JSON text. Refused is exactly what has a cause of `TableError`, and of those that apply
     /// the first is answered; `Memory` comes only where an allocation failed.
-    #[tactic(auto, unfolding(crate::specs::Outcome::outcome_of_value, crate::specs::Outcome::tested))]
     pub fn from_json(alloc: Global, bytes: &[u8]) -> Result<LanguageTable, TableError>
         ensures { result ≢ Err MemoryFault → result ≡ outcome bytes.now }
     {
         let value = data(alloc, bytes)?;
-        if !has_layout(&value) {
-            return Err(TableError::Layout);
-        }
-        if !is_escaped_table(value.get("languages")) {
-            return Err(TableError::Escape);
-        }
-        let rows = rows_at(alloc, value.get("languages"))?;
-        if !all_have_tokens(&rows) {
-            return Err(TableError::Token);
-        }
-        if names_twice(alloc, &rows)? {
-            return Err(TableError::NamedTwice);
-        }
-        if names_total(&rows) {
-            return Err(TableError::NamedTotal);
-        }
-        if !all_have_fallbacks(&rows) {
-            return Err(TableError::Fallback);
-        }
+        let rows = rows_of(alloc, &value)?;
+        test(alloc, &rows)?;
         Ok(indexed(alloc, rows)?)
     }
 

@@ -35,29 +35,17 @@ module _ (old new : List (ℕ × CodeStats)) (k : ℕ) (v w more : CodeStats) (t
   fits_there : Fits (joined (at (blobs_of (entries_of old)) k) (λ s. sum s (stats_of more)) (stats_of more)) → Fits (sum (stats_of v) (stats_of more))
   fits_there = subst (λ o. Fits (joined o (λ s. sum s (stats_of more)) (stats_of more))) (at_entries old k ∙ ap (option_map stats_of) (sym there))
 
-pub returns-then-is_empty-clause-ok : goal.returns-then-is_empty-clause-ok
-returns-then-is_empty-clause-ok c =
-    on_ok c.add_lines.result (added c.args.blobs.now.entries _ c.args.language c.in-Some.there.now c.add_lines.new.self c.args.stats c.in-Some.ensures.value (c.get_mut.follows.holds c.add_lines.new.self).0 c.in-Some.ensures.ordered) c.add_lines.ensures.ok
-
-pub returns-then-is_empty-clause-err : goal.returns-then-is_empty-clause-err
-returns-then-is_empty-clause-err c =
-    on_err c.add_lines.result (kept c.args.blobs.now.entries _ c.args.language c.in-Some.there.now c.add_lines.new.self c.args.stats c.in-Some.ensures.value (c.get_mut.follows.holds c.add_lines.new.self).0) c.add_lines.ensures.err
-
-pub returns-then-is_empty-clause-overflow : goal.returns-then-is_empty-clause-overflow
-returns-then-is_empty-clause-overflow c is fits =
-    c.add_lines.ensures.overflow is (fits_there c.args.blobs.now.entries _ c.args.language c.in-Some.there.now c.add_lines.new.self c.args.stats c.in-Some.ensures.value (c.get_mut.follows.holds c.add_lines.new.self).0 fits)
-
 pub returns-in-Some-clause-ok : goal.returns-in-Some-clause-ok
 returns-in-Some-clause-ok c =
-    on_ok c.add.result (added c.args.blobs.now.entries _ c.args.language c.in-Some.there.now c.add.new.self c.args.stats c.in-Some.ensures.value (c.get_mut.follows.holds c.add.new.self).0 c.in-Some.ensures.ordered) c.add.ensures.ok
+    on_ok c.join.result (added c.args.blobs.now.entries _ c.args.language c.in-Some.there.now c.join.new.self c.args.stats c.in-Some.ensures.value (c.get_mut.follows.holds c.join.new.self).0 c.in-Some.ensures.ordered) c.join.ensures.ok
 
 pub returns-in-Some-clause-err : goal.returns-in-Some-clause-err
 returns-in-Some-clause-err c =
-    on_err c.add.result (kept c.args.blobs.now.entries _ c.args.language c.in-Some.there.now c.add.new.self c.args.stats c.in-Some.ensures.value (c.get_mut.follows.holds c.add.new.self).0) c.add.ensures.err
+    on_err c.join.result (kept c.args.blobs.now.entries _ c.args.language c.in-Some.there.now c.join.new.self c.args.stats c.in-Some.ensures.value (c.get_mut.follows.holds c.join.new.self).0) c.join.ensures.err
 
 pub returns-in-Some-clause-overflow : goal.returns-in-Some-clause-overflow
 returns-in-Some-clause-overflow c is fits =
-    c.add.ensures.overflow is (fits_there c.args.blobs.now.entries _ c.args.language c.in-Some.there.now c.add.new.self c.args.stats c.in-Some.ensures.value (c.get_mut.follows.holds c.add.new.self).0 fits)
+    c.join.ensures.overflow is (fits_there c.args.blobs.now.entries _ c.args.language c.in-Some.there.now c.join.new.self c.args.stats c.in-Some.ensures.value (c.get_mut.follows.holds c.join.new.self).0 fits)
 
 pub returns-clause-ok : goal.returns-clause-ok
 returns-clause-ok c =
