@@ -24,12 +24,17 @@ insert_last (a ∷ old) k t rest h =
     ap (λ o. match_ordering o ((k, t) ∷ a ∷ old) ((a.0, t) ∷ old) (a ∷ insert_entry nat_cmp old k t) ++ rest) above
     ∙ ap (λ es. a ∷ es) (insert_last old k t rest h.1)
 
--- one turn of a loop that fills a map with what it is to show, in the order of the keys
-pub filled_more : {V S : Type 0} (view : V → S) (old : List (ℕ × V)) (k : ℕ) (v : V) (s : S) (rest all : List (ℕ × S))
-    → seen view old ++ (k, s) ∷ rest ≡ all → IsStrictlySortedBy nat_cmp (keys_of all) → view v ≡ s
-    → seen view (insert_entry nat_cmp old k v) ++ rest ≡ all
-filled_more view old k v s rest all h sorted e =
-    let same : seen view old ++ (k, view v) ∷ rest ≡ all = ap (λ t. seen view old ++ (k, t) ∷ rest) e ∙ h in
-    ap (λ es. es ++ rest) (inserted_seen view old k v)
-    ∙ insert_last (seen view old) k (view v) rest (subst (λ es. IsStrictlySortedBy nat_cmp (keys_of es)) (sym same) sorted)
-    ∙ same
+-- one turn of a loop that fills a map in the order of the keys, as the map is seen
+pub one_more : {S : Type 0} (old new : List (ℕ × S)) (k : ℕ) (s : S) (rest all : List (ℕ × S))
+    → new ≡ insert_entry nat_cmp old k s → old ++ (k, s) ∷ rest ≡ all → IsStrictlySortedBy nat_cmp (keys_of all)
+    → new ++ rest ≡ all
+one_more old new k s rest all e h sorted =
+    ap (λ es. es ++ rest) e
+    ∙ insert_last old k s rest (subst (λ es. IsStrictlySortedBy nat_cmp (keys_of es)) (sym h) sorted)
+    ∙ h
+
+-- an entry is put there, and is seen so
+pub put_seen : {V S : Type 0} (view : V → S) (old new : List (ℕ × V)) (k : ℕ) (v : V) (s : S)
+    → new ≡ insert_entry nat_cmp old k v → view v ≡ s → seen view new ≡ insert_entry nat_cmp (seen view old) k s
+put_seen view old new k v s e h =
+    ap (seen view) e ∙ inserted_seen view old k v ∙ ap (insert_entry nat_cmp (seen view old) k) h

@@ -19,6 +19,22 @@ pub(crate) fn copied_reports(alloc: Global, reports: &[Report]) -> Result<Vec<Re
     Ok(copies)
 }
 
+/// Puts a copy of the reports at the language.
+pub(crate) fn copy_at(
+    alloc: Global,
+    copies: &mut BTreeMap<LanguageType, Vec<Report>>,
+    language: LanguageType,
+    reports: &[Report],
+) -> Result<(), CountError>
+    ensures ok { OnOk result (children_of copies.new.entries
+        ≡ insert_entry nat_cmp (children_of copies.old.entries) language (map report_of reports.now)) }
+    ensures memory { IfErr result (λ e. e ≡ CountError.Memory) }
+{
+    let copy = copied_reports(alloc, reports)?;
+    let _old = copies.insert(language, copy)?;
+    Ok(())
+}
+
 /// A copy of each language's reports.
 pub(crate) fn copied_children(
     alloc: Global,
@@ -30,8 +46,7 @@ pub(crate) fn copied_children(
 {
     let mut copies = BTreeMap::new(alloc);
     for (language, reports) in children.iter() {
-        let copy = copied_reports(alloc, reports)?;
-        put(&mut copies, *language, copy)?;
+        copy_at(alloc, &mut copies, *language, reports)?;
     }
     Ok(copies)
 }
@@ -39,21 +54,6 @@ pub(crate) fn copied_children(
 ghost use Rattle.std.specs.Prelude.{[], ◌∷◌, OnOk};
 ghost use Rattle.std.specs.Ordering.{nat_cmp};
 ghost use Rattle.std.specs.BTreeMap.{insert_entry};
-
-/// Puts the reports at the language.
-pub(crate) fn put(
-    children: &mut BTreeMap<LanguageType, Vec<Report>>,
-    language: LanguageType,
-    reports: Vec<Report>,
-) -> Result<(), CountError>
-    ensures ok { OnOk result (children.new.entries
-        ≡ insert_entry nat_cmp children.old.entries language reports) }
-    ensures memory { IfErr result (λ e. e ≡ CountError.Memory) }
-{
-    let _old = children.insert(language, reports)?;
-    Ok(())
-}
-
 ghost use Rattle.tokei_stats.specs.Seen.{blobs_of, entries_of, stats_of};
 ghost use Rattle.tokei_languages.specs.Merging.{blob_reports};
 
@@ -72,6 +72,24 @@ fn blob_report(alloc: Global, name: &String, stats: &CodeStats) -> Result<Vec<Re
     Ok(reports)
 }
 
+/// Puts one report of this name and these statistics at the language.
+fn report_at(
+    alloc: Global,
+    children: &mut BTreeMap<LanguageType, Vec<Report>>,
+    language: LanguageType,
+    name: &String,
+    stats: &CodeStats,
+) -> Result<(), CountError>
+    ensures ok { OnOk result (children_of children.new.entries
+        ≡ insert_entry nat_cmp (children_of children.old.entries) language
+        (record { name = string_bytes name.now; stats = stats_of stats.now } ∷ [])) }
+    ensures memory { IfErr result (λ e. e ≡ CountError.Memory) }
+{
+    let reports = blob_report(alloc, name, stats)?;
+    let _old = children.insert(language, reports)?;
+    Ok(())
+}
+
 /// A report of this name for each blob.
 pub(crate) fn blob_reports(
     alloc: Global,
@@ -84,8 +102,7 @@ pub(crate) fn blob_reports(
 {
     let mut children = BTreeMap::new(alloc);
     for (language, stats) in blobs.iter() {
-        let reports = blob_report(alloc, name, stats)?;
-        put(&mut children, *language, reports)?;
+        report_at(alloc, &mut children, *language, name, stats)?;
     }
     Ok(children)
 }

@@ -54,23 +54,27 @@ impl Language {
     }
 }
 
-/// Puts the language.
-fn put(
-    languages: &mut BTreeMap<LanguageType, Language>,
+/// Puts the language, with its reports sorted.
+fn sort_at(
+    sort: Sort,
+    sorted: &mut BTreeMap<LanguageType, Language>,
     language: LanguageType,
-    value: Language,
+    mut value: Language,
 ) -> Result<(), CountError>
-    ensures ok { OnOk result (languages.new.entries
-        ≡ insert_entry nat_cmp languages.old.entries language value) }
+    ensures ok { OnOk result (entries_of sorted.new.entries
+        ≡ insert_entry nat_cmp (entries_of sorted.old.entries) language (sorted_by sort (language_of value))) }
     ensures memory { IfErr result (λ e. e ≡ CountError.Memory) }
 {
-    let _old = languages.insert(language, value)?;
+    value.sort_by(sort)?;
+    let _old = sorted.insert(language, value)?;
     Ok(())
 }
 
 ghost use Rattle.std.specs.Prelude.{IfErr, OnOk};
 ghost use Rattle.std.specs.Ordering.{nat_cmp};
 ghost use Rattle.std.specs.BTreeMap.{insert_entry};
+ghost use Rattle.tokei_languages.specs.Seen.{entries_of, language_of};
+ghost use Rattle.tokei_languages.specs.Sorting.{sorted_by};
 
 impl Languages {
     ghost use Rattle.std.specs.Prelude.{◌≡◌, IfOk, IfErr};
@@ -85,9 +89,8 @@ impl Languages {
     {
         let Languages { languages, alloc } = self;
         let mut sorted = BTreeMap::new(alloc);
-        for (language, mut value) in languages {
-            value.sort_by(sort)?;
-            put(&mut sorted, language, value)?;
+        for (language, value) in languages {
+            sort_at(sort, &mut sorted, language, value)?;
         }
         Ok(Languages {
             languages: sorted,

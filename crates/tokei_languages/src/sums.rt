@@ -8,19 +8,8 @@ ghost use Rattle.tokei_languages.specs.Seen.{children_of, report_of};
 ghost use Rattle.tokei_languages.specs.Summaries.{children_summary, reports_summary};
 
 use std::collections::BTreeMap;
-use tokei_stats::{CodeStats, CountError, Report, Sums};
+use tokei_stats::{CountError, Report, Sums};
 use tokei_table::LanguageType;
-
-/// The own counts of these statistics.
-fn own_counts(stats: &CodeStats) -> Sums
-    ensures { sums_of result ≡ counts_of stats.now }
-{
-    Sums {
-        blanks: stats.blanks,
-        code: stats.code,
-        comments: stats.comments,
-    }
-}
 
 /// The own counts of the reports, added up.
 pub(crate) fn own_sums(reports: &[Report]) -> Result<Sums, CountError>
@@ -30,7 +19,7 @@ pub(crate) fn own_sums(reports: &[Report]) -> Result<Sums, CountError>
 {
     let mut sums = Sums::new();
     for report in reports {
-        sums = sums.plus(own_counts(&report.stats))?;
+        sums = sums.plus(report.stats.own_counts())?;
     }
     Ok(sums)
 }
@@ -45,8 +34,7 @@ fn add_summaries(sums: Sums, reports: &[Report]) -> Result<Sums, CountError>
 {
     let mut more = sums;
     for report in reports {
-        let summary = report.stats.summarise()?;
-        more = more.plus(own_counts(&summary))?;
+        more = more.plus(report.stats.summary_counts()?)?;
     }
     Ok(more)
 }

@@ -4,7 +4,7 @@ ghost use Rattle.tokei_languages.specs.Renewing.{own_sum, renewed, renewed_langu
 ghost use Rattle.tokei_languages.specs.Seen.{entries_of, language_of};
 ghost use Rattle.tokei_stats.specs.Overflow.{CountsFit};
 
-use crate::copies::{copied_reports, put};
+use crate::copies::copy_at;
 use crate::language::Language;
 use crate::languages::Languages;
 use crate::sums::own_sums;
@@ -103,8 +103,7 @@ impl Languages {
     {
         let mut copies = BTreeMap::new(self.alloc);
         for (language, value) in self.languages.iter() {
-            let copy = copied_reports(self.alloc, &value.reports)?;
-            put(&mut copies, *language, copy)?;
+            copy_at(self.alloc, &mut copies, *language, &value.reports)?;
         }
         Ok(copies)
     }

@@ -1,6 +1,5 @@
 //! The rows of a file that holds other languages.
 use crate::cells::number_cells;
-use crate::counts::own_counts;
 use crate::layout::Layout;
 use crate::names::name_of;
 use std::alloc::{AllocError, Global};
@@ -57,7 +56,7 @@ impl Layout {
         ensures overflow { IsErrOf result CountError.Overflow → ¬ LinesFit (counts_of stats.now) }
     {
         let section = self.name_section(alloc, inaccurate, name, " |-")?;
-        let cells = number_cells(alloc, self.format, own_counts(stats))?;
+        let cells = number_cells(alloc, self.format, stats.own_counts())?;
         let (section, cells) = (section.as_str(), cells.as_str());
         Ok(format!(in alloc; "{section}         {cells}\n")?)
     }

@@ -1,4 +1,4 @@
-//! The counts of a row: those of statistics, and how many files have them.
+//! The counts of a row, and how many files have them.
 ghost use Rattle.std.specs.Prelude.{◌≡◌, IfOk, IsErrOf, OnOk, string_bytes};
 ghost use Rattle.tokei_stats.specs.Seen.{counts_of, sums_of};
 ghost use Rattle.tokei_layout.specs.FilesAndCounts.{files_and_counts};
@@ -7,19 +7,8 @@ ghost use Rattle.tokei_styles.specs.Grouping.{separator_text};
 
 use crate::cells::number_cells;
 use std::alloc::Global;
-use tokei_stats::{CodeStats, CountError, Sums};
+use tokei_stats::{CountError, Sums};
 use tokei_styles::NumberFormat;
-
-/// The own counts of these statistics.
-pub fn own_counts(stats: &CodeStats) -> Sums
-    ensures { sums_of result ≡ counts_of stats.now }
-{
-    Sums {
-        blanks: stats.blanks,
-        code: stats.code,
-        comments: stats.comments,
-    }
-}
 
 /// How many files, and their counts. `Overflow` exactly where the lines pass the greatest `usize`.
 #[tactic(auto, using(crate::proofs::Padding::styled_right))]

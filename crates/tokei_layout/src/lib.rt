@@ -13,7 +13,7 @@ mod names;
 pub mod stream_rows;
 mod subtotal;
 
-pub use counts::{files_and_counts, own_counts};
+pub use counts::files_and_counts;
 pub use error::PrintError;
 pub use layout::Layout;
 pub use names::name_of;

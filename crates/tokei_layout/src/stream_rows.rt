@@ -6,7 +6,6 @@ ghost use Rattle.tokei_stats.specs.Seen.{counts_of, sums_of};
 ghost use Rattle.tokei_layout.specs.Printing.{faults_after_printing};
 ghost use Rattle.tokei_layout.specs.StreamRows.{stream_heading, stream_row};
 
-use crate::counts::own_counts;
 use crate::error::PrintError;
 use std::alloc::{AllocError, Global};
 use tokei_io::Sink;
@@ -56,7 +55,7 @@ fn stream_row(alloc: Global, language: &str, report: &Report) -> Result<String, 
     ensures { IfOk result (λ s. string_bytes s
         ≡ stream_row language.now (string_bytes report.now.name) (counts_of report.now.stats)) }
 {
-    let cells = plain_cells(alloc, own_counts(&report.stats))?;
+    let cells = plain_cells(alloc, report.stats.own_counts())?;
     let (path, cells) = (report.name.as_str(), cells.as_str());
     format!(in alloc; "{language:>10} {path:<80}{cells}\n")
 }

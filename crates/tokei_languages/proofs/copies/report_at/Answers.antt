@@ -1,0 +1,8 @@
+use Rattle.tokei_languages.specs.Seen.{reports_of}
+use Rattle.tokei_languages.proofs.Copying.{put_seen}
+use Rattle.tokei_languages.proofs.copies.report_at.Goals as goal
+
+pub returns-clause-ok : goal.returns-clause-ok
+returns-clause-ok c =
+    put_seen reports_of c.args.children.now.entries c.insert.new.self.entries c.args.language c.in_ok-reports.reports _
+    c.in_ok-_old.ensures.entries c.in_ok-reports.ensures.ok
