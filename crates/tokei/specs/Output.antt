@@ -9,7 +9,7 @@ use Rattle.tokei_table.specs.Row.{Row}
 use Rattle.tokei_job.specs.declared.job.Job.{Job}
 use Rattle.tokei_job.specs.declared.job.Wanted.{Wanted}
 use Rattle.tokei_job.specs.declared.job.Wanted.TheVariants.{Stream, Document, Table}
-use Rattle.tokei_output.specs.Reports.{AppendsTable}
+use Rattle.tokei_output.specs.Written.{AppendsTable}
 use Rattle.tokei.specs.Runs.{counting_of, files_of, languages_after}
 use Rattle.tokei.specs.Streams.{stream_text}
 

@@ -11,8 +11,8 @@ use Rattle.tokei_job.specs.declared.job.Job.{Job}
 use Rattle.tokei_job.specs.declared.job.Wanted.{Wanted}
 use Rattle.tokei_job.specs.declared.job.Wanted.TheVariants.{Stream, Document, Table}
 use Rattle.tokei_job.specs.Earlier.{earlier_of}
-use Rattle.tokei_output.specs.Reports.{sort_of}
-use Rattle.tokei_output.specs.Sums.{TableFits}
+use Rattle.tokei_output.specs.Written.{sort_of, style_of}
+use Rattle.tokei_report.specs.Sums.{TableFits}
 use Rattle.tokei.specs.Runs.{counting_of, files_of, languages_after}
 
 -- the readings of a job's files fit, and the renewed counts of all languages
@@ -27,7 +27,7 @@ pub record DocumentFits (rows : List Row) (job : Job) (t : Tree) : Type 0 where
 -- those of a run that writes a report
 pub record RunTableFits (rows : List Row) (job : Job) (t : Tree) : Type 0 where
   pub tally : TallyFits rows job t
-  pub table : TableFits (sort_of job) job (languages_after rows job t)
+  pub table : TableFits (sort_of job) (style_of job) (languages_after rows job t)
 
 -- those of a stream: the readings, and the renewed counts of earlier results. Its rows show exact sums
 pub record StreamFits (rows : List Row) (job : Job) (t : Tree) : Type 0 where

@@ -29,23 +29,35 @@ enum Left {
     Wrong,
 }
 
-/// Earlier lines of C, and the languages of so many of the tree's first files, counts not renewed.
-fn first_files(alloc: Global, few: Few, count: usize) -> Result<Languages, CountError> {
+/// Earlier lines of C.
+fn earlier_lines(alloc: Global, few: Few) -> Result<Languages, CountError> {
     let mut earlier = Language::new(alloc);
     earlier.code = 5;
     let mut languages = Languages::new(alloc);
     let _none = languages.insert(few.c, earlier)?;
-    if count >= 1 {
-        languages.add_report(few.c, report(alloc, "./a.c", (0, 1, 0))?)?;
+    Ok(languages)
+}
+
+/// Adds what the file at this place among the tree's first four counts as, or marks its language.
+fn add_file(
+    alloc: Global,
+    few: Few,
+    place: usize,
+    languages: &mut Languages,
+) -> Result<(), CountError> {
+    match place {
+        0 => languages.add_report(few.c, report(alloc, "./a.c", (0, 1, 0))?),
+        1 => languages.mark_inaccurate(few.c),
+        2 => languages.add_report(few.markdown, report_of_markdown(alloc, few, "./d/e.md")?),
+        _ => languages.add_report(few.rust, report(alloc, "./main.rs", (0, 1, 0))?),
     }
-    if count >= 2 {
-        languages.mark_inaccurate(few.c)?;
-    }
-    if count >= 3 {
-        languages.add_report(few.markdown, report_of_markdown(alloc, few, "./d/e.md")?)?;
-    }
-    if count >= 4 {
-        languages.add_report(few.rust, report(alloc, "./main.rs", (0, 1, 0))?)?;
+}
+
+/// Earlier lines of C, and the languages of so many of the tree's first files, counts not renewed.
+fn first_files(alloc: Global, few: Few, count: usize) -> Result<Languages, CountError> {
+    let mut languages = earlier_lines(alloc, few)?;
+    for place in 0..count {
+        add_file(alloc, few, place, &mut languages)?;
     }
     Ok(languages)
 }
@@ -68,6 +80,50 @@ fn add_all<F: Folders>(
     Ok(())
 }
 
+/// Whether the languages are those of so many first files.
+fn are_first(
+    alloc: Global,
+    few: Few,
+    count: usize,
+    languages: &Languages,
+) -> Result<bool, CountError> {
+    Ok(*languages == first_files(alloc, few, count)?)
+}
+
+/// Whether the languages are those of all files, as the call leaves them.
+fn are_all(alloc: Global, few: Few, run: Run, languages: &Languages) -> Result<bool, CountError> {
+    let mut all = first_files(alloc, few, 4)?;
+    if let Run::Statistics = run {
+        all.renew_counts()?;
+    }
+    Ok(*languages == all)
+}
+
+/// Of how many first files the languages are.
+fn of_how_many(alloc: Global, few: Few, languages: &Languages) -> Result<Left, CountError> {
+    for count in [0, 1, 2, 3, 4] {
+        if are_first(alloc, few, count, languages)? {
+            return Ok(Left::First(count));
+        }
+    }
+    Ok(Left::Wrong)
+}
+
+/// What the languages behind a call are.
+fn left_behind(
+    alloc: Global,
+    few: Few,
+    run: Run,
+    ended: Result<(), CountError>,
+    languages: &Languages,
+) -> Result<Left, CountError> {
+    match ended {
+        Ok(()) if are_all(alloc, few, run, languages)? => Ok(Left::All),
+        Ok(()) | Err(CountError::Overflow) => Ok(Left::Wrong),
+        Err(CountError::Memory) => of_how_many(alloc, few, languages),
+    }
+}
+
 /// What the call leaves of earlier lines of C.
 fn left_by<F: Folders>(
     alloc: Global,
@@ -78,39 +134,25 @@ fn left_by<F: Folders>(
     let Some(few) = few_of(table) else {
         return Ok(Left::Wrong);
     };
-    let mut languages = first_files(alloc, few, 0)?;
-    match add_all(run, table, folders, &mut languages) {
-        Ok(()) => {
-            let mut all = first_files(alloc, few, 4)?;
-            if let Run::Statistics = run {
-                all.renew_counts()?;
-            }
-            if languages == all {
-                return Ok(Left::All);
-            }
-        }
-        Err(CountError::Memory) => {
-            for count in [0, 1, 2, 3, 4] {
-                if languages == first_files(alloc, few, count)? {
-                    return Ok(Left::First(count));
-                }
-            }
-        }
-        Err(CountError::Overflow) => {}
-    }
-    Ok(Left::Wrong)
+    let mut languages = earlier_lines(alloc, few)?;
+    let ended = add_all(run, table, folders, &mut languages);
+    left_behind(alloc, few, run, ended, &languages)
+}
+
+/// What the call leaves over folders that fail behind so many calls.
+fn left_after(alloc: Global, run: Run, table: &LanguageTable, passes: u64) -> Result<Left, Fail> {
+    let mut folders = FailingFolders::new(tree(alloc)?, passes);
+    Ok(left_by(alloc, run, table, &mut folders)?)
 }
 
 #[test]
 fn each_call_of_folders_that_fails_leaves_the_first_files(rt: HostRuntime) -> Result<(), Fail> {
-    let alloc = rt.alloc();
-    let table = few_languages(alloc)?;
+    let table = few_languages(rt.alloc())?;
     for run in [Run::AllFiles, Run::Statistics] {
         let mut most = 0_usize;
         let mut ended = false;
         for passes in 0..200 {
-            let mut folders = FailingFolders::new(tree(alloc)?, passes);
-            match left_by(alloc, run, &table, &mut folders)? {
+            match left_after(rt.alloc(), run, &table, passes)? {
                 Left::All => {
                     ended = true;
                     break;

@@ -1,5 +1,3 @@
--- What contracts say of a report and of a stream's rows.
-pub mod Reports
+-- What contracts say of a run's report and of a stream's rows.
 pub mod Rows
-pub mod Sorted
-pub mod Sums
+pub mod Written

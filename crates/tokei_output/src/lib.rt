@@ -2,10 +2,8 @@
 //! of its files.
 #![tactic(auto)]
 
-pub mod report;
 pub mod rows;
 pub mod writing;
 
-pub use report::table_text;
 pub use rows::{Rows, write_heading, write_row};
 pub use writing::{put_document, put_table};

@@ -7,15 +7,15 @@ ghost use Rattle.tokei_languages.specs.Seen.{languages_of};
 ghost use Rattle.tokei_languages.specs.Summaries.{languages_summary};
 ghost use Rattle.tokei_stats.specs.Overflow.{CountsFit};
 ghost use Rattle.tokei_job.specs.declared.error.RunError.TheVariants.{Overflow as SumOverflow, Write as WriteFault};
-ghost use Rattle.tokei_output.specs.Reports.{sort_of, AppendsTable};
-ghost use Rattle.tokei_output.specs.Sums.{TableFits};
+ghost use Rattle.tokei_output.specs.Written.{sort_of, style_of, AppendsTable};
+ghost use Rattle.tokei_report.specs.Sums.{TableFits};
 
-use crate::report::table_text;
 use std::alloc::Global;
 use tokei_format::Format;
 use tokei_io::Sink;
 use tokei_job::{Job, RunError};
 use tokei_languages::Languages;
+use tokei_report::{ReportStyle, table_text};
 use tokei_table::LanguageTable;
 
 /// Puts a text behind what stands in the writer. Of what was written nothing is said where the writer had a fault.
@@ -55,6 +55,20 @@ pub fn put_document<W: Sink>(
     put(writer, text.as_bytes())
 }
 
+/// How a job's report is laid out and sorted.
+fn style_of(job: &Job) -> ReportStyle
+    ensures { result ≡ style_of job.now }
+{
+    ReportStyle {
+        columns: job.columns,
+        files: job.files,
+        compact: job.compact,
+        sort: job.sort.or(job.config.sort),
+        reverse: job.reverse,
+        numbers: job.numbers,
+    }
+}
+
 /// Puts the report of languages behind what stands in the writer, sorted where the job or its configuration says so.
 /// Where memory runs out, or a sum passes the greatest `usize`, nothing is written.
 pub fn put_table<W: Sink>(
@@ -67,13 +81,13 @@ pub fn put_table<W: Sink>(
     ensures bytes { OnOk result (AppendsTable table.now job.now (languages_of languages)
         (W.contents writer.old) (W.contents writer.new)) }
     ensures overflow { result ≡ Err SumOverflow
-        → ¬ TableFits (sort_of job.now) job.now (languages_of languages) }
+        → ¬ TableFits (sort_of job.now) (style_of job.now) (languages_of languages) }
     ensures untouched { IfErr result (λ e. e ≢ WriteFault → W.contents writer.new ≡ W.contents writer.old) }
     ensures fault { W.faults writer.old < u64.MAX → result ≡ Err WriteFault
         → W.faults writer.old < W.faults writer.new }
     ensures no_fault { W.faults writer.old < u64.MAX → result ≢ Err WriteFault
         → W.faults writer.new ≡ W.faults writer.old }
 {
-    let text = table_text(alloc, table, job, languages)?;
+    let text = table_text(alloc, table, style_of(job), languages)?;
     put(writer, &text)
 }

@@ -12,7 +12,7 @@ ghost use Rattle.tokei_print.specs.Fitting.{ChildrenBlockFits, ChildrenFit};
 use std::alloc::Global;
 use std::collections::BTreeMap;
 use tokei_languages::Language;
-use tokei_layout::{Layout, files_and_counts, name_of, own_counts};
+use tokei_layout::{Layout, files_and_counts, name_of};
 use tokei_stats::{CountError, Report, Sums};
 use tokei_table::{LanguageTable, LanguageType};
 
@@ -24,8 +24,7 @@ fn summaries(reports: &[Report]) -> Result<Sums, CountError>
 {
     let mut sums = Sums::new();
     for report in reports {
-        let summary = report.stats.summarise()?;
-        sums = sums.plus(own_counts(&summary))?;
+        sums = sums.plus(report.stats.summary_counts()?)?;
     }
     Ok(sums)
 }

@@ -10,7 +10,7 @@ ghost use Rattle.tokei_stats.specs.Seen.{blobs_of, entries_of};
 
 use std::alloc::{AllocError, Global};
 use std::collections::BTreeMap;
-use tokei_layout::{Layout, own_counts};
+use tokei_layout::Layout;
 use tokei_stats::{CodeStats, CountError, Report};
 use tokei_table::{LanguageTable, LanguageType};
 
@@ -84,8 +84,7 @@ fn file_block(
         language.inaccurate,
         &report.stats.blobs,
     )?;
-    let summary = report.stats.summarise()?;
-    let subtotal = layout.subtotal(alloc, "|- (Total)", own_counts(&summary))?;
+    let subtotal = layout.subtotal(alloc, "|- (Total)", report.stats.summary_counts()?)?;
     let (line, own) = (line.as_str(), own.as_str());
     let (blobs, subtotal) = (blobs.as_str(), subtotal.as_str());
     Ok(format!(in alloc; "{line}{own}{blobs}{subtotal}")?)

@@ -32,10 +32,15 @@ fn listed(alloc: Global, table: &LanguageTable, compact: bool) -> Result<Page, F
     Ok(with_results(page, table, &[(markdown, value)], compact, compact)?)
 }
 
+/// Whether these are their rows.
+fn are_rows(alloc: Global, table: &LanguageTable, compact: bool, rows: &str) -> Result<bool, Fail> {
+    let page = listed(alloc, table, compact)?;
+    shows(alloc, page, rows)
+}
+
 #[test]
 fn listed_files(rt: HostRuntime) -> Result<(), Fail> {
     let table = table(rt.alloc())?;
-    let page = listed(rt.alloc(), &table, false)?;
     let rows = " Markdown                  4            8            0            6            2
  |- Rust                   2            5            5            0            0
  (Total)                               13            5            6            2
@@ -51,8 +56,7 @@ fn listed_files(rt: HostRuntime) -> Result<(), Fail> {
  |- Rust                                1            1            0            0
  |- (Total)                             2            1            1            0
 ";
-    assert!(rt; shows(rt.alloc(), page, rows)?);
-    let page = listed(rt.alloc(), &table, true)?;
+    assert!(rt; are_rows(rt.alloc(), &table, false, rows)?);
     let rows = " Markdown                  4            8            0            6            2
 -
  ./b.md                                 1            0            1            0
@@ -60,6 +64,6 @@ fn listed_files(rt: HostRuntime) -> Result<(), Fail> {
  ./a.md                                 3            0            1            2
  ./a.md                                 3            0            3            0
 ";
-    assert!(rt; shows(rt.alloc(), page, rows)?);
+    assert!(rt; are_rows(rt.alloc(), &table, true, rows)?);
     Ok(())
 }

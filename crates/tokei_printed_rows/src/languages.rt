@@ -17,31 +17,40 @@ fn marked(alloc: Global, c: LanguageType, counted: bool) -> Result<Languages, Co
     Ok(languages)
 }
 
+/// The header, or the note in its place.
+fn begun(alloc: Global, header: bool) -> Result<Page, PrintError> {
+    let mut page = page(alloc, false, NumberFormatStyle::Plain)?;
+    if header {
+        page.print_header()?;
+    } else {
+        page.print_inaccuracy_warning()?;
+    }
+    Ok(page)
+}
+
+/// Whether these rows are shown of C alone, which is marked: where it has a file, behind the header, else behind the note.
+fn is_shown(alloc: Global, table: &LanguageTable, counted: bool, rows: &str) -> Result<bool, Fail> {
+    let c = key(table, "C")?;
+    let languages = marked(alloc, c, counted)?;
+    let page = with_total(begun(alloc, counted)?, table, c, &languages)?;
+    shows(alloc, page, rows)
+}
+
 #[test]
 fn a_marked_language_without_a_file(rt: HostRuntime) -> Result<(), Fail> {
     let table = table(rt.alloc())?;
-    let c = key(&table, "C")?;
-    let languages = marked(rt.alloc(), c, false)?;
-    let mut page = page(rt.alloc(), false, NumberFormatStyle::Plain)?;
-    page.print_inaccuracy_warning()?;
-    let page = with_total(page, &table, c, &languages)?;
     let rows = "Note: results can be inaccurate for languages marked with '(!)'
 =
  Total          (!)        0            0            0            0            0
 =
 ";
-    assert!(rt; shows(rt.alloc(), page, rows)?);
+    assert!(rt; is_shown(rt.alloc(), &table, false, rows)?);
     Ok(())
 }
 
 #[test]
 fn inaccurate_languages(rt: HostRuntime) -> Result<(), Fail> {
     let table = table(rt.alloc())?;
-    let c = key(&table, "C")?;
-    let languages = marked(rt.alloc(), c, true)?;
-    let mut page = page(rt.alloc(), false, NumberFormatStyle::Plain)?;
-    page.print_header()?;
-    let page = with_total(page, &table, c, &languages)?;
     let rows = "=
  Language              Files        Lines         Code     Comments       Blanks
 =
@@ -50,7 +59,7 @@ fn inaccurate_languages(rt: HostRuntime) -> Result<(), Fail> {
  Total          (!)        1            1            1            0            0
 =
 ";
-    assert!(rt; shows(rt.alloc(), page, rows)?);
+    assert!(rt; is_shown(rt.alloc(), &table, true, rows)?);
     Ok(())
 }
 
@@ -93,10 +102,15 @@ fn two_with_others_inside(
     )?)
 }
 
+/// Whether these are their rows.
+fn are_rows(alloc: Global, table: &LanguageTable, compact: bool, rows: &str) -> Result<bool, Fail> {
+    let page = two_with_others_inside(alloc, table, compact)?;
+    shows(alloc, page, rows)
+}
+
 #[test]
 fn subtotals(rt: HostRuntime) -> Result<(), Fail> {
     let table = table(rt.alloc())?;
-    let page = two_with_others_inside(rt.alloc(), &table, false)?;
     let rows = " Markdown                  0        1,355            0        1,074          281
  |- C                      1           41           41            0            0
  |- Python                 1           22           18            0            4
@@ -107,11 +121,10 @@ fn subtotals(rt: HostRuntime) -> Result<(), Fail> {
  |- Markdown               1          351            5          295           51
  (Total)                            3,767        2,845          411          511
 ";
-    assert!(rt; shows(rt.alloc(), page, rows)?);
-    let page = two_with_others_inside(rt.alloc(), &table, true)?;
+    assert!(rt; are_rows(rt.alloc(), &table, false, rows)?);
     let rows = " Markdown                  0        1,355            0        1,074          281
  Rust                      0        3,416        2,840          116          460
 ";
-    assert!(rt; shows(rt.alloc(), page, rows)?);
+    assert!(rt; are_rows(rt.alloc(), &table, true, rows)?);
     Ok(())
 }

@@ -1,6 +1,6 @@
 //! Names in their places, numbers in groups, and the words for them.
 use crate::languages::large;
-use crate::pages::{bytes, page, shows};
+use crate::pages::{Page, bytes, page, shows};
 use std::alloc::Global;
 use std::test::Fail;
 use tokei_print::{NumberFormatStyle, PrintError, Streaming, StreamingError, StyleError};
@@ -45,11 +45,17 @@ fn names(rt: HostRuntime) -> Result<(), Fail> {
     Ok(())
 }
 
+/// The row of a language of so many lines of code.
+fn of_code(alloc: Global, code: usize) -> Result<Page, PrintError> {
+    let language = large(alloc, (0, code, 0), &[])?;
+    let mut page = page(alloc, false, NumberFormatStyle::Commas)?;
+    page.print_language(&language, "C")?;
+    Ok(page)
+}
+
 #[test]
 fn a_row_of_large_numbers(rt: HostRuntime) -> Result<(), Fail> {
-    let language = large(rt.alloc(), (0, 1_234_567, 0), &[])?;
-    let mut page = page(rt.alloc(), false, NumberFormatStyle::Commas)?;
-    page.print_language(&language, "C")?;
+    let page = of_code(rt.alloc(), 1_234_567)?;
     let row = " C                         0    1,234,567    1,234,567            0            0\n";
     assert!(rt; shows(rt.alloc(), page, row)?);
     Ok(())

@@ -79,6 +79,31 @@ fn other(alloc: Global, words: &[&str], written: Written<'_>) -> Result<Option<S
     unlike(alloc, ran, written)
 }
 
+/// The status of the program over the bench table and `src/main.rs`.
+fn status_of(alloc: Global, words: &[&str]) -> Result<u8, Fail> {
+    Ok(ran(alloc, words)?.status)
+}
+
+/// Whether the program refuses the words with status 2 and writes only what is wrong, with this text in it.
+fn is_refused(alloc: Global, words: &[&str], named: &str) -> Result<bool, Fail> {
+    let ran = ran(alloc, words)?;
+    Ok(ran.status == 2 && ran.out.is_empty() && ran.err.as_str().contains(named))
+}
+
+/// Whether the program ends well, writes nothing on standard error, and a text that begins so and has the second in it.
+fn shows(alloc: Global, words: &[&str], begin: &str, inside: &str) -> Result<bool, Fail> {
+    let ran = ran(alloc, words)?;
+    let out = ran.out.as_str();
+    Ok(ran.status == 0 && ran.err.is_empty() && out.starts_with(begin) && out.contains(inside))
+}
+
+/// Whether the program ends with status 1 and no output where there is no table.
+fn without_a_table(alloc: Global) -> Result<bool, Fail> {
+    let mut folders = MemoryFolders::new(alloc);
+    let ran = ran_in(alloc, &mut folders, "", &["tokei"])?;
+    Ok(ran.status == 1 && ran.out.is_empty())
+}
+
 const NONE: &str =
     r#"{"Total":{"blanks":0,"children":{},"code":0,"comments":0,"inaccurate":false,"reports":[]}}"#;
 
@@ -150,12 +175,9 @@ fn streams(rt: HostRuntime) -> Result<(), Fail> {
     let line =
         r#"{"language":"Rust","stats":{"name":"src/main.rs","stats":{"blanks":0,"blobs":{},"code":1,"comments":0}}}"#;
     let expected = format!(in rt.alloc(); "{line}\n")?;
-    let ran = ran(
-        rt.alloc(),
-        &["tokei", "--streaming", "json", "-o", "json", "src"],
-    )?;
-    assert_eq!(rt; ran.out.as_str(), expected.as_str());
-    assert_eq!(rt; ran.status, 0);
+    let words = ["tokei", "--streaming", "json", "-o", "json", "src"];
+    let found = other(rt.alloc(), &words, (0, expected.as_str(), ""))?;
+    assert_eq!(rt; found, None);
     Ok(())
 }
 
@@ -164,10 +186,8 @@ fn help_and_version(rt: HostRuntime) -> Result<(), Fail> {
     let version = "tokei 15.0.0 compiled with serialization support: json\n";
     let found = other(rt.alloc(), &["tokei", "--version"], (0, version, ""))?;
     assert_eq!(rt; found, None);
-    let help = ran(rt.alloc(), &["tokei", "--help"])?;
-    assert!(rt; help.out.as_str().contains("--num-format"));
-    assert_eq!(rt; help.err.as_str(), "");
-    assert_eq!(rt; help.status, 0);
+    let shown = shows(rt.alloc(), &["tokei", "--help"], "", "--num-format")?;
+    assert!(rt; shown);
     Ok(())
 }
 
@@ -189,10 +209,8 @@ fn command_lines_that_are_refused(rt: HostRuntime) -> Result<(), Fail> {
         (["tokei", "-c", "wide"].as_slice(), "wide"),
         (["tokei", "--nope"].as_slice(), "--nope"),
     ] {
-        let ran = ran(rt.alloc(), words)?;
-        assert_eq!(rt; ran.status, 2, "at {words:?}");
-        assert_eq!(rt; ran.out.as_str(), "", "at {words:?}");
-        assert!(rt; ran.err.as_str().contains(named), "at {words:?}");
+        let refused = is_refused(rt.alloc(), words, named)?;
+        assert!(rt; refused, "at {words:?}");
     }
     Ok(())
 }
@@ -246,24 +264,17 @@ fn earlier_results(rt: HostRuntime) -> Result<(), Fail> {
 
 #[test]
 fn listed_languages(rt: HostRuntime) -> Result<(), Fail> {
-    let ran = ran(rt.alloc(), &["tokei", "-l"])?;
+    let heading = "Language                                 Extensions\n";
     let rust = "Rust                                     rs\n";
-    assert!(rt;
-        ran.out
-            .as_str()
-            .starts_with("Language                                 Extensions\n")
-    );
-    assert!(rt; ran.out.as_str().contains(rust));
-    assert_eq!(rt; ran.status, 0);
+    let shown = shows(rt.alloc(), &["tokei", "-l"], heading, rust)?;
+    assert!(rt; shown);
     Ok(())
 }
 
 #[test]
 fn no_table(rt: HostRuntime) -> Result<(), Fail> {
-    let mut folders = MemoryFolders::new(rt.alloc());
-    let ran = ran_in(rt.alloc(), &mut folders, "", &["tokei"])?;
-    assert_eq!(rt; ran.out.as_str(), "");
-    assert_eq!(rt; ran.status, 1);
+    let silent = without_a_table(rt.alloc())?;
+    assert!(rt; silent);
     Ok(())
 }
 
@@ -281,8 +292,8 @@ fn statuses(rt: HostRuntime) -> Result<(), Fail> {
         (["tokei", "-s", "size", "nope"].as_slice(), 2),
         (["tokei", "-i", "{}", "--nope"].as_slice(), 2),
     ] {
-        let ran = ran(rt.alloc(), words)?;
-        assert_eq!(rt; ran.status, status, "at {words:?}");
+        let found = status_of(rt.alloc(), words)?;
+        assert_eq!(rt; found, status, "at {words:?}");
     }
     Ok(())
 }

@@ -5,10 +5,10 @@ use Rattle.tokei_languages.specs.Seen.{language_of, languages_of}
 use Rattle.tokei_languages.specs.Values.{LanguageValue}
 use Rattle.tokei_languages.specs.declared.language.Language.{Language}
 use Rattle.tokei_print.specs.Listed.{languages_in}
-use Rattle.tokei_output.proofs.Sorting.{map-reverse}
-use Rattle.tokei_output.specs.Sorted.{languages_sorted}
-use Rattle.tokei_output.proofs.report.in_list_order.Goals as goal
-use Rattle.tokei_output.proofs.report.in_list_order.Goals.{then-reversed, else-reversed}
+use Rattle.tokei_report.proofs.Sorting.{map-reverse}
+use Rattle.tokei_report.specs.Sorted.{languages_sorted}
+use Rattle.tokei_report.proofs.order.in_list_order.Goals as goal
+use Rattle.tokei_report.proofs.order.in_list_order.Goals.{then-reversed, else-reversed}
 
 pub returns : goal.returns
 returns c =

@@ -9,9 +9,9 @@ use Rattle.tokei_languages.specs.Seen.{language_of}
 use Rattle.tokei_languages.specs.Sorting.{stably_sorted}
 use Rattle.tokei_languages.specs.Values.{LanguageValue}
 use Rattle.tokei_languages.specs.declared.language.Language.{Language}
-use Rattle.tokei_output.proofs.Sorting.{languages_rank}
-use Rattle.tokei_output.specs.Sorted.{language_goes_first}
-use Rattle.tokei_output.proofs.report.sorted.Goals as goal
+use Rattle.tokei_report.proofs.Sorting.{languages_rank}
+use Rattle.tokei_report.specs.Sorted.{language_goes_first}
+use Rattle.tokei_report.proofs.order.sorted.Goals as goal
 
 pub returns : goal.returns
 returns c =

@@ -1,8 +1,8 @@
-use Rattle.std.proofs.Common.{ap, ◌∙◌, is_some}
+use Rattle.std.proofs.Common.{ap, ◌∙◌}
 use Rattle.tokei_languages.specs.Seen.{languages_of}
 use Rattle.tokei_print.specs.Listed.{languages_in}
-use Rattle.tokei_output.proofs.Reports.{report_of_steps}
-use Rattle.tokei_output.proofs.report.shown.Goals as goal
+use Rattle.tokei_report.proofs.Reports.{report_of_steps}
+use Rattle.tokei_report.proofs.report.printed.Goals as goal
 
 pub returns-clause-text : goal.returns-clause-text
 returns-clause-text c = record {
@@ -10,7 +10,7 @@ returns-clause-text c = record {
   columns = c.in_ok-printer.ensures.columns ∙ c.columns.ensures.value;
   files = c.in_ok-printer.ensures.files;
   format = ap (λ f. f.separator) c.in_ok-printer.ensures.format ∙ c.get_format-format.ensures;
-  shown = report_of_steps c.args.table.now c.args.job.now
+  shown = report_of_steps c.args.table.now c.args.style
       (languages_in c.args.listed.now) (languages_of c.args.languages.now)
       c.in_ok-printer.printer.layout c.warn.new.printer.layout
       c.print_header.new.self.layout c.print_results.new.self.layout c.is_some-sorted.result
@@ -20,7 +20,7 @@ returns-clause-text c = record {
       (ap (λ w. w.inner.items) c.in_ok-printer.ensures.writer ∙ ap (λ v. v.items) c.new-buffer.ensures.inner
       ∙ c.new.ensures.items)
       c.in_ok-warn.ensures.layout c.in_ok-print_header.ensures.layout c.in_ok-print_results.ensures.layout
-      (c.is_some-sorted.ensures ∙ ap is_some c.sort_of.ensures)
+      c.is_some-sorted.ensures
       c.in_ok-warn.ensures.bytes c.in_ok-print_header.ensures.bytes
       c.in_ok-print_results.ensures.bytes c.in_ok-print_total.ensures.bytes;
 }

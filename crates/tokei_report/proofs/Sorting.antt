@@ -5,7 +5,7 @@ use Rattle.std.specs.Cmp.{IsStrictWeakOrder}
 use Rattle.std.proofs.lemmas.List.Sorted.{IsStrictWeakOrder-flip, IsStrictWeakOrder-by_number}
 use Rattle.tokei_languages.specs.Values.{LanguageValue}
 use Rattle.tokei_options.specs.declared.sort.Sort.{Sort}
-use Rattle.tokei_output.specs.Sorted.{count_of, language_goes_first}
+use Rattle.tokei_report.specs.Sorted.{count_of, language_goes_first}
 
 pub languages_rank : (sort : Sort) → IsStrictWeakOrder (λ (a b : ℕ × LanguageValue). language_goes_first sort a.1 b.1)
 languages_rank sort =
