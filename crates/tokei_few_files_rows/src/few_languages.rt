@@ -61,11 +61,15 @@ pub fn report(
     Ok(report)
 }
 
-/// The report of the tree's `e.md` under a name.
-pub fn report_of_markdown(alloc: Global, few: Few, name: &str) -> Result<Report, AllocError> {
+/// The report of the tree's `e.md` under a name; the language inside is Rust.
+pub fn report_of_markdown(
+    alloc: Global,
+    rust: LanguageType,
+    name: &str,
+) -> Result<Report, AllocError> {
     let mut report = report(alloc, name, (0, 0, 2))?;
     let mut inside = CodeStats::new(alloc);
     inside.code = 1;
-    let _none = report.stats.blobs.insert(few.rust, inside)?;
+    let _none = report.stats.blobs.insert(rust, inside)?;
     Ok(report)
 }

@@ -1,5 +1,5 @@
 //! What one file is: its language by its head, and its report, or its path where it has none.
-use crate::few_languages::{Few, few_languages, few_of, report_of_markdown, tree};
+use crate::few_languages::{few_languages, report_of_markdown, tree};
 use std::alloc::{AllocError, Global};
 use std::test::Fail;
 use tokei_config::Config;
@@ -187,9 +187,9 @@ fn a_head_alone_has_a_language(rt: HostRuntime) -> Result<(), Fail> {
 }
 
 /// Whether what `e.md` was counted as is its report, or memory ran out and its path came back.
-fn is_its_report(alloc: Global, few: Few, parsed: Parsed) -> bool {
+fn is_its_report(alloc: Global, rust: LanguageType, parsed: Parsed) -> bool {
     match parsed {
-        Ok(report) => match report_of_markdown(alloc, few, "d/e.md") {
+        Ok(report) => match report_of_markdown(alloc, rust, "d/e.md") {
             Ok(expected) => report == expected,
             Err(AllocError) => true,
         },
@@ -201,28 +201,30 @@ fn is_its_report(alloc: Global, few: Few, parsed: Parsed) -> bool {
 fn parsed_markdown<F: Folders>(
     alloc: Global,
     table: &LanguageTable,
-    few: Few,
     folders: &mut F,
 ) -> Option<Parsed> {
     let path = String::from_str(alloc, "d/e.md").ok()?;
+    let Some(markdown) = LanguageType::from_name(table, "Markdown") else {
+        return Some(Err((ParseFault::Refused, path)));
+    };
     let counter = Counter::new(alloc, table).ok()?;
     let config = Config::new();
-    let parsed = parse_file(alloc, &counter, few.markdown, folders, path, &config);
+    let parsed = parse_file(alloc, &counter, markdown, folders, path, &config);
     Some(parsed)
 }
 
 /// Whether `e.md` has its report by a table of few languages, or memory runs out and its path comes back; memory that runs
 /// out elsewhere is fine too.
 fn has_its_report(alloc: Global, table: &LanguageTable) -> bool {
-    let Some(few) = few_of(table) else {
+    let Some(rust) = LanguageType::from_name(table, "Rust") else {
         return false;
     };
     let mut folders = match tree(alloc) {
         Ok(folders) => folders,
         Err(fault) => return fault == Fault::Memory,
     };
-    match parsed_markdown(alloc, table, few, &mut folders) {
-        Some(parsed) => is_its_report(alloc, few, parsed),
+    match parsed_markdown(alloc, table, &mut folders) {
+        Some(parsed) => is_its_report(alloc, rust, parsed),
         None => true,
     }
 }

@@ -30,7 +30,7 @@ enum Left {
 }
 
 /// Earlier lines of C.
-fn earlier_lines(alloc: Global, few: Few) -> Result<Languages, CountError> {
+fn earlier_lines(alloc: Global, few: &Few) -> Result<Languages, CountError> {
     let mut earlier = Language::new(alloc);
     earlier.code = 5;
     let mut languages = Languages::new(alloc);
@@ -41,20 +41,23 @@ fn earlier_lines(alloc: Global, few: Few) -> Result<Languages, CountError> {
 /// Adds what the file at this place among the tree's first four counts as, or marks its language.
 fn add_file(
     alloc: Global,
-    few: Few,
+    few: &Few,
     place: usize,
     languages: &mut Languages,
 ) -> Result<(), CountError> {
     match place {
         0 => languages.add_report(few.c, report(alloc, "./a.c", (0, 1, 0))?),
         1 => languages.mark_inaccurate(few.c),
-        2 => languages.add_report(few.markdown, report_of_markdown(alloc, few, "./d/e.md")?),
+        2 => languages.add_report(
+            few.markdown,
+            report_of_markdown(alloc, few.rust, "./d/e.md")?,
+        ),
         _ => languages.add_report(few.rust, report(alloc, "./main.rs", (0, 1, 0))?),
     }
 }
 
 /// Earlier lines of C, and the languages of so many of the tree's first files, counts not renewed.
-fn first_files(alloc: Global, few: Few, count: usize) -> Result<Languages, CountError> {
+fn first_files(alloc: Global, few: &Few, count: usize) -> Result<Languages, CountError> {
     let mut languages = earlier_lines(alloc, few)?;
     for place in 0..count {
         add_file(alloc, few, place, &mut languages)?;
@@ -83,7 +86,7 @@ fn add_all<F: Folders>(
 /// Whether the languages are those of so many first files.
 fn are_first(
     alloc: Global,
-    few: Few,
+    few: &Few,
     count: usize,
     languages: &Languages,
 ) -> Result<bool, CountError> {
@@ -91,7 +94,7 @@ fn are_first(
 }
 
 /// Whether the languages are those of all files, as the call leaves them.
-fn are_all(alloc: Global, few: Few, run: Run, languages: &Languages) -> Result<bool, CountError> {
+fn are_all(alloc: Global, few: &Few, run: Run, languages: &Languages) -> Result<bool, CountError> {
     let mut all = first_files(alloc, few, 4)?;
     if let Run::Statistics = run {
         all.renew_counts()?;
@@ -100,8 +103,8 @@ fn are_all(alloc: Global, few: Few, run: Run, languages: &Languages) -> Result<b
 }
 
 /// Of how many first files the languages are.
-fn of_how_many(alloc: Global, few: Few, languages: &Languages) -> Result<Left, CountError> {
-    for count in [0, 1, 2, 3, 4] {
+fn of_how_many(alloc: Global, few: &Few, languages: &Languages) -> Result<Left, CountError> {
+    for count in 0..5 {
         if are_first(alloc, few, count, languages)? {
             return Ok(Left::First(count));
         }
@@ -112,7 +115,7 @@ fn of_how_many(alloc: Global, few: Few, languages: &Languages) -> Result<Left, C
 /// What the languages behind a call are.
 fn left_behind(
     alloc: Global,
-    few: Few,
+    few: &Few,
     run: Run,
     ended: Result<(), CountError>,
     languages: &Languages,
@@ -134,9 +137,9 @@ fn left_by<F: Folders>(
     let Some(few) = few_of(table) else {
         return Ok(Left::Wrong);
     };
-    let mut languages = earlier_lines(alloc, few)?;
+    let mut languages = earlier_lines(alloc, &few)?;
     let ended = add_all(run, table, folders, &mut languages);
-    left_behind(alloc, few, run, ended, &languages)
+    left_behind(alloc, &few, run, ended, &languages)
 }
 
 /// What the call leaves over folders that fail behind so many calls.
