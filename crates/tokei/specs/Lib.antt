@@ -1,5 +1,4 @@
 pub mod Runs
 pub mod Output
-pub mod Streams
 pub mod Sums
 pub mod Refused

@@ -4,7 +4,7 @@ use Rattle.std.specs.Prelude.{List, ⊤}
 use Rattle.tokei_folders.specs.Tree.{Tree}
 use Rattle.tokei_languages.specs.Renewing.{RenewalFits}
 use Rattle.tokei_languages.specs.Summaries.{languages_summary}
-use Rattle.tokei_statistics.specs.Runs.{ReadingsFit, RunFits}
+use Rattle.tokei_statistics.specs.Runs.{RunFits}
 use Rattle.tokei_stats.specs.Overflow.{CountsFit}
 use Rattle.tokei_table.specs.Row.{Row}
 use Rattle.tokei_job.specs.declared.job.Job.{Job}
@@ -13,7 +13,9 @@ use Rattle.tokei_job.specs.declared.job.Wanted.TheVariants.{Stream, Document, Ta
 use Rattle.tokei_job.specs.Earlier.{earlier_of}
 use Rattle.tokei_output.specs.Written.{sort_of, style_of}
 use Rattle.tokei_report.specs.Sums.{TableFits}
-use Rattle.tokei.specs.Runs.{counting_of, files_of, languages_after}
+use Rattle.tokei_stream.specs.Counted.{counting_of, files_of}
+use Rattle.tokei_stream.specs.JobStreams.{StreamFits}
+use Rattle.tokei.specs.Runs.{languages_after}
 
 -- the readings of a job's files fit, and the renewed counts of all languages
 abbrev pub TallyFits : List Row → Job → Tree → Type 0
@@ -28,11 +30,6 @@ pub record DocumentFits (rows : List Row) (job : Job) (t : Tree) : Type 0 where
 pub record RunTableFits (rows : List Row) (job : Job) (t : Tree) : Type 0 where
   pub tally : TallyFits rows job t
   pub table : TableFits (sort_of job) (style_of job) (languages_after rows job t)
-
--- those of a stream: the readings, and the renewed counts of earlier results. Its rows show exact sums
-pub record StreamFits (rows : List Row) (job : Job) (t : Tree) : Type 0 where
-  pub earlier : RenewalFits (earlier_of job.earlier)
-  pub readings : ReadingsFit (counting_of rows job) t (files_of job t)
 
 -- those of a run
 abbrev pub Fits : Wanted → List Row → Job → Tree → Type 0

@@ -4,7 +4,6 @@
 
 mod counting;
 pub mod running;
-mod stream;
 
 pub use running::run;
 pub use tokei_config::{Config, ConfigDirs, LanguageConfig};

@@ -7,13 +7,13 @@ ghost use Rattle.tokei.specs.Refused.{IsUntouched};
 ghost use Rattle.tokei.specs.Sums.{DocumentFits, EarlierFits, Fits, RunTableFits};
 
 use crate::counting::tally_of;
-use crate::stream::stream;
 use std::alloc::Global;
 use tokei_folders::Folders;
 use tokei_format::Format;
 use tokei_io::Sink;
 use tokei_job::{Job, RunError, Wanted};
-use tokei_output::{Rows, put_document, put_table};
+use tokei_output::{put_document, put_table};
+use tokei_stream::{Rows, stream};
 use tokei_table::LanguageTable;
 use tokei_walk::Note;
 

@@ -4,7 +4,9 @@
 pub mod earlier;
 pub mod error;
 pub mod job;
+pub mod writing;
 
 pub use earlier::earlier_languages;
 pub use error::RunError;
 pub use job::{Job, Wanted};
+pub use writing::put;

@@ -1,3 +1,2 @@
--- What contracts say of a run's report and of a stream's rows.
-pub mod Rows
+-- What contracts say of a run's report.
 pub mod Written

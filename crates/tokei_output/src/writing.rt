@@ -1,4 +1,4 @@
-//! What a run's writer is given: a text, the document of languages, or their printed report.
+//! What a run's writer is given: the document of languages, or their printed report.
 ghost use Rattle.std.specs.Prelude.{◌≡◌, ◌≢◌, ◌<◌, Err, IfErr, OnOk};
 ghost use Rattle.std.specs.Io.KnownBytes.{Appends};
 ghost use Rattle.serde_json.specs.Written.{compact_text};
@@ -13,26 +13,10 @@ ghost use Rattle.tokei_report.specs.Sums.{TableFits};
 use std::alloc::Global;
 use tokei_format::Format;
 use tokei_io::Sink;
-use tokei_job::{Job, RunError};
+use tokei_job::{Job, RunError, put};
 use tokei_languages::Languages;
 use tokei_report::{ReportStyle, table_text};
 use tokei_table::LanguageTable;
-
-/// Puts a text behind what stands in the writer. Of what was written nothing is said where the writer had a fault.
-pub(crate) fn put<W: Sink>(writer: &mut W, text: &[u8]) -> Result<(), RunError>
-    ensures bytes { OnOk result (Appends (W.contents writer.old) (W.contents writer.new) text.now) }
-    ensures fault { W.faults writer.old < u64.MAX → result ≡ Err WriteFault
-        → W.faults writer.old < W.faults writer.new }
-    ensures no_fault { W.faults writer.old < u64.MAX → result ≢ Err WriteFault
-        → W.faults writer.new ≡ W.faults writer.old }
-    ensures untouched { IfErr result (λ e. e ≢ WriteFault → W.contents writer.new ≡ W.contents writer.old) }
-    ensures overflow { result ≢ Err SumOverflow }
-{
-    match writer.put(text) {
-        Ok(()) => Ok(()),
-        Err(_) => Err(RunError::Write),
-    }
-}
 
 /// Puts the document of languages behind what stands in the writer. Where memory runs out, or a sum passes the
 /// greatest `usize`, nothing is written.

@@ -4,9 +4,9 @@ use Rattle.tokei_config.specs.Seen.{settings_of}
 use Rattle.tokei_count.specs.Seen.{docs_of}
 use Rattle.tokei_statistics.specs.Configs.{counting_by}
 use Rattle.tokei_statistics.specs.Runs.{Counting, ReadingsFit}
-use Rattle.tokei.specs.Runs.{files_of}
-use Rattle.tokei.specs.Streams.{stream_text}
-use Rattle.tokei.proofs.stream.stream.Goals as goal
+use Rattle.tokei_stream.specs.Counted.{files_of}
+use Rattle.tokei_stream.specs.Streams.{stream_text}
+use Rattle.tokei_stream.proofs.streaming.stream.Goals as goal
 
 pub returns-clause-told : goal.returns-clause-told
 returns-clause-told g c = λ t e.

@@ -8,7 +8,7 @@ use Rattle.tokei_styles.specs.declared.streaming.Streaming.{Streaming}
 use Rattle.tokei_statistics.specs.Contents.{stats_at}
 use Rattle.tokei_statistics.specs.Runs.{Counting, language_of_file}
 use Rattle.tokei_table.specs.Row.{Row}
-use Rattle.tokei_output.specs.Rows.{heading_of, report_row}
+use Rattle.tokei_stream.specs.Rows.{heading_of, report_row}
 use Rattle.tokei_walk.specs.declared.kept_file.KeptFile.{KeptFile}
 
 -- the report of a file in a language, where the file can be read

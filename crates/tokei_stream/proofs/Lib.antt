@@ -1,2 +1,2 @@
 pub mod FileReports
-pub mod Rows
+pub mod WrittenRows

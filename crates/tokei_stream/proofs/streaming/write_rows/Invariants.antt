@@ -4,9 +4,9 @@ use Rattle.tokei_statistics.specs.Runs.{ReadingsFit}
 use Rattle.tokei_statistics.specs.Seen.{counting_of}
 use Rattle.tokei_walk.specs.Ranks.{rank}
 use Rattle.tokei_walk.specs.Walks.{to_come}
-use Rattle.tokei.proofs.Rows.{RowsSoFar}
-use Rattle.tokei.specs.Streams.{file_row}
-use Rattle.tokei.proofs.stream.write_rows.Given as goal
+use Rattle.tokei_stream.proofs.WrittenRows.{RowsSoFar}
+use Rattle.tokei_stream.specs.Streams.{file_row}
+use Rattle.tokei_stream.proofs.streaming.write_rows.Given as goal
 
 abbrev pub invariant-loop-file : goal.invariant-loop-file
 invariant-loop-file g l = record {

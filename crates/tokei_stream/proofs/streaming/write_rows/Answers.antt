@@ -3,10 +3,10 @@ use Rattle.tokei_statistics.specs.Runs.{ReadingsFit}
 use Rattle.tokei_statistics.specs.Seen.{counting_of}
 use Rattle.tokei_walk.specs.declared.kept_file.KeptFile.{KeptFile}
 use Rattle.tokei_walk.specs.Walks.{to_come, Advances}
-use Rattle.tokei.proofs.Rows.{no_row_yet, one_row_more, all_rows}
-use Rattle.tokei.specs.Streams.{file_row}
+use Rattle.tokei_stream.proofs.WrittenRows.{no_row_yet, one_row_more, all_rows}
+use Rattle.tokei_stream.specs.Streams.{file_row}
 use Rattle.tokei_job.specs.declared.error.RunError.TheVariants.{Overflow}
-use Rattle.tokei.proofs.stream.write_rows.Goals as goal
+use Rattle.tokei_stream.proofs.streaming.write_rows.Goals as goal
 
 pub loop-file-init : goal.loop-file-init
 loop-file-init g c = record {

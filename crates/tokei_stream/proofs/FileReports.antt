@@ -8,7 +8,7 @@ use Rattle.tokei_statistics.specs.Contents.{stats_at, stats_in}
 use Rattle.tokei_statistics.specs.Runs.{Counting, language_of_file}
 use Rattle.tokei_stats.specs.Statistics.{Statistics}
 use Rattle.tokei_walk.specs.declared.kept_file.KeptFile.{KeptFile}
-use Rattle.tokei.specs.Streams.{report_in, report_of_file}
+use Rattle.tokei_stream.specs.Streams.{report_in, report_of_file}
 
 module _ (c : Counting) (t : Tree) (file : KeptFile) (o : Option ℕ) (is : o ≡ language_of_file c t file) where
   -- one that counts in no language has none

@@ -11,18 +11,17 @@ ghost use Rattle.tokei_statistics.specs.Seen.{counting_of as counting_value};
 ghost use Rattle.tokei_walk.specs.Walks.{to_come};
 ghost use Rattle.tokei_job.specs.declared.error.RunError.TheVariants.{Overflow as SumOverflow, Write as WriteFault};
 ghost use Rattle.tokei_job.specs.Earlier.{earlier_of};
-ghost use Rattle.tokei.specs.Output.{WritesStream};
-ghost use Rattle.tokei.specs.Runs.{files_of};
-ghost use Rattle.tokei.specs.Streams.{file_row, report_of_file, rows_of, stream_text};
-ghost use Rattle.tokei.specs.Sums.{StreamFits};
+ghost use Rattle.tokei_stream.specs.Counted.{files_of};
+ghost use Rattle.tokei_stream.specs.JobStreams.{StreamFits, WritesStream};
+ghost use Rattle.tokei_stream.specs.Streams.{file_row, report_of_file, rows_of, stream_text};
 
+use crate::rows::{Rows, write_heading, write_row};
 use std::alloc::{AllocError, Global};
 use tokei_config::Config;
 use tokei_count::Counter;
 use tokei_folders::Folders;
 use tokei_io::Sink;
 use tokei_job::{Job, RunError, earlier_languages};
-use tokei_output::{Rows, write_heading, write_row};
 use tokei_statistics::{Counting, ParseFault, rules};
 use tokei_stats::{CountError, Report};
 use tokei_table::LanguageType;
@@ -187,7 +186,7 @@ fn types(config: &Config) -> Option<&[LanguageType]>
 
 /// Writes a row for each file of a job, as it is counted, and answers what the walk passed over. No report is kept,
 /// and no file is counted where the renewed counts of earlier results don't fit.
-pub(crate) fn stream<F: Folders, W: Sink>(
+pub fn stream<F: Folders, W: Sink>(
     rows: &Rows,
     folders: &mut F,
     job: &Job,

@@ -3,8 +3,8 @@ use Rattle.tokei_stats.specs.Seen.{stats_of}
 use Rattle.tokei_paths.specs.Contents.{content_at}
 use Rattle.tokei_statistics.specs.Contents.{stats_at}
 use Rattle.tokei_statistics.specs.Seen.{counting_of}
-use Rattle.tokei.proofs.FileReports.{in_no_language, was_read, was_refused}
-use Rattle.tokei.proofs.stream.report_of.Goals as goal
+use Rattle.tokei_stream.proofs.FileReports.{in_no_language, was_read, was_refused}
+use Rattle.tokei_stream.proofs.streaming.report_of.Goals as goal
 
 pub returns-in-None-clause-told : goal.returns-in-None-clause-told
 returns-in-None-clause-told g c = λ t e.

@@ -5,8 +5,8 @@ use Rattle.tokei_statistics.specs.Runs.{ReadingsFit}
 use Rattle.tokei_statistics.specs.Seen.{counting_of}
 use Rattle.tokei_walk.specs.declared.kept_file.KeptFile.{KeptFile}
 use Rattle.tokei_job.specs.declared.error.RunError.TheVariants.{Overflow}
-use Rattle.tokei.specs.Streams.{stream_text}
-use Rattle.tokei.proofs.stream.write_stream.Goals as goal
+use Rattle.tokei_stream.specs.Streams.{stream_text}
+use Rattle.tokei_stream.proofs.streaming.write_stream.Goals as goal
 
 pub returns-clause-told : goal.returns-clause-told
 returns-clause-told g c = λ t e.

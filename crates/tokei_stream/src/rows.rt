@@ -5,15 +5,15 @@ ghost use Rattle.tokei_languages.specs.Seen.{report_of as report_value};
 ghost use Rattle.tokei_layout.specs.Names.{name_in};
 ghost use Rattle.tokei_styles.specs.declared.streaming.Streaming.TheVariants.{Simple, Json};
 ghost use Rattle.tokei_job.specs.declared.error.RunError.TheVariants.{Overflow as SumOverflow, Write as WriteFault};
-ghost use Rattle.tokei_output.specs.Rows.{heading_of, report_row};
+ghost use Rattle.tokei_stream.specs.Rows.{heading_of, report_row};
 
-use crate::writing::put;
 use std::alloc::Global;
 use tokei_io::Sink;
-use tokei_job::RunError;
+use tokei_job::{RunError, put};
 use tokei_json::report_line;
-use tokei_print::{PrintError, Streaming, print_stream_heading, print_stream_row};
+use tokei_layout::{PrintError, print_stream_heading, print_stream_row};
 use tokei_stats::Report;
+use tokei_styles::Streaming;
 use tokei_table::{LanguageTable, LanguageType};
 
 /// How the rows of a stream are written.

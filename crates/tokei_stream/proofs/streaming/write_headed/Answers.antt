@@ -2,9 +2,9 @@ use Rattle.std.proofs.KnownBytes.{Appends-trans}
 use Rattle.std.proofs.lemmas.Result.{on_ok_weaker}
 use Rattle.tokei_statistics.specs.Seen.{counting_of}
 use Rattle.tokei_walk.specs.Walks.{to_come}
-use Rattle.tokei_output.specs.Rows.{heading_of}
-use Rattle.tokei.specs.Streams.{rows_of}
-use Rattle.tokei.proofs.stream.write_headed.Goals as goal
+use Rattle.tokei_stream.specs.Rows.{heading_of}
+use Rattle.tokei_stream.specs.Streams.{rows_of}
+use Rattle.tokei_stream.proofs.streaming.write_headed.Goals as goal
 
 pub returns-clause-told : goal.returns-clause-told
 returns-clause-told g c = λ t e.

@@ -6,7 +6,7 @@ use Rattle.tokei_statistics.specs.Configs.{kept_by}
 use Rattle.tokei_walk.specs.Kept.{kept_in}
 use Rattle.tokei_walk.specs.Walks.{excludes_of, texts_of, to_come}
 use Rattle.tokei_walk.specs.declared.levels.Rules.{Rules}
-use Rattle.tokei.proofs.stream.walk_of.Goals as goal
+use Rattle.tokei_stream.proofs.streaming.walk_of.Goals as goal
 
 pub returns : goal.returns
 unfolding kept_by
