@@ -1,6 +1,7 @@
-//! Worked rows of the program over folders in memory: what it writes, and its exit status. They stand here, above the
-//! program's crate, since the tests of a crate are proved together with the whole of it.
+//! Worked rows of the program over folders in memory: what it writes. They stand here, above the program's crate, since
+//! the tests of a crate are proved together with the whole of it.
 #![tactic(auto)]
 
 #[cfg(test)]
-mod runs;
+mod outputs;
+pub mod runs;
