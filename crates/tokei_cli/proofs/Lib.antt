@@ -1,5 +1,3 @@
-pub mod Listing
-pub mod NamedTypes
 pub mod Shown
 pub mod Reading
 pub mod Building

@@ -5,15 +5,10 @@ mod cli;
 mod cli_error;
 mod help;
 mod options;
-mod output_error;
-mod overriding;
-mod printing;
 mod version;
 
 pub use cli::Cli;
 pub use cli_error::CliError;
 pub use help::{HELP, VERSION_LINE};
 pub use options::command;
-pub use output_error::OutputError;
-pub use printing::{print_input_parse_failure, print_supported_languages};
 pub use version::crate_version;

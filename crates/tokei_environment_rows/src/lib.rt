@@ -1,9 +1,8 @@
-//! Worked rows of the program by the configuration that it finds around it. They stand here, above the program's
-//! crate, since the tests of a crate are proved together with the whole of it.
+//! Worked rows of the program by the configuration that it finds around it. They stand apart from those of
+//! `tokei_program_rows`, so that each crate's tests are proved beside the other's.
 #![tactic(auto)]
 
 #[cfg(test)]
 mod configuration;
-pub mod runs;
 #[cfg(test)]
 mod verdict;

@@ -3,7 +3,7 @@ use Rattle.std.specs.Prelude.{◌≡◌, ℕ, List, Option}
 use Rattle.tokei_job.specs.declared.job.Job.{Job}
 use Rattle.tokei_cli.specs.CommandLines.{inputs_of, excludes_of, file_input_of}
 use Rattle.tokei_cli.specs.declared.cli.Cli.{Cli}
-use Rattle.tokei_cli.specs.Overriding.{overridden}
+use Rattle.tokei_overriding.specs.Overriding.{overridden}
 use Rattle.tokei_config.specs.declared.config.Config.{Config}
 use Rattle.tokei_config.specs.declared.files.ConfigDirs.{ConfigDirs}
 use Rattle.tokei_config.specs.Files.{configuration}

@@ -4,8 +4,8 @@ ghost use Rattle.tokei_invocation.specs.Messages.{IsMessage};
 
 use std::alloc::{AllocError, AllocFailed, Global};
 use thiserror::Error;
-use tokei_cli::OutputError;
 use tokei_job::RunError;
+use tokei_listing::OutputError;
 use tokei_table::TableError;
 
 /// Why nothing is counted, or why the count isn't shown.

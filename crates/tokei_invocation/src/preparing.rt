@@ -22,6 +22,7 @@ use tokei_folders::{Fault, Folders};
 use tokei_io::{Counted, Source};
 use tokei_job::Job;
 use tokei_languages::Languages;
+use tokei_overriding::OverrideConfig;
 use tokei_table::LanguageTable;
 
 /// The table that the command line names.

@@ -1,3 +1,2 @@
--- What contracts say of the results that a run adds first, and of how it ends.
+-- What contracts say of the results that a run adds first.
 pub mod Earlier
-pub mod Errors

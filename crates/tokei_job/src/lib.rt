@@ -1,12 +1,9 @@
-//! What a run counts and writes, and why it ends without its output.
+//! What a run counts, and what it writes of that.
 #![tactic(auto)]
 
 pub mod earlier;
-pub mod error;
 pub mod job;
-pub mod writing;
 
 pub use earlier::earlier_languages;
-pub use error::RunError;
 pub use job::{Job, Wanted};
-pub use writing::put;
+pub use tokei_run_error::{RunError, put};

@@ -1,2 +1,1 @@
-pub mod Members
 pub mod NoFloats

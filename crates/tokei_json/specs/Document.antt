@@ -1,54 +1,11 @@
--- Statistics, reports and languages as JSON data. Languages stand under their names, and members in byte order.
-use Rattle.std.specs.Prelude.{ℕ, List, [], ◌∷◌, codes, map}
-use Rattle.serde_json.specs.Data.{Data, unsigned, boolean, number, string, array, object, Members, no_members, member, put}
-use Rattle.serde_json.specs.View.{items_of}
+-- Languages as JSON data, beside their total. Languages stand under their names, and members in byte order.
+use Rattle.std.specs.Prelude.{ℕ, List, codes}
+use Rattle.serde_json.specs.Data.{Data, boolean, object, no_members, member, put}
+pub use Rattle.tokei_json_reports.specs.ReportData.{count, name_of, statistics_data, blobs_data, report_data}
+pub use Rattle.tokei_json_reports.specs.ReportData.{line_data, reports_data, named_data}
 use Rattle.tokei_languages.specs.Summaries.{total_of}
-use Rattle.tokei_languages.specs.Values.{ReportValue, LanguageValue}
-use Rattle.tokei_stats.specs.Statistics.{Statistics, Blobs}
-use Rattle.tokei_stats.specs.Statistics.Statistics.{node}
-use Rattle.tokei_stats.specs.Statistics.Blobs.{none, blob}
+use Rattle.tokei_languages.specs.Values.{LanguageValue}
 use Rattle.tokei_table.specs.Row.{Row}
-use Rattle.tokei_table.specs.Lookups.{row_at}
-
-abbrev pub count : ℕ → Data
-count n = number (unsigned n)
-
--- the name of a language; one that isn't of the table has an empty name
-abbrev pub name_of : List Row → ℕ → List ℕ
-name_of rows language = (row_at rows language).name
-
--- statistics; `blobs_data` puts the blobs behind the members that are there
-abbrev mutual
-  pub statistics_data : List Row → Statistics → Data
-  statistics_data rows (node n bs) = object
-      (member (codes "blanks") (count n.blanks)
-      (member (codes "blobs") (object (blobs_data rows bs no_members))
-      (member (codes "code") (count n.code)
-      (member (codes "comments") (count n.comments) no_members))))
-
-  pub blobs_data : List Row → Blobs → Members → Members
-  blobs_data rows none ms = ms
-  blobs_data rows (blob k t rest) ms = blobs_data rows rest (put (name_of rows k) (statistics_data rows t) ms)
-
-abbrev pub report_data : List Row → ReportValue → Data
-report_data rows r = object
-    (member (codes "name") (string r.name)
-    (member (codes "stats") (statistics_data rows r.stats) no_members))
-
--- a file's report beside the name of its language
-abbrev pub line_data : List Row → ℕ → ReportValue → Data
-line_data rows language r = object
-    (member (codes "language") (string (name_of rows language))
-    (member (codes "stats") (report_data rows r) no_members))
-
--- the reports in their order
-abbrev pub reports_data : List Row → List ReportValue → Data
-reports_data rows rs = array (items_of (map (report_data rows) rs))
-
--- the members, and then one for each entry, under the name of its language
-abbrev pub named_data : {S : Type 0} → List Row → (S → Data) → List (ℕ × S) → Members → Members
-named_data rows value_of [] ms = ms
-named_data rows value_of (e ∷ es) ms = named_data rows value_of es (put (name_of rows e.0) (value_of e.1) ms)
 
 abbrev pub language_data : List Row → LanguageValue → Data
 language_data rows l = object

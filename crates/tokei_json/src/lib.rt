@@ -5,4 +5,5 @@ pub mod text;
 pub mod write;
 
 pub use text::to_text;
-pub use write::{report_line, to_value};
+pub use tokei_json_reports::report_line;
+pub use write::to_value;

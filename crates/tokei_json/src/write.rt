@@ -1,104 +1,19 @@
-//! Statistics, reports and languages as JSON values.
-ghost use Rattle.std.specs.Prelude.{◌≡◌, IfOk, IsErrOf, map};
-ghost use Rattle.serde_json.specs.Data.{no_members, object};
-ghost use Rattle.serde_json.specs.View.{view, items_view, members_view};
-ghost use Rattle.tokei_json.specs.Document.{name_of as name_in, statistics_data, blobs_data, report_data, reports_data};
-ghost use Rattle.tokei_json.specs.Document.{named_data, language_data, document};
-ghost use Rattle.tokei_languages.specs.Seen.{children_of, entries_of as languages_seen, language_of, languages_of, report_of, reports_of};
+//! Languages as JSON values.
+ghost use Rattle.std.specs.Prelude.{◌≡◌, IfOk, IsErrOf};
+ghost use Rattle.serde_json.specs.Data.{no_members};
+ghost use Rattle.serde_json.specs.View.{view, members_view};
+ghost use Rattle.tokei_json.specs.Document.{reports_data, named_data, language_data, document};
+ghost use Rattle.tokei_languages.specs.Seen.{language_of, languages_of};
 ghost use Rattle.tokei_languages.specs.Summaries.{languages_summary, reports_by_language, total_of};
 ghost use Rattle.tokei_stats.specs.Overflow.{CountsFit};
-ghost use Rattle.tokei_stats.specs.Seen.{blobs_of, entries_of, stats_of, sums_of};
+ghost use Rattle.tokei_stats.specs.Seen.{sums_of};
 
 use serde_json::{Map, Value, json};
 use std::alloc::{AllocError, Global};
-use std::collections::BTreeMap;
+use tokei_json_reports::{children_value, name_of, reports_value};
 use tokei_languages::{CountError, Language, Languages};
-use tokei_stats::{CodeStats, Report, Sums};
-use tokei_table::{LanguageTable, LanguageType};
-
-/// The name of a language; one that isn't of the table has an empty name.
-fn name_of(table: &LanguageTable, language: LanguageType) -> &str
-    ensures { result.now ≡ name_in table.entry.now language }
-{
-    if table.has(language) {
-        language.name(table)
-    } else {
-        ""
-    }
-}
-
-#[cycle(statistics)]
-pub(crate) fn statistics_value(
-    alloc: Global,
-    table: &LanguageTable,
-    stats: &CodeStats,
-) -> Result<Value, AllocError>
-    ensures { IfOk result (λ v. view v ≡ statistics_data table.now (stats_of stats.now)) }
-{
-    let blobs = Value::Object(blobs_value(alloc, table, &stats.blobs)?);
-    json!(in alloc; {
-        "blanks": stats.blanks,
-        "blobs": blobs,
-        "code": stats.code,
-        "comments": stats.comments
-    })
-}
-
-#[cycle(statistics)]
-fn blobs_value(
-    alloc: Global,
-    table: &LanguageTable,
-    blobs: &BTreeMap<LanguageType, CodeStats>,
-) -> Result<Map<String, Value>, AllocError>
-    ensures { IfOk result (λ m. members_view m.entries
-        ≡ blobs_data table.now (blobs_of (entries_of blobs.now.entries)) no_members) }
-{
-    let mut members = Map::new(alloc);
-    for (language, stats) in blobs.iter() {
-        let name = String::from_str(alloc, name_of(table, *language))?;
-        let value = statistics_value(alloc, table, stats)?;
-        drop(members.insert(name, value)?);
-    }
-    Ok(members)
-}
-
-fn report_value(alloc: Global, table: &LanguageTable, report: &Report) -> Result<Value, AllocError>
-    ensures { IfOk result (λ v. view v ≡ report_data table.now (report_of report.now)) }
-{
-    let stats = statistics_value(alloc, table, &report.stats)?;
-    json!(in alloc; {"name": &report.name, "stats": stats})
-}
-
-fn reports_value(
-    alloc: Global,
-    table: &LanguageTable,
-    reports: &Vec<Report>,
-) -> Result<Value, AllocError>
-    ensures { IfOk result (λ v. view v ≡ reports_data table.now (reports_of reports.now)) }
-{
-    let mut items = Vec::with_capacity(alloc, reports.len())?;
-    for report in reports {
-        items.push(report_value(alloc, table, report)?)?;
-    }
-    Ok(Value::Array(items))
-}
-
-fn children_value(
-    alloc: Global,
-    table: &LanguageTable,
-    children: &BTreeMap<LanguageType, Vec<Report>>,
-) -> Result<Map<String, Value>, AllocError>
-    ensures { IfOk result (λ m. members_view m.entries
-        ≡ named_data table.now (reports_data table.now) (children_of children.now.entries) no_members) }
-{
-    let mut members = Map::new(alloc);
-    for (language, reports) in children.iter() {
-        let name = String::from_str(alloc, name_of(table, *language))?;
-        let value = reports_value(alloc, table, reports)?;
-        drop(members.insert(name, value)?);
-    }
-    Ok(members)
-}
+use tokei_stats::Sums;
+use tokei_table::LanguageTable;
 
 fn language_value(
     alloc: Global,
@@ -219,38 +134,4 @@ pub fn to_value(
     let total = total_value(alloc, table, languages)?;
     let value = document_of_total(alloc, table, languages, total)?;
     Ok(value)
-}
-
-ghost use Rattle.std.specs.Prelude.{string_bytes};
-ghost use Rattle.serde_json.specs.Written.{compact_text};
-ghost use Rattle.tokei_json.specs.Document.{line_data};
-
-/// A file's report beside the name of its language.
-fn line_value(
-    alloc: Global,
-    table: &LanguageTable,
-    language: LanguageType,
-    report: &Report,
-) -> Result<Value, AllocError>
-    ensures { IfOk result (λ v. view v ≡ line_data table.now language (report_of report.now)) }
-{
-    let name = String::from_str(alloc, name_of(table, language))?;
-    let stats = report_value(alloc, table, report)?;
-    json!(in alloc; {"language": name, "stats": stats})
-}
-
-/// A file's report beside the name of its language, as one compact JSON text with no newline: a line of a stream. Out of
-/// memory is the only refusal.
-pub fn report_line(
-    alloc: Global,
-    table: &LanguageTable,
-    language: LanguageType,
-    report: &Report,
-) -> Result<String, AllocError>
-    ensures { IfOk result (λ s. string_bytes s
-        ≡ compact_text (line_data table.now language (report_of report.now))) }
-{
-    let value = line_value(alloc, table, language, report)?;
-    let text = value.to_string(alloc)?;
-    Ok(text)
 }

@@ -21,7 +21,7 @@ use Rattle.tokei_documents.specs.LanguageMaps.{language_named, all_names, has_bo
 use Rattle.tokei_json_laws.specs.Known.{AreKnown, BlobsAreKnown}
 use Rattle.tokei_json_laws.proofs.Sound.{ReportsAreSound, ChildrenAreSound, IsSound, LanguagesAreSound}
 use Rattle.tokei_documents.specs.declared.language_maps.MapTest.TheVariants.{Known, Once}
-use Rattle.tokei_json.proofs.Members.{AllMembers, all_put, all_named_each, all_mono, same_text}
+use Rattle.tokei_json_reports.proofs.Members.{AllMembers, all_put, all_named_each, all_mono, same_text}
 use Rattle.tokei_documents.proofs.Names.{named_by_name, named_by_key, total_unnamed, right_true}
 
 both : (a b : Bool) → a ≡ true → b ≡ true → (a && b) ≡ true

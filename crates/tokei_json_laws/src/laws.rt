@@ -16,7 +16,7 @@ use tokei_format::Format;
 use tokei_json::to_value;
 use tokei_languages::{CountError, Language, Languages};
 use tokei_stats::Report;
-use tokei_stats::laws::statistics_are_ordered;
+use tokei_stats_laws::laws::statistics_are_ordered;
 use tokei_table::{LanguageTable, LanguageType};
 
 /// How many levels of blobs a text can hold that is read.

@@ -8,7 +8,7 @@ use Rattle.std.specs.declared.vec.Vec.{Vec}
 use Rattle.tokei_stats.specs.Statistics.{Counts}
 use Rattle.tokei_stats.specs.declared.report.Report.{Report}
 use Rattle.tokei_stats.proofs.Equality.{equal, alike_if_equal, equal_if_alike, both_true, first_of_both, second_of_both}
-use Rattle.tokei_stats.proofs.SumLaws.{same_counts}
+use Rattle.tokei_stats.proofs.SameMembers.{same_counts}
 use Rattle.tokei_languages.specs.Seen.{report_of, reports_of, children_of, language_of, entries_of, languages_of}
 use Rattle.tokei_languages.specs.Values.{ReportValue, LanguageValue}
 use Rattle.tokei_languages.specs.declared.language.Language.{Language}

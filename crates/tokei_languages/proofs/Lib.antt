@@ -1,9 +1,7 @@
-pub mod AnyOrder
 pub mod BlobReports
 pub mod Copying
 pub mod Entries
 pub mod Equality
-pub mod Measures
 pub mod Ranks
 pub mod StableSort
 pub mod TakingBack

@@ -1,6 +1,4 @@
 -- What contracts say of the languages that were counted: how they are added, renewed, summarised and sorted.
-pub mod AnyOrder
-pub mod Laws
 pub mod Maps
 pub mod Merging
 pub mod Renewing

@@ -1,22 +1,10 @@
 -- The code's values as the definitions see them.
-use Rattle.std.specs.Prelude.{ℕ, List, map, string_bytes}
+use Rattle.std.specs.Prelude.{ℕ, List, map}
 use Rattle.std.specs.declared.alloc.Global.{Global}
-use Rattle.std.specs.declared.vec.Vec.{Vec}
-use Rattle.tokei_stats.specs.Seen.{stats_of}
-use Rattle.tokei_stats.specs.declared.report.Report.{Report}
-use Rattle.tokei_languages.specs.Values.{ReportValue, LanguageValue}
+pub use Rattle.tokei_stats.specs.Reports.{report_of, reports_of, children_of}
+use Rattle.tokei_languages.specs.Values.{LanguageValue}
 use Rattle.tokei_languages.specs.declared.language.Language.{Language}
 use Rattle.tokei_languages.specs.declared.languages.Languages.{Languages}
-
-abbrev pub report_of : Report → ReportValue
-report_of r = record { name = string_bytes r.name; stats = stats_of r.stats }
-
-abbrev pub reports_of : Vec Report Global → List ReportValue
-reports_of v = map report_of v.items
-
--- the reports by language
-abbrev pub children_of : List (ℕ × Vec Report Global) → List (ℕ × List ReportValue)
-children_of es = map (λ e. (e.0, reports_of e.1)) es
 
 abbrev pub language_of : Language → LanguageValue
 language_of s = record {

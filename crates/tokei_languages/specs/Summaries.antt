@@ -1,17 +1,8 @@
 -- Summaries, which count the texts inside as well, and the total of languages.
 use Rattle.std.specs.Prelude.{ℕ, Bool, false, ◌||◌, List, [], ◌∷◌, map}
-use Rattle.tokei_stats.specs.Statistics.{Counts, no_lines, plus, summary}
+use Rattle.tokei_stats.specs.Statistics.{Counts, no_lines, plus}
+pub use Rattle.tokei_stats.specs.Reports.{reports_summary, children_summary}
 use Rattle.tokei_languages.specs.Values.{ReportValue, LanguageValue}
-
--- the summaries of reports, added up
-abbrev pub reports_summary : List ReportValue → Counts
-reports_summary [] = no_lines
-reports_summary (r ∷ rs) = plus (summary r.stats) (reports_summary rs)
-
--- the summaries of all child reports, added up
-abbrev pub children_summary : List (ℕ × List ReportValue) → Counts
-children_summary [] = no_lines
-children_summary (e ∷ es) = plus (reports_summary e.1) (children_summary es)
 
 -- a language's counts with those of the texts inside
 abbrev pub language_summary : LanguageValue → Counts

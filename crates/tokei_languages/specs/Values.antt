@@ -1,15 +1,11 @@
--- What contracts see of a report, of a language and of languages.
+-- What contracts see of a language and of languages.
 use Rattle.std.specs.Prelude.{ℕ, Bool, true, false, List, [], Option}
 use Rattle.std.specs.Ordering.{nat_cmp}
 use Rattle.std.specs.BTreeMap.{is_at}
 use Rattle.std.specs.List.Sorted.{IsStrictlySortedBy}
 use Rattle.std.specs.Map.{keys_of, lookup}
-use Rattle.tokei_stats.specs.Statistics.{Counts, Statistics, no_lines}
-
--- the statistics of a file under its name, in bytes
-pub record ReportValue : Type 0 where
-  pub name : List ℕ
-  pub stats : Statistics
+use Rattle.tokei_stats.specs.Statistics.{Counts, no_lines}
+pub use Rattle.tokei_stats.specs.Reports.{ReportValue}
 
 -- a language: its counts, its files' reports, those of each language inside, and whether a file couldn't be read
 pub record LanguageValue : Type 0 where

@@ -7,7 +7,6 @@ mod children;
 mod copies;
 pub mod language;
 pub mod languages;
-pub mod laws;
 mod merge;
 mod sorting;
 mod sums;

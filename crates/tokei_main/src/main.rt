@@ -10,6 +10,11 @@ use tokei_io::Counted;
 use tokei_program::{Env, program};
 use tokei_real::RealFolders;
 
+/// The words of the command line, of which the first is the program's name.
+fn words(rt: &HostRuntime) -> io::Result<Vec<String>> {
+    Ok(env::args(rt)?.collect(rt.alloc())?)
+}
+
 /// The text of an environment variable; none where it isn't set or is no text. It fails where memory runs out.
 fn variable(rt: &HostRuntime, name: &str) -> io::Result<Option<String>> {
     match env::var(rt, name) {
@@ -19,32 +24,54 @@ fn variable(rt: &HostRuntime, name: &str) -> io::Result<Option<String>> {
     }
 }
 
-fn main(rt: HostRuntime) -> io::Result<ExitCode> {
-    let words: Vec<String> = env::args(&rt)?.collect(rt.alloc())?;
-    let words: Vec<&str> = words.iter().map(|word| word.as_str()).collect(rt.alloc())?;
-    let variables = Env {
-        xdg_config_home: variable(&rt, "XDG_CONFIG_HOME")?,
-        home: variable(&rt, "HOME")?,
-    };
+/// The variables that the program asks for.
+fn variables(rt: &HostRuntime) -> io::Result<Env> {
+    let xdg_config_home = variable(rt, "XDG_CONFIG_HOME")?;
+    Ok(Env {
+        xdg_config_home,
+        home: variable(rt, "HOME")?,
+    })
+}
+
+/// Writes out what is left of the output, and answers the program's status; where that fails, it says so, and answers
+/// that of a failure.
+fn flushed<W: Write, E: Write>(status: u8, out: &mut W, err: &mut E) -> ExitCode {
+    match out.flush() {
+        Ok(()) => ExitCode::from(status),
+        Err(_) => {
+            let _ = err.write_all(b"Error: the output can't be written\n");
+            ExitCode::FAILURE
+        }
+    }
+}
+
+/// Runs the program with these words over real folders, and with the real ends.
+fn ended(rt: &HostRuntime, words: &[&str], variables: &Env) -> io::Result<ExitCode> {
     let mut folders = RealFolders::new(rt.clone()?);
+    let mut out = Counted::new(BufWriter::new(rt.alloc(), io::writer(rt))?);
     let mut input = Counted::new(rt.reader());
-    let mut out = Counted::new(BufWriter::new(rt.alloc(), io::writer(&rt))?);
     let stderr = rt.stderr();
     let mut err = Counted::new(io::writer(&stderr));
     let status = program(
         rt.alloc(),
-        &words,
-        &variables,
+        words,
+        variables,
         &mut folders,
         &mut input,
         &mut out,
         &mut err,
     );
-    match out.inner.flush() {
-        Ok(()) => Ok(ExitCode::from(status)),
-        Err(_) => {
-            let _ = err.inner.write_all(b"Error: the output can't be written\n");
-            Ok(ExitCode::FAILURE)
-        }
-    }
+    Ok(flushed(status, &mut out.inner, &mut err.inner))
+}
+
+/// The same with the variables that are set.
+fn ended_of(rt: &HostRuntime, words: &[String]) -> io::Result<ExitCode> {
+    let words: Vec<&str> = words.iter().map(|word| word.as_str()).collect(rt.alloc())?;
+    let variables = variables(rt)?;
+    ended(rt, &words, &variables)
+}
+
+fn main(rt: HostRuntime) -> io::Result<ExitCode> {
+    let words = words(&rt)?;
+    ended_of(&rt, &words)
 }

@@ -1,7 +1,7 @@
 -- The texts that name a cause.
 use Rattle.std.proofs.Common.{ℕ, List, [], ◌∷◌, ◌++◌, Option, refl, sym, ap, codes, append_assoc}
 use Rattle.std.specs.Io.KnownBytes.{Appends}
-use Rattle.tokei_cli.specs.Printing.{failure_text}
+use Rattle.tokei_listing.specs.Printing.{failure_text}
 use Rattle.tokei_messages.specs.declared.saying.TheConstants.{NO_MEMORY}
 use Rattle.tokei_invocation.specs.Messages.{IsMessage, Says}
 

@@ -6,9 +6,9 @@ ghost use Rattle.tokei_invocation.specs.Messages.{Says};
 ghost use Rattle.tokei_invocation.specs.Statuses.{status_of};
 
 use std::alloc::Global;
-use tokei_cli::{OutputError, print_input_parse_failure};
 use tokei_invocation::Ending;
 use tokei_io::Sink;
+use tokei_listing::{OutputError, print_input_parse_failure};
 
 /// What is said where there is no memory for other words.
 const NO_MEMORY: &str = "Error: out of memory\n";

@@ -6,7 +6,7 @@ ghost use Rattle.tokei_json.specs.Document.{document};
 ghost use Rattle.tokei_languages.specs.Seen.{languages_of};
 ghost use Rattle.tokei_languages.specs.Summaries.{languages_summary};
 ghost use Rattle.tokei_stats.specs.Overflow.{CountsFit};
-ghost use Rattle.tokei_job.specs.declared.error.RunError.TheVariants.{Overflow as SumOverflow, Write as WriteFault};
+ghost use Rattle.tokei_run_error.specs.declared.error.RunError.TheVariants.{Overflow as SumOverflow, Write as WriteFault};
 ghost use Rattle.tokei_output.specs.Written.{sort_of, style_of, AppendsTable};
 ghost use Rattle.tokei_report.specs.Sums.{TableFits};
 

@@ -13,8 +13,9 @@ ghost use Rattle.tokei_choice.specs.Seen.{mode_of};
 use crate::matchers::LanguageMatchers;
 use crate::reading::Reading;
 use tokei_choice::{Enclosure, Kind, any_begins, begins};
+use tokei_searches::blanks_end;
 use tokei_table::Syntax;
-use tokei_table::ext::{blanks_end, is_blank_text, trim};
+use tokei_table::ext::{is_blank_text, trim};
 
 /// What a line counts as.
 #[derive(Clone, Copy, Debug, PartialEq, Eq)]

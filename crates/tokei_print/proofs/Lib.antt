@@ -1,3 +1,2 @@
-pub mod Files
+pub mod Blocks
 pub mod EmptyLanguages
-pub mod Placing

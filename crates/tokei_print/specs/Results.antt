@@ -2,10 +2,10 @@
 use Rattle.std.specs.Prelude.{ℕ, List, [], ◌∷◌, ◌++◌, ◌==◌, ◌&&◌, Bool, true, false, not, filter, length, if◌then◌else◌}
 use Rattle.tokei_languages.specs.Values.{LanguageValue}
 use Rattle.tokei_print.specs.Children.{children_block}
-use Rattle.tokei_print.specs.FileRows.{listed_files}
+use Rattle.tokei_print_files.specs.FileRows.{listed_files}
 use Rattle.tokei_print.specs.LanguageRow.{language_row}
 use Rattle.tokei_layout.specs.declared.layout.Layout.{Layout}
-use Rattle.tokei_print.specs.NameOrder.{in_order}
+use Rattle.tokei_print_files.specs.NameOrder.{in_order}
 use Rattle.tokei_layout.specs.Rules.{subrow}
 
 -- no line was counted, and no other language is inside

@@ -1,73 +1,16 @@
 //! The rows of the languages inside the files of another, and the subtotal below them.
-ghost use Rattle.std.specs.Prelude.{◌≡◌, IfOk, IfErr, IsErrOf, OnErr, map, string_bytes};
-ghost use Rattle.tokei_languages.specs.Seen.{children_of, language_of, report_of};
-ghost use Rattle.tokei_languages.specs.Summaries.{reports_summary};
-ghost use Rattle.tokei_layout.specs.Fitting.{LinesFit};
+ghost use Rattle.std.specs.Prelude.{◌≡◌, IfOk, IsErrOf, string_bytes};
+ghost use Rattle.tokei_languages.specs.Seen.{language_of};
 ghost use Rattle.tokei_layout.specs.Names.{name_in};
-ghost use Rattle.tokei_stats.specs.Overflow.{CountsFit};
-ghost use Rattle.tokei_stats.specs.Seen.{sums_of};
-ghost use Rattle.tokei_print.specs.Children.{child_row, child_rows, children_block};
-ghost use Rattle.tokei_print.specs.Fitting.{ChildrenBlockFits, ChildrenFit};
+ghost use Rattle.tokei_print.specs.Children.{children_block};
+ghost use Rattle.tokei_print.specs.Fitting.{ChildrenBlockFits};
 
 use std::alloc::Global;
-use std::collections::BTreeMap;
 use tokei_languages::Language;
-use tokei_layout::{Layout, files_and_counts, name_of};
-use tokei_stats::{CountError, Report, Sums};
-use tokei_table::{LanguageTable, LanguageType};
-
-/// The summaries of the reports, added up.
-fn summaries(reports: &[Report]) -> Result<Sums, CountError>
-    ensures sum { IfOk result (λ n. sums_of n ≡ reports_summary (map report_of reports.now)) }
-    ensures past { OnErr result (¬ CountsFit (reports_summary (map report_of reports.now))) }
-    ensures overflow { IfErr result (λ e. e ≡ CountError.Overflow) }
-{
-    let mut sums = Sums::new();
-    for report in reports {
-        sums = sums.plus(report.stats.summary_counts()?)?;
-    }
-    Ok(sums)
-}
-
-/// The row of a language inside the files of another. `Overflow` only where its lines pass the greatest `usize`.
-fn child_row(
-    layout: &Layout,
-    alloc: Global,
-    name: &str,
-    reports: &[Report],
-) -> Result<String, CountError>
-    ensures ok { IfOk result (λ s. string_bytes s ≡ child_row layout.now name.now (map report_of reports.now)) }
-    ensures overflow { IsErrOf result CountError.Overflow
-        → ¬ LinesFit (reports_summary (map report_of reports.now)) }
-{
-    let section = layout.name_section(alloc, false, name, " |-")?;
-    if reports.is_empty() {
-        return Ok(section);
-    }
-    let sums = summaries(reports)?;
-    let rest = files_and_counts(alloc, layout.format, reports.len(), sums)?;
-    let (section, rest) = (section.as_str(), rest.as_str());
-    Ok(format!(in alloc; "{section}{rest}")?)
-}
-
-/// A row for each language inside.
-fn child_rows(
-    layout: &Layout,
-    alloc: Global,
-    table: &LanguageTable,
-    children: &BTreeMap<LanguageType, Vec<Report>>,
-) -> Result<String, CountError>
-    ensures ok { IfOk result (λ s. string_bytes s
-        ≡ child_rows layout.now (name_in table.now) (children_of children.now.entries)) }
-    ensures overflow { IsErrOf result CountError.Overflow → ¬ ChildrenFit (children_of children.now.entries) }
-{
-    let mut rows = String::new(alloc);
-    for (language, reports) in children.iter() {
-        let row = child_row(layout, alloc, name_of(table, *language), reports)?;
-        rows.push_str(&row)?;
-    }
-    Ok(rows)
-}
+use tokei_layout::Layout;
+use tokei_print_files::child_rows;
+use tokei_stats::CountError;
+use tokei_table::LanguageTable;
 
 /// The rows of the languages inside, and their subtotal.
 pub(crate) fn children_block(

@@ -2,9 +2,7 @@
 #![tactic(auto)]
 
 mod children;
-mod file_rows;
 mod language_row;
-mod ordered;
 pub mod printer;
 mod results;
 mod total;

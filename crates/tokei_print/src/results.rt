@@ -8,12 +8,11 @@ ghost use Rattle.tokei_print.specs.Results.{language_block, language_blocks, par
 ghost use Rattle.tokei_print.specs.ResultsFit.{LanguageFits, LanguagesFit, ResultsFit};
 
 use crate::children::children_block;
-use crate::file_rows::{ListedLanguage, listed_files};
 use crate::language_row::language_row;
-use crate::ordered::in_order;
 use std::alloc::Global;
 use tokei_languages::Language;
 use tokei_layout::{Layout, name_of};
+use tokei_print_files::{ListedLanguage, in_order, listed_files};
 use tokei_stats::CountError;
 use tokei_table::{LanguageTable, LanguageType};
 
@@ -175,7 +174,7 @@ fn group_rows(
 }
 
 /// The rows of all languages.
-#[tactic(auto, using(crate::proofs::Files::no_blocks))]
+#[tactic(auto, using(crate::proofs::Blocks::no_blocks))]
 pub(crate) fn results(
     layout: &Layout,
     alloc: Global,

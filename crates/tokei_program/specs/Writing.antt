@@ -6,7 +6,7 @@ use Rattle.tokei.specs.Output.{Outputs}
 use Rattle.tokei_cli.specs.CommandLines.{inputs_of, table_of}
 use Rattle.tokei_cli.specs.declared.cli.Cli.{Cli}
 use Rattle.tokei_cli.specs.Lines.{IsLineOf}
-use Rattle.tokei_cli.specs.Printing.{languages_text}
+use Rattle.tokei_listing.specs.Printing.{languages_text}
 use Rattle.tokei_cli.specs.Texts.{IsAskedFor}
 use Rattle.tokei_folders.specs.Tree.{Tree}
 use Rattle.tokei_invocation.specs.declared.environment.Env.{Env}

@@ -10,8 +10,9 @@ ghost use Rattle.tokei_program.specs.Writing.{Writes, WritesAsked, WritesCounts,
 
 use std::alloc::Global;
 use tokei::{Folders, Sink, Source, run};
-use tokei_cli::{Cli, CliError, print_supported_languages};
+use tokei_cli::{Cli, CliError};
 use tokei_invocation::{Choices, Ending, Env, prepared, table_of};
+use tokei_listing::print_supported_languages;
 use tokei_messages::{notes_text, put, say};
 
 /// Counts what a command line names, and writes what it wants of that. What is to be said beside it is answered.

@@ -5,3 +5,5 @@
 #[cfg(test)]
 mod outputs;
 pub mod runs;
+#[cfg(test)]
+mod verdict;

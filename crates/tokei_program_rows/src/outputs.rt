@@ -1,122 +1,107 @@
 //! What the program writes where it does what it is asked.
-use crate::runs::{folders, other, ran, ran_in, unlike};
-use std::alloc::{AllocError, Global};
-use std::test::Fail;
-
-/// Whether the program ends well, writes nothing on standard error, and a text that begins so and has the second in it.
-fn shows(alloc: Global, words: &[&str], begin: &str, inside: &str) -> Result<bool, Fail> {
-    let ran = ran(alloc, words)?;
-    let out = ran.out.as_str();
-    Ok(ran.status == 0 && ran.err.is_empty() && out.starts_with(begin) && out.contains(inside))
-}
+use crate::runs::Asked::{Has, Is};
+use crate::runs::{MAIN, ONE, Row, UNSET, Written, first_wrong};
+use crate::verdict::all_right;
+use std::alloc::Global;
 
 const NONE: &str =
     r#"{"Total":{"blanks":0,"children":{},"code":0,"comments":0,"inaccurate":false,"reports":[]}}"#;
 
-const ONE: &str =
-    "{\"Rust\":{\"blanks\":0,\"children\":{},\"code\":1,\"comments\":0,\"inaccurate\":false,\
-     \"reports\":[{\"name\":\"src/main.rs\",\"stats\":{\"blanks\":0,\"blobs\":{},\"code\":1,\
-     \"comments\":0}}]},\"Total\":{\"blanks\":0,\"children\":{\"Rust\":[{\"name\":\"src/main.rs\",\
-     \"stats\":{\"blanks\":0,\"blobs\":{},\"code\":1,\"comments\":0}}]},\"code\":1,\"comments\":0,\
-     \"inaccurate\":false,\"reports\":[]}}";
+const IS_NONE: Written = (0, Is(NONE), Is(""));
 
-const ROWS: [&str; 3] = [
-    " Language              Files        Lines         Code     Comments       Blanks\n",
-    " Rust                      1            1            1            0            0\n",
-    " Total                     1            1            1            0            0\n",
+const IS_ONE: Written = (0, Is(ONE), Is(""));
+
+const DOCUMENTS: [Row; 4] = [
+    (&["tokei", "-o", "json", "src"], IS_ONE),
+    (&["tokei", "-t", "rust,nope", "-o", "json", "src"], IS_ONE),
+    (&["tokei", "-t", "nope", "-o", "json", "src"], IS_NONE),
+    (&["tokei", "-o", "json", "-e", "*.rs", "src"], IS_NONE),
 ];
 
+#[test]
+fn documents(rt: HostRuntime) {
+    all_right(&rt, first_wrong(rt.alloc(), &MAIN, &DOCUMENTS));
+}
+
 /// The report of `src/main.rs` at 81 columns.
-fn report(alloc: Global) -> Result<String, AllocError> {
-    let mut row = String::new(alloc);
-    for _ in 0..81 {
-        row.push('━')?;
-    }
-    let [header, rust, total] = ROWS;
-    format!(in alloc; "{row}\n{header}{row}\n{rust}{row}\n{total}{row}\n")
+const REPORT: &str = "\
+━━━━━━━━━━━━━━━━━━━━━━━━━━━━━━━━━━━━━━━━━━━━━━━━━━━━━━━━━━━━━━━━━━━━━━━━━━━━━━━━━
+ Language              Files        Lines         Code     Comments       Blanks
+━━━━━━━━━━━━━━━━━━━━━━━━━━━━━━━━━━━━━━━━━━━━━━━━━━━━━━━━━━━━━━━━━━━━━━━━━━━━━━━━━
+ Rust                      1            1            1            0            0
+━━━━━━━━━━━━━━━━━━━━━━━━━━━━━━━━━━━━━━━━━━━━━━━━━━━━━━━━━━━━━━━━━━━━━━━━━━━━━━━━━
+ Total                     1            1            1            0            0
+━━━━━━━━━━━━━━━━━━━━━━━━━━━━━━━━━━━━━━━━━━━━━━━━━━━━━━━━━━━━━━━━━━━━━━━━━━━━━━━━━
+";
+
+const IS_REPORT: Written = (0, Is(REPORT), Is(""));
+
+const REPORTS: [Row; 6] = [
+    (&["tokei", "-c", "40", "src"], IS_REPORT),
+    (&["tokei", "-c40", "src"], IS_REPORT),
+    (&["tokei", "src"], IS_REPORT),
+    (&["tokei", "-s=code", "src"], IS_REPORT),
+    (&["tokei", "-C", "src"], IS_REPORT),
+    (&["tokei", "-n", "commas", "src"], IS_REPORT),
+];
+
+#[test]
+fn reports(rt: HostRuntime) {
+    all_right(&rt, first_wrong(rt.alloc(), &MAIN, &REPORTS));
+}
+
+const LINE: &str =
+    r#"{"language":"Rust","stats":{"name":"src/main.rs","stats":{"blanks":0,"blobs":{},"code":1,"comments":0}}}
+"#;
+
+const STREAMS: [Row; 1] = [(
+    &["tokei", "--streaming", "json", "-o", "json", "src"],
+    (0, Is(LINE), Is("")),
+)];
+
+#[test]
+fn streams(rt: HostRuntime) {
+    all_right(&rt, first_wrong(rt.alloc(), &MAIN, &STREAMS));
+}
+
+const VERSION: &str = "tokei 15.0.0 compiled with serialization support: json\n";
+
+const HELP_AND_VERSION: [Row; 2] = [
+    (&["tokei", "--version"], (0, Is(VERSION), Is(""))),
+    (&["tokei", "--help"], (0, Has("", "--num-format"), Is(""))),
+];
+
+#[test]
+fn help_and_version(rt: HostRuntime) {
+    all_right(&rt, first_wrong(rt.alloc(), &MAIN, &HELP_AND_VERSION));
+}
+
+const EARLIER: [Row; 3] = [
+    (&["tokei", "-o", "json", "-i", "earlier", "empty"], IS_ONE),
+    (&["tokei", "-o", "json", "-i", "stdin", "empty"], IS_ONE),
+    (&["tokei", "-o", "json", "-i", ONE, "empty"], IS_ONE),
+];
+
+/// The place of the first of these rows that is wrong where the results stand in a file and on standard input, if
+/// there is such a row.
+fn first_wrong_of_earlier(alloc: Global) -> Option<usize> {
+    let files = [("earlier", ONE.as_bytes()), ("empty/a", b"")];
+    let around = (files.as_slice(), UNSET, ONE);
+    first_wrong(alloc, &around, &EARLIER)
 }
 
 #[test]
-fn documents(rt: HostRuntime) -> Result<(), Fail> {
-    for (words, expected) in [
-        (["tokei", "-o", "json", "src"].as_slice(), ONE),
-        (
-            ["tokei", "-t", "rust,nope", "-o", "json", "src"].as_slice(),
-            ONE,
-        ),
-        (
-            ["tokei", "-t", "nope", "-o", "json", "src"].as_slice(),
-            NONE,
-        ),
-        (
-            ["tokei", "-o", "json", "-e", "*.rs", "src"].as_slice(),
-            NONE,
-        ),
-    ] {
-        let found = other(rt.alloc(), words, (0, expected, ""))?;
-        assert_eq!(rt; found, None, "at {words:?}");
-    }
-    Ok(())
+fn earlier_results(rt: HostRuntime) {
+    all_right(&rt, first_wrong_of_earlier(rt.alloc()));
 }
 
-#[test]
-fn reports(rt: HostRuntime) -> Result<(), Fail> {
-    let expected = report(rt.alloc())?;
-    for words in [
-        ["tokei", "-c", "40", "src"].as_slice(),
-        ["tokei", "-c40", "src"].as_slice(),
-        ["tokei", "src"].as_slice(),
-        ["tokei", "-s=code", "src"].as_slice(),
-        ["tokei", "-C", "src"].as_slice(),
-        ["tokei", "-n", "commas", "src"].as_slice(),
-    ] {
-        let found = other(rt.alloc(), words, (0, expected.as_str(), ""))?;
-        assert_eq!(rt; found, None, "at {words:?}");
-    }
-    Ok(())
-}
+const HEADING: &str = "Language                                 Extensions\n";
+
+const RUST: &str = "Rust                                     rs\n";
+
+const LISTED: [Row; 1] = [(&["tokei", "-l"], (0, Has(HEADING, RUST), Is("")))];
 
 #[test]
-fn streams(rt: HostRuntime) -> Result<(), Fail> {
-    let line =
-        r#"{"language":"Rust","stats":{"name":"src/main.rs","stats":{"blanks":0,"blobs":{},"code":1,"comments":0}}}"#;
-    let expected = format!(in rt.alloc(); "{line}\n")?;
-    let words = ["tokei", "--streaming", "json", "-o", "json", "src"];
-    let found = other(rt.alloc(), &words, (0, expected.as_str(), ""))?;
-    assert_eq!(rt; found, None);
-    Ok(())
-}
-
-#[test]
-fn help_and_version(rt: HostRuntime) -> Result<(), Fail> {
-    let version = "tokei 15.0.0 compiled with serialization support: json\n";
-    let found = other(rt.alloc(), &["tokei", "--version"], (0, version, ""))?;
-    assert_eq!(rt; found, None);
-    let shown = shows(rt.alloc(), &["tokei", "--help"], "", "--num-format")?;
-    assert!(rt; shown);
-    Ok(())
-}
-
-#[test]
-fn earlier_results(rt: HostRuntime) -> Result<(), Fail> {
-    let Ok(mut folders) = folders(rt.alloc(), &[("earlier", ONE.as_bytes()), ("empty/a", b"")])
-    else {
-        return Err(Fail::from("no folders"));
-    };
-    for name in ["earlier", "stdin", ONE] {
-        let words = ["tokei", "-o", "json", "-i", name, "empty"];
-        let ran = ran_in(rt.alloc(), &mut folders, ONE, &words)?;
-        let found = unlike(rt.alloc(), ran, (0, ONE, ""))?;
-        assert_eq!(rt; found, None, "at {name}");
-    }
-    Ok(())
-}
-
-#[test]
-fn listed_languages(rt: HostRuntime) -> Result<(), Fail> {
-    let heading = "Language                                 Extensions\n";
-    let rust = "Rust                                     rs\n";
-    let shown = shows(rt.alloc(), &["tokei", "-l"], heading, rust)?;
-    assert!(rt; shown);
-    Ok(())
+fn listed_languages(rt: HostRuntime) {
+    all_right(&rt, first_wrong(rt.alloc(), &MAIN, &LISTED));
 }

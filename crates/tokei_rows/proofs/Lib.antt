@@ -1,5 +1,4 @@
 -- Lemmas of this crate.
-pub mod Characters
 pub mod KeyOrder
 pub mod Pairs
 pub mod RowKinds

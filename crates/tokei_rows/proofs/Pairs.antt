@@ -1,23 +1,9 @@
--- Lists that are no pairs.
-use Rattle.std.proofs.Common.{◌≡◌, ℕ, ◌<◌, ◌≤◌, List, [], ◌∷◌, length, false, refl, arith}
+-- Lists that are no pairs, and pairs of the same texts.
+use Rattle.std.proofs.Common.{◌≡◌, ℕ, List, [], ◌∷◌, length, refl}
 use Rattle.serde_json.specs.View.{items_view}
 use Rattle.serde_json.specs.declared.value.Value.{Value}
-use Rattle.tokei_rows.specs.Layout.{are_two_texts}
 use Rattle.tokei_syntax.specs.Row.{Pair}
 use Rattle.tokei_rows.specs.Rows.{two_texts, no_pair}
-
-pub too_few : (vs : List Value) → length vs < 2
-    → (are_two_texts (items_view vs) ≡ false) × (two_texts (items_view vs) ≡ no_pair)
-too_few [] h = (refl, refl)
-too_few (v ∷ []) h = (refl, refl)
-too_few (v ∷ w ∷ vs) h = absurd (omega (arith, h))
-
-pub too_many : (vs : List Value) → 3 ≤ length vs
-    → (are_two_texts (items_view vs) ≡ false) × (two_texts (items_view vs) ≡ no_pair)
-too_many [] h = absurd (omega (arith, h))
-too_many (v ∷ []) h = absurd (omega (arith, h))
-too_many (v ∷ w ∷ []) h = absurd (omega (arith, h))
-too_many (v ∷ w ∷ x ∷ vs) h = (refl, refl)
 
 pub not_two : (vs : List Value) → (length vs ≡ 2 → ⊥) → two_texts (items_view vs) ≡ no_pair
 not_two [] h = refl

@@ -3,7 +3,7 @@ use Rattle.std.proofs.Common.{◌≡◌, ℕ, List, [], false, Option, None, Som
 use Rattle.serde_json.specs.Data.{Data, string}
 use Rattle.serde_json.specs.Find.{get}
 use Rattle.tokei_syntax.specs.Row.{is_html, is_html_text}
-use Rattle.tokei_rows.specs.Layout.{is_html_kind}
+use Rattle.tokei_table_layout.specs.Layout.{is_html_kind}
 use Rattle.tokei_rows.specs.Rows.{kind_at, tags_at, row_in}
 
 text_tells : (member : Option Data) → is_html_text (kind_at member) ≡ is_html_kind member

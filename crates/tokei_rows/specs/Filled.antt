@@ -2,7 +2,7 @@
 use Rattle.std.specs.Prelude.{codes}
 use Rattle.serde_json.specs.Data.{Data}
 use Rattle.serde_json.specs.Find.{get}
-use Rattle.tokei_rows.specs.Layout.{is_html_kind}
+use Rattle.tokei_table_layout.specs.Layout.{is_html_kind}
 use Rattle.tokei_rows.specs.Rows.{text_at, kind_at, texts_at, pairs_at, truth_at, tags_at, name_or}
 use Rattle.tokei_syntax.specs.Row.{Row}
 

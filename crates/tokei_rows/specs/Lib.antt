@@ -1,8 +1,5 @@
--- What contracts say of the layout of a table, of the escapes in its texts and of its rows.
-pub mod Escaped
-pub mod Escapes
+-- What contracts say of the rows of a table.
 pub mod Filled
 pub mod KeyOrder
-pub mod Layout
 pub mod RowLaws
 pub mod Rows

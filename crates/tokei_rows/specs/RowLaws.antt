@@ -2,7 +2,7 @@
 use Rattle.std.specs.Prelude.{◌≡◌, ℕ, false, List, [], codes}
 use Rattle.serde_json.specs.Data.{Data}
 use Rattle.serde_json.specs.Find.{get}
-use Rattle.tokei_rows.specs.Layout.{is_html_kind}
+use Rattle.tokei_table_layout.specs.Layout.{is_html_kind}
 use Rattle.tokei_rows.specs.Rows.{row_in}
 use Rattle.tokei_syntax.specs.Row.{is_html}
 

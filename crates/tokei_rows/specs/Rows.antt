@@ -4,8 +4,8 @@ use Rattle.std.specs.Prelude.{ℕ, Bool, true, false, List, [], ◌∷◌, Optio
 use Rattle.serde_json.specs.Data.{Data, boolean, string, array, object, Items, no_items, item, Members, no_members}
 use Rattle.serde_json.specs.Data.{member}
 use Rattle.serde_json.specs.Find.{get}
-use Rattle.tokei_rows.specs.Escapes.{unescaped_text}
-use Rattle.tokei_rows.specs.Layout.{is_html_kind}
+use Rattle.tokei_table_layout.specs.Escapes.{unescaped_text}
+use Rattle.tokei_table_layout.specs.Layout.{is_html_kind}
 use Rattle.tokei_syntax.specs.Row.{Pair, Row}
 
 -- A text after escapes.

@@ -8,11 +8,10 @@ ghost use Rattle.tokei_rows.specs.Rows.{text_of, text_at, kind_at, texts_of, tex
 ghost use Rattle.tokei_rows.specs.Rows.{two_texts, pair_in, pairs_in, pairs_at, truth_at, tags_in, tags_at};
 ghost use Rattle.tokei_rows.specs.Rows.{row_in, rows_in, rows_at};
 
-use crate::escapes::unescaped;
-use crate::layout::is_html_kind;
 use serde_json::{Map, Value};
 use std::alloc::{AllocError, Global};
 use tokei_syntax::Syntax;
+use tokei_table_layout::{is_html_kind, unescaped};
 
 fn text(alloc: Global, value: &Value) -> Result<String, AllocError>
     ensures { IfOk result (λ s. string_bytes s ≡ text_of (view value.now)) }

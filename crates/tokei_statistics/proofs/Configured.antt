@@ -2,7 +2,7 @@
 use Rattle.std.proofs.Common.{◌≡◌, List, subst}
 use Rattle.tokei_walk.specs.declared.kept_file.KeptFile.{KeptFile}
 use Rattle.tokei_walk.specs.declared.levels.Rules.{Rules}
-use Rattle.tokei_statistics.specs.Runs.{Counting}
+use Rattle.tokei_files.specs.Files.{Counting}
 
 -- what holds of a run holds of the same one, said in other words
 pub said_again : (P : Counting → List KeptFile → Type 0) (kept : Rules → List KeptFile) (a b : Counting) (r q : Rules) → a ≡ b → r ≡ q → P a (kept r) → P b (kept q)

@@ -10,8 +10,9 @@ use Rattle.tokei_stats.specs.Statistics.{Counts, Statistics, no_lines, plus, blo
 use Rattle.tokei_walk.specs.declared.kept_file.KeptFile.{KeptFile}
 use Rattle.tokei_folders.specs.Tree.{Tree}
 use Rattle.tokei_paths.specs.Contents.{content_at}
-use Rattle.tokei_statistics.specs.Contents.{stats_at, stats_in}
-use Rattle.tokei_statistics.specs.Runs.{Counting, language_from, language_of_file, languages_in, languages_of_file, languages_of_run, FileFits, ReadingsFit, AddsFiles, AddsFirst}
+use Rattle.tokei_files.specs.Contents.{stats_at, stats_in}
+use Rattle.tokei_files.specs.Files.{Counting, language_of_file, FileFits, ReadingsFit}
+use Rattle.tokei_statistics.specs.Runs.{language_from, languages_in, languages_of_file, languages_of_run, AddsFiles, AddsFirst}
 use Rattle.tokei_statistics.proofs.Merges.{Ascends, AllMeet, Associates, merged_assoc, ascends_merged, meet_merged, same_put}
 
 or_false : (a : Bool) → (a || false) ≡ a

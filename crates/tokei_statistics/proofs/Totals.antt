@@ -16,8 +16,9 @@ use Rattle.tokei_languages.specs.Values.{ReportValue, LanguageValue}
 use Rattle.tokei_stats.specs.Statistics.{Counts, no_lines, plus, own, summary}
 use Rattle.tokei_walk.specs.declared.kept_file.KeptFile.{KeptFile}
 use Rattle.tokei_folders.specs.Tree.{Tree}
+use Rattle.tokei_files.specs.Files.{Counting}
 use Rattle.tokei_statistics.specs.OrderLaws.{OrderKeepsTotals}
-use Rattle.tokei_statistics.specs.Runs.{Counting, languages_of_file, languages_of_run}
+use Rattle.tokei_statistics.specs.Runs.{languages_of_file, languages_of_run}
 
 -- a number of each value, added up over entries, where joining values adds them
 module _ {S : Type 0} (join : S → S → S) (m : S → ℕ) (adds : (s t : S) → m (join s t) ≡ m s + m t) where

@@ -1,6 +1,8 @@
-pub mod Configs
-pub mod Contents
-pub mod Faults
+-- What contracts say of the languages of a run, and of the order of its files.
+pub use Rattle.tokei_files.specs.Configs
+pub use Rattle.tokei_files.specs.Contents
+pub use Rattle.tokei_files.specs.Faults
+pub use Rattle.tokei_files.specs.Files
+pub use Rattle.tokei_files.specs.Seen
 pub mod OrderLaws
 pub mod Runs
-pub mod Seen

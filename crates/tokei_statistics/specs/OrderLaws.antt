@@ -7,7 +7,8 @@ use Rattle.tokei_languages.specs.Summaries.{languages_summary, any_inaccurate}
 use Rattle.tokei_languages.specs.Values.{LanguageValue}
 use Rattle.tokei_walk.specs.declared.kept_file.KeptFile.{KeptFile}
 use Rattle.tokei_folders.specs.Tree.{Tree}
-use Rattle.tokei_statistics.specs.Runs.{Counting, languages_of_run}
+use Rattle.tokei_files.specs.Files.{Counting}
+use Rattle.tokei_statistics.specs.Runs.{languages_of_run}
 
 -- the counts of both, with those of the texts inside, and their marks are the same
 pub record HaveEqualTotals (a b : List (ℕ × LanguageValue)) : Type 0 where

@@ -1,18 +1,14 @@
-//! Where the walk and the counter meet: which language a file has, the report of a file, and the statistics of all files
-//! that the ignore rules keep below some roots.
+//! Where the walk and the counter meet: the statistics of all files that the ignore rules keep below some roots. The
+//! names for the language and the report of one file are handed on.
 //!
-//! `specs/` holds the rules, one idea a file: the language of a path, and the report of a content.
+//! `specs/` holds the rules, one idea a file: the languages of a run, and the order of its files.
 #![tactic(auto)]
 
-mod contents;
 mod counting;
-mod error;
 pub mod laws;
-mod parsing;
 mod statistics;
 
-pub use contents::Counting;
-pub use error::ParseFault;
-pub use parsing::parse_file;
-pub use statistics::{CountFiles, rules};
+pub use counting::{add_file, count_files, count_roots};
+pub use statistics::CountFiles;
+pub use tokei_files::{Counting, ParseFault, parse_file, rules};
 pub use tokei_paths::{from_path, from_shebang};

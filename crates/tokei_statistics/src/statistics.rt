@@ -1,49 +1,22 @@
 //! The statistics of all files that a configuration keeps below some roots.
-ghost use Rattle.std.specs.Prelude.{◌≡◌, ◌<◌, option_map, OnOk, OnErr, IfOk, IsErrOf};
+ghost use Rattle.std.specs.Prelude.{◌≡◌, ◌<◌, OnOk, OnErr, IfOk, IsErrOf};
 ghost use Rattle.tokei_config.specs.Seen.{settings_of};
+ghost use Rattle.tokei_files.specs.Configs.{counting_by, kept_by};
+ghost use Rattle.tokei_files.specs.Files.{ReadingsFit};
 ghost use Rattle.tokei_folders.specs.Answers.{Told};
 ghost use Rattle.tokei_languages.specs.Seen.{languages_of};
 ghost use Rattle.tokei_walk.specs.Notes.{Grows, notes_of_excludes};
 ghost use Rattle.tokei_walk.specs.Walks.{texts_of};
-ghost use Rattle.tokei_statistics.specs.Configs.{is_on as is_switched_on, rules_of, counting_by, kept_by};
-ghost use Rattle.tokei_statistics.specs.Runs.{AddsFiles, AddsFirst, AddsRun, ReadingsFit, RunFits};
+ghost use Rattle.tokei_statistics.specs.Runs.{AddsFiles, AddsFirst, AddsRun, RunFits};
 
-use crate::contents::Counting;
+use crate::counting::count_roots;
 use tokei_config::Config;
 use tokei_count::{CountError, Counter};
+use tokei_files::{Counting, rules, types};
 use tokei_folders::Folders;
 use tokei_languages::Languages;
-use tokei_table::{LanguageTable, LanguageType};
-use tokei_walk::{Note, Rules};
-
-fn is_on(switch: Option<bool>) -> bool
-    ensures { result ≡ is_switched_on switch }
-{
-    switch.unwrap_or(false)
-}
-
-/// Which ignore rules a configuration obeys: a member that is `None` is off.
-pub fn rules(config: &Config) -> Rules
-    ensures { result ≡ rules_of (settings_of config.now) }
-{
-    let none = is_on(config.no_ignore);
-    Rules {
-        parents: !(none || is_on(config.no_ignore_parent)),
-        dot: !(none || is_on(config.no_ignore_dot)),
-        git: !(none || is_on(config.no_ignore_vcs)),
-        hidden: !is_on(config.hidden),
-    }
-}
-
-/// The languages that a configuration counts; `None` means all.
-fn types(config: &Config) -> Option<&[LanguageType]>
-    ensures { option_map (λ types. types.now) result ≡ (settings_of config.entry.now).types }
-{
-    match &config.types {
-        Some(types) => Some(types.as_slice()),
-        None => None,
-    }
-}
+use tokei_table::LanguageTable;
+use tokei_walk::Note;
 
 /// Languages into which the files of folders are counted.
 pub trait CountFiles {
@@ -111,7 +84,7 @@ impl CountFiles for Languages {
             config: config.counting(),
             types: types(config),
         };
-        run.count_roots(folders, paths, ignored, &rules(config), self)
+        count_roots(&run, folders, paths, ignored, &rules(config), self)
     }
 
     fn get_statistics<F: Folders>(

@@ -12,7 +12,7 @@ use Rattle.tokei_stats.specs.Seen.{stats_of, stats_step, blobs_of, entries_of}
 use Rattle.tokei_stats.specs.Statistics.{Counts, Statistics, Blobs, own, blobs}
 use Rattle.tokei_stats.specs.Statistics.Statistics.{node}
 use Rattle.tokei_stats.specs.Statistics.Blobs.{none, blob}
-use Rattle.tokei_stats.proofs.SumLaws.{same_counts, same_node}
+use Rattle.tokei_stats.proofs.SameMembers.{same_counts, same_node}
 
 pub first_of_both : (x y : Bool) → (x && y) ≡ true → x ≡ true
 first_of_both true y h = refl

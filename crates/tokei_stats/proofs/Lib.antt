@@ -1,9 +1,6 @@
 pub mod Adding
 pub mod Cloning
 pub mod Fitting
-pub mod BlobsAt
 pub mod BlobsSet
-pub mod SumsOrdered
-pub mod SumLaws
-pub mod MapsOrdered
+pub mod SameMembers
 pub mod Equality

@@ -5,5 +5,4 @@ pub use Rattle.tokei_report_row.specs.ReportRow
 pub mod Statistics
 pub mod Overflow
 pub mod Seen
-pub mod Ordered
-pub mod SumLaws
+pub mod Reports

@@ -1,108 +1,112 @@
 //! The program's exit status, and what it says where it refuses or fails.
-use std::alloc::Global;
-use std::test::Fail;
-use tokei::MemoryFolders;
-use tokei_program_rows::runs::{other, ran, ran_in};
+use crate::verdict::all_right;
+use tokei_program_rows::runs::Asked::{Any, Has, Is};
+use tokei_program_rows::runs::{Around, MAIN, Row, UNSET, first_wrong};
 
-/// The status of the program over the bench table and `src/main.rs`.
-fn status_of(alloc: Global, words: &[&str]) -> Result<u8, Fail> {
-    Ok(ran(alloc, words)?.status)
-}
-
-/// Whether the program refuses the words with status 2 and writes only what is wrong, with this text in it.
-fn is_refused(alloc: Global, words: &[&str], named: &str) -> Result<bool, Fail> {
-    let ran = ran(alloc, words)?;
-    Ok(ran.status == 2 && ran.out.is_empty() && ran.err.as_str().contains(named))
-}
-
-/// Whether the program ends with status 1 and no output where there is no table.
-fn without_a_table(alloc: Global) -> Result<bool, Fail> {
-    let mut folders = MemoryFolders::new(alloc);
-    let ran = ran_in(alloc, &mut folders, "", &["tokei"])?;
-    Ok(ran.status == 1 && ran.out.is_empty())
-}
-
-#[test]
-fn command_lines_that_are_refused(rt: HostRuntime) -> Result<(), Fail> {
-    for (words, named) in [
-        (["tokei", "-o", "yaml"].as_slice(), "yaml"),
-        (["tokei", "-o", "xml"].as_slice(), "xml"),
-        (["tokei", "-s", "code", "-r", "code"].as_slice(), "--rsort"),
-        (
-            ["tokei", "-n", "commas", "-o", "json"].as_slice(),
-            "--output",
-        ),
-        (["tokei", "-l", "src"].as_slice(), "--languages"),
-        (["tokei", "-s", "size"].as_slice(), "size"),
-        (["tokei", "-r", "size"].as_slice(), "size"),
-        (["tokei", "-n", "spaces"].as_slice(), "spaces"),
-        (["tokei", "--streaming", "xml"].as_slice(), "xml"),
-        (["tokei", "-c", "wide"].as_slice(), "wide"),
-        (["tokei", "--nope"].as_slice(), "--nope"),
-    ] {
-        let refused = is_refused(rt.alloc(), words, named)?;
-        assert!(rt; refused, "at {words:?}");
-    }
-    Ok(())
-}
+/// Command lines that are refused, of which only what is wrong is written, with a text in it.
+const REFUSED: [Row; 11] = [
+    (&["tokei", "-o", "yaml"], (2, Is(""), Has("", "yaml"))),
+    (&["tokei", "-o", "xml"], (2, Is(""), Has("", "xml"))),
+    (
+        &["tokei", "-s", "code", "-r", "code"],
+        (2, Is(""), Has("", "--rsort")),
+    ),
+    (
+        &["tokei", "-n", "commas", "-o", "json"],
+        (2, Is(""), Has("", "--output")),
+    ),
+    (&["tokei", "-l", "src"], (2, Is(""), Has("", "--languages"))),
+    (&["tokei", "-s", "size"], (2, Is(""), Has("", "size"))),
+    (&["tokei", "-r", "size"], (2, Is(""), Has("", "size"))),
+    (&["tokei", "-n", "spaces"], (2, Is(""), Has("", "spaces"))),
+    (
+        &["tokei", "--streaming", "xml"],
+        (2, Is(""), Has("", "xml")),
+    ),
+    (&["tokei", "-c", "wide"], (2, Is(""), Has("", "wide"))),
+    (&["tokei", "--nope"], (2, Is(""), Has("", "--nope"))),
+];
 
 #[test]
-fn faults(rt: HostRuntime) -> Result<(), Fail> {
-    for (words, said) in [
-        (["tokei", "nope"].as_slice(), "Error: 'nope' not found.\n"),
-        (["tokei", "src", ""].as_slice(), "Error: '' not found.\n"),
-        (
-            ["tokei", "-i", "{}", "src"].as_slice(),
-            "Error:\n Failed to parse input file: {}\n",
-        ),
-        (
-            ["tokei", "-i", "src/main.rs", "src"].as_slice(),
-            "Error:\n Failed to parse input file: src/main.rs\n",
-        ),
-        (
-            ["tokei", "-i", "stdin", "src"].as_slice(),
-            "Error:\n Failed to parse input file: stdin\n",
-        ),
-        (
-            ["tokei", "--table", "nope.json", "src"].as_slice(),
-            "Error: the table of languages can't be read: nope.json\n",
-        ),
-        (
-            ["tokei", "--table", "src/main.rs", "src"].as_slice(),
-            "Error: the table is no JSON text\n",
-        ),
-    ] {
-        let found = other(rt.alloc(), words, (1, "", said))?;
-        assert_eq!(rt; found, None, "at {words:?}");
-    }
-    Ok(())
+fn command_lines_that_are_refused(rt: HostRuntime) {
+    all_right(&rt, first_wrong(rt.alloc(), &MAIN, &REFUSED));
 }
 
-#[test]
-fn no_table(rt: HostRuntime) -> Result<(), Fail> {
-    let silent = without_a_table(rt.alloc())?;
-    assert!(rt; silent);
-    Ok(())
-}
+/// Command lines that fail, and what is said.
+const FAULTS: [Row; 7] = [
+    (
+        &["tokei", "nope"],
+        (1, Is(""), Is("Error: 'nope' not found.\n")),
+    ),
+    (
+        &["tokei", "src", ""],
+        (1, Is(""), Is("Error: '' not found.\n")),
+    ),
+    (
+        &["tokei", "-i", "{}", "src"],
+        (1, Is(""), Is("Error:\n Failed to parse input file: {}\n")),
+    ),
+    (
+        &["tokei", "-i", "src/main.rs", "src"],
+        (
+            1,
+            Is(""),
+            Is("Error:\n Failed to parse input file: src/main.rs\n"),
+        ),
+    ),
+    (
+        &["tokei", "-i", "stdin", "src"],
+        (
+            1,
+            Is(""),
+            Is("Error:\n Failed to parse input file: stdin\n"),
+        ),
+    ),
+    (
+        &["tokei", "--table", "nope.json", "src"],
+        (
+            1,
+            Is(""),
+            Is("Error: the table of languages can't be read: nope.json\n"),
+        ),
+    ),
+    (
+        &["tokei", "--table", "src/main.rs", "src"],
+        (1, Is(""), Is("Error: the table is no JSON text\n")),
+    ),
+];
 
 #[test]
-fn statuses(rt: HostRuntime) -> Result<(), Fail> {
-    for (words, status) in [
-        (["tokei", "src"].as_slice(), 0),
-        (["tokei", "--version", "--nope"].as_slice(), 0),
-        (["tokei", "-h"].as_slice(), 0),
-        (["tokei", "-l"].as_slice(), 0),
-        (["tokei", "-i", "stdin", "src"].as_slice(), 1),
-        (["tokei", "src", "nope"].as_slice(), 1),
-        (["tokei", "--table", "src", "src"].as_slice(), 1),
-        (["tokei", "--table", "nope", "-s", "size"].as_slice(), 2),
-        (["tokei", "-s", "size", "nope"].as_slice(), 2),
-        (["tokei", "-i", "{}", "--nope"].as_slice(), 2),
-    ] {
-        let found = status_of(rt.alloc(), words)?;
-        assert_eq!(rt; found, status, "at {words:?}");
-    }
-    Ok(())
+fn faults(rt: HostRuntime) {
+    all_right(&rt, first_wrong(rt.alloc(), &MAIN, &FAULTS));
+}
+
+/// No file, so no table either.
+const NOTHING: Around<'static> = (&[], UNSET, "");
+
+const WITHOUT_TABLE: [Row; 1] = [(&["tokei"], (1, Is(""), Any))];
+
+#[test]
+fn no_table(rt: HostRuntime) {
+    all_right(&rt, first_wrong(rt.alloc(), &NOTHING, &WITHOUT_TABLE));
+}
+
+const STATUSES: [Row; 10] = [
+    (&["tokei", "src"], (0, Any, Any)),
+    (&["tokei", "--version", "--nope"], (0, Any, Any)),
+    (&["tokei", "-h"], (0, Any, Any)),
+    (&["tokei", "-l"], (0, Any, Any)),
+    (&["tokei", "-i", "stdin", "src"], (1, Any, Any)),
+    (&["tokei", "src", "nope"], (1, Any, Any)),
+    (&["tokei", "--table", "src", "src"], (1, Any, Any)),
+    (&["tokei", "--table", "nope", "-s", "size"], (2, Any, Any)),
+    (&["tokei", "-s", "size", "nope"], (2, Any, Any)),
+    (&["tokei", "-i", "{}", "--nope"], (2, Any, Any)),
+];
+
+#[test]
+fn statuses(rt: HostRuntime) {
+    all_right(&rt, first_wrong(rt.alloc(), &MAIN, &STATUSES));
 }
 
 const MOST: &str =
@@ -110,10 +114,12 @@ const MOST: &str =
      \"inaccurate\":false,\"reports\":[{\"name\":\"old.rs\",\"stats\":{\"blanks\":0,\"blobs\":{},\
      \"code\":18446744073709551615,\"comments\":0}}]},\"Total\":0}";
 
+const PAST_USIZE: [Row; 1] = [(
+    &["tokei", "-i", MOST, "src"],
+    (1, Is(""), Is("Error: a sum passes the greatest usize\n")),
+)];
+
 #[test]
-fn a_sum_past_usize(rt: HostRuntime) -> Result<(), Fail> {
-    let said = "Error: a sum passes the greatest usize\n";
-    let found = other(rt.alloc(), &["tokei", "-i", MOST, "src"], (1, "", said))?;
-    assert_eq!(rt; found, None);
-    Ok(())
+fn a_sum_past_usize(rt: HostRuntime) {
+    all_right(&rt, first_wrong(rt.alloc(), &MAIN, &PAST_USIZE));
 }

@@ -2,10 +2,10 @@
 use Rattle.std.proofs.Common.{◌≡◌, ℕ, List, Option, None, Some, option_map, sym, ap, ◌∙◌}
 use Rattle.std.specs.Prelude.{option_and_then}
 use Rattle.tokei_folders.specs.Tree.{Tree}
-use Rattle.tokei_languages.specs.Values.{ReportValue}
+use Rattle.tokei_stats.specs.Reports.{ReportValue}
 use Rattle.tokei_paths.specs.Contents.{content_at}
-use Rattle.tokei_statistics.specs.Contents.{stats_at, stats_in}
-use Rattle.tokei_statistics.specs.Runs.{Counting, language_of_file}
+use Rattle.tokei_files.specs.Contents.{stats_at, stats_in}
+use Rattle.tokei_files.specs.Files.{Counting, language_of_file}
 use Rattle.tokei_stats.specs.Statistics.{Statistics}
 use Rattle.tokei_walk.specs.declared.kept_file.KeptFile.{KeptFile}
 use Rattle.tokei_stream.specs.Streams.{report_in, report_of_file}

@@ -3,8 +3,8 @@ use Rattle.std.specs.Prelude.{List}
 use Rattle.tokei_config.specs.Seen.{settings_of}
 use Rattle.tokei_folders.specs.Tree.{Tree}
 use Rattle.tokei_job.specs.declared.job.Job.{Job}
-use Rattle.tokei_statistics.specs.Configs.{counting_by, kept_by}
-use Rattle.tokei_statistics.specs.Runs.{Counting}
+use Rattle.tokei_files.specs.Configs.{counting_by, kept_by}
+use Rattle.tokei_files.specs.Files.{Counting}
 use Rattle.tokei_table.specs.Row.{Row}
 use Rattle.tokei_walk.specs.declared.kept_file.KeptFile.{KeptFile}
 use Rattle.tokei_walk.specs.Walks.{texts_of}

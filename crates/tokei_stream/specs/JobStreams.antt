@@ -5,7 +5,7 @@ use Rattle.tokei_folders.specs.Tree.{Tree}
 use Rattle.tokei_job.specs.declared.job.Job.{Job}
 use Rattle.tokei_job.specs.Earlier.{earlier_of}
 use Rattle.tokei_languages.specs.Renewing.{RenewalFits}
-use Rattle.tokei_statistics.specs.Runs.{ReadingsFit}
+use Rattle.tokei_files.specs.Files.{ReadingsFit}
 use Rattle.tokei_stream.specs.Counted.{counting_of, files_of}
 use Rattle.tokei_stream.specs.Streams.{stream_text}
 use Rattle.tokei_styles.specs.declared.streaming.Streaming.{Streaming}

@@ -1,29 +1,27 @@
 //! A row for each file, written as it is counted.
 ghost use Rattle.std.specs.Prelude.{◌≡◌, ◌≢◌, ◌<◌, Err, IfOk, IsErrOf, OnOk, option_map, true};
 ghost use Rattle.std.specs.Io.KnownBytes.{Appends};
-ghost use Rattle.tokei_config.specs.Seen.{settings_of};
 ghost use Rattle.tokei_folders.specs.Answers.{Told};
 ghost use Rattle.tokei_folders.specs.Tree.{Tree, is_sound};
 ghost use Rattle.tokei_languages.specs.Renewing.{RenewalFits};
-ghost use Rattle.tokei_languages.specs.Seen.{report_of as report_value};
-ghost use Rattle.tokei_statistics.specs.Runs.{FileFits, ReadingsFit};
-ghost use Rattle.tokei_statistics.specs.Seen.{counting_of as counting_value};
+ghost use Rattle.tokei_files.specs.Files.{FileFits, ReadingsFit};
+ghost use Rattle.tokei_files.specs.Seen.{counting_of as counting_value};
+ghost use Rattle.tokei_stats.specs.Reports.{report_of as report_value};
 ghost use Rattle.tokei_walk.specs.Walks.{to_come};
-ghost use Rattle.tokei_job.specs.declared.error.RunError.TheVariants.{Overflow as SumOverflow, Write as WriteFault};
+ghost use Rattle.tokei_run_error.specs.declared.error.RunError.TheVariants.{Overflow as SumOverflow, Write as WriteFault};
 ghost use Rattle.tokei_job.specs.Earlier.{earlier_of};
 ghost use Rattle.tokei_stream.specs.Counted.{files_of};
 ghost use Rattle.tokei_stream.specs.JobStreams.{StreamFits, WritesStream};
 ghost use Rattle.tokei_stream.specs.Streams.{file_row, report_of_file, rows_of, stream_text};
 
-use crate::rows::{Rows, write_heading, write_row};
 use std::alloc::{AllocError, Global};
-use tokei_config::Config;
 use tokei_count::Counter;
+use tokei_files::{Counting, ParseFault, rules, types};
 use tokei_folders::Folders;
 use tokei_io::Sink;
 use tokei_job::{Job, RunError, earlier_languages};
-use tokei_statistics::{Counting, ParseFault, rules};
 use tokei_stats::{CountError, Report};
+use tokei_stream_rows::{Rows, write_heading, write_row};
 use tokei_table::LanguageType;
 use tokei_walk::{KeptFile, Note, Walk};
 
@@ -172,16 +170,6 @@ fn write_stream<F: Folders, W: Sink>(
     let mut walk = walk_of(counting.alloc, job)?;
     write_headed(rows, counting, folders, &mut walk, writer)?;
     Ok(walk.into_notes())
-}
-
-/// The languages that a configuration counts; `None` means all.
-fn types(config: &Config) -> Option<&[LanguageType]>
-    ensures { option_map (λ types. types.now) result ≡ (settings_of config.entry.now).types }
-{
-    match &config.types {
-        Some(types) => Some(types.as_slice()),
-        None => None,
-    }
 }
 
 /// Writes a row for each file of a job, as it is counted, and answers what the walk passed over. No report is kept,

@@ -1,8 +1,5 @@
--- Lemmas on searches, trims and groups of openers.
+-- Lemmas on searches and trims.
 pub mod Finds
-pub mod FirstBytes
-pub mod FirstPlaces
-pub mod OpenerGroups
 pub mod Stops
 pub mod TrimParts
 pub mod Trims

@@ -9,6 +9,3 @@ pub mod RowOf
 pub mod Slices
 pub mod Sound
 pub mod TrimLaws
--- The code's own words, which no public contract has:
-pub mod NearBytes
-pub mod OpenerGroups

@@ -1,5 +1,5 @@
 //! Blanks, trims and searches over bytes.
-ghost use Rattle.std.specs.Prelude.{◌≡◌, ◌==◌, ℕ, ◌≤◌, ◌<◌, true, false, length, slice_index, IfSome};
+ghost use Rattle.std.specs.Prelude.{◌≡◌, ◌==◌, ◌≤◌, ◌<◌, length, IfSome};
 ghost use Rattle.tokei_syntax.specs.Slices.{contains_slice};
 ghost use Rattle.tokei_syntax.specs.OuterLines.{is_stop, first_stop, last_stop, start_behind, is_return_newline};
 ghost use Rattle.tokei_syntax.specs.OuterLines.{end_behind, trim_outer_lines};
@@ -8,7 +8,6 @@ ghost use Rattle.tokei_syntax.specs.Bytes.{begins, begins_with_one, holds};
 ghost use Rattle.tokei_syntax.specs.RowOf.{tokens_of};
 
 use memchr::memmem;
-use tokei_bytes::first_not_of_four;
 
 /// Whether the byte is a blank: space, or one of the bytes 9 to 13.
 pub fn is_whitespace(byte: u8) -> bool
@@ -48,28 +47,6 @@ pub fn trim_start(text: &[u8]) -> &[u8]
         rest = others;
     }
     rest
-}
-
-/// Where the blanks end that stand at the front of the stretch of the text from `from` to before `to`: the first place
-/// whose byte is no blank, or `to`. A place counts the bytes of the text before it.
-#[inline(always)]
-pub fn blanks_end(text: &[u8], from: usize, to: usize) -> usize
-    requires order { from ≤ to }
-    requires within { to ≤ length text.now }
-    ensures low { from ≤ result }
-    ensures high { result ≤ to }
-    ensures blank { (p : ℕ) → from ≤ p → p < result → is_blank (slice_index text.now p) ≡ true }
-    ensures found { result < to → is_blank (slice_index text.now result) ≡ false }
-{
-    if from < to && !is_whitespace(text[from]) {
-        return from;
-    }
-    // few blanks are others than these
-    let mut at = first_not_of_four(*b" \t\n\r", text, from, to);
-    while at < to && is_whitespace(text[at]) {
-        at += 1;
-    }
-    at
 }
 
 fn trim_end(text: &[u8]) -> &[u8]

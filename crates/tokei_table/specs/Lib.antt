@@ -8,9 +8,9 @@ pub use Rattle.tokei_row_rules.specs.RowNames
 pub use Rattle.tokei_row_queries.specs.Shebangs
 pub use Rattle.tokei_row_rules.specs.Tokens
 pub use Rattle.tokei_row_rules.specs.declared.family.Family
-pub use Rattle.tokei_rows.specs.Escaped
-pub use Rattle.tokei_rows.specs.Escapes
-pub use Rattle.tokei_rows.specs.Layout
+pub use Rattle.tokei_table_layout.specs.Escaped
+pub use Rattle.tokei_table_layout.specs.Escapes
+pub use Rattle.tokei_table_layout.specs.Layout
 pub use Rattle.tokei_rows.specs.RowLaws
 pub use Rattle.tokei_rows.specs.Rows
 pub use Rattle.tokei_syntax.specs.Bytes

@@ -5,8 +5,8 @@ use Rattle.std.specs.Str.{is_utf8}
 use Rattle.serde_json.specs.Data.{Data}
 use Rattle.serde_json.specs.Find.{get}
 use Rattle.serde_json.specs.Read.{read}
-use Rattle.tokei_rows.specs.Escaped.{is_escaped_table}
-use Rattle.tokei_rows.specs.Layout.{has_layout}
+use Rattle.tokei_table_layout.specs.Escaped.{is_escaped_table}
+use Rattle.tokei_table_layout.specs.Layout.{has_layout}
 use Rattle.tokei_syntax.specs.Row.{Row}
 use Rattle.tokei_rows.specs.Rows.{rows_at}
 use Rattle.tokei_row_rules.specs.Fallbacks.{has_fallbacks}

@@ -14,8 +14,8 @@ pub use language_type::LanguageType;
 pub use lookups::has_extension;
 pub use table::LanguageTable;
 pub use tokei_row_rules::{Family, family};
+pub use tokei_searches::{OpenerIndex, opener_index};
 pub use tokei_syntax::{
-    OpenerIndex, Syntax, contains_slice, ext, is_blank_text, is_line_ending_whitespace,
-    is_whitespace, laws, opener_index, syntax, trim, trim_first_and_last_line_of_whitespace,
-    trim_start,
+    Syntax, contains_slice, ext, is_blank_text, is_line_ending_whitespace, is_whitespace, laws,
+    syntax, trim, trim_first_and_last_line_of_whitespace, trim_start,
 };

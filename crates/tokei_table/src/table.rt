@@ -22,8 +22,9 @@ use std::marker::Model;
 use tokei_row_queries::IndexedRows;
 use tokei_row_rules::names::names_twice;
 use tokei_row_rules::well_formed::{all_have_fallbacks, all_have_tokens, names_total};
-use tokei_rows::{has_layout, is_escaped_table, rows_at};
+use tokei_rows::rows_at;
 use tokei_syntax::Syntax;
+use tokei_table_layout::{has_layout, is_escaped_table};
 
 /// The table of languages, which contracts see as its rows, in the byte order of their keys.
 #[derive(Drop)]

@@ -1,6 +1,7 @@
 //! Blanks, trims and slices of texts.
+use tokei_searches::blanks_end;
 use tokei_syntax::ext::{
-    blanks_end, contains_slice, is_line_ending_whitespace, is_whitespace, trim,
+    contains_slice, is_line_ending_whitespace, is_whitespace, trim,
     trim_first_and_last_line_of_whitespace, trim_start,
 };
 

@@ -2,8 +2,8 @@ use Rattle.std.proofs.Common.{◌≡◌, false, unwrap_or, List, option_map, OnO
 use Rattle.std.specs.Io.KnownBytes.{Appends}
 use Rattle.tokei_config.specs.Seen.{settings_of}
 use Rattle.tokei_count.specs.Seen.{docs_of}
-use Rattle.tokei_statistics.specs.Configs.{counting_by}
-use Rattle.tokei_statistics.specs.Runs.{Counting, ReadingsFit}
+use Rattle.tokei_files.specs.Configs.{counting_by}
+use Rattle.tokei_files.specs.Files.{Counting, ReadingsFit}
 use Rattle.tokei_stream.specs.Counted.{files_of}
 use Rattle.tokei_stream.specs.Streams.{stream_text}
 use Rattle.tokei_stream.proofs.streaming.stream.Goals as goal

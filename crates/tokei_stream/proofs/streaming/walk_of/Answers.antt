@@ -2,7 +2,7 @@ use Rattle.std.proofs.Common.{◌≡◌, true, IfOk, List, subst}
 use Rattle.std.specs.Global.{Global}
 use Rattle.std.specs.Prelude.{String}
 use Rattle.tokei_folders.specs.Tree.{Tree, is_sound}
-use Rattle.tokei_statistics.specs.Configs.{kept_by}
+use Rattle.tokei_files.specs.Configs.{kept_by}
 use Rattle.tokei_walk.specs.Kept.{kept_in}
 use Rattle.tokei_walk.specs.Walks.{excludes_of, texts_of, to_come}
 use Rattle.tokei_walk.specs.declared.levels.Rules.{Rules}

@@ -1,11 +1,11 @@
 use Rattle.std.proofs.Common.{◌≡◌, Option, Err, refl, ap, ◌∙◌, subst, rules, List}
-use Rattle.tokei_statistics.specs.Runs.{ReadingsFit}
-use Rattle.tokei_statistics.specs.Seen.{counting_of}
+use Rattle.tokei_files.specs.Files.{ReadingsFit}
+use Rattle.tokei_files.specs.Seen.{counting_of}
 use Rattle.tokei_walk.specs.declared.kept_file.KeptFile.{KeptFile}
 use Rattle.tokei_walk.specs.Walks.{to_come, Advances}
 use Rattle.tokei_stream.proofs.WrittenRows.{no_row_yet, one_row_more, all_rows}
 use Rattle.tokei_stream.specs.Streams.{file_row}
-use Rattle.tokei_job.specs.declared.error.RunError.TheVariants.{Overflow}
+use Rattle.tokei_run_error.specs.declared.error.RunError.TheVariants.{Overflow}
 use Rattle.tokei_stream.proofs.streaming.write_rows.Goals as goal
 
 pub loop-file-init : goal.loop-file-init

@@ -1,7 +1,7 @@
 use Rattle.std.proofs.Common.{◌≡◌, ◌<◌}
 use Rattle.tokei_folders.specs.Answers.{Told}
-use Rattle.tokei_statistics.specs.Runs.{ReadingsFit}
-use Rattle.tokei_statistics.specs.Seen.{counting_of}
+use Rattle.tokei_files.specs.Files.{ReadingsFit}
+use Rattle.tokei_files.specs.Seen.{counting_of}
 use Rattle.tokei_walk.specs.Ranks.{rank}
 use Rattle.tokei_walk.specs.Walks.{to_come}
 use Rattle.tokei_stream.proofs.WrittenRows.{RowsSoFar}

@@ -5,8 +5,9 @@ use Rattle.tokei_languages.specs.Seen.{languages_of}
 use Rattle.tokei_walk.specs.declared.kept_file.KeptFile.{KeptFile}
 use Rattle.tokei_walk.specs.Kept.{kept_in}
 use Rattle.tokei_walk.specs.Walks.{excludes_of, texts_of}
-use Rattle.tokei_statistics.specs.Configs.{rules_of, counting_by, kept_by}
-use Rattle.tokei_statistics.specs.Runs.{Counting, AddsFiles, AddsFirst, ReadingsFit}
+use Rattle.tokei_files.specs.Configs.{rules_of, counting_by, kept_by}
+use Rattle.tokei_files.specs.Files.{Counting, ReadingsFit}
+use Rattle.tokei_statistics.specs.Runs.{AddsFiles, AddsFirst}
 use Rattle.tokei_statistics.proofs.Configured.{said_again}
 use Rattle.tokei_statistics.proofs.statistics.LanguagesCountFiles.get_all_files.Goals as goal
 

@@ -1,7 +1,7 @@
 use Rattle.tokei_config.specs.Seen.{settings_of}
 use Rattle.tokei_languages.specs.Seen.{languages_of}
 use Rattle.tokei_walk.specs.Walks.{texts_of}
-use Rattle.tokei_statistics.specs.Configs.{counting_by, kept_by}
+use Rattle.tokei_files.specs.Configs.{counting_by, kept_by}
 use Rattle.tokei_statistics.proofs.Running.{all_added, always_err}
 use Rattle.tokei_statistics.proofs.statistics.LanguagesCountFiles.get_statistics.Goals as goal
 

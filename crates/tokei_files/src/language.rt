@@ -1,0 +1,43 @@
+//! The language in which a file is counted.
+ghost use Rattle.std.specs.Prelude.{◌≡◌, ◌<◌, length, OnOk, IfOk, IfSome};
+ghost use Rattle.tokei_folders.specs.Answers.{Told};
+ghost use Rattle.tokei_files.specs.Files.{counts, language_of_file};
+ghost use Rattle.tokei_files.specs.Seen.{counting_of};
+
+use crate::contents::Counting;
+use std::alloc::AllocError;
+use tokei_paths::language_of_path;
+use tokei_table::LanguageType;
+use tokei_walk::{Folders, KeptFile};
+
+impl Counting<'_> {
+    /// Whether files of the language are counted.
+    fn counts(&self, language: LanguageType) -> bool
+        ensures { result ≡ counts (counting_of self.now).types language }
+    {
+        match self.types {
+            None => true,
+            Some(types) => types.contains(&language),
+        }
+    }
+
+    /// The language in which a file is counted, if in any.
+    pub fn language<F: Folders>(
+        &self,
+        folders: &mut F,
+        file: &KeptFile,
+    ) -> Result<Option<LanguageType>, AllocError>
+        ensures same { F.tree folders.new ≡ F.tree folders.old }
+        ensures told { Told (F.tree folders.old) (λ t. IfOk result (λ o.
+            o ≡ language_of_file (counting_of self.now) t file.now)) }
+        ensures of_table { IfOk result (λ o. IfSome o (λ l. l < length self.now.counter.now)) }
+        ensures honest { OnOk result (F.memory_faults folders.old < u64.MAX
+            → F.memory_faults folders.new ≡ F.memory_faults folders.old) }
+    {
+        let table = self.counter.table();
+        match language_of_path(self.alloc, table, folders, file.place.as_str())? {
+            Some(language) if self.counts(language) => Ok(Some(language)),
+            _ => Ok(None),
+        }
+    }
+}

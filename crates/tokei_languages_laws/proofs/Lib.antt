@@ -1,0 +1,2 @@
+mod AnyOrder
+mod Measures

@@ -1,0 +1,2 @@
+-- What contracts say of what is printed beside reports.
+pub mod Printing

@@ -1,0 +1,2 @@
+-- What contracts say of why a run ended.
+pub mod Errors

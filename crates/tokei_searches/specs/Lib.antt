@@ -1,0 +1,3 @@
+-- The code's own words on searches, which no public contract has.
+pub mod NearBytes
+pub mod OpenerGroups

@@ -1,0 +1,47 @@
+use Rattle.std.proofs.Common.{◌≡◌, Option, Err, refl, ap, sym, ◌∙◌, subst, rules, List, ℕ}
+use Rattle.tokei_languages.specs.Seen.{languages_of}
+use Rattle.tokei_languages.specs.Values.{LanguageValue}
+use Rattle.tokei_stats.specs.declared.error.CountError.TheVariants.{Overflow}
+use Rattle.tokei_walk.specs.declared.kept_file.KeptFile.{KeptFile}
+use Rattle.tokei_walk.specs.Walks.{to_come, Advances}
+use Rattle.tokei_walk.proofs.Growing.{grows_same, grows_on}
+use Rattle.tokei_statistics.specs.Runs.{AddsFirst}
+use Rattle.tokei_files.specs.Seen.{counting_of}
+use Rattle.tokei_statistics.proofs.Running.{none_yet, one_more, first_done, one_over, always_err}
+use Rattle.tokei_statistics.proofs.counting.count_files.Goals as goal
+
+pub loop-file-init : goal.loop-file-init
+loop-file-init g c = record {
+  same = refl;
+  notes = grows_same _ _ refl;
+  honest = λ h. refl;
+  told = λ t e. none_yet (counting_of c.args.counting.now) t (to_come t c.args.walk.now) (languages_of c.args.languages.now);
+}
+
+pub returns-in_err-file-clause-partly : goal.returns-in_err-file-clause-partly
+returns-in_err-file-clause-partly g c = λ t e. always_err c.from_residual.result (first_done (counting_of c.args.counting.now) t _ _ _ _ (c.loop-file.invariant.told t e))
+
+pub loop-file-preserved : goal.loop-file-preserved
+loop-file-preserved g c =
+    let inv = c.loop-file.invariant in record {
+      same = c.add_file.ensures.same ∙ c.next.ensures.same ∙ inv.same;
+      notes = grows_on _ _ _ inv.notes c.next.ensures.notes;
+      honest = search rules;
+      told = λ t e.
+          let here = inv.same ∙ e in
+          let given = subst (λ (o : Option KeptFile). Advances (to_come t c.loop-file.walk) (to_come t c.next.new.self) o) c.in-Some.is (c.in_ok-file.ensures.told t here) in
+          one_more (counting_of c.args.counting.now) t _ _ _ c.in-Some.file _ _ _ (inv.told t e) given (c.in_ok-add_file.ensures.told t (c.next.ensures.same ∙ here));
+    }
+
+pub returns-in_err-add_file-clause-partly : goal.returns-in_err-add_file-clause-partly
+returns-in_err-add_file-clause-partly g c = λ t e.
+    let by = counting_of c.args.counting.now in
+    let some = first_done by t _ _ _ _ (c.loop-file.invariant.told t e) in
+    always_err c.from_residual-in_err-add_file.result (subst (λ (x : List (ℕ × LanguageValue)). AddsFirst by t (to_come t c.args.walk.now) (languages_of c.args.languages.now) x) (sym c.in_err-add_file.ensures.stays) some)
+
+pub returns-in_err-add_file-clause-overflow : goal.returns-in_err-add_file-clause-overflow
+returns-in_err-add_file-clause-overflow g c = λ q t e.
+    let inv = c.loop-file.invariant in let here = inv.same ∙ e in
+    let given = subst (λ (o : Option KeptFile). Advances (to_come t c.loop-file.walk) (to_come t c.next.new.self) o) c.in-Some.is (c.in_ok-file.ensures.told t here) in
+    let same : c.in_err-add_file.field-0.0 ≡ Overflow = search rules in
+    one_over (counting_of c.args.counting.now) t _ _ _ c.in-Some.file _ _ (inv.told t e) given (c.in_err-add_file.ensures.overflow (ap (λ x. Err x) same) t (c.next.ensures.same ∙ here))

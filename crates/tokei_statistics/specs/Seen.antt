@@ -1,8 +1,0 @@
--- The code's values as the definitions see them.
-use Rattle.std.specs.Prelude.{option_map}
-use Rattle.tokei_count.specs.Seen.{docs_of}
-use Rattle.tokei_statistics.specs.Runs.{Counting}
-use Rattle.tokei_statistics.specs.declared.contents.Counting as CodeCounting
-
-abbrev pub counting_of : CodeCounting.Counting → Counting
-counting_of c = record { rows = c.counter.now; docs = docs_of c.config; types = option_map (λ types. types.now) c.types }

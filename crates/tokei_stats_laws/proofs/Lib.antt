@@ -1,0 +1,4 @@
+pub mod BlobsAt
+pub mod MapsOrdered
+pub mod SumLaws
+pub mod SumsOrdered

@@ -1,0 +1,2 @@
+-- What contracts say of the rows of a stream.
+pub mod Rows

@@ -1,0 +1,77 @@
+-- Escapes in the texts of a table, by their characters: those of a string literal in Rust source.
+use Rattle.std.specs.Prelude.{ℕ, ◌==◌, ◌&&◌, List, [], ◌∷◌, Bool, true, false, if◌then◌else◌, encode_utf8_all}
+use Rattle.std.specs.Prelude.{Option, Some, None, is_some, unwrap_or}
+use Rattle.std.specs.Str.{chars}
+
+abbrev pub nul : ℕ
+nul = 0
+
+abbrev pub tab : ℕ
+tab = 9
+
+abbrev pub newline : ℕ
+newline = 10
+
+abbrev pub carriage_return : ℕ
+carriage_return = 13
+
+abbrev pub quote_mark : ℕ
+quote_mark = 34
+
+abbrev pub apostrophe : ℕ
+apostrophe = 39
+
+abbrev pub backslash : ℕ
+backslash = 92
+
+abbrev pub digit_0 : ℕ
+digit_0 = 48
+
+abbrev pub letter_n : ℕ
+letter_n = 110
+
+abbrev pub letter_r : ℕ
+letter_r = 114
+
+abbrev pub letter_t : ℕ
+letter_t = 116
+
+-- What a character behind a backslash stands for.
+abbrev pub escape_value : ℕ → Option ℕ
+escape_value c =
+    if c == backslash then Some backslash
+    else (if c == quote_mark then Some quote_mark
+    else (if c == apostrophe then Some apostrophe
+    else (if c == letter_t then Some tab
+    else (if c == letter_r then Some carriage_return
+    else (if c == letter_n then Some newline
+    else (if c == digit_0 then Some nul
+    else None))))))
+
+-- Whether each backslash begins an escape; `is_escape` asks it of the characters behind a backslash.
+abbrev mutual
+  pub is_escaped : List ℕ → Bool
+  is_escaped [] = true
+  is_escaped (c ∷ cs) = if c == backslash then is_escape cs else is_escaped cs
+
+  pub is_escape : List ℕ → Bool
+  is_escape [] = false
+  is_escape (c ∷ cs) = is_some (escape_value c) && is_escaped cs
+
+-- The characters after escapes; `after_backslash` has those behind a backslash.
+abbrev mutual
+  pub unescaped : List ℕ → List ℕ
+  unescaped [] = []
+  unescaped (c ∷ cs) = if c == backslash then after_backslash cs else c ∷ unescaped cs
+
+  pub after_backslash : List ℕ → List ℕ
+  after_backslash [] = []
+  after_backslash (c ∷ cs) = unwrap_or (escape_value c) c ∷ unescaped cs
+
+-- Whether each backslash of a text begins an escape.
+abbrev pub is_escaped_text : List ℕ → Bool
+is_escaped_text t = is_escaped (chars t)
+
+-- A text after escapes.
+abbrev pub unescaped_text : List ℕ → List ℕ
+unescaped_text t = encode_utf8_all (unescaped (chars t))
