@@ -5,4 +5,6 @@
 #[cfg(test)]
 mod sorts;
 #[cfg(test)]
+mod verdict;
+#[cfg(test)]
 mod widths;

@@ -1,8 +1,10 @@
 //! The order of a sorted report.
+use crate::verdict::all_right;
 use std::alloc::Global;
-use std::test::Fail;
-use tokei::{Job, LanguageTable, Sort, Wanted};
-use tokei_run_rows::runs::{bench, job, written};
+use std::str::from_utf8;
+use tokei::Sort;
+use tokei_bench::bench_json;
+use tokei_run_rows::runs::{Form, Options, REPORT, written};
 use tokei_run_rows::trees::Files;
 
 /// Three languages and one that holds another; by their own blank, code and comment lines C has 0, 1 and 2 in two files,
@@ -15,134 +17,202 @@ const FILES: Files = &[
     ("r.rs", "x\ny\nz\n\n// a\n"),
 ];
 
-/// The first words of the lines that begin with a space, behind spaces.
-fn first_words(alloc: Global, text: &str) -> Result<String, Fail> {
-    let mut words = String::new(alloc);
+/// What follows the first word of a row, which stands behind a space, in a text that begins so.
+fn behind_word<'a>(words: &'a [u8], row: &str) -> Option<&'a [u8]> {
+    let word = row.split(' ').next().unwrap_or("");
+    words.strip_prefix(b" ")?.strip_prefix(word.as_bytes())
+}
+
+/// Whether these are the first words of the lines of a text that begin with a space, each behind a space.
+fn are_first_words(bytes: &[u8], words: &str) -> bool {
+    let Ok(text) = from_utf8(bytes) else {
+        return false;
+    };
+    let mut left = words.as_bytes();
     for line in text.lines() {
-        if let Some(rest) = line.strip_prefix(" ") {
-            words.push(' ')?;
-            words.push_str(rest.split(' ').next().unwrap_or(""))?;
+        if let Some(row) = line.strip_prefix(" ") {
+            match behind_word(left, row) {
+                Some(later) => left = later,
+                None => return false,
+            }
         }
     }
-    Ok(words)
+    left.is_empty()
 }
 
-/// The first words of the rows of the report that a job writes.
-fn rows(alloc: Global, table: &LanguageTable, job: &Job) -> Result<String, Fail> {
-    let text = written(alloc, table, FILES, &[], job)?;
-    first_words(alloc, &text)
+/// Whether the first words of the rows of the report are these.
+fn is_in_order(alloc: Global, options: &Options, words: &str) -> bool {
+    match written(alloc, bench_json(), FILES, &[], options) {
+        Some(bytes) => are_first_words(&bytes, words),
+        None => false,
+    }
 }
 
-/// The first words of the rows of the report in which languages and their files are sorted so.
-fn order(
-    alloc: Global,
-    table: &LanguageTable,
-    sort: Option<Sort>,
-    configured: Option<Sort>,
-    reverse: bool,
-) -> Result<String, Fail> {
-    let mut job = job(alloc, Wanted::Table)?;
-    job.files = true;
-    job.compact = true;
-    job.sort = sort;
-    job.config.sort = configured;
-    job.reverse = reverse;
-    rows(alloc, table, &job)
-}
+/// A sort, a configured one, whether it is reversed, and the first words of the rows.
+type Row = (Option<Sort>, Option<Sort>, bool, &'static str);
 
-const C_BY_NAME: &str = "C ./a.c ./b.c";
-
-const C_BY_COUNT: &str = "C ./b.c ./a.c";
-
-const MARKDOWN: &str = "Markdown ./m.md";
-
-const PYTHON: &str = "Python ./p.py";
-
-const RUST: &str = "Rust ./r.rs";
-
-const BY_BLANKS: [&str; 4] = [PYTHON, RUST, C_BY_NAME, MARKDOWN];
-
-const BY_COMMENTS: [&str; 4] = [C_BY_COUNT, MARKDOWN, RUST, PYTHON];
-
-const BY_TABLE: [&str; 4] = [C_BY_NAME, MARKDOWN, PYTHON, RUST];
-
-/// A sort, a configured one, and the rows in their order.
-const SORTS: [(Option<Sort>, Option<Sort>, [&str; 4]); 8] = [
-    (None, None, BY_TABLE),
-    (Some(Sort::Blanks), None, BY_BLANKS),
-    (Some(Sort::Code), None, [RUST, C_BY_NAME, PYTHON, MARKDOWN]),
-    (Some(Sort::Comments), None, BY_COMMENTS),
-    (Some(Sort::Files), None, BY_TABLE),
+/// Languages of one count stand in the table's order, and so do a language's files in the walk's; `reverse` turns the
+/// languages alone, and only where there is a sort.
+const SORTS: [Row; 16] = [
+    (
+        None,
+        None,
+        false,
+        " Language C ./a.c ./b.c Markdown ./m.md Python ./p.py Rust ./r.rs Total",
+    ),
+    (
+        None,
+        None,
+        true,
+        " Language C ./a.c ./b.c Markdown ./m.md Python ./p.py Rust ./r.rs Total",
+    ),
+    (
+        Some(Sort::Blanks),
+        None,
+        false,
+        " Language Python ./p.py Rust ./r.rs C ./a.c ./b.c Markdown ./m.md Total",
+    ),
+    (
+        Some(Sort::Blanks),
+        None,
+        true,
+        " Language Markdown ./m.md C ./a.c ./b.c Rust ./r.rs Python ./p.py Total",
+    ),
+    (
+        Some(Sort::Code),
+        None,
+        false,
+        " Language Rust ./r.rs C ./a.c ./b.c Python ./p.py Markdown ./m.md Total",
+    ),
+    (
+        Some(Sort::Code),
+        None,
+        true,
+        " Language Markdown ./m.md Python ./p.py C ./a.c ./b.c Rust ./r.rs Total",
+    ),
+    (
+        Some(Sort::Comments),
+        None,
+        false,
+        " Language C ./b.c ./a.c Markdown ./m.md Rust ./r.rs Python ./p.py Total",
+    ),
+    (
+        Some(Sort::Comments),
+        None,
+        true,
+        " Language Python ./p.py Rust ./r.rs Markdown ./m.md C ./b.c ./a.c Total",
+    ),
+    (
+        Some(Sort::Files),
+        None,
+        false,
+        " Language C ./a.c ./b.c Markdown ./m.md Python ./p.py Rust ./r.rs Total",
+    ),
+    (
+        Some(Sort::Files),
+        None,
+        true,
+        " Language Rust ./r.rs Python ./p.py Markdown ./m.md C ./a.c ./b.c Total",
+    ),
     (
         Some(Sort::Lines),
         None,
-        [RUST, C_BY_COUNT, PYTHON, MARKDOWN],
+        false,
+        " Language Rust ./r.rs C ./b.c ./a.c Python ./p.py Markdown ./m.md Total",
     ),
-    (None, Some(Sort::Comments), BY_COMMENTS),
-    (Some(Sort::Blanks), Some(Sort::Comments), BY_BLANKS),
+    (
+        Some(Sort::Lines),
+        None,
+        true,
+        " Language Markdown ./m.md Python ./p.py C ./b.c ./a.c Rust ./r.rs Total",
+    ),
+    (
+        None,
+        Some(Sort::Comments),
+        false,
+        " Language C ./b.c ./a.c Markdown ./m.md Rust ./r.rs Python ./p.py Total",
+    ),
+    (
+        None,
+        Some(Sort::Comments),
+        true,
+        " Language Python ./p.py Rust ./r.rs Markdown ./m.md C ./b.c ./a.c Total",
+    ),
+    (
+        Some(Sort::Blanks),
+        Some(Sort::Comments),
+        false,
+        " Language Python ./p.py Rust ./r.rs C ./a.c ./b.c Markdown ./m.md Total",
+    ),
+    (
+        Some(Sort::Blanks),
+        Some(Sort::Comments),
+        true,
+        " Language Markdown ./m.md C ./a.c ./b.c Rust ./r.rs Python ./p.py Total",
+    ),
 ];
 
-/// The rows in this order, or, where they are reversed, the other way round.
-fn in_order(alloc: Global, order: [&str; 4], reversed: bool) -> Result<String, Fail> {
-    let [a, b, c, d] = order;
-    Ok(if reversed {
-        format!(in alloc; " Language {d} {c} {b} {a} Total")?
-    } else {
-        format!(in alloc; " Language {a} {b} {c} {d} Total")?
-    })
+/// What lists languages and their files so.
+fn by_file(row: &Row) -> Options {
+    Options {
+        form: Form::Table,
+        columns: 81,
+        files: true,
+        compact: true,
+        sort: row.0,
+        configured: row.1,
+        reverse: row.2,
+    }
 }
 
-/// Whether the rows stand in this order where they are sorted so, and are reversed where that is asked for and any sort is.
-fn is_in_order(
-    alloc: Global,
-    table: &LanguageTable,
-    by: (Option<Sort>, Option<Sort>),
-    reverse: bool,
-    expected: [&str; 4],
-) -> Result<bool, Fail> {
-    let (sort, configured) = by;
-    let reversed = reverse && (sort.is_some() || configured.is_some());
-    let expected = in_order(alloc, expected, reversed)?;
-    let found = order(alloc, table, sort, configured, reverse)?;
-    Ok(found.as_str() == expected.as_str())
-}
-
-// Languages of one count stand in the table's order, and so do a language's files in the walk's; `reverse` turns the
-// languages alone.
-#[test]
-fn each_sort_and_its_reverse(rt: HostRuntime) -> Result<(), Fail> {
-    let table = bench(rt.alloc())?;
-    for (sort, configured, order_of_rows) in SORTS {
-        for reverse in [false, true] {
-            let by = (sort, configured);
-            let holds = is_in_order(rt.alloc(), &table, by, reverse, order_of_rows)?;
-            assert!(rt;
-                holds,
-                "by {sort:?}, else {configured:?}, reversed: {reverse}"
-            );
+/// The place of the first row in which the report has another order, if there is such a row.
+fn first_wrong(alloc: Global) -> Option<usize> {
+    for (at, row) in SORTS.iter().enumerate() {
+        if !is_in_order(alloc, &by_file(row), row.3) {
+            return Some(at);
         }
     }
-    Ok(())
+    None
 }
 
-/// The first words of the rows of the report of languages alone, by their comments.
-fn order_of_languages(alloc: Global, table: &LanguageTable, reverse: bool) -> Result<String, Fail> {
-    let mut job = job(alloc, Wanted::Table)?;
-    job.sort = Some(Sort::Comments);
-    job.reverse = reverse;
-    rows(alloc, table, &job)
-}
-
-// Those with children stand last, whatever the sort says.
 #[test]
-fn sorted_languages_with_children_stand_last(rt: HostRuntime) -> Result<(), Fail> {
-    let table = bench(rt.alloc())?;
-    for (reverse, expected) in [
-        (false, " Language C Rust Python Markdown |- (Total) Total"),
-        (true, " Language Python Rust C Markdown |- (Total) Total"),
-    ] {
-        let rows = order_of_languages(rt.alloc(), &table, reverse)?;
-        assert_eq!(rt; rows.as_str(), expected);
+fn each_sort_and_its_reverse(rt: HostRuntime) {
+    all_right(&rt, first_wrong(rt.alloc()));
+}
+
+const BY_COMMENTS: Options = Options {
+    sort: Some(Sort::Comments),
+    ..REPORT
+};
+
+const REVERSED: Options = Options {
+    reverse: true,
+    ..BY_COMMENTS
+};
+
+/// Those with children stand last, whatever the sort says.
+const OF_LANGUAGES: [(Options, &str); 2] = [
+    (
+        BY_COMMENTS,
+        " Language C Rust Python Markdown |- (Total) Total",
+    ),
+    (
+        REVERSED,
+        " Language Python Rust C Markdown |- (Total) Total",
+    ),
+];
+
+/// The place of the first of them in which the report has another order, if there is such a row.
+fn first_wrong_of_languages(alloc: Global) -> Option<usize> {
+    for (at, (options, words)) in OF_LANGUAGES.iter().enumerate() {
+        if !is_in_order(alloc, options, words) {
+            return Some(at);
+        }
     }
-    Ok(())
+    None
+}
+
+#[test]
+fn sorted_languages_with_children_stand_last(rt: HostRuntime) {
+    all_right(&rt, first_wrong_of_languages(rt.alloc()));
 }

@@ -1,8 +1,9 @@
 //! Reports of other widths, and of names of two bytes a character.
+use crate::verdict::all_right;
 use std::alloc::Global;
-use std::test::Fail;
-use tokei::{LanguageTable, Wanted};
-use tokei_run_rows::runs::{bench, framed, job, written};
+use std::str::from_utf8;
+use tokei_bench::bench_json;
+use tokei_run_rows::runs::{Form, Options, written};
 use tokei_run_rows::trees::{Files, MAIN};
 
 /// Two languages whose names have 16 and 20 characters.
@@ -91,85 +92,136 @@ const ROWS: [(usize, [&str; 5]); 7] = [
     ),
 ];
 
-/// What is written of these files in so many columns.
-fn in_columns(
-    alloc: Global,
-    table: &LanguageTable,
-    files: Files,
-    by_file: bool,
-    columns: usize,
-) -> Result<String, Fail> {
-    let mut job = job(alloc, Wanted::Table)?;
-    job.columns = columns;
-    job.files = by_file;
-    written(alloc, table, files, &[], &job)
+/// What asks for a report of so many columns, which lists files or not.
+fn report(columns: usize, files: bool) -> Options {
+    Options {
+        form: Form::Table,
+        columns,
+        files,
+        compact: false,
+        sort: None,
+        configured: None,
+        reverse: false,
+    }
 }
 
-/// The row that isn't written as it is wanted in so many columns, where there is one.
-fn wrong_row(
-    alloc: Global,
-    table: &LanguageTable,
-    columns: usize,
-    rows: [&'static str; 5],
-) -> Result<Option<&'static str>, Fail> {
-    let text = in_columns(alloc, table, FILES, true, columns)?;
-    for (at, expected) in [3, 4, 7, 8, 9].into_iter().zip(rows) {
-        if text.lines().nth(at) != Some(expected) {
-            return Ok(Some(expected));
+/// The places of these lines in the report.
+const PLACES: [usize; 5] = [3, 4, 7, 8, 9];
+
+/// Whether these lines stand at those places of a text.
+fn has_lines(bytes: &[u8], lines: &[&str]) -> bool {
+    let Ok(text) = from_utf8(bytes) else {
+        return false;
+    };
+    for (at, line) in PLACES.iter().zip(lines) {
+        if text.lines().nth(*at) != Some(*line) {
+            return false;
         }
     }
-    Ok(None)
+    true
+}
+
+/// Whether the report of so many columns has these lines.
+fn has_rows(alloc: Global, columns: usize, lines: &[&str]) -> bool {
+    match written(alloc, TABLE.as_bytes(), FILES, &[], &report(columns, true)) {
+        Some(bytes) => has_lines(&bytes, lines),
+        None => false,
+    }
+}
+
+/// The place of the first width whose report has other lines, if there is such a width.
+fn first_wrong(alloc: Global) -> Option<usize> {
+    for (at, (columns, lines)) in ROWS.iter().enumerate() {
+        if !has_rows(alloc, *columns, lines) {
+            return Some(at);
+        }
+    }
+    None
 }
 
 #[test]
-fn names_of_two_bytes_a_character(rt: HostRuntime) -> Result<(), Fail> {
-    let table = LanguageTable::from_json(rt.alloc(), TABLE.as_bytes())?;
-    for (columns, rows) in ROWS {
-        let wrong = wrong_row(rt.alloc(), &table, columns, rows)?;
-        assert_eq!(rt; wrong, None, "at {columns}");
-    }
-    Ok(())
+fn names_of_two_bytes_a_character(rt: HostRuntime) {
+    all_right(&rt, first_wrong(rt.alloc()));
 }
 
-const ONE_LINE: &str = "#
- Rust                      1            1            1            0            0
-=
- Total                     1            1            1            0            0
-=";
+/// A row of `━`.
+const RULE: (&str, &str, &str) = (
+    "━━━━━━━━━━━━━━━━━━━━━━━━━━━━━━━━━━━━━━━━━━━━━━━━━━━━━━━━━━━━━━━━━━━━━━━━━━━━━━━━━",
+    "━",
+    "",
+);
 
-/// The report of 81 columns with so many more, in the rules and behind the first word of each other line.
-fn widened(alloc: Global, report: &str, more: usize) -> Result<String, Fail> {
-    let spaces = " ".repeat(alloc, more)?;
-    let heavy = "━".repeat(alloc, more)?;
-    let mut wide = String::new(alloc);
-    for line in report.lines() {
-        if line.starts_with("━") {
-            wide.push_str(&heavy)?;
-            wide.push_str(line)?;
-        } else {
-            let mut words = line.splitn(3, ' ');
-            wide.push_str(words.next().unwrap_or(""))?;
-            wide.push(' ')?;
-            wide.push_str(words.next().unwrap_or(""))?;
-            wide.push_str(&spaces)?;
-            wide.push(' ')?;
-            wide.push_str(words.next().unwrap_or(""))?;
+/// The lines of the report of one file: what stands at the front of each, what comes once for each column behind 81, and
+/// what stands at the end.
+const ONE_LINE: [(&str, &str, &str); 7] = [
+    RULE,
+    (
+        " Language",
+        " ",
+        "              Files        Lines         Code     Comments       Blanks",
+    ),
+    RULE,
+    (
+        " Rust",
+        " ",
+        "                      1            1            1            0            0",
+    ),
+    RULE,
+    (
+        " Total",
+        " ",
+        "                     1            1            1            0            0",
+    ),
+    RULE,
+];
+
+/// What follows so many fills at the front of a text, if they are there.
+fn behind_fills<'a>(text: &'a str, fill: &str, many: usize) -> Option<&'a str> {
+    let mut left = text;
+    for _ in 0..many {
+        match left.strip_prefix(fill) {
+            Some(later) => left = later,
+            None => return None,
         }
-        wide.push('\n')?;
     }
-    Ok(wide)
+    Some(left)
 }
 
-/// Whether the report of one file in so many columns is as wide as this.
-fn is_as_wide(
-    alloc: Global,
-    table: &LanguageTable,
-    columns: usize,
-    width: usize,
-) -> Result<bool, Fail> {
-    let narrow = framed(alloc, ONE_LINE)?;
-    let expected = widened(alloc, &narrow, width.saturating_sub(81))?;
-    Ok(in_columns(alloc, table, MAIN, false, columns)? == expected)
+/// What follows a line of these at the front of a text, if it is there.
+fn behind_line<'a>(
+    text: &'a str,
+    front: &str,
+    fill: &str,
+    many: usize,
+    end: &str,
+) -> Option<&'a str> {
+    let filled = text.strip_prefix(front)?;
+    behind_fills(filled, fill, many)?
+        .strip_prefix(end)?
+        .strip_prefix('\n')
+}
+
+/// Whether this is the report of one file in so many columns more than 81.
+fn is_one_line(bytes: &[u8], more: usize) -> bool {
+    let Ok(text) = from_utf8(bytes) else {
+        return false;
+    };
+    let mut left = text;
+    for (front, fill, end) in &ONE_LINE {
+        match behind_line(left, front, fill, more, end) {
+            Some(later) => left = later,
+            None => return false,
+        }
+    }
+    left.is_empty()
+}
+
+/// Whether the report of one file in so many columns has so many more than 81.
+fn has_more(alloc: Global, columns: usize, more: usize) -> bool {
+    match written(alloc, bench_json(), MAIN, &[], &report(columns, false)) {
+        Some(bytes) => is_one_line(&bytes, more),
+        None => false,
+    }
 }
 
 /// How many columns are asked for, and how many there are.
@@ -182,12 +234,17 @@ const WIDTHS: [(usize, usize); 6] = [
     (usize::MAX, 65_535),
 ];
 
-#[test]
-fn reports_as_wide_as_can_be(rt: HostRuntime) -> Result<(), Fail> {
-    let table = bench(rt.alloc())?;
-    for (columns, width) in WIDTHS {
-        let wide = is_as_wide(rt.alloc(), &table, columns, width)?;
-        assert!(rt; wide, "at {columns}");
+/// The place of the first of them whose report has another width, if there is such a row.
+fn first_wrong_width(alloc: Global) -> Option<usize> {
+    for (at, (columns, width)) in WIDTHS.iter().enumerate() {
+        if !has_more(alloc, *columns, width.saturating_sub(81)) {
+            return Some(at);
+        }
     }
-    Ok(())
+    None
+}
+
+#[test]
+fn reports_as_wide_as_can_be(rt: HostRuntime) {
+    all_right(&rt, first_wrong_width(rt.alloc()));
 }

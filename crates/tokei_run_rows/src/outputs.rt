@@ -1,33 +1,22 @@
-//! What a run writes, in each form, of a small tree and of a large one.
-use crate::runs::{framed, job};
+//! What runs write, in each form, of a small tree and of a large one.
+use crate::runs::{COLUMNS, DOCUMENT, LINES, Options, REPORT, job, job_beside};
 use crate::trees::{Files, LARGE, TWO};
-use std::alloc::{AllocError, Global};
-use std::test::Fail;
-use tokei::{Format, Job, LanguageTable, RunError, Streaming, Wanted};
+use std::alloc::Global;
+use tokei::{Job, LanguageTable, TableError};
 
-/// A form of output.
-#[derive(Clone, Copy, Debug)]
-pub enum Form {
-    Document,
-    Table,
-    Columns,
-    Lines,
+/// The languages of the two trees, so that few allocations and calls fail in turn.
+const FEW: &str = concat!(
+    r##"{"languages":{"C":{"line_comment":["//"],"extensions":["c"]},"##,
+    r##""Jupyter":{"name":"Jupyter Notebooks","extensions":["ipynb"]},"##,
+    r##""Markdown":{"literate":true,"extensions":["md"]},"##,
+    r##""Python":{"line_comment":["#"],"extensions":["py"]},"##,
+    r##""Rust":{"line_comment":["//"],"extensions":["rs"]}}}"##
+);
+
+/// A table of few languages.
+pub fn few_languages(alloc: Global) -> Result<LanguageTable, TableError> {
+    LanguageTable::from_json(alloc, FEW.as_bytes())
 }
-
-/// Each form of output.
-pub const FORMS: [Form; 4] = [Form::Document, Form::Table, Form::Columns, Form::Lines];
-
-/// A tree whose outputs are known.
-#[derive(Clone, Copy, Debug)]
-pub enum Known {
-    /// Two files, of which one can't be read.
-    Two,
-    /// Ignore files, texts inside others, and the results of an earlier run.
-    Large,
-}
-
-/// Each tree whose outputs are known.
-pub const TREES: [Known; 2] = [Known::Two, Known::Large];
 
 const TWO_DOCUMENT: &str = concat!(
     r#"{"C":{"blanks":0,"children":{},"code":1,"comments":0,"inaccurate":true,"reports":[{"name":"./a.c","stats":{"blanks":0,"#,
@@ -35,21 +24,22 @@ const TWO_DOCUMENT: &str = concat!(
     r#""blobs":{},"code":1,"comments":0}}]},"code":1,"comments":0,"inaccurate":true,"reports":[]}}"#
 );
 
-const TWO_TABLE: &str = "Note: results can be inaccurate for languages marked with '(!)'
-#
+const TWO_TABLE: &str = "\
+Note: results can be inaccurate for languages marked with '(!)'
+━━━━━━━━━━━━━━━━━━━━━━━━━━━━━━━━━━━━━━━━━━━━━━━━━━━━━━━━━━━━━━━━━━━━━━━━━━━━━━━━━
+ Language              Files        Lines         Code     Comments       Blanks
+━━━━━━━━━━━━━━━━━━━━━━━━━━━━━━━━━━━━━━━━━━━━━━━━━━━━━━━━━━━━━━━━━━━━━━━━━━━━━━━━━
  C              (!)        1            1            1            0            0
-=
+━━━━━━━━━━━━━━━━━━━━━━━━━━━━━━━━━━━━━━━━━━━━━━━━━━━━━━━━━━━━━━━━━━━━━━━━━━━━━━━━━
  Total          (!)        1            1            1            0            0
-=";
+━━━━━━━━━━━━━━━━━━━━━━━━━━━━━━━━━━━━━━━━━━━━━━━━━━━━━━━━━━━━━━━━━━━━━━━━━━━━━━━━━
+";
 
-const COLUMNS: &str = concat!(
+const TWO_COLUMNS: &str = concat!(
     "# language                                        path                                          lines         code    ",
     "   comments      blanks   \n",
     "########## ################################################################################ ############ ############ ",
-    "############ ############\n"
-);
-
-const TWO_COLUMNS: &str = concat!(
+    "############ ############\n",
     "         C ./a.c                                                                                       1            ",
     "1            0            0\n"
 );
@@ -82,38 +72,46 @@ const LARGE_DOCUMENT: &str = concat!(
     r#""code":7,"comments":7,"inaccurate":false,"reports":[]}}"#
 );
 
-const LARGE_TABLE: &str = "#
+const LARGE_TABLE: &str = "\
+━━━━━━━━━━━━━━━━━━━━━━━━━━━━━━━━━━━━━━━━━━━━━━━━━━━━━━━━━━━━━━━━━━━━━━━━━━━━━━━━━
+ Language              Files        Lines         Code     Comments       Blanks
+━━━━━━━━━━━━━━━━━━━━━━━━━━━━━━━━━━━━━━━━━━━━━━━━━━━━━━━━━━━━━━━━━━━━━━━━━━━━━━━━━
  C                         2            7            3            3            1
--
+─────────────────────────────────────────────────────────────────────────────────
  ./a.c                                  1            1            0            0
  old.c                                  6            2            3            1
--
+─────────────────────────────────────────────────────────────────────────────────
  Rust                      1            3            1            1            1
--
+─────────────────────────────────────────────────────────────────────────────────
  ./src/main.rs                          3            1            1            1
--
+─────────────────────────────────────────────────────────────────────────────────
  Jupyter Notebooks         1            0            0            0            0
  |- Python                 1            2            2            0            0
  (Total)                                2            2            0            0
--
+─────────────────────────────────────────────────────────────────────────────────
  ./n.ipynb
  |- Jupyter Notebooks                   0            0            0            0
  |- Python                              2            2            0            0
  |- (Total)                             2            2            0            0
--
+─────────────────────────────────────────────────────────────────────────────────
  Markdown                  1            3            0            3            0
  |- Rust                   1            1            1            0            0
  (Total)                                4            1            3            0
--
+─────────────────────────────────────────────────────────────────────────────────
  ./b.md
  |- Markdown                            3            0            3            0
  |- Rust                                1            1            0            0
  |- (Total)                             4            1            3            0
-=
+━━━━━━━━━━━━━━━━━━━━━━━━━━━━━━━━━━━━━━━━━━━━━━━━━━━━━━━━━━━━━━━━━━━━━━━━━━━━━━━━━
  Total                     5           16            7            7            2
-=";
+━━━━━━━━━━━━━━━━━━━━━━━━━━━━━━━━━━━━━━━━━━━━━━━━━━━━━━━━━━━━━━━━━━━━━━━━━━━━━━━━━
+";
 
 const LARGE_COLUMNS: &str = concat!(
+    "# language                                        path                                          lines         code    ",
+    "   comments      blanks   \n",
+    "########## ################################################################################ ############ ############ ",
+    "############ ############\n",
     "         C ./a.c                                                                                       1            ",
     "1            0            0\n",
     "  Markdown ./b.md                                                                                      3            ",
@@ -137,69 +135,94 @@ const LARGE_LINES: &str = concat!(
     "\n"
 );
 
-/// The files of a tree, and those of them that can't be read.
-pub fn files(known: Known) -> (Files, &'static [&'static str]) {
-    match known {
-        Known::Two => (TWO, &["b.c"]),
-        Known::Large => (LARGE, &[]),
-    }
-}
-
-/// The job that writes a tree's output.
-pub fn known_job(
-    alloc: Global,
-    table: &LanguageTable,
-    known: Known,
-    form: Form,
-) -> Result<Job, RunError> {
-    let wanted = match form {
-        Form::Document => Wanted::Document(Format::Json),
-        Form::Table => Wanted::Table,
-        Form::Columns => Wanted::Stream(Streaming::Simple),
-        Form::Lines => Wanted::Stream(Streaming::Json),
-    };
-    let mut job = job(alloc, wanted)?;
-    if let Known::Large = known {
-        job.files = true;
-        match Format::parse(alloc, table, EARLIER) {
-            Ok(earlier) => job.earlier = Some(earlier),
-            Err(_) => return Err(RunError::Memory),
-        }
-    }
-    Ok(job)
-}
-
-/// What is written of a tree.
-pub fn output(alloc: Global, known: Known, form: Form) -> Result<String, AllocError> {
-    let text = match (known, form) {
-        (Known::Two, Form::Document) => TWO_DOCUMENT,
-        (Known::Two, Form::Table) => return framed(alloc, TWO_TABLE),
-        (Known::Two, Form::Columns) => return format!(in alloc; "{COLUMNS}{TWO_COLUMNS}"),
-        (Known::Two, Form::Lines) => TWO_LINES,
-        (Known::Large, Form::Document) => LARGE_DOCUMENT,
-        (Known::Large, Form::Table) => return framed(alloc, LARGE_TABLE),
-        (Known::Large, Form::Columns) => return format!(in alloc; "{COLUMNS}{LARGE_COLUMNS}"),
-        (Known::Large, Form::Lines) => LARGE_LINES,
-    };
-    String::from_str(alloc, text)
-}
-
 /// A run whose output is known.
-#[derive(Drop)]
-pub struct KnownRun {
-    pub known: Known,
-    pub job: Job,
-    pub output: String,
+pub struct Known {
+    pub files: Files,
+    /// Those of them that can't be read.
+    pub unread: &'static [&'static str],
+    pub options: Options,
+    /// The results of an earlier run.
+    pub earlier: Option<&'static str>,
+    pub output: &'static str,
 }
 
-/// The run that writes a tree's output.
-pub fn known_run(
-    alloc: Global,
-    table: &LanguageTable,
-    known: Known,
-    form: Form,
-) -> Result<KnownRun, Fail> {
-    let job = known_job(alloc, table, known, form)?;
-    let output = output(alloc, known, form)?;
-    Ok(KnownRun { known, job, output })
+/// Runs over two files, of which one can't be read; and over ignore files, texts inside others and the results of an
+/// earlier run.
+pub const KNOWN: [Known; 8] = [
+    Known {
+        files: TWO,
+        unread: &["b.c"],
+        options: DOCUMENT,
+        earlier: None,
+        output: TWO_DOCUMENT,
+    },
+    Known {
+        files: TWO,
+        unread: &["b.c"],
+        options: REPORT,
+        earlier: None,
+        output: TWO_TABLE,
+    },
+    Known {
+        files: TWO,
+        unread: &["b.c"],
+        options: COLUMNS,
+        earlier: None,
+        output: TWO_COLUMNS,
+    },
+    Known {
+        files: TWO,
+        unread: &["b.c"],
+        options: LINES,
+        earlier: None,
+        output: TWO_LINES,
+    },
+    Known {
+        files: LARGE,
+        unread: &[],
+        options: Options {
+            files: true,
+            ..DOCUMENT
+        },
+        earlier: Some(EARLIER),
+        output: LARGE_DOCUMENT,
+    },
+    Known {
+        files: LARGE,
+        unread: &[],
+        options: Options {
+            files: true,
+            ..REPORT
+        },
+        earlier: Some(EARLIER),
+        output: LARGE_TABLE,
+    },
+    Known {
+        files: LARGE,
+        unread: &[],
+        options: Options {
+            files: true,
+            ..COLUMNS
+        },
+        earlier: Some(EARLIER),
+        output: LARGE_COLUMNS,
+    },
+    Known {
+        files: LARGE,
+        unread: &[],
+        options: Options {
+            files: true,
+            ..LINES
+        },
+        earlier: Some(EARLIER),
+        output: LARGE_LINES,
+    },
+];
+
+/// The job of a run.
+pub fn known_job(alloc: Global, table: &LanguageTable, known: &Known) -> Option<Job> {
+    match known.earlier {
+        Some(earlier) => job_beside(alloc, table, &known.options, earlier),
+        None => job(alloc, &known.options, None),
+    }
 }

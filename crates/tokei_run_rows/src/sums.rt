@@ -1,8 +1,9 @@
 //! Sums past the greatest `usize`, of earlier results.
-use crate::runs::{bench, job};
+use crate::runs::{COLUMNS, DOCUMENT, LINES, Options, REPORT, job_beside};
+use crate::verdict::all_right;
 use std::alloc::Global;
-use std::test::Fail;
-use tokei::{Counted, Format, Job, LanguageTable, MemoryFolders, RunError, Streaming, Wanted, run};
+use tokei::{Counted, Job, LanguageTable, MemoryFolders, RunError, run};
+use tokei_bench::bench_json;
 
 /// Two reports whose sum is too large.
 const REPORTS: &str = concat!(
@@ -19,7 +20,7 @@ const LANGUAGES: &str = concat!(
 );
 
 /// A language whose lines are too many.
-const LINES: &str = concat!(
+const MOST_LINES: &str = concat!(
     r#"{"C":{"blanks":0,"children":{},"code":0,"comments":0,"inaccurate":false,"reports":[{"name":"a","stats":{"blanks":1,"#,
     r#""blobs":{},"code":18446744073709551615,"comments":0}}]},"Total":0}"#
 );
@@ -30,68 +31,87 @@ const INSIDE: &str = concat!(
     r#""blobs":{"Rust":{"blanks":0,"blobs":{},"code":18446744073709551615,"comments":0}},"code":1,"comments":0}}]},"Total":0}"#
 );
 
-/// The job of an output of these earlier results, by file or not, compact or not.
-fn job_of(
-    alloc: Global,
-    table: &LanguageTable,
-    earlier: &str,
-    output: (Wanted, bool, bool),
-) -> Result<Job, Fail> {
-    let (wanted, files, compact) = output;
-    let mut job = job(alloc, wanted)?;
-    job.earlier = Some(Format::parse(alloc, table, earlier)?);
-    job.files = files;
-    job.compact = compact;
-    Ok(job)
-}
+const LISTED: Options = Options {
+    files: true,
+    ..REPORT
+};
 
-/// Whether a run over nothing but these earlier results is refused for a sum.
-fn overflows(
-    alloc: Global,
-    table: &LanguageTable,
-    earlier: &str,
-    output: (Wanted, bool, bool),
-) -> Result<bool, Fail> {
-    let job = job_of(alloc, table, earlier, output)?;
+const COMPACT: Options = Options {
+    files: true,
+    compact: true,
+    ..REPORT
+};
+
+/// Earlier results, an output, and whether it is refused for a sum. A document shows no number of lines, and no sum of one
+/// report; a stream shows nothing of earlier results, but their counts are renewed.
+const ROWS: [(&str, Options, bool); 24] = [
+    (REPORTS, DOCUMENT, true),
+    (REPORTS, REPORT, true),
+    (REPORTS, LISTED, true),
+    (REPORTS, COMPACT, true),
+    (REPORTS, COLUMNS, true),
+    (REPORTS, LINES, true),
+    (LANGUAGES, DOCUMENT, true),
+    (LANGUAGES, REPORT, true),
+    (LANGUAGES, LISTED, true),
+    (LANGUAGES, COMPACT, true),
+    (LANGUAGES, COLUMNS, false),
+    (LANGUAGES, LINES, false),
+    (MOST_LINES, DOCUMENT, false),
+    (MOST_LINES, REPORT, true),
+    (MOST_LINES, LISTED, true),
+    (MOST_LINES, COMPACT, true),
+    (MOST_LINES, COLUMNS, false),
+    (MOST_LINES, LINES, false),
+    (INSIDE, DOCUMENT, false),
+    (INSIDE, REPORT, false),
+    (INSIDE, LISTED, true),
+    (INSIDE, COMPACT, false),
+    (INSIDE, COLUMNS, false),
+    (INSIDE, LINES, false),
+];
+
+/// Whether a run over nothing is refused for a sum; none where it is refused for another reason.
+fn overflows(alloc: Global, table: &LanguageTable, job: &Job) -> Option<bool> {
     let mut folders = MemoryFolders::new(alloc);
     let mut out = Counted::new(Vec::new(alloc));
-    match run(alloc, table, &mut folders, &job, &mut out) {
-        Ok(_) => Ok(false),
-        Err(RunError::Overflow) => Ok(true),
-        Err(refused) => Err(Fail::from(refused)),
+    match run(alloc, table, &mut folders, job, &mut out).err() {
+        None => Some(false),
+        Some(RunError::Overflow) => Some(true),
+        Some(_) => None,
     }
 }
 
-/// Outputs: what is wanted, whether files are listed, and whether the report is compact.
-const OUTPUTS: [(Wanted, bool, bool); 6] = [
-    (Wanted::Document(Format::Json), false, false),
-    (Wanted::Table, false, false),
-    (Wanted::Table, true, false),
-    (Wanted::Table, true, true),
-    (Wanted::Stream(Streaming::Simple), false, false),
-    (Wanted::Stream(Streaming::Json), false, false),
-];
+/// The same of a run over nothing but these earlier results.
+fn overflows_beside(
+    alloc: Global,
+    table: &LanguageTable,
+    earlier: &str,
+    options: &Options,
+) -> Option<bool> {
+    let job = job_beside(alloc, table, options, earlier)?;
+    overflows(alloc, table, &job)
+}
 
-/// Earlier results, and of which of these outputs a sum is refused.
-const REFUSED: [(&str, [bool; 6]); 4] = [
-    (REPORTS, [true, true, true, true, true, true]),
-    (LANGUAGES, [true, true, true, true, false, false]),
-    (LINES, [false, true, true, true, false, false]),
-    (INSIDE, [false, false, true, false, false, false]),
-];
-
-// A document shows no number of lines, and no sum of one report; a stream shows nothing of earlier results, but their
-// counts are renewed.
-#[test]
-fn each_sum_that_is_shown_can_refuse_the_run(rt: HostRuntime) -> Result<(), Fail> {
-    let table = bench(rt.alloc())?;
-    for (earlier, refused) in REFUSED {
-        let mut at: usize = 0;
-        for (output, expected) in OUTPUTS.into_iter().zip(refused) {
-            let overflows = overflows(rt.alloc(), &table, earlier, output)?;
-            assert_eq!(rt; overflows, expected, "output {at} of {earlier}");
-            at = at.saturating_add(1);
+/// The place of the first row that is refused where it shouldn't be, or isn't where it should, if there is such a row.
+fn first_wrong(alloc: Global, table: &LanguageTable) -> Option<usize> {
+    for (at, (earlier, options, refused)) in ROWS.iter().enumerate() {
+        if overflows_beside(alloc, table, earlier, options) != Some(*refused) {
+            return Some(at);
         }
     }
-    Ok(())
+    None
+}
+
+/// The same by the bench table; the first place where there is no table.
+fn first_wrong_by_bench(alloc: Global) -> Option<usize> {
+    match LanguageTable::from_json(alloc, bench_json()) {
+        Ok(table) => first_wrong(alloc, &table),
+        Err(_) => Some(0),
+    }
+}
+
+#[test]
+fn each_sum_that_is_shown_can_refuse_the_run(rt: HostRuntime) {
+    all_right(&rt, first_wrong_by_bench(rt.alloc()));
 }

@@ -33,18 +33,22 @@ pub const LARGE: Files = &[
     ("src/main.rs", "// a\n\nfn main() {}\n"),
 ];
 
-/// The folders of these files, of which some refuse to be read.
-pub fn folders(
-    alloc: Global,
-    files: &[(&str, &str)],
-    unread: &[&str],
-) -> Result<MemoryFolders, Fault> {
-    let mut folders = MemoryFolders::new(alloc);
+/// Adds these files, and has some of them refuse to be read.
+fn fill(folders: &mut MemoryFolders, files: &[(&str, &str)], unread: &[&str]) -> Result<(), Fault> {
     for (place, content) in files {
         folders.add_file(place, content.as_bytes())?;
     }
     for place in unread {
         folders.refuse_call(place, Call::Read)?;
     }
-    Ok(folders)
+    Ok(())
+}
+
+/// The folders of these files, of which some refuse to be read; none where they can't be made.
+pub fn folders(alloc: Global, files: &[(&str, &str)], unread: &[&str]) -> Option<MemoryFolders> {
+    let mut folders = MemoryFolders::new(alloc);
+    if fill(&mut folders, files, unread).is_err() {
+        return None;
+    }
+    Some(folders)
 }
