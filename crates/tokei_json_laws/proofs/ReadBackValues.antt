@@ -17,7 +17,9 @@ use Rattle.tokei_table.specs.Row.{Row}
 use Rattle.tokei_table.specs.RowNames.{names_twice}
 use Rattle.tokei_json.specs.Document.{name_of, statistics_data, blobs_data, report_data, reports_data, named_data, language_data, document}
 use Rattle.tokei_documents.specs.LanguageMaps.{language_named}
-use Rattle.tokei_earlier.specs.Reading.{put_named, put_blob, counts_in, statistics_in, with_blobs, report_in, all_reports_in, reports_in, with_children, language_in, with_languages, languages_in}
+use Rattle.tokei_earlier_reports.specs.ReadReports.{put_named, put_blob, counts_in, statistics_in, with_blobs, report_in}
+use Rattle.tokei_earlier_reports.specs.ReadReports.{all_reports_in, reports_in, with_children}
+use Rattle.tokei_earlier.specs.Reading.{language_in, with_languages, languages_in}
 use Rattle.tokei_json_laws.specs.Known.{AreKnown, BlobsAreKnown}
 use Rattle.tokei_json_laws.proofs.Sound.{ReportsAreSound, ChildrenAreSound, IsSound, LanguagesAreSound}
 use Rattle.tokei_earlier_reports.proofs.Insertions.{blobs_of-insert}
