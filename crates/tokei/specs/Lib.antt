@@ -1,4 +1,6 @@
-pub mod Runs
+-- What contracts say of a run: its output, and the sums that have to fit.
 pub mod Output
-pub mod Sums
 pub mod Refused
+pub mod Runs
+pub mod Sums
+pub mod Written

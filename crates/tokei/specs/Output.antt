@@ -8,7 +8,7 @@ use Rattle.tokei_table.specs.Row.{Row}
 use Rattle.tokei_job.specs.declared.job.Job.{Job}
 use Rattle.tokei_job.specs.declared.job.Wanted.{Wanted}
 use Rattle.tokei_job.specs.declared.job.Wanted.TheVariants.{Stream, Document, Table}
-use Rattle.tokei_output.specs.Written.{AppendsTable}
+use Rattle.tokei.specs.Written.{AppendsTable}
 use Rattle.tokei_stream.specs.JobStreams.{WritesStream}
 use Rattle.tokei.specs.Runs.{languages_after}
 

@@ -11,8 +11,8 @@ use Rattle.tokei_job.specs.declared.job.Job.{Job}
 use Rattle.tokei_job.specs.declared.job.Wanted.{Wanted}
 use Rattle.tokei_job.specs.declared.job.Wanted.TheVariants.{Stream, Document, Table}
 use Rattle.tokei_job.specs.Earlier.{earlier_of}
-use Rattle.tokei_output.specs.Written.{sort_of, style_of}
-use Rattle.tokei_report.specs.Sums.{TableFits}
+use Rattle.tokei.specs.Written.{sort_of, style_of}
+use Rattle.tokei_print.specs.ReportSums.{TableFits}
 use Rattle.tokei_stream.specs.Counted.{counting_of, files_of}
 use Rattle.tokei_stream.specs.JobStreams.{StreamFits}
 use Rattle.tokei.specs.Runs.{languages_after}

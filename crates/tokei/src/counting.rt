@@ -4,7 +4,7 @@ ghost use Rattle.tokei_folders.specs.Answers.{Told};
 ghost use Rattle.tokei_languages.specs.Seen.{languages_of};
 ghost use Rattle.tokei_walk.specs.Notes.{Grows, notes_of_excludes};
 ghost use Rattle.tokei_walk.specs.Walks.{texts_of};
-ghost use Rattle.tokei_run_error.specs.declared.error.RunError.TheVariants.{Overflow as SumOverflow, Write};
+ghost use Rattle.tokei_job.specs.declared.error.RunError.TheVariants.{Overflow as SumOverflow, Write};
 ghost use Rattle.tokei.specs.Runs.{languages_after};
 ghost use Rattle.tokei.specs.Sums.{TallyFits};
 

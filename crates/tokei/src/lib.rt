@@ -4,6 +4,7 @@
 
 mod counting;
 pub mod running;
+pub mod writing;
 
 pub use running::run;
 pub use tokei_config::{Config, ConfigDirs, LanguageConfig};
@@ -13,11 +14,10 @@ pub use tokei_count::{
     end_template, find_char_boundary, parse_counted, parse_from_slice, parse_from_str, start_lf,
     start_markdown, start_script, start_style, start_template,
 };
-pub use tokei_earlier::{InputError, add_input, from_value};
+pub use tokei_earlier::{Format, FormatError, InputError, add_input, from_value};
 pub use tokei_folders::{
     Above, Call, Entry, FailingFolders, Fault, Folders, Items, Kind, Listing, MemoryFolders, Text,
 };
-pub use tokei_format::{Format, FormatError};
 pub use tokei_ignore::{IgnoreFile, Pattern, PatternError, Verdict};
 pub use tokei_io::{Counted, FailOnce, Sink, Source};
 pub use tokei_job::{Job, RunError, Wanted};

@@ -1,18 +1,18 @@
 //! A whole run: what is counted is written.
 ghost use Rattle.std.specs.Prelude.{◌≡◌, ◌≢◌, ◌<◌, Err, IfErr, OnOk};
 ghost use Rattle.tokei_folders.specs.Answers.{Told};
-ghost use Rattle.tokei_run_error.specs.declared.error.RunError.TheVariants.{Overflow as SumOverflow, Write as WriteFault};
+ghost use Rattle.tokei_job.specs.declared.error.RunError.TheVariants.{Overflow as SumOverflow, Write as WriteFault};
 ghost use Rattle.tokei.specs.Output.{Outputs, WritesDocument, WritesTable};
 ghost use Rattle.tokei.specs.Refused.{IsUntouched};
 ghost use Rattle.tokei.specs.Sums.{DocumentFits, EarlierFits, Fits, RunTableFits};
 
 use crate::counting::tally_of;
+use crate::writing::{put_document, put_table};
 use std::alloc::Global;
+use tokei_earlier::Format;
 use tokei_folders::Folders;
-use tokei_format::Format;
 use tokei_io::Sink;
 use tokei_job::{Job, RunError, Wanted};
-use tokei_output::{put_document, put_table};
 use tokei_stream::{Rows, stream};
 use tokei_table::LanguageTable;
 use tokei_walk::Note;

@@ -17,7 +17,7 @@ use request::requested;
 use serde_json::Value;
 use std::alloc::Global;
 use std::time::Clock;
-use tokei_format::Format;
+use tokei_earlier::Format;
 use ways::{Input, Way};
 
 /// Prints the line of a way.

@@ -10,7 +10,7 @@ ghost use Rattle.tokei_languages.specs.Seen.{languages_of};
 use anyhow::bail;
 use serde_json::Value;
 use std::alloc::Global;
-use tokei_format::Format;
+use tokei_earlier::Format;
 use tokei_languages::Languages;
 use tokei_table::LanguageTable;
 

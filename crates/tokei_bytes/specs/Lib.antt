@@ -1,5 +1,7 @@
--- What contracts say of searches for bytes: which bytes are sought, and what a search answers.
+-- What contracts say of bytes: searches for them, the decoding of contents, and where characters begin.
+pub mod Boundaries
+pub mod ByteSets
+pub mod Decoding
 pub mod FirstPlace
 pub mod OneOf
-pub mod ByteSets
 pub mod Pairs

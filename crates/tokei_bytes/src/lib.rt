@@ -1,15 +1,20 @@
-//! The first of up to four bytes, where it is mostly a few places ahead.
+//! Bytes of a text: searches for the first of up to four of them, the decoding of a file's contents, and the boundaries of
+//! characters.
 //!
 //! memchr's searches take at most three bytes, and cost some fifty instructions a call however close the hit is. The
 //! searches here are for a caller that mostly looks a few bytes ahead; `first_of_one` leaves far ones to memchr.
 #![tactic(auto)]
 
+mod boundaries;
 mod byte_set;
+mod decoding;
 mod near;
 mod one_of;
 mod pairs;
 
+pub use boundaries::find_char_boundary;
 pub use byte_set::ByteSet;
+pub use decoding::decode_text;
 pub use near::first_of_one;
 pub use one_of::{
     BLOCK, SHORT_BLOCK, first_in_block, first_not_of_four, first_of_four, first_other_in_block,

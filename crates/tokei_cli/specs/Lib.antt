@@ -1,5 +1,7 @@
--- What contracts say of command lines: the options, what their words read as, and the answers where nothing is counted.
+-- What contracts say of command lines: the options, what their words read as, and what is printed where nothing is counted.
 pub mod CommandLines
-pub mod Texts
-pub mod Options
 pub mod Lines
+pub mod Options
+pub mod Overriding
+pub mod Printing
+pub mod Texts

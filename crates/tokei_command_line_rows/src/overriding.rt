@@ -2,9 +2,8 @@
 use crate::shown::assert_shown;
 use std::alloc::{AllocError, Global};
 use std::test::Fail;
-use tokei_cli::Cli;
+use tokei_cli::{Cli, OverrideConfig};
 use tokei_config::Config;
-use tokei_overriding::OverrideConfig;
 use tokei_table::{LanguageTable, LanguageType};
 
 /// A table of two languages.

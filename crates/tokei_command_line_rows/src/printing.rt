@@ -1,8 +1,8 @@
 //! What is printed beside reports.
 use std::alloc::Global;
 use std::test::Fail;
+use tokei_cli::{OutputError, print_input_parse_failure, print_supported_languages};
 use tokei_io::{Counted, FailOnce};
-use tokei_listing::{OutputError, print_input_parse_failure, print_supported_languages};
 use tokei_table::LanguageTable;
 
 /// A table of two languages, one of them without extensions.

@@ -1,7 +1,7 @@
-pub mod Settings
-pub mod Members
-pub mod Languages
 pub mod Document
 pub mod Files
+pub mod Languages
+pub mod Members
 pub mod Reading
 pub mod Seen
+pub mod Settings

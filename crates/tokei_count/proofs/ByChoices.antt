@@ -6,10 +6,10 @@ use Rattle.tokei_table.specs.Openers.{openers}
 use Rattle.tokei_table.specs.Row.{Pair, Row}
 use Rattle.tokei_table.specs.Sound.{IsSound}
 use Rattle.tokei_table.specs.Tokens.{has_tokens}
-use Rattle.tokei_choice.specs.Choice.{Choice}
-use Rattle.tokei_choice.specs.Choice.Choice.{closes, escapes, child_opens, opens, passes_over, begins_line_comment, takes_byte}
+use Rattle.tokei_parts.specs.Choice.{Choice}
+use Rattle.tokei_parts.specs.Choice.Choice.{closes, escapes, child_opens, opens, passes_over, begins_line_comment, takes_byte}
 use Rattle.tokei_parts.specs.Glance.{holds}
-use Rattle.tokei_choice.specs.Items.{Block, Enclosure, enclosure}
+use Rattle.tokei_parts.specs.Items.{Block, Enclosure, enclosure}
 use Rattle.tokei_parts.specs.Lines.{first_line, line_len}
 use Rattle.tokei_parts.specs.Modes.{Chain, innermost}
 use Rattle.tokei_parts.specs.Modes.Mark.{byte_at, child_at}

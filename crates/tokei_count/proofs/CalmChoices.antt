@@ -5,12 +5,12 @@ use Rattle.tokei_table.specs.Families.{family_of}
 use Rattle.tokei_table.specs.Openers.{starts_of, tag_starts, child_openers, openers}
 use Rattle.tokei_table.specs.Row.{Pair, Row}
 use Rattle.tokei_table.specs.Tokens.{has_tokens}
-use Rattle.tokei_choice.specs.Choice.{choice, opened, any_begins, is_escape}
-use Rattle.tokei_choice.specs.Choice.Choice.{escapes, opens, passes_over, begins_line_comment, takes_byte}
+use Rattle.tokei_parts.specs.Choice.{choice, opened, any_begins, is_escape}
+use Rattle.tokei_parts.specs.Choice.Choice.{escapes, opens, passes_over, begins_line_comment, takes_byte}
 use Rattle.tokei_parts.specs.Glance.{holds}
-use Rattle.tokei_choice.specs.Items.{Block}
+use Rattle.tokei_parts.specs.Items.{Block}
 use Rattle.tokei_parts.specs.Lines.{first_line}
-use Rattle.tokei_choice.specs.declared.items.Kind.{Kind}
+use Rattle.tokei_parts.specs.declared.items.Kind.{Kind}
 use Rattle.tokei_parts.proofs.OpenersInLines.{one-line, none_here, none_next, none_front, none_back}
 use Rattle.tokei_count.proofs.TokenOpeners.{openers_in_line}
 

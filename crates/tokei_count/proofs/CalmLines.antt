@@ -3,22 +3,22 @@ use Rattle.std.proofs.Common.{◌≡◌, ◌∙◌, ℕ, zero, suc, ◌+◌, ◌
 use Rattle.std.proofs.lemmas.List.{drop-drop}
 use Rattle.tokei_table.specs.Row.{Row}
 use Rattle.tokei_parts.specs.Calm.{IsCalm}
-use Rattle.tokei_choice.specs.Choice.{choice}
-use Rattle.tokei_choice.specs.Choice.Choice.{takes_byte}
+use Rattle.tokei_parts.specs.Choice.{choice}
+use Rattle.tokei_parts.specs.Choice.Choice.{takes_byte}
 use Rattle.tokei_parts.specs.Class.{class_of}
 use Rattle.tokei_parts.specs.Glance.{is_walked}
-use Rattle.tokei_choice.specs.Items.{Block, Enclosure}
+use Rattle.tokei_parts.specs.Items.{Block, Enclosure}
 use Rattle.tokei_parts.specs.Lines.{first_line, line_len}
 use Rattle.tokei_parts.specs.Modes.{Chain, innermost}
 use Rattle.tokei_parts.specs.Tally.{one_of}
 use Rattle.tokei_parts.specs.Progress.{Leads, Goes, IsClosable, IsPart, ReadsLine, newlines}
 use Rattle.tokei_parts.specs.ReadingOf.{row_in, blocks_of, openers_in}
-use Rattle.tokei_choice.specs.Seen.{mode_of}
+use Rattle.tokei_parts.specs.SeenChoices.{mode_of}
 use Rattle.tokei_parts.specs.Seen.{chain_of}
 use Rattle.tokei_count.specs.UnderWay.{IsUnderWay}
 use Rattle.tokei_parts.specs.Walked.{IsLine}
 use Rattle.tokei_parts.specs.declared.class.Class.{Class}
-use Rattle.tokei_choice.specs.declared.items.Enclosure as CodeEnclosure
+use Rattle.tokei_parts.specs.declared.items.Enclosure as CodeEnclosure
 use Rattle.tokei_parts.specs.declared.reading.Reading.{Reading}
 use Rattle.tokei_count.specs.declared.text_reading.ReadSoFar.{ReadSoFar}
 use Rattle.tokei_stats.specs.Seen.{sums_of}

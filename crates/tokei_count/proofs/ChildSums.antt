@@ -1,7 +1,7 @@
 -- Numbers of texts with those of their children.
 use Rattle.std.proofs.Common.{ℕ, zero, suc, ◌≤◌, Bool, true, false, cond, List, arith}
 use Rattle.tokei_table.specs.Row.{Row}
-use Rattle.tokei_choice.specs.Items.{Items}
+use Rattle.tokei_parts.specs.Items.{Items}
 use Rattle.tokei_count.specs.Languages.{Languages, is_notebook}
 use Rattle.tokei_count.specs.Steps.{items_in, children_in, with_children}
 use Rattle.tokei_count.proofs.StepWeight.{sum_less}

@@ -2,9 +2,9 @@
 use Rattle.std.proofs.Common.{◌≡◌, ◌==◌, ◌∙◌, ℕ, suc, false, List, [], ◌∷◌, None, length, reverse}
 use Rattle.std.proofs.lemmas.List.{length-map, length-reverse}
 use Rattle.tokei_parts.specs.Modes.{Chain, innermost}
-use Rattle.tokei_choice.specs.Seen.{enclosure_of}
+use Rattle.tokei_parts.specs.SeenChoices.{enclosure_of}
 use Rattle.tokei_parts.specs.Seen.{chain_of}
-use Rattle.tokei_choice.specs.declared.items.Enclosure.{Enclosure}
+use Rattle.tokei_parts.specs.declared.items.Enclosure.{Enclosure}
 
 some_innermost : (c : Chain) (n : ℕ) → length c ≡ suc n → innermost c ≡ None → ⊥
 some_innermost [] n e h = cc

@@ -1,6 +1,6 @@
 -- Where the blobs of a reading fit, so does all that they were made of.
 use Rattle.std.proofs.Common.{List, [], ◌∷◌}
-use Rattle.tokei_choice.specs.Items.{Block}
+use Rattle.tokei_parts.specs.Items.{Block}
 use Rattle.tokei_stats.specs.Statistics.{Statistics, Blobs, at, put, joined, sum}
 use Rattle.tokei_count.specs.Gathered.{gathered}
 use Rattle.tokei_stats.specs.Overflow.{Fits, BlobsFit}

@@ -1,14 +1,14 @@
 -- What was gathered so far and what further children add are the sum of both.
 use Rattle.std.proofs.Common.{◌≡◌, List, [], ◌∷◌, map, refl, sym, ◌∙◌, ap}
 use Rattle.tokei_notebook.specs.Cells.{Cell}
-use Rattle.tokei_stats_laws.specs.Ordered.{AreOrdered, IsOrdered}
+use Rattle.tokei_stats.specs.Ordered.{AreOrdered, IsOrdered}
 use Rattle.tokei_stats.specs.Statistics.{Counts, Statistics, Blobs, no_lines, plus, at, put, joined, sum}
 use Rattle.tokei_stats.specs.Statistics.Statistics.{node}
 use Rattle.tokei_stats.specs.Statistics.Blobs.{none}
-use Rattle.tokei_stats_laws.proofs.SumLaws.{associates, neutral_left, plus_associates}
-use Rattle.tokei_stats_laws.proofs.SumsOrdered.{sum_ordered}
+use Rattle.tokei_stats.proofs.SumLaws.{associates, neutral_left, plus_associates}
+use Rattle.tokei_stats.proofs.SumsOrdered.{sum_ordered}
 use Rattle.tokei_count.specs.Gathered.{gathered, shares}
-use Rattle.tokei_choice.specs.Items.{Block}
+use Rattle.tokei_parts.specs.Items.{Block}
 use Rattle.tokei_count.specs.NotebookCells.{cell_block}
 use Rattle.tokei_count.specs.PlainReading.{child_adds, children_add}
 

@@ -8,13 +8,13 @@ use Rattle.tokei_table.specs.Openers.{starts_of, tag_starts, child_openers, open
 use Rattle.tokei_table.specs.Row.{Pair, Row}
 use Rattle.tokei_table.specs.Sound.{IsSound}
 use Rattle.tokei_table.specs.Tokens.{has_tokens}
-use Rattle.tokei_choice.specs.Choice.{Choice, choice, opened, any_begins, is_escape, or_else, choice_in_plain}
-use Rattle.tokei_choice.specs.Choice.Choice.{closes, escapes, child_opens, opens, passes_over, begins_line_comment, takes_byte}
+use Rattle.tokei_parts.specs.Choice.{Choice, choice, opened, any_begins, is_escape, or_else, choice_in_plain}
+use Rattle.tokei_parts.specs.Choice.Choice.{closes, escapes, child_opens, opens, passes_over, begins_line_comment, takes_byte}
 use Rattle.tokei_parts.specs.Glance.{holds}
-use Rattle.tokei_choice.specs.Items.{Block}
+use Rattle.tokei_parts.specs.Items.{Block}
 use Rattle.tokei_parts.specs.Lines.{first_line, line_len}
 use Rattle.tokei_parts.specs.Progress.{Leads, OpensInLine, newlines}
-use Rattle.tokei_choice.specs.declared.items.Kind.TheVariants.{DocString, VerbatimString, OrdinaryString, MultiLineComment}
+use Rattle.tokei_parts.specs.declared.items.Kind.TheVariants.{DocString, VerbatimString, OrdinaryString, MultiLineComment}
 use Rattle.tokei_parts.proofs.Fits.{FitsIn, choice_fits}
 use Rattle.tokei_parts.proofs.Leading.{lead_none, lead_on, lead_byte, lead_escape, lead_rest, line_len-drop}
 use Rattle.tokei_parts.proofs.OpenersInLines.{one-line, none_here, none_later, none_front, none_back}

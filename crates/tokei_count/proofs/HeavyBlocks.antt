@@ -20,7 +20,7 @@ use Rattle.tokei_embedding.proofs.BlockLaws.{fence_reach, tag_reach, target_reac
 use Rattle.tokei_embedding.proofs.DocLaws.{doc_reach}
 use Rattle.tokei_stats.specs.Statistics.{lines_of}
 use Rattle.tokei_parts.specs.Lines.{first_line}
-use Rattle.tokei_choice.specs.Items.{Block}
+use Rattle.tokei_parts.specs.Items.{Block}
 use Rattle.tokei_parts.specs.MarkdownChildren.{known_piece, fence_as, fence_child}
 use Rattle.tokei_parts.specs.HtmlChildren.{element_child, element_at, first_block}
 use Rattle.tokei_parts.specs.RustChildren.{doc_child}

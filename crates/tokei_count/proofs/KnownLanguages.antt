@@ -17,7 +17,7 @@ use Rattle.tokei_embedding.specs.TargetBlocks.{target_block, target_of}
 use Rattle.tokei_embedding.specs.declared.tags.Tag.{Tag}
 use Rattle.tokei_embedding.specs.declared.tags.Tag.TheVariants.{Script, Style, Template}
 use Rattle.tokei_parts.specs.Lines.{first_line}
-use Rattle.tokei_choice.specs.Items.{Block}
+use Rattle.tokei_parts.specs.Items.{Block}
 use Rattle.tokei_parts.specs.NamedLanguages.{by_word, by_name}
 use Rattle.tokei_table.specs.Families.{fallback}
 use Rattle.tokei_parts.specs.MarkdownChildren.{is_comma, first_named, known_piece, fence_as, fence_child}

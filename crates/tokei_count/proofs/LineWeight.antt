@@ -3,10 +3,10 @@ use Rattle.std.proofs.Common.{◌^◌, ℕ, zero, suc, ◌+◌, ◌<◌, ◌≤�
 use Rattle.tokei_table.specs.Lookups.{row_at}
 use Rattle.tokei_table.specs.Row.{Row}
 use Rattle.tokei_notebook.specs.Cells.{notebook_cells}
-use Rattle.tokei_stats_laws.specs.Ordered.{IsOrdered}
+use Rattle.tokei_stats.specs.Ordered.{IsOrdered}
 use Rattle.tokei_stats.specs.Overflow.{Fits}
 use Rattle.tokei_stats.specs.Statistics.{Statistics, empty, lines_of, summary}
-use Rattle.tokei_choice.specs.Items.{Block}
+use Rattle.tokei_parts.specs.Items.{Block}
 use Rattle.tokei_count.specs.Languages.{Languages, is_notebook}
 use Rattle.tokei_parts.specs.Modes.{Mark, marks}
 use Rattle.tokei_count.specs.NotebookCells.{cell_blocks}

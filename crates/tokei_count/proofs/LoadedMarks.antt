@@ -3,10 +3,10 @@ use Rattle.std.proofs.Common.{◌≡◌, ℕ, zero, suc, ◌-◌, ◌<◌, ◌�
 use Rattle.std.specs.Prelude.{⊤}
 use Rattle.tokei_table.specs.Row.{Row}
 use Rattle.tokei_table.specs.Sound.{IsSound}
-use Rattle.tokei_choice.specs.Choice.{Choice, choice}
-use Rattle.tokei_choice.specs.Choice.Choice.{closes, escapes, child_opens, opens, passes_over, begins_line_comment, takes_byte}
+use Rattle.tokei_parts.specs.Choice.{Choice, choice}
+use Rattle.tokei_parts.specs.Choice.Choice.{closes, escapes, child_opens, opens, passes_over, begins_line_comment, takes_byte}
 use Rattle.tokei_parts.specs.Derivation.{items_of, second}
-use Rattle.tokei_choice.specs.Items.{Block, enclosure}
+use Rattle.tokei_parts.specs.Items.{Block, enclosure}
 use Rattle.tokei_parts.specs.Lines.{first_line}
 use Rattle.tokei_parts.specs.Modes.{Mark, Chain, innermost, marks, of_choice, closing}
 use Rattle.tokei_parts.specs.Modes.Mark.{byte_at}

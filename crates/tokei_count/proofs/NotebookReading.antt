@@ -10,7 +10,7 @@ use Rattle.tokei_stats.specs.Statistics.{Statistics, Blobs, no_lines, at, put, j
 use Rattle.tokei_stats.specs.Statistics.Statistics.{node}
 use Rattle.tokei_stats.specs.Statistics.Blobs.{none}
 use Rattle.tokei_stats.specs.Overflow.{Fits, BlobsFit}
-use Rattle.tokei_choice.specs.Items.{Block}
+use Rattle.tokei_parts.specs.Items.{Block}
 use Rattle.tokei_count.specs.Languages.{is_notebook}
 use Rattle.tokei_count.specs.NotebookCells.{cell_block, cell_blocks}
 use Rattle.tokei_count.specs.Languages.{languages_of}

@@ -2,17 +2,17 @@
 use Rattle.std.proofs.Common.{◌≡◌, ℕ, ◌+◌, ◌-◌, ◌<◌, Bool, true, false, cond, List, [], ◌∷◌, length, drop, Option, Some, None, refl, sym, ◌∙◌, ap, arith}
 use Rattle.std.proofs.lemmas.List.{drop-drop}
 use Rattle.tokei_parts.proofs.Ahead.{chosen as chosen_of, derive_drop, derive_less, derive_less_by}
-use Rattle.tokei_choice.specs.Choice.{Choice}
-use Rattle.tokei_choice.specs.Choice.Choice.{closes, escapes, child_opens, opens, passes_over, begins_line_comment, takes_byte}
+use Rattle.tokei_parts.specs.Choice.{Choice}
+use Rattle.tokei_parts.specs.Choice.Choice.{closes, escapes, child_opens, opens, passes_over, begins_line_comment, takes_byte}
 use Rattle.tokei_parts.specs.Derivation.{Body, before, behind, follow, derive, second}
-use Rattle.tokei_choice.specs.Items.{Block, Item, Items, Enclosure, enclosure, enclosing_item}
-use Rattle.tokei_choice.specs.Items.Item.{one, escaped, passed_over, line_comment, child}
+use Rattle.tokei_parts.specs.Items.{Block, Item, Items, Enclosure, enclosure, enclosing_item}
+use Rattle.tokei_parts.specs.Items.Item.{one, escaped, passed_over, line_comment, child}
 use Rattle.tokei_parts.specs.Lines.{first_line}
 use Rattle.tokei_parts.specs.Modes.{Chain, innermost}
 use Rattle.tokei_count.specs.OpeningItems.{openings_in, openings_by}
 use Rattle.tokei_parts.specs.Progress.{body as body_of}
-use Rattle.tokei_choice.specs.declared.items.Kind.{Kind}
-use Rattle.tokei_choice.specs.declared.items.Kind.TheVariants.{DocString, VerbatimString, OrdinaryString, MultiLineComment}
+use Rattle.tokei_parts.specs.declared.items.Kind.{Kind}
+use Rattle.tokei_parts.specs.declared.items.Kind.TheVariants.{DocString, VerbatimString, OrdinaryString, MultiLineComment}
 use Rattle.tokei_table.specs.Row.{Row, Pair}
 
 -- an item with a body is one opening beside those of its body

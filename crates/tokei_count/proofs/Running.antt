@@ -5,7 +5,7 @@ use Rattle.tokei_table.specs.Bytes.{newline}
 use Rattle.tokei_table.specs.Openers.{openers}
 use Rattle.tokei_table.specs.Row.{Row}
 use Rattle.tokei_parts.specs.Glance.{is_walked}
-use Rattle.tokei_choice.specs.Items.{Items, Mode}
+use Rattle.tokei_parts.specs.Items.{Items, Mode}
 use Rattle.tokei_parts.specs.Lines.{first_line}
 use Rattle.tokei_parts.specs.Modes.{Mark, innermost, marks}
 use Rattle.tokei_parts.specs.Modes.Mark.{byte_at, child_at}

@@ -4,14 +4,14 @@ use Rattle.std.proofs.lemmas.List.{append-nil, drop-drop, take-append-drop}
 use Rattle.tokei_table.specs.Row.{Pair, Row}
 use Rattle.tokei_table.specs.Sound.{IsSound}
 use Rattle.tokei_parts.specs.Lines.{first_line, line_len}
-use Rattle.tokei_choice.specs.Items.{Block, Item, Items, Mode, enclosing_item, enclosure}
-use Rattle.tokei_choice.specs.Items.Item.{one, escaped, passed_over, line_comment, child}
-use Rattle.tokei_choice.specs.Choice.{Choice, choice}
-use Rattle.tokei_choice.specs.Choice.Choice.{closes, escapes, child_opens, opens, passes_over, begins_line_comment, takes_byte}
+use Rattle.tokei_parts.specs.Items.{Block, Item, Items, Mode, enclosing_item, enclosure}
+use Rattle.tokei_parts.specs.Items.Item.{one, escaped, passed_over, line_comment, child}
+use Rattle.tokei_parts.specs.Choice.{Choice, choice}
+use Rattle.tokei_parts.specs.Choice.Choice.{closes, escapes, child_opens, opens, passes_over, begins_line_comment, takes_byte}
 use Rattle.tokei_parts.specs.Derivation.{Body, ended, before, behind, closer_of, second, follow, derive, items_of}
 use Rattle.tokei_count.specs.Spelling.{spelled, spelled_by, TakesBytes}
-use Rattle.tokei_choice.specs.declared.items.Kind.{Kind}
-use Rattle.tokei_choice.specs.declared.items.Kind.TheVariants.{DocString, VerbatimString, OrdinaryString, MultiLineComment}
+use Rattle.tokei_parts.specs.declared.items.Kind.{Kind}
+use Rattle.tokei_parts.specs.declared.items.Kind.TheVariants.{DocString, VerbatimString, OrdinaryString, MultiLineComment}
 use Rattle.tokei_parts.proofs.Fits.{IsLocal, FitsIn, IsClosed, choice_fits}
 use Rattle.tokei_parts.proofs.Lines.{take-first, first_some}
 

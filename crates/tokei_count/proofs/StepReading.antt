@@ -8,7 +8,7 @@ use Rattle.tokei_table.specs.Openers.{openers}
 use Rattle.tokei_table.specs.Row.{Row}
 use Rattle.tokei_parts.specs.Glance.{holds, is_walked, opener_place}
 use Rattle.tokei_parts.specs.Glanced.{AreInLine, Knows}
-use Rattle.tokei_choice.specs.Items.{Block}
+use Rattle.tokei_parts.specs.Items.{Block}
 use Rattle.tokei_count.specs.Languages.{is_notebook}
 use Rattle.tokei_parts.specs.Lines.{first_line, line_len}
 use Rattle.tokei_parts.specs.Matchers.{Matchers, matchers_of}

@@ -4,7 +4,7 @@ use Rattle.tokei_table.proofs.RowSound.{sound_row}
 use Rattle.tokei_table.specs.Lookups.{row_at}
 use Rattle.tokei_table.specs.Openers.{openers}
 use Rattle.tokei_table.specs.Row.{Row}
-use Rattle.tokei_choice.specs.Items.{Block}
+use Rattle.tokei_parts.specs.Items.{Block}
 use Rattle.tokei_count.specs.Languages.{Languages, is_notebook}
 use Rattle.tokei_parts.specs.Modes.{Mark, marks}
 use Rattle.tokei_count.specs.NotebookCells.{cell_blocks}

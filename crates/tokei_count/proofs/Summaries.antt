@@ -1,16 +1,16 @@
 -- The lines of a reading with all its children, and its order.
 use Rattle.std.proofs.Common.{◌^◌, ◌≡◌, ℕ, zero, suc, ◌+◌, ◌<◌, Bool, true, false, cond, List, [], ◌∷◌, map, ap, arith}
 use Rattle.tokei_notebook.specs.Cells.{Cell}
-use Rattle.tokei_stats_laws.specs.Ordered.{IsOrdered}
+use Rattle.tokei_stats.specs.Ordered.{IsOrdered}
 use Rattle.tokei_stats.specs.Overflow.{Fits, BlobsFit}
 use Rattle.tokei_stats.specs.Statistics.{Statistics, Blobs, empty, lines_of, summary, summaries}
 use Rattle.tokei_stats.specs.Statistics.Statistics.{node}
 use Rattle.tokei_stats.specs.Statistics.Blobs.{none, blob}
-use Rattle.tokei_stats_laws.proofs.SumLaws.{sum_summary}
-use Rattle.tokei_stats_laws.proofs.SumsOrdered.{sum_ordered}
+use Rattle.tokei_stats.proofs.SumLaws.{sum_summary}
+use Rattle.tokei_stats.proofs.SumsOrdered.{sum_ordered}
 use Rattle.tokei_table.specs.Row.{Row}
 use Rattle.tokei_count.specs.Gathered.{shares}
-use Rattle.tokei_choice.specs.Items.{Block}
+use Rattle.tokei_parts.specs.Items.{Block}
 use Rattle.tokei_count.specs.Languages.{Languages, is_notebook}
 use Rattle.tokei_parts.specs.Modes.{Mark, marks}
 use Rattle.tokei_count.specs.NotebookCells.{cell_block}

@@ -7,7 +7,7 @@ use Rattle.tokei_table.specs.Openers.{openers}
 use Rattle.tokei_parts.specs.Class.{class_of}
 use Rattle.tokei_parts.specs.Glance.{holds, is_walked, opener_place}
 use Rattle.tokei_parts.specs.Glanced.{AreInLine}
-use Rattle.tokei_choice.specs.Items.{Block}
+use Rattle.tokei_parts.specs.Items.{Block}
 use Rattle.tokei_parts.specs.Lines.{first_line, line_len}
 use Rattle.tokei_parts.specs.Modes.{Chain, innermost}
 use Rattle.tokei_count.specs.Languages.{languages_of}
@@ -20,7 +20,7 @@ use Rattle.tokei_count.specs.Steps.{steps, capped}
 use Rattle.tokei_count.specs.UnderWay.{IsUnderWay, reading_inside, steps_inside}
 use Rattle.tokei_parts.specs.Walked.{ReadsTo, Breaks}
 use Rattle.tokei_parts.specs.declared.class.Class.{Class}
-use Rattle.tokei_choice.specs.declared.items.Enclosure.{Enclosure}
+use Rattle.tokei_parts.specs.declared.items.Enclosure.{Enclosure}
 use Rattle.tokei_parts.specs.declared.openings.Block as CodeBlock
 use Rattle.tokei_parts.specs.declared.reading.Reading.{Reading}
 use Rattle.tokei_count.specs.declared.text_reading.ReadSoFar.{ReadSoFar}

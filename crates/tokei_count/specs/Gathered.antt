@@ -1,6 +1,6 @@
 -- What was gathered of a text's children so far, with what each further child adds.
 use Rattle.std.specs.Prelude.{List, [], ◌∷◌}
-use Rattle.tokei_choice.specs.Items.{Block}
+use Rattle.tokei_parts.specs.Items.{Block}
 use Rattle.tokei_stats.specs.Statistics.{Counts, Statistics, Blobs, no_lines, plus, at, put, joined, sum}
 
 -- the blobs so far, with the statistics of each further child added at its language

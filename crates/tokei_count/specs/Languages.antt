@@ -4,7 +4,7 @@ use Rattle.std.specs.Str.{bytes_eq}
 use Rattle.std.specs.Prelude.{codes}
 use Rattle.tokei_table.specs.Row.{Row}
 use Rattle.tokei_table.specs.Lookups.{row_at}
-use Rattle.tokei_choice.specs.Items.{Block}
+use Rattle.tokei_parts.specs.Items.{Block}
 use Rattle.tokei_count.specs.NotebookCells.{cell_blocks}
 use Rattle.tokei_parts.specs.Openings.{block_in}
 

@@ -3,7 +3,7 @@ use Rattle.std.specs.Prelude.{ℕ, List, map}
 use Rattle.tokei_table.specs.Row.{Row}
 use Rattle.tokei_notebook.specs.Cells.{Cell, notebook_cells}
 use Rattle.tokei_stats.specs.Statistics.{no_lines}
-use Rattle.tokei_choice.specs.Items.{Block}
+use Rattle.tokei_parts.specs.Items.{Block}
 
 abbrev pub cell_block : Cell → Block
 cell_block c = record { language = c.language; contents = c.source; size = 0; share = no_lines }

@@ -1,9 +1,9 @@
 -- The openings of a text: how many of its items open something.
 use Rattle.std.specs.Prelude.{ℕ, ◌+◌, List}
 use Rattle.tokei_table.specs.Row.{Row}
-use Rattle.tokei_choice.specs.Items.{Item, Items}
-use Rattle.tokei_choice.specs.Items.Item.{one, escaped, passed_over, string_literal, comment, line_comment, child}
-use Rattle.tokei_choice.specs.Items.Items.{none, more}
+use Rattle.tokei_parts.specs.Items.{Item, Items}
+use Rattle.tokei_parts.specs.Items.Item.{one, escaped, passed_over, string_literal, comment, line_comment, child}
+use Rattle.tokei_parts.specs.Items.Items.{none, more}
 use Rattle.tokei_count.specs.Languages.{Languages}
 use Rattle.tokei_count.specs.Steps.{with_children}
 

@@ -1,7 +1,7 @@
 -- The plain reading: the statistics of a text, by its derivation alone.
 use Rattle.std.specs.Prelude.{ℕ, zero, suc, Bool, List, [], ◌∷◌, if◌then◌else◌, Option}
 use Rattle.tokei_table.specs.Row.{Row}
-use Rattle.tokei_choice.specs.Items.{Block}
+use Rattle.tokei_parts.specs.Items.{Block}
 use Rattle.tokei_parts.specs.Derivation.{items_of}
 use Rattle.tokei_parts.specs.Modes.{Mark, marks}
 use Rattle.tokei_parts.specs.Parts.{parts_of}

@@ -2,9 +2,9 @@
 use Rattle.std.specs.Prelude.{◌≡◌, ℕ, ◌<◌, if◌then◌else◌, List, [], ◌∷◌, ◌++◌, Option, Some}
 use Rattle.tokei_table.specs.Row.{Row}
 use Rattle.tokei_table.specs.Sound.{IsSound}
-use Rattle.tokei_choice.specs.Items.{Block, Item, Items}
-use Rattle.tokei_choice.specs.Items.Item.{one, escaped, passed_over, string_literal, comment, line_comment, child}
-use Rattle.tokei_choice.specs.Items.Items.{none, more}
+use Rattle.tokei_parts.specs.Items.{Block, Item, Items}
+use Rattle.tokei_parts.specs.Items.Item.{one, escaped, passed_over, string_literal, comment, line_comment, child}
+use Rattle.tokei_parts.specs.Items.Items.{none, more}
 use Rattle.tokei_parts.specs.Derivation.{items_of}
 use Rattle.tokei_count.specs.Languages.{languages_of}
 use Rattle.tokei_count.specs.Steps.{items_in}

@@ -4,7 +4,7 @@ use Rattle.tokei_table.specs.Openers.{openers}
 use Rattle.tokei_table.specs.Row.{Row}
 use Rattle.tokei_parts.specs.Derivation.{items_of}
 use Rattle.tokei_parts.specs.Glance.{is_walked}
-use Rattle.tokei_choice.specs.Items.{Block, Items}
+use Rattle.tokei_parts.specs.Items.{Block, Items}
 use Rattle.tokei_count.specs.Languages.{Languages, is_notebook}
 use Rattle.tokei_parts.specs.Modes.{marks}
 use Rattle.tokei_count.specs.PlainReading.{blocks}

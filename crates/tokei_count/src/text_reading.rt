@@ -20,7 +20,7 @@ ghost use Rattle.tokei_parts.specs.Modes.{innermost};
 ghost use Rattle.tokei_count.specs.Readers.{reading_by, steps_by};
 ghost use Rattle.tokei_count.specs.Readers.{reading_of};
 ghost use Rattle.tokei_parts.specs.ReadingOf.{line_from, openers_in, row_in};
-ghost use Rattle.tokei_choice.specs.Seen.{mode_of};
+ghost use Rattle.tokei_parts.specs.SeenChoices.{mode_of};
 ghost use Rattle.tokei_parts.specs.Seen.{block_of, chain_of};
 ghost use Rattle.tokei_count.specs.Steps.{capped};
 ghost use Rattle.tokei_count.specs.UnderWay.{IsReadBy, IsUnderWay, reading_inside, steps_inside};
@@ -30,12 +30,11 @@ ghost use Rattle.tokei_stats.specs.Statistics.{lines_of, plus};
 use crate::reader::Reader;
 use std::alloc::{AllocError, Global};
 use std::collections::BTreeMap;
-use tokei_choice::Enclosure;
 use tokei_embedding::{BlockSearch, doc_text};
 use tokei_notebook::cells;
 use tokei_parts::{
-    Block, Class, PartEnd, Place, Reading, calm_end, class_of_plain, class_within, innermost,
-    line_end, line_front, line_len, line_stop, newline_before, next_opener, read_part,
+    Block, Class, Enclosure, PartEnd, Place, Reading, calm_end, class_of_plain, class_within,
+    innermost, line_end, line_front, line_len, line_stop, newline_before, next_opener, read_part,
 };
 use tokei_stats::{CodeStats, CountError, Sums, add_blob};
 use tokei_table::ext::trim;

@@ -6,8 +6,8 @@ use Rattle.serde_json.specs.Data.{Data}
 use Rattle.serde_json.specs.Read.{read}
 use Rattle.tokei_languages.specs.Values.{LanguageValue}
 use Rattle.tokei_table.specs.Row.{Row}
-use Rattle.tokei_documents.specs.LanguageMaps.{all_known, all_once}
-use Rattle.tokei_documents.specs.Layout.{has_layout}
+use Rattle.tokei_json.specs.LanguageMaps.{all_known, all_once}
+use Rattle.tokei_json.specs.Layout.{has_layout}
 use Rattle.tokei_earlier.specs.Reading.{languages_in}
 use Rattle.tokei_earlier.specs.declared.error.InputError.{InputError}
 use Rattle.tokei_earlier.specs.declared.error.InputError.TheVariants.{Empty, NotJson, Layout, UnknownLanguage, NamedTwice}

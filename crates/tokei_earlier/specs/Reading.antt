@@ -2,11 +2,11 @@
 use Rattle.std.specs.Prelude.{ℕ, List, [], codes}
 use Rattle.serde_json.specs.Data.{Data, object, Members, no_members, member}
 use Rattle.serde_json.specs.Find.{get}
-pub use Rattle.tokei_earlier_reports.specs.ReadReports.{counts_in, put_named, put_blob, statistics_in, with_blobs}
-pub use Rattle.tokei_earlier_reports.specs.ReadReports.{report_in, all_reports_in, reports_in, with_children, children_in, truth_in}
+pub use Rattle.tokei_earlier.specs.ReadReports.{counts_in, put_named, put_blob, statistics_in, with_blobs}
+pub use Rattle.tokei_earlier.specs.ReadReports.{report_in, all_reports_in, reports_in, with_children, children_in, truth_in}
 use Rattle.tokei_languages.specs.Values.{LanguageValue}
 use Rattle.tokei_table.specs.Row.{Row}
-use Rattle.tokei_documents.specs.LanguageMaps.{language_named}
+use Rattle.tokei_json.specs.LanguageMaps.{language_named}
 
 unfoldable pub language_in : List Row → Data → LanguageValue
 language_in rows d = record {

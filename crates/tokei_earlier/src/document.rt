@@ -9,7 +9,7 @@ use crate::error::InputError;
 use crate::read::languages_in;
 use serde_json::Value;
 use std::alloc::Global;
-use tokei_documents::{NamedTable, all_known, all_once, has_layout};
+use tokei_json::{NamedTable, all_known, all_once, has_layout};
 use tokei_languages::Languages;
 use tokei_table::LanguageTable;
 

@@ -1,11 +1,15 @@
-//! Earlier results: the languages of a JSON document, and of a reader of one, whose languages are added to others.
+//! Earlier results: the languages of a JSON document, read from a text or a reader, and added to others; and the formats in
+//! which a document is printed and read.
 #![tactic(auto)]
 
 pub mod document;
 pub mod error;
+pub mod format;
 pub mod input;
 mod read;
+mod reading;
 
 pub use document::{from_text, from_value};
 pub use error::InputError;
+pub use format::{Format, FormatError};
 pub use input::add_input;

@@ -4,14 +4,14 @@ ghost use Rattle.serde_json.specs.View.{view, members_view};
 ghost use Rattle.tokei_earlier.specs.Reading.{put_named, language_in, with_languages, languages_in};
 ghost use Rattle.tokei_languages.specs.Seen.{language_of, languages_of};
 
+use crate::reading::{children_in, count_in, reports_in, truth_in};
 use serde_json::{Map, Value};
 use std::alloc::{AllocError, Global};
-use tokei_documents::NamedTable;
-use tokei_earlier_reports::{children_in, count_in, reports_in, truth_in};
+use tokei_json::NamedTable;
 use tokei_languages::{CountError, Language, Languages};
 use tokei_table::LanguageType;
 
-#[tactic(auto, unfolding(crate::specs::Reading::language_in, tokei_earlier_reports::specs::ReadReports::counts_in))]
+#[tactic(auto, unfolding(crate::specs::Reading::language_in, crate::specs::ReadReports::counts_in))]
 fn language_in(alloc: Global, table: &NamedTable, value: &Value) -> Result<Language, AllocError>
     ensures { IfOk result (λ l. language_of l ≡ language_in table.now (view value.now)) }
 {

@@ -3,8 +3,8 @@ use Rattle.std.proofs.Common.{◌≡◌, ℕ, suc, zero, ◌+◌, ◌-◌, ◌<�
 use Rattle.std.proofs.Common.{get_or, ◌⊎◌, inl, inr, refl, sym, ◌∙◌, ap, arith, get_or-take, get_or-drop}
 use Rattle.std.proofs.lemmas.Bool.{cases_lt}
 use Rattle.std.proofs.lemmas.List.{drop-take}
-use Rattle.tokei_syntax.proofs.Finds.{occurs-begins}
-use Rattle.tokei_syntax.specs.Bytes.{begins}
+use Rattle.tokei_table_row.proofs.Finds.{occurs-begins}
+use Rattle.tokei_table_row.specs.Bytes.{begins}
 use Rattle.tokei_embedding.proofs.FirstPlaces.{part_length}
 use Rattle.tokei_embedding.proofs.Places.{begins-at, not_true}
 use Rattle.tokei_embedding.specs.Fences.{fence, opens_fence, begins_info}

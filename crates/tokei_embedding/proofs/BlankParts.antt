@@ -3,7 +3,7 @@ use Rattle.std.proofs.Common.{◌≡◌, ℕ, zero, suc, ◌+◌, ◌-◌, ◌<�
 use Rattle.std.proofs.lemmas.Bool.{cases_lt}
 use Rattle.tokei_embedding.proofs.FirstPlaces.{part_length}
 use Rattle.tokei_embedding.specs.Remembered.{IsFirstSolid}
-use Rattle.tokei_syntax.specs.Bytes.{is_blank, all_blank}
+use Rattle.tokei_table_row.specs.Bytes.{is_blank, all_blank}
 
 and_false : (x y : Bool) → y ≡ false → (x && y) ≡ false
 and_false true y h = h

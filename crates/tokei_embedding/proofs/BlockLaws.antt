@@ -1,8 +1,8 @@
 -- How far the blocks reach, and that none opens at a newline.
 use Rattle.std.proofs.Common.{◌≡◌, ℕ, suc, ◌+◌, ◌-◌, ◌<◌, ◌≤◌, Bool, true, false, ◌&&◌, nat_lt, cond, List, [], ◌∷◌, ◌++◌, length, take, drop, Option, None, Some, option_map, codes, refl, ap, subst, arith, length-drop, length-take, length-append}
 use Rattle.std.proofs.lemmas.Map.Views.{exact_unsigned_eq}
-use Rattle.tokei_syntax.proofs.Finds.{begins-occurs}
-use Rattle.tokei_syntax.specs.Bytes.{is_blank, all_blank, begins}
+use Rattle.tokei_table_row.proofs.Finds.{begins-occurs}
+use Rattle.tokei_table_row.specs.Bytes.{is_blank, all_blank, begins}
 use Rattle.tokei_embedding.specs.BlockLaws.{Reaches}
 use Rattle.tokei_embedding.specs.Fences.{Fence, fence, opens_fence, begins_info, info_len, first_fence, closing_len, fence_to, fence_from, fence_block}
 use Rattle.tokei_embedding.specs.Searches.{first_where, first_of, last_of, is_at}

@@ -2,7 +2,7 @@
 use Rattle.std.proofs.Common.{◌≡◌, ℕ, suc, zero, ◌+◌, ◌-◌, ◌<◌, ◌≤◌, ◌⊎◌, inl, inr, Bool, true, false, List, [], ◌∷◌, length, drop, refl, ◌∙◌, ap, arith, length-drop}
 use Rattle.std.proofs.lemmas.Bool.{cases_lt}
 use Rattle.std.proofs.lemmas.List.{drop-drop}
-use Rattle.tokei_syntax.specs.Bytes.{trim_start, begins}
+use Rattle.tokei_table_row.specs.Bytes.{trim_start, begins}
 use Rattle.tokei_embedding.proofs.DocLaws.{first_line_some, line_below, stands_behind}
 use Rattle.tokei_embedding.proofs.Lines.{marked-stops, marked-goes}
 use Rattle.tokei_embedding.proofs.NextDocs.{drop_first}

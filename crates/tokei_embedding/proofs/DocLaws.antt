@@ -1,6 +1,6 @@
 -- How far a block of doc comments reaches.
 use Rattle.std.proofs.Common.{◌≡◌, ℕ, suc, zero, ◌+◌, ◌<◌, ◌≤◌, Bool, true, false, ◌==◌, cond, List, [], ◌∷◌, length, take, drop, Option, None, Some, option_map, codes, refl, sym, ap, subst, arith, length-drop, length-take, length-append}
-use Rattle.tokei_syntax.specs.Bytes.{is_blank, trim_start, begins}
+use Rattle.tokei_table_row.specs.Bytes.{is_blank, trim_start, begins}
 use Rattle.tokei_embedding.proofs.BlockLaws.{begins-fits}
 use Rattle.tokei_embedding.proofs.Lines.{marked-goes, doc_text-goes}
 use Rattle.tokei_embedding.specs.BlockLaws.{Reaches}

@@ -1,7 +1,7 @@
 -- The first fence opening of a part, by places of the text.
 use Rattle.std.proofs.Common.{◌≡◌, ℕ, ◌+◌, ◌-◌, ◌<◌, ◌≤◌, false, List, take, drop, ◌⊎◌, inl, inr, ◌∙◌, ap, arith}
 use Rattle.std.proofs.lemmas.Bool.{cases_lt}
-use Rattle.tokei_syntax.specs.Bytes.{begins}
+use Rattle.tokei_table_row.specs.Bytes.{begins}
 use Rattle.tokei_embedding.proofs.Backticks.{no_opening}
 use Rattle.tokei_embedding.proofs.Places.{part_from}
 use Rattle.tokei_embedding.specs.Fences.{fence, opens_fence}

@@ -1,3 +1,4 @@
+mod Backticks
 pub mod BlankParts
 pub mod BlockLaws
 pub mod DocEnds
@@ -16,4 +17,3 @@ pub mod SolidFences
 pub mod TagOpenings
 pub mod TagPlaces
 pub mod TargetPlaces
-mod Backticks

@@ -1,7 +1,7 @@
 -- The first line of a text, and the lines behind it.
 use Rattle.std.proofs.Common.{◌≡◌, ℕ, suc, zero, ◌+◌, ◌-◌, ◌<◌, min, append_assoc, Bool, true, false, ◌==◌, cond, List, [], ◌∷◌, ◌++◌, length, take, drop, get_or, refl, sym, ◌∙◌, ap, arith}
 use Rattle.std.proofs.lemmas.List.{take_rest, drop_min}
-use Rattle.tokei_syntax.specs.Bytes.{trim_start, begins}
+use Rattle.tokei_table_row.specs.Bytes.{trim_start, begins}
 use Rattle.tokei_embedding.specs.DocComments.{in_front, lines_of, first_line, marked_len, doc_text, unmarked}
 
 pub first_line-at : (t : List ℕ) (k : ℕ) → k < length t → (get_or t k 0 == 10) ≡ true → ((j : ℕ) → j < k → (get_or t j 0 == 10) ≡ false) → take (suc k) t ≡ first_line t

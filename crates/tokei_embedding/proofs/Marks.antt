@@ -2,7 +2,7 @@
 use Rattle.std.proofs.Common.{◌≡◌, ℕ, suc, ◌+◌, ◌<◌, ◌≤◌, ◌⊎◌, inl, inr, true, false, ◌==◌, cond, List, [], ◌∷◌, length, drop, get_or, Option, None, Some, option_map, is_some, refl, sym, ◌∙◌, ap, arith}
 use Rattle.std.proofs.Math.Seq.{drop-cons}
 use Rattle.std.proofs.lemmas.Bool.{cases_lt}
-use Rattle.tokei_syntax.specs.Bytes.{is_blank, trim_start}
+use Rattle.tokei_table_row.specs.Bytes.{is_blank, trim_start}
 use Rattle.tokei_embedding.specs.DocComments.{DocBlock, doc_block, doc_of, lines_of, first_line, front_mark, mark_of, marked_len}
 
 mark_behind : (b : ℕ) (t : List ℕ) → is_blank b ≡ true → (b == 10) ≡ false → mark_of (first_line (b ∷ t)) ≡ mark_of (first_line t)

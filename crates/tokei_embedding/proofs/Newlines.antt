@@ -1,6 +1,6 @@
 -- No block opens where a newline stands.
 use Rattle.std.proofs.Common.{◌≡◌, ℕ, false, ◌&&◌, ◌==◌, cond, List, [], ◌∷◌, ◌++◌, drop, get_or, None, Some, codes, refl, sym, ◌∙◌, ap}
-use Rattle.tokei_syntax.specs.Bytes.{begins}
+use Rattle.tokei_table_row.specs.Bytes.{begins}
 use Rattle.tokei_embedding.proofs.Places.{not_first}
 use Rattle.tokei_embedding.specs.BlockLaws.{NoneAtNewline}
 use Rattle.tokei_embedding.specs.Fences.{opens_fence, begins_info, info_len, fence_from}

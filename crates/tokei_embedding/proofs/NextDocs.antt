@@ -3,7 +3,7 @@ use Rattle.std.proofs.Common.{◌≡◌, ℕ, suc, zero, ◌+◌, ◌-◌, ◌<�
 use Rattle.std.proofs.Math.Seq.{drop-cons}
 use Rattle.std.proofs.lemmas.Bool.{cases_lt}
 use Rattle.std.proofs.lemmas.List.{drop-drop, drop_all, get_or-take}
-use Rattle.tokei_syntax.specs.Bytes.{is_blank, trim_start, begins}
+use Rattle.tokei_table_row.specs.Bytes.{is_blank, trim_start, begins}
 use Rattle.tokei_embedding.proofs.Places.{part_from}
 use Rattle.tokei_embedding.specs.DocComments.{doc_block, doc_of, lines_of, first_line, front_mark, mark_of, marked_len}
 

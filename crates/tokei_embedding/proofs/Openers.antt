@@ -1,7 +1,7 @@
 -- No block opens where its opener doesn't stand.
 use Rattle.std.proofs.Common.{◌≡◌, ℕ, suc, Bool, true, false, ◌&&◌, ◌||◌, cond, List, [], ◌∷◌, drop, codes, Option, None, Some, option_map, refl, sym, ap}
-use Rattle.tokei_syntax.specs.Bytes.{is_blank, trim_start, begins, begins_with_one}
-use Rattle.tokei_syntax.specs.FirstOpener.{first_opener}
+use Rattle.tokei_table_row.specs.Bytes.{is_blank, trim_start, begins, begins_with_one}
+use Rattle.tokei_table_row.specs.FirstOpener.{first_opener}
 use Rattle.tokei_embedding.proofs.FenceBlocks.{no_fence}
 use Rattle.tokei_embedding.proofs.TagPlaces.{no_tag}
 use Rattle.tokei_embedding.proofs.TargetPlaces.{no_target}

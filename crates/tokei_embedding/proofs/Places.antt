@@ -3,9 +3,9 @@ use Rattle.std.proofs.Common.{◌≡◌, ℕ, suc, zero, ◌+◌, ◌-◌, ◌<�
 use Rattle.std.proofs.Math.Dec.{eqb-suc-zero, eqb-zero-suc, eqb-suc-suc}
 use Rattle.std.proofs.lemmas.List.{drop-take, drop-drop}
 use Rattle.memchr.specs.Find.{OccursAt, FindsNeedle, FindsLastNeedle}
-use Rattle.tokei_syntax.proofs.Finds.{begins-occurs, occurs-begins}
-use Rattle.tokei_syntax.specs.Bytes.{begins}
-use Rattle.tokei_syntax.specs.OuterLines.{later_or}
+use Rattle.tokei_table_row.proofs.Finds.{begins-occurs, occurs-begins}
+use Rattle.tokei_table_row.specs.Bytes.{begins}
+use Rattle.tokei_table_row.specs.OuterLines.{later_or}
 use Rattle.tokei_embedding.specs.Searches.{first_where, last_where, first_of, last_of, is_at}
 
 pub first_where-found : (test : List ℕ → Bool) (t : List ℕ) (k : ℕ) → k < length t → test (drop k t) ≡ true → ((j : ℕ) → j < k → test (drop j t) ≡ false) → first_where test t ≡ Some k

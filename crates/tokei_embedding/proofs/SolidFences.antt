@@ -3,7 +3,7 @@ use Rattle.std.proofs.Common.{◌≡◌, ℕ, suc, zero, ◌+◌, ◌-◌, ◌�
 use Rattle.std.proofs.lemmas.List.{drop-drop}
 use Rattle.std.proofs.lemmas.Map.Views.{exact_unsigned_eq}
 use Rattle.std.proofs.Math.Nat.{lt_of_not-le}
-use Rattle.tokei_syntax.specs.Bytes.{is_blank, begins}
+use Rattle.tokei_table_row.specs.Bytes.{is_blank, begins}
 use Rattle.tokei_embedding.proofs.Places.{not_true}
 use Rattle.tokei_embedding.specs.Fences.{fence, solid_len, opens_fence, is_solid_fence}
 

@@ -1,6 +1,6 @@
 -- No element opens at a place where its token doesn't stand.
 use Rattle.std.proofs.Common.{◌≡◌, ℕ, false, cond, List, drop, None, sym, ◌∙◌, ap}
-use Rattle.tokei_syntax.specs.Bytes.{begins}
+use Rattle.tokei_table_row.specs.Bytes.{begins}
 use Rattle.tokei_embedding.proofs.Places.{not_first}
 use Rattle.tokei_embedding.specs.Tags.{token_of, opening_at, element_of, tag_block}
 use Rattle.tokei_embedding.specs.declared.tags.Tag.{Tag}

@@ -1,6 +1,6 @@
 -- A block of the target language at a place, by what the code finds.
 use Rattle.std.proofs.Common.{◌≡◌, ℕ, true, false, cond, List, drop, None, Some, codes, sym, ◌∙◌, ap}
-use Rattle.tokei_syntax.specs.Bytes.{begins}
+use Rattle.tokei_table_row.specs.Bytes.{begins}
 use Rattle.tokei_embedding.proofs.Places.{not_first}
 use Rattle.tokei_embedding.specs.Searches.{is_at, first_of}
 use Rattle.tokei_embedding.specs.TargetBlocks.{TargetBlock, target_from, target_block}

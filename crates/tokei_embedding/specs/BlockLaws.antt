@@ -1,8 +1,8 @@
 -- Laws of the blocks: how far each reaches, and where none opens.
 use Rattle.std.specs.Prelude.{◌≡◌, ℕ, ◌+◌, ◌<◌, ◌≤◌, true, false, ◌==◌, is_some, None, Some}
 use Rattle.std.specs.Prelude.{List, ◌∷◌, ◌++◌, length, drop, codes}
-use Rattle.tokei_syntax.specs.Bytes.{is_blank, begins, newline}
-use Rattle.tokei_syntax.specs.FirstOpener.{first_opener}
+use Rattle.tokei_table_row.specs.Bytes.{is_blank, begins, newline}
+use Rattle.tokei_table_row.specs.FirstOpener.{first_opener}
 use Rattle.tokei_embedding.specs.DocComments.{DocBlock, doc_block, doc_marks, first_line}
 use Rattle.tokei_embedding.specs.Fences.{Fence, fence, fence_block}
 use Rattle.tokei_embedding.specs.Tags.{TagBlock, token_of, tag_block}

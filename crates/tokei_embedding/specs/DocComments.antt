@@ -1,7 +1,7 @@
 -- Rust's doc comments: lines that begin with `///` or `//!`.
 use Rattle.std.specs.Prelude.{ℕ, ◌+◌, ◌==◌, if◌then◌else◌, Option, None, Some, option_map}
 use Rattle.std.specs.Prelude.{List, [], ◌∷◌, ◌++◌, length, take, drop, codes}
-use Rattle.tokei_syntax.specs.Bytes.{trim_start, begins, newline}
+use Rattle.tokei_table_row.specs.Bytes.{trim_start, begins, newline}
 
 -- The byte before the first line of the others.
 abbrev pub in_front : ℕ → List (List ℕ) → List (List ℕ)

@@ -1,7 +1,7 @@
 -- Fences: code between three backticks and three backticks.
 use Rattle.std.specs.Prelude.{ℕ, suc, ◌+◌, Bool, true, false, ◌&&◌, ◌==◌, nat_lt, if◌then◌else◌, Option, None, Some}
 use Rattle.std.specs.Prelude.{List, [], ◌∷◌, length, take, drop, codes}
-use Rattle.tokei_syntax.specs.Bytes.{is_blank, begins}
+use Rattle.tokei_table_row.specs.Bytes.{is_blank, begins}
 use Rattle.tokei_embedding.specs.Searches.{first_where, first_of, is_at}
 
 -- A fence is three backticks.

@@ -1,7 +1,7 @@
 -- What searches remember of a text.
 use Rattle.std.specs.Prelude.{◌≡◌, ℕ, ◌+◌, ◌<◌, ◌≤◌, true, false, List, length, drop, slice_index}
 use Rattle.std.specs.Prelude.{codes, Option, None, Some}
-use Rattle.tokei_syntax.specs.Bytes.{is_blank}
+use Rattle.tokei_table_row.specs.Bytes.{is_blank}
 use Rattle.memchr.specs.Find.{OccursAt}
 use Rattle.tokei_embedding.specs.DocComments.{first_line, front_mark, mark_of, marked_len, lines_of}
 

@@ -1,7 +1,7 @@
 -- The first and the last place in a text at which a token stands.
 use Rattle.std.specs.Prelude.{ℕ, suc, Bool, false, ◌==◌, if◌then◌else◌, List, [], ◌∷◌, Option, None, Some, option_map}
-use Rattle.tokei_syntax.specs.Bytes.{begins}
-use Rattle.tokei_syntax.specs.OuterLines.{later_or}
+use Rattle.tokei_table_row.specs.Bytes.{begins}
+use Rattle.tokei_table_row.specs.OuterLines.{later_or}
 
 -- The first place from which on the text passes the test.
 abbrev pub first_where : (List ℕ → Bool) → List ℕ → Option ℕ

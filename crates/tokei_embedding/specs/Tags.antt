@@ -1,7 +1,7 @@
 -- Script, style and template elements of HTML.
 use Rattle.std.specs.Prelude.{ℕ, ◌+◌, ◌-◌, if◌then◌else◌, List, length, take, drop, codes}
 use Rattle.std.specs.Prelude.{Option, None, Some, option_map}
-use Rattle.tokei_syntax.specs.Bytes.{all_blank}
+use Rattle.tokei_table_row.specs.Bytes.{all_blank}
 use Rattle.tokei_embedding.specs.Searches.{first_of, last_of, is_at}
 use Rattle.tokei_embedding.specs.Spans.{Span, shifted, bytes_of}
 use Rattle.tokei_embedding.specs.declared.tags.Tag.{Tag}

@@ -3,7 +3,7 @@ use Rattle.std.specs.Char.{is_ascii_alphanumeric}
 use Rattle.std.specs.Option.{option_or}
 use Rattle.std.specs.Prelude.{ℕ, suc, ◌+◌, Bool, true, false, ◌&&◌, ◌||◌, ◌==◌, nat_lt, if◌then◌else◌}
 use Rattle.std.specs.Prelude.{List, [], ◌∷◌, length, take, drop, codes, Option, None, Some}
-use Rattle.tokei_syntax.specs.Bytes.{is_blank, trim_start, begins, newline}
+use Rattle.tokei_table_row.specs.Bytes.{is_blank, trim_start, begins, newline}
 use Rattle.tokei_embedding.specs.Searches.{first_of, is_at}
 
 abbrev pub underscore : ℕ

@@ -1,10 +1,10 @@
 //! The blanks in a text.
 ghost use Rattle.std.specs.Prelude.{◌≡◌, ℕ, ◌-◌, ◌≤◌, List, length, take, drop};
 ghost use Rattle.tokei_embedding.specs.Remembered.{IsFirstSolid};
-ghost use Rattle.tokei_syntax.specs.Bytes.{all_blank};
+ghost use Rattle.tokei_table_row.specs.Bytes.{all_blank};
 
 use std::marker::Model;
-use tokei_syntax::ext::is_whitespace;
+use tokei_table_row::ext::is_whitespace;
 
 /// Tells whether ranges of one text are blank, and remembers the first byte that isn't: over ranges that begin further
 /// and further on, the text is searched once.

@@ -4,7 +4,7 @@ ghost use Rattle.tokei_embedding.specs.DocComments.{first_line, front_mark, mark
 
 use std::alloc::{AllocError, Global};
 use tokei_bytes::first_of_one;
-use tokei_syntax::ext::trim_start;
+use tokei_table_row::ext::trim_start;
 
 /// The text through its first newline.
 pub fn first_line(text: &[u8]) -> &[u8]

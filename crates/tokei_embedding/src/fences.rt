@@ -1,6 +1,6 @@
 //! The fences of Markdown.
 ghost use Rattle.std.specs.Prelude.{◌≡◌, ℕ, ◌+◌, ◌-◌, ◌≤◌, ◌<◌, true, false, IfSome, length, take, drop, option_map};
-ghost use Rattle.tokei_syntax.specs.Bytes.{begins};
+ghost use Rattle.tokei_table_row.specs.Bytes.{begins};
 ghost use Rattle.tokei_embedding.specs.Fences.{fence, solid_len, opens_fence, is_solid_fence, info_len};
 ghost use Rattle.tokei_embedding.specs.Fences.{first_fence, closing_len, fence_from, fence_block};
 ghost use Rattle.tokei_embedding.specs.Searches.{first_of};
@@ -8,7 +8,7 @@ ghost use Rattle.tokei_embedding.specs.Seen.{fence_seen};
 
 use crate::searches::is_at;
 use tokei_bytes::first_of_one;
-use tokei_syntax::ext::is_whitespace;
+use tokei_table_row::ext::is_whitespace;
 
 const FENCE: &[u8] = b"```";
 

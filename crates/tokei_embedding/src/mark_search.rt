@@ -5,7 +5,7 @@ ghost use Rattle.tokei_embedding.specs.Remembered.{IsMarkPlace};
 
 use crate::doc_comments::front_mark;
 use std::marker::Model;
-use tokei_syntax::ext::is_whitespace;
+use tokei_table_row::ext::is_whitespace;
 
 /// Finds the marks with which rests of lines of one text begin behind their blanks, and remembers where the blanks end:
 /// over places further and further on, each blank is passed once.

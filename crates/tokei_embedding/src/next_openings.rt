@@ -1,7 +1,7 @@
 //! The next place at which a block can open, so that a walk of a part looks for its children once.
 ghost use Rattle.std.specs.Prelude.{◌≡◌, ℕ, ◌+◌, ◌-◌, ◌≤◌, ◌<◌, true, false, is_some, IfSome, None};
 ghost use Rattle.std.specs.Prelude.{length, drop, codes, slice_index};
-ghost use Rattle.tokei_syntax.specs.Bytes.{is_blank};
+ghost use Rattle.tokei_table_row.specs.Bytes.{is_blank};
 ghost use Rattle.tokei_embedding.specs.DocComments.{first_line, front_mark, doc_block};
 ghost use Rattle.tokei_embedding.specs.Fences.{first_fence};
 ghost use Rattle.tokei_embedding.specs.NextOpenings.{part_of, OpensNoFence, OpensNoTarget};
@@ -12,7 +12,7 @@ use crate::fences::first_fence;
 use crate::searches::first_of;
 use crate::target_blocks::OPENER;
 use tokei_bytes::first_of_one;
-use tokei_syntax::ext::is_whitespace;
+use tokei_table_row::ext::is_whitespace;
 
 /// The place in the text of what was found in the part that begins at `start`, where it stands at `at` or behind it;
 /// else `to`.

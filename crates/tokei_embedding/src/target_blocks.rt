@@ -6,7 +6,7 @@ ghost use Rattle.tokei_embedding.specs.TargetBlocks.{word_behind_blanks, target_
 ghost use Rattle.tokei_embedding.specs.Seen.{target_seen};
 
 use crate::searches::{first_of, is_at};
-use tokei_syntax::ext::{is_whitespace, trim_start};
+use tokei_table_row::ext::{is_whitespace, trim_start};
 
 pub(crate) const OPENER: &[u8] = b"{=";
 

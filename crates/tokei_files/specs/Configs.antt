@@ -2,7 +2,7 @@
 use Rattle.std.specs.Prelude.{ℕ, Bool, false, not, ◌||◌, List, Option, unwrap_or}
 use Rattle.tokei_config.specs.Settings.{Settings}
 use Rattle.tokei_folders.specs.Tree.{Tree}
-use Rattle.tokei_paths.specs.Paths.{rows_by}
+use Rattle.tokei_files.specs.Paths.{rows_by}
 use Rattle.tokei_table.specs.Row.{Row}
 use Rattle.tokei_walk.specs.declared.kept_file.KeptFile.{KeptFile}
 use Rattle.tokei_walk.specs.declared.levels.Rules.{Rules}

@@ -1,17 +1,8 @@
--- What a file of a known tree counts: the plain reading of its content, decoded.
-use Rattle.std.specs.Prelude.{ℕ, Bool, List, Option, option_map}
-use Rattle.tokei_count.specs.Languages.{languages_of}
-use Rattle.tokei_count.specs.PlainReading.{reading, outermost_levels}
-use Rattle.tokei_stats.specs.Statistics.{Statistics}
-use Rattle.tokei_table.specs.Row.{Row}
-use Rattle.tokei_text.specs.Decoding.{decoded}
-use Rattle.tokei_folders.specs.Tree.{Tree}
-use Rattle.tokei_paths.specs.Contents.{content_at}
+-- The content of a file of a known tree.
+use Rattle.std.specs.Prelude.{ℕ, List, Option}
+use Rattle.tokei_folders.specs.Answers.{node_content}
+use Rattle.tokei_folders.specs.Tree.{Tree, node_at, names_of}
 
--- the statistics of a content in a language, where `docs` says whether doc strings count as comments
-unfoldable pub stats_in : List Row → Bool → ℕ → List ℕ → Statistics
-stats_in rows docs language content = reading (languages_of rows) docs outermost_levels language (decoded content)
-
--- the statistics of the file at a place, where it can be read
-abbrev pub stats_at : Tree → List Row → Bool → ℕ → List ℕ → Option Statistics
-stats_at t rows docs language place = option_map (stats_in rows docs language) (content_at t place)
+-- the content of the file at a place, where it can be read
+unfoldable pub content_at : Tree → List ℕ → Option (List ℕ)
+content_at t place = node_content (node_at t (names_of place))

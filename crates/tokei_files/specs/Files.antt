@@ -5,8 +5,8 @@ use Rattle.tokei_stats.specs.Overflow.{Fits}
 use Rattle.tokei_table.specs.Row.{Row}
 use Rattle.tokei_walk.specs.declared.kept_file.KeptFile.{KeptFile}
 use Rattle.tokei_folders.specs.Tree.{Tree}
-use Rattle.tokei_paths.specs.Paths.{language_by_path}
-use Rattle.tokei_files.specs.Contents.{stats_at}
+use Rattle.tokei_files.specs.Paths.{language_by_path}
+use Rattle.tokei_files.specs.ContentStatistics.{stats_at}
 
 -- by what files are counted: the rows of the table, whether doc strings count as comments, and the languages that count,
 -- which are all where none are given

@@ -2,7 +2,7 @@
 use Rattle.std.specs.Prelude.{option_map}
 use Rattle.tokei_count.specs.Seen.{docs_of}
 use Rattle.tokei_files.specs.Files.{Counting}
-use Rattle.tokei_files.specs.declared.contents.Counting as CodeCounting
+use Rattle.tokei_files.specs.declared.counting.Counting as CodeCounting
 
 abbrev pub counting_of : CodeCounting.Counting → Counting
 counting_of c = record { rows = c.counter.now; docs = docs_of c.config; types = option_map (λ types. types.now) c.types }

@@ -1,67 +1,25 @@
-//! The report of one file: what its content counts, decoded, in a language.
-ghost use Rattle.std.specs.Prelude.{◌≡◌, ◌≢◌, ◌<◌, None, Some, Err, length, IfOk, IsSomeAnd};
-ghost use Rattle.tokei_count.specs.Seen.{docs_of};
-ghost use Rattle.tokei_stats.specs.Overflow.{Fits};
-ghost use Rattle.tokei_stats.specs.Seen.{stats_of};
+//! The content of a file.
+ghost use Rattle.std.specs.Prelude.{◌≡◌, ◌≢◌, ◌<◌, None, Some, Err, IfOk};
 ghost use Rattle.tokei_folders.specs.Answers.{Told};
-ghost use Rattle.tokei_files.specs.declared.error.ParseFault.TheVariants.{Refused as NotRead, Memory as OutOfMemory, Overflow as TooMany};
-ghost use Rattle.tokei_paths.specs.Contents.{content_at};
-ghost use Rattle.tokei_files.specs.Contents.{stats_at, stats_in};
+ghost use Rattle.tokei_folders.specs.declared.fs.Fault.TheVariants.{Refused as RefusedFault, Memory as MemoryFault};
+ghost use Rattle.tokei_files.specs.Contents.{content_at};
 
-use crate::error::ParseFault;
-use std::alloc::Global;
-use tokei_count::{CodeStats, CountConfig, Counter, decode_text, parse_from_slice};
-use tokei_paths::content;
-use tokei_table::LanguageType;
-use tokei_walk::Folders;
+use tokei_walk::{Fault, Folders};
 
-/// By what files are counted.
-#[derive(Drop)]
-pub struct Counting<'a> {
-    pub alloc: Global,
-    /// Of the table by which files have their languages.
-    pub counter: &'a Counter<'a>,
-    pub config: CountConfig,
-    /// The languages that count; `None` means all.
-    pub types: Option<&'a [LanguageType]>,
-}
-
-impl Counting<'_> {
-    /// The statistics of a content in a language, once it is decoded. `Overflow` comes only where one of its counts passes
-    /// the greatest `usize`.
-    fn count(&self, language: LanguageType, content: Vec<u8>) -> Result<CodeStats, ParseFault>
-        requires { language < length self.now.counter.now }
-        ensures stats { IfOk result (λ s. stats_of s
-            ≡ stats_in self.now.counter.now (docs_of self.now.config) language content.items) }
-        ensures overflow { result ≡ Err TooMany
-            → ¬ Fits (stats_in self.now.counter.now (docs_of self.now.config) language content.items) }
-        ensures counted { result ≢ Err NotRead }
-    {
-        let text = decode_text(self.alloc, content)?;
-        Ok(parse_from_slice(self.alloc, self.counter, language, &text, &self.config)?)
-    }
-
-    /// The statistics of the file at a place, in a language. A file that the walk has just listed is opened without being
-    /// asked for once more.
-    pub fn read<F: Folders>(
-        &self,
-        folders: &mut F,
-        language: LanguageType,
-        place: &str,
-        listed: bool,
-    ) -> Result<CodeStats, ParseFault>
-        requires { language < length self.now.counter.now }
-        ensures same { F.tree folders.new ≡ F.tree folders.old }
-        ensures told { Told (F.tree folders.old) (λ t. IfOk result (λ s. Some (stats_of s)
-            ≡ stats_at t self.now.counter.now (docs_of self.now.config) language place.now)) }
-        ensures refused { result ≡ Err NotRead → Told (F.tree folders.old) (λ t.
-            content_at t place.now ≡ None) }
-        ensures overflow { result ≡ Err TooMany → Told (F.tree folders.old) (λ t. IsSomeAnd
-            (stats_at t self.now.counter.now (docs_of self.now.config) language place.now) (λ s. ¬ Fits s)) }
-        ensures honest { result ≢ Err OutOfMemory → F.memory_faults folders.old < u64.MAX
-            → F.memory_faults folders.new ≡ F.memory_faults folders.old }
-    {
-        let content = content(folders, place, listed)?;
-        self.count(language, content)
+/// The content of the file at a place; whether the walk has just listed it. `Refused` where it can't be read, else `Memory`;
+/// the folders keep their tree.
+pub fn content<F: Folders>(folders: &mut F, place: &str, listed: bool) -> Result<Vec<u8>, Fault>
+    ensures same { F.tree folders.new ≡ F.tree folders.old }
+    ensures told { Told (F.tree folders.old) (λ t. IfOk result (λ c.
+        content_at t place.now ≡ Some c.items)) }
+    ensures refused { result ≡ Err RefusedFault → Told (F.tree folders.old) (λ t.
+        content_at t place.now ≡ None) }
+    ensures honest { result ≢ Err MemoryFault → F.memory_faults folders.old < u64.MAX
+        → F.memory_faults folders.new ≡ F.memory_faults folders.old }
+{
+    if listed {
+        folders.read_listed(place)
+    } else {
+        folders.read(place)
     }
 }

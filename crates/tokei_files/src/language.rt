@@ -4,9 +4,9 @@ ghost use Rattle.tokei_folders.specs.Answers.{Told};
 ghost use Rattle.tokei_files.specs.Files.{counts, language_of_file};
 ghost use Rattle.tokei_files.specs.Seen.{counting_of};
 
-use crate::contents::Counting;
+use crate::counting::Counting;
+use crate::paths::language_of_path;
 use std::alloc::AllocError;
-use tokei_paths::language_of_path;
 use tokei_table::LanguageType;
 use tokei_walk::{Folders, KeptFile};
 

@@ -1,13 +1,16 @@
-//! What a run counts of one file: what a configuration says of it, the language in which it is counted, and its report.
+//! What a run counts of one file: its language, its content, what a configuration says of it, and its report.
 #![tactic(auto)]
 
 mod configs;
 mod contents;
+mod counting;
 mod error;
 mod language;
 mod parsing;
+mod paths;
 
 pub use configs::{rules, types};
-pub use contents::Counting;
+pub use counting::Counting;
 pub use error::ParseFault;
 pub use parsing::parse_file;
+pub use paths::{from_path, from_shebang};

@@ -6,10 +6,10 @@ ghost use Rattle.tokei_stats.specs.Overflow.{Fits};
 ghost use Rattle.tokei_stats.specs.Seen.{stats_of};
 ghost use Rattle.tokei_files.specs.declared.error.ParseFault.TheVariants.{Refused as NotRead, Memory as OutOfMemory, Overflow as TooMany};
 ghost use Rattle.tokei_files.specs.Configs.{is_on};
-ghost use Rattle.tokei_paths.specs.Contents.{content_at};
-ghost use Rattle.tokei_files.specs.Contents.{stats_at};
+ghost use Rattle.tokei_files.specs.Contents.{content_at};
+ghost use Rattle.tokei_files.specs.ContentStatistics.{stats_at};
 
-use crate::contents::Counting;
+use crate::counting::Counting;
 use crate::error::ParseFault;
 use std::alloc::Global;
 use tokei_config::Config;

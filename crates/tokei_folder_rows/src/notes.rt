@@ -2,7 +2,7 @@
 use log::sink::Lines;
 use std::alloc::{AllocError, Global};
 use std::test::Fail;
-use tokei_notes::log_notes;
+use tokei_program::log_notes;
 use tokei_walk::{Note, NoteKind, Text};
 
 const KINDS: [NoteKind; 7] = [

@@ -1,9 +1,8 @@
 //! What a run counts, and what it writes.
 use tokei_config::Config;
-use tokei_format::Format;
+use tokei_earlier::Format;
 use tokei_languages::Languages;
-use tokei_options::Sort;
-use tokei_styles::{NumberFormatStyle, Streaming};
+use tokei_options::{NumberFormatStyle, Sort, Streaming};
 
 /// What a run writes.
 #[derive(Debug, Drop)]

@@ -1,1 +1,4 @@
+pub mod Members
+pub mod Names
 pub mod NoFloats
+pub mod NoFloatsInDocuments

@@ -1,8 +1,8 @@
 -- Languages as JSON data, beside their total. Languages stand under their names, and members in byte order.
 use Rattle.std.specs.Prelude.{ℕ, List, codes}
 use Rattle.serde_json.specs.Data.{Data, boolean, object, no_members, member, put}
-pub use Rattle.tokei_json_reports.specs.ReportData.{count, name_of, statistics_data, blobs_data, report_data}
-pub use Rattle.tokei_json_reports.specs.ReportData.{line_data, reports_data, named_data}
+pub use Rattle.tokei_json.specs.ReportData.{count, name_of, statistics_data, blobs_data, report_data}
+pub use Rattle.tokei_json.specs.ReportData.{line_data, reports_data, named_data}
 use Rattle.tokei_languages.specs.Summaries.{total_of}
 use Rattle.tokei_languages.specs.Values.{LanguageValue}
 use Rattle.tokei_table.specs.Row.{Row}

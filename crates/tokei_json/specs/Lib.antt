@@ -1,1 +1,5 @@
+-- What contracts say of languages, statistics and reports as JSON data.
 pub mod Document
+pub mod LanguageMaps
+pub mod Layout
+pub mod ReportData

@@ -8,9 +8,9 @@ ghost use Rattle.tokei_languages.specs.Summaries.{languages_summary, reports_by_
 ghost use Rattle.tokei_stats.specs.Overflow.{CountsFit};
 ghost use Rattle.tokei_stats.specs.Seen.{sums_of};
 
+use crate::reports::{children_value, name_of, reports_value};
 use serde_json::{Map, Value, json};
 use std::alloc::{AllocError, Global};
-use tokei_json_reports::{children_value, name_of, reports_value};
 use tokei_languages::{CountError, Language, Languages};
 use tokei_stats::Sums;
 use tokei_table::LanguageTable;

@@ -11,7 +11,7 @@ use Rattle.tokei_stats.specs.Statistics.Blobs.{none, blob}
 use Rattle.tokei_table.specs.Row.{Row}
 use Rattle.tokei_json.specs.Document.{name_of, statistics_data, blobs_data, report_data, reports_data, named_data, language_data, document}
 use Rattle.tokei_json_laws.specs.Levels.{levels, blob_levels, ReportsWithin, ListsWithin, LanguagesWithin}
-use Rattle.tokei_json_reports.proofs.Members.{AllMembers, all_put, all_named_each}
+use Rattle.tokei_json.proofs.Members.{AllMembers, all_put, all_named_each}
 
 max_within : (a b m : ℕ) → a ≤ m → b ≤ m → max a b ≤ m
 max_within a b m h k = omega arith

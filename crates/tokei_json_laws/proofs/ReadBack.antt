@@ -10,10 +10,10 @@ use Rattle.std.specs.BTreeMap.{insert_entry}
 use Rattle.serde_json.specs.Data.{Data, Members, no_members, member, put}
 use Rattle.tokei_table.specs.Row.{Row}
 use Rattle.tokei_json.specs.Document.{name_of, named_data}
-use Rattle.tokei_documents.specs.LanguageMaps.{language_named}
+use Rattle.tokei_json.specs.LanguageMaps.{language_named}
 use Rattle.tokei_earlier.specs.Reading.{put_named}
 use Rattle.tokei_json_laws.proofs.Commuting.{insert_commutes}
-use Rattle.tokei_json_reports.proofs.Members.{AllMembers, all_put, same_text}
+use Rattle.tokei_json.proofs.Members.{AllMembers, all_put, same_text}
 
 below : (x y : ℕ) → nat_cmp x y ≡ Less → x < y
 below x y h = ranked x y Less (sym h)

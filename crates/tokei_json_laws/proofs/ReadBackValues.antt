@@ -8,7 +8,7 @@ use Rattle.serde_json.specs.Data.{Data, Members, no_members, member, put}
 use Rattle.serde_json.specs.View.{items_of}
 use Rattle.tokei_languages.specs.Values.{ReportValue, LanguageValue}
 use Rattle.tokei_languages.specs.Summaries.{total_of}
-use Rattle.tokei_stats_laws.specs.Ordered.{IsOrdered, AreOrdered, StandBehind}
+use Rattle.tokei_stats.specs.Ordered.{IsOrdered, AreOrdered, StandBehind}
 use Rattle.tokei_stats.specs.Seen.{blobs_of}
 use Rattle.tokei_stats.specs.Statistics.{Statistics, Blobs}
 use Rattle.tokei_stats.specs.Statistics.Statistics.{node}
@@ -16,14 +16,14 @@ use Rattle.tokei_stats.specs.Statistics.Blobs.{none, blob}
 use Rattle.tokei_table.specs.Row.{Row}
 use Rattle.tokei_table.specs.RowNames.{names_twice}
 use Rattle.tokei_json.specs.Document.{name_of, statistics_data, blobs_data, report_data, reports_data, named_data, language_data, document}
-use Rattle.tokei_documents.specs.LanguageMaps.{language_named}
-use Rattle.tokei_earlier_reports.specs.ReadReports.{put_named, put_blob, counts_in, statistics_in, with_blobs, report_in}
-use Rattle.tokei_earlier_reports.specs.ReadReports.{all_reports_in, reports_in, with_children}
+use Rattle.tokei_json.specs.LanguageMaps.{language_named}
+use Rattle.tokei_earlier.specs.ReadReports.{put_named, put_blob, counts_in, statistics_in, with_blobs, report_in}
+use Rattle.tokei_earlier.specs.ReadReports.{all_reports_in, reports_in, with_children}
 use Rattle.tokei_earlier.specs.Reading.{language_in, with_languages, languages_in}
 use Rattle.tokei_json_laws.specs.Known.{AreKnown, BlobsAreKnown}
 use Rattle.tokei_json_laws.proofs.Sound.{ReportsAreSound, ChildrenAreSound, IsSound, LanguagesAreSound}
-use Rattle.tokei_earlier_reports.proofs.Insertions.{blobs_of-insert}
-use Rattle.tokei_documents.proofs.Names.{named_by_name}
+use Rattle.tokei_earlier.proofs.Insertions.{blobs_of-insert}
+use Rattle.tokei_json.proofs.Names.{named_by_name}
 use Rattle.tokei_json_laws.proofs.ReadBack.{all_read, Returns, returned, passed}
 
 -- blobs as a list

@@ -8,13 +8,13 @@ use Rattle.tokei_table.specs.WellFormed.{IsWellFormed}
 use Rattle.tokei_json.specs.Document.{document}
 use Rattle.tokei_json_laws.specs.InOrder.{LanguagesAreInOrder}
 use Rattle.tokei_json_laws.specs.Known.{LanguagesAreKnown}
-use Rattle.tokei_documents.specs.LanguageMaps.{all_known, all_once}
-use Rattle.tokei_documents.specs.Layout.{has_layout}
+use Rattle.tokei_json.specs.LanguageMaps.{all_known, all_once}
+use Rattle.tokei_json.specs.Layout.{has_layout}
 use Rattle.tokei_earlier.specs.Outcome.{outcome_of_value, outcome_of_reading, outcome_of_text}
 use Rattle.tokei_earlier.specs.Reading.{languages_in}
 use Rattle.tokei_earlier.specs.declared.error.InputError.{InputError}
 use Rattle.tokei_earlier.specs.declared.error.InputError.TheVariants.{Layout, UnknownLanguage, NamedTwice}
-use Rattle.tokei_documents.proofs.Names.{total_unnamed}
+use Rattle.tokei_json.proofs.Names.{total_unnamed}
 use Rattle.tokei_json_laws.proofs.ReadBackValues.{document_back}
 use Rattle.tokei_json_laws.proofs.Sound.{LanguagesAreSound, sound_languages}
 use Rattle.tokei_json_laws.proofs.SoundLayout.{document_stands}

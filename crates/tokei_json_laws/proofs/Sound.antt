@@ -4,7 +4,7 @@ use Rattle.std.specs.Bool.{⊤}
 use Rattle.std.specs.Map.{keys_of}
 use Rattle.std.specs.List.Sorted.{IsStrictlySortedBy}
 use Rattle.tokei_languages.specs.Values.{ReportValue, LanguageValue}
-use Rattle.tokei_stats_laws.specs.Ordered.{IsOrdered}
+use Rattle.tokei_stats.specs.Ordered.{IsOrdered}
 use Rattle.tokei_json_laws.specs.InOrder.{ReportsAreInOrder, ListsAreInOrder, ValuesAreInOrder}
 use Rattle.tokei_json_laws.specs.Known.{AreKnown, ReportsAreKnown, ChildrenAreKnown, LanguagesAreKnown}
 

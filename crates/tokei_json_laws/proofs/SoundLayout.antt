@@ -13,10 +13,10 @@ use Rattle.tokei_stats.specs.Statistics.Blobs.{none, blob}
 use Rattle.tokei_table.specs.Layout.{all_items}
 use Rattle.tokei_table.specs.Row.{Row}
 use Rattle.tokei_json.specs.Document.{name_of, statistics_data, blobs_data, report_data, reports_data, named_data, language_data, document}
-use Rattle.tokei_documents.specs.Layout.{has_counts, is_statistics, all_statistics, is_report, are_reports, all_reports, is_language, are_languages, has_layout}
-use Rattle.tokei_json_reports.proofs.Members.{AllMembers, all_put, all_named}
-use Rattle.tokei_documents.proofs.Names.{right_true}
-use Rattle.tokei_json.proofs.NoFloats.{whole_document}
+use Rattle.tokei_json.specs.Layout.{has_counts, is_statistics, all_statistics, is_report, are_reports, all_reports, is_language, are_languages, has_layout}
+use Rattle.tokei_json.proofs.Members.{AllMembers, all_put, all_named}
+use Rattle.tokei_json.proofs.Names.{right_true}
+use Rattle.tokei_json.proofs.NoFloatsInDocuments.{whole_document}
 
 both : (a b : Bool) → a ≡ true → b ≡ true → (a && b) ≡ true
 both true b h k = k

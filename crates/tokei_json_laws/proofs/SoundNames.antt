@@ -17,12 +17,12 @@ use Rattle.tokei_table.specs.Lookups.{row_at}
 use Rattle.tokei_table.specs.Row.{Row}
 use Rattle.tokei_table.specs.RowNames.{names_twice, is_total}
 use Rattle.tokei_json.specs.Document.{name_of, statistics_data, blobs_data, report_data, reports_data, named_data, language_data, document}
-use Rattle.tokei_documents.specs.LanguageMaps.{language_named, all_names, has_both, names_once, passes, statistics_pass, each_passes, report_passes, reports_pass, lists_pass, language_passes, languages_pass, all_known, all_once}
+use Rattle.tokei_json.specs.LanguageMaps.{language_named, all_names, has_both, names_once, passes, statistics_pass, each_passes, report_passes, reports_pass, lists_pass, language_passes, languages_pass, all_known, all_once}
 use Rattle.tokei_json_laws.specs.Known.{AreKnown, BlobsAreKnown}
 use Rattle.tokei_json_laws.proofs.Sound.{ReportsAreSound, ChildrenAreSound, IsSound, LanguagesAreSound}
-use Rattle.tokei_documents.specs.declared.language_maps.MapTest.TheVariants.{Known, Once}
-use Rattle.tokei_json_reports.proofs.Members.{AllMembers, all_put, all_named_each, all_mono, same_text}
-use Rattle.tokei_documents.proofs.Names.{named_by_name, named_by_key, total_unnamed, right_true}
+use Rattle.tokei_json.specs.declared.language_maps.MapTest.TheVariants.{Known, Once}
+use Rattle.tokei_json.proofs.Members.{AllMembers, all_put, all_named_each, all_mono, same_text}
+use Rattle.tokei_json.proofs.Names.{named_by_name, named_by_key, total_unnamed, right_true}
 
 both : (a b : Bool) → a ≡ true → b ≡ true → (a && b) ≡ true
 both true b h k = k

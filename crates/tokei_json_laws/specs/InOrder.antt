@@ -4,7 +4,7 @@ use Rattle.std.specs.Ordering.{nat_cmp}
 use Rattle.std.specs.Map.{keys_of}
 use Rattle.std.specs.List.Sorted.{IsStrictlySortedBy}
 use Rattle.tokei_languages.specs.Values.{ReportValue, LanguageValue}
-use Rattle.tokei_stats_laws.specs.Ordered.{IsOrdered}
+use Rattle.tokei_stats.specs.Ordered.{IsOrdered}
 
 abbrev pub ReportsAreInOrder : List ReportValue → Type 0
 ReportsAreInOrder [] = ⊤

@@ -11,12 +11,11 @@ ghost use Rattle.tokei_languages.specs.Seen.{children_of, language_of, languages
 
 use std::alloc::Global;
 use std::collections::BTreeMap;
-use tokei_earlier::{InputError, from_value};
-use tokei_format::Format;
+use tokei_earlier::{Format, InputError, from_value};
 use tokei_json::to_value;
 use tokei_languages::{CountError, Language, Languages};
 use tokei_stats::Report;
-use tokei_stats_laws::laws::statistics_are_ordered;
+use tokei_stats::sum_laws::statistics_are_ordered;
 use tokei_table::{LanguageTable, LanguageType};
 
 /// How many levels of blobs a text can hold that is read.

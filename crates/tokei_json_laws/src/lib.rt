@@ -1,5 +1,4 @@
-//! What is written as a JSON document is read back. It stands above the crates that write and read, so that these are proved
-//! side by side.
+//! What is written as a JSON document is read back.
 #![tactic(auto)]
 
 pub mod laws;

@@ -1,8 +1,7 @@
 //! Documents printed and read, texts refused for each cause, and readers that fail.
 use std::alloc::{AllocError, Global};
 use std::test::Fail;
-use tokei_earlier::{InputError, add_input, from_value};
-use tokei_format::{Format, FormatError};
+use tokei_earlier::{Format, FormatError, InputError, add_input, from_value};
 use tokei_io::{Counted, FailOnce};
 use tokei_json::to_value;
 use tokei_languages::{CountError, Language, Languages};

@@ -1,3 +1,5 @@
+mod AnyOrder
+mod Measures
 pub mod BlobReports
 pub mod Copying
 pub mod Entries

@@ -1,5 +1,5 @@
-//! The languages that were counted: their counts, their files' reports, and how these are added, renewed, summarised
-//! and sorted.
+//! The languages that were counted: their counts, their files' reports, how these are added, renewed, summarised and
+//! sorted, and the laws of that.
 #![tactic(auto)]
 
 mod before;
@@ -7,6 +7,7 @@ mod children;
 mod copies;
 pub mod language;
 pub mod languages;
+pub mod laws;
 mod merge;
 mod sorting;
 mod sums;

@@ -1,3 +1,3 @@
 -- What contracts say of notebooks: their layout, and their cells.
-pub mod Layout
 pub mod Cells
+pub mod Layout

@@ -1,8 +1,14 @@
-//! What a caller chooses of a count: how texts are counted, and by which column languages are sorted.
+//! What a caller chooses of a count and of its output: how texts are counted, by which column languages are sorted, how the
+//! digits of a number are grouped, the forms of a stream, and the widths of columns.
 #![tactic(auto)]
 
+pub mod columns;
 pub mod count_config;
+pub mod number_format;
 pub mod sort;
+pub mod streaming;
 
 pub use count_config::CountConfig;
+pub use number_format::{NumberFormat, NumberFormatStyle, StyleError};
 pub use sort::{Sort, SortError};
+pub use streaming::{Streaming, StreamingError};

@@ -1,17 +1,17 @@
 -- What stands behind a place, choice by choice.
 use Rattle.std.proofs.Common.{◌≡◌, ℕ, suc, zero, ◌+◌, ◌-◌, ◌<◌, Bool, true, false, cond, List, [], ◌∷◌, ◌++◌, length, take, drop, Option, None, Some, refl, sym, ◌∙◌, ap, append_assoc, arith}
 use Rattle.std.proofs.lemmas.List.{drop-drop, append-nil}
-use Rattle.tokei_choice.specs.Choice.{Choice, choice}
-use Rattle.tokei_choice.specs.Choice.Choice.{closes, escapes, child_opens, opens, passes_over, begins_line_comment, takes_byte}
+use Rattle.tokei_parts.specs.Choice.{Choice, choice}
+use Rattle.tokei_parts.specs.Choice.Choice.{closes, escapes, child_opens, opens, passes_over, begins_line_comment, takes_byte}
 use Rattle.tokei_parts.specs.Derivation.{Body, before, behind, follow, derive, second}
-use Rattle.tokei_choice.specs.Items.{Block, Item, Items, Enclosure, Mode, enclosure, enclosing_item}
-use Rattle.tokei_choice.specs.Items.Item.{one, escaped, passed_over, line_comment, child}
+use Rattle.tokei_parts.specs.Items.{Block, Item, Items, Enclosure, Mode, enclosure, enclosing_item}
+use Rattle.tokei_parts.specs.Items.Item.{one, escaped, passed_over, line_comment, child}
 use Rattle.tokei_parts.specs.Lines.{first_line}
 use Rattle.tokei_parts.specs.Modes.{Mark, Chain, innermost, marks, marks_of, of_choice, closing}
 use Rattle.tokei_parts.specs.Modes.Mark.{byte_at, child_at}
 use Rattle.tokei_parts.specs.Progress.{body as body_of, marks_ahead as marks_ahead_of}
-use Rattle.tokei_choice.specs.declared.items.Kind.{Kind}
-use Rattle.tokei_choice.specs.declared.items.Kind.TheVariants.{DocString, VerbatimString, OrdinaryString, MultiLineComment}
+use Rattle.tokei_parts.specs.declared.items.Kind.{Kind}
+use Rattle.tokei_parts.specs.declared.items.Kind.TheVariants.{DocString, VerbatimString, OrdinaryString, MultiLineComment}
 use Rattle.tokei_table.specs.Row.{Row, Pair}
 
 -- an item with a body has the marks of its opener, its body and, where that is closed, its closer

@@ -20,7 +20,7 @@ use Rattle.tokei_embedding.proofs.DocLaws.{doc_reach}
 use Rattle.tokei_embedding.proofs.Newlines.{none_at_newline}
 use Rattle.tokei_parts.specs.Lines.{first_line}
 use Rattle.tokei_parts.proofs.Lines.{take-first}
-use Rattle.tokei_choice.specs.Items.{Block}
+use Rattle.tokei_parts.specs.Items.{Block}
 use Rattle.tokei_parts.specs.Derivation.{no_child}
 use Rattle.tokei_parts.specs.MarkdownChildren.{known_piece, fence_as, fence_child}
 use Rattle.tokei_parts.specs.HtmlChildren.{element_child, element_at, first_block}

@@ -3,8 +3,8 @@ use Rattle.std.proofs.Common.{◌≡◌, ℕ, ◌+◌, ◌<◌, ◌≤◌, ◌�
 use Rattle.tokei_parts.specs.Calm.{IsCalm, TakesByteAt}
 use Rattle.tokei_parts.specs.PlainBytes.{IsPlainByte}
 use Rattle.tokei_parts.specs.ReadingOf.{row_in}
-use Rattle.tokei_choice.specs.Seen.{mode_of}
-use Rattle.tokei_choice.specs.declared.items.Enclosure as CodeEnclosure
+use Rattle.tokei_parts.specs.SeenChoices.{mode_of}
+use Rattle.tokei_parts.specs.declared.items.Enclosure as CodeEnclosure
 use Rattle.tokei_parts.specs.declared.reading.Reading.{Reading}
 use Rattle.tokei_parts.proofs.LineEnds.{below_or}
 use Rattle.tokei_parts.proofs.PlainBytes.{plain_byte_at}

@@ -3,11 +3,11 @@ use Rattle.std.proofs.Common.{◌≡◌, ℕ, Bool, true, false, ◌||◌, cond,
 use Rattle.std.specs.Prelude.{⊤}
 use Rattle.tokei_table.specs.Bytes.{begins}
 use Rattle.tokei_table.specs.Row.{Pair, Row}
-use Rattle.tokei_choice.specs.Items.{Block, Enclosure}
-use Rattle.tokei_choice.specs.Choice.{Choice, choice, opened, or_else, is_escape, has_pair, met_in_comment, choice_in_string, choice_in_comment, choice_within}
-use Rattle.tokei_choice.specs.Choice.Choice.{closes, escapes, child_opens, opens, passes_over, begins_line_comment, takes_byte}
-use Rattle.tokei_choice.specs.declared.items.Kind.{Kind}
-use Rattle.tokei_choice.specs.declared.items.Kind.TheVariants.{DocString, VerbatimString, OrdinaryString, MultiLineComment}
+use Rattle.tokei_parts.specs.Items.{Block, Enclosure}
+use Rattle.tokei_parts.specs.Choice.{Choice, choice, opened, or_else, is_escape, has_pair, met_in_comment, choice_in_string, choice_in_comment, choice_within}
+use Rattle.tokei_parts.specs.Choice.Choice.{closes, escapes, child_opens, opens, passes_over, begins_line_comment, takes_byte}
+use Rattle.tokei_parts.specs.declared.items.Kind.{Kind}
+use Rattle.tokei_parts.specs.declared.items.Kind.TheVariants.{DocString, VerbatimString, OrdinaryString, MultiLineComment}
 
 -- the choice can be made in an item
 abbrev IsWithin : Choice → Type 0

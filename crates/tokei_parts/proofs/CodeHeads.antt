@@ -8,16 +8,16 @@ use Rattle.tokei_table.specs.Bytes.{ends, is_blank, all_blank, trim, trim_start,
 use Rattle.tokei_table.specs.FirstOpener.{is_first_of}
 use Rattle.tokei_table.specs.Row.{Pair, Row}
 use Rattle.tokei_table.specs.Sound.{is_token, is_pair, IsSound}
-use Rattle.tokei_choice.specs.Choice.{any_begins}
+use Rattle.tokei_parts.specs.Choice.{any_begins}
 use Rattle.tokei_parts.specs.Class.{class_of, encloses, opens_with, head_of, is_comment, is_doc_string, keeps_columns, in_string, in_doc_string, in_comment, ends_opened}
 use Rattle.tokei_parts.specs.CodeHeads.{FrontBeginsNone, HasCodeHead}
 use Rattle.tokei_parts.specs.PlainBytes.{BeginsNone}
 use Rattle.tokei_parts.specs.Derivation.{closer_of}
-use Rattle.tokei_choice.specs.Items.{Mode}
+use Rattle.tokei_parts.specs.Items.{Mode}
 use Rattle.tokei_parts.specs.Matchers.{Matchers, matchers_of, begins_opener, begins_choice}
 use Rattle.tokei_parts.specs.declared.class.Class.TheVariants.{Blank, Code, Comment}
-use Rattle.tokei_choice.specs.declared.items.Kind.{Kind}
-use Rattle.tokei_choice.specs.declared.items.Kind.TheVariants.{DocString, VerbatimString, OrdinaryString, MultiLineComment}
+use Rattle.tokei_parts.specs.declared.items.Kind.{Kind}
+use Rattle.tokei_parts.specs.declared.items.Kind.TheVariants.{DocString, VerbatimString, OrdinaryString, MultiLineComment}
 use Rattle.tokei_parts.proofs.Fits.{and_left, and_right}
 use Rattle.tokei_parts.proofs.PlainBytes.{flag_at, not_begun, token_some, none_begins, or_left, or_right}
 

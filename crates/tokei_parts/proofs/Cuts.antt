@@ -2,7 +2,7 @@
 use Rattle.std.proofs.Common.{◌≡◌, ℕ, suc, ◌+◌, ◌<◌, ◌==◌, Bool, true, false, not, ◌&&◌, cond, List, [], ◌∷◌, ◌++◌, length, drop, refl, sym, ◌∙◌, ap, append_assoc, arith}
 use Rattle.std.proofs.lemmas.List.{append-nil, drop-drop}
 use Rattle.tokei_table.specs.Sound.{no_newline}
-use Rattle.tokei_choice.specs.Items.{Mode}
+use Rattle.tokei_parts.specs.Items.{Mode}
 use Rattle.tokei_parts.specs.Modes.{Chain, innermost, Mark, inside, of_choice, closing_from, closing}
 use Rattle.tokei_parts.specs.Modes.Mark.{byte_at}
 use Rattle.tokei_parts.specs.Parts.{cut}

@@ -5,13 +5,13 @@ use Rattle.std.specs.List.{list_all}
 use Rattle.std.specs.Cmp.Lexicographic.{pointwise}
 use Rattle.std.proofs.lemmas.Bool.Decides.{Decides-eqb}
 use Rattle.tokei_parts.proofs.Cuts.{no_newline_first, no_newline_later}
-use Rattle.tokei_choice.specs.Choice.{Choice, choice, opened, any_begins, is_escape, met_in_comment, choice_in_string, choice_in_comment, choice_in_plain, choice_within, or_else, has_pair}
-use Rattle.tokei_choice.specs.Choice.Choice.{closes, escapes, child_opens, opens, passes_over, begins_line_comment, takes_byte}
+use Rattle.tokei_parts.specs.Choice.{Choice, choice, opened, any_begins, is_escape, met_in_comment, choice_in_string, choice_in_comment, choice_in_plain, choice_within, or_else, has_pair}
+use Rattle.tokei_parts.specs.Choice.Choice.{closes, escapes, child_opens, opens, passes_over, begins_line_comment, takes_byte}
 use Rattle.tokei_parts.specs.Derivation.{closer_of}
-use Rattle.tokei_choice.specs.Items.{Block, Enclosure, Mode}
+use Rattle.tokei_parts.specs.Items.{Block, Enclosure, Mode}
 use Rattle.tokei_parts.specs.Lines.{line_len}
-use Rattle.tokei_choice.specs.declared.items.Kind.{Kind}
-use Rattle.tokei_choice.specs.declared.items.Kind.TheVariants.{DocString, VerbatimString, OrdinaryString, MultiLineComment}
+use Rattle.tokei_parts.specs.declared.items.Kind.{Kind}
+use Rattle.tokei_parts.specs.declared.items.Kind.TheVariants.{DocString, VerbatimString, OrdinaryString, MultiLineComment}
 use Rattle.tokei_table.specs.Bytes.{begins, all_blank}
 use Rattle.tokei_table.specs.Row.{Row, Pair}
 use Rattle.tokei_table.specs.Sound.{no_newline, is_token, is_pair, IsSound}

@@ -6,10 +6,10 @@ use Rattle.tokei_parts.proofs.Children.{children-append, children-of_choice, chi
 use Rattle.tokei_parts.proofs.Cuts.{cut_choice, cut_closing, cut_newline, running_choice, running_closing, running_newline}
 use Rattle.tokei_parts.proofs.Fits.{IsLocal, FitsIn, IsClosed, choice_fits}
 use Rattle.tokei_parts.proofs.Ahead.{marks_ahead-byte, marks_ahead-escape, marks_ahead-pass, marks_ahead-rest, marks_ahead-opener, marks_ahead-closer, marks_ahead-end}
-use Rattle.tokei_choice.specs.Choice.{Choice, choice}
-use Rattle.tokei_choice.specs.Choice.Choice.{closes, escapes, child_opens, opens, passes_over, begins_line_comment, takes_byte}
+use Rattle.tokei_parts.specs.Choice.{Choice, choice}
+use Rattle.tokei_parts.specs.Choice.Choice.{closes, escapes, child_opens, opens, passes_over, begins_line_comment, takes_byte}
 use Rattle.tokei_parts.specs.Derivation.{second}
-use Rattle.tokei_choice.specs.Items.{Block, Enclosure, enclosure, Mode}
+use Rattle.tokei_parts.specs.Items.{Block, Enclosure, enclosure, Mode}
 use Rattle.tokei_parts.specs.Lines.{first_line, line_len}
 use Rattle.tokei_parts.specs.Modes.{Mark, Chain, innermost, inside, of_choice, closing}
 use Rattle.tokei_parts.specs.Modes.Mark.{byte_at}
@@ -17,7 +17,7 @@ use Rattle.tokei_parts.specs.Parts.{cut}
 use Rattle.tokei_parts.specs.Tally.{children}
 use Rattle.tokei_parts.specs.Progress.{marks_ahead, Leads, OpensInLine, newlines}
 use Rattle.tokei_parts.specs.Running.{running}
-use Rattle.tokei_choice.specs.declared.items.Kind.{Kind}
+use Rattle.tokei_parts.specs.declared.items.Kind.{Kind}
 use Rattle.tokei_table.specs.Row.{Row, Pair}
 use Rattle.tokei_table.specs.Sound.{no_newline, IsSound}
 

@@ -4,13 +4,13 @@ use Rattle.tokei_parts.proofs.Leading.{line_done, line_kids, line_choices}
 use Rattle.tokei_parts.proofs.Ahead.{marks_ahead-end}
 use Rattle.tokei_parts.proofs.Stepping.{top_closed}
 use Rattle.tokei_parts.specs.Class.{class_of}
-use Rattle.tokei_choice.specs.Items.{Block}
+use Rattle.tokei_parts.specs.Items.{Block}
 use Rattle.tokei_parts.specs.Lines.{first_line, line_len}
 use Rattle.tokei_parts.specs.Modes.{Chain, innermost}
 use Rattle.tokei_parts.specs.Parts.{cut}
 use Rattle.tokei_parts.specs.Tally.{tally, one_of, children}
 use Rattle.tokei_parts.specs.Progress.{Leads, ReadsLine, OpensInLine, counts_left, children_left, steps_left, newlines, IsClosable}
-use Rattle.tokei_report_row.specs.Counts.{Counts, plus, no_lines}
+use Rattle.tokei_table_row.specs.Counts.{Counts, plus, no_lines}
 use Rattle.tokei_parts.specs.declared.class.Class.{Class}
 use Rattle.tokei_table.specs.Openers.{openers}
 use Rattle.tokei_table.specs.Row.{Row}

@@ -4,10 +4,10 @@ use Rattle.std.proofs.lemmas.List.{drop-drop}
 use Rattle.tokei_table.specs.Openers.{openers}
 use Rattle.tokei_table.specs.Row.{Row}
 use Rattle.tokei_table.specs.Sound.{IsSound}
-use Rattle.tokei_choice.specs.Items.{Block}
-use Rattle.tokei_choice.specs.Choice.{choice}
-use Rattle.tokei_choice.specs.Choice.Choice.{child_opens}
-use Rattle.tokei_choice.specs.Items.{Mode}
+use Rattle.tokei_parts.specs.Items.{Block}
+use Rattle.tokei_parts.specs.Choice.{choice}
+use Rattle.tokei_parts.specs.Choice.Choice.{child_opens}
+use Rattle.tokei_parts.specs.Items.{Mode}
 use Rattle.tokei_parts.specs.Lines.{first_line, line_len}
 use Rattle.tokei_parts.specs.Glance.{is_walked}
 use Rattle.tokei_parts.specs.Running.{choices_passed, running}

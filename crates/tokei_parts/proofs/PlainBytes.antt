@@ -8,16 +8,16 @@ use Rattle.tokei_table.specs.Bytes.{begins}
 use Rattle.tokei_table.specs.FirstOpener.{is_first_of}
 use Rattle.tokei_table.specs.Row.{Pair, Row}
 use Rattle.tokei_table.specs.Sound.{is_token, is_pair, IsSound}
-use Rattle.tokei_choice.specs.Choice.{choice, choice_in_plain, choice_within, choice_in_string, choice_in_comment, opened, any_begins, is_escape, or_else, met_in_comment}
-use Rattle.tokei_choice.specs.Choice.Choice.{closes, escapes, opens, takes_byte}
-use Rattle.tokei_choice.specs.Items.{Block, Enclosure, Mode}
+use Rattle.tokei_parts.specs.Choice.{choice, choice_in_plain, choice_within, choice_in_string, choice_in_comment, opened, any_begins, is_escape, or_else, met_in_comment}
+use Rattle.tokei_parts.specs.Choice.Choice.{closes, escapes, opens, takes_byte}
+use Rattle.tokei_parts.specs.Items.{Block, Enclosure, Mode}
 use Rattle.tokei_parts.specs.Matchers.{begins_opener, begins_choice, begins_in_comment, flags, Matchers, matchers_of}
 use Rattle.tokei_parts.specs.PlainBytes.{BeginsNone, BeginsNoneWithin, IsOutside, IsPlainByte}
-use Rattle.tokei_choice.specs.Seen.{choice_of}
-use Rattle.tokei_choice.specs.declared.choice.Choice as CodeChoice
-use Rattle.tokei_choice.specs.declared.choice.Choice.TheVariants.{Closes, Escapes, ChildOpens, Opens, PassesOver, BeginsLineComment, TakesByte}
-use Rattle.tokei_choice.specs.declared.items.Kind.{Kind}
-use Rattle.tokei_choice.specs.declared.items.Kind.TheVariants.{DocString, VerbatimString, OrdinaryString, MultiLineComment}
+use Rattle.tokei_parts.specs.SeenChoices.{choice_of}
+use Rattle.tokei_parts.specs.declared.choice.Choice as CodeChoice
+use Rattle.tokei_parts.specs.declared.choice.Choice.TheVariants.{Closes, Escapes, ChildOpens, Opens, PassesOver, BeginsLineComment, TakesByte}
+use Rattle.tokei_parts.specs.declared.items.Kind.{Kind}
+use Rattle.tokei_parts.specs.declared.items.Kind.TheVariants.{DocString, VerbatimString, OrdinaryString, MultiLineComment}
 use Rattle.tokei_parts.proofs.Fits.{and_left, and_right}
 
 -- the flag of a byte below n

@@ -1,18 +1,18 @@
 -- The stack of the code and the chain of the definitions.
 use Rattle.std.proofs.Common.{◌≡◌, ◌<◌, ◌∙◌, ℕ, List, [], ◌∷◌, ◌++◌, None, map, length, ap, sym, subst, refl, Option, Some, is_some, true}
 use Rattle.std.proofs.lemmas.List.{reverse-append}
-use Rattle.tokei_choice.specs.declared.items.Enclosure as Code
+use Rattle.tokei_parts.specs.declared.items.Enclosure as Code
 use Rattle.tokei_parts.proofs.Childless.{within_no_child, within_no_line_comment}
 use Rattle.tokei_parts.proofs.Stepping.{goes_opener, goes_closer, no_closer}
-use Rattle.tokei_choice.specs.Choice.{Choice, choice, or_else}
-use Rattle.tokei_choice.specs.Choice.Choice.{closes, opens, child_opens, begins_line_comment, takes_byte}
-use Rattle.tokei_choice.specs.Items.{Block, Mode, enclosure}
+use Rattle.tokei_parts.specs.Choice.{Choice, choice, or_else}
+use Rattle.tokei_parts.specs.Choice.Choice.{closes, opens, child_opens, begins_line_comment, takes_byte}
+use Rattle.tokei_parts.specs.Items.{Block, Mode, enclosure}
 use Rattle.tokei_parts.specs.Lines.{line_len}
 use Rattle.tokei_parts.specs.Modes.{Chain, innermost}
 use Rattle.tokei_parts.specs.Progress.{Goes, OpensChild, OpensInLine, IsClosable}
-use Rattle.tokei_choice.specs.Seen.{enclosure_of}
+use Rattle.tokei_parts.specs.SeenChoices.{enclosure_of}
 use Rattle.tokei_parts.specs.Seen.{chain_of}
-use Rattle.tokei_choice.specs.declared.items.Kind.{Kind}
+use Rattle.tokei_parts.specs.declared.items.Kind.{Kind}
 use Rattle.tokei_table.specs.Row.{Row, Pair}
 use Rattle.tokei_table.specs.Sound.{IsSound}
 

@@ -2,13 +2,13 @@
 use Rattle.std.proofs.Common.{◌≡◌, ℕ, ◌-◌, ◌<◌, ◌≤◌, true, List, [], ◌∷◌, length, Option, None, arith}
 use Rattle.tokei_parts.proofs.Fits.{IsLocal, FitsIn, IsClosed, choice_fits}
 use Rattle.tokei_parts.proofs.Leading.{lead_byte, lead_escape, lead_pass, lead_rest, lead_opener, lead_closer}
-use Rattle.tokei_choice.specs.Choice.{Choice, choice}
-use Rattle.tokei_choice.specs.Choice.Choice.{closes, escapes, opens, passes_over, begins_line_comment, takes_byte}
-use Rattle.tokei_choice.specs.Items.{Block, Enclosure, enclosure}
+use Rattle.tokei_parts.specs.Choice.{Choice, choice}
+use Rattle.tokei_parts.specs.Choice.Choice.{closes, escapes, opens, passes_over, begins_line_comment, takes_byte}
+use Rattle.tokei_parts.specs.Items.{Block, Enclosure, enclosure}
 use Rattle.tokei_parts.specs.Lines.{line_len}
 use Rattle.tokei_parts.specs.Modes.{Chain, innermost}
 use Rattle.tokei_parts.specs.Progress.{Leads, Goes, OpensInLine, IsClosable, newlines}
-use Rattle.tokei_choice.specs.declared.items.Kind.{Kind}
+use Rattle.tokei_parts.specs.declared.items.Kind.{Kind}
 use Rattle.tokei_table.specs.Row.{Row, Pair}
 use Rattle.tokei_table.specs.Sound.{is_token, IsSound}
 

@@ -1,10 +1,10 @@
 -- Stretches within an item in which each choice takes its byte.
 use Rattle.std.specs.Prelude.{◌≡◌, ℕ, ◌<◌, ◌≤◌, List, drop, None, Some}
 use Rattle.tokei_table.specs.Row.{Row}
-use Rattle.tokei_choice.specs.Choice.{choice}
-use Rattle.tokei_choice.specs.Choice.Choice.{takes_byte}
-use Rattle.tokei_choice.specs.Seen.{mode_of}
-use Rattle.tokei_choice.specs.declared.items.Enclosure.{Enclosure}
+use Rattle.tokei_parts.specs.Choice.{choice}
+use Rattle.tokei_parts.specs.Choice.Choice.{takes_byte}
+use Rattle.tokei_parts.specs.SeenChoices.{mode_of}
+use Rattle.tokei_parts.specs.declared.items.Enclosure.{Enclosure}
 
 -- the choice at the place, which the item encloses, takes its byte
 abbrev pub TakesByteAt : Row → Enclosure → List ℕ → ℕ → Type 0

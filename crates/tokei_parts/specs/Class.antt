@@ -4,15 +4,15 @@ use Rattle.std.specs.List.{list_any}
 use Rattle.std.specs.Str.{bytes_eq}
 use Rattle.tokei_table.specs.Bytes.{begins, ends, trim, all_blank}
 use Rattle.tokei_table.specs.Row.{Pair, Row}
-use Rattle.tokei_choice.specs.Items.{Mode}
-use Rattle.tokei_choice.specs.Choice.{any_begins}
+use Rattle.tokei_parts.specs.Items.{Mode}
+use Rattle.tokei_parts.specs.Choice.{any_begins}
 use Rattle.tokei_parts.specs.Derivation.{closer_of}
 use Rattle.tokei_parts.specs.Parts.{Part}
 use Rattle.tokei_parts.specs.declared.class.Class.{Class}
 use Rattle.tokei_parts.specs.declared.class.Class.TheVariants.{Blank, Code, Comment}
-use Rattle.tokei_choice.specs.declared.items.Kind.{Kind}
-use Rattle.tokei_choice.specs.declared.items.Kind.TheVariants.{DocString, VerbatimString, OrdinaryString}
-use Rattle.tokei_choice.specs.declared.items.Kind.TheVariants.{MultiLineComment}
+use Rattle.tokei_parts.specs.declared.items.Kind.{Kind}
+use Rattle.tokei_parts.specs.declared.items.Kind.TheVariants.{DocString, VerbatimString, OrdinaryString}
+use Rattle.tokei_parts.specs.declared.items.Kind.TheVariants.{MultiLineComment}
 
 abbrev pub is_comment : Kind → Bool
 is_comment DocString = false

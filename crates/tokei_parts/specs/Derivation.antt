@@ -3,12 +3,12 @@ use Rattle.std.specs.Prelude.{ℕ, zero, suc, ◌+◌, ◌-◌, Bool, true, fals
 use Rattle.std.specs.Prelude.{List, [], ◌∷◌, length, take, Option, None, Some}
 use Rattle.tokei_table.specs.Row.{Row}
 use Rattle.tokei_parts.specs.Lines.{first_line}
-use Rattle.tokei_choice.specs.Items.{Block, Item, Items, Mode, enclosing_item, enclosure}
-use Rattle.tokei_choice.specs.Items.Item.{one, escaped, passed_over, line_comment, child}
-use Rattle.tokei_choice.specs.Items.Items.{none, more}
-use Rattle.tokei_choice.specs.Choice.{Choice, choice}
-use Rattle.tokei_choice.specs.Choice.Choice.{closes, escapes, child_opens, opens, passes_over}
-use Rattle.tokei_choice.specs.Choice.Choice.{begins_line_comment, takes_byte}
+use Rattle.tokei_parts.specs.Items.{Block, Item, Items, Mode, enclosing_item, enclosure}
+use Rattle.tokei_parts.specs.Items.Item.{one, escaped, passed_over, line_comment, child}
+use Rattle.tokei_parts.specs.Items.Items.{none, more}
+use Rattle.tokei_parts.specs.Choice.{Choice, choice}
+use Rattle.tokei_parts.specs.Choice.Choice.{closes, escapes, child_opens, opens, passes_over}
+use Rattle.tokei_parts.specs.Choice.Choice.{begins_line_comment, takes_byte}
 
 -- The items of a body, how many bytes they and the closer have, and whether the closer came. A body ends before the
 -- first place at which its own closer is the choice, or at the text's end.

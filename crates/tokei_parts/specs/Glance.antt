@@ -1,7 +1,7 @@
 -- Which parts are walked: a part that begins plain and holds no opener is skipped.
 use Rattle.std.specs.Prelude.{ℕ, Bool, ◌||◌, not, List, length, is_some, unwrap_or}
 use Rattle.tokei_table.specs.FirstOpener.{first_opener}
-use Rattle.tokei_choice.specs.Items.{Mode}
+use Rattle.tokei_parts.specs.Items.{Mode}
 use Rattle.tokei_parts.specs.Class.{is_plain}
 
 -- whether some opener stands in the bytes

@@ -6,7 +6,7 @@ use Rattle.tokei_table.specs.Row.{Row}
 use Rattle.tokei_embedding.specs.Tags.{TagBlock, tag_block}
 use Rattle.tokei_embedding.specs.declared.tags.Tag.{Tag}
 use Rattle.tokei_embedding.specs.declared.tags.Tag.TheVariants.{Script, Style, Template}
-use Rattle.tokei_choice.specs.Items.{Block}
+use Rattle.tokei_parts.specs.Items.{Block}
 use Rattle.tokei_parts.specs.NamedLanguages.{by_word, by_mime}
 use Rattle.tokei_table.specs.Families.{fallback}
 

@@ -1,11 +1,13 @@
--- What contracts say of the parts of a text: its items, the class of each part, the children, and how a walk leads on.
+-- What contracts say of the parts of a text: its items, the choice at a place, the class of each part, the children.
 pub mod Calm
+pub mod Choice
 pub mod Class
 pub mod CodeHeads
 pub mod Derivation
 pub mod Glance
 pub mod Glanced
 pub mod HtmlChildren
+pub mod Items
 pub mod Lines
 pub mod LinguaFrancaChildren
 pub mod MarkdownChildren
@@ -21,6 +23,7 @@ pub mod ReadingOf
 pub mod Running
 pub mod RustChildren
 pub mod Seen
+pub mod SeenChoices
 pub mod Stretches
 pub mod Tally
 pub mod Walked

@@ -3,8 +3,8 @@ use Rattle.std.specs.Prelude.{ℕ, if◌then◌else◌, List, Option, None, Some
 use Rattle.tokei_table.specs.OuterLines.{trim_outer_lines}
 use Rattle.tokei_table.specs.Row.{Row}
 use Rattle.tokei_embedding.specs.TargetBlocks.{TargetBlock, target_block, target_of}
-use Rattle.tokei_choice.specs.Items.{Block}
-use Rattle.tokei_report_row.specs.Counts.{no_lines}
+use Rattle.tokei_parts.specs.Items.{Block}
+use Rattle.tokei_table_row.specs.Counts.{no_lines}
 use Rattle.tokei_parts.specs.NamedLanguages.{by_name}
 
 -- the target `CCpp` means C

@@ -5,7 +5,7 @@ use Rattle.std.specs.Option.{option_or}
 use Rattle.tokei_table.specs.Bytes.{trim}
 use Rattle.tokei_table.specs.Row.{Row}
 use Rattle.tokei_embedding.specs.Fences.{Fence, fence_block}
-use Rattle.tokei_choice.specs.Items.{Block}
+use Rattle.tokei_parts.specs.Items.{Block}
 use Rattle.tokei_parts.specs.NamedLanguages.{by_word}
 
 abbrev pub is_comma : ℕ → Bool

@@ -1,7 +1,7 @@
 -- Parts: the text outside the children, cut behind each newline and at each child.
 use Rattle.std.specs.Prelude.{ℕ, ◌-◌, ◌==◌, if◌then◌else◌, List, [], ◌∷◌, ◌++◌, length, take, drop, None}
 use Rattle.tokei_table.specs.Bytes.{newline}
-use Rattle.tokei_choice.specs.Items.{Mode}
+use Rattle.tokei_parts.specs.Items.{Mode}
 use Rattle.tokei_parts.specs.Modes.{Mark, innermost}
 use Rattle.tokei_parts.specs.Modes.Mark.{byte_at, child_at}
 

@@ -1,8 +1,8 @@
 -- A place in a part that is read, as the definitions see it.
 use Rattle.std.specs.Prelude.{◌≡◌, ℕ, ◌+◌, ◌-◌, ◌<◌, ◌≤◌, List, Option, None, drop, take, length}
 use Rattle.tokei_parts.specs.Lines.{first_line, line_len}
-use Rattle.tokei_choice.specs.Items.{Block, Mode}
-use Rattle.tokei_choice.specs.Choice.{Choice, choice}
+use Rattle.tokei_parts.specs.Items.{Block, Mode}
+use Rattle.tokei_parts.specs.Choice.{Choice, choice}
 use Rattle.tokei_parts.specs.Modes.{Chain}
 use Rattle.tokei_parts.specs.Progress.{IsPart, Leads}
 use Rattle.tokei_parts.specs.ReadingOf.{row_in, blocks_of}

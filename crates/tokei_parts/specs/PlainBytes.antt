@@ -3,11 +3,11 @@ use Rattle.std.specs.Prelude.{◌≡◌, ℕ, ◌<◌, ◌==◌, Bool, false, Li
 use Rattle.tokei_bytes.specs.ByteSets.{is_in}
 use Rattle.tokei_table.specs.Bytes.{backslash}
 use Rattle.tokei_table.specs.FirstOpener.{is_first_of}
-use Rattle.tokei_choice.specs.Items.{Mode}
+use Rattle.tokei_parts.specs.Items.{Mode}
 use Rattle.tokei_parts.specs.Matchers.{Matchers}
-use Rattle.tokei_choice.specs.declared.items.Kind.{Kind}
-use Rattle.tokei_choice.specs.declared.items.Kind.TheVariants.{DocString, VerbatimString, OrdinaryString}
-use Rattle.tokei_choice.specs.declared.items.Kind.TheVariants.{MultiLineComment}
+use Rattle.tokei_parts.specs.declared.items.Kind.{Kind}
+use Rattle.tokei_parts.specs.declared.items.Kind.TheVariants.{DocString, VerbatimString, OrdinaryString}
+use Rattle.tokei_parts.specs.declared.items.Kind.TheVariants.{MultiLineComment}
 
 -- a byte that isn't in the set of those whose flags are set
 pub record IsOutside (flags : List Bool) (b : ℕ) : Type 0 where

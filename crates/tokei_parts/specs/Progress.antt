@@ -6,15 +6,15 @@ use Rattle.tokei_table.specs.Row.{Row}
 use Rattle.tokei_table.specs.Sound.{is_token}
 use Rattle.tokei_parts.specs.Lines.{first_line, line_len}
 use Rattle.tokei_table.specs.Bytes.{newline}
-use Rattle.tokei_choice.specs.Items.{Block}
-use Rattle.tokei_choice.specs.Choice.{choice}
-use Rattle.tokei_choice.specs.Choice.Choice.{child_opens}
+use Rattle.tokei_parts.specs.Items.{Block}
+use Rattle.tokei_parts.specs.Choice.{choice}
+use Rattle.tokei_parts.specs.Choice.Choice.{child_opens}
 use Rattle.tokei_parts.specs.Derivation.{Body, derive}
 use Rattle.tokei_parts.specs.Modes.{Mark, Chain, innermost, marks, closing}
 use Rattle.tokei_parts.specs.Parts.{cut, part_front}
 use Rattle.tokei_parts.specs.Glance.{is_walked}
 use Rattle.tokei_parts.specs.Running.{running, choices_passed}
-use Rattle.tokei_report_row.specs.Counts.{Counts, plus}
+use Rattle.tokei_table_row.specs.Counts.{Counts, plus}
 use Rattle.tokei_parts.specs.Tally.{tally, one_of, children}
 use Rattle.tokei_parts.specs.declared.class.Class.{Class}
 

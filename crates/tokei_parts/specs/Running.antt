@@ -2,7 +2,7 @@
 use Rattle.std.specs.Prelude.{ℕ, ◌+◌, ◌==◌, if◌then◌else◌, List, [], ◌∷◌, ◌++◌, length, drop, None}
 use Rattle.tokei_table.specs.Bytes.{newline}
 use Rattle.tokei_parts.specs.Glance.{is_walked}
-use Rattle.tokei_choice.specs.Items.{Mode}
+use Rattle.tokei_parts.specs.Items.{Mode}
 use Rattle.tokei_parts.specs.Lines.{first_line}
 use Rattle.tokei_parts.specs.Modes.{Mark, innermost}
 use Rattle.tokei_parts.specs.Modes.Mark.{byte_at, child_at}

@@ -3,8 +3,8 @@ use Rattle.std.specs.Prelude.{ℕ, List, Option, option_map, codes}
 use Rattle.tokei_table.specs.Bytes.{trim}
 use Rattle.tokei_table.specs.Row.{Row}
 use Rattle.tokei_embedding.specs.DocComments.{DocBlock, doc_block}
-use Rattle.tokei_choice.specs.Items.{Block}
-use Rattle.tokei_report_row.specs.Counts.{no_lines}
+use Rattle.tokei_parts.specs.Items.{Block}
+use Rattle.tokei_table_row.specs.Counts.{no_lines}
 use Rattle.tokei_table.specs.Families.{fallback}
 
 -- what the lines say is read trimmed; they add nothing to the parent

@@ -2,9 +2,9 @@
 use Rattle.std.specs.Prelude.{if◌then◌else◌, ℕ, List, map, reverse}
 use Rattle.tokei_table.specs.Bytes.{trim}
 use Rattle.tokei_embedding.specs.DocComments.{doc_text}
-use Rattle.tokei_choice.specs.Items.{Block}
-use Rattle.tokei_choice.specs.Seen.{enclosure_of}
-use Rattle.tokei_choice.specs.declared.items.Enclosure as CodeEnclosure
+use Rattle.tokei_parts.specs.Items.{Block}
+use Rattle.tokei_parts.specs.SeenChoices.{enclosure_of}
+use Rattle.tokei_parts.specs.declared.items.Enclosure as CodeEnclosure
 use Rattle.tokei_parts.specs.Modes.{Chain}
 use Rattle.tokei_parts.specs.declared.openings.Block as CodeBlock
 

@@ -1,7 +1,7 @@
 -- Stretches: the parts of a text, counted or broken off by a child, with the choices that begin in them.
 use Rattle.std.specs.Prelude.{ℕ, ◌+◌, Bool, ◌==◌, if◌then◌else◌, List, [], ◌∷◌, ◌++◌, map, drop, None}
 use Rattle.tokei_table.specs.Bytes.{newline}
-use Rattle.tokei_choice.specs.Items.{Mode}
+use Rattle.tokei_parts.specs.Items.{Mode}
 use Rattle.tokei_parts.specs.Lines.{first_line}
 use Rattle.tokei_parts.specs.Modes.{Mark, innermost}
 use Rattle.tokei_parts.specs.Modes.Mark.{byte_at, child_at}

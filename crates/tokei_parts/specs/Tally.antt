@@ -1,13 +1,13 @@
 -- What is counted of the parts of a text, the children in it, and the blocks that can open.
 use Rattle.std.specs.Prelude.{ℕ, zero, suc, Bool, List, [], ◌∷◌, Option}
 use Rattle.tokei_table.specs.Row.{Row}
-use Rattle.tokei_choice.specs.Items.{Block}
+use Rattle.tokei_parts.specs.Items.{Block}
 use Rattle.tokei_parts.specs.Derivation.{no_child}
 use Rattle.tokei_parts.specs.Modes.{Mark}
 use Rattle.tokei_parts.specs.Modes.Mark.{byte_at, child_at}
 use Rattle.tokei_parts.specs.Parts.{Part}
 use Rattle.tokei_parts.specs.Class.{class_of}
-use Rattle.tokei_report_row.specs.Counts.{Counts, no_lines, plus}
+use Rattle.tokei_table_row.specs.Counts.{Counts, no_lines, plus}
 use Rattle.tokei_parts.specs.declared.class.Class.{Class}
 use Rattle.tokei_parts.specs.declared.class.Class.TheVariants.{Blank, Code, Comment}
 

@@ -2,7 +2,7 @@
 use Rattle.std.specs.Prelude.{◌≡◌, ℕ, ◌+◌, ◌-◌, ◌<◌, ◌≤◌, Bool, List, length, drop, Option, Some}
 use Rattle.tokei_table.specs.Row.{Row}
 use Rattle.tokei_parts.specs.Lines.{first_line, line_len}
-use Rattle.tokei_choice.specs.Items.{Block}
+use Rattle.tokei_parts.specs.Items.{Block}
 use Rattle.tokei_parts.specs.Modes.{Chain}
 use Rattle.tokei_parts.specs.Progress.{IsPart, Goes, OpensChild, ReadsLine, ReadsChild, newlines}
 use Rattle.tokei_parts.specs.declared.class.Class.{Class}

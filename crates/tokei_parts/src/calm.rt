@@ -3,9 +3,10 @@ ghost use Rattle.std.specs.Prelude.{◌≡◌, ◌<◌, ◌≤◌, true, length}
 ghost use Rattle.tokei_parts.specs.Calm.{IsCalm, TakesByteAt};
 ghost use Rattle.tokei_parts.specs.ReadingOf.{row_in};
 
+use crate::choice::stands;
+use crate::items::Enclosure;
 use crate::plain_bytes::{begins_none_within, item_end};
 use crate::reading::Reading;
-use tokei_choice::{Enclosure, stands};
 
 /// Whether nothing but the item's closer can begin at the place, which the item encloses, and that doesn't stand there:
 /// as at a star in a comment that no slash follows.

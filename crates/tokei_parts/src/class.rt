@@ -2,20 +2,21 @@
 ghost use Rattle.std.specs.Prelude.{◌≡◌, ℕ, List, ◌-◌, ◌<◌, ◌≤◌, true, None, Some, [], drop, length, slice_index, take};
 ghost use Rattle.tokei_table.specs.Bytes.{is_blank, trim, trim_start};
 ghost use Rattle.tokei_table.specs.RowOf.{pairs_of, row_of};
-ghost use Rattle.tokei_choice.specs.Items.{kind_in};
+ghost use Rattle.tokei_parts.specs.Items.{kind_in};
 ghost use Rattle.tokei_parts.specs.Class.{encloses, opens_with, class_of, head_of};
-ghost use Rattle.tokei_choice.specs.Items.{Mode};
+ghost use Rattle.tokei_parts.specs.Items.{Mode};
 ghost use Rattle.tokei_parts.specs.Class.{in_comment, in_string, in_doc_string, ends_opened};
 ghost use Rattle.tokei_parts.specs.CodeHeads.{HasCodeHead};
 ghost use Rattle.tokei_parts.specs.ReadingOf.{row_in};
-ghost use Rattle.tokei_choice.specs.Seen.{mode_of};
+ghost use Rattle.tokei_parts.specs.SeenChoices.{mode_of};
 
+use crate::choice::{any_begins, begins};
+use crate::items::{Enclosure, Kind};
 use crate::matchers::LanguageMatchers;
 use crate::reading::Reading;
-use tokei_choice::{Enclosure, Kind, any_begins, begins};
-use tokei_searches::blanks_end;
 use tokei_table::Syntax;
 use tokei_table::ext::{is_blank_text, trim};
+use tokei_table_search::blanks_end;
 
 /// What a line counts as.
 #[derive(Clone, Copy, Debug, PartialEq, Eq)]

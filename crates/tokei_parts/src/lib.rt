@@ -1,10 +1,15 @@
 //! The parts of a text: each line of it that no child breaks off, the class of each, and the child that opens in it.
+//!
+//! The choice at a place says what ends, opens or stands there, by the item that encloses the place and the row of the
+//! text's language; a walk over a part makes one choice after another.
 #![tactic(auto)]
 
 mod beginnings;
 mod calm;
+mod choice;
 mod class;
 mod glance;
+mod items;
 mod line_ends;
 mod matchers;
 mod openings;
@@ -17,6 +22,7 @@ mod walk;
 pub use calm::calm_end;
 pub use class::{Class, class_of_plain, class_within};
 pub use glance::next_opener;
+pub use items::Enclosure;
 pub use line_ends::{line_end, line_front, line_len, line_stop, newline_before};
 pub use matchers::{LanguageMatchers, all_matchers};
 pub use openings::Block;

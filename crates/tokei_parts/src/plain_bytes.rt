@@ -1,11 +1,11 @@
 //! Bytes at which nothing but the byte itself, or a child, can begin.
 ghost use Rattle.std.specs.Prelude.{◌≡◌, ℕ, ◌<◌, ◌≤◌, ◌==◌, true, None, Some, length, slice_index};
 ghost use Rattle.tokei_parts.specs.PlainBytes.{BeginsNoneWithin, IsPlainByte};
-ghost use Rattle.tokei_choice.specs.Seen.{mode_of};
+ghost use Rattle.tokei_parts.specs.SeenChoices.{mode_of};
 
+use crate::items::{Enclosure, Kind};
 use crate::matchers::LanguageMatchers;
 use tokei_bytes::first_of_four;
-use tokei_choice::{Enclosure, Kind};
 
 /// Whether no escape, opener or line comment can begin at the byte in an item of that kind.
 #[inline(always)]

@@ -1,7 +1,7 @@
 //! A part is walked with a stack of the items that enclose the place.
 ghost use Rattle.std.specs.Prelude.{◌≡◌, ℕ, ◌+◌, ◌-◌, ◌<◌, ◌≤◌, true, false, None, Some, is_some, IfOk, length};
 ghost use Rattle.std.specs.Prelude.{slice_index};
-ghost use Rattle.tokei_choice.specs.Choice.Choice.{takes_byte};
+ghost use Rattle.tokei_parts.specs.Choice.Choice.{takes_byte};
 ghost use Rattle.tokei_parts.specs.Lines.{line_len};
 ghost use Rattle.tokei_parts.specs.Modes.{innermost};
 ghost use Rattle.tokei_parts.specs.PlainBytes.{IsPlainByte};
@@ -9,17 +9,18 @@ ghost use Rattle.tokei_parts.specs.Places.{Begins, Childless, IsAt, LeadsTo};
 ghost use Rattle.tokei_parts.specs.Places.{block_from, block_here, choice_here, text_from, text_of};
 ghost use Rattle.tokei_parts.specs.ReadingOf.{row_in, blocks_of};
 ghost use Rattle.tokei_parts.specs.Progress.{IsPart, IsClosable, Leads};
-ghost use Rattle.tokei_choice.specs.Seen.{choice_of, mode_of};
+ghost use Rattle.tokei_parts.specs.SeenChoices.{choice_of, mode_of};
 ghost use Rattle.tokei_parts.specs.Seen.{block_of, chain_of};
 ghost use Rattle.tokei_parts.specs.Walked.{Moves, Reads};
 
+use crate::choice::{Choice, choose};
 use crate::class::{Class, class_by};
+use crate::items::{Enclosure, Kind, kind_of};
 use crate::line_ends::line_stop;
 use crate::openings::{Block, block_at, next_child};
 use crate::place::Place;
 use crate::plain_bytes::{is_plain_byte, item_end, plain_end};
 use std::alloc::AllocError;
-use tokei_choice::{Choice, Enclosure, Kind, choose, kind_of};
 use tokei_embedding::BlockSearch;
 
 /// What the choice at a place does.

@@ -3,7 +3,7 @@ use Rattle.std.proofs.Common.{◌≡◌, ℕ, List, [], ◌∷◌, Bool, true, l
 use Rattle.std.proofs.lemmas.Bool.Decides.{nat_tests}
 use Rattle.std.specs.Prelude.{◌==◌}
 use Rattle.tokei_languages.specs.Values.{LanguageValue}
-use Rattle.tokei_layout.specs.declared.layout.Layout.{Layout}
+use Rattle.tokei_print.specs.declared.layout.Layout.{Layout}
 use Rattle.tokei_print.specs.Results.{language_blocks}
 
 -- no language's rows are empty

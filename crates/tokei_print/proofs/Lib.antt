@@ -1,2 +1,9 @@
 pub mod Blocks
+pub mod Dashes
 pub mod EmptyLanguages
+pub mod Files
+pub mod Headings
+pub mod Padding
+pub mod Placing
+pub mod Reports
+pub mod Sorting

@@ -1,10 +1,10 @@
 -- The row of a language.
 use Rattle.std.specs.Prelude.{ℕ, List, [], ◌++◌, length}
 use Rattle.tokei_languages.specs.Values.{LanguageValue}
-use Rattle.tokei_layout.specs.FilesAndCounts.{files_and_counts}
-use Rattle.tokei_layout.specs.Layouts.{separator_in}
-use Rattle.tokei_layout.specs.declared.layout.Layout.{Layout}
-use Rattle.tokei_layout.specs.NameSection.{name_section}
+use Rattle.tokei_print.specs.FilesAndCounts.{files_and_counts}
+use Rattle.tokei_print.specs.Layouts.{separator_in}
+use Rattle.tokei_print.specs.declared.layout.Layout.{Layout}
+use Rattle.tokei_print.specs.NameSection.{name_section}
 
 -- a language's row: its name, how many reports it has, and its own counts
 abbrev pub language_row : Layout → LanguageValue → List ℕ → List ℕ

@@ -1,11 +1,30 @@
--- What contracts say of what is printed: the rows of languages, files and totals, streams, and when the sums fit.
-pub use Rattle.tokei_print_files.specs.FileRows
-pub use Rattle.tokei_print_files.specs.FilesFit
-pub use Rattle.tokei_print_files.specs.NameOrder
-pub mod Children
-pub mod Fitting
+-- What contracts say of what is printed: cells, rows, the order of rows, the whole report, streams, and when sums fit.
+pub mod BlobRows
+pub mod Cells
+pub mod ChildRows
+pub mod ChildrenBlock
+pub mod ChildrenBlockFits
+pub mod ChildrenFit
+pub mod FileRows
+pub mod FilesAndCounts
+pub mod FilesFit
+pub mod Heading
 pub mod LanguageRow
-pub mod Listed
+pub mod Layouts
+pub mod LinesFit
+pub mod ListedLanguages
+pub mod ListedReports
+pub mod NameOrder
+pub mod NameSection
+pub mod Names
+pub mod PrintedReports
+pub mod Printing
+pub mod Refusals
+pub mod ReportSums
 pub mod Results
 pub mod ResultsFit
+pub mod Rules
+pub mod Sorted
+pub mod StreamRows
+pub mod Subtotal
 pub mod Total

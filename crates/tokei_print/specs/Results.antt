@@ -1,12 +1,12 @@
 -- The rows of all languages: first those without children, then the others, each group in the order given.
 use Rattle.std.specs.Prelude.{ℕ, List, [], ◌∷◌, ◌++◌, ◌==◌, ◌&&◌, Bool, true, false, not, filter, length, if◌then◌else◌}
 use Rattle.tokei_languages.specs.Values.{LanguageValue}
-use Rattle.tokei_print.specs.Children.{children_block}
-use Rattle.tokei_print_files.specs.FileRows.{listed_files}
+use Rattle.tokei_print.specs.ChildrenBlock.{children_block}
+use Rattle.tokei_print.specs.FileRows.{listed_files}
 use Rattle.tokei_print.specs.LanguageRow.{language_row}
-use Rattle.tokei_layout.specs.declared.layout.Layout.{Layout}
-use Rattle.tokei_print_files.specs.NameOrder.{in_order}
-use Rattle.tokei_layout.specs.Rules.{subrow}
+use Rattle.tokei_print.specs.declared.layout.Layout.{Layout}
+use Rattle.tokei_print.specs.NameOrder.{in_order}
+use Rattle.tokei_print.specs.Rules.{subrow}
 
 -- no line was counted, and no other language is inside
 abbrev pub is_empty_language : LanguageValue → Bool

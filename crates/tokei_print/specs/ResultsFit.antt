@@ -1,11 +1,11 @@
 -- When the sums that the rows of all languages show fit the code's numbers.
 use Rattle.std.specs.Prelude.{◌≡◌, ℕ, Bool, true, false, List, [], ◌∷◌, ⊤}
 use Rattle.tokei_languages.specs.Values.{LanguageValue}
-use Rattle.tokei_print_files.specs.FileRows.{with_blocks}
-use Rattle.tokei_print_files.specs.FilesFit.{FileBlocksFit}
-use Rattle.tokei_layout.specs.Fitting.{LinesFit}
-use Rattle.tokei_print.specs.Fitting.{ChildrenBlockFits}
-use Rattle.tokei_print_files.specs.NameOrder.{in_order}
+use Rattle.tokei_print.specs.FileRows.{with_blocks}
+use Rattle.tokei_print.specs.FilesFit.{FileBlocksFit}
+use Rattle.tokei_print.specs.LinesFit.{LinesFit}
+use Rattle.tokei_print.specs.ChildrenBlockFits.{ChildrenBlockFits}
+use Rattle.tokei_print.specs.NameOrder.{in_order}
 use Rattle.tokei_print.specs.Results.{group_of, shows_children}
 
 -- the sums of a language's rows are at most the greatest `usize`

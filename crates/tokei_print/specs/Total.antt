@@ -2,12 +2,12 @@
 use Rattle.std.specs.Prelude.{ℕ, ◌+◌, ◌<◌, ◌^◌, List, [], ◌∷◌, ◌++◌, codes, length}
 use Rattle.tokei_languages.specs.Summaries.{any_inaccurate, languages_summary, reports_by_language}
 use Rattle.tokei_languages.specs.Values.{ReportValue, LanguageValue}
-use Rattle.tokei_layout.specs.Fitting.{LinesFit}
-use Rattle.tokei_layout.specs.FilesAndCounts.{files_and_counts}
-use Rattle.tokei_layout.specs.Layouts.{separator_in}
-use Rattle.tokei_layout.specs.declared.layout.Layout.{Layout}
-use Rattle.tokei_layout.specs.NameSection.{name_section}
-use Rattle.tokei_layout.specs.Rules.{row}
+use Rattle.tokei_print.specs.LinesFit.{LinesFit}
+use Rattle.tokei_print.specs.FilesAndCounts.{files_and_counts}
+use Rattle.tokei_print.specs.Layouts.{separator_in}
+use Rattle.tokei_print.specs.declared.layout.Layout.{Layout}
+use Rattle.tokei_print.specs.NameSection.{name_section}
+use Rattle.tokei_print.specs.Rules.{row}
 
 -- how many reports there are of all languages
 abbrev pub report_count : List (ℕ × List ReportValue) → ℕ

@@ -1,14 +1,14 @@
 //! The rows of the languages inside the files of another, and the subtotal below them.
 ghost use Rattle.std.specs.Prelude.{◌≡◌, IfOk, IsErrOf, string_bytes};
 ghost use Rattle.tokei_languages.specs.Seen.{language_of};
-ghost use Rattle.tokei_layout.specs.Names.{name_in};
-ghost use Rattle.tokei_print.specs.Children.{children_block};
-ghost use Rattle.tokei_print.specs.Fitting.{ChildrenBlockFits};
+ghost use Rattle.tokei_print.specs.Names.{name_in};
+ghost use Rattle.tokei_print.specs.ChildrenBlock.{children_block};
+ghost use Rattle.tokei_print.specs.ChildrenBlockFits.{ChildrenBlockFits};
 
+use crate::inside::child_rows;
+use crate::layout::Layout;
 use std::alloc::Global;
 use tokei_languages::Language;
-use tokei_layout::Layout;
-use tokei_print_files::child_rows;
 use tokei_stats::CountError;
 use tokei_table::LanguageTable;
 

@@ -1,12 +1,13 @@
 //! The row of a language.
 ghost use Rattle.std.specs.Prelude.{◌≡◌, IfOk, IsErrOf, OnOk, string_bytes};
 ghost use Rattle.tokei_languages.specs.Seen.{language_of};
-ghost use Rattle.tokei_layout.specs.Fitting.{LinesFit};
+ghost use Rattle.tokei_print.specs.LinesFit.{LinesFit};
 ghost use Rattle.tokei_print.specs.LanguageRow.{language_row};
 
+use crate::counts::files_and_counts;
+use crate::layout::Layout;
 use std::alloc::Global;
 use tokei_languages::Language;
-use tokei_layout::{Layout, files_and_counts};
 use tokei_stats::{CountError, Sums};
 
 /// The language's row under this name. `Overflow` exactly where its lines pass the greatest `usize`.

@@ -1,12 +1,13 @@
 //! Writes the rows of a report.
+use crate::error::PrintError;
 use crate::language_row::language_row;
+use crate::layout::Layout;
 use crate::results::{Showing, results};
 use crate::total::total;
 use std::alloc::Global;
 use tokei_io::Sink;
 use tokei_languages::{Language, Languages};
-use tokei_layout::{Layout, PrintError};
-use tokei_styles::NumberFormat;
+use tokei_options::NumberFormat;
 use tokei_table::{LanguageTable, LanguageType};
 
 /// Writes the rows of a report to a sink. After a refused call nothing is said of the bytes that it wrote.
@@ -21,13 +22,13 @@ impl<W: Sink + Drop> Printer<W> {
     ghost use Rattle.std.specs.Prelude.{◌≡◌, ◌≢◌, ◌<◌, ◌≤◌, Ok, Err, None, Some, IfOk, IfErr, IsErrOf, OnOk, option_map};
     ghost use Rattle.std.specs.Io.KnownBytes.{Appends};
     ghost use Rattle.tokei_languages.specs.Seen.{language_of, languages_of};
-    ghost use Rattle.tokei_layout.specs.Fitting.{LinesFit};
-    ghost use Rattle.tokei_layout.specs.Heading.{header, warning};
+    ghost use Rattle.tokei_print.specs.LinesFit.{LinesFit};
+    ghost use Rattle.tokei_print.specs.Heading.{header, warning};
     ghost use Rattle.tokei_print.specs.LanguageRow.{language_row};
-    ghost use Rattle.tokei_layout.specs.NameSection.{name_section, prefix_of};
-    ghost use Rattle.tokei_layout.specs.Printing.{faults_after_printing};
-    ghost use Rattle.tokei_print.specs.Listed.{languages_in};
-    ghost use Rattle.tokei_layout.specs.Names.{name_in};
+    ghost use Rattle.tokei_print.specs.NameSection.{name_section, prefix_of};
+    ghost use Rattle.tokei_print.specs.Printing.{faults_after_printing};
+    ghost use Rattle.tokei_print.specs.ListedLanguages.{languages_in};
+    ghost use Rattle.tokei_print.specs.Names.{name_in};
     ghost use Rattle.tokei_print.specs.Results.{results_text};
     ghost use Rattle.tokei_print.specs.ResultsFit.{ResultsFit};
     ghost use Rattle.tokei_print.specs.Total.{total_text, TotalFits};

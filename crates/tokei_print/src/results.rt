@@ -1,18 +1,20 @@
 //! The rows of all languages.
 ghost use Rattle.std.specs.Prelude.{◌≡◌, IfOk, IsErrOf, string_bytes};
 ghost use Rattle.tokei_languages.specs.Seen.{language_of};
-ghost use Rattle.tokei_layout.specs.Names.{name_in};
-ghost use Rattle.tokei_print.specs.Listed.{languages_in};
+ghost use Rattle.tokei_print.specs.Names.{name_in};
+ghost use Rattle.tokei_print.specs.ListedLanguages.{languages_in};
 ghost use Rattle.tokei_print.specs.Results.{counts_block, files_block, group_of, is_empty_language, is_of_group};
 ghost use Rattle.tokei_print.specs.Results.{language_block, language_blocks, parting, results_text, shows_children};
 ghost use Rattle.tokei_print.specs.ResultsFit.{LanguageFits, LanguagesFit, ResultsFit};
 
 use crate::children::children_block;
+use crate::file_rows::{ListedLanguage, listed_files};
 use crate::language_row::language_row;
+use crate::layout::Layout;
+use crate::names::name_of;
+use crate::ordered::in_order;
 use std::alloc::Global;
 use tokei_languages::Language;
-use tokei_layout::{Layout, name_of};
-use tokei_print_files::{ListedLanguage, in_order, listed_files};
 use tokei_stats::CountError;
 use tokei_table::{LanguageTable, LanguageType};
 

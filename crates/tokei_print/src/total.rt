@@ -4,9 +4,10 @@ ghost use Rattle.tokei_languages.specs.Seen.{languages_of};
 ghost use Rattle.tokei_languages.specs.Summaries.{reports_by_language};
 ghost use Rattle.tokei_print.specs.Total.{report_count, total_text, TotalFits};
 
+use crate::counts::files_and_counts;
+use crate::layout::Layout;
 use std::alloc::Global;
 use tokei_languages::Languages;
-use tokei_layout::{Layout, files_and_counts};
 use tokei_stats::CountError;
 
 /// How many reports there are of all languages.

@@ -6,7 +6,7 @@ use Rattle.tokei_cli.specs.Lines.{IsLineOf}
 use Rattle.tokei_cli.specs.declared.cli.Cli.{Cli}
 use Rattle.tokei_folders.specs.Tree.{Tree}
 use Rattle.tokei_program.specs.Beside.{IsBeside, ShowsNotes}
-use Rattle.tokei_invocation.specs.declared.environment.Env.{Env}
+use Rattle.tokei_program.specs.declared.environment.Env.{Env}
 use Rattle.tokei_program.specs.Writing.{Writes, WritesAsked, WritesBy, WritesCounts, WritesList}
 
 module _ {A E : Type 0} (env : Env) (t : Tree) (c : Cli) (input old new : Option (List ℕ)) where

@@ -3,7 +3,7 @@ use Rattle.std.specs.Prelude.{◌≡◌, ℕ, List, [], Option, ◌⊎◌}
 use Rattle.std.specs.Io.KnownBytes.{Appends}
 use Rattle.tokei_cli.specs.declared.cli.Cli.{Cli}
 use Rattle.tokei_cli.specs.Lines.{IsLineOf}
-use Rattle.tokei_messages.specs.NotesText.{notes_text}
+use Rattle.tokei_program.specs.NotesText.{notes_text}
 use Rattle.tokei_walk.specs.declared.kept_file.Note.{Note}
 
 -- a text shows notes as the command line wants them

@@ -6,12 +6,12 @@ use Rattle.tokei.specs.Output.{Outputs}
 use Rattle.tokei_cli.specs.CommandLines.{inputs_of, table_of}
 use Rattle.tokei_cli.specs.declared.cli.Cli.{Cli}
 use Rattle.tokei_cli.specs.Lines.{IsLineOf}
-use Rattle.tokei_listing.specs.Printing.{languages_text}
+use Rattle.tokei_cli.specs.Printing.{languages_text}
 use Rattle.tokei_cli.specs.Texts.{IsAskedFor}
 use Rattle.tokei_folders.specs.Tree.{Tree}
-use Rattle.tokei_invocation.specs.declared.environment.Env.{Env}
-use Rattle.tokei_invocation.specs.Jobs.{IsJobOf}
-use Rattle.tokei_invocation.specs.Tables.{table_at}
+use Rattle.tokei_program.specs.declared.environment.Env.{Env}
+use Rattle.tokei_program.specs.Jobs.{IsJobOf}
+use Rattle.tokei_program.specs.Tables.{table_at}
 use Rattle.tokei_table.specs.Row.{Row}
 
 -- behind what stood there a writer has what the run of a command line outputs

@@ -2,18 +2,21 @@
 ghost use Rattle.std.specs.Prelude.{◌≡◌, ◌≢◌, ◌<◌, ◌≤◌, [], IfErr, IfOk, OnOk, map, string_bytes};
 ghost use Rattle.tokei_cli.specs.CommandLines.{inputs_of};
 ghost use Rattle.tokei_folders.specs.Answers.{Told};
-ghost use Rattle.tokei_invocation.specs.Choices.{Chooses};
+ghost use Rattle.tokei_program.specs.Choices.{Chooses};
 ghost use Rattle.tokei_program.specs.Beside.{IsBeside, SaysBeside, ShowsNotes};
-ghost use Rattle.tokei_invocation.specs.Messages.{Says};
-ghost use Rattle.tokei_invocation.specs.Statuses.{status_of};
+ghost use Rattle.tokei_program.specs.Messages.{Says};
+ghost use Rattle.tokei_program.specs.Statuses.{status_of};
 ghost use Rattle.tokei_program.specs.Writing.{Writes, WritesAsked, WritesCounts, WritesList};
 
+use crate::choices::Choices;
+use crate::ending::Ending;
+use crate::environment::Env;
+use crate::notes::notes_text;
+use crate::preparing::{prepared, table_of};
+use crate::saying::{put, say};
 use std::alloc::Global;
 use tokei::{Folders, Sink, Source, run};
-use tokei_cli::{Cli, CliError};
-use tokei_invocation::{Choices, Ending, Env, prepared, table_of};
-use tokei_listing::print_supported_languages;
-use tokei_messages::{notes_text, put, say};
+use tokei_cli::{Cli, CliError, print_supported_languages};
 
 /// Counts what a command line names, and writes what it wants of that. What is to be said beside it is answered.
 fn counted<F: Folders, S: Source, W: Sink>(

@@ -9,8 +9,8 @@ use Rattle.tokei_languages.specs.Merging.{appended, blob_reports, merged_languag
 use Rattle.tokei_stats.specs.Statistics.{Counts, Statistics, no_lines, plus, blobs}
 use Rattle.tokei_walk.specs.declared.kept_file.KeptFile.{KeptFile}
 use Rattle.tokei_folders.specs.Tree.{Tree}
-use Rattle.tokei_paths.specs.Contents.{content_at}
-use Rattle.tokei_files.specs.Contents.{stats_at, stats_in}
+use Rattle.tokei_files.specs.Contents.{content_at}
+use Rattle.tokei_files.specs.ContentStatistics.{stats_at, stats_in}
 use Rattle.tokei_files.specs.Files.{Counting, language_of_file, FileFits, ReadingsFit}
 use Rattle.tokei_statistics.specs.Runs.{language_from, languages_in, languages_of_file, languages_of_run, AddsFiles, AddsFirst}
 use Rattle.tokei_statistics.proofs.Merges.{Ascends, AllMeet, Associates, merged_assoc, ascends_merged, meet_merged, same_put}

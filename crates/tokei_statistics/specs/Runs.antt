@@ -5,7 +5,7 @@ use Rattle.tokei_languages.specs.Values.{LanguageValue, empty_language, marked}
 use Rattle.tokei_stats.specs.Statistics.{Statistics}
 use Rattle.tokei_walk.specs.declared.kept_file.KeptFile.{KeptFile}
 use Rattle.tokei_folders.specs.Tree.{Tree}
-use Rattle.tokei_files.specs.Contents.{stats_at}
+use Rattle.tokei_files.specs.ContentStatistics.{stats_at}
 use Rattle.tokei_files.specs.Files.{Counting, ReadingsFit, language_of_file}
 use Rattle.tokei_languages.specs.Merging.{merged_languages, with_report}
 

@@ -1,6 +1,11 @@
 pub mod Adding
-pub mod Cloning
-pub mod Fitting
+pub mod BlobsAt
 pub mod BlobsSet
-pub mod SameMembers
+pub mod Cloning
 pub mod Equality
+pub mod Fitting
+pub mod MapsOrdered
+pub mod Padding
+pub mod SameMembers
+pub mod SumLaws
+pub mod SumsOrdered

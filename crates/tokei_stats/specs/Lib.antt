@@ -1,8 +1,10 @@
--- What contracts say of statistics: their sums and summaries, when these fit, and the row of a report.
-pub use Rattle.tokei_report_row.specs.Counts
-pub use Rattle.tokei_report_row.specs.Places
-pub use Rattle.tokei_report_row.specs.ReportRow
-pub mod Statistics
+-- What contracts say of statistics: sums and summaries, when these fit, their laws, and the row of a report.
+pub use Rattle.tokei_table_row.specs.Counts
+pub mod Ordered
 pub mod Overflow
-pub mod Seen
+pub mod Places
+pub mod ReportRow
 pub mod Reports
+pub mod Seen
+pub mod Statistics
+pub mod SumLaws

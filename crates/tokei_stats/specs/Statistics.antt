@@ -3,7 +3,7 @@ use Rattle.std.specs.Prelude.{ℕ, Option, None, Some}
 use Rattle.std.specs.Ordering.{nat_cmp}
 use Rattle.std.specs.declared.cmp.Ordering.{Ordering}
 use Rattle.std.specs.declared.cmp.Ordering.TheVariants.{Less, Equal, Greater}
-pub use Rattle.tokei_report_row.specs.Counts.{Counts, lines_of, no_lines, plus}
+pub use Rattle.tokei_table_row.specs.Counts.{Counts, lines_of, no_lines, plus}
 
 mutual
   pub data Statistics : Type 0 where

@@ -1,14 +1,19 @@
-//! The statistics of a text and of the texts of other languages inside it, their sums and summaries, and a file's report.
+//! The statistics of a text and of the texts of other languages inside it: their sums and summaries, a file's report, the
+//! row that shows a report, and the laws of sums, summaries and order.
 #![tactic(auto)]
 
+mod counts_cells;
 pub mod error;
 pub mod laws;
+mod name_cell;
 pub mod report;
+mod report_row;
 pub mod stats;
+pub mod sum_laws;
 pub mod sums;
 
 pub use error::CountError;
 pub use report::Report;
+pub use report_row::ReportRow;
 pub use stats::{CodeStats, add_blob};
 pub use sums::Sums;
-pub use tokei_report_row::ReportRow;

@@ -1,9 +1,10 @@
 //! The statistics of a file under its name.
+use crate::counts_cells::CountsCells;
 use crate::error::CountError;
+use crate::report_row::ReportRow;
 use crate::stats::CodeStats;
 use std::alloc::Global;
 use std::fmt;
-use tokei_report_row::{CountsCells, ReportRow};
 
 /// The statistics of a file, and the name under which it is shown.
 #[derive(Debug, PartialEq, Drop)]

@@ -3,8 +3,8 @@ use Rattle.std.proofs.Common.{◌≡◌, ℕ, List, Option, None, Some, option_m
 use Rattle.std.specs.Prelude.{option_and_then}
 use Rattle.tokei_folders.specs.Tree.{Tree}
 use Rattle.tokei_stats.specs.Reports.{ReportValue}
-use Rattle.tokei_paths.specs.Contents.{content_at}
-use Rattle.tokei_files.specs.Contents.{stats_at, stats_in}
+use Rattle.tokei_files.specs.Contents.{content_at}
+use Rattle.tokei_files.specs.ContentStatistics.{stats_at, stats_in}
 use Rattle.tokei_files.specs.Files.{Counting, language_of_file}
 use Rattle.tokei_stats.specs.Statistics.{Statistics}
 use Rattle.tokei_walk.specs.declared.kept_file.KeptFile.{KeptFile}

@@ -8,7 +8,7 @@ use Rattle.tokei_languages.specs.Renewing.{RenewalFits}
 use Rattle.tokei_files.specs.Files.{ReadingsFit}
 use Rattle.tokei_stream.specs.Counted.{counting_of, files_of}
 use Rattle.tokei_stream.specs.Streams.{stream_text}
-use Rattle.tokei_styles.specs.declared.streaming.Streaming.{Streaming}
+use Rattle.tokei_options.specs.declared.streaming.Streaming.{Streaming}
 use Rattle.tokei_table.specs.Row.{Row}
 
 -- behind what stood there a writer has the stream of a job's files, and nothing else

@@ -1,5 +1,5 @@
--- What contracts say of a stream.
-pub use Rattle.tokei_stream_rows.specs.Rows
+-- What contracts say of a stream and its rows.
 pub mod Counted
 pub mod JobStreams
+pub mod Rows
 pub mod Streams

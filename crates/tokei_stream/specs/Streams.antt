@@ -4,11 +4,11 @@ use Rattle.std.specs.Prelude.{ℕ, List, [], ◌++◌, Option, None, Some, optio
 use Rattle.std.specs.List.{flat_map}
 use Rattle.tokei_folders.specs.Tree.{Tree}
 use Rattle.tokei_stats.specs.Reports.{ReportValue}
-use Rattle.tokei_styles.specs.declared.streaming.Streaming.{Streaming}
-use Rattle.tokei_files.specs.Contents.{stats_at}
+use Rattle.tokei_options.specs.declared.streaming.Streaming.{Streaming}
+use Rattle.tokei_files.specs.ContentStatistics.{stats_at}
 use Rattle.tokei_files.specs.Files.{Counting, language_of_file}
 use Rattle.tokei_table.specs.Row.{Row}
-use Rattle.tokei_stream_rows.specs.Rows.{heading_of, report_row}
+use Rattle.tokei_stream.specs.Rows.{heading_of, report_row}
 use Rattle.tokei_walk.specs.declared.kept_file.KeptFile.{KeptFile}
 
 -- the report of a file in a language, where the file can be read

@@ -8,12 +8,13 @@ ghost use Rattle.tokei_files.specs.Files.{FileFits, ReadingsFit};
 ghost use Rattle.tokei_files.specs.Seen.{counting_of as counting_value};
 ghost use Rattle.tokei_stats.specs.Reports.{report_of as report_value};
 ghost use Rattle.tokei_walk.specs.Walks.{to_come};
-ghost use Rattle.tokei_run_error.specs.declared.error.RunError.TheVariants.{Overflow as SumOverflow, Write as WriteFault};
+ghost use Rattle.tokei_job.specs.declared.error.RunError.TheVariants.{Overflow as SumOverflow, Write as WriteFault};
 ghost use Rattle.tokei_job.specs.Earlier.{earlier_of};
 ghost use Rattle.tokei_stream.specs.Counted.{files_of};
 ghost use Rattle.tokei_stream.specs.JobStreams.{StreamFits, WritesStream};
 ghost use Rattle.tokei_stream.specs.Streams.{file_row, report_of_file, rows_of, stream_text};
 
+use crate::rows::{Rows, write_heading, write_row};
 use std::alloc::{AllocError, Global};
 use tokei_count::Counter;
 use tokei_files::{Counting, ParseFault, rules, types};
@@ -21,7 +22,6 @@ use tokei_folders::Folders;
 use tokei_io::Sink;
 use tokei_job::{Job, RunError, earlier_languages};
 use tokei_stats::{CountError, Report};
-use tokei_stream_rows::{Rows, write_heading, write_row};
 use tokei_table::LanguageType;
 use tokei_walk::{KeptFile, Note, Walk};
 

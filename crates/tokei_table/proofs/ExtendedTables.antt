@@ -3,10 +3,10 @@ use Rattle.std.proofs.Common.{◌≡◌, ℕ, ◌+◌, List, [], ◌∷◌, ◌+
 use Rattle.std.specs.List.Sorted.{IsStrictlySortedBy}
 use Rattle.std.specs.Ordering.{nat_cmp}
 use Rattle.std.specs.Cmp.Lexicographic.{slice_cmp}
-use Rattle.tokei_row_rules.proofs.ExtendedRows.{same_tokens, same_names, same_totals, same_fallbacks}
-use Rattle.tokei_row_rules.specs.Extended.{gained, listed_for, extended_from, extended, extensions_of}
-use Rattle.tokei_rows.specs.KeyOrder.{keys_of}
-use Rattle.tokei_syntax.specs.Row.{Row}
+use Rattle.tokei_table_rules.proofs.ExtendedRows.{same_tokens, same_names, same_totals, same_fallbacks}
+use Rattle.tokei_table_rules.specs.Extended.{gained, listed_for, extended_from, extended, extensions_of}
+use Rattle.tokei_table_json.specs.KeyOrder.{keys_of}
+use Rattle.tokei_table_row.specs.Row.{Row}
 use Rattle.tokei_table.specs.WellFormed.{IsWellFormed}
 
 module _ (adds : List (ℕ × List (List ℕ))) where

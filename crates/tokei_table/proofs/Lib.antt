@@ -1,6 +1,6 @@
 -- Lemmas on tables.
-pub use Rattle.tokei_row_queries.proofs.IsUtf8
-pub use Rattle.tokei_row_rules.proofs.RowSound
-pub use Rattle.tokei_syntax.proofs.Finds
+pub use Rattle.tokei_table_row.proofs.Finds
+pub use Rattle.tokei_table_rules.proofs.IsUtf8
+pub use Rattle.tokei_table_rules.proofs.RowSound
 pub mod ExtendedTables
 pub mod Utf8

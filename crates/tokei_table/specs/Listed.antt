@@ -2,8 +2,8 @@
 use Rattle.std.specs.Prelude.{ℕ, ◌+◌, List, [], ◌∷◌, String}
 use Rattle.std.specs.Borrow.{Bor}
 use Rattle.std.specs.Global.{Global}
-use Rattle.tokei_syntax.specs.Row.{Row}
-use Rattle.tokei_syntax.specs.RowOf.{tokens_of}
+use Rattle.tokei_table_row.specs.Row.{Row}
+use Rattle.tokei_table_row.specs.RowOf.{tokens_of}
 
 -- A listed language, as its place and the bytes of its extensions.
 abbrev pub listed : ℕ × Bor (List (String Global)) → ℕ × List (List ℕ)

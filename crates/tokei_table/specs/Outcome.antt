@@ -5,13 +5,13 @@ use Rattle.std.specs.Str.{is_utf8}
 use Rattle.serde_json.specs.Data.{Data}
 use Rattle.serde_json.specs.Find.{get}
 use Rattle.serde_json.specs.Read.{read}
-use Rattle.tokei_table_layout.specs.Escaped.{is_escaped_table}
-use Rattle.tokei_table_layout.specs.Layout.{has_layout}
-use Rattle.tokei_syntax.specs.Row.{Row}
-use Rattle.tokei_rows.specs.Rows.{rows_at}
-use Rattle.tokei_row_rules.specs.Fallbacks.{has_fallbacks}
-use Rattle.tokei_row_rules.specs.RowNames.{names_twice, is_total}
-use Rattle.tokei_row_rules.specs.Tokens.{has_tokens}
+use Rattle.tokei_table_json.specs.Escaped.{is_escaped_table}
+use Rattle.tokei_table_json.specs.Layout.{has_layout}
+use Rattle.tokei_table_row.specs.Row.{Row}
+use Rattle.tokei_table_json.specs.Rows.{rows_at}
+use Rattle.tokei_table_rules.specs.Fallbacks.{has_fallbacks}
+use Rattle.tokei_table_rules.specs.RowNames.{names_twice, is_total}
+use Rattle.tokei_table_rules.specs.Tokens.{has_tokens}
 use Rattle.tokei_table.specs.declared.error.TableError.{TableError}
 use Rattle.tokei_table.specs.declared.error.TableError.TheVariants.{NotJson, Layout, Escape, Token, NamedTwice}
 use Rattle.tokei_table.specs.declared.error.TableError.TheVariants.{NamedTotal, Fallback}

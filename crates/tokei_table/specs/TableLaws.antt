@@ -1,7 +1,7 @@
 -- The laws of tables.
 use Rattle.std.specs.Prelude.{ℕ, List}
-use Rattle.tokei_syntax.specs.Row.{Row}
-use Rattle.tokei_row_rules.specs.Extended.{extended}
+use Rattle.tokei_table_row.specs.Row.{Row}
+use Rattle.tokei_table_rules.specs.Extended.{extended}
 use Rattle.tokei_table.specs.WellFormed.{IsWellFormed}
 
 -- Further extensions leave a table well formed.

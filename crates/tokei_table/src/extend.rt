@@ -1,13 +1,13 @@
 //! A table in which languages gain extensions.
 ghost use Rattle.std.specs.Prelude.{◌≡◌, ◌++◌, map, IfOk, OnOk};
-ghost use Rattle.tokei_row_rules.specs.Extended.{addition_of, extended, gained, listed_for, with_extensions};
-ghost use Rattle.tokei_syntax.specs.RowOf.{tokens_of, row_of};
+ghost use Rattle.tokei_table_rules.specs.Extended.{addition_of, extended, gained, listed_for, with_extensions};
+ghost use Rattle.tokei_table_row.specs.RowOf.{tokens_of, row_of};
 
 use crate::language_type::LanguageType;
 use std::alloc::{AllocError, Global};
-use tokei_row_rules::extend::{all_extensions, gained, with_extensions};
-use tokei_row_rules::openers::add_texts;
-use tokei_syntax::Syntax;
+use tokei_table_row::Syntax;
+use tokei_table_rules::extend::{all_extensions, gained, with_extensions};
+use tokei_table_rules::openers::add_texts;
 
 /// What is listed for the language, in order.
 fn listed_for(

@@ -1,14 +1,14 @@
 //! A language of the table.
 ghost use Rattle.std.specs.Prelude.{◌≡◌, ◌<◌, length, map, IfOk};
-ghost use Rattle.tokei_row_rules.specs.Families.{family_of};
+ghost use Rattle.tokei_table_rules.specs.Families.{family_of};
 ghost use Rattle.tokei_table.specs.Listed.{listed, languages_from};
-ghost use Rattle.tokei_row_queries.specs.Lookups.{row_at};
-ghost use Rattle.tokei_syntax.specs.RowOf.{pairs_of, tokens_of};
+ghost use Rattle.tokei_table_rules.specs.Lookups.{row_at};
+ghost use Rattle.tokei_table_row.specs.RowOf.{pairs_of, tokens_of};
 
 use crate::table::LanguageTable;
 use std::alloc::{AllocError, Global};
 use std::marker::Model;
-use tokei_row_rules::Family;
+use tokei_table_rules::Family;
 
 /// A language by its place in the table. Equality, order and hash are those of the places.
 #[derive(Clone, Copy, Debug, PartialEq, Eq, PartialOrd, Ord, Hash)]

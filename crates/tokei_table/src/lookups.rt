@@ -1,15 +1,15 @@
 //! Which language of a table a word, a MIME type, a file's name or a script's head stands for. Of two languages the
 //! first in the table is answered.
 ghost use Rattle.std.specs.Prelude.{◌≡◌, ◌<◌, length, IfOk, IfSome};
-ghost use Rattle.tokei_row_queries.specs.Lookups.{first_where, has_name, has_name_in_any_case, has_mime};
-ghost use Rattle.tokei_row_queries.specs.Lookups.{has_extension, from_file_name};
-ghost use Rattle.tokei_row_queries.specs.Shebangs.{from_shebang};
+ghost use Rattle.tokei_table_rules.specs.Lookups.{first_where, has_name, has_name_in_any_case, has_mime};
+ghost use Rattle.tokei_table_rules.specs.Lookups.{has_extension, from_file_name};
+ghost use Rattle.tokei_table_rules.specs.Shebangs.{from_shebang};
 
 use crate::language_type::LanguageType;
 use crate::table::LanguageTable;
 use std::alloc::{AllocError, Global};
-pub use tokei_row_queries::lookups::has_extension;
-use tokei_row_queries::lookups::{
+pub use tokei_table_rules::lookups::has_extension;
+use tokei_table_rules::lookups::{
     in_head, in_lowered_name, with_extension, with_mime, with_name, with_name_in_any_case,
 };
 

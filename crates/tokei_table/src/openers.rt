@@ -1,15 +1,15 @@
 //! The texts that a line has to hold to be walked.
 ghost use Rattle.std.specs.Prelude.{◌≡◌, ◌<◌, length, true, IfOk};
 ghost use Rattle.std.specs.List.{list_all};
-ghost use Rattle.tokei_row_queries.specs.Lookups.{row_at};
-ghost use Rattle.tokei_row_rules.specs.Openers.{important_syntax, openers};
-ghost use Rattle.tokei_syntax.specs.FirstOpener.{is_nonempty};
-ghost use Rattle.tokei_syntax.specs.RowOf.{tokens_of};
+ghost use Rattle.tokei_table_rules.specs.Lookups.{row_at};
+ghost use Rattle.tokei_table_rules.specs.Openers.{important_syntax, openers};
+ghost use Rattle.tokei_table_row.specs.FirstOpener.{is_nonempty};
+ghost use Rattle.tokei_table_row.specs.RowOf.{tokens_of};
 
 use crate::language_type::LanguageType;
 use crate::table::LanguageTable;
 use std::alloc::{AllocError, Global};
-use tokei_row_rules::openers::{important_syntax, openers};
+use tokei_table_rules::openers::{important_syntax, openers};
 
 impl LanguageType {
     /// The starts of string literals, of documentation in them and of comments, the member `important_syntax`, and in

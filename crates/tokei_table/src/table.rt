@@ -2,14 +2,14 @@
 ghost use Rattle.std.specs.Prelude.{◌≡◌, ◌≢◌, ◌<◌, ◌==◌, Ok, Err, Some, None, length, map, nat_lt, true};
 ghost use Rattle.std.specs.Prelude.{IfOk, OnOk, MatchResult};
 ghost use Rattle.serde_json.specs.View.{view};
-ghost use Rattle.tokei_row_rules.specs.Extended.{addition_of, extended};
-ghost use Rattle.tokei_rows.specs.KeyOrder.{IsInKeyOrder};
+ghost use Rattle.tokei_table_rules.specs.Extended.{addition_of, extended};
+ghost use Rattle.tokei_table_json.specs.KeyOrder.{IsInKeyOrder};
 ghost use Rattle.tokei_table.specs.Outcome.{data_of, outcome, outcome_of_value, tested};
-ghost use Rattle.tokei_row_rules.specs.Tokens.{has_tokens};
+ghost use Rattle.tokei_table_rules.specs.Tokens.{has_tokens};
 ghost use Rattle.tokei_table.specs.WellFormed.{IsWellFormed};
-ghost use Rattle.tokei_syntax.specs.Sound.{IsSound};
-ghost use Rattle.tokei_syntax.specs.RowOf.{row_of};
-ghost use Rattle.tokei_row_queries.specs.Lookups.{row_at};
+ghost use Rattle.tokei_table_row.specs.Sound.{IsSound};
+ghost use Rattle.tokei_table_row.specs.RowOf.{row_of};
+ghost use Rattle.tokei_table_rules.specs.Lookups.{row_at};
 ghost use Rattle.tokei_table.specs.declared.error.TableError.TheVariants.{NotJson as NotJsonFault};
 ghost use Rattle.tokei_table.specs.declared.error.TableError.TheVariants.{Memory as MemoryFault};
 
@@ -19,12 +19,11 @@ use crate::language_type::LanguageType;
 use serde_json::Value;
 use std::alloc::{AllocError, Global};
 use std::marker::Model;
-use tokei_row_queries::IndexedRows;
-use tokei_row_rules::names::names_twice;
-use tokei_row_rules::well_formed::{all_have_fallbacks, all_have_tokens, names_total};
-use tokei_rows::rows_at;
-use tokei_syntax::Syntax;
-use tokei_table_layout::{has_layout, is_escaped_table};
+use tokei_table_json::{has_layout, is_escaped_table, rows_at};
+use tokei_table_row::Syntax;
+use tokei_table_rules::IndexedRows;
+use tokei_table_rules::names::names_twice;
+use tokei_table_rules::well_formed::{all_have_fallbacks, all_have_tokens, names_total};
 
 /// The table of languages, which contracts see as its rows, in the byte order of their keys.
 #[derive(Drop)]
@@ -34,7 +33,7 @@ pub struct LanguageTable {
 
 impl Model for LanguageTable {
     ghost use Rattle.std.specs.Prelude.{List};
-    ghost use Rattle.tokei_syntax.specs.Row.{Row};
+    ghost use Rattle.tokei_table_row.specs.Row.{Row};
     ghost use Rattle.tokei_table.specs.WellFormed.{IsWellFormed};
 
     ghost Value = { List Row };

@@ -1,7 +1,7 @@
 //! Captures and their places.
 use std::alloc::{AllocError, Global};
 use std::test::Fail;
-use tokei_captures::{
+use tokei_embedding::{
     Capture, HtmlLike, SimpleCapture, end_lf, end_markdown, end_script, end_style, end_template,
     start_lf, start_markdown, start_script, start_style, start_template,
 };

@@ -1,7 +1,7 @@
 //! Contents that are decoded, and boundaries of characters.
 use std::alloc::{AllocError, Global};
 use std::test::Fail;
-use tokei_text::{decode_text, find_char_boundary};
+use tokei_bytes::{decode_text, find_char_boundary};
 
 /// Contents, and their text.
 const CONTENTS: [(&[u8], &[u8]); 9] = [

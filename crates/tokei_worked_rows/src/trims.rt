@@ -1,9 +1,9 @@
 //! Blanks, trims and slices of texts.
-use tokei_searches::blanks_end;
-use tokei_syntax::ext::{
+use tokei_table_row::ext::{
     contains_slice, is_line_ending_whitespace, is_whitespace, trim,
     trim_first_and_last_line_of_whitespace, trim_start,
 };
+use tokei_table_search::blanks_end;
 
 /// A text, without its front blanks, and without those at both ends.
 const TRIMS: [(&[u8], &[u8], &[u8]); 5] = [

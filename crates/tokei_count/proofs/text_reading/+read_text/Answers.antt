@@ -4,7 +4,7 @@ use Rattle.std.proofs.lemmas.Result.{err_from_is_err_and}
 use Rattle.tokei_table.specs.Row.{Row}
 use Rattle.tokei_notebook.specs.Cells.{cell_of, AreKnown}
 use Rattle.tokei_notebook.specs.declared.notebook.Cell.{Cell}
-use Rattle.tokei_choice.specs.Items.{Block}
+use Rattle.tokei_parts.specs.Items.{Block}
 use Rattle.tokei_parts.specs.Matchers.{Matchers}
 use Rattle.tokei_count.specs.NotebookCells.{cell_block, cell_blocks}
 use Rattle.tokei_count.specs.Languages.{languages_of}

@@ -2,7 +2,7 @@ use Rattle.std.proofs.Common.{◌≡◌, ◌<◌, ◌+◌, ◌-◌, ◌∙◌, l
 use Rattle.std.proofs.lemmas.List.{take_rest, drop-drop}
 use Rattle.tokei_embedding.proofs.Lines.{marked-stops, marked-goes}
 use Rattle.tokei_embedding.specs.DocComments.{first_line, marked_len, lines_of}
-use Rattle.tokei_syntax.specs.Bytes.{begins}
+use Rattle.tokei_table_row.specs.Bytes.{begins}
 use Rattle.tokei_embedding.proofs.doc_comments.marked_len.Goals as goal
 
 pub returns-then-not-starts_with-clause-value : goal.returns-then-not-starts_with-clause-value

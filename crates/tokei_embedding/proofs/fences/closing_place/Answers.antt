@@ -1,6 +1,6 @@
 use Rattle.std.proofs.Common.{◌≡◌, ◌<◌, true, length, drop, length-drop, ◌∙◌, ap, sym, arith}
 use Rattle.std.proofs.lemmas.List.{take_rest}
-use Rattle.tokei_syntax.specs.Bytes.{begins}
+use Rattle.tokei_table_row.specs.Bytes.{begins}
 use Rattle.tokei_embedding.proofs.BlockLaws.{begins-fits}
 use Rattle.tokei_embedding.proofs.Places.{first_where-found, first_where-none}
 use Rattle.tokei_embedding.specs.Fences.{fence}

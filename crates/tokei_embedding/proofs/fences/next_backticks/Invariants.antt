@@ -1,5 +1,5 @@
 use Rattle.std.proofs.Common.{◌≡◌, ℕ, ◌-◌, ◌<◌, ◌≤◌, false, take, drop}
-use Rattle.tokei_syntax.specs.Bytes.{begins}
+use Rattle.tokei_table_row.specs.Bytes.{begins}
 use Rattle.tokei_embedding.specs.Fences.{fence}
 use Rattle.tokei_embedding.proofs.fences.next_backticks.Given as goal
 

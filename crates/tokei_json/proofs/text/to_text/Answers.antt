@@ -1,7 +1,7 @@
 use Rattle.std.proofs.Common.{ap, ◌∙◌}
 use Rattle.serde_json.specs.Written.{compact_text, has_float}
 use Rattle.tokei_languages.specs.Seen.{languages_of}
-use Rattle.tokei_json.proofs.NoFloats.{whole_document}
+use Rattle.tokei_json.proofs.NoFloatsInDocuments.{whole_document}
 use Rattle.tokei_json.proofs.text.to_text.Goals as goal
 
 pub returns-clause-text : goal.returns-clause-text

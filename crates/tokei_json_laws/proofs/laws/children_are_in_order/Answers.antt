@@ -3,7 +3,7 @@ use Rattle.std.specs.Ordering.{nat_cmp}
 use Rattle.std.specs.List.Sorted.{IsStrictlySortedBy}
 use Rattle.tokei_json_laws.specs.InOrder.{ListsAreInOrder}
 use Rattle.tokei_languages.specs.Seen.{children_of, reports_of}
-use Rattle.tokei_earlier_reports.proofs.Insertions.{keys_of-seen}
+use Rattle.tokei_earlier.proofs.Insertions.{keys_of-seen}
 use Rattle.tokei_json_laws.proofs.laws.children_are_in_order.Goals as goal
 
 pub loop-language-preserved : goal.loop-language-preserved

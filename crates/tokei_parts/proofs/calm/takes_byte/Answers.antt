@@ -2,7 +2,7 @@ use Rattle.std.proofs.Common.{◌≡◌, ◌∙◌, ℕ, ◌-◌, true, false, B
 use Rattle.std.proofs.lemmas.List.{take_all}
 use Rattle.tokei_table.specs.Bytes.{begins}
 use Rattle.tokei_parts.specs.ReadingOf.{row_in}
-use Rattle.tokei_choice.specs.Seen.{enclosure_of}
+use Rattle.tokei_parts.specs.SeenChoices.{enclosure_of}
 use Rattle.tokei_parts.proofs.PlainBytes.{byte_within_at}
 use Rattle.tokei_parts.proofs.calm.takes_byte.Goals as goal
 

@@ -3,10 +3,10 @@ use Rattle.tokei_table.specs.Row.{Row}
 use Rattle.tokei_parts.specs.Class.{class_of}
 use Rattle.tokei_table.specs.RowOf.{row_of}
 use Rattle.tokei_parts.specs.ReadingOf.{row_in}
-use Rattle.tokei_choice.specs.Seen.{mode_of}
+use Rattle.tokei_parts.specs.SeenChoices.{mode_of}
 use Rattle.tokei_parts.specs.declared.class.Class.{Class}
-use Rattle.tokei_choice.specs.declared.items.Kind.{Kind}
-use Rattle.tokei_choice.specs.declared.items.Kind.TheVariants.{DocString, VerbatimString, OrdinaryString, MultiLineComment}
+use Rattle.tokei_parts.specs.declared.items.Kind.{Kind}
+use Rattle.tokei_parts.specs.declared.items.Kind.TheVariants.{DocString, VerbatimString, OrdinaryString, MultiLineComment}
 use Rattle.tokei_parts.proofs.class.class_within.Goals as goal
 
 -- within an item of that kind the bytes of a line say nothing

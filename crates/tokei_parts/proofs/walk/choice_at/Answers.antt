@@ -1,11 +1,11 @@
 use Rattle.std.proofs.Common.{◌≡◌, ℕ, ◌-◌, Bool, true, false, Option, None, List, is_some, take, drop, length, sym, ap, ◌∙◌, refl}
-use Rattle.tokei_choice.specs.Choice.{choice}
-use Rattle.tokei_choice.specs.Items.{Block, Mode}
+use Rattle.tokei_parts.specs.Choice.{choice}
+use Rattle.tokei_parts.specs.Items.{Block, Mode}
 use Rattle.tokei_parts.specs.Places.{block_here, text_of}
 use Rattle.tokei_parts.specs.ReadingOf.{row_in}
-use Rattle.tokei_choice.specs.Seen.{choice_of, mode_of}
-use Rattle.tokei_choice.specs.declared.choice.Choice as CodeChoice
-use Rattle.tokei_choice.specs.declared.choice.Choice.TheVariants.{ChildOpens}
+use Rattle.tokei_parts.specs.SeenChoices.{choice_of, mode_of}
+use Rattle.tokei_parts.specs.declared.choice.Choice as CodeChoice
+use Rattle.tokei_parts.specs.declared.choice.Choice.TheVariants.{ChildOpens}
 use Rattle.tokei_table.specs.Row.{Row}
 use Rattle.tokei_table.specs.RowOf.{row_of}
 use Rattle.tokei_parts.proofs.PlainBytes.{same_choice}

@@ -1,13 +1,13 @@
 use Rattle.std.proofs.Common.{◌≡◌, ◌∙◌, ℕ, ◌+◌, ◌-◌, ◌<◌, ◌≤◌, refl, sym, ap, subst, Some, ◌⊎◌, inl, inr, List, length, take, drop, arith, length-drop}
 use Rattle.std.proofs.lemmas.List.{drop-drop}
-use Rattle.tokei_choice.specs.Items.{kind_in}
+use Rattle.tokei_parts.specs.Items.{kind_in}
 use Rattle.tokei_parts.specs.Class.{class_of}
 use Rattle.tokei_parts.specs.Lines.{first_line, line_len}
 use Rattle.tokei_parts.specs.Modes.{Chain, innermost}
 use Rattle.tokei_parts.specs.Places.{IsAt, block_from, text_of}
 use Rattle.tokei_parts.specs.ReadingOf.{row_in, blocks_of}
 use Rattle.tokei_parts.specs.Progress.{IsPart, ReadsLine, newlines}
-use Rattle.tokei_choice.specs.Seen.{mode_of}
+use Rattle.tokei_parts.specs.SeenChoices.{mode_of}
 use Rattle.tokei_parts.specs.Seen.{block_of, chain_of}
 use Rattle.tokei_parts.specs.declared.place.Place.{Place}
 use Rattle.tokei_parts.specs.declared.walk.Move.{Move}

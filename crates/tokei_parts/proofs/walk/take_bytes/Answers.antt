@@ -4,7 +4,7 @@ use Rattle.tokei_parts.specs.Modes.{innermost}
 use Rattle.tokei_parts.specs.PlainBytes.{IsPlainByte}
 use Rattle.tokei_parts.specs.ReadingOf.{row_in, blocks_of}
 use Rattle.tokei_parts.specs.Progress.{Leads, Goes}
-use Rattle.tokei_choice.specs.Seen.{mode_of}
+use Rattle.tokei_parts.specs.SeenChoices.{mode_of}
 use Rattle.tokei_parts.specs.Seen.{chain_of}
 use Rattle.tokei_parts.proofs.Blocks.{blocks_fit}
 use Rattle.tokei_parts.proofs.Leading.{lead_none}

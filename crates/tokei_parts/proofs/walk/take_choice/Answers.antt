@@ -1,16 +1,16 @@
 use Rattle.std.proofs.Common.{◌≡◌, ◌<◌, ◌∙◌, ap, sym, ℕ, true, is_some, Option, List, [], ◌-◌, take, drop, arith}
 use Rattle.std.proofs.lemmas.List.{append-nil}
 use Rattle.tokei_table.specs.RowOf.{pair_of}
-use Rattle.tokei_choice.specs.Choice.{Choice, choice, or_else}
-use Rattle.tokei_choice.specs.Choice.Choice.{closes, escapes, child_opens, opens, passes_over, begins_line_comment, takes_byte}
+use Rattle.tokei_parts.specs.Choice.{Choice, choice, or_else}
+use Rattle.tokei_parts.specs.Choice.Choice.{closes, escapes, child_opens, opens, passes_over, begins_line_comment, takes_byte}
 use Rattle.tokei_parts.specs.Lines.{line_len}
 use Rattle.tokei_parts.specs.Modes.{innermost}
 use Rattle.tokei_parts.specs.ReadingOf.{row_in, blocks_of}
 use Rattle.tokei_parts.specs.Places.{block_here}
 use Rattle.tokei_parts.specs.Progress.{OpensInLine}
-use Rattle.tokei_choice.specs.Seen.{choice_of, mode_of}
+use Rattle.tokei_parts.specs.SeenChoices.{choice_of, mode_of}
 use Rattle.tokei_parts.specs.Seen.{chain_of}
-use Rattle.tokei_choice.specs.declared.items.Enclosure as Code
+use Rattle.tokei_parts.specs.declared.items.Enclosure as Code
 use Rattle.tokei_parts.specs.declared.reading.Reading.{Reading}
 use Rattle.tokei_parts.proofs.Blocks.{blocks_fit}
 use Rattle.tokei_parts.proofs.Stack.{closer_pops, opener_pushes, no_pop, child_opens-plain, line_comment_plain}

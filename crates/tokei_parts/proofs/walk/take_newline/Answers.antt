@@ -2,7 +2,7 @@ use Rattle.std.proofs.Common.{◌≡◌, ◌∙◌, ℕ, ◌<◌, ap, List, ◌�
 use Rattle.tokei_parts.specs.Lines.{line_len}
 use Rattle.tokei_parts.specs.Places.{IsAt, block_here, text_of}
 use Rattle.tokei_parts.specs.ReadingOf.{row_in, blocks_of}
-use Rattle.tokei_choice.specs.Seen.{mode_of}
+use Rattle.tokei_parts.specs.SeenChoices.{mode_of}
 use Rattle.tokei_parts.specs.declared.place.Place.{Place}
 use Rattle.tokei_parts.proofs.Blocks.{blocks_fit}
 use Rattle.tokei_parts.proofs.Leading.{at_newline}

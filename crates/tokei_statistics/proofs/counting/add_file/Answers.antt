@@ -1,8 +1,8 @@
 use Rattle.std.proofs.Common.{Err, ap, sym, ◌∙◌}
 use Rattle.tokei_languages.specs.Seen.{languages_of}
 use Rattle.tokei_stats.specs.Seen.{stats_of}
-use Rattle.tokei_paths.specs.Contents.{content_at}
-use Rattle.tokei_files.specs.Contents.{stats_at}
+use Rattle.tokei_files.specs.Contents.{content_at}
+use Rattle.tokei_files.specs.ContentStatistics.{stats_at}
 use Rattle.tokei_files.specs.Seen.{counting_of}
 use Rattle.tokei_statistics.proofs.Running.{file_passed, file_reported, file_marked}
 use Rattle.tokei_statistics.proofs.counting.add_file.Goals as goal

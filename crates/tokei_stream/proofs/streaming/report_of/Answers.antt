@@ -1,7 +1,7 @@
 use Rattle.std.proofs.Common.{Err, ap, sym, ◌∙◌}
 use Rattle.tokei_stats.specs.Seen.{stats_of}
-use Rattle.tokei_paths.specs.Contents.{content_at}
-use Rattle.tokei_files.specs.Contents.{stats_at}
+use Rattle.tokei_files.specs.Contents.{content_at}
+use Rattle.tokei_files.specs.ContentStatistics.{stats_at}
 use Rattle.tokei_files.specs.Seen.{counting_of}
 use Rattle.tokei_stream.proofs.FileReports.{in_no_language, was_read, was_refused}
 use Rattle.tokei_stream.proofs.streaming.report_of.Goals as goal

@@ -2,7 +2,7 @@ use Rattle.std.proofs.KnownBytes.{Appends-trans}
 use Rattle.std.proofs.lemmas.Result.{on_ok_weaker}
 use Rattle.tokei_files.specs.Seen.{counting_of}
 use Rattle.tokei_walk.specs.Walks.{to_come}
-use Rattle.tokei_stream_rows.specs.Rows.{heading_of}
+use Rattle.tokei_stream.specs.Rows.{heading_of}
 use Rattle.tokei_stream.specs.Streams.{rows_of}
 use Rattle.tokei_stream.proofs.streaming.write_headed.Goals as goal
 

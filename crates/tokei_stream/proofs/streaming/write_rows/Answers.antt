@@ -5,7 +5,7 @@ use Rattle.tokei_walk.specs.declared.kept_file.KeptFile.{KeptFile}
 use Rattle.tokei_walk.specs.Walks.{to_come, Advances}
 use Rattle.tokei_stream.proofs.WrittenRows.{no_row_yet, one_row_more, all_rows}
 use Rattle.tokei_stream.specs.Streams.{file_row}
-use Rattle.tokei_run_error.specs.declared.error.RunError.TheVariants.{Overflow}
+use Rattle.tokei_job.specs.declared.error.RunError.TheVariants.{Overflow}
 use Rattle.tokei_stream.proofs.streaming.write_rows.Goals as goal
 
 pub loop-file-init : goal.loop-file-init

@@ -4,7 +4,7 @@ use Rattle.tokei_folders.proofs.Contents.{sound_of}
 use Rattle.tokei_files.specs.Files.{ReadingsFit}
 use Rattle.tokei_files.specs.Seen.{counting_of}
 use Rattle.tokei_walk.specs.declared.kept_file.KeptFile.{KeptFile}
-use Rattle.tokei_run_error.specs.declared.error.RunError.TheVariants.{Overflow}
+use Rattle.tokei_job.specs.declared.error.RunError.TheVariants.{Overflow}
 use Rattle.tokei_stream.specs.Streams.{stream_text}
 use Rattle.tokei_stream.proofs.streaming.write_stream.Goals as goal
 

@@ -1,6 +1,6 @@
 use Rattle.std.proofs.Common.{◌≡◌, ◌++◌, drop, map}
-use Rattle.tokei_row_rules.specs.Extended.{addition_of, extended_from, extended}
-use Rattle.tokei_syntax.specs.RowOf.{tokens_of, row_of}
+use Rattle.tokei_table_rules.specs.Extended.{addition_of, extended_from, extended}
+use Rattle.tokei_table_row.specs.RowOf.{tokens_of, row_of}
 use Rattle.tokei_table.proofs.extend.extended_rows.Given as goal
 
 abbrev pub invariant-loop-place : goal.invariant-loop-place

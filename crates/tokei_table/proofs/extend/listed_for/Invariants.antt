@@ -1,6 +1,6 @@
 use Rattle.std.proofs.Common.{◌≡◌, ◌++◌, drop, map}
-use Rattle.tokei_row_rules.specs.Extended.{addition_of, listed_for}
-use Rattle.tokei_syntax.specs.RowOf.{tokens_of}
+use Rattle.tokei_table_rules.specs.Extended.{addition_of, listed_for}
+use Rattle.tokei_table_row.specs.RowOf.{tokens_of}
 use Rattle.tokei_table.proofs.extend.listed_for.Given as goal
 
 abbrev pub invariant-loop-addition : goal.invariant-loop-addition

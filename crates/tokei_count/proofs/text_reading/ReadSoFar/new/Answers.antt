@@ -2,8 +2,8 @@ use Rattle.std.proofs.Common.{rules, ◌≡◌, ◌+◌, ◌≤◌, List, [], le
 use Rattle.tokei_stats.specs.Seen.{blobs_of, entries_of}
 use Rattle.tokei_stats.specs.Statistics.{Counts, plus, lines_of, no_lines}
 use Rattle.tokei_stats.specs.Statistics.Blobs.{none}
-use Rattle.tokei_stats_laws.proofs.SumLaws.{plus_commutes, plus_none}
-use Rattle.tokei_choice.specs.Items.{Block}
+use Rattle.tokei_stats.proofs.SumLaws.{plus_commutes, plus_none}
+use Rattle.tokei_parts.specs.Items.{Block}
 use Rattle.tokei_parts.specs.Modes.{Chain}
 use Rattle.tokei_count.specs.Gathered.{shares}
 use Rattle.tokei_parts.specs.Progress.{IsClosable, counts_left, children_left, steps_left}

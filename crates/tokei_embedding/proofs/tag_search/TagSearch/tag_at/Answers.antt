@@ -1,5 +1,5 @@
 use Rattle.std.proofs.Common.{◌-◌, ◌∙◌, ap, sym, take, drop, arith}
-use Rattle.tokei_syntax.specs.Bytes.{begins}
+use Rattle.tokei_table_row.specs.Bytes.{begins}
 use Rattle.tokei_embedding.proofs.Places.{part_from}
 use Rattle.tokei_embedding.proofs.TagPlaces.{no_tag}
 use Rattle.tokei_embedding.proofs.tag_search.TagSearch.tag_at.Goals as goal

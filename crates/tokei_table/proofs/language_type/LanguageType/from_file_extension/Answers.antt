@@ -1,6 +1,6 @@
 use Rattle.std.proofs.Common.{◌∙◌, ap}
-use Rattle.tokei_row_queries.specs.Lookups.{first_where, has_extension}
-use Rattle.tokei_row_queries.proofs.OfTable.{first_within, same_within}
+use Rattle.tokei_table_rules.specs.Lookups.{first_where, has_extension}
+use Rattle.tokei_table_rules.proofs.OfTable.{first_within, same_within}
 use Rattle.tokei_table.proofs.language_type.LanguageType.from_file_extension.Goals as goal
 
 pub returns-clause-of_table : goal.returns-clause-of_table

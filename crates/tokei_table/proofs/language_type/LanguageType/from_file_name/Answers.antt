@@ -1,6 +1,6 @@
 use Rattle.std.proofs.Common.{◌∙◌, ap}
-use Rattle.tokei_row_queries.specs.Lookups.{from_lowered_name}
-use Rattle.tokei_row_queries.proofs.OfTable.{name_within, same_within}
+use Rattle.tokei_table_rules.specs.Lookups.{from_lowered_name}
+use Rattle.tokei_table_rules.proofs.OfTable.{name_within, same_within}
 use Rattle.tokei_table.proofs.language_type.LanguageType.from_file_name.Goals as goal
 
 pub returns-clause-of_table : goal.returns-clause-of_table

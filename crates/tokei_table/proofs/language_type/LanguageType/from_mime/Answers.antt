@@ -1,7 +1,7 @@
 use Rattle.std.proofs.Common.{◌∙◌, ap, map}
-use Rattle.tokei_row_queries.specs.Lookups.{first_where, has_mime}
-use Rattle.tokei_syntax.specs.RowOf.{row_of}
-use Rattle.tokei_row_queries.proofs.OfTable.{first_within, same_within}
+use Rattle.tokei_table_rules.specs.Lookups.{first_where, has_mime}
+use Rattle.tokei_table_row.specs.RowOf.{row_of}
+use Rattle.tokei_table_rules.proofs.OfTable.{first_within, same_within}
 use Rattle.tokei_table.proofs.language_type.LanguageType.from_mime.Goals as goal
 
 pub returns-clause-of_table : goal.returns-clause-of_table

@@ -1,6 +1,6 @@
 use Rattle.std.proofs.Common.{◌∙◌, ap}
-use Rattle.tokei_row_queries.specs.Shebangs.{from_shebang, head_line}
-use Rattle.tokei_row_queries.proofs.OfTable.{line_within, same_within}
+use Rattle.tokei_table_rules.specs.Shebangs.{from_shebang, head_line}
+use Rattle.tokei_table_rules.proofs.OfTable.{line_within, same_within}
 use Rattle.tokei_table.proofs.language_type.LanguageType.from_shebang_bytes.Goals as goal
 
 pub returns-clause-of_table : goal.returns-clause-of_table

@@ -1,6 +1,6 @@
 use Rattle.std.proofs.Common.{◌≡◌, ◌++◌, drop, map}
 use Rattle.tokei_table.specs.Listed.{listed, languages_from}
-use Rattle.tokei_syntax.specs.RowOf.{row_of}
+use Rattle.tokei_table_row.specs.RowOf.{row_of}
 use Rattle.tokei_table.proofs.language_type.LanguageType.list.Given as goal
 
 abbrev pub invariant-loop-i : goal.invariant-loop-i

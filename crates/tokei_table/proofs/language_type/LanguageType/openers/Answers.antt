@@ -1,9 +1,9 @@
 use Rattle.std.proofs.Common.{◌≡◌, true, ◌∙◌, ap}
 use Rattle.std.specs.List.{list_all}
-use Rattle.tokei_syntax.specs.FirstOpener.{is_nonempty}
-use Rattle.tokei_row_rules.specs.Openers.{openers}
-use Rattle.tokei_syntax.specs.RowOf.{row_of, tokens_of}
-use Rattle.tokei_row_rules.proofs.Nonempty.{openers_nonempty, if_ok_more}
+use Rattle.tokei_table_row.specs.FirstOpener.{is_nonempty}
+use Rattle.tokei_table_rules.specs.Openers.{openers}
+use Rattle.tokei_table_row.specs.RowOf.{row_of, tokens_of}
+use Rattle.tokei_table_rules.proofs.Nonempty.{openers_nonempty, if_ok_more}
 use Rattle.tokei_table.proofs.language_type.LanguageType.openers.Goals as goal
 
 pub returns-clause-nonempty : goal.returns-clause-nonempty

@@ -1,6 +1,6 @@
 use Rattle.std.proofs.Common.{map}
-use Rattle.tokei_row_rules.specs.Extended.{addition_of, extended}
-use Rattle.tokei_syntax.specs.RowOf.{row_of}
+use Rattle.tokei_table_rules.specs.Extended.{addition_of, extended}
+use Rattle.tokei_table_row.specs.RowOf.{row_of}
 use Rattle.tokei_table.proofs.ExtendedTables.{extended_well_formed, same_well_formed}
 use Rattle.tokei_table.proofs.table.LanguageTable.extended.Goals as goal
 

@@ -1,9 +1,9 @@
 use Rattle.std.proofs.Common.{◌≡◌, ◌∙◌, ap, sym, subst, true, length, arith}
 use Rattle.std.proofs.lemmas.List.{length-map}
 use Rattle.std.specs.List.{list_all}
-use Rattle.tokei_syntax.specs.RowOf.{row_of}
-use Rattle.tokei_row_rules.specs.Tokens.{has_tokens}
-use Rattle.tokei_row_rules.proofs.RowSound.{all_at, sound_row}
+use Rattle.tokei_table_row.specs.RowOf.{row_of}
+use Rattle.tokei_table_rules.specs.Tokens.{has_tokens}
+use Rattle.tokei_table_rules.proofs.RowSound.{all_at, sound_row}
 use Rattle.tokei_table.proofs.table.LanguageTable.syntax.Goals as goal
 
 tokens : (c : goal.After-index-rows-index) → has_tokens (row_of c.index-rows-index.result) ≡ true

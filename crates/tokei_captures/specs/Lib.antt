@@ -1,2 +1,0 @@
--- What contracts say of captures: where an opening or a closing stands in a part.
-pub mod Captures

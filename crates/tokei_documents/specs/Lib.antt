@@ -1,2 +1,0 @@
-pub mod LanguageMaps
-pub mod Layout

@@ -1,0 +1,10 @@
+use Rattle.std.proofs.Common.{◌≡◌, ◌++◌, drop, map}
+use Rattle.serde_json.specs.View.{items_view}
+use Rattle.tokei_earlier.specs.ReadReports.{all_reports_in}
+use Rattle.tokei_stats.specs.Reports.{report_of}
+use Rattle.tokei_earlier.proofs.reading.all_reports_in.Given as goal
+
+abbrev pub invariant-loop-item : goal.invariant-loop-item
+invariant-loop-item l =
+    all_reports_in l.table (items_view l.item-items)
+    ≡ map report_of l.reports.items ++ all_reports_in l.table (items_view (drop l.item-index l.item-items))

@@ -1,2 +1,0 @@
--- What contracts say of the statistics and reports of earlier results.
-pub mod ReadReports

@@ -1,0 +1,10 @@
+use Rattle.std.proofs.Common.{◌≡◌, drop}
+use Rattle.serde_json.specs.View.{items_view}
+use Rattle.tokei_table.specs.Layout.{all_items}
+use Rattle.tokei_json.specs.LanguageMaps.{passes, report_passes}
+use Rattle.tokei_json.proofs.language_maps.all_items_pass.Given as goal
+
+abbrev pub invariant-loop-item : goal.invariant-loop-item
+invariant-loop-item l =
+    all_items (report_passes (passes l.table l.test)) (items_view l.item-items)
+    ≡ all_items (report_passes (passes l.table l.test)) (items_view (drop l.item-index l.item-items))

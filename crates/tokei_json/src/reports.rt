@@ -1,0 +1,131 @@
+//! Statistics and reports as JSON values.
+ghost use Rattle.std.specs.Prelude.{◌≡◌, IfOk, string_bytes};
+ghost use Rattle.serde_json.specs.Data.{no_members};
+ghost use Rattle.serde_json.specs.View.{view, members_view};
+ghost use Rattle.serde_json.specs.Written.{compact_text};
+ghost use Rattle.tokei_json.specs.ReportData.{name_of as name_in, statistics_data, blobs_data, report_data};
+ghost use Rattle.tokei_json.specs.ReportData.{reports_data, named_data, line_data};
+ghost use Rattle.tokei_stats.specs.Reports.{report_of, reports_of, children_of};
+ghost use Rattle.tokei_stats.specs.Seen.{blobs_of, entries_of, stats_of};
+
+use serde_json::{Map, Value, json};
+use std::alloc::{AllocError, Global};
+use std::collections::BTreeMap;
+use tokei_stats::{CodeStats, Report};
+use tokei_table::{LanguageTable, LanguageType};
+
+/// The name of a language; one that isn't of the table has an empty name.
+pub fn name_of(table: &LanguageTable, language: LanguageType) -> &str
+    ensures { result.now ≡ name_in table.entry.now language }
+{
+    if table.has(language) {
+        language.name(table)
+    } else {
+        ""
+    }
+}
+
+#[cycle(statistics)]
+fn statistics_value(
+    alloc: Global,
+    table: &LanguageTable,
+    stats: &CodeStats,
+) -> Result<Value, AllocError>
+    ensures { IfOk result (λ v. view v ≡ statistics_data table.now (stats_of stats.now)) }
+{
+    let blobs = Value::Object(blobs_value(alloc, table, &stats.blobs)?);
+    json!(in alloc; {
+        "blanks": stats.blanks,
+        "blobs": blobs,
+        "code": stats.code,
+        "comments": stats.comments
+    })
+}
+
+#[cycle(statistics)]
+fn blobs_value(
+    alloc: Global,
+    table: &LanguageTable,
+    blobs: &BTreeMap<LanguageType, CodeStats>,
+) -> Result<Map<String, Value>, AllocError>
+    ensures { IfOk result (λ m. members_view m.entries
+        ≡ blobs_data table.now (blobs_of (entries_of blobs.now.entries)) no_members) }
+{
+    let mut members = Map::new(alloc);
+    for (language, stats) in blobs.iter() {
+        let name = String::from_str(alloc, name_of(table, *language))?;
+        let value = statistics_value(alloc, table, stats)?;
+        drop(members.insert(name, value)?);
+    }
+    Ok(members)
+}
+
+fn report_value(alloc: Global, table: &LanguageTable, report: &Report) -> Result<Value, AllocError>
+    ensures { IfOk result (λ v. view v ≡ report_data table.now (report_of report.now)) }
+{
+    let stats = statistics_value(alloc, table, &report.stats)?;
+    json!(in alloc; {"name": &report.name, "stats": stats})
+}
+
+/// The reports, in their order. Out of memory is the only refusal.
+pub fn reports_value(
+    alloc: Global,
+    table: &LanguageTable,
+    reports: &Vec<Report>,
+) -> Result<Value, AllocError>
+    ensures { IfOk result (λ v. view v ≡ reports_data table.now (reports_of reports.now)) }
+{
+    let mut items = Vec::with_capacity(alloc, reports.len())?;
+    for report in reports {
+        items.push(report_value(alloc, table, report)?)?;
+    }
+    Ok(Value::Array(items))
+}
+
+/// The reports of each language, by its name, with members in byte order. Out of memory is the only refusal.
+pub fn children_value(
+    alloc: Global,
+    table: &LanguageTable,
+    children: &BTreeMap<LanguageType, Vec<Report>>,
+) -> Result<Map<String, Value>, AllocError>
+    ensures { IfOk result (λ m. members_view m.entries
+        ≡ named_data table.now (reports_data table.now) (children_of children.now.entries) no_members) }
+{
+    let mut members = Map::new(alloc);
+    for (language, reports) in children.iter() {
+        let name = String::from_str(alloc, name_of(table, *language))?;
+        let value = reports_value(alloc, table, reports)?;
+        drop(members.insert(name, value)?);
+    }
+    Ok(members)
+}
+
+/// A file's report beside the name of its language.
+fn line_value(
+    alloc: Global,
+    table: &LanguageTable,
+    language: LanguageType,
+    report: &Report,
+) -> Result<Value, AllocError>
+    ensures { IfOk result (λ v. view v ≡ line_data table.now language (report_of report.now)) }
+{
+    let name = String::from_str(alloc, name_of(table, language))?;
+    let stats = report_value(alloc, table, report)?;
+    json!(in alloc; {"language": name, "stats": stats})
+}
+
+/// A file's report beside the name of its language, as one compact JSON text with no newline: a line of a stream. Out
+/// of memory is the only refusal.
+pub fn report_line(
+    alloc: Global,
+    table: &LanguageTable,
+    language: LanguageType,
+    report: &Report,
+) -> Result<String, AllocError>
+    ensures { IfOk result (λ s. string_bytes s
+        ≡ compact_text (line_data table.now language (report_of report.now))) }
+{
+    let value = line_value(alloc, table, language, report)?;
+    let text = value.to_string(alloc)?;
+    Ok(text)
+}

@@ -1,2 +1,0 @@
-mod AnyOrder
-mod Measures

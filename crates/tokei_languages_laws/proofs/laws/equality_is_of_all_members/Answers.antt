@@ -1,8 +1,0 @@
-use Rattle.std.proofs.Common.{sym, ◌∙◌}
-use Rattle.tokei_languages.proofs.Equality.{language_test}
-use Rattle.tokei_languages_laws.proofs.laws.equality_is_of_all_members.Goals as goal
-
-pub returns : goal.returns
-returns c =
-    let test = language_test c.args.language.now c.args.other.now in
-    (λ h. test.0 (sym c.eq.ensures ∙ h), λ h. c.eq.ensures ∙ test.1 h)

@@ -1,3 +1,0 @@
-pub mod Dashes
-pub mod Headings
-pub mod Padding

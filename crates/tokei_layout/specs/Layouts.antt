@@ -1,8 +1,0 @@
--- How rows are laid out.
-use Rattle.std.specs.Prelude.{List, ℕ}
-pub use Rattle.tokei_layout.specs.declared.layout.Layout.{Layout}
-use Rattle.tokei_styles.specs.Grouping.{separator_text}
-
--- what stands between groups of digits
-abbrev pub separator_in : Layout → List ℕ
-separator_in layout = separator_text layout.format.separator

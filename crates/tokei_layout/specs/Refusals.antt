@@ -1,9 +1,0 @@
--- Why a row wasn't printed, from why its sums were refused.
-use Rattle.tokei_stats.specs.declared.error.CountError.{CountError}
-use Rattle.tokei_stats.specs.declared.error.CountError.TheVariants.{Memory as NoMemory, Overflow as SumOverflow}
-use Rattle.tokei_layout.specs.declared.error.PrintError.{PrintError}
-use Rattle.tokei_layout.specs.declared.error.PrintError.TheVariants.{Memory, Overflow}
-
-abbrev pub refusal_of : CountError → PrintError
-refusal_of NoMemory = Memory
-refusal_of SumOverflow = Overflow

@@ -1,2 +1,0 @@
--- What contracts say of what is printed beside reports.
-pub mod Printing

@@ -1,2 +1,0 @@
--- What contracts say of what the program says.
-pub mod NotesText

@@ -1,2 +1,0 @@
--- What contracts say of a run's report.
-pub mod Written

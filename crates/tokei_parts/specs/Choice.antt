@@ -1,0 +1,92 @@
+-- The choice at a place: the first that fits there, in a string, in a comment, and in plain text.
+use Rattle.std.specs.Prelude.{ℕ, Bool, true, false, ◌&&◌, ◌||◌, ◌==◌, if◌then◌else◌}
+use Rattle.std.specs.Prelude.{List, [], ◌∷◌, Option, None, Some, is_some, find}
+use Rattle.std.specs.List.{list_any}
+use Rattle.std.specs.Str.{bytes_eq}
+use Rattle.tokei_table_row.specs.Bytes.{backslash, begins}
+use Rattle.tokei_table_row.specs.Row.{Pair, Row}
+use Rattle.tokei_parts.specs.Items.{Block, Mode}
+use Rattle.tokei_parts.specs.declared.items.Kind.{Kind}
+use Rattle.tokei_parts.specs.declared.items.Kind.TheVariants.{DocString, VerbatimString, OrdinaryString}
+use Rattle.tokei_parts.specs.declared.items.Kind.TheVariants.{MultiLineComment}
+
+pub data Choice : Type 0 where
+  closes : Choice
+  escapes : Choice
+  child_opens : Block → Choice
+  opens : Kind → Pair → Choice
+  passes_over : Pair → Choice
+  begins_line_comment : Choice
+  takes_byte : Choice
+
+-- the first pair whose opener stands at the front of the text
+abbrev pub opened : List Pair → List ℕ → Option Pair
+opened ps t = find (λ p. begins p.opener t) ps
+
+-- some token stands at the front of the text
+abbrev pub any_begins : List (List ℕ) → List ℕ → Bool
+any_begins ps t = list_any (λ p. begins p t) ps
+
+-- f of the value, or the default where there is none
+abbrev pub or_else : {A B : Type 0} → Option A → (A → B) → B → B
+or_else None f b = b
+or_else (Some a) f b = f a
+
+-- an escape is a backslash before a backslash, or before an opener of `quotes`; both are two bytes long
+abbrev pub is_escape : Row → List ℕ → Bool
+is_escape r [] = false
+is_escape r (b ∷ t) = (b == backslash) && (begins (backslash ∷ []) t || is_some (opened r.quotes t))
+
+-- the pair, with both its texts, stands in the list
+abbrev pub has_pair : List Pair → Pair → Bool
+has_pair qs p = list_any (λ q. bytes_eq q.opener p.opener && bytes_eq q.closer p.closer) qs
+
+-- A multi-line opener that is met inside a comment opens where `nested` is true or its pair is in `nested_comments`;
+-- else it is passed over whole.
+abbrev pub met_in_comment : Row → Pair → Choice
+met_in_comment r p = if r.nested || has_pair r.nested_comments p then opens MultiLineComment p else passes_over p
+
+-- in a string: its closer; an escape, unless the string is verbatim; one byte
+abbrev pub choice_in_string : Row → Bool → List ℕ → List ℕ → Choice
+choice_in_string r verbatim closer t =
+    if begins closer t then closes
+    else if (if verbatim then false else is_escape r t) then escapes
+    else takes_byte
+
+-- in a comment: an escape; the innermost closer; a multi-line opener, then a nested opener; one byte
+abbrev pub choice_in_comment : Row → List ℕ → List ℕ → Choice
+choice_in_comment r closer t =
+    if is_escape r t then escapes
+    else if begins closer t then closes
+    else or_else (opened r.multi_line_comments t) (met_in_comment r) (
+    or_else (opened r.nested_comments t) (opens MultiLineComment) takes_byte)
+
+-- in plain text where no string opens: a multi-line comment; a nested comment; a line comment; one byte
+abbrev pub comment_in_plain : Row → List ℕ → Choice
+comment_in_plain r t =
+    or_else (opened r.multi_line_comments t) (opens MultiLineComment) (
+    or_else (opened r.nested_comments t) (opens MultiLineComment) (
+    if any_begins r.line_comment t then begins_line_comment else takes_byte))
+
+-- where no child opens and no escape stands: a doc quote; a verbatim quote; a quote; else as where no string opens
+abbrev pub opening_in_plain : Row → List ℕ → Choice
+opening_in_plain r t =
+    or_else (opened r.doc_quotes t) (opens DocString) (
+    or_else (opened r.verbatim_quotes t) (opens VerbatimString) (
+    or_else (opened r.quotes t) (opens OrdinaryString) (comment_in_plain r t)))
+
+-- in plain text: an escape; a child; else as where none of both is
+abbrev pub choice_in_plain : Row → Option Block → List ℕ → Choice
+choice_in_plain r block t = if is_escape r t then escapes else or_else block child_opens (opening_in_plain r t)
+
+-- by the kind of the item that encloses the place
+abbrev pub choice_within : Row → Kind → List ℕ → List ℕ → Choice
+choice_within r DocString closer t = choice_in_string r false closer t
+choice_within r VerbatimString closer t = choice_in_string r true closer t
+choice_within r OrdinaryString closer t = choice_in_string r false closer t
+choice_within r MultiLineComment closer t = choice_in_comment r closer t
+
+-- the first choice that fits at the front of the text; `block` is the child that may open there
+unfoldable pub choice : Row → Mode → Option Block → List ℕ → Choice
+choice r None block t = choice_in_plain r block t
+choice r (Some e) block t = choice_within r e.kind e.closer t

@@ -1,0 +1,31 @@
+//! The items that can enclose a place of a text.
+ghost use Rattle.std.specs.Prelude.{◌≡◌};
+ghost use Rattle.tokei_parts.specs.Items.{kind_in};
+ghost use Rattle.tokei_parts.specs.SeenChoices.{mode_of};
+
+/// What an item with a body is.
+#[derive(Clone, Copy, Debug, PartialEq, Eq)]
+pub enum Kind {
+    DocString,
+    VerbatimString,
+    OrdinaryString,
+    MultiLineComment,
+}
+
+/// An item that encloses a place: it began before it, and hasn't ended.
+#[derive(Clone, Copy)]
+pub struct Enclosure<'a> {
+    pub kind: Kind,
+    pub closer: &'a [u8],
+}
+
+/// The kind of the item, where there is one.
+#[inline(always)]
+pub fn kind_of(mode: Option<Enclosure>) -> Option<Kind>
+    ensures { result ≡ kind_in (mode_of mode.entry) }
+{
+    match mode {
+        Some(item) => Some(item.kind),
+        None => None,
+    }
+}

@@ -1,0 +1,30 @@
+//! The counts of a row, and how many files have them.
+ghost use Rattle.std.specs.Prelude.{◌≡◌, IfOk, IsErrOf, OnOk, string_bytes};
+ghost use Rattle.tokei_stats.specs.Seen.{counts_of, sums_of};
+ghost use Rattle.tokei_print.specs.FilesAndCounts.{files_and_counts};
+ghost use Rattle.tokei_print.specs.LinesFit.{LinesFit};
+ghost use Rattle.tokei_options.specs.Grouping.{separator_text};
+
+use crate::cells::number_cells;
+use std::alloc::Global;
+use tokei_options::NumberFormat;
+use tokei_stats::{CountError, Sums};
+
+/// How many files, and their counts. `Overflow` exactly where the lines pass the greatest `usize`.
+#[tactic(auto, using(crate::proofs::Padding::styled_right))]
+pub fn files_and_counts(
+    alloc: Global,
+    format: NumberFormat,
+    files: usize,
+    counts: Sums,
+) -> Result<String, CountError>
+    ensures ok { IfOk result (λ s. string_bytes s
+        ≡ files_and_counts (separator_text format.separator) files (sums_of counts)) }
+    ensures fits { OnOk result (LinesFit (sums_of counts)) }
+    ensures overflow { IsErrOf result CountError.Overflow → ¬ LinesFit (sums_of counts) }
+{
+    let cells = number_cells(alloc, format, counts)?;
+    let files = format.grouped(alloc, files)?;
+    let (files, cells) = (files.as_str(), cells.as_str());
+    Ok(format!(in alloc; " {files:>8}{cells}\n")?)
+}

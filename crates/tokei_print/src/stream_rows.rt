@@ -1,0 +1,78 @@
+//! The rows of a stream of columns.
+ghost use Rattle.std.specs.Prelude.{◌≡◌, ◌≢◌, ◌<◌, Err, IfOk, OnOk, string_bytes};
+ghost use Rattle.std.specs.Io.KnownBytes.{Appends};
+ghost use Rattle.tokei_stats.specs.ReportRow.{counts_cells};
+ghost use Rattle.tokei_stats.specs.Seen.{counts_of, sums_of};
+ghost use Rattle.tokei_print.specs.Printing.{faults_after_printing};
+ghost use Rattle.tokei_print.specs.StreamRows.{stream_heading, stream_row};
+
+use crate::error::PrintError;
+use std::alloc::{AllocError, Global};
+use tokei_io::Sink;
+use tokei_stats::{Report, Sums};
+
+/// The two rows above a stream of columns.
+const HEADING: &str =
+    "# language                                        path                                          lines         code       comments      blanks   \n########## ################################################################################ ############ ############ ############ ############\n";
+
+/// Puts the text behind what stands in the writer.
+fn put_text<W: Sink>(writer: &mut W, text: &str) -> Result<(), PrintError>
+    ensures bytes { OnOk result (Appends (W.contents writer.old) (W.contents writer.new) text.now) }
+    ensures faults { W.faults writer.old < u64.MAX
+        → W.faults writer.new ≡ faults_after_printing result (W.faults writer.old) }
+    ensures overflow { result ≢ Err PrintError.Overflow }
+{
+    match writer.put(text.as_bytes()) {
+        Ok(()) => Ok(()),
+        Err(_) => Err(PrintError::Write),
+    }
+}
+
+/// The two rows above a stream of columns.
+#[tactic(auto, using(crate::proofs::Headings::heading_text))]
+pub fn print_stream_heading<W: Sink>(writer: &mut W) -> Result<(), PrintError>
+    ensures bytes { OnOk result (Appends (W.contents writer.old) (W.contents writer.new) stream_heading) }
+    ensures faults { W.faults writer.old < u64.MAX
+        → W.faults writer.new ≡ faults_after_printing result (W.faults writer.old) }
+    ensures overflow { result ≢ Err PrintError.Overflow }
+{
+    put_text(writer, HEADING)
+}
+
+/// Lines, code, comments and blanks, each behind a space and right in 12 places; the lines are their exact sum.
+#[tactic(auto, using(tokei_stats::proofs::Padding::padded_right))]
+fn plain_cells(alloc: Global, counts: Sums) -> Result<String, AllocError>
+    ensures { IfOk result (λ s. string_bytes s ≡ counts_cells (sums_of counts)) }
+{
+    let (blanks, code, comments) = (counts.blanks, counts.code, counts.comments);
+    let lines = blanks as u128 + code as u128 + comments as u128;
+    format!(in alloc; " {lines:>12} {code:>12} {comments:>12} {blanks:>12}")
+}
+
+/// A file's row in a stream of columns.
+#[tactic(auto, using(crate::proofs::Padding::styled_right, tokei_stats::proofs::Padding::styled_left))]
+fn stream_row(alloc: Global, language: &str, report: &Report) -> Result<String, AllocError>
+    ensures { IfOk result (λ s. string_bytes s
+        ≡ stream_row language.now (string_bytes report.now.name) (counts_of report.now.stats)) }
+{
+    let cells = plain_cells(alloc, report.stats.own_counts())?;
+    let (path, cells) = (report.name.as_str(), cells.as_str());
+    format!(in alloc; "{language:>10} {path:<80}{cells}\n")
+}
+
+/// Writes the file's row of a stream of columns, under the name of its language.
+pub fn print_stream_row<W: Sink>(
+    alloc: Global,
+    writer: &mut W,
+    language: &str,
+    report: &Report,
+) -> Result<(), PrintError>
+    ensures bytes { OnOk result (Appends (W.contents writer.old) (W.contents writer.new)
+        (stream_row language.now (string_bytes report.now.name) (counts_of report.now.stats))) }
+    ensures faults { W.faults writer.old < u64.MAX
+        → W.faults writer.new ≡ faults_after_printing result (W.faults writer.old) }
+    ensures overflow { result ≢ Err PrintError.Overflow }
+{
+    let text = stream_row(alloc, language, report)?;
+    put_text(writer, text.as_str())
+}

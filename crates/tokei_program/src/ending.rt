@@ -1,0 +1,131 @@
+//! How a run of the program ends where it doesn't do what was asked.
+ghost use Rattle.std.specs.Prelude.{IfOk, string_bytes};
+ghost use Rattle.tokei_program.specs.Messages.{IsMessage};
+
+use std::alloc::{AllocError, AllocFailed, Global};
+use thiserror::Error;
+use tokei_cli::OutputError;
+use tokei_job::RunError;
+use tokei_table::TableError;
+
+/// Why nothing is counted, or why the count isn't shown.
+#[derive(Debug, Drop, Error)]
+pub enum Ending {
+    /// The command line is refused. The text is for standard error.
+    #[error("{0}")]
+    Refused(String),
+    /// The file of the table can't be read.
+    #[error("the table of languages can't be read: {0}")]
+    NoTable(String),
+    /// The table is refused.
+    #[error("{0}")]
+    Table(TableError),
+    /// The earlier results of this name are refused.
+    #[error("failed to parse input file: {0}")]
+    Input(String),
+    /// Standard input had a fault.
+    #[error("earlier results can't be read")]
+    Unreadable,
+    /// Nothing stands at this root.
+    #[error("'{0}' not found.")]
+    Missing(String),
+    /// An allocation failed.
+    #[error("out of memory")]
+    Memory,
+    /// A sum passes the greatest `usize`.
+    #[error("a sum passes the greatest usize")]
+    Overflow,
+    /// A writer had a fault.
+    #[error("the output can't be written")]
+    Write,
+}
+
+impl Ending {
+    ghost use Rattle.std.specs.Prelude.{◌≡◌, ◌≢◌};
+    ghost use Rattle.tokei_program.specs.Statuses.{status_of};
+
+    /// The exit status: 2 where the command line is refused, else 1.
+    pub fn status(&self) -> u8
+        ensures is { result ≡ status_of self.now }
+        ensures failed { result ≢ 0 }
+    {
+        match self {
+            Ending::Refused(_) => 2,
+            _ => 1,
+        }
+    }
+
+    /// The line that says on standard error how the run ended.
+    #[tactic(auto, using(crate::proofs::Causes::line_is_message))]
+    pub fn line(&self, alloc: Global) -> Result<String, AllocError>
+        ensures { IfOk result (λ line. IsMessage (string_bytes line)) }
+    {
+        let cause = format!(in alloc; "{}", self)?;
+        format!(in alloc; "Error: {cause}\n")
+    }
+}
+
+impl From<AllocError> for Ending {
+    ghost use Rattle.std.specs.Prelude.{◌≡◌};
+    ghost use Rattle.tokei_program.specs.declared.ending.Ending.TheVariants.{Memory};
+
+    ghost from_gives = { λ _ e. e ≡ Memory };
+
+    fn from(_refused: AllocError) -> Ending {
+        Ending::Memory
+    }
+}
+
+impl<T: Drop> From<AllocFailed<T>> for Ending {
+    ghost use Rattle.std.specs.Prelude.{◌≡◌};
+    ghost use Rattle.tokei_program.specs.declared.ending.Ending.TheVariants.{Memory};
+
+    ghost from_gives = { λ _ e. e ≡ Memory };
+
+    fn from(_refused: AllocFailed<T>) -> Ending {
+        Ending::Memory
+    }
+}
+
+impl From<OutputError> for Ending {
+    ghost use Rattle.std.specs.Prelude.{◌≡◌};
+    ghost use Rattle.tokei_program.specs.Statuses.{status_of};
+
+    ghost from_gives = { λ _ e. status_of e ≡ 1 };
+
+    fn from(error: OutputError) -> Ending {
+        match error {
+            OutputError::Memory => Ending::Memory,
+            OutputError::Write => Ending::Write,
+        }
+    }
+}
+
+impl From<TableError> for Ending {
+    ghost use Rattle.std.specs.Prelude.{◌≡◌};
+    ghost use Rattle.tokei_program.specs.Statuses.{status_of};
+
+    ghost from_gives = { λ _ e. status_of e ≡ 1 };
+
+    fn from(error: TableError) -> Ending {
+        match error {
+            TableError::Memory => Ending::Memory,
+            error => Ending::Table(error),
+        }
+    }
+}
+
+impl From<RunError> for Ending {
+    ghost use Rattle.std.specs.Prelude.{◌≡◌};
+    ghost use Rattle.tokei_program.specs.Statuses.{status_of};
+
+    ghost from_gives = { λ _ e. status_of e ≡ 1 };
+
+    fn from(error: RunError) -> Ending {
+        match error {
+            RunError::Memory => Ending::Memory,
+            RunError::Overflow => Ending::Overflow,
+            RunError::Write => Ending::Write,
+        }
+    }
+}

@@ -1,0 +1,220 @@
+//! What a run counts, made of the command line, the environment and the files that they name.
+ghost use Rattle.std.specs.Prelude.{◌≡◌, true, IfErr, IfOk, OnOk, Some, Ok, map, option_map, string_bytes};
+ghost use Rattle.tokei_cli.specs.CommandLines.{file_input_of, inputs_of, table_of as table_named};
+ghost use Rattle.tokei_folders.specs.Answers.{Told};
+ghost use Rattle.tokei_program.specs.Choices.{Chooses};
+ghost use Rattle.tokei_program.specs.Columns.{columns_of};
+ghost use Rattle.tokei_program.specs.Earlier.{AreEarlier, AreRead, bytes_named};
+ghost use Rattle.tokei_program.specs.Jobs.{IsConfig, IsJob, IsJobOf};
+ghost use Rattle.tokei_program.specs.Roots.{AllStand, stands};
+ghost use Rattle.tokei_program.specs.Statuses.{status_of};
+ghost use Rattle.tokei_program.specs.Tables.{table_at};
+ghost use Rattle.tokei_walk.specs.Walks.{texts_of};
+
+use crate::choices::Choices;
+use crate::ending::Ending;
+use crate::environment::{Env, config_dirs};
+use std::alloc::{AllocError, Global};
+use tokei_cli::{Cli, OverrideConfig};
+use tokei_config::Config;
+use tokei_earlier::{InputError, add_input};
+use tokei_folders::{Fault, Folders};
+use tokei_io::{Counted, Source};
+use tokei_job::Job;
+use tokei_languages::Languages;
+use tokei_table::LanguageTable;
+
+/// The table that the command line names.
+pub fn table_of<F: Folders>(
+    alloc: Global,
+    cli: &Cli,
+    folders: &mut F,
+) -> Result<LanguageTable, Ending>
+    ensures same { F.tree folders.new ≡ F.tree folders.old }
+    ensures told { Told (F.tree folders.old) (λ t. IfOk result (λ rows. table_at t (table_named cli.now) ≡ Some (Ok rows))) }
+    ensures failed { IfErr result (λ e. status_of e ≡ 1) }
+{
+    match folders.read(cli.table()) {
+        Ok(bytes) => Ok(LanguageTable::from_json(alloc, &bytes)?),
+        Err(Fault::Memory) => Err(Ending::Memory),
+        Err(Fault::Refused) => Err(Ending::NoTable(String::from_str(alloc, cli.table())?)),
+    }
+}
+
+/// The configuration of the user's files, below the options of the command line.
+fn configuration<F: Folders>(
+    alloc: Global,
+    cli: &Cli,
+    env: &Env,
+    table: &LanguageTable,
+    folders: &mut F,
+) -> Result<Config, Ending>
+    ensures same { F.tree folders.new ≡ F.tree folders.old }
+    ensures told { Told (F.tree folders.old) (λ t. IfOk result (IsConfig table.now cli.now env.now t)) }
+    ensures failed { IfErr result (λ e. status_of e ≡ 1) }
+{
+    let dirs = config_dirs(alloc, env)?;
+    let mut config = Config::from_config_files(alloc, table, folders, &dirs)?;
+    cli.override_config(alloc, table, &mut config)?;
+    Ok(config)
+}
+
+/// The languages of earlier results that are read from a source.
+fn languages_of<S: Source>(
+    alloc: Global,
+    table: &LanguageTable,
+    name: &str,
+    source: &mut S,
+) -> Result<Languages, Ending>
+    ensures read { IfOk result (AreRead table.now (S.remaining source.old)) }
+    ensures failed { IfErr result (λ e. status_of e ≡ 1) }
+{
+    let mut languages = Languages::new(alloc);
+    match add_input(alloc, table, source, &mut languages) {
+        Ok(()) => Ok(languages),
+        Err(InputError::Memory) => Err(Ending::Memory),
+        Err(InputError::Overflow) => Err(Ending::Overflow),
+        Err(InputError::Unreadable) => Err(Ending::Unreadable),
+        Err(_) => Err(Ending::Input(String::from_str(alloc, name)?)),
+    }
+}
+
+/// The earlier results of that name: the file's; where it can't be read those on standard input, if the name is
+/// `stdin`; and else the name is their text.
+fn earlier_of<F: Folders, S: Source>(
+    alloc: Global,
+    table: &LanguageTable,
+    name: &str,
+    folders: &mut F,
+    input: &mut S,
+) -> Result<Languages, Ending>
+    ensures same { F.tree folders.new ≡ F.tree folders.old }
+    ensures told { Told (F.tree folders.old) (λ t. IfOk result (AreRead
+        table.now (bytes_named t (S.remaining input.old) name.now))) }
+    ensures failed { IfErr result (λ e. status_of e ≡ 1) }
+{
+    match folders.read(name) {
+        Ok(bytes) => languages_of(alloc, table, name, &mut Counted::new(bytes.as_slice())),
+        Err(Fault::Memory) => Err(Ending::Memory),
+        Err(Fault::Refused) if name == "stdin" => languages_of(alloc, table, name, input),
+        Err(Fault::Refused) => {
+            languages_of(alloc, table, name, &mut Counted::new(name.as_bytes()))
+        }
+    }
+}
+
+/// The earlier results that the command line names, if it names any.
+fn earlier<F: Folders, S: Source>(
+    alloc: Global,
+    table: &LanguageTable,
+    cli: &Cli,
+    folders: &mut F,
+    input: &mut S,
+) -> Result<Option<Languages>, Ending>
+    ensures same { F.tree folders.new ≡ F.tree folders.old }
+    ensures told { Told (F.tree folders.old) (λ t. IfOk result (AreEarlier
+        table.now t (S.remaining input.old) (file_input_of cli.now))) }
+    ensures failed { IfErr result (λ e. status_of e ≡ 1) }
+{
+    match cli.file_input() {
+        None => Ok(None),
+        Some(name) => Ok(Some(earlier_of(alloc, table, name, folders, input)?)),
+    }
+}
+
+/// Refuses a root at which nothing stands; the empty one is such.
+fn check_root<F: Folders>(alloc: Global, folders: &mut F, root: &str) -> Result<(), Ending>
+    ensures same { F.tree folders.new ≡ F.tree folders.old }
+    ensures told { Told (F.tree folders.old) (λ t. OnOk result (stands t root.now ≡ true)) }
+    ensures failed { IfErr result (λ e. status_of e ≡ 1) }
+{
+    if root.is_empty() {
+        return Err(Ending::Missing(String::new(alloc)));
+    }
+    match folders.kind(root) {
+        Ok(_) => Ok(()),
+        Err(Fault::Memory) => Err(Ending::Memory),
+        Err(Fault::Refused) => Err(Ending::Missing(String::from_str(alloc, root)?)),
+    }
+}
+
+/// Refuses the first root at which nothing stands.
+fn check_roots<F: Folders>(alloc: Global, folders: &mut F, roots: &[String]) -> Result<(), Ending>
+    ensures same { F.tree folders.new ≡ F.tree folders.old }
+    ensures told { Told (F.tree folders.old) (λ t. OnOk result (AllStand t (texts_of roots.now))) }
+    ensures failed { IfErr result (λ e. status_of e ≡ 1) }
+{
+    for root in roots {
+        check_root(alloc, folders, root.as_str())?;
+    }
+    Ok(())
+}
+
+/// The texts as owned ones.
+fn all_owned(alloc: Global, texts: &[String]) -> Result<Vec<String>, AllocError>
+    ensures { IfOk result (λ v. texts_of v.items ≡ texts_of texts.now) }
+{
+    let mut all = Vec::with_capacity(alloc, texts.len())?;
+    for text in texts {
+        all.push(String::from_str(alloc, text.as_str())?)?;
+    }
+    Ok(all)
+}
+
+/// The width of the report: that of the option, else that of the configuration, else 81.
+fn columns(option: Option<usize>, configured: Option<usize>) -> usize
+    ensures { result ≡ columns_of option configured }
+{
+    option.or(configured).unwrap_or(81)
+}
+
+/// The run of a command line.
+fn job_of(
+    alloc: Global,
+    cli: &Cli,
+    choices: Choices,
+    config: Config,
+    earlier: Option<Languages>,
+) -> Result<Job, AllocError>
+    ensures members { IfOk result (IsJob cli.now) }
+    ensures chosen { IfOk result (λ j. (j.wanted ≡ choices.wanted) × (j.sort ≡ choices.sort)
+        × (j.numbers ≡ choices.numbers)) }
+    ensures found { IfOk result (λ j. (j.config ≡ config) × (j.earlier ≡ earlier)) }
+{
+    Ok(Job {
+        paths: all_owned(alloc, cli.input())?,
+        ignored: all_owned(alloc, cli.ignored_directories())?,
+        columns: columns(cli.columns, config.columns),
+        config,
+        earlier,
+        wanted: choices.wanted,
+        files: cli.files,
+        compact: cli.compact,
+        sort: choices.sort,
+        reverse: cli.sort_reverse,
+        numbers: choices.numbers,
+    })
+}
+
+/// What is counted, where all that the command line names is there.
+pub fn prepared<F: Folders, S: Source>(
+    alloc: Global,
+    cli: &Cli,
+    choices: Choices,
+    env: &Env,
+    table: &LanguageTable,
+    folders: &mut F,
+    input: &mut S,
+) -> Result<Job, Ending>
+    requires chosen { Chooses cli.now choices.wanted choices.sort choices.numbers }
+    ensures same { F.tree folders.new ≡ F.tree folders.old }
+    ensures told { Told (F.tree folders.old) (λ t. IfOk result (IsJobOf
+        table.now cli.now env.now t (S.remaining input.old))) }
+    ensures failed { IfErr result (λ e. status_of e ≡ 1) }
+{
+    let config = configuration(alloc, cli, env, table, folders)?;
+    let earlier = earlier(alloc, table, cli, folders, input)?;
+    check_roots(alloc, folders, cli.input())?;
+    let job = job_of(alloc, cli, choices, config, earlier)?;
+    Ok(job)
+}

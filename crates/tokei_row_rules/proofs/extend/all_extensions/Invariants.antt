@@ -1,8 +1,0 @@
-use Rattle.std.proofs.Common.{◌≡◌, ◌++◌, drop, map}
-use Rattle.tokei_row_rules.specs.Extended.{extensions_of}
-use Rattle.tokei_syntax.specs.RowOf.{tokens_of, row_of}
-use Rattle.tokei_row_rules.proofs.extend.all_extensions.Given as goal
-
-abbrev pub invariant-loop-row : goal.invariant-loop-row
-invariant-loop-row l =
-    tokens_of l.out.items ++ extensions_of (map row_of (drop l.row-index l.rows)) ≡ extensions_of (map row_of l.rows)

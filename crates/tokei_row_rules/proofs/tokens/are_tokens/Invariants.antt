@@ -1,9 +1,0 @@
-use Rattle.std.proofs.Common.{◌≡◌, drop}
-use Rattle.std.specs.List.{list_all}
-use Rattle.tokei_syntax.specs.Sound.{is_token}
-use Rattle.tokei_syntax.specs.RowOf.{tokens_of}
-use Rattle.tokei_row_rules.proofs.tokens.are_tokens.Given as goal
-
-abbrev pub invariant-loop-token : goal.invariant-loop-token
-invariant-loop-token l =
-    list_all is_token (tokens_of (drop l.token-index l.tokens)) ≡ list_all is_token (tokens_of l.tokens)

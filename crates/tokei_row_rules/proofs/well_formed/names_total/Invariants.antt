@@ -1,8 +1,0 @@
-use Rattle.std.proofs.Common.{◌≡◌, drop, map}
-use Rattle.std.specs.List.{list_any}
-use Rattle.tokei_syntax.specs.RowOf.{row_of}
-use Rattle.tokei_row_rules.specs.RowNames.{is_total}
-use Rattle.tokei_row_rules.proofs.well_formed.names_total.Given as goal
-
-abbrev pub invariant-loop-row : goal.invariant-loop-row
-invariant-loop-row l = list_any is_total (map row_of (drop l.row-index l.rows)) ≡ list_any is_total (map row_of l.rows)

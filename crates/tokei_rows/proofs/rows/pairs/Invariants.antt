@@ -1,9 +1,0 @@
-use Rattle.std.proofs.Common.{◌≡◌, ◌++◌, drop}
-use Rattle.serde_json.specs.View.{items_view}
-use Rattle.tokei_syntax.specs.RowOf.{pairs_of}
-use Rattle.tokei_rows.specs.Rows.{pairs_in}
-use Rattle.tokei_rows.proofs.rows.pairs.Given as goal
-
-abbrev pub invariant-loop-item : goal.invariant-loop-item
-invariant-loop-item l =
-    pairs_in (items_view l.item-items) ≡ pairs_of l.out.items ++ pairs_in (items_view (drop l.item-index l.item-items))

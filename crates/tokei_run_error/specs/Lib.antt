@@ -1,2 +1,0 @@
--- What contracts say of why a run ended.
-pub mod Errors

@@ -1,9 +1,0 @@
-use Rattle.std.proofs.Common.{◌≡◌, ◌++◌, drop, map}
-use Rattle.tokei_searches.specs.OpenerGroups.{with_first}
-use Rattle.tokei_syntax.specs.RowOf.{tokens_of}
-use Rattle.tokei_searches.proofs.opener_index.groups_of.Given as goal
-
-abbrev pub invariant-loop-byte : goal.invariant-loop-byte
-invariant-loop-byte l =
-    l.groups.items ++ map (λ x. with_first x (tokens_of l.openers)) (drop l.byte-index l.firsts)
-    ≡ map (λ x. with_first x (tokens_of l.openers)) l.firsts

@@ -1,9 +1,0 @@
-//! Searches over a text: for the first of some openers, and past the blanks at its front.
-#![tactic(auto)]
-
-pub mod blanks;
-mod opener_group;
-pub mod opener_index;
-
-pub use blanks::blanks_end;
-pub use opener_index::OpenerIndex;

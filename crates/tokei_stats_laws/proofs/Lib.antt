@@ -1,4 +1,0 @@
-pub mod BlobsAt
-pub mod MapsOrdered
-pub mod SumLaws
-pub mod SumsOrdered

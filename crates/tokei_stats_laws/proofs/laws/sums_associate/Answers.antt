@@ -1,5 +1,0 @@
-use Rattle.tokei_stats_laws.proofs.SumLaws.{associates}
-use Rattle.tokei_stats_laws.proofs.laws.sums_associate.Goals as goal
-
-pub returns : goal.returns
-returns c = λ s t u h k g. associates s t u h k g

@@ -1,5 +1,0 @@
-use Rattle.tokei_stats_laws.proofs.SumLaws.{commutes}
-use Rattle.tokei_stats_laws.proofs.laws.sums_commute.Goals as goal
-
-pub returns : goal.returns
-returns c = λ s t h k. commutes s t h k

@@ -1,5 +1,0 @@
-use Rattle.tokei_stats_laws.proofs.SumsOrdered.{sum_ordered}
-use Rattle.tokei_stats_laws.proofs.laws.sums_stay_ordered.Goals as goal
-
-pub returns : goal.returns
-returns c = λ s t h k. sum_ordered s t h k

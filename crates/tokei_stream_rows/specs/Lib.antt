@@ -1,2 +1,0 @@
--- What contracts say of the rows of a stream.
-pub mod Rows

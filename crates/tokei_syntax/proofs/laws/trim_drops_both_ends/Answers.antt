@@ -1,5 +1,0 @@
-use Rattle.tokei_syntax.proofs.TrimParts.{both_parts}
-use Rattle.tokei_syntax.proofs.laws.trim_drops_both_ends.Goals as goal
-
-pub returns : goal.returns
-returns c = both_parts

@@ -1,0 +1,9 @@
+use Rattle.std.proofs.Common.{◌≡◌, ◌++◌, drop}
+use Rattle.serde_json.specs.View.{items_view}
+use Rattle.tokei_table_row.specs.RowOf.{tokens_of}
+use Rattle.tokei_table_json.specs.Rows.{texts_of}
+use Rattle.tokei_table_json.proofs.rows.texts.Given as goal
+
+abbrev pub invariant-loop-item : goal.invariant-loop-item
+invariant-loop-item l =
+    texts_of (items_view l.item-items) ≡ tokens_of l.out.items ++ texts_of (items_view (drop l.item-index l.item-items))

@@ -1,0 +1,8 @@
+-- What contracts say of a table in JSON: its layout, its escapes and its rows.
+pub mod Escaped
+pub mod Escapes
+pub mod Filled
+pub mod KeyOrder
+pub mod Layout
+pub mod RowLaws
+pub mod Rows

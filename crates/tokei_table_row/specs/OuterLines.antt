@@ -1,0 +1,46 @@
+-- A block of text without the blank rest of its first line and the blank front of its last one.
+use Rattle.std.specs.Prelude.{ℕ, ◌+◌, ◌-◌, zero, suc, min, Bool, false, ◌&&◌, ◌||◌, ◌==◌, not, if◌then◌else◌}
+use Rattle.std.specs.Prelude.{List, [], ◌∷◌, length, take, drop, slice_index, Option, None, Some, option_map}
+use Rattle.tokei_table_row.specs.Bytes.{is_blank, newline, carriage_return}
+
+-- A stop is a newline or a byte that isn't blank.
+abbrev pub is_stop : ℕ → Bool
+is_stop b = (b == newline) || not (is_blank b)
+
+-- The index of the first stop.
+abbrev pub first_stop : List ℕ → Option ℕ
+first_stop [] = None
+first_stop (b ∷ t) = if is_stop b then Some 0 else option_map suc (first_stop t)
+
+-- The place in a text whose rest, behind a first byte, has the given place.
+abbrev pub later_or : Bool → Option ℕ → Option ℕ
+later_or first None = if first then Some 0 else None
+later_or first (Some i) = Some (suc i)
+
+-- The index of the last stop.
+abbrev pub last_stop : List ℕ → Option ℕ
+last_stop [] = None
+last_stop (b ∷ t) = later_or (is_stop b) (last_stop t)
+
+-- Where the block begins in a text of that length: behind the first stop, but no later than at the last byte.
+abbrev pub start_behind : ℕ → Option ℕ → ℕ
+start_behind n None = 0
+start_behind n (Some i) = min (i + 1) (n - 1)
+
+-- Whether that index is the one of a newline behind a carriage return.
+abbrev pub is_return_newline : List ℕ → ℕ → Bool
+is_return_newline t zero = false
+is_return_newline t (suc i) = (slice_index t i == carriage_return) && (slice_index t (suc i) == newline)
+
+-- Behind which byte the block ends: behind the last stop, or before it where it is a newline behind a carriage return.
+abbrev pub end_behind : List ℕ → Option ℕ → ℕ
+end_behind t None = length t
+end_behind t (Some i) = if is_return_newline t i then i else i + 1
+
+-- The bytes between both, none where the end isn't behind the start.
+abbrev pub between : List ℕ → ℕ → ℕ → List ℕ
+between t i j = take (j - i) (drop i t)
+
+-- The block that is left of a text.
+abbrev pub trim_outer_lines : List ℕ → List ℕ
+trim_outer_lines t = between t (start_behind (length t) (first_stop t)) (end_behind t (last_stop t))

@@ -1,0 +1,9 @@
+pub mod Dots
+pub mod ExtendedRows
+pub mod IsUtf8
+pub mod MetNames
+pub mod Nonempty
+pub mod OfTable
+pub mod PathSuffixes
+pub mod RowSound
+pub mod TextIndex

@@ -1,0 +1,102 @@
+//! Rows of languages with an index of their names, extensions, whole names of files and path suffixes.
+ghost use Rattle.std.specs.Prelude.{◌≡◌, map, IfOk};
+ghost use Rattle.std.specs.Str.{str_to_ascii_lowercase};
+ghost use Rattle.tokei_table_rules.specs.PathSuffixes.{suffixed_from};
+ghost use Rattle.tokei_table_rules.specs.TextIndex.{entries_from, group_of, in_group, names, lowered_name};
+ghost use Rattle.tokei_table_row.specs.RowOf.{row_of};
+
+use crate::path_suffixes::suffixed_places;
+use crate::text_index::TextIndex;
+use std::alloc::{AllocError, Global};
+use std::marker::Model;
+use tokei_table_row::Syntax;
+
+/// Rows and what is kept beside them, so that no look-up walks over all of them. Contracts see the rows.
+#[derive(Drop)]
+pub struct IndexedRows {
+    rows: Vec<Syntax>,
+    by_name: TextIndex,
+    by_lowered_name: TextIndex,
+    by_extension: TextIndex,
+    by_filename: TextIndex,
+    suffixed: Vec<usize>,
+}
+
+impl Model for IndexedRows {
+    ghost use Rattle.std.specs.Prelude.{List, map};
+    ghost use Rattle.tokei_table_rules.specs.Indexed.{IsIndexed};
+    ghost use Rattle.tokei_table_row.specs.Row.{Row};
+    ghost use Rattle.tokei_table_row.specs.RowOf.{row_of};
+
+    ghost Value = { List Row };
+
+    ghost view = { λ t. map row_of t.rows.items };
+
+    ghost invariant = { λ t. IsIndexed (map row_of t.rows.items) t.by_name t.by_lowered_name t.by_extension t.by_filename
+        t.suffixed.items };
+}
+
+impl IndexedRows {
+    /// These rows with an index of their keys and names, one of their names in lower case, one of their extensions and
+    /// one of whole names of files, and with the places of those that have path suffixes. It fails where memory runs out.
+    pub fn new(alloc: Global, rows: Vec<Syntax>) -> Result<IndexedRows, AllocError>
+        ensures { IfOk result (λ t. t ≡ map row_of rows.items) }
+    {
+        let by_name = TextIndex::of_names(alloc, &rows)?;
+        let by_lowered_name = TextIndex::of_lowered_names(alloc, &rows)?;
+        let by_extension = TextIndex::of_extensions(alloc, &rows)?;
+        let by_filename = TextIndex::of_filenames(alloc, &rows)?;
+        let suffixed = suffixed_places(alloc, &rows)?;
+        Ok(IndexedRows {
+            rows,
+            by_name,
+            by_lowered_name,
+            by_extension,
+            by_filename,
+            suffixed,
+        })
+    }
+
+    /// The rows, in their order.
+    pub fn rows(&self) -> &[Syntax]
+        ensures { map row_of result.now ≡ self.entry.now }
+    {
+        self.rows.as_slice()
+    }
+
+    /// Places of rows, in their order, among which are those of the rows with that key or name.
+    pub(crate) fn name_places(&self, name: &[u8]) -> &[usize]
+        ensures { result.now ≡ in_group (group_of name.now) (entries_from names 0 self.entry.now) }
+    {
+        self.by_name.places(name)
+    }
+
+    /// The same of a name in any ASCII case.
+    pub(crate) fn lowered_name_places(&self, word: &[u8]) -> &[usize]
+        ensures { result.now ≡ in_group (group_of (str_to_ascii_lowercase word.now))
+            (entries_from lowered_name 0 self.entry.now) }
+    {
+        self.by_lowered_name.lowered_places(word)
+    }
+
+    /// The same of an extension.
+    pub(crate) fn extension_places(&self, extension: &[u8]) -> &[usize]
+        ensures { result.now ≡ in_group (group_of extension.now) (entries_from (λ r. r.extensions) 0 self.entry.now) }
+    {
+        self.by_extension.places(extension)
+    }
+
+    /// The same of a whole name of a file.
+    pub(crate) fn filename_places(&self, name: &[u8]) -> &[usize]
+        ensures { result.now ≡ in_group (group_of name.now) (entries_from (λ r. r.filenames) 0 self.entry.now) }
+    {
+        self.by_filename.places(name)
+    }
+
+    /// The places of the rows that have a path suffix, in their order.
+    pub(crate) fn suffixed(&self) -> &[usize]
+        ensures { result.now ≡ suffixed_from 0 self.entry.now }
+    {
+        self.suffixed.as_slice()
+    }
+}

@@ -1,0 +1,9 @@
+//! Searches over a text: for the first of some openers, by their first bytes, and past the blanks at its front.
+#![tactic(auto)]
+
+pub mod blanks;
+mod opener_group;
+pub mod opener_index;
+
+pub use blanks::blanks_end;
+pub use opener_index::OpenerIndex;

@@ -1,0 +1,418 @@
+//! The openers of a language, ready for a search of a text.
+ghost use Rattle.std.specs.Prelude.{◌≡◌, ◌↔◌, ◌+◌, ◌≤◌, ◌<◌, ℕ, List, ◌∷◌, length, map, drop, slice_index, ◌||◌, true};
+ghost use Rattle.std.specs.Prelude.{false};
+ghost use Rattle.std.specs.Prelude.{IfOk, IfSome, IsSome, OnOk, MatchOption};
+ghost use Rattle.std.specs.List.{list_all};
+ghost use Rattle.tokei_table_row.specs.FirstOpener.{first_opener, is_first, is_first_of, is_nonempty};
+ghost use Rattle.tokei_bytes.specs.OneOf.{is_one_of};
+ghost use Rattle.tokei_table_search.specs.OpenerGroups.{with_first, IsIndexOf};
+ghost use Rattle.tokei_table_row.specs.Bytes.{begins_with_one};
+ghost use Rattle.tokei_table_search.specs.NearBytes.{SameBytes, AreNear};
+ghost use Rattle.memchr.specs.Find.{IsFirstByte};
+ghost use Rattle.tokei_table_row.specs.RowOf.{tokens_of};
+
+use crate::opener_group::OpenerGroup;
+use memchr::{memchr, memchr2, memchr3};
+use std::alloc::{AllocError, Global};
+use std::marker::Model;
+use tokei_bytes::{first_of_four, next_pair};
+
+/// How many bytes are searched at first for more than three bytes.
+const FIRST_BLOCK: usize = 64;
+
+/// The most bytes that are searched at a time for more than three bytes, or for bytes by those behind them.
+const LARGEST_BLOCK: usize = 4096;
+
+/// How close a byte that can begin an opener stands to the place behind another one, where such are taken to come
+/// often.
+const CLOSE: usize = 8;
+
+/// How many bytes are searched at first for bytes by those behind them.
+const FIRST_WIDTH: usize = 32;
+
+/// How many bytes are close by. Further ahead the searches of `memchr` are quicker.
+const NEAR: usize = 256;
+
+/// The openers of a language in groups of one first byte. Contracts see it as the list of its openers.
+#[derive(Drop)]
+pub struct OpenerIndex {
+    /// As they were given. The search goes by the groups.
+    openers: Vec<String>,
+    firsts: Vec<u8>,
+    /// The first bytes, where they are one to four; those that are fewer than four are named more than once.
+    near: Option<[u8; 4]>,
+    /// For each of the first bytes the openers that begin with it.
+    groups: Vec<OpenerGroup>,
+}
+
+impl Model for OpenerIndex {
+    ghost use Rattle.std.specs.Prelude.{ℕ, List};
+
+    ghost Value = { List (List ℕ) };
+
+    ghost use Rattle.tokei_table_search.specs.NearBytes.{AreNear};
+    ghost use Rattle.tokei_table_search.specs.OpenerGroups.{IsIndexOf};
+    ghost use Rattle.tokei_table_row.specs.RowOf.{tokens_of};
+
+    ghost view = { λ x. tokens_of x.openers.items };
+
+    ghost invariant = { λ x. IsIndexOf (tokens_of x.openers.items) x.firsts.items x.groups.items
+        × AreNear x.near x.firsts.items };
+}
+
+#[inline(always)]
+fn is_one_of(bytes: &[u8], byte: u8) -> bool
+    ensures { result ≡ is_one_of bytes.now byte }
+{
+    for known in bytes {
+        if byte == *known {
+            return true;
+        }
+    }
+    false
+}
+
+fn add_first(firsts: &mut Vec<u8>, opener: &[u8]) -> Result<(), AllocError>
+    ensures { OnOk result ((x : ℕ) →
+        is_one_of firsts.new.items x ≡ (is_one_of firsts.old.items x || is_first_of x opener.now)) }
+{
+    match opener {
+        [] => Ok(()),
+        [first, ..] => {
+            if is_one_of(firsts, *first) {
+                return Ok(());
+            }
+            firsts.push(*first)?;
+            Ok(())
+        }
+    }
+}
+
+/// The distinct first bytes of the openers.
+fn first_bytes(alloc: Global, openers: &[String]) -> Result<Vec<u8>, AllocError>
+    ensures { IfOk result (λ v. (x : ℕ) → is_one_of v.items x ≡ is_first (tokens_of openers.now) x) }
+{
+    let mut firsts = Vec::new(alloc);
+    for opener in openers {
+        add_first(&mut firsts, opener.as_bytes())?;
+    }
+    Ok(firsts)
+}
+
+/// The bytes of the list, where they are one to four.
+fn near_of(firsts: &[u8]) -> Option<[u8; 4]>
+    ensures same { AreNear result firsts.now }
+    ensures some { IsSome result ↔ (0 < length firsts.now × length firsts.now ≤ 4) }
+{
+    match firsts {
+        [a] => Some([*a, *a, *a, *a]),
+        [a, b] => Some([*a, *b, *a, *b]),
+        [a, b, c] => Some([*a, *b, *c, *a]),
+        [a, b, c, d] => Some([*a, *b, *c, *d]),
+        _ => None,
+    }
+}
+
+fn is_first_of(byte: u8, opener: &[u8]) -> bool
+    ensures { result ≡ is_first_of byte opener.now }
+{
+    match opener {
+        [] => false,
+        [first, ..] => byte == *first,
+    }
+}
+
+/// Those of the openers that begin with the byte.
+fn with_first(alloc: Global, byte: u8, openers: &[String]) -> Result<Vec<String>, AllocError>
+    ensures { IfOk result (λ v. tokens_of v.items ≡ with_first byte (tokens_of openers.now)) }
+{
+    let mut out = Vec::new(alloc);
+    for opener in openers {
+        if is_first_of(byte, opener.as_bytes()) {
+            out.push(String::from_str(alloc, opener.as_str())?)?;
+        }
+    }
+    Ok(out)
+}
+
+/// For each of the first bytes the openers that begin with it.
+fn groups_of(
+    alloc: Global,
+    firsts: &[u8],
+    openers: &[String],
+) -> Result<Vec<OpenerGroup>, AllocError>
+    ensures { IfOk result (λ v. v.items ≡ map (λ x. with_first x (tokens_of openers.now)) firsts.now) }
+{
+    let mut groups = Vec::new(alloc);
+    for byte in firsts {
+        let group = OpenerGroup::new(alloc, with_first(alloc, *byte, openers)?)?;
+        match groups.push(group) {
+            Ok(()) => {}
+            Err(_refused) => return Err(AllocError),
+        }
+    }
+    Ok(groups)
+}
+
+/// The first place of the text whose byte is in the list of at most three.
+#[inline(always)]
+fn first_of_few(bytes: &[u8], text: &[u8]) -> Option<usize>
+    requires { length bytes.now ≤ 3 }
+    ensures { IsFirstByte (is_one_of bytes.now) text.now result }
+{
+    match bytes {
+        [] => None,
+        [a] => memchr(*a, text),
+        [a, b] => memchr2(*a, *b, text),
+        [a, b, c, ..] => memchr3(*a, *b, *c, text),
+    }
+}
+
+/// The first place of the text whose byte is in the list, by searches for three bytes at a time, each up to where the
+/// one before it ended.
+fn first_of(bytes: &[u8], text: &[u8]) -> Option<usize>
+    ensures { IsFirstByte (is_one_of bytes.now) text.now result }
+{
+    match bytes {
+        [a, b, c, others @ ..] => match memchr3(*a, *b, *c, text) {
+            Some(n) => match first_of(others, &text[..n]) {
+                Some(m) => Some(m),
+                None => Some(n),
+            },
+            None => first_of(others, text),
+        },
+        _ => first_of_few(bytes, text),
+    }
+}
+
+/// The same, in growing blocks, so that no search goes far past what another one finds.
+fn first_in_blocks(bytes: &[u8], text: &[u8]) -> Option<usize>
+    ensures { IsFirstByte (is_one_of bytes.now) text.now result }
+{
+    let mut from = 0;
+    let mut width = FIRST_BLOCK;
+    while from < text.len() {
+        let end = from + width.min(text.len() - from);
+        if let Some(n) = first_of(bytes, &text[from..end]) {
+            return Some(from + n);
+        }
+        from = end;
+        width = (width * 2).min(LARGEST_BLOCK);
+    }
+    None
+}
+
+/// The first place of the text whose byte is in the list.
+fn first_of_any(bytes: &[u8], text: &[u8]) -> Option<usize>
+    ensures { IsFirstByte (is_one_of bytes.now) text.now result }
+{
+    if bytes.len() <= 3 {
+        first_of_few(bytes, text)
+    } else {
+        first_in_blocks(bytes, text)
+    }
+}
+
+/// The first place of the text, from a place on, whose byte is in the list; the text's length where there is none. It
+/// stands in no caller's code, since most hits are close by.
+#[inline(never)]
+fn first_among(bytes: &[u8], text: &[u8], from: usize) -> usize
+    requires { from ≤ length text.now }
+    ensures low { from ≤ result }
+    ensures within { result ≤ length text.now }
+    ensures passed { (k : ℕ) → from ≤ k → k < result → is_one_of bytes.now (slice_index text.now k) ≡ false }
+    ensures found { result < length text.now → is_one_of bytes.now (slice_index text.now result) ≡ true }
+{
+    match first_of_any(bytes, &text[from..]) {
+        Some(n) => from + n,
+        None => text.len(),
+    }
+}
+
+/// The same, where up to four bytes are searched for, named by both lists: mostly the first place is close by.
+#[inline(always)]
+fn first_near(near: [u8; 4], bytes: &[u8], text: &[u8], from: usize) -> usize
+    requires order { from ≤ length text.now }
+    requires same { SameBytes near bytes.now }
+    ensures low { from ≤ result }
+    ensures within { result ≤ length text.now }
+    ensures passed { (k : ℕ) → from ≤ k → k < result → is_one_of bytes.now (slice_index text.now k) ≡ false }
+    ensures found { result < length text.now → is_one_of bytes.now (slice_index text.now result) ≡ true }
+{
+    let end = from + NEAR.min(text.len() - from);
+    let [a, b, c, d] = near;
+    // two bytes are half the work of four
+    let at = if c == a && d == b {
+        first_of_four([a, b, a, b], text, from, end)
+    } else {
+        first_of_four(near, text, from, end)
+    };
+    if at < end {
+        return at;
+    }
+    first_among(bytes, text, end)
+}
+
+impl OpenerIndex {
+    /// Whether none of the texts is empty.
+    pub fn are_nonempty(texts: &[&str]) -> bool
+        ensures { result ≡ list_all is_nonempty (map (λ t. t.now) texts.now) }
+    {
+        for text in texts {
+            if text.as_bytes().is_empty() {
+                return false;
+            }
+        }
+        true
+    }
+
+    /// The index of these openers, of which none is empty. It fails where memory runs out.
+    pub fn new(alloc: Global, openers: &[&str]) -> Result<OpenerIndex, AllocError>
+        requires { list_all is_nonempty (map (λ o. o.now) openers.now) ≡ true }
+        ensures { IfOk result (λ x. x ≡ map (λ o. o.now) openers.now) }
+    {
+        let mut owned = Vec::new(alloc);
+        for opener in openers {
+            owned.push(String::from_str(alloc, *opener)?)?;
+        }
+        OpenerIndex::of_texts(alloc, owned)
+    }
+
+    /// The same, of owned texts.
+    pub fn of_texts(alloc: Global, openers: Vec<String>) -> Result<OpenerIndex, AllocError>
+        requires { list_all is_nonempty (tokens_of openers.items) ≡ true }
+        ensures { IfOk result (λ x. x ≡ tokens_of openers.items) }
+    {
+        let firsts = first_bytes(alloc, &openers)?;
+        let near = near_of(&firsts);
+        let groups = groups_of(alloc, &firsts, &openers)?;
+        Ok(OpenerIndex {
+            openers,
+            firsts,
+            near,
+            groups,
+        })
+    }
+
+    /// The openers that begin with the byte, where there are any.
+    #[inline(always)]
+    fn group_of(&self, byte: u8) -> Option<&OpenerGroup>
+        ensures firsts { IfSome result (λ g. list_all (is_first_of byte) g.now ≡ true) }
+        ensures group { MatchOption result ((t : List ℕ) → begins_with_one self.entry.now (byte ∷ t) ≡ false)
+            (λ g. (t : List ℕ) → begins_with_one g.now (byte ∷ t) ≡ begins_with_one self.entry.now (byte ∷ t)) }
+    {
+        for (i, first) in self.firsts.iter().enumerate() {
+            if byte == *first {
+                return Some(&self.groups[i]);
+            }
+        }
+        None
+    }
+
+    /// The first place, from a place on, at which an opener can stand by its first byte; the text's length where there
+    /// is none.
+    #[inline(always)]
+    fn next_first(&self, text: &[u8], from: usize) -> usize
+        requires { from ≤ length text.now }
+        ensures low { from ≤ result }
+        ensures within { result ≤ length text.now }
+        ensures none { (k : ℕ) → from ≤ k → k < result → begins_with_one self.now (drop k text.now) ≡ false }
+    {
+        match self.near {
+            Some(near) => first_near(near, &self.firsts, text, from),
+            None => first_among(&self.firsts, text, from),
+        }
+    }
+
+    /// Whether an opener stands at the place.
+    #[inline(always)]
+    fn stands_at(&self, text: &[u8], at: usize) -> bool
+        requires { at < length text.now }
+        ensures { result ≡ begins_with_one self.now (drop at text.now) }
+    {
+        match self.group_of(text[at]) {
+            Some(group) => group.stands(text, at),
+            None => false,
+        }
+    }
+
+    /// Up to which place no opener stands, from a place on and mostly no further than `to`. The byte, with which those
+    /// of the group begin, is told by the one behind it. It stands in no caller's code, since it is rarely run.
+    #[inline(never)]
+    fn passed_by_pairs(
+        &self,
+        group: &OpenerGroup,
+        byte: u8,
+        text: &[u8],
+        from: usize,
+        to: usize,
+    ) -> usize
+        requires order { from ≤ to }
+        requires inside { to ≤ length text.now }
+        requires group { (t : List ℕ) → begins_with_one group.now (byte ∷ t) ≡ begins_with_one self.now (byte ∷ t) }
+        ensures low { from ≤ result }
+        ensures within { result ≤ length text.now }
+        ensures none { (k : ℕ) → from ≤ k → k < result → begins_with_one self.now (drop k text.now) ≡ false }
+    {
+        let mut at = from;
+        if let (Some(near), Some(seconds)) = (self.near, group.few_seconds()) {
+            while at < to {
+                at = next_pair(near, byte, seconds, text, at, to);
+                if to <= at || self.stands_at(text, at) {
+                    return at;
+                }
+                at += 1;
+            }
+        }
+        at
+    }
+
+    /// Up to which place no opener stands, from a place on at which one of the group can stand but doesn't. In the
+    /// `width` bytes behind it other places are passed over that need no more than a look at two bytes.
+    #[inline(always)]
+    fn passed(&self, group: &OpenerGroup, text: &[u8], at: usize, width: usize) -> usize
+        requires inside { at < length text.now }
+        requires group { (t : List ℕ) → begins_with_one group.now (slice_index text.now at ∷ t)
+            ≡ begins_with_one self.now (slice_index text.now at ∷ t) }
+        ensures low { at < result }
+        ensures within { result ≤ length text.now }
+        ensures none { (k : ℕ) → at + 1 ≤ k → k < result → begins_with_one self.now (drop k text.now) ≡ false }
+    {
+        let from = at + 1;
+        if width == 0 {
+            return group.passed(text[at], text, from);
+        }
+        let to = from + width.min(text.len() - from);
+        self.passed_by_pairs(group, text[at], text, from, to)
+    }
+
+    /// The least place of the text at which some opener stands, None where there is none. It takes no memory.
+    pub fn first_in(&self, text: &[u8]) -> Option<usize>
+        ensures { result ≡ first_opener self.now text.now }
+    {
+        let mut from = 0;
+        // how far bytes are told by those behind them: where such come close behind one another
+        let mut width = 0;
+        while from < text.len() {
+            let at = self.next_first(text, from);
+            if at == text.len() {
+                return None;
+            }
+            width = if at - from < CLOSE {
+                (width * 2 + FIRST_WIDTH).min(LARGEST_BLOCK)
+            } else {
+                0
+            };
+            from = match self.group_of(text[at]) {
+                Some(group) => {
+                    if group.stands(text, at) {
+                        return Some(at);
+                    }
+                    self.passed(group, text, at, width)
+                }
+                None => at + 1,
+            };
+        }
+        None
+    }
+}

@@ -1,2 +1,0 @@
-pub mod LeastBoundary
-pub mod Units

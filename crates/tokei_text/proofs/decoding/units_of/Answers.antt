@@ -1,6 +1,0 @@
-use Rattle.std.proofs.Common.{rules, sym}
-use Rattle.tokei_text.proofs.Units.{units_of_pairs}
-use Rattle.tokei_text.proofs.decoding.units_of.Goals as goal
-
-pub returns : goal.returns
-returns c = rw (sym (units_of_pairs c.args.order c.args.bytes.now)) (search rules)
