@@ -7,8 +7,8 @@ use Rattle.tokei_json.specs.Document.{document}
 use Rattle.tokei_table.specs.Row.{Row}
 use Rattle.tokei_job.specs.declared.job.Job.{Job}
 use Rattle.tokei_job.specs.declared.job.Wanted.{Wanted}
-use Rattle.tokei_job.specs.declared.job.Wanted.TheVariants.{Stream, Document, Table}
-use Rattle.tokei.specs.Written.{AppendsTable}
+use Rattle.tokei_job.specs.declared.job.Wanted.TheVariants.{Stream, Document, Report}
+use Rattle.tokei.specs.Written.{AppendsReport}
 use Rattle.tokei_stream.specs.JobStreams.{WritesStream}
 use Rattle.tokei.specs.Runs.{languages_after}
 
@@ -17,11 +17,11 @@ abbrev pub WritesDocument : List Row → Job → Tree → Option (List ℕ) → 
 WritesDocument rows job t old new = Appends old new (compact_text (document rows (languages_after rows job t)))
 
 -- the report of a job's languages is written
-abbrev pub WritesTable : List Row → Job → Tree → Option (List ℕ) → Option (List ℕ) → Type 0
-WritesTable rows job t old new = AppendsTable rows job (languages_after rows job t) old new
+abbrev pub WritesReport : List Row → Job → Tree → Option (List ℕ) → Option (List ℕ) → Type 0
+WritesReport rows job t old new = AppendsReport rows job (languages_after rows job t) old new
 
 -- what a run writes
 abbrev pub Outputs : Wanted → List Row → Job → Tree → Option (List ℕ) → Option (List ℕ) → Type 0
 Outputs (Document format) rows job t old new = WritesDocument rows job t old new
-Outputs Table rows job t old new = WritesTable rows job t old new
+Outputs Report rows job t old new = WritesReport rows job t old new
 Outputs (Stream form) rows job t old new = WritesStream form rows job t old new

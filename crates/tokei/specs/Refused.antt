@@ -2,10 +2,10 @@
 -- written as its files are counted, so the rows of the first ones may stand.
 use Rattle.std.specs.Prelude.{◌≡◌, ℕ, List, Option, ⊤}
 use Rattle.tokei_job.specs.declared.job.Wanted.{Wanted}
-use Rattle.tokei_job.specs.declared.job.Wanted.TheVariants.{Stream, Document, Table}
+use Rattle.tokei_job.specs.declared.job.Wanted.TheVariants.{Stream, Document, Report}
 
 -- a document or a report isn't begun: the writer holds what it held
 abbrev pub IsUntouched : Wanted → Option (List ℕ) → Option (List ℕ) → Type 0
 IsUntouched (Document format) old new = new ≡ old
-IsUntouched Table old new = new ≡ old
+IsUntouched Report old new = new ≡ old
 IsUntouched (Stream form) old new = ⊤

@@ -9,10 +9,10 @@ use Rattle.tokei_stats.specs.Overflow.{CountsFit}
 use Rattle.tokei_table.specs.Row.{Row}
 use Rattle.tokei_job.specs.declared.job.Job.{Job}
 use Rattle.tokei_job.specs.declared.job.Wanted.{Wanted}
-use Rattle.tokei_job.specs.declared.job.Wanted.TheVariants.{Stream, Document, Table}
+use Rattle.tokei_job.specs.declared.job.Wanted.TheVariants.{Stream, Document, Report}
 use Rattle.tokei_job.specs.Earlier.{earlier_of}
 use Rattle.tokei.specs.Written.{sort_of, style_of}
-use Rattle.tokei_print.specs.ReportSums.{TableFits}
+use Rattle.tokei_print.specs.ReportSums.{PrintedReportFits}
 use Rattle.tokei_stream.specs.Counted.{counting_of, files_of}
 use Rattle.tokei_stream.specs.JobStreams.{StreamFits}
 use Rattle.tokei.specs.Runs.{languages_after}
@@ -27,18 +27,18 @@ pub record DocumentFits (rows : List Row) (job : Job) (t : Tree) : Type 0 where
   pub total : CountsFit (languages_summary (languages_after rows job t))
 
 -- those of a run that writes a report
-pub record RunTableFits (rows : List Row) (job : Job) (t : Tree) : Type 0 where
+pub record RunReportFits (rows : List Row) (job : Job) (t : Tree) : Type 0 where
   pub tally : TallyFits rows job t
-  pub table : TableFits (sort_of job) (style_of job) (languages_after rows job t)
+  pub table : PrintedReportFits (sort_of job) (style_of job) (languages_after rows job t)
 
 -- those of a run
 abbrev pub Fits : Wanted → List Row → Job → Tree → Type 0
 Fits (Document format) rows job t = DocumentFits rows job t
-Fits Table rows job t = RunTableFits rows job t
+Fits Report rows job t = RunReportFits rows job t
 Fits (Stream form) rows job t = StreamFits rows job t
 
 -- what a run has tested of earlier results: a stream, which doesn't show them, renews their counts all the same
 abbrev pub EarlierFits : Wanted → Job → Type 0
 EarlierFits (Document format) job = ⊤
-EarlierFits Table job = ⊤
+EarlierFits Report job = ⊤
 EarlierFits (Stream form) job = RenewalFits (earlier_of job.earlier)

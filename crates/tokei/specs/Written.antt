@@ -6,7 +6,7 @@ use Rattle.tokei_config.specs.Seen.{settings_of}
 use Rattle.tokei_job.specs.declared.job.Job.{Job}
 use Rattle.tokei_languages.specs.Values.{LanguageValue}
 use Rattle.tokei_options.specs.declared.sort.Sort.{Sort}
-use Rattle.tokei_print.specs.PrintedReports.{IsTable}
+use Rattle.tokei_print.specs.PrintedReports.{IsPrintedReport}
 use Rattle.tokei_print.specs.declared.style.ReportStyle.{ReportStyle}
 use Rattle.tokei_table.specs.Row.{Row}
 
@@ -26,8 +26,8 @@ style_of job = record {
 }
 
 -- behind what stood there a writer has the report of languages, and nothing else
-pub record AppendsTable (rows : List Row) (job : Job) (languages : List (ℕ × LanguageValue))
+pub record AppendsReport (rows : List Row) (job : Job) (languages : List (ℕ × LanguageValue))
     (old new : Option (List ℕ)) : Type 0 where
   pub text : List ℕ
-  pub report : IsTable (sort_of job) rows (style_of job) languages text
+  pub report : IsPrintedReport (sort_of job) rows (style_of job) languages text
   pub appended : Appends old new text

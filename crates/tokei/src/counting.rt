@@ -7,6 +7,7 @@ ghost use Rattle.tokei_walk.specs.Walks.{texts_of};
 ghost use Rattle.tokei_job.specs.declared.error.RunError.TheVariants.{Overflow as SumOverflow, Write};
 ghost use Rattle.tokei.specs.Runs.{languages_after};
 ghost use Rattle.tokei.specs.Sums.{TallyFits};
+ghost use Rattle.tokei_folders.specs.AsTheyWere.{SameTree, NoFault};
 
 use std::alloc::Global;
 use tokei_folders::Folders;
@@ -31,15 +32,14 @@ pub(crate) fn tally_of<F: Folders>(
     folders: &mut F,
     job: &Job,
 ) -> Result<Tally, RunError>
-    ensures same { F.tree folders.new ≡ F.tree folders.old }
+    ensures same { SameTree F.tree folders.old folders.new }
     ensures told { Told (F.tree folders.old) (λ t. IfOk result (λ tally.
         languages_of tally.languages ≡ languages_after table.now job.now t)) }
     ensures unwritten { result ≢ Err Write }
     ensures overflow { result ≡ Err SumOverflow → Told (F.tree folders.old) (λ t. ¬ TallyFits table.now job.now t) }
     ensures notes { IfOk result (λ tally.
         Grows (notes_of_excludes (texts_of job.now.ignored.items)) tally.notes.items) }
-    ensures honest { OnOk result (F.memory_faults folders.old < u64.MAX
-        → F.memory_faults folders.new ≡ F.memory_faults folders.old) }
+    ensures honest { NoFault F.memory_faults folders.old folders.new result }
 {
     let mut languages = earlier_languages(alloc, job)?;
     let notes = languages.get_statistics(table, folders, &job.paths, &job.ignored, &job.config)?;

@@ -2,12 +2,14 @@
 ghost use Rattle.std.specs.Prelude.{◌≡◌, ◌≢◌, ◌<◌, Err, IfErr, OnOk};
 ghost use Rattle.tokei_folders.specs.Answers.{Told};
 ghost use Rattle.tokei_job.specs.declared.error.RunError.TheVariants.{Overflow as SumOverflow, Write as WriteFault};
-ghost use Rattle.tokei.specs.Output.{Outputs, WritesDocument, WritesTable};
+ghost use Rattle.tokei.specs.Output.{Outputs, WritesDocument, WritesReport};
 ghost use Rattle.tokei.specs.Refused.{IsUntouched};
-ghost use Rattle.tokei.specs.Sums.{DocumentFits, EarlierFits, Fits, RunTableFits};
+ghost use Rattle.tokei.specs.Sums.{DocumentFits, EarlierFits, Fits, RunReportFits};
+ghost use Rattle.tokei_folders.specs.AsTheyWere.{SameTree, NoFault};
+ghost use Rattle.tokei_io.specs.Faults.{TellsFault, PassesNoFault};
 
 use crate::counting::tally_of;
-use crate::writing::{put_document, put_table};
+use crate::writing::{put_document, put_report};
 use std::alloc::Global;
 use tokei_earlier::Format;
 use tokei_folders::Folders;
@@ -25,18 +27,15 @@ fn write_document<F: Folders, W: Sink>(
     job: &Job,
     writer: &mut W,
 ) -> Result<Vec<Note>, RunError>
-    ensures same { F.tree folders.new ≡ F.tree folders.old }
+    ensures same { SameTree F.tree folders.old folders.new }
     ensures told { Told (F.tree folders.old) (λ t. OnOk result (WritesDocument
         table.now job.now t (W.contents writer.old) (W.contents writer.new))) }
     ensures overflow { result ≡ Err SumOverflow → Told (F.tree folders.old) (λ t.
         ¬ DocumentFits table.now job.now t) }
     ensures untouched { IfErr result (λ e. e ≢ WriteFault → W.contents writer.new ≡ W.contents writer.old) }
-    ensures fault { W.faults writer.old < u64.MAX → result ≡ Err WriteFault
-        → W.faults writer.old < W.faults writer.new }
-    ensures no_fault { W.faults writer.old < u64.MAX → result ≢ Err WriteFault
-        → W.faults writer.new ≡ W.faults writer.old }
-    ensures honest { OnOk result (F.memory_faults folders.old < u64.MAX
-        → F.memory_faults folders.new ≡ F.memory_faults folders.old) }
+    ensures fault { TellsFault W.faults writer.old writer.new result WriteFault }
+    ensures no_fault { PassesNoFault W.faults writer.old writer.new result WriteFault }
+    ensures honest { NoFault F.memory_faults folders.old folders.new result }
 {
     let tally = tally_of(alloc, table, folders, job)?;
     put_document(alloc, table, &tally.languages, writer)?;
@@ -44,28 +43,25 @@ fn write_document<F: Folders, W: Sink>(
 }
 
 /// Counts the files of a job, and writes the report of what was counted.
-fn write_table<F: Folders, W: Sink>(
+fn write_report<F: Folders, W: Sink>(
     alloc: Global,
     table: &LanguageTable,
     folders: &mut F,
     job: &Job,
     writer: &mut W,
 ) -> Result<Vec<Note>, RunError>
-    ensures same { F.tree folders.new ≡ F.tree folders.old }
-    ensures told { Told (F.tree folders.old) (λ t. OnOk result (WritesTable
+    ensures same { SameTree F.tree folders.old folders.new }
+    ensures told { Told (F.tree folders.old) (λ t. OnOk result (WritesReport
         table.now job.now t (W.contents writer.old) (W.contents writer.new))) }
     ensures overflow { result ≡ Err SumOverflow → Told (F.tree folders.old) (λ t.
-        ¬ RunTableFits table.now job.now t) }
+        ¬ RunReportFits table.now job.now t) }
     ensures untouched { IfErr result (λ e. e ≢ WriteFault → W.contents writer.new ≡ W.contents writer.old) }
-    ensures fault { W.faults writer.old < u64.MAX → result ≡ Err WriteFault
-        → W.faults writer.old < W.faults writer.new }
-    ensures no_fault { W.faults writer.old < u64.MAX → result ≢ Err WriteFault
-        → W.faults writer.new ≡ W.faults writer.old }
-    ensures honest { OnOk result (F.memory_faults folders.old < u64.MAX
-        → F.memory_faults folders.new ≡ F.memory_faults folders.old) }
+    ensures fault { TellsFault W.faults writer.old writer.new result WriteFault }
+    ensures no_fault { PassesNoFault W.faults writer.old writer.new result WriteFault }
+    ensures honest { NoFault F.memory_faults folders.old folders.new result }
 {
     let tally = tally_of(alloc, table, folders, job)?;
-    put_table(alloc, table, job, tally.languages, writer)?;
+    put_report(alloc, table, job, tally.languages, writer)?;
     Ok(tally.notes)
 }
 
@@ -82,7 +78,7 @@ pub fn run<F: Folders, W: Sink>(
     job: &Job,
     writer: &mut W,
 ) -> Result<Vec<Note>, RunError>
-    ensures same { F.tree folders.new ≡ F.tree folders.old }
+    ensures same { SameTree F.tree folders.old folders.new }
     ensures told { Told (F.tree folders.old) (λ t. OnOk result (Outputs job.now.wanted
         table.now job.now t (W.contents writer.old) (W.contents writer.new))) }
     ensures overflow { result ≡ Err SumOverflow → Told (F.tree folders.old) (λ t.
@@ -90,12 +86,9 @@ pub fn run<F: Folders, W: Sink>(
     ensures untouched { IfErr result (λ e. e ≢ WriteFault
         → IsUntouched job.now.wanted (W.contents writer.old) (W.contents writer.new)) }
     ensures earlier { OnOk result (EarlierFits job.now.wanted job.now) }
-    ensures fault { W.faults writer.old < u64.MAX → result ≡ Err WriteFault
-        → W.faults writer.old < W.faults writer.new }
-    ensures no_fault { W.faults writer.old < u64.MAX → result ≢ Err WriteFault
-        → W.faults writer.new ≡ W.faults writer.old }
-    ensures honest { OnOk result (F.memory_faults folders.old < u64.MAX
-        → F.memory_faults folders.new ≡ F.memory_faults folders.old) }
+    ensures fault { TellsFault W.faults writer.old writer.new result WriteFault }
+    ensures no_fault { PassesNoFault W.faults writer.old writer.new result WriteFault }
+    ensures honest { NoFault F.memory_faults folders.old folders.new result }
 {
     match &job.wanted {
         Wanted::Stream(form) => {
@@ -107,6 +100,6 @@ pub fn run<F: Folders, W: Sink>(
             stream(&rows, folders, job, writer)
         }
         Wanted::Document(Format::Json) => write_document(alloc, table, folders, job, writer),
-        Wanted::Table => write_table(alloc, table, folders, job, writer),
+        Wanted::Report => write_report(alloc, table, folders, job, writer),
     }
 }

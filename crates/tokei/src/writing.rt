@@ -7,15 +7,16 @@ ghost use Rattle.tokei_languages.specs.Seen.{languages_of};
 ghost use Rattle.tokei_languages.specs.Summaries.{languages_summary};
 ghost use Rattle.tokei_stats.specs.Overflow.{CountsFit};
 ghost use Rattle.tokei_job.specs.declared.error.RunError.TheVariants.{Overflow as SumOverflow, Write as WriteFault};
-ghost use Rattle.tokei.specs.Written.{sort_of, style_of, AppendsTable};
-ghost use Rattle.tokei_print.specs.ReportSums.{TableFits};
+ghost use Rattle.tokei.specs.Written.{sort_of, style_of, AppendsReport};
+ghost use Rattle.tokei_print.specs.ReportSums.{PrintedReportFits};
+ghost use Rattle.tokei_io.specs.Faults.{TellsFault, PassesNoFault};
 
 use std::alloc::Global;
 use tokei_earlier::Format;
 use tokei_io::Sink;
 use tokei_job::{Job, RunError, put};
 use tokei_languages::Languages;
-use tokei_print::{ReportStyle, table_text};
+use tokei_print::{ReportStyle, text_of_report};
 use tokei_table::LanguageTable;
 
 /// Puts the document of languages behind what stands in the writer. Where memory runs out, or a sum passes the
@@ -30,10 +31,8 @@ pub fn put_document<W: Sink>(
         (compact_text (document table.now (languages_of languages.now)))) }
     ensures overflow { result ≡ Err SumOverflow → ¬ CountsFit (languages_summary (languages_of languages.now)) }
     ensures untouched { IfErr result (λ e. e ≢ WriteFault → W.contents writer.new ≡ W.contents writer.old) }
-    ensures fault { W.faults writer.old < u64.MAX → result ≡ Err WriteFault
-        → W.faults writer.old < W.faults writer.new }
-    ensures no_fault { W.faults writer.old < u64.MAX → result ≢ Err WriteFault
-        → W.faults writer.new ≡ W.faults writer.old }
+    ensures fault { TellsFault W.faults writer.old writer.new result WriteFault }
+    ensures no_fault { PassesNoFault W.faults writer.old writer.new result WriteFault }
 {
     let text = Format::Json.print(alloc, table, languages)?;
     put(writer, text.as_bytes())
@@ -55,23 +54,21 @@ fn style_of(job: &Job) -> ReportStyle
 
 /// Puts the report of languages behind what stands in the writer, sorted where the job or its configuration says so.
 /// Where memory runs out, or a sum passes the greatest `usize`, nothing is written.
-pub fn put_table<W: Sink>(
+pub fn put_report<W: Sink>(
     alloc: Global,
     table: &LanguageTable,
     job: &Job,
     languages: Languages,
     writer: &mut W,
 ) -> Result<(), RunError>
-    ensures bytes { OnOk result (AppendsTable table.now job.now (languages_of languages)
+    ensures bytes { OnOk result (AppendsReport table.now job.now (languages_of languages)
         (W.contents writer.old) (W.contents writer.new)) }
     ensures overflow { result ≡ Err SumOverflow
-        → ¬ TableFits (sort_of job.now) (style_of job.now) (languages_of languages) }
+        → ¬ PrintedReportFits (sort_of job.now) (style_of job.now) (languages_of languages) }
     ensures untouched { IfErr result (λ e. e ≢ WriteFault → W.contents writer.new ≡ W.contents writer.old) }
-    ensures fault { W.faults writer.old < u64.MAX → result ≡ Err WriteFault
-        → W.faults writer.old < W.faults writer.new }
-    ensures no_fault { W.faults writer.old < u64.MAX → result ≢ Err WriteFault
-        → W.faults writer.new ≡ W.faults writer.old }
+    ensures fault { TellsFault W.faults writer.old writer.new result WriteFault }
+    ensures no_fault { PassesNoFault W.faults writer.old writer.new result WriteFault }
 {
-    let text = table_text(alloc, table, style_of(job), languages)?;
+    let text = text_of_report(alloc, table, style_of(job), languages)?;
     put(writer, &text)
 }

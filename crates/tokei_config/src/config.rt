@@ -68,11 +68,10 @@ impl Config {
         folders: &mut F,
         dirs: &ConfigDirs,
     ) -> Result<Config, AllocError>
-        ensures same { F.tree folders.new ≡ F.tree folders.old }
+        ensures same { SameTree F.tree folders.old folders.new }
         ensures told { Told (F.tree folders.old) (λ t. IfOk result (λ c. settings_of c
             ≡ configuration table.now t dirs.now)) }
-        ensures honest { OnOk result (F.memory_faults folders.old < u64.MAX
-            → F.memory_faults folders.new ≡ F.memory_faults folders.old) }
+        ensures honest { NoFault F.memory_faults folders.old folders.new result }
     {
         let current = config_in(alloc, table, folders, &dirs.current)?;
         let home = config_in(alloc, table, folders, &dirs.home)?;
@@ -140,6 +139,7 @@ impl Config {
 
 ghost use Rattle.std.specs.Prelude.{◌≡◌, ◌++◌, ◌∷◌, [], map, OnOk, string_bytes};
 ghost use Rattle.tokei_table.specs.Extended.{addition_of};
+ghost use Rattle.tokei_folders.specs.AsTheyWere.{SameTree, NoFault};
 
 /// Adds a language and the extensions that it gains.
 fn add<'a>(

@@ -5,6 +5,7 @@ ghost use Rattle.tokei_config.specs.Files.{as_text, text_at, settings_of_folder}
 ghost use Rattle.tokei_config.specs.Seen.{settings_of};
 ghost use Rattle.tokei_folders.specs.Answers.{Told};
 ghost use Rattle.tokei_folders.specs.Tree.{names_of};
+ghost use Rattle.tokei_folders.specs.AsTheyWere.{SameTree, NoFault};
 
 use crate::config::Config;
 use crate::document::config_of_text;
@@ -50,11 +51,10 @@ fn config_at<F: Folders>(
     folder: &str,
     name: &str,
 ) -> Result<Option<Config>, AllocError>
-    ensures same { F.tree folders.new ≡ F.tree folders.old }
+    ensures same { SameTree F.tree folders.old folders.new }
     ensures told { Told (F.tree folders.old) (λ t. IfOk result (λ c. option_map settings_of c
         ≡ option_map (settings_of_text table.now) (text_at t (names_of folder.now) name.now))) }
-    ensures honest { OnOk result (F.memory_faults folders.old < u64.MAX
-        → F.memory_faults folders.new ≡ F.memory_faults folders.old) }
+    ensures honest { NoFault F.memory_faults folders.old folders.new result }
 {
     let place = joined(alloc, folder, name)?;
     match folders.read(place.as_str()) {
@@ -71,11 +71,10 @@ pub(crate) fn config_in<F: Folders>(
     folders: &mut F,
     folder: &Option<String>,
 ) -> Result<Config, AllocError>
-    ensures same { F.tree folders.new ≡ F.tree folders.old }
+    ensures same { SameTree F.tree folders.old folders.new }
     ensures told { Told (F.tree folders.old) (λ t. IfOk result (λ c. settings_of c
         ≡ settings_of_folder table.now t folder.now)) }
-    ensures honest { OnOk result (F.memory_faults folders.old < u64.MAX
-        → F.memory_faults folders.new ≡ F.memory_faults folders.old) }
+    ensures honest { NoFault F.memory_faults folders.old folders.new result }
 {
     let Some(folder) = folder else {
         return Ok(Config::new());

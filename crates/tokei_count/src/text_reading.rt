@@ -63,7 +63,7 @@ fn is_notebook(syntax: &Syntax) -> bool
 }
 
 /// What the lines of a doc comment say, where the child's text stands in some.
-fn said(alloc: Global, child: &Block) -> Result<Vec<u8>, AllocError>
+fn doc_contents(alloc: Global, child: &Block) -> Result<Vec<u8>, AllocError>
     ensures { IfOk result (λ v. child.now.is_doc ≡ true → v.items ≡ doc_text child.now.contents.now) }
 {
     if child.is_doc {
@@ -338,7 +338,7 @@ fn read_child<'a>(
     ensures overflow { IsErrOf result CountError.Overflow
         → ¬ Fits (reading_inside reading.now (block_of child.now)) }
 {
-    let doc = said(reader.alloc, child)?;
+    let doc = doc_contents(reader.alloc, child)?;
     let inner = if child.is_doc {
         trim(&doc)
     } else {

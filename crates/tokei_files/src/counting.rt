@@ -7,6 +7,7 @@ ghost use Rattle.tokei_folders.specs.Answers.{Told};
 ghost use Rattle.tokei_files.specs.declared.error.ParseFault.TheVariants.{Refused as NotRead, Memory as OutOfMemory, Overflow as TooMany};
 ghost use Rattle.tokei_files.specs.Contents.{content_at};
 ghost use Rattle.tokei_files.specs.ContentStatistics.{stats_at, stats_in};
+ghost use Rattle.tokei_folders.specs.AsTheyWere.{SameTree, FaultsStay};
 
 use crate::contents::content;
 use crate::error::ParseFault;
@@ -43,7 +44,7 @@ impl Counting<'_> {
 
     /// The statistics of the file at a place, in a language. A file that the walk has just listed is opened without being
     /// asked for once more.
-    pub fn read<F: Folders>(
+    pub fn count_file<F: Folders>(
         &self,
         folders: &mut F,
         language: LanguageType,
@@ -51,15 +52,14 @@ impl Counting<'_> {
         listed: bool,
     ) -> Result<CodeStats, ParseFault>
         requires { language < length self.now.counter.now }
-        ensures same { F.tree folders.new ≡ F.tree folders.old }
+        ensures same { SameTree F.tree folders.old folders.new }
         ensures told { Told (F.tree folders.old) (λ t. IfOk result (λ s. Some (stats_of s)
             ≡ stats_at t self.now.counter.now (docs_of self.now.config) language place.now)) }
         ensures refused { result ≡ Err NotRead → Told (F.tree folders.old) (λ t.
             content_at t place.now ≡ None) }
         ensures overflow { result ≡ Err TooMany → Told (F.tree folders.old) (λ t. IsSomeAnd
             (stats_at t self.now.counter.now (docs_of self.now.config) language place.now) (λ s. ¬ Fits s)) }
-        ensures honest { result ≢ Err OutOfMemory → F.memory_faults folders.old < u64.MAX
-            → F.memory_faults folders.new ≡ F.memory_faults folders.old }
+        ensures honest { result ≢ Err OutOfMemory → FaultsStay F.memory_faults folders.old folders.new }
     {
         let content = content(folders, place, listed)?;
         self.count(language, content)

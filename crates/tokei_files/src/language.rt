@@ -3,6 +3,7 @@ ghost use Rattle.std.specs.Prelude.{◌≡◌, ◌<◌, length, OnOk, IfOk, IfSo
 ghost use Rattle.tokei_folders.specs.Answers.{Told};
 ghost use Rattle.tokei_files.specs.Files.{counts, language_of_file};
 ghost use Rattle.tokei_files.specs.Seen.{counting_of};
+ghost use Rattle.tokei_folders.specs.AsTheyWere.{SameTree, NoFault};
 
 use crate::counting::Counting;
 use crate::paths::language_of_path;
@@ -27,12 +28,11 @@ impl Counting<'_> {
         folders: &mut F,
         file: &KeptFile,
     ) -> Result<Option<LanguageType>, AllocError>
-        ensures same { F.tree folders.new ≡ F.tree folders.old }
+        ensures same { SameTree F.tree folders.old folders.new }
         ensures told { Told (F.tree folders.old) (λ t. IfOk result (λ o.
             o ≡ language_of_file (counting_of self.now) t file.now)) }
         ensures of_table { IfOk result (λ o. IfSome o (λ l. l < length self.now.counter.now)) }
-        ensures honest { OnOk result (F.memory_faults folders.old < u64.MAX
-            → F.memory_faults folders.new ≡ F.memory_faults folders.old) }
+        ensures honest { NoFault F.memory_faults folders.old folders.new result }
     {
         let table = self.counter.table();
         match language_of_path(self.alloc, table, folders, file.place.as_str())? {

@@ -8,6 +8,7 @@ ghost use Rattle.tokei_files.specs.declared.error.ParseFault.TheVariants.{Refuse
 ghost use Rattle.tokei_files.specs.Configs.{is_on};
 ghost use Rattle.tokei_files.specs.Contents.{content_at};
 ghost use Rattle.tokei_files.specs.ContentStatistics.{stats_at};
+ghost use Rattle.tokei_folders.specs.AsTheyWere.{SameTree, NoFault, FaultsStay};
 
 use crate::counting::Counting;
 use crate::error::ParseFault;
@@ -29,7 +30,7 @@ pub fn parse_file<F: Folders>(
     config: &Config,
 ) -> Result<Report, (ParseFault, String)>
     requires { language < length counter.now }
-    ensures same { F.tree folders.new ≡ F.tree folders.old }
+    ensures same { SameTree F.tree folders.old folders.new }
     ensures told { Told (F.tree folders.old) (λ t. IfOk result (λ r. Some (stats_of r.stats)
         ≡ stats_at t counter.now (is_on (settings_of config.now).treat_doc_strings_as_comments) language (string_bytes path))) }
     ensures name { IfOk result (λ r. r.name ≡ path) }
@@ -38,10 +39,8 @@ pub fn parse_file<F: Folders>(
         content_at t (string_bytes path) ≡ None)) }
     ensures overflow { IfErr result (λ e. e.0 ≡ TooMany → Told (F.tree folders.old) (λ t. IsSomeAnd
         (stats_at t counter.now (is_on (settings_of config.now).treat_doc_strings_as_comments) language (string_bytes path)) (λ s. ¬ Fits s))) }
-    ensures honest { OnOk result (F.memory_faults folders.old < u64.MAX
-        → F.memory_faults folders.new ≡ F.memory_faults folders.old) }
-    ensures counted { IfErr result (λ e. e.0 ≢ OutOfMemory → F.memory_faults folders.old < u64.MAX
-        → F.memory_faults folders.new ≡ F.memory_faults folders.old) }
+    ensures honest { NoFault F.memory_faults folders.old folders.new result }
+    ensures counted { IfErr result (λ e. e.0 ≢ OutOfMemory → FaultsStay F.memory_faults folders.old folders.new) }
 {
     let reading = Counting {
         alloc,
@@ -49,7 +48,7 @@ pub fn parse_file<F: Folders>(
         config: config.counting(),
         types: None,
     };
-    match reading.read(folders, language, path.as_str(), false) {
+    match reading.count_file(folders, language, path.as_str(), false) {
         Ok(stats) => Ok(Report { stats, name: path }),
         Err(fault) => Err((fault, path)),
     }

@@ -3,6 +3,7 @@ ghost use Rattle.std.specs.Prelude.{◌≡◌, ◌<◌, length, IfOk, IfSome, On
 ghost use Rattle.tokei_config.specs.Seen.{settings_of};
 ghost use Rattle.tokei_folders.specs.Answers.{Told};
 ghost use Rattle.tokei_files.specs.Paths.{name_of, language_by_head, language_by_path, rows_by};
+ghost use Rattle.tokei_folders.specs.AsTheyWere.{SameTree, NoFault};
 
 use std::alloc::{AllocError, Global};
 use tokei_config::Config;
@@ -25,12 +26,11 @@ pub fn from_shebang<F: Folders>(
     folders: &mut F,
     path: &str,
 ) -> Result<Option<LanguageType>, AllocError>
-    ensures same { F.tree folders.new ≡ F.tree folders.old }
+    ensures same { SameTree F.tree folders.old folders.new }
     ensures told { Told (F.tree folders.old) (λ t. IfOk result (λ o.
         o ≡ language_by_head t table.now path.now)) }
     ensures of_table { IfOk result (λ o. IfSome o (λ l. l < length table.now)) }
-    ensures honest { OnOk result (F.memory_faults folders.old < u64.MAX
-        → F.memory_faults folders.new ≡ F.memory_faults folders.old) }
+    ensures honest { NoFault F.memory_faults folders.old folders.new result }
 {
     match folders.head(path) {
         Ok(head) => Ok(LanguageType::from_shebang_bytes(table, &head)),
@@ -47,12 +47,11 @@ pub fn language_of_path<F: Folders>(
     folders: &mut F,
     path: &str,
 ) -> Result<Option<LanguageType>, AllocError>
-    ensures same { F.tree folders.new ≡ F.tree folders.old }
+    ensures same { SameTree F.tree folders.old folders.new }
     ensures told { Told (F.tree folders.old) (λ t. IfOk result (λ o.
         o ≡ language_by_path t table.now path.now)) }
     ensures of_table { IfOk result (λ o. IfSome o (λ l. l < length table.now)) }
-    ensures honest { OnOk result (F.memory_faults folders.old < u64.MAX
-        → F.memory_faults folders.new ≡ F.memory_faults folders.old) }
+    ensures honest { NoFault F.memory_faults folders.old folders.new result }
 {
     let name = file_name(path);
     match LanguageType::from_file_name(alloc, table, name)? {
@@ -71,12 +70,11 @@ pub fn from_path<F: Folders>(
     path: &str,
     config: &Config,
 ) -> Result<Option<LanguageType>, AllocError>
-    ensures same { F.tree folders.new ≡ F.tree folders.old }
+    ensures same { SameTree F.tree folders.old folders.new }
     ensures told { Told (F.tree folders.old) (λ t. IfOk result (λ o.
         o ≡ language_by_path t (rows_by table.now (settings_of config.now)) path.now)) }
     ensures of_table { IfOk result (λ o. IfSome o (λ l. l < length table.now)) }
-    ensures honest { OnOk result (F.memory_faults folders.old < u64.MAX
-        → F.memory_faults folders.new ≡ F.memory_faults folders.old) }
+    ensures honest { NoFault F.memory_faults folders.old folders.new result }
 {
     let extended = config.extended_table(alloc, table)?;
     language_of_path(alloc, &extended, folders, path)

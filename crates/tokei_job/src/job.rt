@@ -12,7 +12,7 @@ pub enum Wanted {
     /// A document for other programs.
     Document(Format),
     /// The printed report.
-    Table,
+    Report,
 }
 
 /// A run: what is counted, and what is written of it.

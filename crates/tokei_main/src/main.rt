@@ -65,7 +65,7 @@ fn ended(rt: &HostRuntime, words: &[&str], variables: &Env) -> io::Result<ExitCo
 }
 
 /// The same with the variables that are set.
-fn ended_of(rt: &HostRuntime, words: &[String]) -> io::Result<ExitCode> {
+fn run_program(rt: &HostRuntime, words: &[String]) -> io::Result<ExitCode> {
     let words: Vec<&str> = words.iter().map(|word| word.as_str()).collect(rt.alloc())?;
     let variables = variables(rt)?;
     ended(rt, &words, &variables)
@@ -73,5 +73,5 @@ fn ended_of(rt: &HostRuntime, words: &[String]) -> io::Result<ExitCode> {
 
 fn main(rt: HostRuntime) -> io::Result<ExitCode> {
     let words = words(&rt)?;
-    ended_of(&rt, &words)
+    run_program(&rt, &words)
 }

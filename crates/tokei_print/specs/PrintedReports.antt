@@ -40,7 +40,7 @@ pub record IsReport (rows : List Row) (style : ReportStyle) (listed languages : 
   pub shown : text ≡ report_text layout rows style listed languages
 
 -- a text is the report of languages: in the table's order, or in the order of the sort
-abbrev pub IsTable : Option Sort → List Row → ReportStyle → List (ℕ × LanguageValue) → List ℕ → Type 0
-IsTable None rows style languages text = IsReport rows style languages languages text
-IsTable (Some sort) rows style languages text =
+abbrev pub IsPrintedReport : Option Sort → List Row → ReportStyle → List (ℕ × LanguageValue) → List ℕ → Type 0
+IsPrintedReport None rows style languages text = IsReport rows style languages languages text
+IsPrintedReport (Some sort) rows style languages text =
     IsReport rows style (listed_by sort style.reverse languages) (sorted_languages sort languages) text

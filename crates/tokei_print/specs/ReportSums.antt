@@ -14,7 +14,7 @@ pub record ReportFits (style : ReportStyle) (listed languages : List (ℕ × Lan
   pub total : TotalFits languages
 
 -- those of a report of these languages, in the order of its sort, if it has one
-abbrev pub TableFits : Option Sort → ReportStyle → List (ℕ × LanguageValue) → Type 0
-TableFits None style languages = ReportFits style languages languages
-TableFits (Some sort) style languages =
+abbrev pub PrintedReportFits : Option Sort → ReportStyle → List (ℕ × LanguageValue) → Type 0
+PrintedReportFits None style languages = ReportFits style languages languages
+PrintedReportFits (Some sort) style languages =
     ReportFits style (listed_by sort style.reverse languages) (sorted_languages sort languages)

@@ -28,7 +28,7 @@ pub use error::PrintError;
 pub use layout::Layout;
 pub use names::name_of;
 pub use printer::Printer;
-pub use report::table_text;
+pub use report::text_of_report;
 pub use stream_rows::{print_stream_heading, print_stream_row};
 pub use style::ReportStyle;
 pub use tokei_options::{

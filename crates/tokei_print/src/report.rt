@@ -3,9 +3,9 @@ ghost use Rattle.std.specs.Prelude.{◌≡◌, ◌≢◌, ◌≤◌, ◌++◌, E
 ghost use Rattle.tokei_languages.specs.Seen.{languages_of};
 ghost use Rattle.tokei_languages.specs.Sorting.{sorted_languages};
 ghost use Rattle.tokei_print.specs.ListedLanguages.{languages_in};
-ghost use Rattle.tokei_print.specs.PrintedReports.{columns_of, warning_of, IsReport, IsTable};
+ghost use Rattle.tokei_print.specs.PrintedReports.{columns_of, warning_of, IsReport, IsPrintedReport};
 ghost use Rattle.tokei_print.specs.Sorted.{listed_by};
-ghost use Rattle.tokei_print.specs.ReportSums.{ReportFits, TableFits};
+ghost use Rattle.tokei_print.specs.ReportSums.{ReportFits, PrintedReportFits};
 ghost use Rattle.tokei_stats.specs.declared.error.CountError.TheVariants.{Overflow};
 
 use crate::error::PrintError;
@@ -66,7 +66,7 @@ fn printed(
 }
 
 /// As `printed`. A writer in memory has no fault but that memory ran out.
-fn shown(
+fn text_in_memory(
     alloc: Global,
     table: &LanguageTable,
     style: ReportStyle,
@@ -98,7 +98,7 @@ fn report(
         → ¬ ReportFits style (languages_of languages.now) (languages_of languages.now) }
 {
     let all = listed(alloc, languages)?;
-    shown(alloc, table, style, &all, languages)
+    text_in_memory(alloc, table, style, &all, languages)
 }
 
 /// The report of languages in the order of the sort.
@@ -118,19 +118,19 @@ fn sorted_report(
 {
     let languages = languages.with_sorted_reports(sort)?;
     let all = in_list_order(alloc, sort, style.reverse, &languages)?;
-    shown(alloc, table, style, &all, &languages)
+    text_in_memory(alloc, table, style, &all, &languages)
 }
 
 /// The report of languages, sorted where its style says so. `Overflow` only where a sum that it shows passes the
 /// greatest `usize`, or `Memory`.
-pub fn table_text(
+pub fn text_of_report(
     alloc: Global,
     table: &LanguageTable,
     style: ReportStyle,
     languages: Languages,
 ) -> Result<Vec<u8>, CountError>
-    ensures text { IfOk result (λ v. IsTable style.sort table.now style (languages_of languages) v.items) }
-    ensures overflow { result ≡ Err Overflow → ¬ TableFits style.sort style (languages_of languages) }
+    ensures text { IfOk result (λ v. IsPrintedReport style.sort table.now style (languages_of languages) v.items) }
+    ensures overflow { result ≡ Err Overflow → ¬ PrintedReportFits style.sort style (languages_of languages) }
 {
     match style.sort {
         None => report(alloc, table, style, &languages),

@@ -2,7 +2,7 @@
 use Rattle.std.specs.Prelude.{◌≡◌, ℕ, List, Option, None, Some, Result, unwrap_or}
 use Rattle.std.specs.Result.{result_ok}
 use Rattle.tokei_job.specs.declared.job.Wanted.{Wanted}
-use Rattle.tokei_job.specs.declared.job.Wanted.TheVariants.{Stream, Document, Table}
+use Rattle.tokei_job.specs.declared.job.Wanted.TheVariants.{Stream, Document, Report}
 use Rattle.tokei_cli.specs.declared.cli.Cli.{Cli}
 use Rattle.tokei_earlier.specs.declared.format.Format.{Format}
 use Rattle.tokei_earlier.specs.declared.format.FormatError.{FormatError}
@@ -29,7 +29,7 @@ GivesColumn word r = result_ok r ≡ sort_of_word word
 abbrev pub wanted_of : Option Streaming → Option Format → Wanted
 wanted_of (Some form) output = Stream form
 wanted_of None (Some format) = Document format
-wanted_of None None = Table
+wanted_of None None = Report
 
 -- digits stand together where nothing else is asked for
 abbrev pub style_of : Option NumberFormatStyle → NumberFormatStyle

@@ -46,7 +46,7 @@ fn wanted(streaming: Option<Streaming>, output: Option<Format>) -> Wanted
     match (streaming, output) {
         (Some(form), _) => Wanted::Stream(form),
         (None, Some(format)) => Wanted::Document(format),
-        (None, None) => Wanted::Table,
+        (None, None) => Wanted::Report,
     }
 }
 

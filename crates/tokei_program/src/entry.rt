@@ -7,6 +7,7 @@ ghost use Rattle.tokei_program.specs.Beside.{IsBeside, SaysBeside, ShowsNotes};
 ghost use Rattle.tokei_program.specs.Messages.{Says};
 ghost use Rattle.tokei_program.specs.Statuses.{status_of};
 ghost use Rattle.tokei_program.specs.Writing.{Writes, WritesAsked, WritesCounts, WritesList};
+ghost use Rattle.tokei_folders.specs.AsTheyWere.{SameTree};
 
 use crate::choices::Choices;
 use crate::ending::Ending;
@@ -18,7 +19,7 @@ use std::alloc::Global;
 use tokei::{Folders, Sink, Source, run};
 use tokei_cli::{Cli, CliError, print_supported_languages};
 
-/// Counts what a command line names, and writes what it wants of that. What is to be said beside it is answered.
+/// Counts what a command line names, and writes what it wants of that. What is to be said beside it is answer_words.
 fn counted<F: Folders, S: Source, W: Sink>(
     alloc: Global,
     cli: &Cli,
@@ -29,7 +30,7 @@ fn counted<F: Folders, S: Source, W: Sink>(
     out: &mut W,
 ) -> Result<String, Ending>
     requires chosen { Chooses cli.now choices.wanted choices.sort choices.numbers }
-    ensures same { F.tree folders.new ≡ F.tree folders.old }
+    ensures same { SameTree F.tree folders.old folders.new }
     ensures told { Told (F.tree folders.old) (λ t. OnOk result (WritesCounts
         cli.now env.now t (S.remaining input.old) (W.contents out.old) (W.contents out.new))) }
     ensures beside { IfOk result (λ text. ShowsNotes cli.now (string_bytes text)) }
@@ -50,7 +51,7 @@ fn listed<F: Folders, W: Sink>(
     folders: &mut F,
     out: &mut W,
 ) -> Result<String, Ending>
-    ensures same { F.tree folders.new ≡ F.tree folders.old }
+    ensures same { SameTree F.tree folders.old folders.new }
     ensures told { Told (F.tree folders.old) (λ t. OnOk result (WritesList
         cli.now t (W.contents out.old) (W.contents out.new))) }
     ensures beside { IfOk result (λ text. ShowsNotes cli.now (string_bytes text)) }
@@ -64,7 +65,7 @@ fn listed<F: Folders, W: Sink>(
 
 /// Does what a command line asks for, and answers what is to be said on standard error beside it. A refused one is seen
 /// before anything is read or written.
-fn followed<F: Folders, S: Source, W: Sink>(
+fn carry_out<F: Folders, S: Source, W: Sink>(
     alloc: Global,
     cli: &Cli,
     env: &Env,
@@ -73,7 +74,7 @@ fn followed<F: Folders, S: Source, W: Sink>(
     out: &mut W,
 ) -> Result<String, Ending>
     requires named { inputs_of cli.now ≢ [] }
-    ensures same { F.tree folders.new ≡ F.tree folders.old }
+    ensures same { SameTree F.tree folders.old folders.new }
     ensures told { Told (F.tree folders.old) (λ t. OnOk result (WritesAsked
         cli.now env.now t (S.remaining input.old) (W.contents out.old) (W.contents out.new))) }
     ensures beside { IfOk result (λ text. ShowsNotes cli.now (string_bytes text)) }
@@ -90,7 +91,7 @@ fn followed<F: Folders, S: Source, W: Sink>(
 }
 
 /// Does what the words ask for, and answers what is to be said on standard error beside it.
-fn answered<F: Folders, S: Source, W: Sink>(
+fn answer_words<F: Folders, S: Source, W: Sink>(
     alloc: Global,
     words: &[&str],
     env: &Env,
@@ -98,7 +99,7 @@ fn answered<F: Folders, S: Source, W: Sink>(
     input: &mut S,
     out: &mut W,
 ) -> Result<String, Ending>
-    ensures same { F.tree folders.new ≡ F.tree folders.old }
+    ensures same { SameTree F.tree folders.old folders.new }
     ensures told { Told (F.tree folders.old) (λ t. OnOk result (Writes
         (map (λ w. w.now) words.now) env.now t (S.remaining input.old) (W.contents out.old) (W.contents out.new))) }
     ensures beside { IfOk result (λ text. IsBeside (map (λ w. w.now) words.now) (string_bytes text)) }
@@ -107,7 +108,7 @@ fn answered<F: Folders, S: Source, W: Sink>(
     ensures unread { IfErr result (λ e. status_of e ≡ 2 → (folders.new ≡ folders.old) × (input.new ≡ input.old)) }
 {
     match Cli::from_words(alloc, words) {
-        Ok(cli) => followed(alloc, &cli, env, folders, input, out),
+        Ok(cli) => carry_out(alloc, &cli, env, folders, input, out),
         Err(CliError::Asked(text)) => {
             put(out, text.as_str())?;
             Ok(String::new(alloc))
@@ -135,7 +136,7 @@ pub fn program<F: Folders, S: Source, W: Sink, E: Sink>(
     out: &mut W,
     err: &mut E,
 ) -> u8
-    ensures same { F.tree folders.new ≡ F.tree folders.old }
+    ensures same { SameTree F.tree folders.old folders.new }
     ensures written { Told (F.tree folders.old) (λ t. result ≡ 0 → Writes
         (map (λ w. w.now) words.now) env.now t (S.remaining input.old) (W.contents out.old) (W.contents out.new)) }
     ensures beside { result ≡ 0 → SaysBeside (map (λ w. w.now) words.now) (E.contents err.old) (E.contents err.new) }
@@ -147,7 +148,7 @@ pub fn program<F: Folders, S: Source, W: Sink, E: Sink>(
     ensures said { E.faults err.old < u64.MAX → E.faults err.new ≡ E.faults err.old
         → result ≡ 1 → Says (E.contents err.old) (E.contents err.new) }
 {
-    match answered(alloc, words, env, folders, input, out) {
+    match answer_words(alloc, words, env, folders, input, out) {
         Ok(text) => match put(err, text.as_str()) {
             Ok(()) => 0,
             Err(_) => 1,

@@ -10,6 +10,7 @@ ghost use Rattle.tokei_program.specs.Roots.{AllStand, stands};
 ghost use Rattle.tokei_program.specs.Statuses.{status_of};
 ghost use Rattle.tokei_program.specs.Tables.{table_at};
 ghost use Rattle.tokei_walk.specs.Walks.{texts_of};
+ghost use Rattle.tokei_folders.specs.AsTheyWere.{SameTree};
 
 use crate::choices::Choices;
 use crate::ending::Ending;
@@ -30,7 +31,7 @@ pub fn table_of<F: Folders>(
     cli: &Cli,
     folders: &mut F,
 ) -> Result<LanguageTable, Ending>
-    ensures same { F.tree folders.new ≡ F.tree folders.old }
+    ensures same { SameTree F.tree folders.old folders.new }
     ensures told { Told (F.tree folders.old) (λ t. IfOk result (λ rows. table_at t (table_named cli.now) ≡ Some (Ok rows))) }
     ensures failed { IfErr result (λ e. status_of e ≡ 1) }
 {
@@ -49,7 +50,7 @@ fn configuration<F: Folders>(
     table: &LanguageTable,
     folders: &mut F,
 ) -> Result<Config, Ending>
-    ensures same { F.tree folders.new ≡ F.tree folders.old }
+    ensures same { SameTree F.tree folders.old folders.new }
     ensures told { Told (F.tree folders.old) (λ t. IfOk result (IsConfig table.now cli.now env.now t)) }
     ensures failed { IfErr result (λ e. status_of e ≡ 1) }
 {
@@ -88,7 +89,7 @@ fn earlier_of<F: Folders, S: Source>(
     folders: &mut F,
     input: &mut S,
 ) -> Result<Languages, Ending>
-    ensures same { F.tree folders.new ≡ F.tree folders.old }
+    ensures same { SameTree F.tree folders.old folders.new }
     ensures told { Told (F.tree folders.old) (λ t. IfOk result (AreRead
         table.now (bytes_named t (S.remaining input.old) name.now))) }
     ensures failed { IfErr result (λ e. status_of e ≡ 1) }
@@ -111,7 +112,7 @@ fn earlier<F: Folders, S: Source>(
     folders: &mut F,
     input: &mut S,
 ) -> Result<Option<Languages>, Ending>
-    ensures same { F.tree folders.new ≡ F.tree folders.old }
+    ensures same { SameTree F.tree folders.old folders.new }
     ensures told { Told (F.tree folders.old) (λ t. IfOk result (AreEarlier
         table.now t (S.remaining input.old) (file_input_of cli.now))) }
     ensures failed { IfErr result (λ e. status_of e ≡ 1) }
@@ -124,7 +125,7 @@ fn earlier<F: Folders, S: Source>(
 
 /// Refuses a root at which nothing stands; the empty one is such.
 fn check_root<F: Folders>(alloc: Global, folders: &mut F, root: &str) -> Result<(), Ending>
-    ensures same { F.tree folders.new ≡ F.tree folders.old }
+    ensures same { SameTree F.tree folders.old folders.new }
     ensures told { Told (F.tree folders.old) (λ t. OnOk result (stands t root.now ≡ true)) }
     ensures failed { IfErr result (λ e. status_of e ≡ 1) }
 {
@@ -140,7 +141,7 @@ fn check_root<F: Folders>(alloc: Global, folders: &mut F, root: &str) -> Result<
 
 /// Refuses the first root at which nothing stands.
 fn check_roots<F: Folders>(alloc: Global, folders: &mut F, roots: &[String]) -> Result<(), Ending>
-    ensures same { F.tree folders.new ≡ F.tree folders.old }
+    ensures same { SameTree F.tree folders.old folders.new }
     ensures told { Told (F.tree folders.old) (λ t. OnOk result (AllStand t (texts_of roots.now))) }
     ensures failed { IfErr result (λ e. status_of e ≡ 1) }
 {
@@ -207,7 +208,7 @@ pub fn prepared<F: Folders, S: Source>(
     input: &mut S,
 ) -> Result<Job, Ending>
     requires chosen { Chooses cli.now choices.wanted choices.sort choices.numbers }
-    ensures same { F.tree folders.new ≡ F.tree folders.old }
+    ensures same { SameTree F.tree folders.old folders.new }
     ensures told { Told (F.tree folders.old) (λ t. IfOk result (IsJobOf
         table.now cli.now env.now t (S.remaining input.old))) }
     ensures failed { IfErr result (λ e. status_of e ≡ 1) }

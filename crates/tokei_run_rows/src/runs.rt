@@ -59,7 +59,7 @@ pub const LINES: Options = Options {
 fn wanted(form: Form) -> Wanted {
     match form {
         Form::Document => Wanted::Document(Format::Json),
-        Form::Table => Wanted::Table,
+        Form::Table => Wanted::Report,
         Form::Columns => Wanted::Stream(Streaming::Simple),
         Form::Lines => Wanted::Stream(Streaming::Json),
     }

@@ -9,6 +9,7 @@ ghost use Rattle.tokei_walk.specs.Kept.{kept_in};
 ghost use Rattle.tokei_walk.specs.Notes.{Grows, notes_of, notes_of_excludes};
 ghost use Rattle.tokei_walk.specs.Walks.{to_come, excludes_of, texts_of};
 ghost use Rattle.tokei_statistics.specs.Runs.{AddsFiles, AddsFirst, languages_of_file};
+ghost use Rattle.tokei_folders.specs.AsTheyWere.{SameTree, NoFault, FaultsStay};
 
 use tokei_count::{CountError, Report};
 use tokei_files::{Counting, ParseFault};
@@ -23,21 +24,20 @@ pub fn add_file<F: Folders>(
     file: KeptFile,
     languages: &mut Languages,
 ) -> Result<(), CountError>
-    ensures same { F.tree folders.new ≡ F.tree folders.old }
+    ensures same { SameTree F.tree folders.old folders.new }
     ensures told { Told (F.tree folders.old) (λ t. OnOk result (languages_of languages.new
         ≡ merged_languages (languages_of languages.old)
         (languages_of_file (counting_of counting.now) t file))) }
     ensures stays { OnErr result (languages_of languages.new ≡ languages_of languages.old) }
     ensures overflow { IsErrOf result CountError.Overflow → Told (F.tree folders.old) (λ t.
         ¬ FileFits (counting_of counting.now) t file) }
-    ensures honest { result ≢ Err CountError.Memory → F.memory_faults folders.old < u64.MAX
-        → F.memory_faults folders.new ≡ F.memory_faults folders.old }
+    ensures honest { result ≢ Err CountError.Memory → FaultsStay F.memory_faults folders.old folders.new }
 {
     let language = match counting.language(folders, &file)? {
         Some(language) => language,
         None => return Ok(()),
     };
-    match counting.read(folders, language, file.place.as_str(), true) {
+    match counting.count_file(folders, language, file.place.as_str(), true) {
         Ok(stats) => {
             let name = file.path.into_string();
             languages.add_report(language, Report { stats, name })
@@ -56,7 +56,7 @@ pub fn count_files<F: Folders>(
     walk: &mut Walk,
     languages: &mut Languages,
 ) -> Result<(), CountError>
-    ensures same { F.tree folders.new ≡ F.tree folders.old }
+    ensures same { SameTree F.tree folders.old folders.new }
     ensures told { Told (F.tree folders.old) (λ t. OnOk result
         (AddsFiles (counting_of counting.now) t (to_come t walk.old)
         (languages_of languages.old) (languages_of languages.new))) }
@@ -66,8 +66,7 @@ pub fn count_files<F: Folders>(
     ensures overflow { IsErrOf result CountError.Overflow → Told (F.tree folders.old) (λ t.
         ¬ ReadingsFit (counting_of counting.now) t (to_come t walk.old)) }
     ensures notes { Grows (notes_of walk.old) (notes_of walk.new) }
-    ensures honest { OnOk result (F.memory_faults folders.old < u64.MAX
-        → F.memory_faults folders.new ≡ F.memory_faults folders.old) }
+    ensures honest { NoFault F.memory_faults folders.old folders.new result }
 {
     while let Some(file) = walk.next(folders)? {
         add_file(counting, folders, file, languages)?;
@@ -85,7 +84,7 @@ pub fn count_roots<F: Folders>(
     rules: &Rules,
     languages: &mut Languages,
 ) -> Result<Vec<Note>, CountError>
-    ensures same { F.tree folders.new ≡ F.tree folders.old }
+    ensures same { SameTree F.tree folders.old folders.new }
     ensures told { Told (F.tree folders.old) (λ t. OnOk result (AddsFiles (counting_of counting.now) t
         (kept_in (excludes_of (texts_of excludes.now)) rules.now t (texts_of roots.now))
         (languages_of languages.old) (languages_of languages.new))) }
@@ -96,8 +95,7 @@ pub fn count_roots<F: Folders>(
         ¬ ReadingsFit (counting_of counting.now) t
         (kept_in (excludes_of (texts_of excludes.now)) rules.now t (texts_of roots.now))) }
     ensures notes { IfOk result (λ n. Grows (notes_of_excludes (texts_of excludes.now)) n.items) }
-    ensures honest { OnOk result (F.memory_faults folders.old < u64.MAX
-        → F.memory_faults folders.new ≡ F.memory_faults folders.old) }
+    ensures honest { NoFault F.memory_faults folders.old folders.new result }
 {
     let mut walk = Walk::new(counting.alloc, roots, excludes, rules)?;
     count_files(counting, folders, &mut walk, languages)?;

@@ -8,6 +8,7 @@ ghost use Rattle.tokei_languages.specs.Seen.{languages_of};
 ghost use Rattle.tokei_walk.specs.Notes.{Grows, notes_of_excludes};
 ghost use Rattle.tokei_walk.specs.Walks.{texts_of};
 ghost use Rattle.tokei_statistics.specs.Runs.{AddsFiles, AddsFirst, AddsRun, RunFits};
+ghost use Rattle.tokei_folders.specs.AsTheyWere.{SameTree, NoFault};
 
 use crate::counting::count_roots;
 use tokei_config::Config;
@@ -59,7 +60,7 @@ impl CountFiles for Languages {
         ignored: &[String],
         config: &Config,
     ) -> Result<Vec<Note>, CountError>
-        ensures same { F.tree folders.new ≡ F.tree folders.old }
+        ensures same { SameTree F.tree folders.old folders.new }
         ensures told { Told (F.tree folders.old) (λ t. OnOk result
             (AddsFiles (counting_by table.now (settings_of config.now)) t
             (kept_by (settings_of config.now) t (texts_of paths.now) (texts_of ignored.now))
@@ -72,8 +73,7 @@ impl CountFiles for Languages {
             ¬ ReadingsFit (counting_by table.now (settings_of config.now)) t
             (kept_by (settings_of config.now) t (texts_of paths.now) (texts_of ignored.now))) }
         ensures notes { IfOk result (λ n. Grows (notes_of_excludes (texts_of ignored.now)) n.items) }
-        ensures honest { OnOk result (F.memory_faults folders.old < u64.MAX
-            → F.memory_faults folders.new ≡ F.memory_faults folders.old) }
+        ensures honest { NoFault F.memory_faults folders.old folders.new result }
     {
         let alloc = self.allocator();
         let extended = config.extended_table(alloc, table)?;
@@ -95,7 +95,7 @@ impl CountFiles for Languages {
         ignored: &[String],
         config: &Config,
     ) -> Result<Vec<Note>, CountError>
-        ensures same { F.tree folders.new ≡ F.tree folders.old }
+        ensures same { SameTree F.tree folders.old folders.new }
         ensures told { Told (F.tree folders.old) (λ t. OnOk result
             (AddsRun (counting_by table.now (settings_of config.now)) t
             (kept_by (settings_of config.now) t (texts_of paths.now) (texts_of ignored.now))
@@ -109,8 +109,7 @@ impl CountFiles for Languages {
             (kept_by (settings_of config.now) t (texts_of paths.now) (texts_of ignored.now))
             (languages_of self.old)) }
         ensures notes { IfOk result (λ n. Grows (notes_of_excludes (texts_of ignored.now)) n.items) }
-        ensures honest { OnOk result (F.memory_faults folders.old < u64.MAX
-            → F.memory_faults folders.new ≡ F.memory_faults folders.old) }
+        ensures honest { NoFault F.memory_faults folders.old folders.new result }
     {
         let notes = self.get_all_files(table, folders, paths, ignored, config)?;
         self.renew_counts()?;

@@ -18,7 +18,7 @@ impl NameCell<'_> {
 
     /// The bar of a shortened name, or none, and what of the name is shown behind it.
     #[tactic(auto, using(crate::proofs::Padding::shortened_cell))]
-    fn shown(&self) -> (&'static str, &str)
+    fn bar_and_end(&self) -> (&'static str, &str)
         ensures bar { length result.0.now ≤ self.now.places }
         ensures cell { result.0.now ++ left_in (self.now.places - length result.0.now) result.1.now
             ≡ name_cell self.now.places self.now.name.now }
@@ -41,7 +41,7 @@ impl fmt::Display for NameCell<'_> {
 
     #[tactic(auto, using(crate::proofs::Padding::styled_left))]
     fn fmt<W: fmt::Write>(&self, f: &mut fmt::Formatter<W>) -> fmt::Result {
-        let (bar, end) = self.shown();
+        let (bar, end) = self.bar_and_end();
         let rest = self.places - bar.len();
         write!(f, "{bar}{end:<rest$}")
     }

@@ -5,6 +5,7 @@ ghost use Rattle.tokei_stats.specs.Reports.{report_of as report_value};
 ghost use Rattle.tokei_options.specs.declared.streaming.Streaming.TheVariants.{Simple, Json};
 ghost use Rattle.tokei_job.specs.declared.error.RunError.TheVariants.{Overflow as SumOverflow, Write as WriteFault};
 ghost use Rattle.tokei_stream.specs.Rows.{heading_of, report_row};
+ghost use Rattle.tokei_io.specs.Faults.{TellsFault, PassesNoFault};
 
 use std::alloc::Global;
 use tokei_io::Sink;
@@ -33,10 +34,8 @@ fn write_columns<W: Sink>(
 ) -> Result<(), RunError>
     ensures bytes { OnOk result (Appends (W.contents writer.old) (W.contents writer.new)
         (report_row Simple rows.now.table.now language (report_value report.now))) }
-    ensures fault { W.faults writer.old < u64.MAX → result ≡ Err WriteFault
-        → W.faults writer.old < W.faults writer.new }
-    ensures no_fault { W.faults writer.old < u64.MAX → result ≢ Err WriteFault
-        → W.faults writer.new ≡ W.faults writer.old }
+    ensures fault { TellsFault W.faults writer.old writer.new result WriteFault }
+    ensures no_fault { PassesNoFault W.faults writer.old writer.new result WriteFault }
     ensures overflow { result ≢ Err SumOverflow }
 {
     let name = name_of(rows.table, language);
@@ -57,10 +56,8 @@ fn write_line<W: Sink>(
 ) -> Result<(), RunError>
     ensures bytes { OnOk result (Appends (W.contents writer.old) (W.contents writer.new)
         (report_row Json rows.now.table.now language (report_value report.now))) }
-    ensures fault { W.faults writer.old < u64.MAX → result ≡ Err WriteFault
-        → W.faults writer.old < W.faults writer.new }
-    ensures no_fault { W.faults writer.old < u64.MAX → result ≢ Err WriteFault
-        → W.faults writer.new ≡ W.faults writer.old }
+    ensures fault { TellsFault W.faults writer.old writer.new result WriteFault }
+    ensures no_fault { PassesNoFault W.faults writer.old writer.new result WriteFault }
     ensures overflow { result ≢ Err SumOverflow }
 {
     let mut line = report_line(rows.alloc, rows.table, language, report)?;
@@ -77,10 +74,8 @@ pub fn write_row<W: Sink>(
 ) -> Result<(), RunError>
     ensures bytes { OnOk result (Appends (W.contents writer.old) (W.contents writer.new)
         (report_row rows.now.form rows.now.table.now language (report_value report.now))) }
-    ensures fault { W.faults writer.old < u64.MAX → result ≡ Err WriteFault
-        → W.faults writer.old < W.faults writer.new }
-    ensures no_fault { W.faults writer.old < u64.MAX → result ≢ Err WriteFault
-        → W.faults writer.new ≡ W.faults writer.old }
+    ensures fault { TellsFault W.faults writer.old writer.new result WriteFault }
+    ensures no_fault { PassesNoFault W.faults writer.old writer.new result WriteFault }
     ensures overflow { result ≢ Err SumOverflow }
 {
     match rows.form {
@@ -92,10 +87,8 @@ pub fn write_row<W: Sink>(
 /// Writes the heading of a stream, where it has one.
 pub fn write_heading<W: Sink>(form: Streaming, writer: &mut W) -> Result<(), RunError>
     ensures bytes { OnOk result (Appends (W.contents writer.old) (W.contents writer.new) (heading_of form)) }
-    ensures fault { W.faults writer.old < u64.MAX → result ≡ Err WriteFault
-        → W.faults writer.old < W.faults writer.new }
-    ensures no_fault { W.faults writer.old < u64.MAX → result ≢ Err WriteFault
-        → W.faults writer.new ≡ W.faults writer.old }
+    ensures fault { TellsFault W.faults writer.old writer.new result WriteFault }
+    ensures no_fault { PassesNoFault W.faults writer.old writer.new result WriteFault }
     ensures overflow { result ≢ Err SumOverflow }
 {
     match form {

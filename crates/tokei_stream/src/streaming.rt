@@ -13,6 +13,8 @@ ghost use Rattle.tokei_job.specs.Earlier.{earlier_of};
 ghost use Rattle.tokei_stream.specs.Counted.{files_of};
 ghost use Rattle.tokei_stream.specs.JobStreams.{StreamFits, WritesStream};
 ghost use Rattle.tokei_stream.specs.Streams.{file_row, report_of_file, rows_of, stream_text};
+ghost use Rattle.tokei_folders.specs.AsTheyWere.{SameTree, NoFault};
+ghost use Rattle.tokei_io.specs.Faults.{TellsFault, PassesNoFault};
 
 use crate::rows::{Rows, write_heading, write_row};
 use std::alloc::{AllocError, Global};
@@ -31,20 +33,19 @@ fn report_of<F: Folders>(
     folders: &mut F,
     file: KeptFile,
 ) -> Result<Option<(LanguageType, Report)>, RunError>
-    ensures same { F.tree folders.new ≡ F.tree folders.old }
+    ensures same { SameTree F.tree folders.old folders.new }
     ensures told { Told (F.tree folders.old) (λ t. IfOk result (λ o.
         option_map (λ r. (r.0, report_value r.1)) o ≡ report_of_file (counting_value counting.now) t file)) }
     ensures unwritten { result ≢ Err WriteFault }
     ensures overflow { result ≡ Err SumOverflow → Told (F.tree folders.old) (λ t.
         ¬ FileFits (counting_value counting.now) t file) }
-    ensures honest { OnOk result (F.memory_faults folders.old < u64.MAX
-        → F.memory_faults folders.new ≡ F.memory_faults folders.old) }
+    ensures honest { NoFault F.memory_faults folders.old folders.new result }
 {
     let language = match counting.language(folders, &file)? {
         Some(language) => language,
         None => return Ok(None),
     };
-    match counting.read(folders, language, file.place.as_str(), true) {
+    match counting.count_file(folders, language, file.place.as_str(), true) {
         Ok(stats) => {
             let name = file.path.into_string();
             Ok(Some((language, Report { stats, name })))
@@ -63,17 +64,14 @@ fn write_file<F: Folders, W: Sink>(
     file: KeptFile,
     writer: &mut W,
 ) -> Result<(), RunError>
-    ensures same { F.tree folders.new ≡ F.tree folders.old }
+    ensures same { SameTree F.tree folders.old folders.new }
     ensures told { Told (F.tree folders.old) (λ t. OnOk result (Appends (W.contents writer.old) (W.contents writer.new)
         (file_row rows.now.form rows.now.table.now (counting_value counting.now) t file))) }
     ensures overflow { result ≡ Err SumOverflow → Told (F.tree folders.old) (λ t.
         ¬ FileFits (counting_value counting.now) t file) }
-    ensures fault { W.faults writer.old < u64.MAX → result ≡ Err WriteFault
-        → W.faults writer.old < W.faults writer.new }
-    ensures no_fault { W.faults writer.old < u64.MAX → result ≢ Err WriteFault
-        → W.faults writer.new ≡ W.faults writer.old }
-    ensures honest { OnOk result (F.memory_faults folders.old < u64.MAX
-        → F.memory_faults folders.new ≡ F.memory_faults folders.old) }
+    ensures fault { TellsFault W.faults writer.old writer.new result WriteFault }
+    ensures no_fault { PassesNoFault W.faults writer.old writer.new result WriteFault }
+    ensures honest { NoFault F.memory_faults folders.old folders.new result }
 {
     match report_of(counting, folders, file)? {
         None => Ok(()),
@@ -89,17 +87,14 @@ fn write_rows<F: Folders, W: Sink>(
     walk: &mut Walk,
     writer: &mut W,
 ) -> Result<(), RunError>
-    ensures same { F.tree folders.new ≡ F.tree folders.old }
+    ensures same { SameTree F.tree folders.old folders.new }
     ensures told { Told (F.tree folders.old) (λ t. OnOk result (Appends (W.contents writer.old) (W.contents writer.new)
         (rows_of rows.now.form rows.now.table.now (counting_value counting.now) t (to_come t walk.old)))) }
     ensures overflow { result ≡ Err SumOverflow → Told (F.tree folders.old) (λ t.
         ¬ ReadingsFit (counting_value counting.now) t (to_come t walk.old)) }
-    ensures fault { W.faults writer.old < u64.MAX → result ≡ Err WriteFault
-        → W.faults writer.old < W.faults writer.new }
-    ensures no_fault { W.faults writer.old < u64.MAX → result ≢ Err WriteFault
-        → W.faults writer.new ≡ W.faults writer.old }
-    ensures honest { OnOk result (F.memory_faults folders.old < u64.MAX
-        → F.memory_faults folders.new ≡ F.memory_faults folders.old) }
+    ensures fault { TellsFault W.faults writer.old writer.new result WriteFault }
+    ensures no_fault { PassesNoFault W.faults writer.old writer.new result WriteFault }
+    ensures honest { NoFault F.memory_faults folders.old folders.new result }
 {
     while let Some(file) = walk.next(folders)? {
         write_file(rows, counting, folders, file, writer)?;
@@ -131,17 +126,14 @@ fn write_headed<F: Folders, W: Sink>(
     walk: &mut Walk,
     writer: &mut W,
 ) -> Result<(), RunError>
-    ensures same { F.tree folders.new ≡ F.tree folders.old }
+    ensures same { SameTree F.tree folders.old folders.new }
     ensures told { Told (F.tree folders.old) (λ t. OnOk result (Appends (W.contents writer.old) (W.contents writer.new)
         (stream_text rows.now.form rows.now.table.now (counting_value counting.now) t (to_come t walk.old)))) }
     ensures overflow { result ≡ Err SumOverflow → Told (F.tree folders.old) (λ t.
         ¬ ReadingsFit (counting_value counting.now) t (to_come t walk.old)) }
-    ensures fault { W.faults writer.old < u64.MAX → result ≡ Err WriteFault
-        → W.faults writer.old < W.faults writer.new }
-    ensures no_fault { W.faults writer.old < u64.MAX → result ≢ Err WriteFault
-        → W.faults writer.new ≡ W.faults writer.old }
-    ensures honest { OnOk result (F.memory_faults folders.old < u64.MAX
-        → F.memory_faults folders.new ≡ F.memory_faults folders.old) }
+    ensures fault { TellsFault W.faults writer.old writer.new result WriteFault }
+    ensures no_fault { PassesNoFault W.faults writer.old writer.new result WriteFault }
+    ensures honest { NoFault F.memory_faults folders.old folders.new result }
 {
     write_heading(rows.form, writer)?;
     write_rows(rows, counting, folders, walk, writer)
@@ -155,17 +147,14 @@ fn write_stream<F: Folders, W: Sink>(
     job: &Job,
     writer: &mut W,
 ) -> Result<Vec<Note>, RunError>
-    ensures same { F.tree folders.new ≡ F.tree folders.old }
+    ensures same { SameTree F.tree folders.old folders.new }
     ensures told { Told (F.tree folders.old) (λ t. OnOk result (Appends (W.contents writer.old) (W.contents writer.new)
         (stream_text rows.now.form rows.now.table.now (counting_value counting.now) t (files_of job.now t)))) }
     ensures overflow { result ≡ Err SumOverflow → Told (F.tree folders.old) (λ t.
         ¬ ReadingsFit (counting_value counting.now) t (files_of job.now t)) }
-    ensures fault { W.faults writer.old < u64.MAX → result ≡ Err WriteFault
-        → W.faults writer.old < W.faults writer.new }
-    ensures no_fault { W.faults writer.old < u64.MAX → result ≢ Err WriteFault
-        → W.faults writer.new ≡ W.faults writer.old }
-    ensures honest { OnOk result (F.memory_faults folders.old < u64.MAX
-        → F.memory_faults folders.new ≡ F.memory_faults folders.old) }
+    ensures fault { TellsFault W.faults writer.old writer.new result WriteFault }
+    ensures no_fault { PassesNoFault W.faults writer.old writer.new result WriteFault }
+    ensures honest { NoFault F.memory_faults folders.old folders.new result }
 {
     let mut walk = walk_of(counting.alloc, job)?;
     write_headed(rows, counting, folders, &mut walk, writer)?;
@@ -180,18 +169,15 @@ pub fn stream<F: Folders, W: Sink>(
     job: &Job,
     writer: &mut W,
 ) -> Result<Vec<Note>, RunError>
-    ensures same { F.tree folders.new ≡ F.tree folders.old }
+    ensures same { SameTree F.tree folders.old folders.new }
     ensures told { Told (F.tree folders.old) (λ t. OnOk result (WritesStream rows.now.form
         rows.now.table.now job.now t (W.contents writer.old) (W.contents writer.new))) }
     ensures overflow { result ≡ Err SumOverflow → Told (F.tree folders.old) (λ t.
         ¬ StreamFits rows.now.table.now job.now t) }
     ensures earlier { OnOk result (RenewalFits (earlier_of job.now.earlier)) }
-    ensures fault { W.faults writer.old < u64.MAX → result ≡ Err WriteFault
-        → W.faults writer.old < W.faults writer.new }
-    ensures no_fault { W.faults writer.old < u64.MAX → result ≢ Err WriteFault
-        → W.faults writer.new ≡ W.faults writer.old }
-    ensures honest { OnOk result (F.memory_faults folders.old < u64.MAX
-        → F.memory_faults folders.new ≡ F.memory_faults folders.old) }
+    ensures fault { TellsFault W.faults writer.old writer.new result WriteFault }
+    ensures no_fault { PassesNoFault W.faults writer.old writer.new result WriteFault }
+    ensures honest { NoFault F.memory_faults folders.old folders.new result }
 {
     test_earlier(rows.alloc, job)?;
     let extended = job.config.extended_table(rows.alloc, rows.table)?;

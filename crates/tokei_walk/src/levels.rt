@@ -198,7 +198,7 @@ fn is_dropped_by(verdict: Option<Verdict>, dotted: bool) -> bool
 
 /// Whether an entry of a folder is dropped, and its name, which is given back.
 #[tactic(auto, unfolding(crate::specs::Levels::drops_last))]
-pub fn judged(
+pub fn judge(
     excludes: &[Pattern],
     rules: &Rules,
     context: &mut Context,

@@ -65,7 +65,7 @@ fn enter_root<F: Folders>(
     Ok(())
 }
 
-fn is_blank(text: &Text) -> bool
+fn is_empty_place(text: &Text) -> bool
     ensures { result ≡ is_empty text.now }
 {
     match text.as_str().as_bytes() {
@@ -93,7 +93,7 @@ pub fn begin_root<F: Folders>(
         (of_stack settings.now.excludes settings.now.rules t stack.new) o)) }
 {
     let alloc = settings.alloc;
-    if is_blank(&root) {
+    if is_empty_place(&root) {
         note(alloc, notes, NoteKind::MissingRoot, root.as_str())?;
         return Ok(None);
     }

@@ -14,7 +14,7 @@ ghost use Rattle.tokei_walk.specs.Ranks.{weight, stack_rank, FoundFalls};
 ghost use Rattle.tokei_walk.specs.Stacks.{Pops, Leaves, Enters, EntersTold, StepTells, StepStays, NoneStays, NoneIsSame, file_kept, VisitTells, ExploreTells};
 
 use crate::kept_file::{KeptFile, Note, NoteKind};
-use crate::levels::{Context, Level, Rules, judged};
+use crate::levels::{Context, Level, Rules, judge};
 use crate::rules_files::{note, read_sought, sought_among};
 use std::alloc::{AllocError, Global};
 use std::mem;
@@ -102,7 +102,7 @@ fn consider(
         p.0 ≡ drops settings.now.excludes settings.now.rules context.old name entered) }
     ensures name { IfOk result (λ p. p.1 ≡ name) }
 {
-    judged(
+    judge(
         settings.excludes.as_slice(),
         &settings.rules,
         context,
