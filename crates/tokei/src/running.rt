@@ -7,6 +7,8 @@ ghost use Rattle.tokei.specs.Refused.{IsUntouched};
 ghost use Rattle.tokei.specs.Sums.{DocumentFits, EarlierFits, Fits, RunReportFits};
 ghost use Rattle.tokei_folders.specs.AsTheyWere.{SameTree, NoFault};
 ghost use Rattle.tokei_io.specs.Faults.{TellsFault, PassesNoFault};
+ghost use Rattle.tokei_walk.specs.Notes.{Grows, notes_of_excludes};
+ghost use Rattle.tokei_walk.specs.Walks.{texts_of};
 
 use crate::counting::tally_of;
 use crate::writing::{put_document, put_report};
@@ -35,6 +37,8 @@ fn write_document<F: Folders, W: Sink>(
     ensures untouched { IfErr result (λ e. e ≢ WriteFault → W.contents writer.new ≡ W.contents writer.old) }
     ensures fault { TellsFault W.faults writer.old writer.new result WriteFault }
     ensures no_fault { PassesNoFault W.faults writer.old writer.new result WriteFault }
+    ensures notes { IfOk result (λ n.
+        Grows (notes_of_excludes (texts_of job.now.ignored.items)) n.items) }
     ensures honest { NoFault F.memory_faults folders.old folders.new result }
 {
     let tally = tally_of(alloc, table, folders, job)?;
@@ -58,6 +62,8 @@ fn write_report<F: Folders, W: Sink>(
     ensures untouched { IfErr result (λ e. e ≢ WriteFault → W.contents writer.new ≡ W.contents writer.old) }
     ensures fault { TellsFault W.faults writer.old writer.new result WriteFault }
     ensures no_fault { PassesNoFault W.faults writer.old writer.new result WriteFault }
+    ensures notes { IfOk result (λ n.
+        Grows (notes_of_excludes (texts_of job.now.ignored.items)) n.items) }
     ensures honest { NoFault F.memory_faults folders.old folders.new result }
 {
     let tally = tally_of(alloc, table, folders, job)?;
@@ -88,6 +94,8 @@ pub fn run<F: Folders, W: Sink>(
     ensures earlier { OnOk result (EarlierFits job.now.wanted job.now) }
     ensures fault { TellsFault W.faults writer.old writer.new result WriteFault }
     ensures no_fault { PassesNoFault W.faults writer.old writer.new result WriteFault }
+    ensures notes { IfOk result (λ n.
+        Grows (notes_of_excludes (texts_of job.now.ignored.items)) n.items) }
     ensures honest { NoFault F.memory_faults folders.old folders.new result }
 {
     match &job.wanted {

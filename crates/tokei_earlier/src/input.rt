@@ -3,6 +3,7 @@ ghost use Rattle.std.specs.Prelude.{◌≡◌, ◌≢◌, ◌<◌, ◌≤◌, le
 ghost use Rattle.std.specs.Io.KnownBytes.{IsAtEnd};
 ghost use Rattle.tokei_earlier.specs.Adding.{IsAdded, PassesUsize};
 ghost use Rattle.tokei_earlier.specs.Outcome.{outcome_of_bytes};
+ghost use Rattle.tokei_io.specs.Reads.{most_reads};
 ghost use Rattle.tokei_languages.specs.Seen.{languages_of};
 
 use crate::document::parse_bytes;
@@ -23,7 +24,7 @@ fn read_all<S: Source>(alloc: Global, source: &mut S) -> Result<Vec<u8>, InputEr
         → S.faults source.new ≡ S.faults source.old }
     ensures reads_ran_out { S.faults source.old < u64.MAX → result ≡ Err InputError.Unreadable
         → S.faults source.new ≡ S.faults source.old
-        → IfSome (S.remaining source.old) (λ text. MAX_READS ≤ length text) }
+        → IfSome (S.remaining source.old) (λ text. most_reads ≤ length text) }
     ensures refused { IfErr result (λ e. e ≢ InputError.Unreadable → e ≡ InputError.Memory) }
 {
     let mut bytes = Vec::new(alloc);
@@ -88,7 +89,7 @@ pub fn add_input<S: Source>(
         → S.faults reader.new ≡ S.faults reader.old }
     ensures reads_ran_out { S.faults reader.old < u64.MAX → result ≡ Err InputError.Unreadable
         → S.faults reader.new ≡ S.faults reader.old
-        → IfSome (S.remaining reader.old) (λ bytes. MAX_READS ≤ length bytes) }
+        → IfSome (S.remaining reader.old) (λ bytes. most_reads ≤ length bytes) }
 
     ensures err { OnErr result (languages_of languages.new ≡ languages_of languages.old) }
 {

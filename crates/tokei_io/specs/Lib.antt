@@ -1,2 +1,3 @@
 pub mod FailOnce
 pub mod Faults
+pub mod Reads

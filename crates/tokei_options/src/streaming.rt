@@ -1,4 +1,8 @@
 //! The forms of a stream.
+ghost use Rattle.std.specs.Prelude.{◌≡◌};
+ghost use Rattle.std.specs.declared.cmp.Ordering.TheVariants.{Less};
+
+use std::cmp::Ordering;
 use std::str::FromStr;
 use thiserror::Error;
 
@@ -33,4 +37,11 @@ impl FromStr for Streaming {
             Err(StreamingError)
         }
     }
+}
+
+/// Columns come before lines of JSON.
+pub fn columns_come_first() -> Ordering
+    ensures { result ≡ Less }
+{
+    Streaming::Simple.cmp(&Streaming::Json)
 }

@@ -16,6 +16,7 @@ use std::alloc::Global;
 use tokei_io::Counted;
 use tokei_languages::{Language, Languages};
 use tokei_options::Sort;
+use tokei_options::columns::FALLBACK_ROW_LEN;
 use tokei_stats::CountError;
 use tokei_table::{LanguageTable, LanguageType};
 
@@ -25,7 +26,7 @@ fn columns(asked: usize) -> usize
     ensures wide { 81 ≤ result }
     ensures narrow { result ≤ 65535 }
 {
-    asked.clamp(81, 65535)
+    asked.clamp(FALLBACK_ROW_LEN, 65535)
 }
 
 /// Writes the note above a report some of whose languages couldn't be counted whole.

@@ -23,6 +23,7 @@ use tokei_folders::{Fault, Folders};
 use tokei_io::{Counted, Source};
 use tokei_job::Job;
 use tokei_languages::Languages;
+use tokei_options::columns::FALLBACK_ROW_LEN;
 use tokei_table::LanguageTable;
 
 /// The table that the command line names.
@@ -166,7 +167,7 @@ fn all_owned(alloc: Global, texts: &[String]) -> Result<Vec<String>, AllocError>
 fn columns(option: Option<usize>, configured: Option<usize>) -> usize
     ensures { result ≡ columns_of option configured }
 {
-    option.or(configured).unwrap_or(81)
+    option.or(configured).unwrap_or(FALLBACK_ROW_LEN)
 }
 
 /// The run of a command line.

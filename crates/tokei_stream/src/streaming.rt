@@ -7,7 +7,8 @@ ghost use Rattle.tokei_languages.specs.Renewing.{RenewalFits};
 ghost use Rattle.tokei_files.specs.Files.{FileFits, ReadingsFit};
 ghost use Rattle.tokei_files.specs.Seen.{counting_of as counting_value};
 ghost use Rattle.tokei_stats.specs.Reports.{report_of as report_value};
-ghost use Rattle.tokei_walk.specs.Walks.{to_come};
+ghost use Rattle.tokei_walk.specs.Notes.{Grows, notes_of, notes_of_excludes};
+ghost use Rattle.tokei_walk.specs.Walks.{texts_of, to_come};
 ghost use Rattle.tokei_job.specs.declared.error.RunError.TheVariants.{Overflow as SumOverflow, Write as WriteFault};
 ghost use Rattle.tokei_job.specs.Earlier.{earlier_of};
 ghost use Rattle.tokei_stream.specs.Counted.{files_of};
@@ -80,6 +81,7 @@ fn write_file<F: Folders, W: Sink>(
 }
 
 /// Writes a row for each file that a walk still gives, as it gives it.
+#[tactic(auto, using(tokei_walk::proofs::Growing::grows_same, tokei_walk::proofs::Growing::grows_on))]
 fn write_rows<F: Folders, W: Sink>(
     rows: &Rows,
     counting: &Counting,
@@ -94,6 +96,7 @@ fn write_rows<F: Folders, W: Sink>(
         ¬ ReadingsFit (counting_value counting.now) t (to_come t walk.old)) }
     ensures fault { TellsFault W.faults writer.old writer.new result WriteFault }
     ensures no_fault { PassesNoFault W.faults writer.old writer.new result WriteFault }
+    ensures notes { Grows (notes_of walk.old) (notes_of walk.new) }
     ensures honest { NoFault F.memory_faults folders.old folders.new result }
 {
     while let Some(file) = walk.next(folders)? {
@@ -113,7 +116,8 @@ fn test_earlier(alloc: Global, job: &Job) -> Result<(), CountError>
 
 /// A walk over the files of a job.
 fn walk_of(alloc: Global, job: &Job) -> Result<Walk, AllocError>
-    ensures { IfOk result (λ w. (t : Tree) → is_sound t ≡ true → to_come t w ≡ files_of job.now t) }
+    ensures comes { IfOk result (λ w. (t : Tree) → is_sound t ≡ true → to_come t w ≡ files_of job.now t) }
+    ensures notes { IfOk result (λ w. notes_of w ≡ notes_of_excludes (texts_of job.now.ignored.items)) }
 {
     Walk::new(alloc, &job.paths, &job.ignored, &rules(&job.config))
 }
@@ -133,6 +137,7 @@ fn write_headed<F: Folders, W: Sink>(
         ¬ ReadingsFit (counting_value counting.now) t (to_come t walk.old)) }
     ensures fault { TellsFault W.faults writer.old writer.new result WriteFault }
     ensures no_fault { PassesNoFault W.faults writer.old writer.new result WriteFault }
+    ensures notes { OnOk result (Grows (notes_of walk.old) (notes_of walk.new)) }
     ensures honest { NoFault F.memory_faults folders.old folders.new result }
 {
     write_heading(rows.form, writer)?;
@@ -154,6 +159,8 @@ fn write_stream<F: Folders, W: Sink>(
         ¬ ReadingsFit (counting_value counting.now) t (files_of job.now t)) }
     ensures fault { TellsFault W.faults writer.old writer.new result WriteFault }
     ensures no_fault { PassesNoFault W.faults writer.old writer.new result WriteFault }
+    ensures notes { IfOk result (λ n.
+        Grows (notes_of_excludes (texts_of job.now.ignored.items)) n.items) }
     ensures honest { NoFault F.memory_faults folders.old folders.new result }
 {
     let mut walk = walk_of(counting.alloc, job)?;
@@ -177,6 +184,8 @@ pub fn stream<F: Folders, W: Sink>(
     ensures earlier { OnOk result (RenewalFits (earlier_of job.now.earlier)) }
     ensures fault { TellsFault W.faults writer.old writer.new result WriteFault }
     ensures no_fault { PassesNoFault W.faults writer.old writer.new result WriteFault }
+    ensures notes { IfOk result (λ n.
+        Grows (notes_of_excludes (texts_of job.now.ignored.items)) n.items) }
     ensures honest { NoFault F.memory_faults folders.old folders.new result }
 {
     test_earlier(rows.alloc, job)?;

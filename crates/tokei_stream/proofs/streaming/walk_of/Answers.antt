@@ -8,9 +8,9 @@ use Rattle.tokei_walk.specs.Walks.{excludes_of, texts_of, to_come}
 use Rattle.tokei_walk.specs.declared.levels.Rules.{Rules}
 use Rattle.tokei_stream.proofs.streaming.walk_of.Goals as goal
 
-pub returns : goal.returns
+pub returns-clause-comes : goal.returns-clause-comes
 unfolding kept_by
-returns c =
+returns-clause-comes c =
     let GivesKept : Rules → List (String Global) → List (String Global) → Type 0 = λ rules ignored paths.
     IfOk c.new.result (λ w. (t : Tree) → is_sound t ≡ true
     → to_come t w ≡ kept_in (excludes_of (texts_of ignored)) rules t (texts_of paths)) in

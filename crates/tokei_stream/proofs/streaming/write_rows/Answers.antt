@@ -3,6 +3,7 @@ use Rattle.tokei_files.specs.Files.{ReadingsFit}
 use Rattle.tokei_files.specs.Seen.{counting_of}
 use Rattle.tokei_walk.specs.declared.kept_file.KeptFile.{KeptFile}
 use Rattle.tokei_walk.specs.Walks.{to_come, Advances}
+use Rattle.tokei_walk.proofs.Growing.{grows_same, grows_on}
 use Rattle.tokei_stream.proofs.WrittenRows.{no_row_yet, one_row_more, all_rows}
 use Rattle.tokei_stream.specs.Streams.{file_row}
 use Rattle.tokei_job.specs.declared.error.RunError.TheVariants.{Overflow}
@@ -13,6 +14,7 @@ loop-file-init g c = record {
   same = refl;
   told = λ t e. no_row_yet (file_row c.args.rows.now.form c.args.rows.now.table.now (counting_of c.args.counting.now) t) (to_come t c.args.walk.now) _;
   fits = λ t e f. f;
+  notes = grows_same _ _ refl;
   no_fault = λ h. refl;
   honest = λ h. refl;
 }
@@ -30,6 +32,7 @@ loop-file-preserved g c =
           let here = inv.same ∙ e in
           let given = subst (λ (o : Option KeptFile). Advances (to_come t c.loop-file.walk) (to_come t c.next.new.self) o) c.in-Some.is (c.in_ok-file.ensures.told t here) in
           (subst (λ (ks : List KeptFile). ReadingsFit by t ks) given (inv.fits t e f)).1;
+      notes = grows_on _ _ _ inv.notes c.next.ensures.notes;
       no_fault = search rules;
       honest = search rules;
     }

@@ -2,6 +2,7 @@ use Rattle.std.proofs.Common.{◌≡◌, ◌<◌}
 use Rattle.tokei_folders.specs.Answers.{Told}
 use Rattle.tokei_files.specs.Files.{ReadingsFit}
 use Rattle.tokei_files.specs.Seen.{counting_of}
+use Rattle.tokei_walk.specs.Notes.{Grows, notes_of}
 use Rattle.tokei_walk.specs.Ranks.{rank}
 use Rattle.tokei_walk.specs.Walks.{to_come}
 use Rattle.tokei_stream.proofs.WrittenRows.{RowsSoFar}
@@ -15,6 +16,7 @@ invariant-loop-file g l = record {
       RowsSoFar (file_row l.rows.form l.rows.table.now (counting_of l.counting) t) (to_come t l.initial.walk) (to_come t l.walk) (g.W.Sink.contents l.initial.writer) (g.W.Sink.contents l.writer));
   fits : Told (g.F.Folders.tree l.initial.folders) (λ t.
       ReadingsFit (counting_of l.counting) t (to_come t l.initial.walk) → ReadingsFit (counting_of l.counting) t (to_come t l.walk));
+  notes : Grows (notes_of l.initial.walk) (notes_of l.walk);
   no_fault : g.W.Sink.faults l.initial.writer < 18446744073709551615 → g.W.Sink.faults l.writer ≡ g.W.Sink.faults l.initial.writer;
   honest : g.F.Folders.memory_faults l.initial.folders < 18446744073709551615 → g.F.Folders.memory_faults l.folders ≡ g.F.Folders.memory_faults l.initial.folders;
 }

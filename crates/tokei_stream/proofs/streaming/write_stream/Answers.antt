@@ -15,11 +15,11 @@ returns-clause-told g c = λ t e.
     subst (λ (files : List KeptFile). Appends (g.W.Sink.contents c.args.writer.now)
     (g.W.Sink.contents c.write_headed.new.writer)
     (stream_text rows.form rows.table.now (counting_of c.args.counting.now) t files))
-    (c.in_ok-walk.ensures t sound) (c.in_ok-write_headed.ensures.told t e)
+    (c.in_ok-walk.ensures.comes t sound) (c.in_ok-write_headed.ensures.told t e)
 
 pub returns-in_err-write_headed-clause-overflow : goal.returns-in_err-write_headed-clause-overflow
 returns-in_err-write_headed-clause-overflow g c = λ q t e.
     let same : c.in_err-write_headed.field-0.0 ≡ Overflow = search rules in
     let sound = sound_of _ t (g.met.F.Folders.sound c.args.folders.now) e in
     subst (λ (files : List KeptFile). ReadingsFit (counting_of c.args.counting.now) t files → ⊥)
-    (c.in_ok-walk.ensures t sound) (c.in_err-write_headed.ensures.overflow (ap (λ x. Err x) same) t e)
+    (c.in_ok-walk.ensures.comes t sound) (c.in_err-write_headed.ensures.overflow (ap (λ x. Err x) same) t e)
