@@ -57,7 +57,8 @@ readable_settings rows ms = record {
   languages = value_of (languages_in rows ms);
 }
 
--- The settings of the members of a file; nothing where one of the ten can't be read. Other members are passed over.
+-- The settings of the members of a file; nothing where one of the ten can't be read. Other members
+-- are passed over.
 abbrev pub settings_in : List Row → Members → Option Settings
 settings_in rows ms = if is_readable rows ms then Some (readable_settings rows ms) else None
 
@@ -65,6 +66,7 @@ settings_in rows ms = if is_readable rows ms then Some (readable_settings rows m
 abbrev pub settings_of_reading : List Row → Option Members → Settings
 settings_of_reading rows found = unwrap_or (option_and_then (settings_in rows) found) empty
 
--- The settings of a file's text; none where it isn't TOML, or where one of its members can't be read.
+-- The settings of a file's text; none where it isn't TOML, or where one of its members can't be
+-- read.
 unfoldable pub settings_of_text : List Row → List ℕ → Settings
 settings_of_text rows text = settings_of_reading rows (parse_document text)

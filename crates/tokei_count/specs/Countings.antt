@@ -1,4 +1,5 @@
--- What a count of a whole text speaks of: by the rows of a table, in a language, with all levels left.
+-- What a count of a whole text speaks of: by the rows of a table, in a language, with all levels
+-- left.
 use Rattle.std.specs.Prelude.{◌≡◌, ℕ, false, List, None}
 use Rattle.tokei_options.specs.declared.count_config.CountConfig.{CountConfig}
 use Rattle.tokei_stats.specs.Statistics.{Statistics, lines_of, summary}
@@ -15,7 +16,8 @@ use Rattle.tokei_count.specs.Steps.{steps, work}
 use Rattle.tokei_count.specs.Weight.{weight}
 
 abbrev pub text_reading : List Row → CountConfig → ℕ → List ℕ → Statistics
-text_reading rows config language text = reading (languages_of rows) (docs_of config) outermost_levels language text
+text_reading rows config language text =
+    reading (languages_of rows) (docs_of config) outermost_levels language text
 
 abbrev pub text_steps : List Row → ℕ → List ℕ → ℕ
 text_steps rows language text = steps (languages_of rows) outermost_levels language text

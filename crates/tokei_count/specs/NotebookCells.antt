@@ -1,4 +1,5 @@
--- The cells of a notebook as its children: they take no bytes of a part, and the notebook has no lines for them.
+-- The cells of a notebook as its children: they take no bytes of a part, and the notebook has no
+-- lines for them.
 use Rattle.std.specs.Prelude.{ℕ, List, map}
 use Rattle.tokei_table.specs.Row.{Row}
 use Rattle.tokei_notebook.specs.Cells.{Cell, notebook_cells}

@@ -18,4 +18,5 @@ all_words = codes "cbor" ∷ codes "json" ∷ codes "yaml" ∷ []
 abbrev pub format_of_word : List ℕ → Result Format FormatError
 format_of_word word =
     if bytes_eq word (codes "json") then Ok Json
-    else (if bytes_eq word (codes "cbor") || bytes_eq word (codes "yaml") then Err NotBuilt else Err Unknown)
+    else (if bytes_eq word (codes "cbor") || bytes_eq word (codes "yaml") then Err NotBuilt
+        else Err Unknown)

@@ -40,7 +40,8 @@ abbrev mutual
 
   pub blobs_at : List Row → Members → Blobs
   blobs_at rows no_members = none
-  blobs_at rows (member k d ms) = if bytes_eq k (codes "blobs") then blobs_in rows d else blobs_at rows ms
+  blobs_at rows (member k d ms) =
+      if bytes_eq k (codes "blobs") then blobs_in rows d else blobs_at rows ms
 
   pub blobs_in : List Row → Data → Blobs
   blobs_in rows (object ms) = with_blobs rows ms none
@@ -49,7 +50,8 @@ abbrev mutual
   -- the blobs that are there, and those of the members
   pub with_blobs : List Row → Members → Blobs → Blobs
   with_blobs rows no_members found = found
-  with_blobs rows (member k d ms) found = with_blobs rows ms (put_blob (language_named rows k) found (statistics_in rows d))
+  with_blobs rows (member k d ms) found =
+      with_blobs rows ms (put_blob (language_named rows k) found (statistics_in rows d))
 
 -- a text's bytes; other values have none
 abbrev pub text_in : Option Data → List ℕ
@@ -61,7 +63,10 @@ statistics_at rows None = empty
 statistics_at rows (Some d) = statistics_in rows d
 
 abbrev pub report_in : List Row → Data → ReportValue
-report_in rows d = record { name = text_in (get (codes "name") d); stats = statistics_at rows (get (codes "stats") d) }
+report_in rows d = record {
+  name = text_in (get (codes "name") d);
+  stats = statistics_at rows (get (codes "stats") d)
+}
 
 -- the reports of the items, in their order
 abbrev pub all_reports_in : List Row → Items → List ReportValue
@@ -73,9 +78,11 @@ reports_in rows (Some (array ds)) = all_reports_in rows ds
 reports_in rows d = []
 
 -- the children that are there, and those of the members
-abbrev pub with_children : List Row → Members → List (ℕ × List ReportValue) → List (ℕ × List ReportValue)
+abbrev pub with_children : List Row → Members → List (ℕ × List ReportValue)
+    → List (ℕ × List ReportValue)
 with_children rows no_members found = found
-with_children rows (member k d ms) found = with_children rows ms (put_named (language_named rows k) found (reports_in rows (Some d)))
+with_children rows (member k d ms) found =
+    with_children rows ms (put_named (language_named rows k) found (reports_in rows (Some d)))
 
 abbrev pub children_in : List Row → Option Data → List (ℕ × List ReportValue)
 children_in rows (Some (object ms)) = with_children rows ms []

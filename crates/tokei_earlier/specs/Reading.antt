@@ -19,7 +19,8 @@ language_in rows d = record {
 -- the languages that are there, and those of the members; `Total` is none
 abbrev pub with_languages : List Row → Members → List (ℕ × LanguageValue) → List (ℕ × LanguageValue)
 with_languages rows no_members found = found
-with_languages rows (member k d ms) found = with_languages rows ms (put_named (language_named rows k) found (language_in rows d))
+with_languages rows (member k d ms) found =
+    with_languages rows ms (put_named (language_named rows k) found (language_in rows d))
 
 abbrev pub languages_in : List Row → Data → List (ℕ × LanguageValue)
 languages_in rows (object ms) = with_languages rows ms []

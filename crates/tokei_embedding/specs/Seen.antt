@@ -11,7 +11,8 @@ use Rattle.tokei_embedding.specs.declared.tags.TagAt.{TagAt}
 use Rattle.tokei_embedding.specs.declared.target_blocks.TargetAt.{TargetAt}
 
 abbrev pub fence_seen : FenceAt → Fence
-fence_seen f = record { info = f.info.now; contents = f.contents.now; size = f.size; closed = f.closed }
+fence_seen f =
+    record { info = f.info.now; contents = f.contents.now; size = f.size; closed = f.closed }
 
 abbrev pub span_seen : CodeSpan.Span → Span
 span_seen s = record { start = s.start; stop = s.stop }
@@ -20,7 +21,8 @@ abbrev pub opening_seen : CodeOpening.Opening → Opening
 opening_seen o = record { whole = span_seen o.whole; value = option_map span_seen o.value }
 
 abbrev pub tag_seen : TagAt → TagBlock
-tag_seen t = record { value = option_map (λ v. v.now) t.value; contents = t.contents.now; size = t.size }
+tag_seen t =
+    record { value = option_map (λ v. v.now) t.value; contents = t.contents.now; size = t.size }
 
 abbrev pub target_seen : TargetAt → TargetBlock
 target_seen b = record { contents = b.contents.now; size = b.size }

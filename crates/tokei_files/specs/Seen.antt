@@ -5,4 +5,8 @@ use Rattle.tokei_files.specs.Files.{Counting}
 use Rattle.tokei_files.specs.declared.counting.Counting as CodeCounting
 
 abbrev pub counting_of : CodeCounting.Counting → Counting
-counting_of c = record { rows = c.counter.now; docs = docs_of c.config; types = option_map (λ types. types.now) c.types }
+counting_of c = record {
+  rows = c.counter.now;
+  docs = docs_of c.config;
+  types = option_map (λ types. types.now) c.types
+}

@@ -15,7 +15,8 @@ abbrev pub without_mark : List ℕ → List ℕ
 without_mark [] = []
 without_mark (a ∷ []) = a ∷ []
 without_mark (a ∷ b ∷ []) = a ∷ b ∷ []
-without_mark (a ∷ b ∷ c ∷ rest) = if (a == 239) && (b == 187) && (c == 191) then rest else a ∷ b ∷ c ∷ rest
+without_mark (a ∷ b ∷ c ∷ rest) =
+    if (a == 239) && (b == 187) && (c == 191) then rest else a ∷ b ∷ c ∷ rest
 
 -- one carriage return belongs to the line's end
 unfoldable pub without_return : List ℕ → List ℕ
@@ -69,4 +70,5 @@ verdict_of p = if p.negated then Keep else Ignore
 unfoldable pub last_fitting : List Pattern → List (List ℕ) → Bool → Option Verdict
 last_fitting [] names folder = None
 last_fitting (p ∷ ps) names folder =
-    or_else (last_fitting ps names folder) (if fits_entry p names folder then Some (verdict_of p) else None)
+    or_else (last_fitting ps names folder)
+        (if fits_entry p names folder then Some (verdict_of p) else None)

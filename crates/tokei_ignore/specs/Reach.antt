@@ -25,7 +25,8 @@ onward test next (x ∷ xs) = cond (test x) (next xs) fails
 
 abbrev pub reach : {P X : Type 0} → (P → Bool) → (P → X → Bool) → List P → List X → Reach P X
 reach spans fits_one [] xs = ended xs
-reach spans fits_one (p ∷ ps) xs = cond (spans p) (at_span ps xs) (onward (fits_one p) (reach spans fits_one ps) xs)
+reach spans fits_one (p ∷ ps) xs =
+    cond (spans p) (at_span ps xs) (onward (fits_one p) (reach spans fits_one ps) xs)
 
 abbrev pub name_reach : List Piece → List ℕ → Reach Piece ℕ
 name_reach = reach spans_characters fits_character

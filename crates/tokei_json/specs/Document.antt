@@ -1,4 +1,5 @@
--- Languages as JSON data, beside their total. Languages stand under their names, and members in byte order.
+-- Languages as JSON data, beside their total. Languages stand under their names, and members in
+-- byte order.
 use Rattle.std.specs.Prelude.{ℕ, List, codes}
 use Rattle.serde_json.specs.Data.{Data, boolean, object, no_members, member, put}
 pub use Rattle.tokei_json.specs.ReportData.{count, name_of, statistics_data, blobs_data, report_data}

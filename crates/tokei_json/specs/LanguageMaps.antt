@@ -1,4 +1,5 @@
--- The objects of a document whose members are languages: its own, those of children and those of blobs.
+-- The objects of a document whose members are languages: its own, those of children and those of
+-- blobs.
 use Rattle.std.specs.Prelude.{ℕ, List, Bool, true, false, ◌&&◌, ◌||◌, not, Option, None, Some, is_some, codes, bytes_eq, if◌then◌else◌}
 use Rattle.serde_json.specs.Data.{Data, array, object, Members, no_members, member}
 use Rattle.serde_json.specs.Find.{get}
@@ -31,7 +32,8 @@ knows_names rows d = true
 
 -- no language stands both by its key and by its name
 abbrev pub names_once : List Row → Data → Bool
-names_once rows (object ms) = all_names (λ k. not (has_both rows (object ms) (language_named rows k))) ms
+names_once rows (object ms) =
+    all_names (λ k. not (has_both rows (object ms) (language_named rows k))) ms
 names_once rows d = true
 
 -- the two tests of such an object
@@ -47,7 +49,8 @@ abbrev mutual
 
   pub blobs_at_pass : (Data → Bool) → Members → Bool
   blobs_at_pass test no_members = true
-  blobs_at_pass test (member k d ms) = if bytes_eq k (codes "blobs") then blobs_pass test d else blobs_at_pass test ms
+  blobs_at_pass test (member k d ms) =
+      if bytes_eq k (codes "blobs") then blobs_pass test d else blobs_at_pass test ms
 
   pub blobs_pass : (Data → Bool) → Data → Bool
   blobs_pass test (object ms) = test (object ms) && each_passes test ms
@@ -75,12 +78,14 @@ children_pass test d = true
 
 abbrev pub language_passes : (Data → Bool) → Data → Bool
 language_passes test d =
-    absent_or (reports_pass test) (get (codes "reports") d) && absent_or (children_pass test) (get (codes "children") d)
+    absent_or (reports_pass test) (get (codes "reports") d)
+    && absent_or (children_pass test) (get (codes "children") d)
 
 -- the total isn't looked into
 abbrev pub languages_pass : (Data → Bool) → Members → Bool
 languages_pass test no_members = true
-languages_pass test (member k d ms) = (bytes_eq k (codes "Total") || language_passes test d) && languages_pass test ms
+languages_pass test (member k d ms) =
+    (bytes_eq k (codes "Total") || language_passes test d) && languages_pass test ms
 
 -- every name is that of a language, save `Total` among the document's own members
 unfoldable pub all_known : List Row → Data → Bool

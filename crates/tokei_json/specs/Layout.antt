@@ -36,7 +36,8 @@ abbrev mutual
 
 -- a report has a name and statistics
 abbrev pub is_report : Data → Bool
-is_report d = stands_and is_text (get (codes "name") d) && stands_and is_statistics (get (codes "stats") d)
+is_report d =
+    stands_and is_text (get (codes "name") d) && stands_and is_statistics (get (codes "stats") d)
 
 -- a list of reports
 abbrev pub are_reports : Data → Bool

@@ -1,4 +1,5 @@
--- Statistics and reports as JSON data. Languages stand under their names, and members in byte order.
+-- Statistics and reports as JSON data. Languages stand under their names, and members in byte
+-- order.
 use Rattle.std.specs.Prelude.{ℕ, List, [], ◌∷◌, codes, map}
 use Rattle.serde_json.specs.Data.{Data, unsigned, number, string, array, object, Members, no_members, member, put}
 use Rattle.serde_json.specs.View.{items_of}
@@ -27,7 +28,8 @@ abbrev mutual
 
   pub blobs_data : List Row → Blobs → Members → Members
   blobs_data rows none ms = ms
-  blobs_data rows (blob k t rest) ms = blobs_data rows rest (put (name_of rows k) (statistics_data rows t) ms)
+  blobs_data rows (blob k t rest) ms =
+      blobs_data rows rest (put (name_of rows k) (statistics_data rows t) ms)
 
 abbrev pub report_data : List Row → ReportValue → Data
 report_data rows r = object
@@ -47,4 +49,5 @@ reports_data rows rs = array (items_of (map (report_data rows) rs))
 -- the members, and then one for each entry, under the name of its language
 abbrev pub named_data : {S : Type 0} → List Row → (S → Data) → List (ℕ × S) → Members → Members
 named_data rows value_of [] ms = ms
-named_data rows value_of (e ∷ es) ms = named_data rows value_of es (put (name_of rows e.0) (value_of e.1) ms)
+named_data rows value_of (e ∷ es) ms =
+    named_data rows value_of es (put (name_of rows e.0) (value_of e.1) ms)

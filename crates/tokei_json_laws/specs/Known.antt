@@ -25,4 +25,6 @@ ChildrenAreKnown n (e ∷ es) = (e.0 < n) × (ReportsAreKnown n e.1 × ChildrenA
 -- each language is one of the first n, and so are those inside it
 abbrev pub LanguagesAreKnown : ℕ → List (ℕ × LanguageValue) → Type 0
 LanguagesAreKnown n [] = ⊤
-LanguagesAreKnown n (e ∷ es) = (e.0 < n) × (ReportsAreKnown n e.1.reports × (ChildrenAreKnown n e.1.children × LanguagesAreKnown n es))
+LanguagesAreKnown n (e ∷ es) =
+    (e.0 < n)
+    × (ReportsAreKnown n e.1.reports × (ChildrenAreKnown n e.1.children × LanguagesAreKnown n es))

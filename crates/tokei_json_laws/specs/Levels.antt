@@ -25,4 +25,5 @@ ListsWithin m (e ∷ es) = ReportsWithin m e.1 × ListsWithin m es
 -- no statistics in the languages hold more than m levels of blobs
 abbrev pub LanguagesWithin : ℕ → List (ℕ × LanguageValue) → Type 0
 LanguagesWithin m [] = ⊤
-LanguagesWithin m (e ∷ es) = ReportsWithin m e.1.reports × (ListsWithin m e.1.children × LanguagesWithin m es)
+LanguagesWithin m (e ∷ es) =
+    ReportsWithin m e.1.reports × (ListsWithin m e.1.children × LanguagesWithin m es)

@@ -19,7 +19,8 @@ pub record Cell : Type 0 where
 abbrev pub cell_of : CodeCell → Cell
 cell_of c = record { language = c.language; source = c.source.items }
 
--- the language that the kernel names: its name is the text in any ASCII case; other values name none
+-- the language that the kernel names: its name is the text in any ASCII case; other values name
+-- none
 abbrev pub by_kernel : List Row → Option Data → Option ℕ
 by_kernel rows (Some (string t)) = first_where (has_name_in_any_case t) rows
 by_kernel rows d = None

@@ -1,4 +1,5 @@
--- The rows of a language's files: first those of files with no other language inside, then the others with their blobs.
+-- The rows of a language's files: first those of files with no other language inside, then the
+-- others with their blobs.
 use Rattle.std.specs.Prelude.{ℕ, List, [], ◌∷◌, ◌++◌, ◌==◌, ◌||◌, Bool, true, false, not, codes, filter, length}
 use Rattle.tokei_stats.specs.Reports.{ReportValue}
 use Rattle.tokei_print.specs.BlobRows.{blob_rows, name_line, own_row}
@@ -11,7 +12,8 @@ use Rattle.tokei_stats.specs.Statistics.Blobs.{none, blob}
 
 -- a report's row of its own counts
 abbrev pub file_row : Layout → ReportValue → List ℕ
-file_row layout report = report_row (path_places layout.columns) report.name (own report.stats) ++ newline
+file_row layout report =
+    report_row (path_places layout.columns) report.name (own report.stats) ++ newline
 
 abbrev pub file_rows : Layout → List ReportValue → List ℕ
 file_rows layout [] = []
@@ -49,4 +51,5 @@ abbrev pub listed_files : Layout → (ℕ → List ℕ) → Bool → Bool → Li
 listed_files layout names compact inaccurate language reports =
     let alone = filter (has_row_alone compact) reports in
     file_rows layout alone
-    ++ file_blocks layout names inaccurate language (length alone == 0) (with_blocks compact reports)
+    ++ file_blocks layout names inaccurate language (length alone == 0)
+        (with_blocks compact reports)

@@ -19,6 +19,7 @@ LanguagesFit listed compact sorted [] = ⊤
 LanguagesFit listed compact sorted (e ∷ es) =
     LanguageFits listed compact sorted e.1 × LanguagesFit listed compact sorted es
 
-pub record ResultsFit (listed compact sorted : Bool) (languages : List (ℕ × LanguageValue)) : Type 0 where
+pub record ResultsFit (listed compact sorted : Bool)
+    (languages : List (ℕ × LanguageValue)) : Type 0 where
   pub alone : LanguagesFit listed compact sorted (group_of compact false languages)
   pub others : LanguagesFit listed compact sorted (group_of compact true languages)

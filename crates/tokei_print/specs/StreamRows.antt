@@ -49,4 +49,5 @@ stream_heading = stream_names ++ (newline ++ (stream_strokes ++ newline))
 -- a file's own counts behind the name of its language and its path; the lines are their exact sum
 abbrev pub stream_row : List ℕ → List ℕ → Counts → List ℕ
 stream_row language path n =
-    right_in language_places language ++ (space ∷ (left_in stream_path_places path ++ (counts_cells n ++ newline)))
+    right_in language_places language
+    ++ (space ∷ (left_in stream_path_places path ++ (counts_cells n ++ newline)))

@@ -24,7 +24,8 @@ total_row layout languages =
     (languages_summary languages)
 
 abbrev pub total_text : Layout → List (ℕ × LanguageValue) → List ℕ
-total_text layout languages = row layout.columns ++ (total_row layout languages ++ row layout.columns)
+total_text layout languages =
+    row layout.columns ++ (total_row layout languages ++ row layout.columns)
 
 -- the sums that the row shows are at most the greatest `usize`
 pub record TotalFits (languages : List (ℕ × LanguageValue)) : Type 0 where

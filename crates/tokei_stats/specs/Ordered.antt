@@ -1,4 +1,5 @@
--- Statistics in the table's order: the languages of the blobs ascend, so that each stands once, at every depth.
+-- Statistics in the table's order: the languages of the blobs ascend, so that each stands once, at
+-- every depth.
 use Rattle.std.specs.Prelude.{ℕ, ◌<◌, ⊤}
 use Rattle.tokei_stats.specs.Statistics.{Statistics, Blobs}
 use Rattle.tokei_stats.specs.Statistics.Statistics.{node}

@@ -1,5 +1,5 @@
--- The row of a report as a text, without the newline that a printer ends it with: a space, the name, and the four
--- counts.
+-- The row of a report as a text, without the newline that a printer ends it with: a space, the
+-- name, and the four counts.
 use Rattle.std.specs.Prelude.{ℕ, ◌+◌, ◌-◌, List, ◌∷◌, ◌++◌, length, drop, nat_lt, if◌then◌else◌}
 use Rattle.tokei_stats.specs.Places.{left_in, number_in}
 use Rattle.tokei_table_row.specs.Counts.{Counts, lines_of}
@@ -10,9 +10,12 @@ use Rattle.tokei_bytes.specs.Boundaries.{boundary_from}
 abbrev pub bar : ℕ
 bar = 124
 
--- a name of more than w bytes is a bar and its end, from the first character that leaves room for the bar
+-- a name of more than w bytes is a bar and its end, from the first character that leaves room for
+-- the bar
 abbrev pub shortened : ℕ → List ℕ → List ℕ
-shortened w name = if nat_lt w (length name) then bar ∷ drop (boundary_from name (length name + 1 - w)) name else name
+shortened w name =
+    if nat_lt w (length name) then bar ∷ drop (boundary_from name (length name + 1 - w)) name
+    else name
 
 -- how many places a row of this width has for the name
 abbrev pub name_places : ℕ → ℕ

@@ -1,4 +1,5 @@
--- Statistics: a finite tree of three numbers, and of a tree for each of some languages, in the table's order.
+-- Statistics: a finite tree of three numbers, and of a tree for each of some languages, in the
+-- table's order.
 use Rattle.std.specs.Prelude.{ℕ, Option, None, Some}
 use Rattle.std.specs.Ordering.{nat_cmp}
 use Rattle.std.specs.declared.cmp.Ordering.{Ordering}
@@ -36,7 +37,8 @@ at (blob j s rest) k = by_order (nat_cmp k j) (at rest k) (Some s) (at rest k)
 -- the blobs with these statistics for the language
 abbrev pub put : Blobs → ℕ → Statistics → Blobs
 put none k s = blob k s none
-put (blob j t rest) k s = by_order (nat_cmp k j) (blob k s (blob j t rest)) (blob j s rest) (blob j t (put rest k s))
+put (blob j t rest) k s =
+    by_order (nat_cmp k j) (blob k s (blob j t rest)) (blob j s rest) (blob j t (put rest k s))
 
 -- f of what is there, or the new statistics where nothing is
 abbrev pub joined : Option Statistics → (Statistics → Statistics) → Statistics → Statistics

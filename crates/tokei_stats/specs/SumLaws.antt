@@ -12,26 +12,32 @@ abbrev pub SumsCommute : Type 0
 SumsCommute = (s t : Statistics) → IsOrdered s → IsOrdered t → sum s t ≡ sum t s
 
 abbrev pub SumsAssociate : Type 0
-SumsAssociate = (s t u : Statistics) → IsOrdered s → IsOrdered t → IsOrdered u → sum (sum s t) u ≡ sum s (sum t u)
+SumsAssociate =
+    (s t u : Statistics) → IsOrdered s → IsOrdered t → IsOrdered u
+    → sum (sum s t) u ≡ sum s (sum t u)
 
 abbrev pub EmptyIsNeutral : Type 0
 EmptyIsNeutral = (s : Statistics) → IsOrdered s → (sum s empty ≡ s) × (sum empty s ≡ s)
 
 -- the summary of a sum is the sum of the summaries
 abbrev pub SummariesAdd : Type 0
-SummariesAdd = (s t : Statistics) → IsOrdered s → IsOrdered t → summary (sum s t) ≡ plus (summary s) (summary t)
+SummariesAdd =
+    (s t : Statistics) → IsOrdered s → IsOrdered t
+    → summary (sum s t) ≡ plus (summary s) (summary t)
 
 -- summarising twice is once
 abbrev pub SummarisingOnceSuffices : Type 0
 SummarisingOnceSuffices = (s : Statistics) → summary (node (summary s) none) ≡ summary s
 
--- the statistics of a language in a sum, by those of the two sides: the sum of both, or the one that is there
+-- the statistics of a language in a sum, by those of the two sides: the sum of both, or the one
+-- that is there
 abbrev pub both : Option Statistics → Option Statistics → Option Statistics
 both None y = y
 both (Some s) None = Some s
 both (Some s) (Some t) = Some (sum s t)
 
--- the statistics have the numbers of both sides added up, and at each language the sum of both, or the one there is
+-- the statistics have the numbers of both sides added up, and at each language the sum of both, or
+-- the one there is
 pub record HoldsBoth (s t total : Statistics) : Type 0 where
   pub numbers : own total ≡ plus (own s) (own t)
   pub languages : (k : ℕ) → at (blobs total) k ≡ both (at (blobs s) k) (at (blobs t) k)

@@ -48,7 +48,8 @@ escape_value c =
     else (if c == digit_0 then Some nul
     else None))))))
 
--- Whether each backslash begins an escape; `is_escape` asks it of the characters behind a backslash.
+-- Whether each backslash begins an escape; `is_escape` asks it of the characters behind a
+-- backslash.
 abbrev mutual
   pub is_escaped : List ℕ → Bool
   is_escaped [] = true

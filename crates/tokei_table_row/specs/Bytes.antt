@@ -17,7 +17,8 @@ space = 32
 abbrev pub backslash : ℕ
 backslash = 92
 
--- The blanks are the space and the bytes from the tab to the carriage return, the newline among them.
+-- The blanks are the space and the bytes from the tab to the carriage return, the newline among
+-- them.
 abbrev pub is_blank : ℕ → Bool
 is_blank b = (b == space) || (nat_le tab b && nat_le b carriage_return)
 

@@ -16,4 +16,8 @@ no_lines = record { blanks = 0; code = 0; comments = 0 }
 
 -- both, added up
 abbrev pub plus : Counts → Counts → Counts
-plus a b = record { blanks = a.blanks + b.blanks; code = a.code + b.code; comments = a.comments + b.comments }
+plus a b = record {
+  blanks = a.blanks + b.blanks;
+  code = a.code + b.code;
+  comments = a.comments + b.comments
+}

@@ -44,7 +44,8 @@ is_over w = w.failed || (is_spent w.stack && is_empty w.roots)
 abbrev pub texts_of : List (String Global) → List (List ℕ)
 texts_of texts = map string_bytes texts
 
--- the answer is the first file of those to come, and the rest is left; there is none where none is to come
+-- the answer is the first file of those to come, and the rest is left; there is none where none is
+-- to come
 abbrev pub Advances : List KeptFile → List KeptFile → Option KeptFile → Type 0
 Advances old new None = old ≡ []
 Advances old new (Some k) = old ≡ k ∷ new
