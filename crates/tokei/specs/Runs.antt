@@ -16,4 +16,4 @@ unfoldable pub languages_after : List Row → Job → Tree → List (ℕ × Lang
 languages_after rows job t =
     renewed_languages
     (merged_languages (earlier_of job.earlier)
-        (languages_of_run (counting_of rows job) t (files_of job t)))
+    (languages_of_run (counting_of rows job) t (files_of job t)))

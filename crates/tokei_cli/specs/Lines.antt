@@ -38,7 +38,7 @@ pub record IsLine (rows : List Row) (c : Cli) : Type 0 where
   pub streaming : option_map string_bytes c.streaming ≡ first_of (codes "streaming") rows
   pub print_languages : c.print_languages ≡ is_on (one_of (codes "languages") rows)
   pub sort : option_map string_bytes c.sort
-    ≡ option_or (first_of (codes "rsort") rows) (first_of (codes "sort") rows)
+      ≡ option_or (first_of (codes "rsort") rows) (first_of (codes "sort") rows)
   pub sort_reverse : c.sort_reverse ≡ is_some (first_of (codes "rsort") rows)
   pub types : option_map (λ v. map string_bytes v.items) c.types ≡ all_of (codes "types") rows
   pub compact : c.compact ≡ is_on (one_of (codes "compact") rows)

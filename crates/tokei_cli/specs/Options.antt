@@ -34,7 +34,7 @@ repeated r = record r { action = Some Append }
 unfoldable pub report_options : List Rule
 report_options =
     excluding (record (lettered (codes "c") (valued (codes "columns"))) {
-      parser = Some (Unsigned 0 usize_max)
+      parser = Some (Unsigned 0 usize_max);
     })
     ∷ lettered (codes "f") (switch (codes "files"))
     ∷ lettered (codes "C") (switch (codes "compact"))
@@ -89,7 +89,7 @@ last_options =
 abbrev pub bare_app : App
 bare_app =
     record (new_app (codes "tokei")) {
-      top = record (new_app (codes "tokei")).top { has_version = true }
+      top = record (new_app (codes "tokei")).top { has_version = true };
     }
 
 -- an app with more options

@@ -21,7 +21,7 @@ extensions_in ms = option_and_then as_texts (get_member (codes "extensions") ms)
 abbrev pub addition : List Row → List ℕ → Data → Option Addition
 addition rows key d =
     option_and_then (λ language. option_map (λ es. (language, es))
-        (option_and_then extensions_in (as_table d)))
+    (option_and_then extensions_in (as_table d)))
     (first_where (has_name key) rows)
 
 -- The addition of each member; nothing where one of them can't be read.

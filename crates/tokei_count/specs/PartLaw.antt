@@ -30,4 +30,4 @@ pub record UnwalkedStayPlain (os : List (List ℕ)) (t : List ℕ) (ms : List Ma
 abbrev pub UnwalkedPartsStayPlain : Type 0
 UnwalkedPartsStayPlain = (rows : List Row) → HaveTokens rows → (levels language : ℕ) (t : List ℕ)
     → UnwalkedStayPlain (openers (row_at rows language)) t
-        (marks [] (items_in (languages_of rows) levels language t))
+    (marks [] (items_in (languages_of rows) levels language t))

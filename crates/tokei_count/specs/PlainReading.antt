@@ -44,9 +44,9 @@ reading ls docs_are_comments zero language t =
 reading ls docs_are_comments (suc levels) language t =
     if is_notebook (ls.row language)
     then notebook_by (λ k. reading ls docs_are_comments levels k.language k.contents)
-        (ls.cells language t)
+    (ls.cells language t)
     else read_by (ls.row language) docs_are_comments
-        (λ k. reading ls docs_are_comments levels k.language k.contents)
+    (λ k. reading ls docs_are_comments levels k.language k.contents)
     (marks [] (items_of (ls.row language) (blocks ls (suc levels) language t) t))
 
 -- the reading of a child, in a text with so many levels left

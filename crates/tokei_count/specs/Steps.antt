@@ -44,14 +44,14 @@ unfoldable pub with_children : (Row → List ℕ → Items → ℕ) → Language
 with_children own ls zero language t =
     if is_notebook (ls.row language) then 0
     else own (ls.row language) t (items_in ls zero language t)
-        + length (children_in ls zero language t)
+    + length (children_in ls zero language t)
 with_children own ls (suc levels) language t =
     if is_notebook (ls.row language)
     then sum_over (λ k. with_children own ls levels k.language k.contents) (ls.cells language t)
     else own (ls.row language) t (items_in ls (suc levels) language t)
-        + length (children_in ls (suc levels) language t)
+    + length (children_in ls (suc levels) language t)
     + sum_over (λ k. with_children own ls levels k.language k.contents)
-        (children_in ls (suc levels) language t)
+    (children_in ls (suc levels) language t)
 
 -- the choices in the walked parts of a text, its children apart
 abbrev pub own_steps : Row → List ℕ → Items → ℕ

@@ -48,13 +48,13 @@ children_ahead r p =
 abbrev pub all_counts : Reading → Counts
 all_counts r =
     plus
-        (counts_left (row_in r) (blocks_of r) (length r.text.now) r.docs_are_comments [] r.text.now)
+    (counts_left (row_in r) (blocks_of r) (length r.text.now) r.docs_are_comments [] r.text.now)
     (shares (all_children r))
 
 abbrev pub counts_ahead : Reading → ReadSoFar → Counts
 counts_ahead r p =
     plus (counts_left (row_in r) (blocks_of r) p.behind_child r.docs_are_comments
-        (chain_of p.stack.items) (ahead r p))
+    (chain_of p.stack.items) (ahead r p))
     (shares (children_ahead r p))
 
 -- the steps of the text itself, one for each child with them, and of what is left of it

@@ -19,7 +19,7 @@ extra ls (suc levels) language t =
     then sum_over (λ k. own_weight ls k.language k.contents + extra ls levels k.language k.contents)
     (ls.cells language t)
     else sum_over (λ k. extra ls levels k.language k.contents)
-        (children_in ls (suc levels) language t)
+    (children_in ls (suc levels) language t)
 
 -- The weight of a text, with so many levels left.
 abbrev pub weight : Languages → ℕ → ℕ → List ℕ → ℕ

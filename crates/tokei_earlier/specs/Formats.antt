@@ -19,4 +19,4 @@ abbrev pub format_of_word : List ℕ → Result Format FormatError
 format_of_word word =
     if bytes_eq word (codes "json") then Ok Json
     else (if bytes_eq word (codes "cbor") || bytes_eq word (codes "yaml") then Err NotBuilt
-        else Err Unknown)
+    else Err Unknown)

@@ -65,7 +65,7 @@ statistics_at rows (Some d) = statistics_in rows d
 abbrev pub report_in : List Row → Data → ReportValue
 report_in rows d = record {
   name = text_in (get (codes "name") d);
-  stats = statistics_at rows (get (codes "stats") d)
+  stats = statistics_at rows (get (codes "stats") d);
 }
 
 -- the reports of the items, in their order

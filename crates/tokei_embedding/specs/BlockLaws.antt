@@ -62,7 +62,7 @@ DocsOpenBeforeBlanks =
 pub record BeginWithOpeners (part rest : List ℕ) (place : ℕ) : Type 0 where
   pub fences : begins fence (drop place part) ≡ false → fence_block part place rest ≡ None
   pub tags : (g : Tag) → begins (token_of g) (drop place part) ≡ false
-    → tag_block g part place rest ≡ None
+      → tag_block g part place rest ≡ None
   pub docs : first_opener doc_marks (first_line rest) ≡ None → doc_block rest ≡ None
   pub targets : begins (codes "{=") (drop place part) ≡ false → target_block part place rest ≡ None
 

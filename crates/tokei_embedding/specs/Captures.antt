@@ -31,13 +31,13 @@ token_span token part =
 abbrev pub fence_opening : List ℕ → Option Span
 fence_opening part =
     option_map (λ i. record { start = i; stop = i + (info_len (drop i part) + 4) })
-        (first_fence part)
+    (first_fence part)
 
 -- The part's first closing fence, with one blank behind it where one stands there.
 abbrev pub fence_closing : List ℕ → Option Span
 fence_closing part =
     option_map (λ i. record { start = i; stop = i + closing_len (drop (i + 3) part) })
-        (first_of fence part)
+    (first_of fence part)
 
 -- The capture of a whole opening, and that of the value in it.
 abbrev pub opening_captured : List ℕ → ℕ → Opening → List (Option Captured)

@@ -52,7 +52,7 @@ pub record IsFirstSolid (text : List ℕ) (from place : ℕ) : Type 0 where
 pub record IsMarkPlace (text : List ℕ) (from place : ℕ) : Type 0 where
   pub within : place ≤ length text
   pub leads : (k : ℕ) → from ≤ k → k ≤ place
-    → mark_of (first_line (drop k text)) ≡ front_mark (drop place text)
+      → mark_of (first_line (drop k text)) ≡ front_mark (drop place text)
 
 -- From each place from the first one to before the other from which the rest of the line begins
 -- behind its blanks with the mark that is sought, the lines with the mark reach to the other.

@@ -31,7 +31,7 @@ abbrev pub value_before : List ℕ → List ℕ → Option ℕ → Option Span
 value_before attribute t None = None
 value_before attribute t (Some q) =
     option_map (λ a. record { start = a + length attribute; stop = q })
-        (last_of attribute (take q t))
+    (last_of attribute (take q t))
 
 -- The attribute's value in a tag's inside: it runs to the last quote mark.
 abbrev pub value_in : List ℕ → List ℕ → Option Span
@@ -102,11 +102,10 @@ element_of tag part place rest None = None
 element_of tag part place rest (Some o) =
     let n = o.whole.stop - place in
     element_to (option_map (bytes_of part) o.value) n (drop n rest)
-        (first_of (closer_of tag) (drop n rest))
+    (first_of (closer_of tag) (drop n rest))
 
 -- The element that opens at a place of a part, where the tag's token stands there for the first
--- time in the part.
--- `rest` is the text from the place on.
+-- time in the part. `rest` is the text from the place on.
 abbrev pub tag_block : Tag → List ℕ → ℕ → List ℕ → Option TagBlock
 tag_block tag part place rest =
     if is_at place (first_of (token_of tag) part)

@@ -8,5 +8,5 @@ abbrev pub counting_of : CodeCounting.Counting → Counting
 counting_of c = record {
   rows = c.counter.now;
   docs = docs_of c.config;
-  types = option_map (λ types. types.now) c.types
+  types = option_map (λ types. types.now) c.types;
 }

@@ -71,4 +71,4 @@ unfoldable pub last_fitting : List Pattern → List (List ℕ) → Bool → Opti
 last_fitting [] names folder = None
 last_fitting (p ∷ ps) names folder =
     or_else (last_fitting ps names folder)
-        (if fits_entry p names folder then Some (verdict_of p) else None)
+    (if fits_entry p names folder then Some (verdict_of p) else None)

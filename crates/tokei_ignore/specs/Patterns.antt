@@ -52,13 +52,13 @@ from_rest negated folders_only anchored cs =
     if is_empty cs then Ok None
     else and_then (segments_from (unanchored anchored cs) (slice_split is_slash cs))
     (λ ss. Ok
-        (Some (record { negated = negated; folders_only = folders_only; segments = closed ss })))
+    (Some (record { negated = negated; folders_only = folders_only; segments = closed ss })))
 
 -- one slash at the front anchors and is taken away
 unfoldable pub from_front : Bool → Bool → List ℕ → Result (Option Pattern) PatternError
 from_front negated folders_only cs =
     from_rest negated folders_only (begins_with 47 cs)
-        (if begins_with 47 cs then without_first cs else cs)
+    (if begins_with 47 cs then without_first cs else cs)
 
 -- one slash at the end means folders only and is taken away
 unfoldable pub from_end : Bool → List ℕ → Result (Option Pattern) PatternError

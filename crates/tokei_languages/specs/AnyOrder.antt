@@ -30,4 +30,4 @@ pub record DifferInOrderAlone (es fs : List (ℕ × LanguageValue)) : Type 0 whe
   pub totals : languages_summary (renewed_languages es) ≡ languages_summary (renewed_languages fs)
   pub marks : any_inaccurate es ≡ any_inaccurate fs
   pub reports : (k : ℕ) (test : ReportValue → Bool)
-    → passing_reports k test es ≡ passing_reports k test fs
+      → passing_reports k test es ≡ passing_reports k test fs

@@ -64,7 +64,7 @@ opens_with ps t c = list_any (λ p. begins p.opener t && bytes_eq p.closer c) ps
 abbrev pub ends_opened : Row → List ℕ → Mode → Bool
 ends_opened r head e = in_comment e
     && (opens_with r.multi_line_comments head (closer_of e)
-        || opens_with r.nested_comments head (closer_of e))
+    || opens_with r.nested_comments head (closer_of e))
 
 -- The rules, in order. `docs_are_comments` says whether doc strings are treated as comments.
 -- 1. begun plain and blank: blank
@@ -89,7 +89,7 @@ class_of r docs_are_comments p =
     else if in_string p.begun then Code
     else if any_begins r.line_comment (head_of r p.bytes) then Comment
     else if encloses r.multi_line_comments (trim p.bytes)
-            || encloses r.nested_comments (trim p.bytes)
-        then Comment
+    || encloses r.nested_comments (trim p.bytes)
+    then Comment
     else if ends_opened r (head_of r p.bytes) p.ended then Comment
     else Code

@@ -54,7 +54,7 @@ follow (passes_over p) b t l m go =
     before (passed_over p) (length p.opener) (go (length p.opener - 1) l m)
 follow begins_line_comment b t l m go =
     before (line_comment (first_line (b ∷ t))) (length (first_line (b ∷ t)))
-        (go (length (first_line (b ∷ t)) - 1) l m)
+    (go (length (first_line (b ∷ t)) - 1) l m)
 follow takes_byte b t l m go = before (one b) 1 (go 0 l m)
 
 -- The body of mode m in the text without its first n bytes. `block l s` is the child that opens at

@@ -18,7 +18,7 @@ abbrev pub begins_choice : Row → ℕ → Bool
 begins_choice r b =
     (b == backslash)
     || (begins_opener r.quotes b
-        || (begins_opener r.verbatim_quotes b || (begins_opener r.doc_quotes b
+    || (begins_opener r.verbatim_quotes b || (begins_opener r.doc_quotes b
     || (begins_opener r.multi_line_comments b || (begins_opener r.nested_comments b
     || list_any (is_first_of b) r.line_comment)))))
 

@@ -52,7 +52,7 @@ unfoldable mutual
   marks_of c (passed_over p) = of_choice c p.opener
   marks_of c (string_literal k p is closed) = of_choice (enclosure k p ∷ c) p.opener
       ++ (marks (enclosure k p ∷ c) is
-          ++ (if closed then closing (enclosure k p ∷ c) c p.closer else []))
+      ++ (if closed then closing (enclosure k p ∷ c) c p.closer else []))
   marks_of c (comment p is closed) = of_choice (enclosure MultiLineComment p ∷ c) p.opener
       ++ (marks (enclosure MultiLineComment p ∷ c) is
       ++ (if closed then closing (enclosure MultiLineComment p ∷ c) c p.closer else []))

@@ -31,4 +31,4 @@ abbrev pub block_in : List Row → ℕ → List ℕ → ℕ → List ℕ → Opt
 block_in rows language text l rest =
     let front = part_front text l rest in
     block_by (family_of (row_at rows language).key) rows language text (front ++ first_line rest)
-        (length front) rest
+    (length front) rest

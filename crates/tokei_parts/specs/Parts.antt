@@ -19,7 +19,7 @@ cut m s e [] = elim s [ [] ↦ [] | a ∷ s' ↦ record { begun = m; bytes = a �
 cut m s e (byte_at b x c ∷ ms) =
     if b == newline
     then record { begun = m; bytes = s ++ b ∷ []; ended = innermost c }
-        ∷ cut (innermost c) [] (innermost c) ms
+    ∷ cut (innermost c) [] (innermost c) ms
     else cut m (s ++ b ∷ []) (innermost c) ms
 cut m s e (child_at k ∷ ms) = cut None [] None ms
 

@@ -53,4 +53,4 @@ Childless p to = (q : ℕ) → p.at ≤ q → q < to → block_from p q ≡ None
 abbrev pub LeadsTo : Place → Chain → ℕ → Type 0
 LeadsTo p c to =
     Leads (row_in p.reading.now) (blocks_of p.reading.now) p.behind_child c (to - p.at) (to - p.at)
-        c (text_from p p.at)
+    c (text_from p p.at)

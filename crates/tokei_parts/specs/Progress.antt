@@ -88,11 +88,11 @@ module _ (r : Row) (block : ℕ → List ℕ → Option Block) (l : ℕ) where
     pub within : n ≤ length t
     pub closable : IsClosable d
     pub counts : counts_left docs_are_comments c t
-      ≡ plus (one_of class) (counts_left docs_are_comments d (drop n t))
+        ≡ plus (one_of class) (counts_left docs_are_comments d (drop n t))
     pub kids : children_left c t ≡ children_left d (drop n t)
     pub steps : steps_left c t
         ≡ (if is_walked (openers r) (innermost c) (take n t) then j else 0)
-            + steps_left d (drop n t)
+        + steps_left d (drop n t)
 
   -- A part that a child breaks off: the child k opens behind n bytes, at which j choices begin, in
   -- plain text, and the text goes on behind it.
@@ -105,9 +105,9 @@ module _ (r : Row) (block : ℕ → List ℕ → Option Block) (l : ℕ) where
         ≡ tally r docs_are_comments
         (cut None [] None (marks_ahead r block (length t - (n + k.size)) [] (drop (n + k.size) t)))
     pub kids : children_left c t
-      ≡ k ∷ children (marks_ahead r block (length t - (n + k.size)) [] (drop (n + k.size) t))
+        ≡ k ∷ children (marks_ahead r block (length t - (n + k.size)) [] (drop (n + k.size) t))
     pub steps :
-      steps_left c t ≡ (if is_walked (openers r) (innermost c) (first_line t) then j else 0)
+        steps_left c t ≡ (if is_walked (openers r) (innermost c) (first_line t) then j else 0)
         + choices_passed (openers r) (running None [] 0 (drop (n + k.size) t)
         (marks_ahead r block (length t - (n + k.size)) [] (drop (n + k.size) t)))
 

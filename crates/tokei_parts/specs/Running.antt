@@ -28,7 +28,7 @@ running m s n t (byte_at b x c ∷ ms) =
       begun = m;
       reach = s ++ b ∷ [];
       size = length (s ++ b ∷ []);
-      choices = n + one_if x
+      choices = n + one_if x;
     }
     ∷ running (innermost c) [] 0 (drop 1 t) ms
     else running m (s ++ b ∷ []) (n + one_if x) (drop 1 t) ms

@@ -52,8 +52,7 @@ ReadsTo r block l docs_are_comments c d start text steps (Broken at) =
     × Breaks r block l docs_are_comments c d start text at j k
 
 -- The part that begins at `start` is a line, which ends at the place `end`, or is broken off by a
--- child at the place
--- `at`; it takes so many steps, one of them for the child.
+-- child at the place `at`; it takes so many steps, one of them for the child.
 abbrev pub Reads : Row → (ℕ → List ℕ → Option Block) → ℕ → Bool → Chain → Chain → ℕ → List ℕ
     → PartRead → Type 0
 Reads r block l docs_are_comments c d start text p =

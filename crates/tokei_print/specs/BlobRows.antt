@@ -21,7 +21,7 @@ abbrev pub name_line : Layout → Bool → List ℕ → List ℕ
 name_line layout first name =
     if first then space ∷ (name ++ newline)
     else codes "-- "
-        ++ (name ++ (space ∷ (replicate (layout.columns - 4 - length name) dash ++ newline)))
+    ++ (name ++ (space ∷ (replicate (layout.columns - 4 - length name) dash ++ newline)))
 
 -- the own counts of a file, under the name of its language
 abbrev pub own_row : Layout → List ℕ → Statistics → List ℕ
@@ -33,8 +33,8 @@ abbrev pub blob_row : Layout → Bool → List ℕ → Statistics → List ℕ
 blob_row layout inaccurate name stats =
     name_section layout.columns inaccurate name (codes " |-")
     ++ (space
-        ∷ (replicate files_places space
-            ++ (number_cells (separator_in layout) (own stats) ++ newline)))
+    ∷ (replicate files_places space
+    ++ (number_cells (separator_in layout) (own stats) ++ newline)))
 
 -- a row for each language inside, in their order
 abbrev pub blob_rows : Layout → (ℕ → List ℕ) → Bool → Blobs → List ℕ

@@ -12,7 +12,7 @@ abbrev pub child_counts : Layout → List ReportValue → List ℕ
 child_counts layout [] = []
 child_counts layout (report ∷ reports) =
     files_and_counts (separator_in layout) (length (report ∷ reports))
-        (reports_summary (report ∷ reports))
+    (reports_summary (report ∷ reports))
 
 -- the row of a language inside the files of another, never marked as inaccurate
 abbrev pub child_row : Layout → List ℕ → List ReportValue → List ℕ

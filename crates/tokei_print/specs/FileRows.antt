@@ -52,4 +52,4 @@ listed_files layout names compact inaccurate language reports =
     let alone = filter (has_row_alone compact) reports in
     file_rows layout alone
     ++ file_blocks layout names inaccurate language (length alone == 0)
-        (with_blocks compact reports)
+    (with_blocks compact reports)

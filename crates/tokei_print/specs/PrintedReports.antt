@@ -47,4 +47,4 @@ abbrev pub IsPrintedReport : Option Sort → List Row → ReportStyle → List (
 IsPrintedReport None rows style languages text = IsReport rows style languages languages text
 IsPrintedReport (Some sort) rows style languages text =
     IsReport rows style (listed_by sort style.reverse languages) (sorted_languages sort languages)
-        text
+    text

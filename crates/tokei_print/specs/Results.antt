@@ -71,4 +71,4 @@ results_text layout names compact sorted languages =
     let alone = group_of compact false languages in
     language_blocks layout names compact sorted true alone
     ++ language_blocks layout names compact sorted (length alone == 0)
-        (group_of compact true languages)
+    (group_of compact true languages)

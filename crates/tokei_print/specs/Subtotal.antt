@@ -17,4 +17,4 @@ abbrev pub subtotal : Layout → List ℕ → Counts → List ℕ
 subtotal layout name n =
     space
     ∷ (name_cell (path_places layout.columns) name
-        ++ (subtotal_cells (separator_in layout) n ++ newline))
+    ++ (subtotal_cells (separator_in layout) n ++ newline))

@@ -27,6 +27,6 @@ config_folder_of (Some folder) home =
 -- the folders of an environment
 pub record AreDirs (env : Env) (dirs : ConfigDirs) : Type 0 where
   pub config :
-    text_of dirs.config ≡ config_folder_of (text_of env.xdg_config_home) (text_of env.home)
+      text_of dirs.config ≡ config_folder_of (text_of env.xdg_config_home) (text_of env.home)
   pub home : text_of dirs.home ≡ text_of env.home
   pub current : text_of dirs.current ≡ Some (codes ".")

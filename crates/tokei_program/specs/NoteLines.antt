@@ -35,7 +35,7 @@ abbrev pub filter_of : ℕ → LevelFilter
 filter_of n =
     if n == 1 then level_filter.Warn
     else (if n == 2 then level_filter.Debug
-        else (if n == 3 then level_filter.Trace else level_filter.Error))
+    else (if n == 3 then level_filter.Trace else level_filter.Error))
 
 -- `[ERROR not found] nope`
 abbrev pub note_line : Note → List ℕ

@@ -21,4 +21,4 @@ OrderKeepsTotals =
     (c : Counting) (t : Tree) (earlier : List (ℕ × LanguageValue)) (files others : List KeptFile)
     → IsPermutation files others
     → HaveEqualTotals (renewed_languages (merged_languages earlier (languages_of_run c t files)))
-        (renewed_languages (merged_languages earlier (languages_of_run c t others)))
+    (renewed_languages (merged_languages earlier (languages_of_run c t others)))

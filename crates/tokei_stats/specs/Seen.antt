@@ -14,7 +14,7 @@ blobs_of (e ∷ es) = blob e.0 e.1 (blobs_of es)
 abbrev pub stats_step : CodeStats-F Statistics → Statistics
 stats_step s =
     node (record { blanks = s.blanks; code = s.code; comments = s.comments })
-        (blobs_of s.blobs.entries)
+    (blobs_of s.blobs.entries)
 
 abbrev pub stats_of : CodeStats → Statistics
 stats_of = fold-CodeStats Statistics stats_step

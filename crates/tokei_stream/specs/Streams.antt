@@ -15,7 +15,7 @@ use Rattle.tokei_walk.specs.declared.kept_file.KeptFile.{KeptFile}
 abbrev pub report_in : Counting → Tree → KeptFile → ℕ → Option (ℕ × ReportValue)
 report_in c t file language =
     option_map (λ s. (language, record { name = file.path; stats = s }))
-        (stats_at t c.rows c.docs language file.place)
+    (stats_at t c.rows c.docs language file.place)
 
 -- the report of a file beside its language, where it counts in one and can be read
 unfoldable pub report_of_file : Counting → Tree → KeptFile → Option (ℕ × ReportValue)

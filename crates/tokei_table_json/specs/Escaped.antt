@@ -56,7 +56,7 @@ has_escaped_traits d =
     absent_or is_escaped_value (get (codes "name") d)
     && absent_or is_escaped_list (get (codes "important_syntax") d)
     && (not (is_html_kind (get (codes "kind") d))
-        || absent_or are_escaped_contexts (get (codes "contexts") d))
+    || absent_or are_escaped_contexts (get (codes "contexts") d))
 
 -- All members of a language.
 abbrev pub is_escaped_language : Data → Bool

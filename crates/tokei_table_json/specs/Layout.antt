@@ -90,7 +90,7 @@ has_traits d =
     && absent_or is_truth_value (get (codes "blank") d)
     && absent_or (is_list is_text) (get (codes "important_syntax") d)
     && absent_or (is_list (is_context (is_html_kind (get (codes "kind") d))))
-        (get (codes "contexts") d)
+    (get (codes "contexts") d)
 
 -- A language is an object whose members, where they stand, hold such values; others are passed
 -- over.

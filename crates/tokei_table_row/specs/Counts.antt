@@ -19,5 +19,5 @@ abbrev pub plus : Counts → Counts → Counts
 plus a b = record {
   blanks = a.blanks + b.blanks;
   code = a.code + b.code;
-  comments = a.comments + b.comments
+  comments = a.comments + b.comments;
 }

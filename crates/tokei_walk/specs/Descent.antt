@@ -62,7 +62,7 @@ descend excludes rules t zero c place = []
 descend excludes rules t (suc n) c place =
     of_listing
     (λ d at es. of_entries excludes rules (descend excludes rules t n)
-        (with_level d (level_at t rules (names_of at))) at es)
+    (with_level d (level_at t rules (names_of at))) at es)
     c place (list_answer t (names_of place))
 
 -- the rules of the folders above a root, from the top down
@@ -97,7 +97,7 @@ abbrev pub outer : Context → Context
 outer c = record {
   levels = without_last c.levels;
   names = without_last c.names;
-  shown = without_last c.shown
+  shown = without_last c.shown;
 }
 
 -- what the folders give that are entered and not left, the innermost first
@@ -105,14 +105,14 @@ unfoldable pub of_frames : List Pattern → Rules → Tree → Context → List 
 of_frames excludes rules t c [] = []
 of_frames excludes rules t c (f ∷ fs) =
     of_entries excludes rules (descend excludes rules t (256 - length fs)) c f.place
-        (reverse f.left)
+    (reverse f.left)
     ++ of_frames excludes rules t (outer c) fs
 
 -- what the folder that is walked still gives
 abbrev pub of_top : List Pattern → Rules → Tree → Stack → List KeptFile
 of_top excludes rules t s =
     of_entries excludes rules (descend excludes rules t (256 - length s.holders)) s.context s.place
-        (reverse s.left)
+    (reverse s.left)
 
 abbrev pub of_stack : List Pattern → Rules → Tree → Stack → List KeptFile
 of_stack excludes rules t s =

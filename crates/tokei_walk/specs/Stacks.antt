@@ -82,7 +82,7 @@ abbrev pub VisitTells : List Pattern → Rules → Tree → Stack → Stack → 
 VisitTells excludes rules t old new name place None = of_folder excludes rules t old name place ≡ []
 VisitTells excludes rules t old new name place (Some k) =
     of_folder excludes rules t old name place ++ of_stack excludes rules t old
-        ≡ k ∷ of_stack excludes rules t new
+    ≡ k ∷ of_stack excludes rules t new
 
 -- what the exploring of the walked folder leaves
 abbrev pub ExploreTells : List Pattern → Rules → Tree → Stack → Stack → Option KeptFile → Type 0
