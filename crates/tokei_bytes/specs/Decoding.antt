@@ -42,5 +42,6 @@ abbrev pub decoded_by : Option ByteOrder → List ℕ → List ℕ
 decoded_by None bytes = bytes
 decoded_by (Some order) bytes = text_of_units order (drop 2 bytes)
 
+-- the contents as UTF-8, by the mark at their front
 abbrev pub decoded : List ℕ → List ℕ
 decoded bytes = decoded_by (order_of bytes) bytes

@@ -12,19 +12,23 @@ use Rattle.tokei_table.specs.Row.{Row}
 abbrev pub value_of : {X : Type 0} → Option (Option X) → Option X
 value_of found = unwrap_or found None
 
+-- A member that is true or false, by its key.
 abbrev pub flag : List ℕ → Members → Option (Option Bool)
 flag key ms = optional as_bool (get_member key ms)
 
--- Each member, where it is there; `types` and `languages` name languages of the table.
+-- How many columns wide the report is.
 abbrev pub columns_in : Members → Option (Option ℕ)
 columns_in ms = optional as_count (get_member (codes "columns") ms)
 
+-- The column that the languages are sorted by.
 abbrev pub sort_in : Members → Option (Option Sort)
 sort_in ms = optional as_sort (get_member (codes "sort") ms)
 
+-- The only languages that are counted, by their numbers in the table.
 abbrev pub types_in : List Row → Members → Option (Option (List ℕ))
 types_in rows ms = optional (as_languages rows) (get_member (codes "types") ms)
 
+-- The extensions that each language gains, by its number in the table.
 abbrev pub languages_in : List Row → Members → Option (Option (List (ℕ × List (List ℕ))))
 languages_in rows ms = optional (as_additions rows) (get_member (codes "languages") ms)
 

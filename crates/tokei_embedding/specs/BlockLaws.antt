@@ -46,6 +46,7 @@ pub record NoneAtNewline (part t : List ℕ) (place : ℕ) : Type 0 where
   pub doc : doc_block (newline ∷ t) ≡ None
   pub target : target_block part place (newline ∷ t) ≡ None
 
+-- At each place of a part at which a newline stands, no block opens.
 abbrev pub NewlinesOpenNothing : Type 0
 NewlinesOpenNothing =
     (part t tail : List ℕ) (place : ℕ) → newline ∷ t ≡ drop place part ++ tail
@@ -66,5 +67,6 @@ pub record BeginWithOpeners (part rest : List ℕ) (place : ℕ) : Type 0 where
   pub docs : first_opener doc_marks (first_line rest) ≡ None → doc_block rest ≡ None
   pub targets : begins (codes "{=") (drop place part) ≡ false → target_block part place rest ≡ None
 
+-- At each place of each part blocks open only where their openers stand.
 abbrev pub BlocksBeginWithOpeners : Type 0
 BlocksBeginWithOpeners = (part rest : List ℕ) (place : ℕ) → BeginWithOpeners part rest place

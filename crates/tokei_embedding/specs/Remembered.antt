@@ -10,6 +10,7 @@ pub record Sought : Type 0 where
   pub text : List ℕ
   pub token : List ℕ
 
+-- The token sought in the text, as one value.
 abbrev pub sought : List ℕ → List ℕ → Sought
 sought text token = record { text = text; token = token }
 

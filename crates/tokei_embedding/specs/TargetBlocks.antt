@@ -6,6 +6,7 @@ use Rattle.std.specs.Prelude.{List, [], ◌∷◌, length, take, drop, codes, Op
 use Rattle.tokei_table_row.specs.Bytes.{is_blank, trim_start, begins, newline}
 use Rattle.tokei_embedding.specs.Searches.{first_of, is_at}
 
+-- The byte of an underscore, `_`.
 abbrev pub underscore : ℕ
 underscore = 95
 

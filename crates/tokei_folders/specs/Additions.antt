@@ -29,6 +29,7 @@ new_file p content = record { names = p; node = file false false content }
 unfoldable pub folders_to : Names → List PlacedNode
 folders_to p = map (λ a. new_folder a.0) (folders_above [] p)
 
+-- a file stands there
 abbrev pub is_file : Option Node → Bool
 is_file None = false
 is_file (Some (file r h content)) = true

@@ -30,6 +30,7 @@ segments_from read [] = Ok read
 segments_from read (part ∷ parts) =
     and_then (segment_of part) (λ s. segments_from (read ++ s ∷ []) parts)
 
+-- the last segment spans any number of names
 abbrev pub ends_in_names : List Segment → Bool
 ends_in_names [] = false
 ends_in_names (s ∷ []) = spans_names s
@@ -39,6 +40,7 @@ ends_in_names (s ∷ t ∷ ss) = ends_in_names (t ∷ ss)
 unfoldable pub closed : List Segment → List Segment
 closed ss = if ends_in_names ss then ss ++ Name (AnyRun ∷ []) ∷ [] else ss
 
+-- the character is a slash
 abbrev pub is_slash : ℕ → Bool
 is_slash c = c == 47
 
@@ -47,6 +49,7 @@ is_slash c = c == 47
 unfoldable pub unanchored : Bool → List ℕ → List Segment
 unanchored anchored cs = if anchored || list_any is_slash cs then [] else AnyNames ∷ []
 
+-- the pattern of what is left: none of nothing, else its segments, cut at the slashes
 unfoldable pub from_rest : Bool → Bool → Bool → List ℕ → Result (Option Pattern) PatternError
 from_rest negated folders_only anchored cs =
     if is_empty cs then Ok None

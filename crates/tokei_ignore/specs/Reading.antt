@@ -80,6 +80,7 @@ taken r c colon =
     if not r.quoted && (c == 92) then Ok (record r { quoted = true })
     else at_place (record r { quoted = false }) r.place r.quoted c colon
 
+-- the next step on what was read, or the error that came first
 abbrev pub and_then : {A B : Type 0} → Result A PatternError → (A → Result B PatternError)
     → Result B PatternError
 and_then (Ok a) f = f a
@@ -90,6 +91,7 @@ abbrev pub read : Reading → List ℕ → Result Reading PatternError
 read r [] = Ok r
 read r (c ∷ cs) = and_then (taken r c (begins_with 58 cs)) (λ s. read s cs)
 
+-- no class of characters is open
 abbrev pub is_outside : Place → Bool
 is_outside Outside = true
 is_outside Opened = false

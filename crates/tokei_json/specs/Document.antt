@@ -8,6 +8,7 @@ use Rattle.tokei_languages.specs.Summaries.{total_of}
 use Rattle.tokei_languages.specs.Values.{LanguageValue}
 use Rattle.tokei_table.specs.Row.{Row}
 
+-- a language: its counts, its children and reports, and whether it is inaccurate
 abbrev pub language_data : List Row → LanguageValue → Data
 language_data rows l = object
     (member (codes "blanks") (count l.counts.blanks)

@@ -47,22 +47,27 @@ abbrev mutual
   statistics_pass test (object ms) = blobs_at_pass test ms
   statistics_pass test d = true
 
+  -- whether the first member `blobs` passes; with none they do
   pub blobs_at_pass : (Data → Bool) → Members → Bool
   blobs_at_pass test no_members = true
   blobs_at_pass test (member k d ms) =
       if bytes_eq k (codes "blobs") then blobs_pass test d else blobs_at_pass test ms
 
+  -- whether an object of blobs passes, and all inside it
   pub blobs_pass : (Data → Bool) → Data → Bool
   blobs_pass test (object ms) = test (object ms) && each_passes test ms
   blobs_pass test d = true
 
+  -- whether the statistics of each member pass
   pub each_passes : (Data → Bool) → Members → Bool
   each_passes test no_members = true
   each_passes test (member k d ms) = statistics_pass test d && each_passes test ms
 
+-- whether the statistics of a report pass
 abbrev pub report_passes : (Data → Bool) → Data → Bool
 report_passes test d = absent_or (statistics_pass test) (get (codes "stats") d)
 
+-- whether the reports of a list pass
 abbrev pub reports_pass : (Data → Bool) → Data → Bool
 reports_pass test (array ds) = all_items (report_passes test) ds
 reports_pass test d = true
@@ -72,10 +77,12 @@ abbrev pub lists_pass : (Data → Bool) → Members → Bool
 lists_pass test no_members = true
 lists_pass test (member k d ms) = reports_pass test d && lists_pass test ms
 
+-- whether an object of children passes, and the lists in it
 abbrev pub children_pass : (Data → Bool) → Data → Bool
 children_pass test (object ms) = test (object ms) && lists_pass test ms
 children_pass test d = true
 
+-- whether the reports and the children of a language pass
 abbrev pub language_passes : (Data → Bool) → Data → Bool
 language_passes test d =
     absent_or (reports_pass test) (get (codes "reports") d)

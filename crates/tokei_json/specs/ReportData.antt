@@ -10,6 +10,7 @@ use Rattle.tokei_stats.specs.Statistics.Blobs.{none, blob}
 use Rattle.tokei_table.specs.Row.{Row}
 use Rattle.tokei_table.specs.Lookups.{row_at}
 
+-- a count as a number
 abbrev pub count : ℕ → Data
 count n = number (unsigned n)
 
@@ -26,11 +27,13 @@ abbrev mutual
       (member (codes "code") (count n.code)
       (member (codes "comments") (count n.comments) no_members))))
 
+  -- the members, and then one for each blob, under the name of its language
   pub blobs_data : List Row → Blobs → Members → Members
   blobs_data rows none ms = ms
   blobs_data rows (blob k t rest) ms =
       blobs_data rows rest (put (name_of rows k) (statistics_data rows t) ms)
 
+-- a report: its name and its statistics
 abbrev pub report_data : List Row → ReportValue → Data
 report_data rows r = object
     (member (codes "name") (string r.name)

@@ -14,6 +14,7 @@ abbrev pub all_taken_back : List (ℕ × List ReportValue) → List (ℕ × Opti
 all_taken_back es [] = es
 all_taken_back es (b ∷ bs) = taken_back (first b.1) (all_taken_back es bs) b.0
 
+-- the language with the counts it had, and its reports and children cut to what they were
 abbrev pub restored : Before → LanguageValue → LanguageValue
 restored b s = record {
   counts = record { blanks = b.blanks; code = b.code; comments = b.comments };

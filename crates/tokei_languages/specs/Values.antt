@@ -15,6 +15,7 @@ pub record LanguageValue : Type 0 where
   pub children : List (ℕ × List ReportValue)
   pub inaccurate : Bool
 
+-- a language of which nothing was counted
 abbrev pub empty_language : LanguageValue
 empty_language = record { counts = no_lines; reports = []; children = []; inaccurate = false }
 

@@ -10,6 +10,7 @@ use Rattle.tokei_parts.specs.declared.items.Kind.{Kind}
 use Rattle.tokei_parts.specs.declared.items.Kind.TheVariants.{DocString, VerbatimString, OrdinaryString}
 use Rattle.tokei_parts.specs.declared.items.Kind.TheVariants.{MultiLineComment}
 
+-- what is read at a place; where nothing else fits, the byte that stands there
 pub data Choice : Type 0 where
   closes : Choice
   escapes : Choice

@@ -30,6 +30,7 @@ abbrev pub behind : Bool → Body → Body
 behind true b = b
 behind false b = ended
 
+-- the closer of the item that encloses the place, in plain text nothing
 abbrev pub closer_of : Mode → List ℕ
 closer_of None = []
 closer_of (Some e) = e.closer

@@ -22,6 +22,7 @@ usual_key Script = codes "JavaScript"
 usual_key Style = codes "Css"
 usual_key Template = codes "Html"
 
+-- the language that the attribute's value names, else the usual one of the tag
 abbrev pub element_language : List Row → ℕ → Tag → Option (List ℕ) → ℕ
 element_language rows parent tag v =
     unwrap_or (option_and_then (by_value rows tag) v) (fallback rows parent (usual_key tag))
@@ -36,6 +37,7 @@ element_child rows parent tag e = record {
   share = record { blanks = 0; code = 1; comments = 0 };
 }
 
+-- the child that an element at this place of the part is, where one stands there
 abbrev pub element_at : List Row → ℕ → Tag → List ℕ → ℕ → List ℕ → Option Block
 element_at rows parent tag part place rest =
     option_map (element_child rows parent tag) (tag_block tag part place rest)

@@ -27,6 +27,7 @@ mutual
     line_comment : List ℕ → Item
     child : Block → List ℕ → Item
 
+  -- items one after another
   pub data Items : Type 0 where
     none : Items
     more : Item → Items → Items
@@ -43,6 +44,7 @@ pub record Enclosure : Type 0 where
   pub kind : Kind
   pub closer : List ℕ
 
+-- the item that the pair opens
 abbrev pub enclosure : Kind → Pair → Enclosure
 enclosure k p = record { kind = k; closer = p.closer }
 

@@ -8,6 +8,7 @@ use Rattle.tokei_embedding.specs.Fences.{Fence, fence_block}
 use Rattle.tokei_parts.specs.Items.{Block}
 use Rattle.tokei_parts.specs.NamedLanguages.{by_word}
 
+-- whether the byte is a comma, `,`
 abbrev pub is_comma : ℕ → Bool
 is_comma b = b == 44
 

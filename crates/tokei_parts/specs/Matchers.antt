@@ -41,6 +41,7 @@ pub record Matchers : Type 0 where
   pub begins_in_comment : List Bool
   pub family : Family
 
+-- the matchers that a row of the table gives
 abbrev pub matchers_of : Row → Matchers
 matchers_of r = record {
   openers = openers r;

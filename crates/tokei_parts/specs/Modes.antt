@@ -37,6 +37,7 @@ closing_from x c d [] = []
 closing_from x c d (b ∷ []) = byte_at b x d ∷ []
 closing_from x c d (b ∷ b' ∷ t) = byte_at b x c ∷ closing_from false c d (b' ∷ t)
 
+-- the marks of the bytes of a closer, of which the first begins a choice
 abbrev pub closing : Chain → Chain → List ℕ → List Mark
 closing c d t = closing_from true c d t
 

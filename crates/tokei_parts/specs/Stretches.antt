@@ -14,9 +14,11 @@ pub record Stretch : Type 0 where
   pub reach : List ℕ
   pub own : List (ℕ × Bool)
 
+-- the bytes alone
 abbrev pub bytes_of : List (ℕ × Bool) → List ℕ
 bytes_of = map (λ b. b.0)
 
+-- how many choices a byte begins: one or none
 abbrev pub one_if : Bool → ℕ
 one_if x = if x then 1 else 0
 

@@ -43,6 +43,8 @@ pub record IsLine (r : Row) (block : ℕ → List ℕ → Option Block) (l : ℕ
   pub line : end ≡ start + length (first_line (drop start text))
   pub reads : ReadsLine r block l docs_are_comments c (end - start) steps class d (drop start text)
 
+-- how the part reads, by its end: as a line of a class, or broken off at a child, for which it
+-- takes one step more
 abbrev pub ReadsTo : Row → (ℕ → List ℕ → Option Block) → ℕ → Bool → Chain → Chain → ℕ → List ℕ → ℕ
     → PartEnd → Type 0
 ReadsTo r block l docs_are_comments c d start text steps (Line class end) =

@@ -13,6 +13,7 @@ use Rattle.tokei_print.specs.NameSection.{name_section}
 use Rattle.tokei_print.specs.Rules.{newline}
 use Rattle.tokei_print.specs.Subtotal.{path_places}
 
+-- the byte of a dash, `-`
 abbrev pub dash : ℕ
 dash = 45
 

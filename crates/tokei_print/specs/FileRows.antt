@@ -15,6 +15,7 @@ abbrev pub file_row : Layout → ReportValue → List ℕ
 file_row layout report =
     report_row (path_places layout.columns) report.name (own report.stats) ++ newline
 
+-- the rows of the reports' own counts, in their order
 abbrev pub file_rows : Layout → List ReportValue → List ℕ
 file_rows layout [] = []
 file_rows layout (report ∷ reports) = file_row layout report ++ file_rows layout reports
@@ -34,6 +35,7 @@ file_blocks layout names inaccurate language first (report ∷ reports) =
     file_block layout names inaccurate language first report
     ++ file_blocks layout names inaccurate language false reports
 
+-- no other language stands inside
 abbrev pub no_blobs : Blobs → Bool
 no_blobs none = true
 no_blobs (blob key stats rest) = false

@@ -12,6 +12,7 @@ pub record FileBlockFits (report : ReportValue) : Type 0 where
   pub blobs : BlobRowsFit (blobs report.stats)
   pub subtotal : LinesFit (summary report.stats)
 
+-- the sums of each of the files' rows fit
 abbrev pub FileBlocksFit : List ReportValue → Type 0
 FileBlocksFit [] = ⊤
 FileBlocksFit (report ∷ reports) = FileBlockFits report × FileBlocksFit reports

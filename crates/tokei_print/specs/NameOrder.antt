@@ -16,6 +16,7 @@ abbrev pub placed_onto : List ReportValue → List ReportValue → List ReportVa
 placed_onto done [] = done
 placed_onto done (report ∷ reports) = placed_onto (placed report done) reports
 
+-- the reports in the order of their names
 abbrev pub by_name : List ReportValue → List ReportValue
 by_name reports = placed_onto [] reports
 

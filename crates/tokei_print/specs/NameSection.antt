@@ -24,6 +24,7 @@ shown_name places name =
     if nat_lt places (length name) then take_chars (places - 1) name ++ codes "|"
     else left_in places name
 
+-- a name behind its prefix, cut to the places that are left, with the mark behind it
 abbrev pub name_section : ℕ → Bool → List ℕ → List ℕ → List ℕ
 name_section columns inaccurate name prefix =
     prefix ++ (space ∷ (shown_name (room columns inaccurate prefix) name ++ mark inaccurate))

@@ -53,6 +53,7 @@ language_block layout names compact sorted first key language =
     ++ (counts_block layout names compact (names key) language
     ++ files_block layout names compact sorted (names key) language)
 
+-- all rows of the languages, in their order; `first` says whether none stands above them
 abbrev pub language_blocks : Layout → (ℕ → List ℕ) → Bool → Bool → Bool → List (ℕ × LanguageValue)
     → List ℕ
 language_blocks layout names compact sorted first [] = []

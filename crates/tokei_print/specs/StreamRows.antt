@@ -7,6 +7,7 @@ use Rattle.tokei_table.specs.Bytes.{space}
 use Rattle.tokei_print.specs.Cells.{centred_in, right_in}
 use Rattle.tokei_print.specs.Rules.{newline}
 
+-- the byte of a number sign, `#`
 abbrev pub number_sign : ℕ
 number_sign = 35
 

@@ -41,6 +41,7 @@ filter_of n =
 abbrev pub note_line : Note → List ℕ
 note_line n = header_text (level_of n.kind) (words_of n.kind) ++ n.place
 
+-- the filter lets the note through, by its level
 abbrev pub is_shown : LevelFilter → Note → Bool
 is_shown f n = allows f (level_of n.kind)
 

@@ -10,10 +10,12 @@ abbrev pub StandBehind : ℕ → Blobs → Type 0
 StandBehind k none = ⊤
 StandBehind k (blob j t rest) = (k < j) × StandBehind k rest
 
+-- the blobs of the statistics ascend, at every depth
 abbrev mutual
   pub IsOrdered : Statistics → Type 0
   IsOrdered (node n bs) = AreOrdered bs
 
+  -- these blobs ascend, and so do those inside them
   pub AreOrdered : Blobs → Type 0
   AreOrdered none = ⊤
   AreOrdered (blob k t rest) = IsOrdered t × (StandBehind k rest × AreOrdered rest)

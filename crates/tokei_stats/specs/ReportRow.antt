@@ -21,6 +21,7 @@ shortened w name =
 abbrev pub name_places : ℕ → ℕ
 name_places width = width + 2
 
+-- the name in so many places, cut where it is longer, else filled with spaces behind it
 abbrev pub name_cell : ℕ → List ℕ → List ℕ
 name_cell w name = left_in w (shortened w name)
 
@@ -36,5 +37,6 @@ counts_cells n =
     ++ (space ∷ (number_in count_places n.comments
     ++ (space ∷ number_in count_places n.blanks))))))
 
+-- the row of a name and its counts, in so many columns
 abbrev pub report_row : ℕ → List ℕ → Counts → List ℕ
 report_row width name n = space ∷ (name_cell (name_places width) name ++ counts_cells n)

@@ -5,17 +5,21 @@ use Rattle.tokei_stats.specs.Statistics.{Statistics, Blobs, own, blobs, empty, p
 use Rattle.tokei_stats.specs.Statistics.Statistics.{node}
 use Rattle.tokei_stats.specs.Statistics.Blobs.{none}
 
+-- a sum of ordered statistics is ordered
 abbrev pub SumsStayOrdered : Type 0
 SumsStayOrdered = (s t : Statistics) → IsOrdered s → IsOrdered t → IsOrdered (sum s t)
 
+-- which of two is added to the other makes no difference
 abbrev pub SumsCommute : Type 0
 SumsCommute = (s t : Statistics) → IsOrdered s → IsOrdered t → sum s t ≡ sum t s
 
+-- which two of three are added first makes no difference
 abbrev pub SumsAssociate : Type 0
 SumsAssociate =
     (s t u : Statistics) → IsOrdered s → IsOrdered t → IsOrdered u
     → sum (sum s t) u ≡ sum s (sum t u)
 
+-- adding empty statistics changes nothing, on either side
 abbrev pub EmptyIsNeutral : Type 0
 EmptyIsNeutral = (s : Statistics) → IsOrdered s → (sum s empty ≡ s) × (sum empty s ≡ s)
 
@@ -42,6 +46,7 @@ pub record HoldsBoth (s t total : Statistics) : Type 0 where
   pub numbers : own total ≡ plus (own s) (own t)
   pub languages : (k : ℕ) → at (blobs total) k ≡ both (at (blobs s) k) (at (blobs t) k)
 
+-- a sum has each language of the two, with the sum of what they have there
 abbrev pub SumsHoldBoth : Type 0
 SumsHoldBoth = (s t : Statistics) → IsOrdered t → HoldsBoth s t (sum s t)
 
@@ -50,5 +55,6 @@ pub record ChangesOne (old new : Blobs) (k : ℕ) (s : Statistics) : Type 0 wher
   pub here : at new k ≡ Some s
   pub others : (i : ℕ) → i ≢ k → at new i ≡ at old i
 
+-- putting statistics at a language changes that language alone
 abbrev pub PutsChangeOne : Type 0
 PutsChangeOne = (bs : Blobs) (k : ℕ) (s : Statistics) → ChangesOne bs (put bs k s) k s

@@ -11,6 +11,7 @@ pub record Counts : Type 0 where
 abbrev pub lines_of : Counts → ℕ
 lines_of n = n.blanks + n.code + n.comments
 
+-- the counts of a text without lines
 abbrev pub no_lines : Counts
 no_lines = record { blanks = 0; code = 0; comments = 0 }
 

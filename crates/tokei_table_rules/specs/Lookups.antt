@@ -42,6 +42,7 @@ ends_with_one suffixes name = list_any (λ s. ends s name) suffixes
 abbrev pub has_path_suffix : List ℕ → Row → Bool
 has_path_suffix name r = ends_with_one r.path_suffixes name
 
+-- The byte of a dot, `.`.
 abbrev pub dot : ℕ
 dot = 46
 

@@ -35,17 +35,20 @@ of_kind File dropped place inner = cond dropped [] (kept place)
 of_kind Folder dropped place inner = cond dropped [] inner
 of_kind Other dropped place inner = []
 
+-- whether the kind is a folder
 abbrev pub is_folder : Kind → Bool
 is_folder File = false
 is_folder Folder = true
 is_folder Other = false
 
+-- the files of an entry of the folder at `place`: of a file itself, of a folder those inside
 unfoldable pub of_entry : List Pattern → Rules → (Context → List ℕ → List KeptFile) → Context
     → List ℕ → Entry → List KeptFile
 of_entry excludes rules inside c place e =
     of_kind e.kind (drops excludes rules c e.name (is_folder e.kind)) (joined place e.name)
     (inside (under c e.name) (joined place e.name))
 
+-- the files of the entries, in their order
 unfoldable pub of_entries : List Pattern → Rules → (Context → List ℕ → List KeptFile) → Context
     → List ℕ → List Entry → List KeptFile
 of_entries excludes rules inside c place es = flat_map (of_entry excludes rules inside c place) es
@@ -84,6 +87,7 @@ of_node excludes rules t root (Some (file r h content)) = kept root
 of_node excludes rules t root (Some (folder r)) =
     descend excludes rules t 257 (root_context t rules (names_of root)) root
 
+-- the files of a root; an empty root gives nothing
 unfoldable pub of_root : List Pattern → Rules → Tree → List ℕ → List KeptFile
 of_root excludes rules t root =
     if is_empty root then [] else of_node excludes rules t root (node_at t (names_of root))
@@ -114,6 +118,7 @@ of_top excludes rules t s =
     of_entries excludes rules (descend excludes rules t (256 - length s.holders)) s.context s.place
     (reverse s.left)
 
+-- the files of the walked folder, and then those of the folders that hold it
 abbrev pub of_stack : List Pattern → Rules → Tree → Stack → List KeptFile
 of_stack excludes rules t s =
     of_top excludes rules t s ++ of_frames excludes rules t (outer s.context) (reverse s.holders)

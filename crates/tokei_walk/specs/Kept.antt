@@ -30,6 +30,7 @@ context_at t rules root inner = record {
   shown = root ++ inner;
 }
 
+-- the last of the names; of none it is empty
 abbrev pub last_name : Names → List ℕ
 last_name [] = []
 last_name (n ∷ []) = n
@@ -65,6 +66,7 @@ abbrev pub names_from : Option Names → Names
 names_from None = []
 names_from (Some ns) = ns
 
+-- the names from a root down to an entry of the tree; none where it doesn't lie below the root
 abbrev pub names_below : Names → PlacedNode → Names
 names_below root e = names_from (below root e.names)
 
@@ -83,6 +85,7 @@ place_below place (n ∷ ns) = place_below (joined place n) ns
 abbrev pub file_at : List ℕ → KeptFile
 file_at place = record { path = place; place = place }
 
+-- the kept file of an entry of the tree below a root
 abbrev pub kept_file : List ℕ → PlacedNode → KeptFile
 kept_file root e = file_at (place_below root (names_below (names_of root) e))
 
@@ -97,6 +100,7 @@ kept_at excludes rules t root None = []
 kept_at excludes rules t root (Some (file r h content)) = file_at root ∷ []
 kept_at excludes rules t root (Some (folder r)) = kept_below excludes rules t root
 
+-- the files that are kept of a root; an empty root gives nothing
 unfoldable pub kept_of : List Pattern → Rules → Tree → List ℕ → List KeptFile
 kept_of excludes rules t root =
     if is_empty root then [] else kept_at excludes rules t root (node_at t (names_of root))

@@ -44,6 +44,7 @@ level_at t rules p = record {
   git = rules.git && has_git t p;
 }
 
+-- the patterns of a level that come from one kind of ignore file
 abbrev pub patterns_from : Source → Level → List Pattern
 patterns_from Tokeignore l = l.tokeignore
 patterns_from Plain l = l.ignore
@@ -65,6 +66,7 @@ in_repository [] names found = found
 in_repository (l ∷ ls) names found =
     in_repository ls (without_first names) (if l.git then (l ∷ ls, names) else found)
 
+-- the levels of the repository around an entry, and the names from its folder down
 abbrev pub repository : List Level → Names → List Level × Names
 repository ls names = in_repository ls names ([], [])
 

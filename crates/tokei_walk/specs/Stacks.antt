@@ -63,15 +63,19 @@ StepTells excludes rules t old new Ended = of_top excludes rules t old ≡ []
 abbrev pub Stays : Stack → Stack → Type 0
 Stays old new = (new.context ≡ old.context) × (new.place ≡ old.place) × (new.holders ≡ old.holders)
 
+-- a step that finds no file leaves the walked folder, with fewer entries left, or with none at its
+-- end
 abbrev pub StepStays : Stack → Stack → Step → Type 0
 StepStays old new (Found k) = Unit {0}
 StepStays old new Passed = Stays old new × (length new.left < length old.left)
 StepStays old new Ended = Stays old new × (new.left ≡ [])
 
+-- where no file was found, the walked folder stays, and has no entry left
 abbrev pub NoneStays : Stack → Stack → Option KeptFile → Type 0
 NoneStays old new None = Stays old new × (new.left ≡ [])
 NoneStays old new (Some k) = Unit {0}
 
+-- where no file was found, nothing has changed
 abbrev pub NoneIsSame : Stack → Stack → Option KeptFile → Type 0
 NoneIsSame old new None = new ≡ old
 NoneIsSame old new (Some k) = Unit {0}
