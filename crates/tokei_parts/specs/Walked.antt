@@ -24,8 +24,7 @@ Moves r block l c d text at Child = (k : Block) × OpensChild r block l c k d (d
 
 -- a child breaks off the part at the place `at`, behind j choices in it
 pub record Breaks (r : Row) (block : ℕ → List ℕ → Option Block) (l : ℕ) (docs_are_comments : Bool)
-    (c d : Chain)
-    (start : ℕ) (text : List ℕ) (at j : ℕ) (k : Block) : Type 0 where
+    (c d : Chain) (start : ℕ) (text : List ℕ) (at j : ℕ) (k : Block) : Type 0 where
   pub part : IsPart text l start at
   pub few : j ≤ at - start
   pub opens : block l (drop at text) ≡ Some k
@@ -34,8 +33,7 @@ pub record Breaks (r : Row) (block : ℕ → List ℕ → Option Block) (l : ℕ
 
 -- the part is a line of this class, which ends at the place `end`, and takes so many steps
 pub record IsLine (r : Row) (block : ℕ → List ℕ → Option Block) (l : ℕ) (docs_are_comments : Bool)
-    (c d : Chain)
-    (start : ℕ) (text : List ℕ) (steps : ℕ) (class : Class) (end : ℕ) : Type 0 where
+    (c d : Chain) (start : ℕ) (text : List ℕ) (steps : ℕ) (class : Class) (end : ℕ) : Type 0 where
   pub some : start < end
   pub within : end ≤ length text
   pub part : end < length text → IsPart text l end end

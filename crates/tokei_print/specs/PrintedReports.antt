@@ -33,8 +33,7 @@ report_text layout rows style listed languages =
 
 -- a text is the report of languages, listed so, and laid out as its style says
 pub record IsReport (rows : List Row) (style : ReportStyle)
-    (listed languages : List (ℕ × LanguageValue)) (text : List ℕ)
-    : Type 0 where
+    (listed languages : List (ℕ × LanguageValue)) (text : List ℕ) : Type 0 where
   pub layout : Layout
   pub columns : layout.columns ≡ columns_of style.columns
   pub files : layout.list_files ≡ style.files
