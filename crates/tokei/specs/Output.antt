@@ -14,7 +14,8 @@ use Rattle.tokei.specs.Runs.{languages_after}
 
 -- behind what stood there a writer has the document of a job's languages, and nothing else
 abbrev pub WritesDocument : List Row → Job → Tree → Option (List ℕ) → Option (List ℕ) → Type 0
-WritesDocument rows job t old new = Appends old new (compact_text (document rows (languages_after rows job t)))
+WritesDocument rows job t old new =
+    Appends old new (compact_text (document rows (languages_after rows job t)))
 
 -- the report of a job's languages is written
 abbrev pub WritesReport : List Row → Job → Tree → Option (List ℕ) → Option (List ℕ) → Type 0

@@ -1,5 +1,5 @@
--- What a run that memory or a sum ended leaves in its writer: nothing of a document or of a report. A stream is
--- written as its files are counted, so the rows of the first ones may stand.
+-- What a run that memory or a sum ended leaves in its writer: nothing of a document or of a report.
+-- A stream is written as its files are counted, so the rows of the first ones may stand.
 use Rattle.std.specs.Prelude.{◌≡◌, ℕ, List, Option, ⊤}
 use Rattle.tokei_job.specs.declared.job.Wanted.{Wanted}
 use Rattle.tokei_job.specs.declared.job.Wanted.TheVariants.{Stream, Document, Report}

@@ -1,5 +1,5 @@
--- The languages that a run shows: those of earlier runs merged with those of the files that are kept, all counts
--- renewed.
+-- The languages that a run shows: those of earlier runs merged with those of the files that are
+-- kept, all counts renewed.
 use Rattle.std.specs.Prelude.{ℕ, List}
 use Rattle.tokei_folders.specs.Tree.{Tree}
 use Rattle.tokei_languages.specs.Merging.{merged_languages}
@@ -15,4 +15,5 @@ use Rattle.tokei_stream.specs.Counted.{counting_of, files_of}
 unfoldable pub languages_after : List Row → Job → Tree → List (ℕ × LanguageValue)
 languages_after rows job t =
     renewed_languages
-    (merged_languages (earlier_of job.earlier) (languages_of_run (counting_of rows job) t (files_of job t)))
+    (merged_languages (earlier_of job.earlier)
+    (languages_of_run (counting_of rows job) t (files_of job t)))

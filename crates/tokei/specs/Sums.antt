@@ -1,5 +1,5 @@
--- When the sums of a run are at most the greatest `usize`: those of its readings and renewed counts, and those that
--- its output shows.
+-- When the sums of a run are at most the greatest `usize`: those of its readings and renewed
+-- counts, and those that its output shows.
 use Rattle.std.specs.Prelude.{List, ⊤}
 use Rattle.tokei_folders.specs.Tree.{Tree}
 use Rattle.tokei_languages.specs.Renewing.{RenewalFits}
@@ -37,7 +37,8 @@ Fits (Document format) rows job t = DocumentFits rows job t
 Fits Report rows job t = RunReportFits rows job t
 Fits (Stream form) rows job t = StreamFits rows job t
 
--- what a run has tested of earlier results: a stream, which doesn't show them, renews their counts all the same
+-- what a run has tested of earlier results: a stream, which doesn't show them, renews their counts
+-- all the same
 abbrev pub EarlierFits : Wanted → Job → Type 0
 EarlierFits (Document format) job = ⊤
 EarlierFits Report job = ⊤

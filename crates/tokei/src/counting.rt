@@ -36,7 +36,8 @@ pub(crate) fn tally_of<F: Folders>(
     ensures told { Told (F.tree folders.old) (λ t. IfOk result (λ tally.
         languages_of tally.languages ≡ languages_after table.now job.now t)) }
     ensures unwritten { result ≢ Err Write }
-    ensures overflow { result ≡ Err SumOverflow → Told (F.tree folders.old) (λ t. ¬ TallyFits table.now job.now t) }
+    ensures overflow { result ≡ Err SumOverflow
+        → Told (F.tree folders.old) (λ t. ¬ TallyFits table.now job.now t) }
     ensures notes { IfOk result (λ tally.
         Grows (notes_of_excludes (texts_of job.now.ignored.items)) tally.notes.items) }
     ensures honest { NoFault F.memory_faults folders.old folders.new result }

@@ -1,5 +1,6 @@
-//! Counts the blank, code and comment lines of folders, and writes what was counted: a document, a printed report, or
-//! a row for each file. It hands on the names that are used with it from the crates below.
+//! Counts the blank, code and comment lines of folders, and writes what was counted: a document, a
+//! printed report, or a row for each file. It hands on the names that are used with it from the
+//! crates below.
 #![tactic(auto)]
 
 mod counting;

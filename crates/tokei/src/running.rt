@@ -34,7 +34,8 @@ fn write_document<F: Folders, W: Sink>(
         table.now job.now t (W.contents writer.old) (W.contents writer.new))) }
     ensures overflow { result ≡ Err SumOverflow → Told (F.tree folders.old) (λ t.
         ¬ DocumentFits table.now job.now t) }
-    ensures untouched { IfErr result (λ e. e ≢ WriteFault → W.contents writer.new ≡ W.contents writer.old) }
+    ensures untouched { IfErr result (λ e. e ≢ WriteFault
+        → W.contents writer.new ≡ W.contents writer.old) }
     ensures fault { TellsFault W.faults writer.old writer.new result WriteFault }
     ensures no_fault { PassesNoFault W.faults writer.old writer.new result WriteFault }
     ensures notes { IfOk result (λ n.
@@ -59,7 +60,8 @@ fn write_report<F: Folders, W: Sink>(
         table.now job.now t (W.contents writer.old) (W.contents writer.new))) }
     ensures overflow { result ≡ Err SumOverflow → Told (F.tree folders.old) (λ t.
         ¬ RunReportFits table.now job.now t) }
-    ensures untouched { IfErr result (λ e. e ≢ WriteFault → W.contents writer.new ≡ W.contents writer.old) }
+    ensures untouched { IfErr result (λ e. e ≢ WriteFault
+        → W.contents writer.new ≡ W.contents writer.old) }
     ensures fault { TellsFault W.faults writer.old writer.new result WriteFault }
     ensures no_fault { PassesNoFault W.faults writer.old writer.new result WriteFault }
     ensures notes { IfOk result (λ n.
@@ -71,12 +73,13 @@ fn write_report<F: Folders, W: Sink>(
     Ok(tally.notes)
 }
 
-/// Counts the files of a job, beside the results of earlier runs, and writes what is wanted of them. What the walk
-/// passed over is answered.
+/// Counts the files of a job, beside the results of earlier runs, and writes what is wanted of
+/// them. What the walk passed over is answered.
 ///
-/// `Overflow` comes only where a sum passes the greatest `usize`, and `Write` only where the writer had a fault; after
-/// `Write` nothing is said of what was written. After `Memory` and `Overflow` nothing of a document or a report is
-/// written; of a stream nothing is said then. The folders keep their tree.
+/// `Overflow` comes only where a sum passes the greatest `usize`, and `Write` only where the writer
+/// had a fault; after `Write` nothing is said of what was written. After `Memory` and `Overflow`
+/// nothing of a document or a report is written; of a stream nothing is said then. The folders keep
+/// their tree.
 pub fn run<F: Folders, W: Sink>(
     alloc: Global,
     table: &LanguageTable,

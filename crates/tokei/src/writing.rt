@@ -19,8 +19,8 @@ use tokei_languages::Languages;
 use tokei_print::{ReportStyle, text_of_report};
 use tokei_table::LanguageTable;
 
-/// Puts the document of languages behind what stands in the writer. Where memory runs out, or a sum passes the
-/// greatest `usize`, nothing is written.
+/// Puts the document of languages behind what stands in the writer. Where memory runs out, or a sum
+/// passes the greatest `usize`, nothing is written.
 pub fn put_document<W: Sink>(
     alloc: Global,
     table: &LanguageTable,
@@ -29,8 +29,10 @@ pub fn put_document<W: Sink>(
 ) -> Result<(), RunError>
     ensures bytes { OnOk result (Appends (W.contents writer.old) (W.contents writer.new)
         (compact_text (document table.now (languages_of languages.now)))) }
-    ensures overflow { result ≡ Err SumOverflow → ¬ CountsFit (languages_summary (languages_of languages.now)) }
-    ensures untouched { IfErr result (λ e. e ≢ WriteFault → W.contents writer.new ≡ W.contents writer.old) }
+    ensures overflow { result ≡ Err SumOverflow
+        → ¬ CountsFit (languages_summary (languages_of languages.now)) }
+    ensures untouched { IfErr result (λ e. e ≢ WriteFault
+        → W.contents writer.new ≡ W.contents writer.old) }
     ensures fault { TellsFault W.faults writer.old writer.new result WriteFault }
     ensures no_fault { PassesNoFault W.faults writer.old writer.new result WriteFault }
 {
@@ -52,8 +54,9 @@ fn style_of(job: &Job) -> ReportStyle
     }
 }
 
-/// Puts the report of languages behind what stands in the writer, sorted where the job or its configuration says so.
-/// Where memory runs out, or a sum passes the greatest `usize`, nothing is written.
+/// Puts the report of languages behind what stands in the writer, sorted where the job or its
+/// configuration says so. Where memory runs out, or a sum passes the greatest `usize`, nothing is
+/// written.
 pub fn put_report<W: Sink>(
     alloc: Global,
     table: &LanguageTable,
@@ -65,7 +68,8 @@ pub fn put_report<W: Sink>(
         (W.contents writer.old) (W.contents writer.new)) }
     ensures overflow { result ≡ Err SumOverflow
         → ¬ PrintedReportFits (sort_of job.now) (style_of job.now) (languages_of languages) }
-    ensures untouched { IfErr result (λ e. e ≢ WriteFault → W.contents writer.new ≡ W.contents writer.old) }
+    ensures untouched { IfErr result (λ e. e ≢ WriteFault
+        → W.contents writer.new ≡ W.contents writer.old) }
     ensures fault { TellsFault W.faults writer.old writer.new result WriteFault }
     ensures no_fault { PassesNoFault W.faults writer.old writer.new result WriteFault }
 {

@@ -6,8 +6,8 @@ use Rattle.tokei_bytes.specs.OneOf.{is_one_of}
 abbrev pub is_in : List Bool → ℕ → Bool
 is_in flags b = slice_index_or flags b false
 
--- the first n of the four are the bytes of the set, unless those are more than four; where there are any, each of the
--- four is one
+-- the first n of the four are the bytes of the set, unless those are more than four; where there
+-- are any, each of the four is one
 pub record HasFew (flags : List Bool) (few : List ℕ) (n : ℕ) : Type 0 where
   pub four : length few ≡ 4
   pub holds : n ≤ 4 → (b : ℕ) → b < 256 → is_in flags b ≡ true → is_one_of (take n few) b ≡ true

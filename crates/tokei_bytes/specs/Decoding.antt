@@ -1,5 +1,6 @@
--- The decoding of a file's contents. Behind a mark FE FF or FF FE they are UTF-16, and the mark is dropped; each
--- surrogate that has no partner, and an odd last byte, is the character U+FFFD. Other contents stand as they are.
+-- The decoding of a file's contents. Behind a mark FE FF or FF FE they are UTF-16, and the mark is
+-- dropped; each surrogate that has no partner, and an odd last byte, is the character U+FFFD. Other
+-- contents stand as they are.
 use Rattle.std.specs.Prelude.{ℕ, ◌+◌, ◌*◌, ◌%◌, ◌==◌, ◌&&◌, List, [], ◌∷◌, ◌++◌, length, drop}
 use Rattle.std.specs.Prelude.{Option, None, Some, if◌then◌else◌}
 use Rattle.std.specs.Char.Utf16.{utf16_lossy_chars}
@@ -33,12 +34,14 @@ odd_byte bytes = if length bytes % 2 == 1 then 0xFFFD ∷ [] else []
 
 -- the UTF-8 of the characters that the bytes spell in UTF-16
 abbrev pub text_of_units : ByteOrder → List ℕ → List ℕ
-text_of_units order bytes = encode_utf8_all (utf16_lossy_chars (units_of order bytes) ++ odd_byte bytes)
+text_of_units order bytes =
+    encode_utf8_all (utf16_lossy_chars (units_of order bytes) ++ odd_byte bytes)
 
 -- the contents, where their mark is known
 abbrev pub decoded_by : Option ByteOrder → List ℕ → List ℕ
 decoded_by None bytes = bytes
 decoded_by (Some order) bytes = text_of_units order (drop 2 bytes)
 
+-- the contents as UTF-8, by the mark at their front
 abbrev pub decoded : List ℕ → List ℕ
 decoded bytes = decoded_by (order_of bytes) bytes

@@ -1,7 +1,8 @@
 -- What a search for a byte answers.
 use Rattle.std.specs.Prelude.{◌≡◌, ℕ, ◌<◌, ◌≤◌, Bool, true, false, List, slice_index}
 
--- the first place of the text, from `from` to before `to`, whose byte passes the test, or `to` where none does
+-- the first place of the text, from `from` to before `to`, whose byte passes the test, or `to`
+-- where none does
 pub record IsFirstPlace (passes : ℕ → Bool) (text : List ℕ) (from to place : ℕ) : Type 0 where
   pub low : from ≤ place
   pub high : place ≤ to

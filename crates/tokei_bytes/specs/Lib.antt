@@ -1,4 +1,5 @@
--- What contracts say of bytes: searches for them, the decoding of contents, and where characters begin.
+-- What contracts say of bytes: searches for them, the decoding of contents, and where characters
+-- begin.
 pub mod Boundaries
 pub mod ByteSets
 pub mod Decoding

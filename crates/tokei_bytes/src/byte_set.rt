@@ -14,8 +14,8 @@ const FEW: usize = 4;
 #[derive(Drop)]
 pub struct ByteSet {
     flags: Vec<bool>,
-    /// The first `count` of them are the bytes of the set, where those are at most four, and each is one where there
-    /// are any.
+    /// The first `count` of them are the bytes of the set, where those are at most four, and each
+    /// is one where there are any.
     few: [u8; 4],
     count: usize,
 }
@@ -63,8 +63,10 @@ impl ByteSet {
     /// The bytes of the set, some more than once, where they are one to four.
     #[inline(always)]
     pub fn few(&self) -> Option<[u8; 4]>
-        ensures holds { IfSome result (λ few. (b : ℕ) → b < 256 → is_in self.now b ≡ true → is_one_of few b ≡ true) }
-        ensures held { IfSome result (λ few. (b : ℕ) → is_one_of few b ≡ true → is_in self.now b ≡ true) }
+        ensures holds { IfSome result (λ few. (b : ℕ) → b < 256 → is_in self.now b ≡ true
+            → is_one_of few b ≡ true) }
+        ensures held { IfSome result (λ few. (b : ℕ) → is_one_of few b ≡ true
+            → is_in self.now b ≡ true) }
     {
         if self.count == 0 || FEW < self.count {
             return None;
@@ -72,8 +74,8 @@ impl ByteSet {
         Some(self.few)
     }
 
-    /// The first place of the text, from `from` to before `to`, whose byte is in the set, or `to` where none is. A
-    /// place counts the bytes of the text before it.
+    /// The first place of the text, from `from` to before `to`, whose byte is in the set, or `to`
+    /// where none is. A place counts the bytes of the text before it.
     #[inline(always)]
     pub fn clear_end(&self, text: &[u8], from: usize, to: usize) -> usize
         requires order { from ≤ to }

@@ -11,9 +11,9 @@ pub(crate) enum ByteOrder {
     LittleEndian,
 }
 
-/// A file's contents as they are counted: behind a mark FE FF or FF FE the UTF-8 of what the UTF-16 spells, without the
-/// mark, where each surrogate that has no partner and an odd last byte is U+FFFD. Contents without a mark are handed
-/// back, and take no memory.
+/// A file's contents as they are counted: behind a mark FE FF or FF FE the UTF-8 of what the UTF-16
+/// spells, without the mark, where each surrogate that has no partner and an odd last byte is
+/// U+FFFD. Contents without a mark are handed back, and take no memory.
 pub fn decode_text(alloc: Global, bytes: Vec<u8>) -> Result<Vec<u8>, AllocError>
     ensures decoded { IfOk result (λ text. text.items ≡ decoded bytes.items) }
     ensures unmarked { order_of bytes.items ≡ None → result ≡ Ok bytes }

@@ -1,8 +1,9 @@
-//! Bytes of a text: searches for the first of up to four of them, the decoding of a file's contents, and the boundaries of
-//! characters.
+//! Bytes of a text: searches for the first of up to four of them, the decoding of a file's
+//! contents, and the boundaries of characters.
 //!
-//! memchr's searches take at most three bytes, and cost some fifty instructions a call however close the hit is. The
-//! searches here are for a caller that mostly looks a few bytes ahead; `first_of_one` leaves far ones to memchr.
+//! memchr's searches take at most three bytes, and cost some fifty instructions a call however
+//! close the hit is. The searches here are for a caller that mostly looks a few bytes ahead;
+//! `first_of_one` leaves far ones to memchr.
 #![tactic(auto)]
 
 mod boundaries;

@@ -8,8 +8,8 @@ use memchr::memchr;
 /// How many bytes are searched in blocks before a far search: few lines have more.
 const NEAR: usize = 128;
 
-/// How far the byte mostly stands from the place `at` on, and no further than `to`: nothing near, where the text has no
-/// block.
+/// How far the byte mostly stands from the place `at` on, and no further than `to`: nothing near,
+/// where the text has no block.
 #[inline(always)]
 fn near_end(text: &[u8], at: usize, to: usize) -> usize
     requires order { at ≤ to }
@@ -38,8 +38,8 @@ fn first_far(byte: u8, text: &[u8], from: usize, to: usize) -> usize
     }
 }
 
-/// The first place of the text, from `from` to before `to`, at which the byte stands, or `to` where it doesn't. A place
-/// counts the bytes of the text before it.
+/// The first place of the text, from `from` to before `to`, at which the byte stands, or `to` where
+/// it doesn't. A place counts the bytes of the text before it.
 #[inline(always)]
 pub fn first_of_one(byte: u8, text: &[u8], from: usize, to: usize) -> usize
     requires order { from ≤ to }

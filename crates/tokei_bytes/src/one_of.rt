@@ -22,7 +22,8 @@ pub(crate) fn marks(bytes: [u8; 4], lanes: u8x32) -> u64
     (front | back).to_bitmask()
 }
 
-/// Bit k is set where lane k is the byte: one comparison, where four of the same byte would be four.
+/// Bit k is set where lane k is the byte: one comparison, where four of the same byte would be
+/// four.
 #[inline(always)]
 pub(crate) fn marks_of_one(byte: u8, lanes: u8x32) -> u64
     ensures { result ≡ mask_l (map (λ x. x == byte) lanes) }
@@ -30,8 +31,8 @@ pub(crate) fn marks_of_one(byte: u8, lanes: u8x32) -> u64
     lanes.simd_eq(u8x32::splat(byte)).to_bitmask()
 }
 
-/// The first place of the `BLOCK` places of the text from `from` on whose byte is one of the four, or the place behind
-/// them where there is none. A place counts the bytes of the text before it.
+/// The first place of the `BLOCK` places of the text from `from` on whose byte is one of the four,
+/// or the place behind them where there is none. A place counts the bytes of the text before it.
 #[inline(always)]
 pub fn first_in_block(bytes: [u8; 4], text: &[u8], from: usize) -> usize
     requires { from + BLOCK ≤ length text.now }
@@ -65,8 +66,8 @@ fn first_by_one(bytes: [u8; 4], text: &[u8], from: usize, to: usize) -> usize
     at
 }
 
-/// The same search up to the end of a text that has fewer than `BLOCK` bytes from `from` on: in the block that ends
-/// with it.
+/// The same search up to the end of a text that has fewer than `BLOCK` bytes from `from` on: in the
+/// block that ends with it.
 #[inline(always)]
 fn first_in_last_block(bytes: [u8; 4], text: &[u8], from: usize) -> usize
     requires long { BLOCK ≤ length text.now }
@@ -82,8 +83,8 @@ fn first_in_last_block(bytes: [u8; 4], text: &[u8], from: usize) -> usize
     from + left.trailing_zeros() as usize
 }
 
-/// The same search from a place on from which the text has fewer than `BLOCK` bytes. It stands in no caller's code, since
-/// it is rarely run.
+/// The same search from a place on from which the text has fewer than `BLOCK` bytes. It stands in
+/// no caller's code, since it is rarely run.
 #[inline(never)]
 fn first_in_rest(bytes: [u8; 4], text: &[u8], from: usize, to: usize) -> usize
     requires order { from ≤ to }
@@ -98,8 +99,9 @@ fn first_in_rest(bytes: [u8; 4], text: &[u8], from: usize, to: usize) -> usize
     to.min(first_in_last_block(bytes, text, from))
 }
 
-/// The first place of the text, from `from` to before `to`, whose byte is one of the four, or `to` where there is none.
-/// A place counts the bytes of the text before it. Fewer than four are searched for by naming some more than once.
+/// The first place of the text, from `from` to before `to`, whose byte is one of the four, or `to`
+/// where there is none. A place counts the bytes of the text before it. Fewer than four are
+/// searched for by naming some more than once.
 #[inline(always)]
 pub fn first_of_four(bytes: [u8; 4], text: &[u8], from: usize, to: usize) -> usize
     requires order { from ≤ to }
@@ -131,8 +133,9 @@ fn marks_of_others(bytes: [u8; 4], lanes: u8x16) -> u64
     (front & back).to_bitmask()
 }
 
-/// The first place of the `SHORT_BLOCK` places of the text from `from` on whose byte is none of the four, or the place
-/// behind them where each is one. A place counts the bytes of the text before it.
+/// The first place of the `SHORT_BLOCK` places of the text from `from` on whose byte is none of the
+/// four, or the place behind them where each is one. A place counts the bytes of the text before
+/// it.
 #[inline(always)]
 pub fn first_other_in_block(bytes: [u8; 4], text: &[u8], from: usize) -> usize
     requires { from + SHORT_BLOCK ≤ length text.now }
@@ -159,8 +162,8 @@ fn first_other_by_one(bytes: [u8; 4], text: &[u8], from: usize, to: usize) -> us
     at
 }
 
-/// The first place of the text, from `from` to before `to`, whose byte is none of the four, or `to` where each is. A
-/// place counts the bytes of the text before it.
+/// The first place of the text, from `from` to before `to`, whose byte is none of the four, or `to`
+/// where each is. A place counts the bytes of the text before it.
 #[inline(always)]
 pub fn first_not_of_four(bytes: [u8; 4], text: &[u8], from: usize, to: usize) -> usize
     requires order { from ≤ to }

@@ -5,8 +5,9 @@ ghost use Rattle.tokei_bytes.specs.Pairs.{counts_at};
 use crate::one_of::{BLOCK, marks, marks_of_one};
 use std::simd::prelude::*;
 
-/// The first place of the `BLOCK` places of the text from `from` on at which one of the four bytes stands, and where
-/// that is `first`, one of the four seconds behind it; or the place behind them where there is none.
+/// The first place of the `BLOCK` places of the text from `from` on at which one of the four bytes
+/// stands, and where that is `first`, one of the four seconds behind it; or the place behind them
+/// where there is none.
 #[inline(always)]
 fn first_pair_in_block(
     bytes: [u8; 4],
@@ -18,7 +19,8 @@ fn first_pair_in_block(
     requires { from + BLOCK < length text.now }
     ensures low { from ≤ result }
     ensures high { result ≤ from + BLOCK }
-    ensures passed { (p : ℕ) → from ≤ p → p < result → counts_at bytes first seconds text.now p ≡ false }
+    ensures passed { (p : ℕ) → from ≤ p → p < result
+        → counts_at bytes first seconds text.now p ≡ false }
     ensures found { result < from + BLOCK → counts_at bytes first seconds text.now result ≡ true }
 {
     let here = u8x32::from_slice(&text[from..]);
@@ -31,9 +33,9 @@ fn first_pair_in_block(
     from + marked.trailing_zeros() as usize
 }
 
-/// The first place of the text from `from` on at which one of the four bytes stands, and where that is `first`, one of
-/// the four seconds behind it; or a place from which on it isn't sought: `to` or up to a block behind, or one from
-/// which the text has no block and a byte more.
+/// The first place of the text from `from` on at which one of the four bytes stands, and where that
+/// is `first`, one of the four seconds behind it; or a place from which on it isn't sought: `to` or
+/// up to a block behind, or one from which the text has no block and a byte more.
 #[inline(always)]
 fn pair_between(
     bytes: [u8; 4],
@@ -46,7 +48,8 @@ fn pair_between(
     requires within { to ≤ length text.now }
     ensures low { from ≤ result }
     ensures inside { from < result → result < length text.now }
-    ensures passed { (p : ℕ) → from ≤ p → p < result → counts_at bytes first seconds text.now p ≡ false }
+    ensures passed { (p : ℕ) → from ≤ p → p < result
+        → counts_at bytes first seconds text.now p ≡ false }
     ensures found { result < to → result + BLOCK < length text.now
         → counts_at bytes first seconds text.now result ≡ true }
 {
@@ -69,7 +72,8 @@ fn first_of_two_in_block(other: u8, first: u8, second: u8, text: &[u8], from: us
     ensures high { result ≤ from + BLOCK }
     ensures passed { (p : ℕ) → from ≤ p → p < result
         → counts_at (other ∷ first ∷ []) first (second ∷ []) text.now p ≡ false }
-    ensures found { result < from + BLOCK → counts_at (other ∷ first ∷ []) first (second ∷ []) text.now result ≡ true }
+    ensures found { result < from + BLOCK
+        → counts_at (other ∷ first ∷ []) first (second ∷ []) text.now result ≡ true }
 {
     let here = u8x32::from_slice(&text[from..]);
     let behind = u8x32::from_slice(&text[from + 1..]);
@@ -116,7 +120,8 @@ pub fn next_pair(
     requires within { to ≤ length text.now }
     ensures low { from ≤ result }
     ensures inside { from < result → result < length text.now }
-    ensures passed { (p : ℕ) → from ≤ p → p < result → counts_at bytes first seconds text.now p ≡ false }
+    ensures passed { (p : ℕ) → from ≤ p → p < result
+        → counts_at bytes first seconds text.now p ≡ false }
     ensures found { result < to → result + BLOCK < length text.now
         → counts_at bytes first seconds text.now result ≡ true }
 {

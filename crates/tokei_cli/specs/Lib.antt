@@ -1,4 +1,5 @@
--- What contracts say of command lines: the options, what their words read as, and what is printed where nothing is counted.
+-- What contracts say of command lines: the options, what their words read as, and what is printed
+-- where nothing is counted.
 pub mod CommandLines
 pub mod Lines
 pub mod Options

@@ -1,4 +1,5 @@
--- The command line of given words: each member is what the parser's own rules say that they give for an option.
+-- The command line of given words: each member is what the parser's own rules say that they give
+-- for an option.
 use Rattle.std.specs.Prelude.{◌≡◌, ℕ, List, [], ◌∷◌, Bool, false, Option, None, Some, codes}
 use Rattle.std.specs.Prelude.{is_some, map, ok_or, option_map, string_bytes, unwrap_or}
 use Rattle.std.specs.Option.{option_map_or, option_or}
@@ -36,7 +37,8 @@ pub record IsLine (rows : List Row) (c : Cli) : Type 0 where
   pub output : option_map string_bytes c.output ≡ first_of (codes "output") rows
   pub streaming : option_map string_bytes c.streaming ≡ first_of (codes "streaming") rows
   pub print_languages : c.print_languages ≡ is_on (one_of (codes "languages") rows)
-  pub sort : option_map string_bytes c.sort ≡ option_or (first_of (codes "rsort") rows) (first_of (codes "sort") rows)
+  pub sort : option_map string_bytes c.sort
+      ≡ option_or (first_of (codes "rsort") rows) (first_of (codes "sort") rows)
   pub sort_reverse : c.sort_reverse ≡ is_some (first_of (codes "rsort") rows)
   pub types : option_map (λ v. map string_bytes v.items) c.types ≡ all_of (codes "types") rows
   pub compact : c.compact ≡ is_on (one_of (codes "compact") rows)

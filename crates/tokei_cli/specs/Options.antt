@@ -1,4 +1,5 @@
--- The options of the command line, as its parser takes them: the name, the letter and the use of each.
+-- The options of the command line, as its parser takes them: the name, the letter and the use of
+-- each.
 use Rattle.std.specs.Prelude.{ℕ, List, [], ◌∷◌, Some, true, false, codes, fold, slice_get}
 use Rattle.clap.specs.Lexer.{usize_max}
 use Rattle.clap.specs.Words.{App, Rule, new_app, new_rule, with_rule}
@@ -32,7 +33,9 @@ repeated r = record r { action = Some Append }
 -- the options on what the report shows
 unfoldable pub report_options : List Rule
 report_options =
-    excluding (record (lettered (codes "c") (valued (codes "columns"))) { parser = Some (Unsigned 0 usize_max) })
+    excluding (record (lettered (codes "c") (valued (codes "columns"))) {
+      parser = Some (Unsigned 0 usize_max);
+    })
     ∷ lettered (codes "f") (switch (codes "files"))
     ∷ lettered (codes "C") (switch (codes "compact"))
     ∷ excluding (lettered (codes "n") (valued (codes "num-format")))
@@ -84,7 +87,10 @@ last_options =
 
 -- the program's name and version, without options
 abbrev pub bare_app : App
-bare_app = record (new_app (codes "tokei")) { top = record (new_app (codes "tokei")).top { has_version = true } }
+bare_app =
+    record (new_app (codes "tokei")) {
+      top = record (new_app (codes "tokei")).top { has_version = true };
+    }
 
 -- an app with more options
 abbrev pub with_options : App → List Rule → App

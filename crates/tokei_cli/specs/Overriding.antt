@@ -12,6 +12,7 @@ use Rattle.tokei_cli.specs.declared.cli.Cli.{Cli}
 abbrev pub language_named : List Row → List ℕ → Option ℕ
 language_named rows piece = first_where (has_name_in_any_case piece) rows
 
+-- the byte of a comma, `,`
 abbrev pub comma : ℕ
 comma = 44
 

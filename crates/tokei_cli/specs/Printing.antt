@@ -36,4 +36,5 @@ languages_text rows = list_line (codes "Language") (codes "Extensions") ++ flat_
 
 -- that earlier results of this name were refused, on two lines
 abbrev pub failure_text : List ℕ → List ℕ
-failure_text name = codes "Error:" ++ (newline ∷ (codes " Failed to parse input file: " ++ (name ++ newline ∷ [])))
+failure_text name =
+    codes "Error:" ++ (newline ∷ (codes " Failed to parse input file: " ++ (name ++ newline ∷ [])))

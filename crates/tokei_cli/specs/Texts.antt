@@ -1,5 +1,5 @@
--- What a command line answers where nothing is counted: the text of help or of the version where that was asked for,
--- else why it is refused. For each of them memory may run out.
+-- What a command line answers where nothing is counted: the text of help or of the version where
+-- that was asked for, else why it is refused. For each of them memory may run out.
 use Rattle.std.specs.Prelude.{◌≡◌, ℕ, List, string_bytes, ⊤, ◌⊎◌}
 use Rattle.clap.specs.declared.error.kind.ErrorKind.{ErrorKind}
 use Rattle.clap.specs.declared.error.kind.ErrorKind.TheVariants.{DisplayHelp, DisplayVersion, OutOfMemory}

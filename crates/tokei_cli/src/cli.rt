@@ -98,14 +98,16 @@ fn text<'a>(matches: &ArgMatches<'a>, id: &str) -> Option<&'a str>
 
 /// All values of an option as texts, where it is given.
 fn texts<'m, 'a>(matches: &'m ArgMatches<'a>, id: &str) -> Option<&'m [&'a str]>
-    ensures { option_map (λ ts. map (λ t. t.now) ts.now) result ≡ all_of id.now (rows_of (found_of matches.now)) }
+    ensures { option_map (λ ts. map (λ t. t.now) ts.now) result
+        ≡ all_of id.now (rows_of (found_of matches.now)) }
 {
     matches.get_strs(id)
 }
 
 /// The first value of an option as an owned text, where it is given.
 fn value(alloc: Global, matches: &ArgMatches<'_>, id: &str) -> Result<Option<String>, AllocError>
-    ensures { IfOk result (λ o. option_map string_bytes o ≡ first_of id.now (rows_of (found_of matches.now))) }
+    ensures { IfOk result (λ o. option_map string_bytes o
+        ≡ first_of id.now (rows_of (found_of matches.now))) }
 {
     owned(alloc, text(matches, id))
 }
@@ -153,7 +155,8 @@ fn order(alloc: Global, matches: &ArgMatches<'_>) -> Result<(Option<String>, boo
     ensures column { IfOk result (λ o. option_map string_bytes o.0 ≡ option_or
         (first_of (codes "rsort") (rows_of (found_of matches.now)))
         (first_of (codes "sort") (rows_of (found_of matches.now)))) }
-    ensures reversed { IfOk result (λ o. o.1 ≡ is_some (first_of (codes "rsort") (rows_of (found_of matches.now)))) }
+    ensures reversed { IfOk result (λ o. o.1
+        ≡ is_some (first_of (codes "rsort") (rows_of (found_of matches.now)))) }
     ensures some { IfOk result (λ o. o.1 ≡ true → IsSome o.0) }
 {
     match text(matches, "rsort") {
@@ -171,8 +174,9 @@ fn table(alloc: Global, matches: &ArgMatches<'_>) -> Result<String, AllocError>
 }
 
 impl Cli {
-    /// Reads the words of a command line, of which the first is the program's name. A refused command line, and one
-    /// that asks for help or the version, are errors with the text to be shown: for these two `HELP` or `VERSION_LINE`.
+    /// Reads the words of a command line, of which the first is the program's name. A refused
+    /// command line, and one that asks for help or the version, are errors with the text to be
+    /// shown: for these two `HELP` or `VERSION_LINE`.
     pub fn from_words<'a>(alloc: Global, words: &'a [&'a str]) -> Result<Cli, CliError>
         ensures of_words { IfOk result (IsLineOf (map (λ w. w.now) words.entry.now)) }
         ensures inputs { IfOk result (λ c. inputs_of c ≢ []) }

@@ -25,7 +25,8 @@ pub enum CliError {
 }
 
 impl CliError {
-    /// The exit status: 0 where help or the version was asked for, 2 where the words are refused, 1 without memory.
+    /// The exit status: 0 where help or the version was asked for, 2 where the words are refused, 1
+    /// without memory.
     pub fn status(&self) -> u8
         ensures { result ≡ status_of self.now }
     {

@@ -3,8 +3,8 @@
 /// What `--version` prints.
 pub const VERSION_LINE: &str = "tokei 15.0.0 compiled with serialization support: json\n";
 
-/// What `--help` prints: the text that the parser makes of the options. It stands here since no contract of the
-/// parser's says what its texts are; a test compares them.
+/// What `--help` prints: the text that the parser makes of the options. It stands here since no
+/// contract of the parser's says what its texts are; a test compares them.
 pub const HELP: &str = "\
 Counts blank, code and comment lines, by language.
 

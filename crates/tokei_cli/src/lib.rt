@@ -1,5 +1,5 @@
-//! The command line: its options, what help says of them, the options that stand above the configuration files, and what
-//! is printed where nothing is counted, as the list of languages.
+//! The command line: its options, what help says of them, the options that stand above the
+//! configuration files, and what is printed where nothing is counted, as the list of languages.
 #![tactic(auto)]
 
 mod cli;

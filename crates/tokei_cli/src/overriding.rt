@@ -8,13 +8,15 @@ use std::alloc::{AllocError, Global};
 use tokei_config::Config;
 use tokei_table::{LanguageTable, LanguageType};
 
-/// Adds the languages that a word of `--types` names between its commas; what names none is passed over.
+/// Adds the languages that a word of `--types` names between its commas; what names none is passed
+/// over.
 fn add_languages(
     table: &LanguageTable,
     word: &str,
     languages: &mut Vec<LanguageType>,
 ) -> Result<(), AllocError>
-    ensures { OnOk result (languages.new.items ≡ languages.old.items ++ languages_in table.now word.now) }
+    ensures { OnOk result
+        (languages.new.items ≡ languages.old.items ++ languages_in table.now word.now) }
 {
     for piece in word.split(',') {
         if let Some(language) = LanguageType::from_str(table, piece) {
@@ -48,9 +50,9 @@ fn switched(given: bool, configured: Option<bool>) -> Option<bool>
 
 /// A command line whose options stand above a configuration.
 pub trait OverrideConfig {
-    /// Puts the options above the configuration: `hidden` and the four on ignore files are true where the option is
-    /// given, and the languages are those of `--types` where it is given; all else stays. Where memory runs out the
-    /// configuration stays as it was.
+    /// Puts the options above the configuration: `hidden` and the four on ignore files are true
+    /// where the option is given, and the languages are those of `--types` where it is given; all
+    /// else stays. Where memory runs out the configuration stays as it was.
     fn override_config(
         &self,
         alloc: Global,

@@ -1,4 +1,5 @@
-//! What the program prints beside reports: the list of languages, and that earlier results were refused.
+//! What the program prints beside reports: the list of languages, and that earlier results were
+//! refused.
 ghost use Rattle.std.specs.Prelude.{◌≡◌, ◌≢◌, ◌<◌, Err, IfOk, OnOk, string_bytes};
 ghost use Rattle.std.specs.Io.KnownBytes.{Appends};
 ghost use Rattle.tokei_table_row.specs.RowOf.{tokens_of};
@@ -56,14 +57,15 @@ fn languages_text(alloc: Global, table: &LanguageTable) -> Result<String, AllocE
     Ok(text)
 }
 
-/// Prints the languages with their extensions. After a fault of the writer nothing is said of the bytes that were
-/// written; where memory runs out none are.
+/// Prints the languages with their extensions. After a fault of the writer nothing is said of the
+/// bytes that were written; where memory runs out none are.
 pub fn print_supported_languages<S: Sink>(
     alloc: Global,
     table: &LanguageTable,
     writer: &mut S,
 ) -> Result<(), OutputError>
-    ensures bytes { OnOk result (Appends (S.contents writer.old) (S.contents writer.new) (languages_text table.now)) }
+    ensures bytes { OnOk result
+        (Appends (S.contents writer.old) (S.contents writer.new) (languages_text table.now)) }
     ensures faults { S.faults writer.old < u64.MAX
         → S.faults writer.new ≡ faults_after_printing result (S.faults writer.old) }
     ensures memory { result ≡ Err OutputError.Memory → writer.new ≡ writer.old }
@@ -72,14 +74,15 @@ pub fn print_supported_languages<S: Sink>(
     put(writer, text.as_str())
 }
 
-/// Prints that the earlier results of this name were refused. After a fault of the writer nothing is said of the bytes
-/// that were written; where memory runs out none are.
+/// Prints that the earlier results of this name were refused. After a fault of the writer nothing
+/// is said of the bytes that were written; where memory runs out none are.
 pub fn print_input_parse_failure<S: Sink>(
     alloc: Global,
     name: &str,
     writer: &mut S,
 ) -> Result<(), OutputError>
-    ensures bytes { OnOk result (Appends (S.contents writer.old) (S.contents writer.new) (failure_text name.now)) }
+    ensures bytes { OnOk result
+        (Appends (S.contents writer.old) (S.contents writer.new) (failure_text name.now)) }
     ensures faults { S.faults writer.old < u64.MAX
         → S.faults writer.new ≡ faults_after_printing result (S.faults writer.old) }
     ensures memory { result ≡ Err OutputError.Memory → writer.new ≡ writer.old }

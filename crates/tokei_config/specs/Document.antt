@@ -12,19 +12,23 @@ use Rattle.tokei_table.specs.Row.{Row}
 abbrev pub value_of : {X : Type 0} → Option (Option X) → Option X
 value_of found = unwrap_or found None
 
+-- A member that is true or false, by its key.
 abbrev pub flag : List ℕ → Members → Option (Option Bool)
 flag key ms = optional as_bool (get_member key ms)
 
--- Each member, where it is there; `types` and `languages` name languages of the table.
+-- How many columns wide the report is.
 abbrev pub columns_in : Members → Option (Option ℕ)
 columns_in ms = optional as_count (get_member (codes "columns") ms)
 
+-- The column that the languages are sorted by.
 abbrev pub sort_in : Members → Option (Option Sort)
 sort_in ms = optional as_sort (get_member (codes "sort") ms)
 
+-- The only languages that are counted, by their numbers in the table.
 abbrev pub types_in : List Row → Members → Option (Option (List ℕ))
 types_in rows ms = optional (as_languages rows) (get_member (codes "types") ms)
 
+-- The extensions that each language gains, by its number in the table.
 abbrev pub languages_in : List Row → Members → Option (Option (List (ℕ × List (List ℕ))))
 languages_in rows ms = optional (as_additions rows) (get_member (codes "languages") ms)
 
@@ -57,7 +61,8 @@ readable_settings rows ms = record {
   languages = value_of (languages_in rows ms);
 }
 
--- The settings of the members of a file; nothing where one of the ten can't be read. Other members are passed over.
+-- The settings of the members of a file; nothing where one of the ten can't be read. Other members
+-- are passed over.
 abbrev pub settings_in : List Row → Members → Option Settings
 settings_in rows ms = if is_readable rows ms then Some (readable_settings rows ms) else None
 
@@ -65,6 +70,7 @@ settings_in rows ms = if is_readable rows ms then Some (readable_settings rows m
 abbrev pub settings_of_reading : List Row → Option Members → Settings
 settings_of_reading rows found = unwrap_or (option_and_then (settings_in rows) found) empty
 
--- The settings of a file's text; none where it isn't TOML, or where one of its members can't be read.
+-- The settings of a file's text; none where it isn't TOML, or where one of its members can't be
+-- read.
 unfoldable pub settings_of_text : List Row → List ℕ → Settings
 settings_of_text rows text = settings_of_reading rows (parse_document text)

@@ -12,20 +12,23 @@ use Rattle.tokei_table.specs.Row.{Row}
 abbrev pub Addition : Type 0
 Addition = ℕ × List (List ℕ)
 
--- The extensions of a table `[languages.Key]`, which must be there; its other members are passed over.
+-- The extensions of a table `[languages.Key]`, which must be there; its other members are passed
+-- over.
 abbrev pub extensions_in : Members → Option (List (List ℕ))
 extensions_in ms = option_and_then as_texts (get_member (codes "extensions") ms)
 
 -- The addition of a member, whose key is a language's key or name.
 abbrev pub addition : List Row → List ℕ → Data → Option Addition
 addition rows key d =
-    option_and_then (λ language. option_map (λ es. (language, es)) (option_and_then extensions_in (as_table d)))
+    option_and_then (λ language. option_map (λ es. (language, es))
+    (option_and_then extensions_in (as_table d)))
     (first_where (has_name key) rows)
 
 -- The addition of each member; nothing where one of them can't be read.
 abbrev pub additions : List Row → Members → Option (List Addition)
 additions rows no_members = Some []
-additions rows (member key d ms) = option_and_then (λ a. option_map (λ more. a ∷ more) (additions rows ms)) (addition rows key d)
+additions rows (member key d ms) =
+    option_and_then (λ a. option_map (λ more. a ∷ more) (additions rows ms)) (addition rows key d)
 
 -- Whether a language stands in two additions, as by its key and by its name.
 abbrev pub named_twice : List Addition → Bool

@@ -40,7 +40,8 @@ first_of_each a b = record {
   no_ignore_parent = option_or a.no_ignore_parent b.no_ignore_parent;
   no_ignore_dot = option_or a.no_ignore_dot b.no_ignore_dot;
   no_ignore_vcs = option_or a.no_ignore_vcs b.no_ignore_vcs;
-  treat_doc_strings_as_comments = option_or a.treat_doc_strings_as_comments b.treat_doc_strings_as_comments;
+  treat_doc_strings_as_comments =
+      option_or a.treat_doc_strings_as_comments b.treat_doc_strings_as_comments;
   sort = option_or a.sort b.sort;
   types = option_or a.types b.types;
   languages = option_or a.languages b.languages;

@@ -58,10 +58,11 @@ impl Config {
         }
     }
 
-    /// The configuration of a user's files: of each member the first that is there of the current folder's file, the
-    /// home folder's and that of the folder for configuration. A folder's file is `tokei.toml`, or `.tokeirc` where
-    /// that can't be read as UTF-8. A file counts as empty where it isn't TOML, or where a member is of a wrong kind or
-    /// names a language or a column that isn't known. It fails where memory runs out, and the folders keep their tree.
+    /// The configuration of a user's files: of each member the first that is there of the current
+    /// folder's file, the home folder's and that of the folder for configuration. A folder's file
+    /// is `tokei.toml`, or `.tokeirc` where that can't be read as UTF-8. A file counts as empty
+    /// where it isn't TOML, or where a member is of a wrong kind or names a language or a column
+    /// that isn't known. It fails where memory runs out, and the folders keep their tree.
     pub fn from_config_files<F: Folders>(
         alloc: Global,
         table: &LanguageTable,
@@ -88,8 +89,8 @@ impl Config {
         }
     }
 
-    /// The extensions that languages gain, in the order of the table and as `LanguageTable::extended` takes them. It
-    /// fails where memory runs out.
+    /// The extensions that languages gain, in the order of the table and as
+    /// `LanguageTable::extended` takes them. It fails where memory runs out.
     pub fn additions(&self, alloc: Global) -> Result<Vec<(LanguageType, &[String])>, AllocError>
         ensures { IfOk result (λ v. map addition_of v.items
             ≡ additions_in (settings_of self.entry.now)) }
@@ -103,8 +104,8 @@ impl Config {
         Ok(additions)
     }
 
-    /// The table in which languages have gained the extensions of this configuration, which no language had. It fails
-    /// where memory runs out.
+    /// The table in which languages have gained the extensions of this configuration, which no
+    /// language had. It fails where memory runs out.
     pub fn extended_table(
         &self,
         alloc: Global,

@@ -40,8 +40,8 @@ fn config_in(alloc: Global, table: &LanguageTable, members: &Table) -> Result<Co
     })
 }
 
-/// The configuration that a file's text is; an empty one where the text isn't TOML, or where a member is of a wrong
-/// kind or names what isn't known. It fails where memory runs out.
+/// The configuration that a file's text is; an empty one where the text isn't TOML, or where a
+/// member is of a wrong kind or names what isn't known. It fails where memory runs out.
 #[tactic(auto, unfolding(crate::specs::Document::settings_of_text))]
 pub(crate) fn config_of_text(
     alloc: Global,

@@ -64,7 +64,8 @@ fn config_at<F: Folders>(
     }
 }
 
-/// The configuration of a folder's file; an empty one where there is no folder or no file that can be read.
+/// The configuration of a folder's file; an empty one where there is no folder or no file that can
+/// be read.
 pub(crate) fn config_in<F: Folders>(
     alloc: Global,
     table: &LanguageTable,

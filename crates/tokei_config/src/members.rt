@@ -40,14 +40,16 @@ impl<T: Drop> From<AllocFailed<T>> for MemberError {
 
 /// The value at a key.
 pub(crate) fn member<'a>(table: &'a Table, key: &str) -> Option<&'a Value>
-    ensures { option_map (λ v. view v.now) result ≡ get_member key.now (table_view table.entry.now) }
+    ensures { option_map (λ v. view v.now) result
+        ≡ get_member key.now (table_view table.entry.now) }
 {
     table.get(key)
 }
 
 /// The truth value at a key.
 pub(crate) fn flag_at(members: &Table, key: &str) -> Result<Option<bool>, MemberError>
-    ensures { Reads (λ v. v) (optional as_bool (get_member key.now (table_view members.now))) result }
+    ensures { Reads (λ v. v) (optional as_bool (get_member key.now (table_view members.now)))
+        result }
 {
     match member(members, key) {
         None => Ok(None),
@@ -68,7 +70,8 @@ fn natural(number: i64) -> Option<usize>
 
 /// The number at a key, which isn't below 0.
 pub(crate) fn count_at(members: &Table, key: &str) -> Result<Option<usize>, MemberError>
-    ensures { Reads (λ v. v) (optional as_count (get_member key.now (table_view members.now))) result }
+    ensures { Reads (λ v. v) (optional as_count (get_member key.now (table_view members.now)))
+        result }
 {
     let Some(value) = member(members, key) else {
         return Ok(None);
@@ -84,7 +87,8 @@ pub(crate) fn count_at(members: &Table, key: &str) -> Result<Option<usize>, Memb
 
 /// The column that the word at a key names.
 pub(crate) fn sort_at(members: &Table, key: &str) -> Result<Option<Sort>, MemberError>
-    ensures { Reads (λ v. v) (optional as_sort (get_member key.now (table_view members.now))) result }
+    ensures { Reads (λ v. v) (optional as_sort (get_member key.now (table_view members.now)))
+        result }
 {
     let Some(value) = member(members, key) else {
         return Ok(None);

@@ -1,4 +1,5 @@
--- What a count of a whole text speaks of: by the rows of a table, in a language, with all levels left.
+-- What a count of a whole text speaks of: by the rows of a table, in a language, with all levels
+-- left.
 use Rattle.std.specs.Prelude.{◌≡◌, ℕ, false, List, None}
 use Rattle.tokei_options.specs.declared.count_config.CountConfig.{CountConfig}
 use Rattle.tokei_stats.specs.Statistics.{Statistics, lines_of, summary}
@@ -14,18 +15,24 @@ use Rattle.tokei_count.specs.Seen.{docs_of}
 use Rattle.tokei_count.specs.Steps.{steps, work}
 use Rattle.tokei_count.specs.Weight.{weight}
 
+-- the statistics of the text, those of its children in it
 abbrev pub text_reading : List Row → CountConfig → ℕ → List ℕ → Statistics
-text_reading rows config language text = reading (languages_of rows) (docs_of config) outermost_levels language text
+text_reading rows config language text =
+    reading (languages_of rows) (docs_of config) outermost_levels language text
 
+-- the steps that reading the text takes
 abbrev pub text_steps : List Row → ℕ → List ℕ → ℕ
 text_steps rows language text = steps (languages_of rows) outermost_levels language text
 
+-- how many items open in the text and in its children, and one for each child
 abbrev pub text_openings : List Row → ℕ → List ℕ → ℕ
 text_openings rows language text = openings (languages_of rows) outermost_levels language text
 
+-- the lengths in bytes of all parts that are walked, and one for each child
 abbrev pub text_work : List Row → ℕ → List ℕ → ℕ
 text_work rows language text = work (languages_of rows) outermost_levels language text
 
+-- the weight of the text, in bytes, which bounds what its reading takes and counts
 abbrev pub text_weight : List Row → ℕ → List ℕ → ℕ
 text_weight rows language text = weight (languages_of rows) outermost_levels language text
 

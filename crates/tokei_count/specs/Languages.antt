@@ -8,8 +8,9 @@ use Rattle.tokei_parts.specs.Items.{Block}
 use Rattle.tokei_count.specs.NotebookCells.{cell_blocks}
 use Rattle.tokei_parts.specs.Openings.{block_in}
 
--- The row of each language; by language, whole text and how many bytes were left behind the last child, the block that
--- opens at the front of what is left of the text; and by language and whole text the cells of a notebook.
+-- The row of each language; by language, whole text and how many bytes were left behind the last
+-- child, the block that opens at the front of what is left of the text; and by language and whole
+-- text the cells of a notebook.
 pub record Languages : Type 0 where
   pub row : ℕ → Row
   pub block : ℕ → List ℕ → ℕ → List ℕ → Option Block

@@ -1,5 +1,5 @@
--- What contracts say of counting: the items of a text and their parts, the class of each part, the children, the plain
--- reading, its steps and its weight.
+-- What contracts say of counting: the items of a text and their parts, the class of each part, the
+-- children, the plain reading, its steps and its weight.
 -- The code's own words, which no public contract has:
 pub mod Countings
 pub mod Gathered

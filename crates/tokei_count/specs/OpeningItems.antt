@@ -7,8 +7,8 @@ use Rattle.tokei_parts.specs.Items.Items.{none, more}
 use Rattle.tokei_count.specs.Languages.{Languages}
 use Rattle.tokei_count.specs.Steps.{with_children}
 
--- Each string literal, each comment and each opener that is passed over, at every depth. A child is counted beside
--- them.
+-- Each string literal, each comment and each opener that is passed over, at every depth. A child is
+-- counted beside them.
 unfoldable mutual
   pub openings_in : Items → ℕ
   openings_in none = 0

@@ -1,5 +1,5 @@
--- The law behind skipping, by the parts of a text alone: a part that isn't walked begins and ends in plain text, and no
--- child breaks it off.
+-- The law behind skipping, by the parts of a text alone: a part that isn't walked begins and ends
+-- in plain text, and no child breaks it off.
 use Rattle.std.specs.Prelude.{◌≡◌, ℕ, false, List, [], length, None}
 use Rattle.std.specs.List.{AllByRecursion}
 use Rattle.tokei_table.specs.Lookups.{row_at}
@@ -29,4 +29,5 @@ pub record UnwalkedStayPlain (os : List (List ℕ)) (t : List ℕ) (ms : List Ma
 -- and so with those of each text, by a table of which all texts that a count looks for are tokens
 abbrev pub UnwalkedPartsStayPlain : Type 0
 UnwalkedPartsStayPlain = (rows : List Row) → HaveTokens rows → (levels language : ℕ) (t : List ℕ)
-    → UnwalkedStayPlain (openers (row_at rows language)) t (marks [] (items_in (languages_of rows) levels language t))
+    → UnwalkedStayPlain (openers (row_at rows language)) t
+    (marks [] (items_in (languages_of rows) levels language t))

@@ -11,7 +11,8 @@ use Rattle.tokei_stats.specs.Statistics.{Statistics, empty, sum}
 use Rattle.tokei_stats.specs.Statistics.Statistics.{node}
 use Rattle.tokei_stats.specs.Statistics.Blobs.{none, blob}
 
--- what a child adds to its parent: its share of the parent's own lines, and its statistics at its language
+-- what a child adds to its parent: its share of the parent's own lines, and its statistics at its
+-- language
 abbrev pub child_adds : (Block → Statistics) → Block → Statistics
 child_adds read k = node k.share (blob k.language (read k) none)
 
@@ -33,8 +34,8 @@ blocks ls levels language t = blocks_at ls.block levels language t
 abbrev pub notebook_by : (Block → Statistics) → List Block → Statistics
 notebook_by = children_add
 
--- The reading of a text in a language, with so many levels left; a child has one level less than its parent. With none
--- left a notebook counts nothing.
+-- The reading of a text in a language, with so many levels left; a child has one level less than
+-- its parent. With none left a notebook counts nothing.
 unfoldable pub reading : Languages → Bool → ℕ → ℕ → List ℕ → Statistics
 reading ls docs_are_comments zero language t =
     if is_notebook (ls.row language) then empty
@@ -42,14 +43,17 @@ reading ls docs_are_comments zero language t =
     (marks [] (items_of (ls.row language) (blocks ls zero language t) t))
 reading ls docs_are_comments (suc levels) language t =
     if is_notebook (ls.row language)
-    then notebook_by (λ k. reading ls docs_are_comments levels k.language k.contents) (ls.cells language t)
-    else read_by (ls.row language) docs_are_comments (λ k. reading ls docs_are_comments levels k.language k.contents)
+    then notebook_by (λ k. reading ls docs_are_comments levels k.language k.contents)
+    (ls.cells language t)
+    else read_by (ls.row language) docs_are_comments
+    (λ k. reading ls docs_are_comments levels k.language k.contents)
     (marks [] (items_of (ls.row language) (blocks ls (suc levels) language t) t))
 
 -- the reading of a child, in a text with so many levels left
 abbrev pub child_reading : Languages → Bool → ℕ → Block → Statistics
 child_reading ls docs_are_comments zero k = empty
-child_reading ls docs_are_comments (suc levels) k = reading ls docs_are_comments levels k.language k.contents
+child_reading ls docs_are_comments (suc levels) k =
+    reading ls docs_are_comments levels k.language k.contents
 
 -- the outermost text has 50 levels left
 abbrev pub outermost_levels : ℕ

@@ -9,8 +9,8 @@ use Rattle.tokei_count.specs.Languages.{languages_of}
 use Rattle.tokei_count.specs.Steps.{steps}
 use Rattle.tokei_count.specs.WeightLaws.{HaveTokens}
 
--- a text that isn't a notebook and holds no opener takes no steps, by a table of which all texts that a count looks for
--- are tokens
+-- a text that isn't a notebook and holds no opener takes no steps, by a table of which all texts
+-- that a count looks for are tokens
 abbrev pub QuietTextsTakeNoSteps : Type 0
 QuietTextsTakeNoSteps = (rows : List Row) → HaveTokens rows → (levels language : ℕ) (t : List ℕ)
     → is_notebook (row_at rows language) ≡ false

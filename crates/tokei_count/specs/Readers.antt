@@ -9,7 +9,8 @@ use Rattle.tokei_parts.specs.declared.reading.Reading.{Reading}
 
 -- the plain reading of a text, with so many levels left, in a language
 abbrev pub reading_by : Reader → ℕ → ℕ → List ℕ → Statistics
-reading_by r levels language text = reading (languages_of r.table.now) r.docs_are_comments levels language text
+reading_by r levels language text =
+    reading (languages_of r.table.now) r.docs_are_comments levels language text
 
 -- its steps
 abbrev pub steps_by : Reader → ℕ → ℕ → List ℕ → ℕ

@@ -20,7 +20,8 @@ unfoldable mutual
   spelled_by (one b) = b ∷ []
   spelled_by (escaped a b) = a ∷ b ∷ []
   spelled_by (passed_over p) = p.opener
-  spelled_by (string_literal k p is closed) = p.opener ++ (spelled is ++ (if closed then p.closer else []))
+  spelled_by (string_literal k p is closed) =
+      p.opener ++ (spelled is ++ (if closed then p.closer else []))
   spelled_by (comment p is closed) = p.opener ++ (spelled is ++ (if closed then p.closer else []))
   spelled_by (line_comment t) = t
   spelled_by (child k t) = t
@@ -31,7 +32,8 @@ pub record TakesBytes (block : ℕ → List ℕ → Option Block) : Type 0 where
 
 -- the law: by sound tokens the items of a text spell it, whatever children open
 abbrev pub ItemsSpellText : Type 0
-ItemsSpellText = (r : Row) (block : ℕ → List ℕ → Option Block) (t : List ℕ) → IsSound r → TakesBytes block
+ItemsSpellText =
+    (r : Row) (block : ℕ → List ℕ → Option Block) (t : List ℕ) → IsSound r → TakesBytes block
     → spelled (items_of r block t) ≡ t
 
 -- so it is with each text, by a table of which all texts that a count looks for are tokens

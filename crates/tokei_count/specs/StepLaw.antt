@@ -1,4 +1,5 @@
--- The law of the steps: each opening is a step, and each step takes a byte of what is walked or opens a child.
+-- The law of the steps: each opening is a step, and each step takes a byte of what is walked or
+-- opens a child.
 use Rattle.std.specs.Prelude.{ℕ, ◌≤◌, List}
 use Rattle.tokei_table.specs.Row.{Row}
 use Rattle.tokei_count.specs.Languages.{Languages}

@@ -1,4 +1,5 @@
--- The steps of a text: how many choices a reading has to make that looks at a part only where it must.
+-- The steps of a text: how many choices a reading has to make that looks at a part only where it
+-- must.
 use Rattle.std.specs.Prelude.{ℕ, zero, suc, ◌+◌, if◌then◌else◌, List, [], ◌∷◌, length, None, nat_le}
 use Rattle.tokei_table.specs.Openers.{openers}
 use Rattle.tokei_table.specs.Row.{Row}
@@ -14,12 +15,14 @@ use Rattle.tokei_parts.specs.Stretches.{Stretch, stretches, choices_of}
 -- the choices of those stretches that are walked
 abbrev pub walked_choices : List (List ℕ) → List Stretch → ℕ
 walked_choices os [] = 0
-walked_choices os (s ∷ ss) = (if is_walked os s.begun s.reach then choices_of s.own else 0) + walked_choices os ss
+walked_choices os (s ∷ ss) =
+    (if is_walked os s.begun s.reach then choices_of s.own else 0) + walked_choices os ss
 
 -- the bytes of those stretches that are walked
 abbrev pub walked_bytes : List (List ℕ) → List Stretch → ℕ
 walked_bytes os [] = 0
-walked_bytes os (s ∷ ss) = (if is_walked os s.begun s.reach then length s.own else 0) + walked_bytes os ss
+walked_bytes os (s ∷ ss) =
+    (if is_walked os s.begun s.reach then length s.own else 0) + walked_bytes os ss
 
 -- what each of the blocks is worth, added up
 abbrev pub sum_over : (Block → ℕ) → List Block → ℕ
@@ -34,17 +37,21 @@ items_in ls levels language t = items_of (ls.row language) (blocks ls levels lan
 abbrev pub children_in : Languages → ℕ → ℕ → List ℕ → List Block
 children_in ls levels language t = children (marks [] (items_in ls levels language t))
 
--- A number of each text, with those of its children or cells: for a text that is read in lines it is `own`, and one for
--- each child; a notebook has nothing but its cells, and with no levels left nothing at all.
+-- A number of each text, with those of its children or cells: for a text that is read in lines it
+-- is `own`, and one for each child; a notebook has nothing but its cells, and with no levels left
+-- nothing at all.
 unfoldable pub with_children : (Row → List ℕ → Items → ℕ) → Languages → ℕ → ℕ → List ℕ → ℕ
 with_children own ls zero language t =
     if is_notebook (ls.row language) then 0
-    else own (ls.row language) t (items_in ls zero language t) + length (children_in ls zero language t)
+    else own (ls.row language) t (items_in ls zero language t)
+    + length (children_in ls zero language t)
 with_children own ls (suc levels) language t =
     if is_notebook (ls.row language)
     then sum_over (λ k. with_children own ls levels k.language k.contents) (ls.cells language t)
-    else own (ls.row language) t (items_in ls (suc levels) language t) + length (children_in ls (suc levels) language t)
-    + sum_over (λ k. with_children own ls levels k.language k.contents) (children_in ls (suc levels) language t)
+    else own (ls.row language) t (items_in ls (suc levels) language t)
+    + length (children_in ls (suc levels) language t)
+    + sum_over (λ k. with_children own ls levels k.language k.contents)
+    (children_in ls (suc levels) language t)
 
 -- the choices in the walked parts of a text, its children apart
 abbrev pub own_steps : Row → List ℕ → Items → ℕ
@@ -54,7 +61,8 @@ own_steps r t is = walked_choices (openers r) (stretches None [] t (marks [] is)
 abbrev pub own_work : Row → List ℕ → Items → ℕ
 own_work r t is = walked_bytes (openers r) (stretches None [] t (marks [] is))
 
--- The steps of a text, with those of its children: the choices in its walked parts, and one for each child.
+-- The steps of a text, with those of its children: the choices in its walked parts, and one for
+-- each child.
 abbrev pub steps : Languages → ℕ → ℕ → List ℕ → ℕ
 steps = with_children own_steps
 

@@ -25,10 +25,11 @@ pub record IsReadBy (reader : Reader) (r : Reading) : Type 0 where
   pub docs_are_comments : r.docs_are_comments ≡ reader.docs_are_comments
   pub skips : r.skips ≡ reader.skips
 
--- the reading of a child of the text, and its steps
+-- the statistics of a child of the text
 abbrev pub reading_inside : Reading → Block → Statistics
 reading_inside r = child_reading (languages_of r.table.now) r.docs_are_comments r.levels
 
+-- the steps of a child of the text
 abbrev pub steps_inside : Reading → Block → ℕ
 steps_inside r = child_steps (languages_of r.table.now) r.levels
 
@@ -36,28 +37,35 @@ steps_inside r = child_steps (languages_of r.table.now) r.levels
 abbrev pub ahead : Reading → ReadSoFar → List ℕ
 ahead r p = drop p.start r.text.now
 
--- the children of the text, and of what is left of it
+-- the children of the text
 abbrev pub all_children : Reading → List Block
 all_children r = children_left (row_in r) (blocks_of r) (length r.text.now) [] r.text.now
 
+-- the children of what is left of the text
 abbrev pub children_ahead : Reading → ReadSoFar → List Block
-children_ahead r p = children_left (row_in r) (blocks_of r) p.behind_child (chain_of p.stack.items) (ahead r p)
+children_ahead r p =
+    children_left (row_in r) (blocks_of r) p.behind_child (chain_of p.stack.items) (ahead r p)
 
--- the counts of the text with what its children add to them, and of what is left of it
+-- the counts of the text, with what its children add to them
 abbrev pub all_counts : Reading → Counts
 all_counts r =
-    plus (counts_left (row_in r) (blocks_of r) (length r.text.now) r.docs_are_comments [] r.text.now)
+    plus
+    (counts_left (row_in r) (blocks_of r) (length r.text.now) r.docs_are_comments [] r.text.now)
     (shares (all_children r))
 
+-- the counts of what is left of the text, with what its children add to them
 abbrev pub counts_ahead : Reading → ReadSoFar → Counts
 counts_ahead r p =
-    plus (counts_left (row_in r) (blocks_of r) p.behind_child r.docs_are_comments (chain_of p.stack.items) (ahead r p))
+    plus (counts_left (row_in r) (blocks_of r) p.behind_child r.docs_are_comments
+    (chain_of p.stack.items) (ahead r p))
     (shares (children_ahead r p))
 
--- the steps of the text itself, one for each child with them, and of what is left of it
+-- the steps of the text itself, one for each child with them
 abbrev pub all_steps : Reading → ℕ
-all_steps r = steps_left (row_in r) (blocks_of r) (length r.text.now) [] r.text.now + length (all_children r)
+all_steps r =
+    steps_left (row_in r) (blocks_of r) (length r.text.now) [] r.text.now + length (all_children r)
 
+-- the steps of what is left of the text, one for each child with them
 abbrev pub steps_ahead : Reading → ReadSoFar → ℕ
 steps_ahead r p =
     steps_left (row_in r) (blocks_of r) p.behind_child (chain_of p.stack.items) (ahead r p)
@@ -67,8 +75,8 @@ steps_ahead r p =
 abbrev pub blobs_with : Reading → Blobs → List Block → Blobs
 blobs_with r = gathered (reading_inside r)
 
--- The next part of the text, which is no notebook, begins where `p` says. In a text without opener that is read with
--- skipping, each line so far was skipped.
+-- The next part of the text, which is no notebook, begins where `p` says. In a text without opener
+-- that is read with skipping, each line so far was skipped.
 pub record IsUnderWay (r : Reading) (p : ReadSoFar) : Type 0 where
   pub lines : is_notebook (row_in r) ≡ false
   pub tokens : has_tokens (row_in r) ≡ true

@@ -1,5 +1,6 @@
--- The weight of a text: a bound on what its reading takes and counts. Every byte of a text weighs, and so does every
--- byte of a notebook's cells, which aren't bytes of the notebook: their sources are decoded from it.
+-- The weight of a text: a bound on what its reading takes and counts. Every byte of a text weighs,
+-- and so does every byte of a notebook's cells, which aren't bytes of the notebook: their sources
+-- are decoded from it.
 use Rattle.std.specs.Prelude.{ℕ, zero, suc, ◌+◌, if◌then◌else◌, List, length}
 use Rattle.tokei_count.specs.Languages.{Languages, is_notebook}
 use Rattle.tokei_count.specs.Steps.{children_in, sum_over}
@@ -8,15 +9,17 @@ use Rattle.tokei_count.specs.Steps.{children_in, sum_over}
 abbrev pub own_weight : Languages → ℕ → List ℕ → ℕ
 own_weight ls language t = if is_notebook (ls.row language) then 0 else length t
 
--- What a text weighs beside its bytes: a notebook the weights of its cells, each in its language; another text the
--- extras of its children, whose bytes are among its own. With no levels left it is nothing.
+-- What a text weighs beside its bytes: a notebook the weights of its cells, each in its language;
+-- another text the extras of its children, whose bytes are among its own. With no levels left it is
+-- nothing.
 unfoldable pub extra : Languages → ℕ → ℕ → List ℕ → ℕ
 extra ls zero language t = 0
 extra ls (suc levels) language t =
     if is_notebook (ls.row language)
     then sum_over (λ k. own_weight ls k.language k.contents + extra ls levels k.language k.contents)
     (ls.cells language t)
-    else sum_over (λ k. extra ls levels k.language k.contents) (children_in ls (suc levels) language t)
+    else sum_over (λ k. extra ls levels k.language k.contents)
+    (children_in ls (suc levels) language t)
 
 -- The weight of a text, with so many levels left.
 abbrev pub weight : Languages → ℕ → ℕ → List ℕ → ℕ

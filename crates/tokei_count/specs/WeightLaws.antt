@@ -26,7 +26,9 @@ StepsWithinWeight = (rows : List Row) → HaveTokens rows → (levels language :
 
 -- a text and its children have no more lines than it weighs
 abbrev pub LinesWithinWeight : Type 0
-LinesWithinWeight = (rows : List Row) → HaveTokens rows → (docs_are_comments : Bool) (levels language : ℕ) (t : List ℕ)
+LinesWithinWeight =
+    (rows : List Row) → HaveTokens rows
+    → (docs_are_comments : Bool) (levels language : ℕ) (t : List ℕ)
     → lines_of (summary (reading (languages_of rows) docs_are_comments levels language t))
     ≤ weight (languages_of rows) levels language t
 
@@ -37,7 +39,9 @@ WeightIsLength = (rows : List Row) → HaveNoNotebook rows → (levels language 
 
 -- a reading fits the code's numbers wherever the weight of its text does
 abbrev pub LightReadingsFit : Type 0
-LightReadingsFit = (rows : List Row) → HaveTokens rows → (docs_are_comments : Bool) (levels language : ℕ) (t : List ℕ)
+LightReadingsFit =
+    (rows : List Row) → HaveTokens rows
+    → (docs_are_comments : Bool) (levels language : ℕ) (t : List ℕ)
     → weight (languages_of rows) levels language t < 2 ^ 64
     → Fits (reading (languages_of rows) docs_are_comments levels language t)
 

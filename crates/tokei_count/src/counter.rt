@@ -10,8 +10,8 @@ use std::marker::Model;
 use tokei_parts::{LanguageMatchers, SharedMatchers, all_matchers};
 use tokei_table::{LanguageTable, LanguageType};
 
-/// Counts texts in the languages of a table, which it borrows, with matchers of each of them. Contracts see it as that
-/// table.
+/// Counts texts in the languages of a table, which it borrows, with matchers of each of them.
+/// Contracts see it as that table.
 #[derive(Drop)]
 pub struct Counter<'a> {
     table: &'a LanguageTable,
@@ -31,7 +31,8 @@ impl<'a> Model for Counter<'a> {
 
     ghost view = { λ c. c.table.now };
 
-    ghost invariant = { λ c. (c.matchers.items ≡ map matchers_of c.table.now) × IsWellFormed c.table.now
+    ghost invariant = { λ c. (c.matchers.items ≡ map matchers_of c.table.now)
+        × IsWellFormed c.table.now
         × (c.markdown ≡ first_where (has_name (codes "Markdown")) c.table.now) };
 }
 

@@ -1,7 +1,9 @@
-//! Counts the blank, code and comment lines of a text in its language, and of the texts of other languages inside it.
+//! Counts the blank, code and comment lines of a text in its language, and of the texts of other
+//! languages inside it.
 //!
-//! `specs/` holds the rules, one idea a file: items, the choice at a place, the derivation, the mode at a place, parts,
-//! the class of a part, where a child opens in a language of each family, the plain reading.
+//! `specs/` holds the rules, one idea a file: items, the choice at a place, the derivation, the
+//! mode at a place, parts, the class of a part, where a child opens in a language of each family,
+//! the plain reading.
 #![tactic(auto)]
 
 mod counter;

@@ -17,11 +17,13 @@ use tokei_options::CountConfig;
 use tokei_stats::{CodeStats, CountError};
 use tokei_table::LanguageType;
 
-/// Counts a text in a language of the counter's table: the statistics of its plain reading, and the steps that the
-/// reading took. A line that begins plain and holds no opener of its language is skipped, and takes none.
+/// Counts a text in a language of the counter's table: the statistics of its plain reading, and the
+/// steps that the reading took. A line that begins plain and holds no opener of its language is
+/// skipped, and takes none.
 ///
-/// `Overflow` comes only where a count of the plain reading, at some depth, passes the greatest `usize`; `Memory` only
-/// where an allocation failed. A text without opener, in a language other than notebooks, takes no memory.
+/// `Overflow` comes only where a count of the plain reading, at some depth, passes the greatest
+/// `usize`; `Memory` only where an allocation failed. A text without opener, in a language other
+/// than notebooks, takes no memory.
 pub fn parse_counted(
     alloc: Global,
     counter: &Counter,
@@ -30,21 +32,28 @@ pub fn parse_counted(
     config: &CountConfig,
 ) -> Result<(CodeStats, u128), CountError>
     requires { language < length counter.now }
-    ensures reads { IfOk result (λ r. stats_of r.0 ≡ text_reading counter.now config.now language text.now) }
+    ensures reads { IfOk result (λ r. stats_of r.0
+        ≡ text_reading counter.now config.now language text.now) }
     ensures steps { IfOk result (λ r. r.1 ≡ capped (text_steps counter.now language text.now)) }
-    ensures openings_at_most_steps { IfOk result (λ r. capped (text_openings counter.now language text.now) ≤ r.1) }
+    ensures openings_at_most_steps { IfOk result
+        (λ r. capped (text_openings counter.now language text.now) ≤ r.1) }
     ensures steps_at_most_work { IfOk result (λ r. r.1 ≤ text_work counter.now language text.now) }
-    ensures no_steps_without_openers { HasNoOpener counter.now language text.now → IfOk result (λ r. r.1 ≡ 0) }
-    ensures steps_at_most_weight { IfOk result (λ r. r.1 ≤ text_weight counter.now language text.now) }
-    ensures steps_at_most_bytes { HaveNoNotebook counter.now → IfOk result (λ r. r.1 ≤ length text.now) }
+    ensures no_steps_without_openers { HasNoOpener counter.now language text.now
+        → IfOk result (λ r. r.1 ≡ 0) }
+    ensures steps_at_most_weight { IfOk result (λ r. r.1
+        ≤ text_weight counter.now language text.now) }
+    ensures steps_at_most_bytes { HaveNoNotebook counter.now
+        → IfOk result (λ r. r.1 ≤ length text.now) }
     ensures lines_at_most_weight { IfOk result (λ r. all_lines (stats_of r.0)
         ≤ text_weight counter.now language text.now) }
     ensures lines_at_most_bytes { HaveNoNotebook counter.now
         → IfOk result (λ r. all_lines (stats_of r.0) ≤ length text.now) }
     ensures no_overflow_of_light_texts { text_weight counter.now language text.now < 2 ^ 64
         → ¬ IsErrOf result CountError.Overflow }
-    ensures no_overflow_without_notebooks { HaveNoNotebook counter.now → ¬ IsErrOf result CountError.Overflow }
-    ensures never_refused_without_openers { HasNoOpener counter.now language text.now → IsOk result }
+    ensures no_overflow_without_notebooks { HaveNoNotebook counter.now
+        → ¬ IsErrOf result CountError.Overflow }
+    ensures never_refused_without_openers { HasNoOpener counter.now language text.now
+        → IsOk result }
     ensures overflow { IsErrOf result CountError.Overflow
         → ¬ Fits (text_reading counter.now config.now language text.now) }
 {
@@ -64,8 +73,9 @@ pub fn parse_counted(
 
 /// Counts a text in a language of the counter's table: the statistics of its plain reading.
 ///
-/// `Overflow` comes only where a count of the reading, at some depth, passes the greatest `usize`; `Memory` only where
-/// an allocation failed. A text without opener, in a language other than notebooks, takes no memory.
+/// `Overflow` comes only where a count of the reading, at some depth, passes the greatest `usize`;
+/// `Memory` only where an allocation failed. A text without opener, in a language other than
+/// notebooks, takes no memory.
 pub fn parse_from_slice(
     alloc: Global,
     counter: &Counter,
@@ -74,15 +84,18 @@ pub fn parse_from_slice(
     config: &CountConfig,
 ) -> Result<CodeStats, CountError>
     requires { language < length counter.now }
-    ensures reads { IfOk result (λ s. stats_of s ≡ text_reading counter.now config.now language text.now) }
+    ensures reads { IfOk result (λ s. stats_of s
+        ≡ text_reading counter.now config.now language text.now) }
     ensures lines_at_most_weight { IfOk result (λ r. all_lines (stats_of r)
         ≤ text_weight counter.now language text.now) }
     ensures lines_at_most_bytes { HaveNoNotebook counter.now
         → IfOk result (λ r. all_lines (stats_of r) ≤ length text.now) }
     ensures no_overflow_of_light_texts { text_weight counter.now language text.now < 2 ^ 64
         → ¬ IsErrOf result CountError.Overflow }
-    ensures no_overflow_without_notebooks { HaveNoNotebook counter.now → ¬ IsErrOf result CountError.Overflow }
-    ensures never_refused_without_openers { HasNoOpener counter.now language text.now → IsOk result }
+    ensures no_overflow_without_notebooks { HaveNoNotebook counter.now
+        → ¬ IsErrOf result CountError.Overflow }
+    ensures never_refused_without_openers { HasNoOpener counter.now language text.now
+        → IsOk result }
     ensures overflow { IsErrOf result CountError.Overflow
         → ¬ Fits (text_reading counter.now config.now language text.now) }
 {
@@ -99,15 +112,18 @@ pub fn parse_from_str(
     config: &CountConfig,
 ) -> Result<CodeStats, CountError>
     requires { language < length counter.now }
-    ensures reads { IfOk result (λ s. stats_of s ≡ text_reading counter.now config.now language text.now) }
+    ensures reads { IfOk result (λ s. stats_of s
+        ≡ text_reading counter.now config.now language text.now) }
     ensures lines_at_most_weight { IfOk result (λ r. all_lines (stats_of r)
         ≤ text_weight counter.now language text.now) }
     ensures lines_at_most_bytes { HaveNoNotebook counter.now
         → IfOk result (λ r. all_lines (stats_of r) ≤ length text.now) }
     ensures no_overflow_of_light_texts { text_weight counter.now language text.now < 2 ^ 64
         → ¬ IsErrOf result CountError.Overflow }
-    ensures no_overflow_without_notebooks { HaveNoNotebook counter.now → ¬ IsErrOf result CountError.Overflow }
-    ensures never_refused_without_openers { HasNoOpener counter.now language text.now → IsOk result }
+    ensures no_overflow_without_notebooks { HaveNoNotebook counter.now
+        → ¬ IsErrOf result CountError.Overflow }
+    ensures never_refused_without_openers { HasNoOpener counter.now language text.now
+        → IsOk result }
     ensures overflow { IsErrOf result CountError.Overflow
         → ¬ Fits (text_reading counter.now config.now language text.now) }
 {

@@ -15,10 +15,11 @@ use tokei_table::LanguageType;
 /// How deep children of the outermost text are read.
 pub(crate) const OUTERMOST_LEVELS: u32 = 50;
 
-/// Counts a text in a language of the counter's table by the plain reading, in which no line is skipped.
+/// Counts a text in a language of the counter's table by the plain reading, in which no line is
+/// skipped.
 ///
-/// `Overflow` comes only where a count of the reading, at some depth, passes the greatest `usize`; `Memory` only where
-/// an allocation failed. Children are read 50 levels deep.
+/// `Overflow` comes only where a count of the reading, at some depth, passes the greatest `usize`;
+/// `Memory` only where an allocation failed. Children are read 50 levels deep.
 pub fn count_plain(
     alloc: Global,
     counter: &Counter,
@@ -27,7 +28,8 @@ pub fn count_plain(
     config: &CountConfig,
 ) -> Result<CodeStats, CountError>
     requires { language < length counter.now }
-    ensures reads { IfOk result (λ s. stats_of s ≡ text_reading counter.now config.now language text.now) }
+    ensures reads { IfOk result (λ s. stats_of s
+        ≡ text_reading counter.now config.now language text.now) }
     ensures overflow { IsErrOf result CountError.Overflow
         → ¬ Fits (text_reading counter.now config.now language text.now) }
 {

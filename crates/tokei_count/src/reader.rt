@@ -13,11 +13,13 @@ pub(crate) struct Reader<'a> {
     pub table: &'a LanguageTable,
     /// What texts are searched and walked with, by language.
     pub matchers: &'a [LanguageMatchers],
-    /// The language of doc comments, where the table has it: it is looked up once, and not for each of them.
+    /// The language of doc comments, where the table has it: it is looked up once, and not for each
+    /// of them.
     pub markdown: &'a Option<LanguageType>,
     /// Whether doc strings are treated as comments.
     pub docs_are_comments: bool,
-    /// Whether parts that begin plain and hold no opener are skipped, by the matchers, or walked as the others are.
+    /// Whether parts that begin plain and hold no opener are skipped, by the matchers, or walked as
+    /// the others are.
     pub skips: bool,
     ghost docs: { markdown.now ≡ first_where (has_name (codes "Markdown")) table.now },
 }

@@ -44,7 +44,8 @@ use tokei_table::{LanguageType, Syntax};
 #[derive(Drop)]
 pub(crate) struct TextRead {
     pub stats: CodeStats,
-    /// How many choices were made in it and in its children, or the greatest number where they were more.
+    /// How many choices were made in it and in its children, or the greatest number where they were
+    /// more.
     pub steps: u128,
 }
 
@@ -64,7 +65,8 @@ fn is_notebook(syntax: &Syntax) -> bool
 
 /// What the lines of a doc comment say, where the child's text stands in some.
 fn doc_contents(alloc: Global, child: &Block) -> Result<Vec<u8>, AllocError>
-    ensures { IfOk result (λ v. child.now.is_doc ≡ true → v.items ≡ doc_text child.now.contents.now) }
+    ensures { IfOk result (λ v. child.now.is_doc ≡ true
+        → v.items ≡ doc_text child.now.contents.now) }
 {
     if child.is_doc {
         doc_text(alloc, child.contents)
@@ -107,7 +109,8 @@ fn share_of(child: &Block) -> Sums
     }
 }
 
-/// The statistics of a notebook: those of each cell at its language. With no levels left it counts nothing.
+/// The statistics of a notebook: those of each cell at its language. With no levels left it counts
+/// nothing.
 #[cycle(read_text)]
 fn read_notebook(
     reader: Reader,
@@ -118,7 +121,8 @@ fn read_notebook(
     requires known { language < length reader.table.now }
     requires indexed { reader.matchers.now ≡ map matchers_of reader.table.now }
     requires notebook { is_notebook (row_at reader.table.now language) ≡ true }
-    ensures reads { IfOk result (λ r. stats_of r.stats ≡ reading_by reader.entry levels language text.now) }
+    ensures reads { IfOk result (λ r. stats_of r.stats
+        ≡ reading_by reader.entry levels language text.now) }
     ensures steps { reader.entry.skips ≡ true
         → IfOk result (λ r. r.steps ≡ capped (steps_by reader.entry levels language text.now)) }
     ensures overflow { IsErrOf result CountError.Overflow
@@ -196,8 +200,8 @@ fn one_more(lines: &mut Sums, class: Class)
     }
 }
 
-/// Counts the next lines, one after another, which stop before the first opener, at `next`, or with the text. Their
-/// counts and place stand in no memory meanwhile.
+/// Counts the next lines, one after another, which stop before the first opener, at `next`, or with
+/// the text. Their counts and place stand in no memory meanwhile.
 #[inline(never)]
 fn count_lines(reading: &Reading, so_far: &mut ReadSoFar, next: usize) -> Result<(), CountError>
     requires under_way { IsUnderWay reading.now so_far.old }
@@ -210,7 +214,8 @@ fn count_lines(reading: &Reading, so_far: &mut ReadSoFar, next: usize) -> Result
     ensures high { OnOk result (so_far.new.start ≤ next) }
     ensures next { OnOk result (next ≡ so_far.new.start + opener_place (openers_in reading.now)
         (drop so_far.new.start reading.now.text.now)) }
-    ensures clear { OnOk result (next ≤ so_far.new.start + line_len (drop so_far.new.start reading.now.text.now)) }
+    ensures clear { OnOk result
+        (next ≤ so_far.new.start + line_len (drop so_far.new.start reading.now.text.now)) }
     ensures more { OnOk result (so_far.new.start < length reading.now.text.now
         → next < so_far.new.start + length (line_from reading.now so_far.new.start)) }
     ensures plain { chain_of so_far.new.stack.items ≡ [] }
@@ -238,8 +243,8 @@ fn count_lines(reading: &Reading, so_far: &mut ReadSoFar, next: usize) -> Result
     Ok(())
 }
 
-/// Counts the next lines that stop at `to` or before, all within the item that encloses them: up to there each choice
-/// takes its byte. Their counts and place stand in no memory meanwhile.
+/// Counts the next lines that stop at `to` or before, all within the item that encloses them: up to
+/// there each choice takes its byte. Their counts and place stand in no memory meanwhile.
 #[inline(never)]
 fn count_within(
     reading: &Reading,
@@ -255,7 +260,8 @@ fn count_within(
     ensures under_way { OnOk result (IsUnderWay reading.now so_far.new) }
     ensures low { OnOk result (so_far.old.start ≤ so_far.new.start) }
     ensures high { OnOk result (so_far.new.start ≤ to) }
-    ensures clear { OnOk result (to ≤ so_far.new.start + line_len (drop so_far.new.start reading.now.text.now)) }
+    ensures clear { OnOk result
+        (to ≤ so_far.new.start + line_len (drop so_far.new.start reading.now.text.now)) }
     ensures same { so_far.new.stack ≡ so_far.old.stack }
     ensures overflow { IsErrOf result CountError.Overflow → ¬ Fits (reading_of reading.now) }
 {
@@ -278,8 +284,9 @@ fn count_within(
     Ok(())
 }
 
-/// Counts the lines before the next part that is walked, and answers a place up to which that part has no newline.
-/// `next` is where an earlier search for openers came to, and becomes where this one does.
+/// Counts the lines before the next part that is walked, and answers a place up to which that part
+/// has no newline. `next` is where an earlier search for openers came to, and becomes where this
+/// one does.
 fn skip_lines(
     reading: &Reading,
     so_far: &mut ReadSoFar,
@@ -288,14 +295,17 @@ fn skip_lines(
     requires under_way { IsUnderWay reading.now so_far.old }
     requires known { Knows (openers_in reading.now) reading.now.text.now so_far.old.start next.old }
     ensures under_way { OnOk result (IsUnderWay reading.now so_far.new) }
-    ensures known { OnOk result (Knows (openers_in reading.now) reading.now.text.now so_far.new.start next.new) }
+    ensures known { OnOk result
+        (Knows (openers_in reading.now) reading.now.text.now so_far.new.start next.new) }
     ensures on { OnOk result (so_far.old.start ≤ so_far.new.start) }
     ensures low { IfOk result (λ clear. so_far.new.start ≤ clear) }
     ensures clear { IfOk result (λ clear.
         clear ≤ so_far.new.start + line_len (drop so_far.new.start reading.now.text.now)) }
-    ensures walked { OnOk result (reading.now.skips ≡ true → so_far.new.start < length reading.now.text.now
+    ensures walked { OnOk result (reading.now.skips ≡ true
+        → so_far.new.start < length reading.now.text.now
         → is_walked (openers_in reading.now) (innermost (chain_of so_far.new.stack.items))
-        (line_from reading.now so_far.new.start) ≡ true) }
+        (line_from reading.now so_far.new.start)
+        ≡ true) }
     ensures quiet { reading.now.skips ≡ true
         → first_opener (openers (row_in reading.now)) reading.now.text.now ≡ None → IsOk result }
     ensures overflow { IsErrOf result CountError.Overflow → ¬ Fits (reading_of reading.now) }
@@ -332,7 +342,8 @@ fn read_child<'a>(
     requires indexed { reader.matchers.now ≡ map matchers_of reader.table.now }
     requires deep { 0 < reading.now.levels }
     requires known { child.now.language < length reading.now.table.now }
-    ensures reads { IfOk result (λ r. stats_of r.stats ≡ reading_inside reading.now (block_of child.now)) }
+    ensures reads { IfOk result (λ r. stats_of r.stats
+        ≡ reading_inside reading.now (block_of child.now)) }
     ensures steps { reading.now.skips ≡ true
         → IfOk result (λ r. r.steps ≡ capped (steps_inside reading.now (block_of child.now))) }
     ensures overflow { IsErrOf result CountError.Overflow
@@ -347,7 +358,8 @@ fn read_child<'a>(
     read_text(reader, child.language, inner, reading.levels - 1)
 }
 
-/// Walks the next part, whose line goes to `end`, and counts that line, or reads the child that breaks the part off.
+/// Walks the next part, whose line goes to `end`, and counts that line, or reads the child that
+/// breaks the part off.
 #[cycle(read_text)]
 fn read_walked<'a>(
     reader: Reader<'a>,
@@ -408,11 +420,14 @@ pub(crate) fn read_text<'a>(
 ) -> Result<TextRead, CountError>
     requires known { language < length reader.table.now }
     requires indexed { reader.matchers.now ≡ map matchers_of reader.table.now }
-    ensures reads { IfOk result (λ r. stats_of r.stats ≡ reading_by reader.entry levels language text.now) }
+    ensures reads { IfOk result (λ r. stats_of r.stats
+        ≡ reading_by reader.entry levels language text.now) }
     ensures steps { reader.entry.skips ≡ true
         → IfOk result (λ r. r.steps ≡ capped (steps_by reader.entry levels language text.now)) }
-    ensures quiet { reader.entry.skips ≡ true → is_notebook (row_at reader.entry.table.now language) ≡ false
-        → first_opener (openers (row_at reader.entry.table.now language)) text.now ≡ None → IsOk result }
+    ensures quiet { reader.entry.skips ≡ true
+        → is_notebook (row_at reader.entry.table.now language) ≡ false
+        → first_opener (openers (row_at reader.entry.table.now language)) text.now ≡ None
+        → IsOk result }
     ensures overflow { IsErrOf result CountError.Overflow
         → ¬ Fits (reading_by reader.entry levels language text.now) }
 {

@@ -1,5 +1,5 @@
--- What becomes of earlier results: their languages, or the first cause for which they are refused. Out of memory comes
--- beside it.
+-- What becomes of earlier results: their languages, or the first cause for which they are refused.
+-- Out of memory comes beside it.
 use Rattle.std.specs.Prelude.{ℕ, List, [], ◌∷◌, not, Option, None, Some, Result, Ok, Err, if◌then◌else◌}
 use Rattle.std.specs.Str.{is_utf8}
 use Rattle.serde_json.specs.Data.{Data}
@@ -21,7 +21,8 @@ outcome_of_value rows d =
     else Ok (languages_in rows d)))
 
 -- of a text that may have no reading
-abbrev pub outcome_of_reading : List Row → Option Data → Result (List (ℕ × LanguageValue)) InputError
+abbrev pub outcome_of_reading : List Row → Option Data
+    → Result (List (ℕ × LanguageValue)) InputError
 outcome_of_reading rows None = Err NotJson
 outcome_of_reading rows (Some d) = outcome_of_value rows d
 

@@ -15,6 +15,7 @@ use Rattle.tokei_json.specs.LanguageMaps.{language_named}
 abbrev pub count_in : Option Data → ℕ
 count_in o = unwrap_or (option_and_then as_u64 (option_and_then as_number o)) 0
 
+-- the three counts of an object
 unfoldable pub counts_in : Data → Counts
 counts_in d = record {
   blanks = count_in (get (codes "blanks") d);
@@ -38,10 +39,13 @@ abbrev mutual
   statistics_in rows (object ms) = node (counts_in (object ms)) (blobs_at rows ms)
   statistics_in rows d = empty
 
+  -- the blobs of the first member `blobs`; without one there are none
   pub blobs_at : List Row → Members → Blobs
   blobs_at rows no_members = none
-  blobs_at rows (member k d ms) = if bytes_eq k (codes "blobs") then blobs_in rows d else blobs_at rows ms
+  blobs_at rows (member k d ms) =
+      if bytes_eq k (codes "blobs") then blobs_in rows d else blobs_at rows ms
 
+  -- the blobs of an object; other values have none
   pub blobs_in : List Row → Data → Blobs
   blobs_in rows (object ms) = with_blobs rows ms none
   blobs_in rows d = none
@@ -49,38 +53,49 @@ abbrev mutual
   -- the blobs that are there, and those of the members
   pub with_blobs : List Row → Members → Blobs → Blobs
   with_blobs rows no_members found = found
-  with_blobs rows (member k d ms) found = with_blobs rows ms (put_blob (language_named rows k) found (statistics_in rows d))
+  with_blobs rows (member k d ms) found =
+      with_blobs rows ms (put_blob (language_named rows k) found (statistics_in rows d))
 
 -- a text's bytes; other values have none
 abbrev pub text_in : Option Data → List ℕ
 text_in (Some (string t)) = t
 text_in d = []
 
+-- the statistics of a member, where it is there; else they are empty
 abbrev pub statistics_at : List Row → Option Data → Statistics
 statistics_at rows None = empty
 statistics_at rows (Some d) = statistics_in rows d
 
+-- a report: its name and its statistics
 abbrev pub report_in : List Row → Data → ReportValue
-report_in rows d = record { name = text_in (get (codes "name") d); stats = statistics_at rows (get (codes "stats") d) }
+report_in rows d = record {
+  name = text_in (get (codes "name") d);
+  stats = statistics_at rows (get (codes "stats") d);
+}
 
 -- the reports of the items, in their order
 abbrev pub all_reports_in : List Row → Items → List ReportValue
 all_reports_in rows no_items = []
 all_reports_in rows (item d ds) = report_in rows d ∷ all_reports_in rows ds
 
+-- the reports of a list; other values have none
 abbrev pub reports_in : List Row → Option Data → List ReportValue
 reports_in rows (Some (array ds)) = all_reports_in rows ds
 reports_in rows d = []
 
 -- the children that are there, and those of the members
-abbrev pub with_children : List Row → Members → List (ℕ × List ReportValue) → List (ℕ × List ReportValue)
+abbrev pub with_children : List Row → Members → List (ℕ × List ReportValue)
+    → List (ℕ × List ReportValue)
 with_children rows no_members found = found
-with_children rows (member k d ms) found = with_children rows ms (put_named (language_named rows k) found (reports_in rows (Some d)))
+with_children rows (member k d ms) found =
+    with_children rows ms (put_named (language_named rows k) found (reports_in rows (Some d)))
 
+-- the children of an object; other values have none
 abbrev pub children_in : List Row → Option Data → List (ℕ × List ReportValue)
 children_in rows (Some (object ms)) = with_children rows ms []
 children_in rows d = []
 
+-- whether the member is there and true
 abbrev pub truth_in : Option Data → Bool
 truth_in (Some (boolean b)) = b
 truth_in d = false

@@ -8,6 +8,7 @@ use Rattle.tokei_languages.specs.Values.{LanguageValue}
 use Rattle.tokei_table.specs.Row.{Row}
 use Rattle.tokei_json.specs.LanguageMaps.{language_named}
 
+-- a language: its counts, reports and children, and whether it is inaccurate
 unfoldable pub language_in : List Row → Data → LanguageValue
 language_in rows d = record {
   counts = counts_in d;
@@ -19,8 +20,10 @@ language_in rows d = record {
 -- the languages that are there, and those of the members; `Total` is none
 abbrev pub with_languages : List Row → Members → List (ℕ × LanguageValue) → List (ℕ × LanguageValue)
 with_languages rows no_members found = found
-with_languages rows (member k d ms) found = with_languages rows ms (put_named (language_named rows k) found (language_in rows d))
+with_languages rows (member k d ms) found =
+    with_languages rows ms (put_named (language_named rows k) found (language_in rows d))
 
+-- the languages of an object; other values have none
 abbrev pub languages_in : List Row → Data → List (ℕ × LanguageValue)
 languages_in rows (object ms) = with_languages rows ms []
 languages_in rows d = []

@@ -13,16 +13,19 @@ use tokei_json::{NamedTable, all_known, all_once, has_layout};
 use tokei_languages::Languages;
 use tokei_table::LanguageTable;
 
-/// The languages of a value. Refused is exactly what has a cause of `InputError` from `Layout` to `NamedTwice`, and of
-/// those that apply the first is answered; `Memory` comes only where an allocation failed.
+/// The languages of a value. Refused is exactly what has a cause of `InputError` from `Layout` to
+/// `NamedTwice`, and of those that apply the first is answered; `Memory` comes only where an
+/// allocation failed.
 #[tactic(auto, unfolding(crate::specs::Outcome::outcome_of_value))]
 pub fn from_value(
     alloc: Global,
     table: &LanguageTable,
     value: &Value,
 ) -> Result<Languages, InputError>
-    ensures languages { IfOk result (λ ls. outcome_of_value table.now (view value.now) ≡ Ok (languages_of ls)) }
-    ensures refused { IfErr result (λ e. e ≢ InputError.Memory → outcome_of_value table.now (view value.now) ≡ Err e) }
+    ensures languages { IfOk result (λ ls. outcome_of_value table.now (view value.now)
+        ≡ Ok (languages_of ls)) }
+    ensures refused { IfErr result (λ e. e ≢ InputError.Memory
+        → outcome_of_value table.now (view value.now) ≡ Err e) }
     ensures not_unreadable { result ≢ Err InputError.Unreadable }
     ensures not_overflow { result ≢ Err InputError.Overflow }
 {
@@ -44,7 +47,8 @@ pub fn from_value(
 
 fn read(alloc: Global, text: &str) -> Result<Value, InputError>
     ensures value { IfOk result (λ v. read text.now ≡ Some (view v)) }
-    ensures refused { IfErr result (λ e. e ≢ InputError.Memory → (e ≡ InputError.NotJson) × (read text.now ≡ None)) }
+    ensures refused { IfErr result (λ e. e ≢ InputError.Memory
+        → (e ≡ InputError.NotJson) × (read text.now ≡ None)) }
 {
     match Value::from_str(alloc, text) {
         Ok(value) => Ok(value),
@@ -56,11 +60,14 @@ fn read(alloc: Global, text: &str) -> Result<Value, InputError>
     }
 }
 
-/// The languages of a text. Refused is exactly what has a cause of `InputError` from `Empty` to `NamedTwice`, and of
-/// those that apply the first is answered; `Memory` comes only where an allocation failed.
+/// The languages of a text. Refused is exactly what has a cause of `InputError` from `Empty` to
+/// `NamedTwice`, and of those that apply the first is answered; `Memory` comes only where an
+/// allocation failed.
 pub fn from_text(alloc: Global, table: &LanguageTable, text: &str) -> Result<Languages, InputError>
-    ensures languages { IfOk result (λ ls. outcome_of_text table.now text.now ≡ Ok (languages_of ls)) }
-    ensures refused { IfErr result (λ e. e ≢ InputError.Memory → outcome_of_text table.now text.now ≡ Err e) }
+    ensures languages { IfOk result (λ ls. outcome_of_text table.now text.now
+        ≡ Ok (languages_of ls)) }
+    ensures refused { IfErr result (λ e. e ≢ InputError.Memory
+        → outcome_of_text table.now text.now ≡ Err e) }
     ensures not_unreadable { result ≢ Err InputError.Unreadable }
     ensures not_overflow { result ≢ Err InputError.Overflow }
 {
@@ -80,8 +87,10 @@ pub(crate) fn parse_bytes(
     table: &LanguageTable,
     bytes: &[u8],
 ) -> Result<Languages, InputError>
-    ensures languages { IfOk result (λ ls. outcome_of_bytes table.now bytes.now ≡ Ok (languages_of ls)) }
-    ensures refused { IfErr result (λ e. e ≢ InputError.Memory → outcome_of_bytes table.now bytes.now ≡ Err e) }
+    ensures languages { IfOk result (λ ls. outcome_of_bytes table.now bytes.now
+        ≡ Ok (languages_of ls)) }
+    ensures refused { IfErr result (λ e. e ≢ InputError.Memory
+        → outcome_of_bytes table.now bytes.now ≡ Err e) }
     ensures not_unreadable { result ≢ Err InputError.Unreadable }
     ensures not_overflow { result ≢ Err InputError.Overflow }
 {

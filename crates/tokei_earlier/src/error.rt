@@ -2,7 +2,8 @@
 use std::alloc::{AllocError, AllocFailed};
 use thiserror::Error;
 
-/// Why earlier results were refused. Of the causes that apply the first one here is answered; `Memory` comes beside them.
+/// Why earlier results were refused. Of the causes that apply the first one here is answered;
+/// `Memory` comes beside them.
 #[derive(Clone, Copy, Debug, PartialEq, Eq, Error)]
 pub enum InputError {
     /// The text is empty.
@@ -11,7 +12,8 @@ pub enum InputError {
     /// The text isn't JSON, or isn't UTF-8.
     #[error("earlier results aren't JSON")]
     NotJson,
-    /// The JSON value isn't a document of languages, or holds a number that isn't a whole one of 64 bits.
+    /// The JSON value isn't a document of languages, or holds a number that isn't a whole one of 64
+    /// bits.
     #[error("earlier results have another layout")]
     Layout,
     /// A name is neither key nor name of a language.

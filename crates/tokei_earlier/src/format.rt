@@ -37,7 +37,8 @@ pub enum FormatError {
 }
 
 impl Format {
-    /// The compact text of `to_value`. `Overflow` only where a count of the total passes the greatest `usize`, or `Memory`.
+    /// The compact text of `to_value`. `Overflow` only where a count of the total passes the
+    /// greatest `usize`, or `Memory`.
     pub fn print(
         self,
         alloc: Global,
@@ -46,7 +47,8 @@ impl Format {
     ) -> Result<String, CountError>
         ensures text { IfOk result (λ s. string_bytes s
             ≡ compact_text (document table.now (languages_of languages.now))) }
-        ensures reads_back { IfOk result (λ s. depth (document table.now (languages_of languages.now)) ≤ max_depth
+        ensures reads_back { IfOk result
+            (λ s. depth (document table.now (languages_of languages.now)) ≤ max_depth
             → read (string_bytes s) ≡ Some (document table.now (languages_of languages.now))) }
         ensures overflow { IsErrOf result CountError.Overflow
             → ¬ CountsFit (languages_summary (languages_of languages.now)) }
@@ -55,11 +57,14 @@ impl Format {
         to_text(alloc, table, languages)
     }
 
-    /// The languages of a text. Refused is exactly what has a cause of `InputError` from `Empty` to `NamedTwice`, and of
-    /// those that apply the first is answered; `Memory` comes only where an allocation failed.
+    /// The languages of a text. Refused is exactly what has a cause of `InputError` from `Empty` to
+    /// `NamedTwice`, and of those that apply the first is answered; `Memory` comes only where an
+    /// allocation failed.
     pub fn parse(alloc: Global, table: &LanguageTable, text: &str) -> Result<Languages, InputError>
-        ensures languages { IfOk result (λ ls. outcome_of_text table.now text.now ≡ Ok (languages_of ls)) }
-        ensures refused { IfErr result (λ e. e ≢ InputError.Memory → outcome_of_text table.now text.now ≡ Err e) }
+        ensures languages { IfOk result (λ ls. outcome_of_text table.now text.now
+            ≡ Ok (languages_of ls)) }
+        ensures refused { IfErr result (λ e. e ≢ InputError.Memory
+            → outcome_of_text table.now text.now ≡ Err e) }
         ensures not_unreadable { result ≢ Err InputError.Unreadable }
         ensures not_overflow { result ≢ Err InputError.Overflow }
     {

@@ -63,10 +63,11 @@ fn add_bytes(
     }
 }
 
-/// Reads all of the reader as earlier results, and adds their languages. Refused as `Format::parse` refuses a text,
-/// bytes that aren't UTF-8 as `NotJson`; `Unreadable` where the reader had a fault or didn't end within 4,294,967,296
-/// reads; `Overflow` only where a sum of two counts passes the greatest `usize`; `Memory` where an allocation failed. A
-/// refusal leaves the languages as they were, and of the reader's place nothing is said.
+/// Reads all of the reader as earlier results, and adds their languages. Refused as `Format::parse`
+/// refuses a text, bytes that aren't UTF-8 as `NotJson`; `Unreadable` where the reader had a fault
+/// or didn't end within 4,294,967,296 reads; `Overflow` only where a sum of two counts passes the
+/// greatest `usize`; `Memory` where an allocation failed. A refusal leaves the languages as they
+/// were, and of the reader's place nothing is said.
 pub fn add_input<S: Source>(
     alloc: Global,
     table: &LanguageTable,
@@ -84,7 +85,8 @@ pub fn add_input<S: Source>(
         → e ≢ InputError.Unreadable
         → IfSome (S.remaining reader.old) (λ bytes. outcome_of_bytes table.now bytes ≡ Err e)) }
 
-    // A fault of the reader gives `Unreadable`, and without one `Unreadable` says that the reads ran out.
+    // A fault of the reader gives `Unreadable`, and without one `Unreadable` says that the reads
+    // ran out.
     ensures read_fault { S.faults reader.old < u64.MAX → result ≢ Err InputError.Unreadable
         → S.faults reader.new ≡ S.faults reader.old }
     ensures reads_ran_out { S.faults reader.old < u64.MAX → result ≡ Err InputError.Unreadable

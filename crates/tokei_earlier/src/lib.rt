@@ -1,5 +1,5 @@
-//! Earlier results: the languages of a JSON document, read from a text or a reader, and added to others; and the formats in
-//! which a document is printed and read.
+//! Earlier results: the languages of a JSON document, read from a text or a reader, and added to
+//! others; and the formats in which a document is printed and read.
 #![tactic(auto)]
 
 pub mod document;

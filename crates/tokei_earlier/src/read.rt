@@ -60,7 +60,8 @@ fn with_languages(
     Ok(languages)
 }
 
-/// The languages of the document, by the names that the table knows. It fails where memory runs out.
+/// The languages of the document, by the names that the table knows. It fails where memory runs
+/// out.
 pub(crate) fn languages_in(
     alloc: Global,
     table: &NamedTable,

@@ -74,7 +74,8 @@ fn blobs_in(
     table: &NamedTable,
     value: &Value,
 ) -> Result<BTreeMap<LanguageType, CodeStats>, AllocError>
-    ensures { IfOk result (λ m. blobs_of (entries_of m.entries) ≡ blobs_in table.now (view value.now)) }
+    ensures { IfOk result (λ m. blobs_of (entries_of m.entries)
+        ≡ blobs_in table.now (view value.now)) }
 {
     match value {
         Value::Object(members) => blobs_of_members(alloc, table, members),
@@ -115,7 +116,8 @@ fn put_blob(
 }
 
 fn text_in(alloc: Global, member: Option<&Value>) -> Result<String, AllocError>
-    ensures { IfOk result (λ s. string_bytes s ≡ text_in (option_map (λ v. view v.now) member.entry)) }
+    ensures { IfOk result (λ s. string_bytes s
+        ≡ text_in (option_map (λ v. view v.now) member.entry)) }
 {
     match member {
         Some(Value::String(text)) => text.clone(),
@@ -128,7 +130,8 @@ fn statistics_at(
     table: &NamedTable,
     member: Option<&Value>,
 ) -> Result<CodeStats, AllocError>
-    ensures { IfOk result (λ s. stats_of s ≡ statistics_at table.now (option_map (λ v. view v.now) member.entry)) }
+    ensures { IfOk result (λ s. stats_of s
+        ≡ statistics_at table.now (option_map (λ v. view v.now) member.entry)) }
 {
     match member {
         Some(value) => statistics_in(alloc, table, value),
@@ -150,7 +153,8 @@ fn all_reports_in(
     table: &NamedTable,
     items: &Vec<Value>,
 ) -> Result<Vec<Report>, AllocError>
-    ensures { IfOk result (λ v. map report_of v.items ≡ all_reports_in table.now (items_view items.now.items)) }
+    ensures { IfOk result (λ v. map report_of v.items
+        ≡ all_reports_in table.now (items_view items.now.items)) }
 {
     let mut reports = Vec::with_capacity(alloc, items.len())?;
     for item in items {
@@ -159,13 +163,15 @@ fn all_reports_in(
     Ok(reports)
 }
 
-/// The reports of a member, in their order; none where it is no list. It fails where memory runs out.
+/// The reports of a member, in their order; none where it is no list. It fails where memory runs
+/// out.
 pub fn reports_in(
     alloc: Global,
     table: &NamedTable,
     member: Option<&Value>,
 ) -> Result<Vec<Report>, AllocError>
-    ensures { IfOk result (λ v. reports_of v ≡ reports_in table.now (option_map (λ w. view w.now) member.entry)) }
+    ensures { IfOk result (λ v. reports_of v
+        ≡ reports_in table.now (option_map (λ w. view w.now) member.entry)) }
 {
     match member {
         Some(Value::Array(items)) => all_reports_in(alloc, table, items),
@@ -204,8 +210,8 @@ fn with_children(
     Ok(children)
 }
 
-/// The reports of a member by the languages that the table knows; none where it is no object. It fails where memory
-/// runs out.
+/// The reports of a member by the languages that the table knows; none where it is no object. It
+/// fails where memory runs out.
 pub fn children_in(
     alloc: Global,
     table: &NamedTable,

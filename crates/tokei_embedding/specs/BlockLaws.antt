@@ -9,7 +9,8 @@ use Rattle.tokei_embedding.specs.Tags.{TagBlock, token_of, tag_block}
 use Rattle.tokei_embedding.specs.TargetBlocks.{TargetBlock, target_block}
 use Rattle.tokei_embedding.specs.declared.tags.Tag.{Tag}
 
--- A block takes a byte or more, ends in the text, and takes two bytes at least beside what it holds.
+-- A block takes a byte or more, ends in the text, and takes two bytes at least beside what it
+-- holds.
 pub record Reaches (size : ℕ) (contents rest : List ℕ) : Type 0 where
   pub some : 0 < size
   pub within : size ≤ length rest
@@ -29,7 +30,8 @@ TagsReach =
 
 -- So does a block of doc comments.
 abbrev pub DocsReach : Type 0
-DocsReach = (rest : List ℕ) (b : DocBlock) → doc_block rest ≡ Some b → Reaches b.size b.contents rest
+DocsReach =
+    (rest : List ℕ) (b : DocBlock) → doc_block rest ≡ Some b → Reaches b.size b.contents rest
 
 -- So does a block of the target language.
 abbrev pub TargetsReach : Type 0
@@ -44,9 +46,11 @@ pub record NoneAtNewline (part t : List ℕ) (place : ℕ) : Type 0 where
   pub doc : doc_block (newline ∷ t) ≡ None
   pub target : target_block part place (newline ∷ t) ≡ None
 
+-- At each place of a part at which a newline stands, no block opens.
 abbrev pub NewlinesOpenNothing : Type 0
 NewlinesOpenNothing =
-    (part t tail : List ℕ) (place : ℕ) → newline ∷ t ≡ drop place part ++ tail → NoneAtNewline part t place
+    (part t tail : List ℕ) (place : ℕ) → newline ∷ t ≡ drop place part ++ tail
+    → NoneAtNewline part t place
 
 -- A block of doc comments opens at a blank of a line exactly where one opens at the byte behind it.
 abbrev pub DocsOpenBeforeBlanks : Type 0
@@ -54,13 +58,15 @@ DocsOpenBeforeBlanks =
     (b : ℕ) (t : List ℕ) → is_blank b ≡ true → (b == newline) ≡ false
     → is_some (doc_block (b ∷ t)) ≡ is_some (doc_block t)
 
--- No block opens at a place of a part where its opener doesn't stand. Blanks may stand before the mark of a doc
--- comment, so none of these opens where no mark stands in the rest of the line.
+-- No block opens at a place of a part where its opener doesn't stand. Blanks may stand before the
+-- mark of a doc comment, so none of these opens where no mark stands in the rest of the line.
 pub record BeginWithOpeners (part rest : List ℕ) (place : ℕ) : Type 0 where
   pub fences : begins fence (drop place part) ≡ false → fence_block part place rest ≡ None
-  pub tags : (g : Tag) → begins (token_of g) (drop place part) ≡ false → tag_block g part place rest ≡ None
+  pub tags : (g : Tag) → begins (token_of g) (drop place part) ≡ false
+      → tag_block g part place rest ≡ None
   pub docs : first_opener doc_marks (first_line rest) ≡ None → doc_block rest ≡ None
   pub targets : begins (codes "{=") (drop place part) ≡ false → target_block part place rest ≡ None
 
+-- At each place of each part blocks open only where their openers stand.
 abbrev pub BlocksBeginWithOpeners : Type 0
 BlocksBeginWithOpeners = (part rest : List ℕ) (place : ℕ) → BeginWithOpeners part rest place

@@ -24,24 +24,30 @@ captured t from s = record { start = from + s.start; bytes = bytes_of t (shifted
 
 -- Where the token stands first in the part.
 abbrev pub token_span : List ℕ → List ℕ → Option Span
-token_span token part = option_map (λ i. record { start = i; stop = i + length token }) (first_of token part)
+token_span token part =
+    option_map (λ i. record { start = i; stop = i + length token }) (first_of token part)
 
 -- The part's first fence opening, with its blank.
 abbrev pub fence_opening : List ℕ → Option Span
-fence_opening part = option_map (λ i. record { start = i; stop = i + (info_len (drop i part) + 4) }) (first_fence part)
+fence_opening part =
+    option_map (λ i. record { start = i; stop = i + (info_len (drop i part) + 4) })
+    (first_fence part)
 
 -- The part's first closing fence, with one blank behind it where one stands there.
 abbrev pub fence_closing : List ℕ → Option Span
 fence_closing part =
-    option_map (λ i. record { start = i; stop = i + closing_len (drop (i + 3) part) }) (first_of fence part)
+    option_map (λ i. record { start = i; stop = i + closing_len (drop (i + 3) part) })
+    (first_of fence part)
 
 -- The capture of a whole opening, and that of the value in it.
 abbrev pub opening_captured : List ℕ → ℕ → Opening → List (Option Captured)
-opening_captured t from o = Some (captured t from o.whole) ∷ option_map (captured t from) o.value ∷ []
+opening_captured t from o =
+    Some (captured t from o.whole) ∷ option_map (captured t from) o.value ∷ []
 
 -- What `text[from..to]` opens of the tag.
 abbrev pub start_tag : Tag → List ℕ → ℕ → ℕ → Option (List (Option Captured))
-start_tag tag t from to = option_map (opening_captured t from) (first_opening tag (part_of t from to))
+start_tag tag t from to =
+    option_map (opening_captured t from) (first_opening tag (part_of t from to))
 
 -- Whether the capture begins at one place and ends by the other.
 abbrev pub lies_in : ℕ → ℕ → Captured → Bool

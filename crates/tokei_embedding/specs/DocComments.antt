@@ -33,10 +33,12 @@ front_mark t =
 abbrev pub mark_of : List ℕ → Option (List ℕ)
 mark_of line = front_mark (trim_start line)
 
--- The length of the lines before the first one that doesn't begin with the mark behind its front blanks.
+-- The length of the lines before the first one that doesn't begin with the mark behind its front
+-- blanks.
 abbrev pub marked_len : List ℕ → List (List ℕ) → ℕ
 marked_len mark [] = 0
-marked_len mark (line ∷ lines) = if begins mark (trim_start line) then length line + marked_len mark lines else 0
+marked_len mark (line ∷ lines) =
+    if begins mark (trim_start line) then length line + marked_len mark lines else 0
 
 -- The lines joined, each without its front blanks and the three bytes of the mark. Newlines stay.
 abbrev pub unmarked : List (List ℕ) → List ℕ
@@ -56,7 +58,8 @@ pub record DocBlock : Type 0 where
 abbrev pub doc_of : List ℕ → ℕ → DocBlock
 doc_of rest n = record { contents = doc_text (take n rest); size = n }
 
--- The block that opens at the front of the text, where the rest of the line there begins with a mark behind its front
--- blanks: that rest, and the lines behind it that begin with the same mark.
+-- The block that opens at the front of the text, where the rest of the line there begins with a
+-- mark behind its front blanks: that rest, and the lines behind it that begin with the same mark.
 abbrev pub doc_block : List ℕ → Option DocBlock
-doc_block rest = option_map (λ mark. doc_of rest (marked_len mark (lines_of rest))) (mark_of (first_line rest))
+doc_block rest =
+    option_map (λ mark. doc_of rest (marked_len mark (lines_of rest))) (mark_of (first_line rest))

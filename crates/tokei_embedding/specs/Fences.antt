@@ -13,11 +13,13 @@ abbrev pub solid_len : List ℕ → ℕ
 solid_len [] = 0
 solid_len (b ∷ t) = if is_blank b then 0 else suc (solid_len t)
 
--- Whether the text begins with a byte or more that aren't blank, and a blank behind the longest run of them.
+-- Whether the text begins with a byte or more that aren't blank, and a blank behind the longest run
+-- of them.
 abbrev pub begins_info : List ℕ → Bool
 begins_info t = nat_lt 0 (solid_len t) && nat_lt (solid_len t) (length t)
 
--- Whether a fence opening stands at the front: a fence, its info (the bytes that aren't blank), and one blank.
+-- Whether a fence opening stands at the front: a fence, its info (the bytes that aren't blank), and
+-- one blank.
 abbrev pub opens_fence : List ℕ → Bool
 opens_fence t = begins fence t && begins_info (drop 3 t)
 
@@ -33,23 +35,25 @@ info_len t = solid_len (drop 3 t)
 abbrev pub first_fence : List ℕ → Option ℕ
 first_fence part = first_where opens_fence part
 
--- How long the closing fence is, by the bytes behind its backticks: it takes one blank there, where one stands.
+-- How long the closing fence is, by the bytes behind its backticks: it takes one blank there, where
+-- one stands.
 abbrev pub closing_len : List ℕ → ℕ
 closing_len [] = 3
 closing_len (b ∷ t) = if is_blank b then 4 else 3
 
--- A block of code in fences: the info of its opening, its contents, the length from the opening through the closing
--- fence, and whether that came.
+-- A block of code in fences: the info of its opening, its contents, the length from the opening
+-- through the closing fence, and whether that came.
 pub record Fence : Type 0 where
   pub info : List ℕ
   pub contents : List ℕ
   pub size : ℕ
   pub closed : Bool
 
--- The block at the front of `rest`, by the bytes behind its opening of n bytes, and the closing fence in them. A block
--- that isn't closed runs to the end.
+-- The block at the front of `rest`, by the bytes behind its opening of n bytes, and the closing
+-- fence in them. A block that isn't closed runs to the end.
 abbrev pub fence_to : List ℕ → ℕ → List ℕ → List ℕ → Option ℕ → Fence
-fence_to info n rest behind None = record { info = info; contents = behind; size = length rest; closed = false }
+fence_to info n rest behind None =
+    record { info = info; contents = behind; size = length rest; closed = false }
 fence_to info n rest behind (Some i) = record {
   info = info;
   contents = take i behind;
@@ -63,8 +67,9 @@ fence_from n rest =
     let behind = drop (n + 4) rest in
     fence_to (take n (drop 3 rest)) (n + 4) rest behind (first_of fence behind)
 
--- The block that opens at a place of a part, where the part's first fence opening stands there. `rest` is the text from
--- the place on.
+-- The block that opens at a place of a part, where the part's first fence opening stands there.
+-- `rest` is the text from the place on.
 abbrev pub fence_block : List ℕ → ℕ → List ℕ → Option Fence
 fence_block part place rest =
-    if is_at place (first_fence part) then Some (fence_from (info_len (drop place part)) rest) else None
+    if is_at place (first_fence part) then Some (fence_from (info_len (drop place part)) rest)
+    else None

@@ -1,4 +1,5 @@
--- What contracts say of the blocks that hold a text of another language, of where none opens, and of captures.
+-- What contracts say of the blocks that hold a text of another language, of where none opens, and
+-- of captures.
 pub mod BlockLaws
 pub mod Captures
 pub mod DocComments

@@ -10,6 +10,7 @@ pub record Sought : Type 0 where
   pub text : List ℕ
   pub token : List ℕ
 
+-- The token sought in the text, as one value.
 abbrev pub sought : List ℕ → List ℕ → Sought
 sought text token = record { text = text; token = token }
 
@@ -17,13 +18,15 @@ sought text token = record { text = text; token = token }
 abbrev pub StandsNowhere : Sought → ℕ → ℕ → Type 0
 StandsNowhere s from place = (k : ℕ) → from ≤ k → k < place → ¬ OccursAt s.text s.token k
 
--- The token's first place from a place on, or the text's length. Of a place before that one nothing is said.
+-- The token's first place from a place on, or the text's length. Of a place before that one nothing
+-- is said.
 pub record IsFirstPlace (s : Sought) (from place : ℕ) : Type 0 where
   pub some : 0 < length s.token
   pub none : StandsNowhere s from place
   pub stands : from ≤ place → place < length s.text → OccursAt s.text s.token place
 
--- The token stands in the text at no place from the first one on at which it would end by the other.
+-- The token stands in the text at no place from the first one on at which it would end by the
+-- other.
 abbrev pub EndsNowhere : Sought → ℕ → ℕ → Type 0
 EndsNowhere s from to = (k : ℕ) → from ≤ k → k + length s.token ≤ to → ¬ OccursAt s.text s.token k
 
@@ -39,22 +42,24 @@ abbrev pub IsLastPlace : Sought → ℕ → ℕ → Option ℕ → Type 0
 IsLastPlace s from to None = EndsNowhere s from to
 IsLastPlace s from to (Some place) = StandsLast s from to place
 
--- The first place from a place on of a byte that isn't blank, or the text's length. Of a place before that one nothing
--- is said.
+-- The first place from a place on of a byte that isn't blank, or the text's length. Of a place
+-- before that one nothing is said.
 pub record IsFirstSolid (text : List ℕ) (from place : ℕ) : Type 0 where
   pub blank : (k : ℕ) → from ≤ k → k < place → is_blank (slice_index text k) ≡ true
   pub solid : from ≤ place → place < length text → is_blank (slice_index text place) ≡ false
 
--- From each place from the first one to the other, the rest of the line begins behind its blanks with the mark that
--- stands at the other. Of a place before the first one nothing is said.
+-- From each place from the first one to the other, the rest of the line begins behind its blanks
+-- with the mark that stands at the other. Of a place before the first one nothing is said.
 pub record IsMarkPlace (text : List ℕ) (from place : ℕ) : Type 0 where
   pub within : place ≤ length text
-  pub leads : (k : ℕ) → from ≤ k → k ≤ place → mark_of (first_line (drop k text)) ≡ front_mark (drop place text)
+  pub leads : (k : ℕ) → from ≤ k → k ≤ place
+      → mark_of (first_line (drop k text)) ≡ front_mark (drop place text)
 
--- From each place from the first one to before the other from which the rest of the line begins behind its blanks with
--- the mark that is sought, the lines with the mark reach to the other.
+-- From each place from the first one to before the other from which the rest of the line begins
+-- behind its blanks with the mark that is sought, the lines with the mark reach to the other.
 abbrev pub IsDocEnd : Sought → ℕ → ℕ → Type 0
-IsDocEnd s from end = (k : ℕ) → from ≤ k → k < end → mark_of (first_line (drop k s.text)) ≡ Some s.token
+IsDocEnd s from end =
+    (k : ℕ) → from ≤ k → k < end → mark_of (first_line (drop k s.text)) ≡ Some s.token
     → k + marked_len s.token (lines_of (drop k s.text)) ≡ end
 
 -- Searches of one text for the marks of doc comments, and for where the blocks of each mark end.

@@ -10,17 +10,24 @@ use Rattle.tokei_embedding.specs.declared.tags.Opening as CodeOpening
 use Rattle.tokei_embedding.specs.declared.tags.TagAt.{TagAt}
 use Rattle.tokei_embedding.specs.declared.target_blocks.TargetAt.{TargetAt}
 
+-- a fence with the bytes of its info and of its contents
 abbrev pub fence_seen : FenceAt → Fence
-fence_seen f = record { info = f.info.now; contents = f.contents.now; size = f.size; closed = f.closed }
+fence_seen f =
+    record { info = f.info.now; contents = f.contents.now; size = f.size; closed = f.closed }
 
+-- a span, by the places in bytes at which it starts and stops
 abbrev pub span_seen : CodeSpan.Span → Span
 span_seen s = record { start = s.start; stop = s.stop }
 
+-- a tag's opening: its whole span, and that of its attribute's value where it has one
 abbrev pub opening_seen : CodeOpening.Opening → Opening
 opening_seen o = record { whole = span_seen o.whole; value = option_map span_seen o.value }
 
+-- an element, with the bytes of its attribute's value and of its contents
 abbrev pub tag_seen : TagAt → TagBlock
-tag_seen t = record { value = option_map (λ v. v.now) t.value; contents = t.contents.now; size = t.size }
+tag_seen t =
+    record { value = option_map (λ v. v.now) t.value; contents = t.contents.now; size = t.size }
 
+-- a block of the target language, with the bytes of its contents
 abbrev pub target_seen : TargetAt → TargetBlock
 target_seen b = record { contents = b.contents.now; size = b.size }

@@ -18,8 +18,8 @@ pub record SeeksOpenings (s : TagSought) (last_ends quotes attributes ends : Sou
   pub first : ends ≡ sought s.text (codes ">")
 
 -- So are the tag's tokens, its openings, its closing tags and the blanks.
-pub record SeeksElements (s : TagSought) (tokens : Sought) (openings : TagSought) (closers : Sought) (blanks : List ℕ)
-    : Type 0 where
+pub record SeeksElements (s : TagSought) (tokens : Sought) (openings : TagSought) (closers : Sought)
+    (blanks : List ℕ) : Type 0 where
   pub begun : tokens ≡ sought s.text (token_of s.tag)
   pub opened : openings ≡ s
   pub closed : closers ≡ sought s.text (closer_of s.tag)

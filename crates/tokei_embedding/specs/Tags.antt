@@ -25,11 +25,13 @@ attribute_of Script = codes "type=\""
 attribute_of Style = codes "lang=\""
 attribute_of Template = codes "lang=\""
 
--- The attribute's value in the bytes before a quote mark: from behind the attribute's last place there to that mark.
+-- The attribute's value in the bytes before a quote mark: from behind the attribute's last place
+-- there to that mark.
 abbrev pub value_before : List ℕ → List ℕ → Option ℕ → Option Span
 value_before attribute t None = None
 value_before attribute t (Some q) =
-    option_map (λ a. record { start = a + length attribute; stop = q }) (last_of attribute (take q t))
+    option_map (λ a. record { start = a + length attribute; stop = q })
+    (last_of attribute (take q t))
 
 -- The attribute's value in a tag's inside: it runs to the last quote mark.
 abbrev pub value_in : List ℕ → List ℕ → Option Span
@@ -45,8 +47,8 @@ pub record Opening : Type 0 where
   pub whole : Span
   pub value : Option Span
 
--- The opening that begins at the place p, by the bytes from the place n on, and the value in them: it ends behind the
--- first `>` after the value.
+-- The opening that begins at the place p, by the bytes from the place n on, and the value in them:
+-- it ends behind the first `>` after the value.
 abbrev pub opening_past : ℕ → ℕ → List ℕ → Option Span → Option Opening
 opening_past p n inside value =
     let behind = value_end value in
@@ -55,10 +57,12 @@ opening_past p n inside value =
       value = option_map (shifted n) value;
     }) (first_of (codes ">") (drop behind inside))
 
--- The same, by the last `>` of these bytes: the value is sought before it. Without one nothing opens.
+-- The same, by the last `>` of these bytes: the value is sought before it. Without one nothing
+-- opens.
 abbrev pub opening_before : List ℕ → ℕ → ℕ → List ℕ → Option ℕ → Option Opening
 opening_before attribute p n inside None = None
-opening_before attribute p n inside (Some g) = opening_past p n inside (value_in attribute (take g inside))
+opening_before attribute p n inside (Some g) =
+    opening_past p n inside (value_in attribute (take g inside))
 
 -- The opening of the tag whose token stands at the place p of the part.
 abbrev pub opening_at : Tag → List ℕ → ℕ → Option Opening
@@ -76,30 +80,34 @@ opening_found tag part (Some i) = opening_at tag part i
 abbrev pub first_opening : Tag → List ℕ → Option Opening
 first_opening tag part = opening_found tag part (first_of (token_of tag) part)
 
--- An element: the value in its opening, its contents, and the length from the opening to before the closing tag.
+-- An element: the value in its opening, its contents, and the length from the opening to before the
+-- closing tag.
 pub record TagBlock : Type 0 where
   pub value : Option (List ℕ)
   pub contents : List ℕ
   pub size : ℕ
 
--- The element with an opening of n bytes, by the bytes behind it, and the closing tag in them. Without a closing tag,
--- or with nothing but blanks before it, there is none.
+-- The element with an opening of n bytes, by the bytes behind it, and the closing tag in them.
+-- Without a closing tag, or with nothing but blanks before it, there is none.
 abbrev pub element_to : Option (List ℕ) → ℕ → List ℕ → Option ℕ → Option TagBlock
 element_to value n behind None = None
 element_to value n behind (Some i) =
     if all_blank (take i behind) then None
     else Some (record { value = value; contents = take i behind; size = n + i })
 
--- The element of an opening of the part. `rest` is the text from the place on at which the opening stands.
+-- The element of an opening of the part. `rest` is the text from the place on at which the opening
+-- stands.
 abbrev pub element_of : Tag → List ℕ → ℕ → List ℕ → Option Opening → Option TagBlock
 element_of tag part place rest None = None
 element_of tag part place rest (Some o) =
     let n = o.whole.stop - place in
-    element_to (option_map (bytes_of part) o.value) n (drop n rest) (first_of (closer_of tag) (drop n rest))
+    element_to (option_map (bytes_of part) o.value) n (drop n rest)
+    (first_of (closer_of tag) (drop n rest))
 
--- The element that opens at a place of a part, where the tag's token stands there for the first time in the part.
--- `rest` is the text from the place on.
+-- The element that opens at a place of a part, where the tag's token stands there for the first
+-- time in the part. `rest` is the text from the place on.
 abbrev pub tag_block : Tag → List ℕ → ℕ → List ℕ → Option TagBlock
 tag_block tag part place rest =
-    if is_at place (first_of (token_of tag) part) then element_of tag part place rest (opening_at tag part place)
+    if is_at place (first_of (token_of tag) part)
+    then element_of tag part place rest (opening_at tag part place)
     else None

@@ -6,6 +6,7 @@ use Rattle.std.specs.Prelude.{List, [], ◌∷◌, length, take, drop, codes, Op
 use Rattle.tokei_table_row.specs.Bytes.{is_blank, trim_start, begins, newline}
 use Rattle.tokei_embedding.specs.Searches.{first_of, is_at}
 
+-- The byte of an underscore, `_`.
 abbrev pub underscore : ℕ
 underscore = 95
 
@@ -27,10 +28,11 @@ target_with contents = record { contents = contents; size = 2 + length contents 
 abbrev pub target_from : List ℕ → TargetBlock
 target_from rest = target_with (target_contents (drop 2 rest) (first_of (codes "=}") (drop 2 rest)))
 
--- The block that opens at a place of a part, where the part's first `{=` stands there. `rest` is the text from the
--- place on.
+-- The block that opens at a place of a part, where the part's first `{=` stands there. `rest` is
+-- the text from the place on.
 abbrev pub target_block : List ℕ → ℕ → List ℕ → Option TargetBlock
-target_block part place rest = if is_at place (first_of (codes "{=") part) then Some (target_from rest) else None
+target_block part place rest =
+    if is_at place (first_of (codes "{=") part) then Some (target_from rest) else None
 
 -- Word bytes are ASCII's letters and digits, and the underscore.
 abbrev pub is_word : ℕ → Bool
@@ -46,10 +48,11 @@ abbrev pub ends_line : List ℕ → Bool
 ends_line [] = true
 ends_line (b ∷ t) = (b == newline) || (is_blank b && ends_line t)
 
--- Whether a target's word may end before this text: blanks that hold a newline or reach the end, or a semicolon or an
--- opening brace behind optional blanks.
+-- Whether a target's word may end before this text: blanks that hold a newline or reach the end, or
+-- a semicolon or an opening brace behind optional blanks.
 abbrev pub ends_target : List ℕ → Bool
-ends_target t = ends_line t || begins (codes ";") (trim_start t) || begins (codes "{") (trim_start t)
+ends_target t =
+    ends_line t || begins (codes ";") (trim_start t) || begins (codes "{") (trim_start t)
 
 -- The word at the front, where it has a byte at least and is followed as a target must be.
 abbrev pub target_word : List ℕ → Option (List ℕ)
@@ -66,10 +69,12 @@ word_behind_blanks (b ∷ t) = if is_blank b then target_word (trim_start t) els
 abbrev pub target_here : List ℕ → Option (List ℕ)
 target_here t = if begins (codes "target") t then word_behind_blanks (drop 6 t) else None
 
--- The first target, where the byte before the text is a word byte or not. None stands right behind a word byte.
+-- The first target, where the byte before the text is a word byte or not. None stands right behind
+-- a word byte.
 abbrev pub target_after : Bool → List ℕ → Option (List ℕ)
 target_after word [] = None
-target_after word (b ∷ t) = option_or (if word then None else target_here (b ∷ t)) (target_after (is_word b) t)
+target_after word (b ∷ t) =
+    option_or (if word then None else target_here (b ∷ t)) (target_after (is_word b) t)
 
 -- The text's target.
 abbrev pub target_of : List ℕ → Option (List ℕ)

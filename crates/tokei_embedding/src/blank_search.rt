@@ -6,14 +6,15 @@ ghost use Rattle.tokei_table_row.specs.Bytes.{all_blank};
 use std::marker::Model;
 use tokei_table_row::ext::is_whitespace;
 
-/// Tells whether ranges of one text are blank, and remembers the first byte that isn't: over ranges that begin further
-/// and further on, the text is searched once.
+/// Tells whether ranges of one text are blank, and remembers the first byte that isn't: over ranges
+/// that begin further and further on, the text is searched once.
 #[derive(Drop)]
 pub(crate) struct BlankSearch<'a> {
     text: &'a [u8],
     /// Where the last search began.
     from: usize,
-    /// What it came to: the first place from there on of a byte that isn't blank, or the text's length.
+    /// What it came to: the first place from there on of a byte that isn't blank, or the text's
+    /// length.
     place: usize,
 }
 

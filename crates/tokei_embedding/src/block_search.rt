@@ -16,9 +16,9 @@ use crate::tags::{Tag, TagAt};
 use crate::target_blocks::target_of;
 use std::marker::Model;
 
-/// Finds the elements, the doc comments and the target of one text, and remembers what each search came to: over
-/// questions that go from the front of the text to its end, all searches together take time that grows with its length.
-/// Contracts see it as the text.
+/// Finds the elements, the doc comments and the target of one text, and remembers what each search
+/// came to: over questions that go from the front of the text to its end, all searches together
+/// take time that grows with its length. Contracts see it as the text.
 #[derive(Drop)]
 pub struct BlockSearch<'a> {
     text: &'a [u8],
@@ -56,9 +56,9 @@ impl<'a> BlockSearch<'a> {
         }
     }
 
-    /// The element that opens at `place`, where the first token of the tag in the part `text[from..to]` stands there
-    /// and its opening ends in the part. None where no closing tag follows in the text, or nothing but blanks before
-    /// it.
+    /// The element that opens at `place`, where the first token of the tag in the part
+    /// `text[from..to]` stands there and its opening ends in the part. None where no closing tag
+    /// follows in the text, or nothing but blanks before it.
     pub fn tag_at(&mut self, tag: Tag, from: usize, place: usize, to: usize) -> Option<TagAt<'a>>
         requires order { from ≤ place }
         requires inside { place < to }
@@ -73,8 +73,8 @@ impl<'a> BlockSearch<'a> {
         }
     }
 
-    /// The same, where it is the first question for an element: the searches are made. It stands in no caller's code,
-    /// which would clear their room at each question.
+    /// The same, where it is the first question for an element: the searches are made. It stands in
+    /// no caller's code, which would clear their room at each question.
     #[inline(never)]
     fn tag_at_first(&mut self, tag: Tag, from: usize, place: usize, to: usize) -> Option<TagAt<'a>>
         requires order { from ≤ place }
@@ -90,8 +90,9 @@ impl<'a> BlockSearch<'a> {
         found
     }
 
-    /// The first place from `at` on at which an element with the tag can open in the part `text[start..to]`: the tag's
-    /// first token. `to` where there is none, or where that one stands before `at`.
+    /// The first place from `at` on at which an element with the tag can open in the part
+    /// `text[start..to]`: the tag's first token. `to` where there is none, or where that one stands
+    /// before `at`.
     pub fn next_tag(&mut self, tag: Tag, start: usize, at: usize, to: usize) -> usize
         requires order { start ≤ at }
         requires inside { at ≤ to }
@@ -109,7 +110,8 @@ impl<'a> BlockSearch<'a> {
         }
     }
 
-    /// The same, where it is the first question for an element: the searches are made, in no caller's code either.
+    /// The same, where it is the first question for an element: the searches are made, in no
+    /// caller's code either.
     #[inline(never)]
     fn next_tag_first(&mut self, tag: Tag, start: usize, at: usize, to: usize) -> usize
         requires order { start ≤ at }
@@ -128,8 +130,9 @@ impl<'a> BlockSearch<'a> {
         place
     }
 
-    /// The length of the block of doc comments that opens at `place`: the rest of the line there, which begins with
-    /// `///` or `//!` behind its front blanks, and the lines behind it that begin with the same mark.
+    /// The length of the block of doc comments that opens at `place`: the rest of the line there,
+    /// which begins with `///` or `//!` behind its front blanks, and the lines behind it that begin
+    /// with the same mark.
     pub fn doc_at(&mut self, place: usize) -> Option<usize>
         requires { place < length self.old }
         ensures value { result ≡ option_map (λ b. b.size) (doc_block (drop place self.old)) }
@@ -142,8 +145,9 @@ impl<'a> BlockSearch<'a> {
         Some(self.inner_docs.len_at(place))
     }
 
-    /// The target that the Lingua Franca text names: the word of its first `target` that no word byte stands before,
-    /// with blanks between, where blanks with a newline or to the text's end, or `;` or `{`, follow the word.
+    /// The target that the Lingua Franca text names: the word of its first `target` that no word
+    /// byte stands before, with blanks between, where blanks with a newline or to the text's end,
+    /// or `;` or `{`, follow the word.
     pub fn target(&mut self) -> Option<&'a [u8]>
         ensures value { option_map (λ w. w.now) result ≡ target_of self.old }
         ensures same { self.new ≡ self.old }

@@ -39,7 +39,8 @@ pub(crate) fn front_mark(text: &[u8]) -> Option<&'static [u8]>
     None
 }
 
-/// The length of the lines before the first one that doesn't begin with the mark behind its front blanks.
+/// The length of the lines before the first one that doesn't begin with the mark behind its front
+/// blanks.
 pub(crate) fn marked_len(mark: &[u8], text: &[u8]) -> usize
     ensures value { result ≡ marked_len mark.now (lines_of text.now) }
     ensures within { result ≤ length text.now }
@@ -55,8 +56,8 @@ pub(crate) fn marked_len(mark: &[u8], text: &[u8]) -> usize
     at
 }
 
-/// What a block of doc comments says: its lines joined, each without its front blanks and its mark. Memory is taken
-/// once, as much as the block has bytes. Fails where it is refused.
+/// What a block of doc comments says: its lines joined, each without its front blanks and its mark.
+/// Memory is taken once, as much as the block has bytes. Fails where it is refused.
 pub fn doc_text(alloc: Global, block: &[u8]) -> Result<Vec<u8>, AllocError>
     ensures { IfOk result (λ v. v.items ≡ doc_text block.now) }
 {

@@ -6,8 +6,8 @@ ghost use Rattle.tokei_embedding.specs.Remembered.{Sought, sought, IsDocEnd};
 use crate::doc_comments::marked_len;
 use std::marker::Model;
 
-/// Finds the blocks of doc comments with one mark in a text, and remembers where the last one ends: over places further
-/// and further on, each line is searched for its mark once.
+/// Finds the blocks of doc comments with one mark in a text, and remembers where the last one ends:
+/// over places further and further on, each line is searched for its mark once.
 #[derive(Drop)]
 pub(crate) struct DocSearch<'a> {
     text: &'a [u8],
@@ -48,8 +48,8 @@ impl<'a> DocSearch<'a> {
         }
     }
 
-    /// The length of the block that opens at `place`, where the rest of the line begins with the mark behind its
-    /// front blanks.
+    /// The length of the block that opens at `place`, where the rest of the line begins with the
+    /// mark behind its front blanks.
     pub(crate) fn len_at(&mut self, place: usize) -> usize
         requires inside { place < length self.old.text }
         requires marked { mark_of (first_line (drop place self.old.text)) ≡ Some self.old.token }

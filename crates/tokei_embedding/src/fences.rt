@@ -19,7 +19,8 @@ pub struct FenceAt<'a> {
     pub info: &'a [u8],
     /// What stands between the opening and the closing fence, or the text's end.
     pub contents: &'a [u8],
-    /// The bytes from the opening's first through the closing fence and one blank behind it, or to the text's end.
+    /// The bytes from the opening's first through the closing fence and one blank behind it, or to
+    /// the text's end.
     pub size: usize,
     /// Whether the closing fence came.
     pub closed: bool,
@@ -50,8 +51,8 @@ fn opens_fence(text: &[u8]) -> bool
     0 < len && len < behind.len()
 }
 
-/// Whether a fence stands at the front, and no blank anywhere behind it. Then no fence opens further on either, and a
-/// search for one may end.
+/// Whether a fence stands at the front, and no blank anywhere behind it. Then no fence opens
+/// further on either, and a search for one may end.
 fn is_solid_fence(text: &[u8]) -> bool
     ensures { result ≡ is_solid_fence text.now }
 {
@@ -62,8 +63,8 @@ fn is_solid_fence(text: &[u8]) -> bool
     solid_len(behind) == behind.len()
 }
 
-/// The length of the info in the fence opening at the front: how many bytes stand behind its backticks before the first
-/// blank.
+/// The length of the info in the fence opening at the front: how many bytes stand behind its
+/// backticks before the first blank.
 pub fn info_len(opening: &[u8]) -> usize
     requires { 3 ≤ length opening.now }
     ensures { result ≡ info_len opening.now }
@@ -71,14 +72,15 @@ pub fn info_len(opening: &[u8]) -> usize
     solid_len(&opening[3..])
 }
 
-/// The first place of the text, from `from` to before `to`, at which three backticks stand that end by `to`, or `to`
-/// where there is none.
+/// The first place of the text, from `from` to before `to`, at which three backticks stand that end
+/// by `to`, or `to` where there is none.
 fn next_backticks(text: &[u8], from: usize, to: usize) -> usize
     requires order { from ≤ to }
     requires within { to ≤ length text.now }
     ensures low { from ≤ result }
     ensures high { result ≤ to }
-    ensures passed { (p : ℕ) → from ≤ p → p < result → begins fence (take (to - p) (drop p text.now)) ≡ false }
+    ensures passed { (p : ℕ) → from ≤ p → p < result
+        → begins fence (take (to - p) (drop p text.now)) ≡ false }
     ensures found { result < to → begins fence (take (to - result) (drop result text.now)) ≡ true }
 {
     let mut at = from;
@@ -99,8 +101,8 @@ fn next_backticks(text: &[u8], from: usize, to: usize) -> usize
     to
 }
 
-/// The place of the first fence opening in the part `text[from..to]`, counted from its front: three backticks, bytes
-/// that aren't blank, and one blank.
+/// The place of the first fence opening in the part `text[from..to]`, counted from its front: three
+/// backticks, bytes that aren't blank, and one blank.
 pub fn first_fence(text: &[u8], from: usize, to: usize) -> Option<usize>
     requires order { from ≤ to }
     requires ends { to ≤ length text.now }
@@ -168,7 +170,8 @@ fn fence_from<'a>(rest: &'a [u8], info_len: usize) -> FenceAt<'a>
     }
 }
 
-/// The block that opens at `place`, where the first fence opening of the part `text[from..to]` stands there.
+/// The block that opens at `place`, where the first fence opening of the part `text[from..to]`
+/// stands there.
 pub fn fence_at<'a>(text: &'a [u8], from: usize, place: usize, to: usize) -> Option<FenceAt<'a>>
     requires order { from ≤ place }
     requires inside { place < to }

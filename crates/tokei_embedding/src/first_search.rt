@@ -6,8 +6,8 @@ ghost use Rattle.tokei_embedding.specs.Searches.{first_of};
 use memchr::memmem;
 use std::marker::Model;
 
-/// Finds the first place of a token in ranges of one text, and remembers it: over ranges that begin further and further
-/// on, the text is searched once.
+/// Finds the first place of a token in ranges of one text, and remembers it: over ranges that begin
+/// further and further on, the text is searched once.
 #[derive(Drop)]
 pub(crate) struct FirstSearch<'a> {
     text: &'a [u8],
@@ -71,7 +71,8 @@ impl<'a> FirstSearch<'a> {
     pub(crate) fn first_in(&mut self, from: usize, to: usize) -> Option<usize>
         requires order { from ≤ to }
         requires ends { to ≤ length self.old.text }
-        ensures value { result ≡ first_of self.old.token (take (to - from) (drop from self.old.text)) }
+        ensures value { result
+            ≡ first_of self.old.token (take (to - from) (drop from self.old.text)) }
         ensures within { IfSome result (λ i. i + length self.old.token ≤ to - from) }
         ensures same { self.new ≡ self.old }
     {

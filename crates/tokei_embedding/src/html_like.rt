@@ -17,7 +17,8 @@ pub struct HtmlLike<'a> {
 impl<'a> Model for HtmlLike<'a> {
     ghost Value = { TagOpenings };
 
-    ghost view = { λ h. record { script = h.start_script; style = h.start_style; template = h.start_template } };
+    ghost view = { λ h.
+        record { script = h.start_script; style = h.start_style; template = h.start_template } };
 }
 
 fn opens_in(captures: &[Option<Capture<'_>>], start: usize, end: usize) -> bool
@@ -59,21 +60,24 @@ impl<'a> HtmlLike<'a> {
         }
     }
 
-    /// The opening of the script and its value, where the opening begins at `start` and ends by `end`.
+    /// The opening of the script and its value, where the opening begins at `start` and ends by
+    /// `end`.
     pub fn start_script_in_range(&self, start: usize, end: usize) -> Option<&[Option<Capture<'a>>]>
         ensures { option_map (λ c. c.now) result ≡ captures_in start end self.now.script }
     {
         captures_in(&self.start_script, start, end)
     }
 
-    /// The opening of the style and its value, where the opening begins at `start` and ends by `end`.
+    /// The opening of the style and its value, where the opening begins at `start` and ends by
+    /// `end`.
     pub fn start_style_in_range(&self, start: usize, end: usize) -> Option<&[Option<Capture<'a>>]>
         ensures { option_map (λ c. c.now) result ≡ captures_in start end self.now.style }
     {
         captures_in(&self.start_style, start, end)
     }
 
-    /// The opening of the template and its value, where the opening begins at `start` and ends by `end`.
+    /// The opening of the template and its value, where the opening begins at `start` and ends by
+    /// `end`.
     pub fn start_template_in_range(
         &self,
         start: usize,

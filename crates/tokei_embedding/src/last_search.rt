@@ -6,8 +6,8 @@ ghost use Rattle.tokei_embedding.specs.Searches.{last_of};
 use memchr::memmem;
 use std::marker::Model;
 
-/// Finds the last place of a token in ranges of one text, and remembers it: over ranges that begin further and further
-/// on and end at the same place, the text is searched once.
+/// Finds the last place of a token in ranges of one text, and remembers it: over ranges that begin
+/// further and further on and end at the same place, the text is searched once.
 #[derive(Drop)]
 pub(crate) struct LastSearch<'a> {
     text: &'a [u8],
@@ -82,7 +82,8 @@ impl<'a> LastSearch<'a> {
     pub(crate) fn last_in(&mut self, from: usize, to: usize) -> Option<usize>
         requires order { from ≤ to }
         requires ends { to ≤ length self.old.text }
-        ensures value { result ≡ last_of self.old.token (take (to - from) (drop from self.old.text)) }
+        ensures value { result
+            ≡ last_of self.old.token (take (to - from) (drop from self.old.text)) }
         ensures within { IfSome result (λ i. i + length self.old.token ≤ to - from) }
         ensures same { self.new ≡ self.old }
     {

@@ -2,7 +2,8 @@
 ghost use Rattle.tokei_embedding.specs.BlockLaws.{FencesReach, TagsReach, DocsReach, TargetsReach};
 ghost use Rattle.tokei_embedding.specs.BlockLaws.{NewlinesOpenNothing, DocsOpenBeforeBlanks, BlocksBeginWithOpeners};
 
-/// A fence's block takes a byte or more, ends in the text, and takes two bytes at least beside what it holds.
+/// A fence's block takes a byte or more, ends in the text, and takes two bytes at least beside what
+/// it holds.
 pub fn fences_reach()
     ensures { FencesReach }
 {}
@@ -27,12 +28,14 @@ pub fn newlines_open_nothing()
     ensures { NewlinesOpenNothing }
 {}
 
-/// A block of doc comments opens at a blank of a line exactly where one opens at the byte behind it.
+/// A block of doc comments opens at a blank of a line exactly where one opens at the byte behind
+/// it.
 pub fn docs_open_before_blanks()
     ensures { DocsOpenBeforeBlanks }
 {}
 
-/// No block opens where its opener doesn't stand, and none of doc comments where the rest of the line holds no mark.
+/// No block opens where its opener doesn't stand, and none of doc comments where the rest of the
+/// line holds no mark.
 pub fn blocks_begin_with_openers()
     ensures { BlocksBeginWithOpeners }
 {}

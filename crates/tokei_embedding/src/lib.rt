@@ -1,9 +1,10 @@
-//! Where a child opens in a part of a line, and where what it holds ends: the fences of Markdown, the script, style and
-//! template elements of HTML, the doc comments of Rust and the blocks of Lingua Franca. It knows no table of languages.
-//! A part is a range of a text's bytes, and every place counts bytes.
+//! Where a child opens in a part of a line, and where what it holds ends: the fences of Markdown,
+//! the script, style and template elements of HTML, the doc comments of Rust and the blocks of
+//! Lingua Franca. It knows no table of languages. A part is a range of a text's bytes, and every
+//! place counts bytes.
 //!
-//! Openings and closings are also there as captures: bytes of the caller's text, and where they stand in it. No count uses
-//! these.
+//! Openings and closings are also there as captures: bytes of the caller's text, and where they
+//! stand in it. No count uses these.
 #![tactic(auto)]
 
 mod blank_search;

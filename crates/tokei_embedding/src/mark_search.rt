@@ -7,14 +7,15 @@ use crate::doc_comments::front_mark;
 use std::marker::Model;
 use tokei_table_row::ext::is_whitespace;
 
-/// Finds the marks with which rests of lines of one text begin behind their blanks, and remembers where the blanks end:
-/// over places further and further on, each blank is passed once.
+/// Finds the marks with which rests of lines of one text begin behind their blanks, and remembers
+/// where the blanks end: over places further and further on, each blank is passed once.
 #[derive(Drop)]
 pub(crate) struct MarkSearch<'a> {
     text: &'a [u8],
     /// Where the last search began.
     from: usize,
-    /// What it came to: the first place from there on of a newline or a byte that isn't blank, or the text's length.
+    /// What it came to: the first place from there on of a newline or a byte that isn't blank, or
+    /// the text's length.
     place: usize,
 }
 

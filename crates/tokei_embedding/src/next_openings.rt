@@ -14,8 +14,8 @@ use crate::target_blocks::OPENER;
 use tokei_bytes::first_of_one;
 use tokei_table_row::ext::is_whitespace;
 
-/// The place in the text of what was found in the part that begins at `start`, where it stands at `at` or behind it;
-/// else `to`.
+/// The place in the text of what was found in the part that begins at `start`, where it stands at
+/// `at` or behind it; else `to`.
 pub(crate) fn next_of(found: Option<usize>, start: usize, at: usize, to: usize) -> usize
     requires order { start ≤ at }
     requires inside { at ≤ to }
@@ -31,8 +31,8 @@ pub(crate) fn next_of(found: Option<usize>, start: usize, at: usize, to: usize) 
     }
 }
 
-/// The first place from `at` on at which a fence can open in the part `text[start..to]`: its first fence opening. `to`
-/// where there is none, or where that one stands before `at`.
+/// The first place from `at` on at which a fence can open in the part `text[start..to]`: its first
+/// fence opening. `to` where there is none, or where that one stands before `at`.
 pub fn next_fence(text: &[u8], start: usize, at: usize, to: usize) -> usize
     requires order { start ≤ at }
     requires inside { at ≤ to }
@@ -40,13 +40,15 @@ pub fn next_fence(text: &[u8], start: usize, at: usize, to: usize) -> usize
     ensures low { at ≤ result }
     ensures high { result ≤ to }
     ensures none { OpensNoFence text.now start to at result }
-    ensures exact { result < to → is_at (result - start) (first_fence (part_of text.now start to)) ≡ true }
+    ensures exact { result < to
+        → is_at (result - start) (first_fence (part_of text.now start to)) ≡ true }
 {
     next_of(first_fence(text, start, to), start, at, to)
 }
 
-/// The first place from `at` on at which a block of the target language can open in the part `text[start..to]`: its
-/// first `{=`. `to` where there is none, or where that one stands before `at`.
+/// The first place from `at` on at which a block of the target language can open in the part
+/// `text[start..to]`: its first `{=`. `to` where there is none, or where that one stands before
+/// `at`.
 pub fn next_target(text: &[u8], start: usize, at: usize, to: usize) -> usize
     requires order { start ≤ at }
     requires inside { at ≤ to }
@@ -54,7 +56,8 @@ pub fn next_target(text: &[u8], start: usize, at: usize, to: usize) -> usize
     ensures low { at ≤ result }
     ensures high { result ≤ to }
     ensures none { OpensNoTarget text.now start to at result }
-    ensures exact { result < to → is_at (result - start) (first_of (codes "{=") (part_of text.now start to)) ≡ true }
+    ensures exact { result < to
+        → is_at (result - start) (first_of (codes "{=") (part_of text.now start to)) ≡ true }
 {
     next_of(first_of(&text[start..to], OPENER), start, at, to)
 }
@@ -75,8 +78,9 @@ fn blanks_start(text: &[u8], from: usize, end: usize) -> usize
     start
 }
 
-/// The first place from `at` on at which a block of doc comments opens in the rest of a line `text[at..to]`: the first
-/// mark, or the first of the blanks right before it. `to` where no mark stands there.
+/// The first place from `at` on at which a block of doc comments opens in the rest of a line
+/// `text[at..to]`: the first mark, or the first of the blanks right before it. `to` where no mark
+/// stands there.
 pub fn next_doc(text: &[u8], at: usize, to: usize) -> usize
     requires inside { at ≤ to }
     requires ends { to ≤ length text.now }

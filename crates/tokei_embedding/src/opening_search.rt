@@ -32,8 +32,8 @@ impl<'a> Model for OpeningSearch<'a> {
 
     ghost view = { λ s. record { tag = s.tag; text = s.text.now } };
 
-    ghost invariant = { λ s.
-        SeeksOpenings (record { tag = s.tag; text = s.text.now }) s.last_ends s.quotes s.attributes s.ends };
+    ghost invariant = { λ s. SeeksOpenings (record { tag = s.tag; text = s.text.now }) s.last_ends
+        s.quotes s.attributes s.ends };
 }
 
 /// The place behind the value, or the front without one.
@@ -61,12 +61,14 @@ impl<'a> OpeningSearch<'a> {
         }
     }
 
-    /// Where the attribute's value stands in a tag's inside `text[start..stop]`, counted from `start`.
+    /// Where the attribute's value stands in a tag's inside `text[start..stop]`, counted from
+    /// `start`.
     fn value_in(&mut self, start: usize, stop: usize) -> Option<Span>
         requires order { start ≤ stop }
         requires ends { stop ≤ length self.old.text }
         ensures value { option_map span_seen result
-            ≡ value_in (attribute_of self.old.tag) (take (stop - start) (drop start self.old.text)) }
+            ≡ value_in (attribute_of self.old.tag)
+            (take (stop - start) (drop start self.old.text)) }
         ensures within { IfSome result (λ v. (v.start ≤ v.stop) × (v.stop < stop - start)) }
         ensures same { self.new ≡ self.old }
     {
@@ -78,8 +80,8 @@ impl<'a> OpeningSearch<'a> {
         })
     }
 
-    /// The opening that begins at the place `at`, by the bytes `text[start..to]` from the place `inside` on, and the
-    /// value in them. Its places count as `at` and `inside` do.
+    /// The opening that begins at the place `at`, by the bytes `text[start..to]` from the place
+    /// `inside` on, and the value in them. Its places count as `at` and `inside` do.
     fn opening_past(
         &mut self,
         at: usize,
@@ -112,15 +114,17 @@ impl<'a> OpeningSearch<'a> {
         })
     }
 
-    /// The opening of the tag whose token stands at the place `at` of the part `text[from..to]`. Its places count from
-    /// `from` too.
+    /// The opening of the tag whose token stands at the place `at` of the part `text[from..to]`.
+    /// Its places count from `from` too.
     pub(crate) fn opening_at(&mut self, from: usize, at: usize, to: usize) -> Option<Opening>
         requires stands { from + at + length (token_of self.old.tag) ≤ to }
         requires ends { to ≤ length self.old.text }
         ensures value { option_map opening_seen result
             ≡ opening_at self.old.tag (take (to - from) (drop from self.old.text)) at }
-        ensures whole { IfSome result (λ o. (o.whole.start ≡ at) × (at < o.whole.stop) × (o.whole.stop ≤ to - from)) }
-        ensures value_within { IfSome result (λ o. IfSome o.value (λ v. (v.start ≤ v.stop) × (v.stop ≤ to - from))) }
+        ensures whole { IfSome result (λ o. (o.whole.start ≡ at) × (at < o.whole.stop)
+            × (o.whole.stop ≤ to - from)) }
+        ensures value_within { IfSome result (λ o. IfSome o.value
+            (λ v. (v.start ≤ v.stop) × (v.stop ≤ to - from))) }
         ensures same { self.new ≡ self.old }
     {
         let inside = at + token_of(self.tag).len();
@@ -134,8 +138,10 @@ impl<'a> OpeningSearch<'a> {
 /// The opening of the tag at the first place of its token in the part.
 pub fn first_opening(tag: Tag, part: &[u8]) -> Option<Opening>
     ensures value { option_map opening_seen result ≡ first_opening tag part.now }
-    ensures whole { IfSome result (λ o. (o.whole.start ≤ o.whole.stop) × (o.whole.stop ≤ length part.now)) }
-    ensures value_within { IfSome result (λ o. IfSome o.value (λ v. (v.start ≤ v.stop) × (v.stop ≤ length part.now))) }
+    ensures whole { IfSome result (λ o. (o.whole.start ≤ o.whole.stop)
+        × (o.whole.stop ≤ length part.now)) }
+    ensures value_within { IfSome result (λ o. IfSome o.value
+        (λ v. (v.start ≤ v.stop) × (v.stop ≤ length part.now))) }
 {
     let at = first_of(part, token_of(tag))?;
     OpeningSearch::new(tag, part).opening_at(0, at, part.len())

@@ -35,7 +35,8 @@ fn first_token<'a>(text: &'a [u8], from: usize, to: usize, token: &[u8]) -> Opti
     requires order { from ≤ to }
     requires ends { to ≤ length text.now }
     requires some { 0 < length token.now }
-    ensures { result ≡ option_map (captured text.now from) (token_span token.now (part_of text.now from to)) }
+    ensures { result
+        ≡ option_map (captured text.now from) (token_span token.now (part_of text.now from to)) }
 {
     let start = first_of(&text[from..to], token)?;
     Some(captured(
@@ -79,7 +80,9 @@ pub fn start_template(text: &[u8], from: usize, to: usize) -> Option<[Option<Cap
 pub fn end_script(text: &[u8], from: usize, to: usize) -> Option<Capture<'_>>
     requires order { from ≤ to }
     requires ends { to ≤ length text.now }
-    ensures { result ≡ option_map (captured text.now from) (token_span (codes "</script>") (part_of text.now from to)) }
+    ensures { result
+        ≡ option_map (captured text.now from)
+        (token_span (codes "</script>") (part_of text.now from to)) }
 {
     first_token(text, from, to, closer_of(Tag::Script))
 }
@@ -88,7 +91,9 @@ pub fn end_script(text: &[u8], from: usize, to: usize) -> Option<Capture<'_>>
 pub fn end_style(text: &[u8], from: usize, to: usize) -> Option<Capture<'_>>
     requires order { from ≤ to }
     requires ends { to ≤ length text.now }
-    ensures { result ≡ option_map (captured text.now from) (token_span (codes "</style>") (part_of text.now from to)) }
+    ensures { result
+        ≡ option_map (captured text.now from)
+        (token_span (codes "</style>") (part_of text.now from to)) }
 {
     first_token(text, from, to, closer_of(Tag::Style))
 }
@@ -98,16 +103,19 @@ pub fn end_template(text: &[u8], from: usize, to: usize) -> Option<Capture<'_>>
     requires order { from ≤ to }
     requires ends { to ≤ length text.now }
     ensures { result
-        ≡ option_map (captured text.now from) (token_span (codes "</template>") (part_of text.now from to)) }
+        ≡ option_map (captured text.now from)
+        (token_span (codes "</template>") (part_of text.now from to)) }
 {
     first_token(text, from, to, closer_of(Tag::Template))
 }
 
-/// The first fence opening of the part `text[from..to]`: three backticks, bytes that aren't blank, and one blank.
+/// The first fence opening of the part `text[from..to]`: three backticks, bytes that aren't blank,
+/// and one blank.
 pub fn start_markdown(text: &[u8], from: usize, to: usize) -> Option<Capture<'_>>
     requires order { from ≤ to }
     requires ends { to ≤ length text.now }
-    ensures { result ≡ option_map (captured text.now from) (fence_opening (part_of text.now from to)) }
+    ensures { result
+        ≡ option_map (captured text.now from) (fence_opening (part_of text.now from to)) }
 {
     let part = &text[from..to];
     let start = first_fence(text, from, to)?;
@@ -121,11 +129,13 @@ pub fn start_markdown(text: &[u8], from: usize, to: usize) -> Option<Capture<'_>
     ))
 }
 
-/// The first three backticks of the part `text[from..to]`, with one blank behind them where one stands there.
+/// The first three backticks of the part `text[from..to]`, with one blank behind them where one
+/// stands there.
 pub fn end_markdown(text: &[u8], from: usize, to: usize) -> Option<Capture<'_>>
     requires order { from ≤ to }
     requires ends { to ≤ length text.now }
-    ensures { result ≡ option_map (captured text.now from) (fence_closing (part_of text.now from to)) }
+    ensures { result
+        ≡ option_map (captured text.now from) (fence_closing (part_of text.now from to)) }
 {
     let part = &text[from..to];
     let start = first_of(part, FENCE)?;
@@ -143,7 +153,8 @@ pub fn end_markdown(text: &[u8], from: usize, to: usize) -> Option<Capture<'_>>
 pub fn start_lf(text: &[u8], from: usize, to: usize) -> Option<Capture<'_>>
     requires order { from ≤ to }
     requires ends { to ≤ length text.now }
-    ensures { result ≡ option_map (captured text.now from) (token_span (codes "{=") (part_of text.now from to)) }
+    ensures { result
+        ≡ option_map (captured text.now from) (token_span (codes "{=") (part_of text.now from to)) }
 {
     first_token(text, from, to, b"{=")
 }
@@ -152,7 +163,8 @@ pub fn start_lf(text: &[u8], from: usize, to: usize) -> Option<Capture<'_>>
 pub fn end_lf(text: &[u8], from: usize, to: usize) -> Option<Capture<'_>>
     requires order { from ≤ to }
     requires ends { to ≤ length text.now }
-    ensures { result ≡ option_map (captured text.now from) (token_span (codes "=}") (part_of text.now from to)) }
+    ensures { result
+        ≡ option_map (captured text.now from) (token_span (codes "=}") (part_of text.now from to)) }
 {
     first_token(text, from, to, b"=}")
 }

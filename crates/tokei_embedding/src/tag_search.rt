@@ -31,8 +31,8 @@ impl<'a> Model for TagSearch<'a> {
 
     ghost view = { λ s. record { tag = s.tag; text = s.text.now } };
 
-    ghost invariant = { λ s.
-        SeeksElements (record { tag = s.tag; text = s.text.now }) s.tokens s.openings s.closers s.blanks };
+    ghost invariant = { λ s. SeeksElements (record { tag = s.tag; text = s.text.now }) s.tokens
+        s.openings s.closers s.blanks };
 }
 
 impl<'a> TagSearch<'a> {
@@ -50,15 +50,16 @@ impl<'a> TagSearch<'a> {
         }
     }
 
-    /// The element that opens at `place`, where the first token of the tag in the part `text[from..to]` stands there
-    /// and its opening ends in the part. None where no closing tag follows in the text, or nothing but blanks before
-    /// it.
+    /// The element that opens at `place`, where the first token of the tag in the part
+    /// `text[from..to]` stands there and its opening ends in the part. None where no closing tag
+    /// follows in the text, or nothing but blanks before it.
     pub(crate) fn tag_at(&mut self, from: usize, place: usize, to: usize) -> Option<TagAt<'a>>
         requires order { from ≤ place }
         requires inside { place < to }
         requires ends { to ≤ length self.old.text }
         ensures block { option_map tag_seen result
-            ≡ tag_block self.old.tag (part_of self.old.text from to) (place - from) (drop place self.old.text) }
+            ≡ tag_block self.old.tag (part_of self.old.text from to) (place - from)
+            (drop place self.old.text) }
         ensures same { self.new ≡ self.old }
     {
         if !self.text[place..to].starts_with(token_of(self.tag)) {
@@ -78,8 +79,10 @@ impl<'a> TagSearch<'a> {
     fn element_to(&mut self, value: Option<&'a [u8]>, len: usize, start: usize) -> Option<TagAt<'a>>
         requires within { len ≤ start }
         requires inside { start ≤ length self.old.text }
-        ensures element { let behind = drop start self.old.text in option_map tag_seen result
-            ≡ element_to (option_map (λ w. w.now) value.entry) len behind (first_of (closer_of self.old.tag) behind) }
+        ensures element { let behind = drop start self.old.text
+            in option_map tag_seen result
+            ≡ element_to (option_map (λ w. w.now) value.entry) len behind
+            (first_of (closer_of self.old.tag) behind) }
         ensures same { self.new ≡ self.old }
     {
         let at = self.closers.first_in(start, self.text.len())?;
@@ -93,8 +96,9 @@ impl<'a> TagSearch<'a> {
         })
     }
 
-    /// The first place from `at` on at which an element with the tag can open in the part `text[start..to]`: the tag's
-    /// first token. `to` where there is none, or where that one stands before `at`.
+    /// The first place from `at` on at which an element with the tag can open in the part
+    /// `text[start..to]`: the tag's first token. `to` where there is none, or where that one stands
+    /// before `at`.
     pub(crate) fn next_tag(&mut self, start: usize, at: usize, to: usize) -> usize
         requires order { start ≤ at }
         requires inside { at ≤ to }
@@ -103,7 +107,9 @@ impl<'a> TagSearch<'a> {
         ensures high { result ≤ to }
         ensures none { OpensNoElement self.old.tag self.old.text start to at result }
         ensures exact { result < to
-            → is_at (result - start) (first_of (token_of self.old.tag) (part_of self.old.text start to)) ≡ true }
+            → is_at (result - start)
+            (first_of (token_of self.old.tag) (part_of self.old.text start to))
+            ≡ true }
         ensures same { self.new ≡ self.old }
     {
         next_of(self.tokens.first_in(start, to), start, at, to)

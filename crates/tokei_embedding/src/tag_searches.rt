@@ -10,7 +10,8 @@ use crate::tag_search::TagSearch;
 use crate::tags::{Tag, TagAt};
 use std::marker::Model;
 
-/// Finds the elements of one text, and remembers what each search came to. Contracts see it as the text.
+/// Finds the elements of one text, and remembers what each search came to. Contracts see it as the
+/// text.
 #[derive(Drop)]
 pub(crate) struct TagSearches<'a> {
     script: TagSearch<'a>,
@@ -60,7 +61,8 @@ impl<'a> TagSearches<'a> {
         }
     }
 
-    /// The first place from `at` on at which an element with the tag can open, as `TagSearch::next_tag` finds it.
+    /// The first place from `at` on at which an element with the tag can open, as
+    /// `TagSearch::next_tag` finds it.
     pub(crate) fn next_tag(&mut self, tag: Tag, start: usize, at: usize, to: usize) -> usize
         requires order { start ≤ at }
         requires inside { at ≤ to }

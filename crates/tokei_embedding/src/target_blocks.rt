@@ -43,7 +43,8 @@ pub fn target_at<'a>(text: &'a [u8], from: usize, place: usize, to: usize) -> Op
     requires inside { place < to }
     requires ends { to ≤ length text.now }
     ensures { option_map target_seen result
-        ≡ target_block (take (to - from) (drop from text.now)) (place - from) (drop place text.now) }
+        ≡ target_block (take (to - from) (drop from text.now)) (place - from)
+        (drop place text.now) }
 {
     let here = &text[place..to];
     if !here.starts_with(OPENER) {
@@ -131,8 +132,9 @@ fn target_here(text: &[u8]) -> Option<&[u8]>
     }
 }
 
-/// The target that a Lingua Franca text names: the word of its first `target` that no word byte stands before, with
-/// blanks between, where blanks with a newline or to the text's end, or `;` or `{`, follow the word.
+/// The target that a Lingua Franca text names: the word of its first `target` that no word byte
+/// stands before, with blanks between, where blanks with a newline or to the text's end, or `;` or
+/// `{`, follow the word.
 pub(crate) fn target_of(text: &[u8]) -> Option<&[u8]>
     ensures { option_map (λ w. w.now) result ≡ target_of text.now }
 {

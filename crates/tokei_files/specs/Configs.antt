@@ -14,7 +14,8 @@ use Rattle.tokei_files.specs.Files.{Counting}
 abbrev pub is_on : Option Bool → Bool
 is_on switch = unwrap_or switch false
 
--- which ignore rules are obeyed: without ignore files none of their kinds is, and none above the roots
+-- which ignore rules are obeyed: without ignore files none of their kinds is, and none above the
+-- roots
 abbrev pub rules_of : Settings → Rules
 rules_of s = record {
   parents = not (is_on s.no_ignore || is_on s.no_ignore_parent);
@@ -25,7 +26,8 @@ rules_of s = record {
 
 -- by what files are counted
 abbrev pub counting_by : List Row → Settings → Counting
-counting_by rows s = record { rows = rows_by rows s; docs = is_on s.treat_doc_strings_as_comments; types = s.types }
+counting_by rows s =
+    record { rows = rows_by rows s; docs = is_on s.treat_doc_strings_as_comments; types = s.types }
 
 -- the files of a known tree that are counted: those below the roots that the rules keep
 unfoldable pub kept_by : Settings → Tree → List (List ℕ) → List (List ℕ) → List KeptFile

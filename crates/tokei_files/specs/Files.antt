@@ -1,4 +1,5 @@
--- What a run counts of a file: the language in which it counts, if in any, and when its statistics fit.
+-- What a run counts of a file: the language in which it counts, if in any, and when its statistics
+-- fit.
 use Rattle.std.specs.Prelude.{ℕ, ◌==◌, Bool, true, List, [], ◌∷◌, Option, Some, None, option_and_then, IfSome, if◌then◌else◌, ⊤}
 use Rattle.std.specs.List.{list_any}
 use Rattle.tokei_stats.specs.Overflow.{Fits}
@@ -8,8 +9,8 @@ use Rattle.tokei_folders.specs.Tree.{Tree}
 use Rattle.tokei_files.specs.Paths.{language_by_path}
 use Rattle.tokei_files.specs.ContentStatistics.{stats_at}
 
--- by what files are counted: the rows of the table, whether doc strings count as comments, and the languages that count,
--- which are all where none are given
+-- by what files are counted: the rows of the table, whether doc strings count as comments, and the
+-- languages that count, which are all where none are given
 pub record Counting : Type 0 where
   pub rows : List Row
   pub docs : Bool

@@ -1,4 +1,5 @@
--- What contracts say of one file of a run: its language, its content, its report, and why it has none.
+-- What contracts say of one file of a run: its language, its content, its report, and why it has
+-- none.
 pub mod Configs
 pub mod ContentStatistics
 pub mod Contents

@@ -1,5 +1,5 @@
--- The language of a path in a known tree: by the path's name, and by the head of the file where the name decides
--- nothing and has no extension.
+-- The language of a path in a known tree: by the path's name, and by the head of the file where the
+-- name decides nothing and has no extension.
 use Rattle.std.specs.Prelude.{ℕ, List, [], Option, None, is_some, unwrap_or, Result, Ok, Err, if◌then◌else◌}
 use Rattle.std.specs.List.{last_or}
 use Rattle.tokei_config.specs.Settings.{Settings, additions_in}
@@ -11,7 +11,8 @@ use Rattle.tokei_folders.specs.declared.fs.Fault.{Fault}
 use Rattle.tokei_folders.specs.Answers.{head_answer}
 use Rattle.tokei_folders.specs.Tree.{Tree, node_at, names_of}
 
--- the name of a path is its last one; empty ones and `.` are none, and a path without names has the empty text
+-- the name of a path is its last one; empty ones and `.` are none, and a path without names has the
+-- empty text
 unfoldable pub name_of : List ℕ → List ℕ
 name_of path = unwrap_or (last_or None (names_of path)) []
 

@@ -4,5 +4,10 @@ use Rattle.tokei_count.specs.Seen.{docs_of}
 use Rattle.tokei_files.specs.Files.{Counting}
 use Rattle.tokei_files.specs.declared.counting.Counting as CodeCounting
 
+-- what files are counted with: the table, how doc strings count, and the languages that are wanted
 abbrev pub counting_of : CodeCounting.Counting → Counting
-counting_of c = record { rows = c.counter.now; docs = docs_of c.config; types = option_map (λ types. types.now) c.types }
+counting_of c = record {
+  rows = c.counter.now;
+  docs = docs_of c.config;
+  types = option_map (λ types. types.now) c.types;
+}

@@ -1,4 +1,5 @@
-//! What a configuration says of a run: which ignore rules are obeyed, and which languages are counted.
+//! What a configuration says of a run: which ignore rules are obeyed, and which languages are
+//! counted.
 ghost use Rattle.std.specs.Prelude.{◌≡◌, option_map};
 ghost use Rattle.tokei_config.specs.Seen.{settings_of};
 ghost use Rattle.tokei_files.specs.Configs.{is_on as is_switched_on, rules_of};

@@ -7,8 +7,8 @@ ghost use Rattle.tokei_folders.specs.AsTheyWere.{SameTree, FaultsStay};
 
 use tokei_walk::{Fault, Folders};
 
-/// The content of the file at a place; whether the walk has just listed it. `Refused` where it can't be read, else `Memory`;
-/// the folders keep their tree.
+/// The content of the file at a place; whether the walk has just listed it. `Refused` where it
+/// can't be read, else `Memory`; the folders keep their tree.
 pub fn content<F: Folders>(folders: &mut F, place: &str, listed: bool) -> Result<Vec<u8>, Fault>
     ensures same { SameTree F.tree folders.old folders.new }
     ensures told { Told (F.tree folders.old) (λ t. IfOk result (λ c.

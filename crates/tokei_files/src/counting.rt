@@ -28,22 +28,23 @@ pub struct Counting<'a> {
 }
 
 impl Counting<'_> {
-    /// The statistics of a content in a language, once it is decoded. `Overflow` comes only where one of its counts passes
-    /// the greatest `usize`.
+    /// The statistics of a content in a language, once it is decoded. `Overflow` comes only where
+    /// one of its counts passes the greatest `usize`.
     fn count(&self, language: LanguageType, content: Vec<u8>) -> Result<CodeStats, ParseFault>
         requires { language < length self.now.counter.now }
         ensures stats { IfOk result (λ s. stats_of s
             ≡ stats_in self.now.counter.now (docs_of self.now.config) language content.items) }
         ensures overflow { result ≡ Err TooMany
-            → ¬ Fits (stats_in self.now.counter.now (docs_of self.now.config) language content.items) }
+            → ¬ Fits
+            (stats_in self.now.counter.now (docs_of self.now.config) language content.items) }
         ensures counted { result ≢ Err NotRead }
     {
         let text = decode_text(self.alloc, content)?;
         Ok(parse_from_slice(self.alloc, self.counter, language, &text, &self.config)?)
     }
 
-    /// The statistics of the file at a place, in a language. A file that the walk has just listed is opened without being
-    /// asked for once more.
+    /// The statistics of the file at a place, in a language. A file that the walk has just listed
+    /// is opened without being asked for once more.
     pub fn count_file<F: Folders>(
         &self,
         folders: &mut F,
@@ -57,9 +58,12 @@ impl Counting<'_> {
             ≡ stats_at t self.now.counter.now (docs_of self.now.config) language place.now)) }
         ensures refused { result ≡ Err NotRead → Told (F.tree folders.old) (λ t.
             content_at t place.now ≡ None) }
-        ensures overflow { result ≡ Err TooMany → Told (F.tree folders.old) (λ t. IsSomeAnd
-            (stats_at t self.now.counter.now (docs_of self.now.config) language place.now) (λ s. ¬ Fits s)) }
-        ensures honest { result ≢ Err OutOfMemory → FaultsStay F.memory_faults folders.old folders.new }
+        ensures overflow { result ≡ Err TooMany
+            → Told (F.tree folders.old) (λ t. IsSomeAnd
+            (stats_at t self.now.counter.now (docs_of self.now.config) language place.now)
+            (λ s. ¬ Fits s)) }
+        ensures honest { result ≢ Err OutOfMemory
+            → FaultsStay F.memory_faults folders.old folders.new }
     {
         let content = content(folders, place, listed)?;
         self.count(language, content)

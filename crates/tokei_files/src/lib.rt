@@ -1,4 +1,5 @@
-//! What a run counts of one file: its language, its content, what a configuration says of it, and its report.
+//! What a run counts of one file: its language, its content, what a configuration says of it, and
+//! its report.
 #![tactic(auto)]
 
 mod configs;

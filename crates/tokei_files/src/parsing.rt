@@ -18,9 +18,9 @@ use tokei_count::{Counter, Report};
 use tokei_folders::Folders;
 use tokei_table::LanguageType;
 
-/// The report of the file at a path, in a language of the counter's table: what its content counts, once it is decoded,
-/// under that path. The path comes back with each refusal, and the folders keep their tree. `Overflow` comes only where
-/// a count of the file passes the greatest `usize`.
+/// The report of the file at a path, in a language of the counter's table: what its content counts,
+/// once it is decoded, under that path. The path comes back with each refusal, and the folders keep
+/// their tree. `Overflow` comes only where a count of the file passes the greatest `usize`.
 pub fn parse_file<F: Folders>(
     alloc: Global,
     counter: &Counter,
@@ -32,15 +32,20 @@ pub fn parse_file<F: Folders>(
     requires { language < length counter.now }
     ensures same { SameTree F.tree folders.old folders.new }
     ensures told { Told (F.tree folders.old) (λ t. IfOk result (λ r. Some (stats_of r.stats)
-        ≡ stats_at t counter.now (is_on (settings_of config.now).treat_doc_strings_as_comments) language (string_bytes path))) }
+        ≡ stats_at t counter.now (is_on (settings_of config.now).treat_doc_strings_as_comments)
+        language (string_bytes path))) }
     ensures name { IfOk result (λ r. r.name ≡ path) }
     ensures back { IfErr result (λ e. e.1 ≡ path) }
     ensures refused { IfErr result (λ e. e.0 ≡ NotRead → Told (F.tree folders.old) (λ t.
         content_at t (string_bytes path) ≡ None)) }
-    ensures overflow { IfErr result (λ e. e.0 ≡ TooMany → Told (F.tree folders.old) (λ t. IsSomeAnd
-        (stats_at t counter.now (is_on (settings_of config.now).treat_doc_strings_as_comments) language (string_bytes path)) (λ s. ¬ Fits s))) }
+    ensures overflow { IfErr result (λ e. e.0 ≡ TooMany
+        → Told (F.tree folders.old) (λ t. IsSomeAnd
+        (stats_at t counter.now (is_on (settings_of config.now).treat_doc_strings_as_comments)
+        language (string_bytes path))
+        (λ s. ¬ Fits s))) }
     ensures honest { NoFault F.memory_faults folders.old folders.new result }
-    ensures counted { IfErr result (λ e. e.0 ≢ OutOfMemory → FaultsStay F.memory_faults folders.old folders.new) }
+    ensures counted { IfErr result (λ e. e.0 ≢ OutOfMemory
+        → FaultsStay F.memory_faults folders.old folders.new) }
 {
     let reading = Counting {
         alloc,

@@ -1,4 +1,5 @@
-//! Which language a file has: by its name, and by its head where the name decides nothing and has no extension.
+//! Which language a file has: by its name, and by its head where the name decides nothing and has
+//! no extension.
 ghost use Rattle.std.specs.Prelude.{◌≡◌, ◌<◌, length, IfOk, IfSome, OnOk};
 ghost use Rattle.tokei_config.specs.Seen.{settings_of};
 ghost use Rattle.tokei_folders.specs.Answers.{Told};
@@ -18,8 +19,8 @@ fn file_name(path: &str) -> &str
     last_name(path).unwrap_or("")
 }
 
-/// The language of a script, by the first line of its head. A head that can't be read has none. `Memory` is the only
-/// refusal, and leaves the folders' tree as it was.
+/// The language of a script, by the first line of its head. A head that can't be read has none.
+/// `Memory` is the only refusal, and leaves the folders' tree as it was.
 pub fn from_shebang<F: Folders>(
     _alloc: Global,
     table: &LanguageTable,
@@ -39,8 +40,9 @@ pub fn from_shebang<F: Folders>(
     }
 }
 
-/// The language of the file at a path, by the table as it stands: by its name, and by its head where the name decides
-/// nothing and has no extension. `Memory` is the only refusal, and leaves the folders' tree as it was.
+/// The language of the file at a path, by the table as it stands: by its name, and by its head
+/// where the name decides nothing and has no extension. `Memory` is the only refusal, and leaves
+/// the folders' tree as it was.
 pub fn language_of_path<F: Folders>(
     alloc: Global,
     table: &LanguageTable,
@@ -61,8 +63,8 @@ pub fn language_of_path<F: Folders>(
     }
 }
 
-/// The language of the file at a path, by the table in which languages have gained the extensions of the configuration.
-/// `Memory` is the only refusal, and leaves the folders' tree as it was.
+/// The language of the file at a path, by the table in which languages have gained the extensions
+/// of the configuration. `Memory` is the only refusal, and leaves the folders' tree as it was.
 pub fn from_path<F: Folders>(
     alloc: Global,
     table: &LanguageTable,

@@ -29,6 +29,7 @@ new_file p content = record { names = p; node = file false false content }
 unfoldable pub folders_to : Names → List PlacedNode
 folders_to p = map (λ a. new_folder a.0) (folders_above [] p)
 
+-- a file stands there
 abbrev pub is_file : Option Node → Bool
 is_file None = false
 is_file (Some (file r h content)) = true
@@ -40,9 +41,12 @@ is_below_file t p = list_any (λ a. is_file (node_at t a.0)) (folders_above [] p
 
 -- a folder is added, with those above it that are missing, unless there or above a file stands
 unfoldable pub with_folder : Tree → Names → Option Tree
-with_folder t p = if is_below_file t p || is_file (node_at t p) then None else Some (with_all t (folders_to p ++ new_folder p ∷ []))
+with_folder t p =
+    if is_below_file t p || is_file (node_at t p) then None
+    else Some (with_all t (folders_to p ++ new_folder p ∷ []))
 
--- a file is added, with the folders above it that are missing, unless something stands there or a file above
+-- a file is added, with the folders above it that are missing, unless something stands there or a
+-- file above
 unfoldable pub with_file : Tree → Names → List ℕ → Option Tree
 with_file t p content =
     if is_below_file t p || is_some (node_at t p) then None

@@ -12,10 +12,12 @@ use Rattle.tokei_folders.specs.declared.nodes.Node.{Node}
 use Rattle.tokei_folders.specs.declared.nodes.Node.TheVariants.{File as file, Folder as folder}
 use Rattle.tokei_folders.specs.Tree.{Names, Tree, node_at, below, names_of, folders_above}
 
+-- the kind of what stands at a place
 abbrev pub kind_of : Node → Kind
 kind_of (file r h c) = File
 kind_of (folder r) = Folder
 
+-- the kind, where something stands there; else the call is refused
 abbrev pub kind_answer : Option Node → Result Kind Fault
 kind_answer None = Err Refused
 kind_answer (Some n) = Ok (kind_of n)
@@ -31,6 +33,7 @@ node_content None = None
 node_content (Some (folder r)) = None
 node_content (Some (file r h c)) = cond r None (Some c)
 
+-- a file's content in bytes; a folder, a file that can't be read, and nothing are refused
 abbrev pub read_answer : Option Node → Result (List ℕ) Fault
 read_answer None = Err Refused
 read_answer (Some (folder r)) = Err Refused
@@ -59,11 +62,13 @@ abbrev pub entries_in : Names → Tree → List Entry
 entries_in p [] = []
 entries_in p (e ∷ t) = entry_named (only_name (below p e.names)) e.node (entries_in p t)
 
+-- a folder stands there that can be listed
 abbrev pub can_list : Option Node → Bool
 can_list None = false
 can_list (Some (file r h c)) = false
 can_list (Some (folder r)) = cond r false true
 
+-- the entries of a folder that can be listed, in the tree's order; else the call is refused
 unfoldable pub list_answer : Tree → Names → Result (List Entry) Fault
 list_answer t p = if can_list (node_at t p) then Ok (entries_in p t) else Err Refused
 
@@ -99,6 +104,7 @@ abbrev pub entries_of : Result Listing Fault → Result (List Entry) Fault
 entries_of (Ok l) = Ok l.entries.items
 entries_of (Err e) = Err e
 
+-- a listing that memory doesn't fail answers as a known tree does
 abbrev pub ListTells : Option Tree → Names → Result Listing Fault → Type 0
 ListTells o p r = Told o (λ t. r ≢ Err Memory → entries_of r ≡ list_answer t p)
 

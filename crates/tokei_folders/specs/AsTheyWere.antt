@@ -15,6 +15,7 @@ abbrev pub NoFault : {F A E : Type 0} → (F → ℕ) → F → F → Result A E
 NoFault faults old new result = OnOk result (FaultsStay faults old new)
 
 -- both
-pub record AsTheyWere {F A E : Type 0} (tree : F → Option Tree) (faults : F → ℕ) (old new : F) (r : Result A E) : Type 0 where
+pub record AsTheyWere {F A E : Type 0} (tree : F → Option Tree) (faults : F → ℕ) (old new : F)
+    (r : Result A E) : Type 0 where
   pub same : SameTree tree old new
   pub honest : NoFault faults old new r

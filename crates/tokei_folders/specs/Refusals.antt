@@ -19,7 +19,9 @@ refusing Head (file r h content) = file r true content
 -- what stands at a place is another
 abbrev pub changed : (Node → Node) → Names → Tree → Tree
 changed f p [] = []
-changed f p (e ∷ t) = if is_eq (names_cmp e.names p) then record { names = e.names; node = f e.node } ∷ t else e ∷ changed f p t
+changed f p (e ∷ t) =
+    if is_eq (names_cmp e.names p) then record { names = e.names; node = f e.node } ∷ t
+    else e ∷ changed f p t
 
 -- the call is refused at a place
 abbrev pub refused_at : Call → Names → Tree → Tree
@@ -31,4 +33,7 @@ with_refusal t p call = if is_some (node_at t p) then Some (refused_at call p t)
 
 -- a place refuses all of them
 unfoldable pub with_refusals : Tree → Names → Option Tree
-with_refusals t p = if is_some (node_at t p) then Some (refused_at ListCall p (refused_at Read p (refused_at Head p t))) else None
+with_refusals t p =
+    if is_some (node_at t p)
+    then Some (refused_at ListCall p (refused_at Read p (refused_at Head p t)))
+    else None

@@ -19,9 +19,11 @@ Tree = List PlacedNode
 abbrev pub names_cmp : Names → Names → Ordering
 names_cmp = slice_cmp (slice_cmp nat_cmp)
 
+-- the one list of names stands before the other
 abbrev pub is_before : Names → Names → Bool
 is_before a b = is_lt (names_cmp a b)
 
+-- the names stand before those of each place of the tree
 abbrev pub is_first : Names → Tree → Bool
 is_first p t = list_all (λ e. is_before p e.names) t
 
@@ -36,6 +38,7 @@ is_name [] = false
 is_name (c ∷ []) = not (c == 46)
 is_name (c ∷ d ∷ cs) = true
 
+-- the character is a slash
 abbrev pub is_slash : ℕ → Bool
 is_slash c = c == 47
 
@@ -47,6 +50,7 @@ names_of place = filter is_name (slice_split is_slash place)
 abbrev pub is_whole_name : List ℕ → Bool
 is_whole_name name = is_name name && not (list_any is_slash name)
 
+-- each name of the place is one
 abbrev pub has_names : PlacedNode → Bool
 has_names e = list_all is_whole_name e.names
 

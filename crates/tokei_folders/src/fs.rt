@@ -106,8 +106,9 @@ pub trait Folders {
             → memory_faults self.new ≡ counted result (memory_faults self.old) }
         ensures full { StaysFull (memory_faults self.old) (memory_faults self.new) };
 
-    /// The content of a file that a listing or `kind` has just told. Folders that ask the system trust that answer and
-    /// don't ask anew what stands there, so a pipe that is put in the file's place meanwhile is waited for.
+    /// The content of a file that a listing or `kind` has just told. Folders that ask the system
+    /// trust that answer and don't ask anew what stands there, so a pipe that is put in the file's
+    /// place meanwhile is waited for.
     fn read_listed(&mut self, place: &str) -> Result<Vec<u8>, Fault>
         ensures told { BytesTell (tree self.old)
             (λ t. read_answer (node_at t (names_of place.now))) result }

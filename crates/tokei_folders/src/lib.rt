@@ -1,7 +1,8 @@
-//! Folders: the calls on them, a tree of them in memory, folders that fail, and the names of places.
+//! Folders: the calls on them, a tree of them in memory, folders that fail, and the names of
+//! places.
 //!
-//! `specs/` holds the rules, one idea a file: the tree that folders tell, what is answered by it, what an addition or a
-//! refusal makes of it, and the place of an entry.
+//! `specs/` holds the rules, one idea a file: the tree that folders tell, what is answered by it,
+//! what an addition or a refusal makes of it, and the place of an entry.
 #![tactic(auto)]
 
 mod failing;

@@ -32,7 +32,8 @@ pub fn names(alloc: Global, place: &str) -> Result<Items<Text>, AllocError>
     Ok(names)
 }
 
-/// The last name of a place, where it has one. It takes no memory, and looks at the place from its end.
+/// The last name of a place, where it has one. It takes no memory, and looks at the place from its
+/// end.
 pub fn last_name(place: &str) -> Option<&str>
     ensures { option_map (λ n. n.now) result ≡ last_or None (names_of place.entry.now) }
 {

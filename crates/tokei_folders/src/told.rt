@@ -259,14 +259,16 @@ impl ToldTree {
 
     /// Whether a folder can be added at a place: there and above stands no file.
     pub fn takes_folder(&self, names: &[Text]) -> bool
-        ensures { result ≡ not (below_file self.now names.now || file_stands (node_at self.now names.now)) }
+        ensures { result
+            ≡ not (below_file self.now names.now || file_stands (node_at self.now names.now)) }
     {
         !(self.is_below_file(names) || self.is_file(names))
     }
 
     /// Whether a file can be added at a place: nothing stands there, and no file above.
     pub fn takes_file(&self, names: &[Text]) -> bool
-        ensures { result ≡ not (below_file self.now names.now || is_some (node_at self.now names.now)) }
+        ensures { result
+            ≡ not (below_file self.now names.now || is_some (node_at self.now names.now)) }
     {
         !(self.is_below_file(names) || self.has(names))
     }

@@ -1,4 +1,5 @@
--- When a list fits a list of signs, each of which takes any number of its items or one that passes a test.
+-- When a list fits a list of signs, each of which takes any number of its items or one that passes
+-- a test.
 use Rattle.std.specs.Prelude.{◌&&◌, ◌||◌, List, [], ◌∷◌, Bool, true, false, cond}
 
 -- the test holds of the list, or of what is left of it behind some of its first items
@@ -22,7 +23,8 @@ abbrev pub is_empty : {X : Type 0} → List X → Bool
 is_empty [] = true
 is_empty (x ∷ xs) = false
 
--- the signs take all the items in their order: a sign that spans any number of them, another one that it fits
+-- the signs take all the items in their order: a sign that spans any number of them, another one
+-- that it fits
 abbrev pub fits : {P X : Type 0} → (P → Bool) → (P → X → Bool) → List P → List X → Bool
 fits spans fits_one [] xs = is_empty xs
 fits spans fits_one (p ∷ ps) xs =

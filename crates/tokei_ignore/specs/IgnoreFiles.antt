@@ -15,7 +15,8 @@ abbrev pub without_mark : List ℕ → List ℕ
 without_mark [] = []
 without_mark (a ∷ []) = a ∷ []
 without_mark (a ∷ b ∷ []) = a ∷ b ∷ []
-without_mark (a ∷ b ∷ c ∷ rest) = if (a == 239) && (b == 187) && (c == 191) then rest else a ∷ b ∷ c ∷ rest
+without_mark (a ∷ b ∷ c ∷ rest) =
+    if (a == 239) && (b == 187) && (c == 191) then rest else a ∷ b ∷ c ∷ rest
 
 -- one carriage return belongs to the line's end
 unfoldable pub without_return : List ℕ → List ℕ
@@ -36,12 +37,15 @@ abbrev pub is_bad : Result (Option Pattern) PatternError → Bool
 is_bad (Ok o) = false
 is_bad (Err e) = true
 
+-- a line whose bytes, without a carriage return at their end, are no pattern
 unfoldable pub is_bad_line : List ℕ → Bool
 is_bad_line line = is_bad (outcome_of_line (without_return line))
 
+-- the pattern of a line as a list of one, or of none where the line has no pattern
 unfoldable pub patterns_of_line : List ℕ → List Pattern
 patterns_of_line line = patterns_in (outcome_of_line (without_return line))
 
+-- the byte ends a line
 abbrev pub is_newline : ℕ → Bool
 is_newline b = b == 10
 
@@ -54,9 +58,11 @@ abbrev pub count_bad : List (List ℕ) → ℕ
 count_bad [] = 0
 count_bad (line ∷ lines) = if is_bad_line line then count_bad lines + 1 else count_bad lines
 
+-- how many lines of an ignore file's bytes are bad
 unfoldable pub bad_lines_of : List ℕ → ℕ
 bad_lines_of bytes = count_bad (slice_split is_newline (without_mark bytes))
 
+-- the first, or the second where there is no first
 abbrev pub or_else : {X : Type 0} → Option X → Option X → Option X
 or_else (Some x) o = Some x
 or_else None o = o
@@ -69,4 +75,5 @@ verdict_of p = if p.negated then Keep else Ignore
 unfoldable pub last_fitting : List Pattern → List (List ℕ) → Bool → Option Verdict
 last_fitting [] names folder = None
 last_fitting (p ∷ ps) names folder =
-    or_else (last_fitting ps names folder) (if fits_entry p names folder then Some (verdict_of p) else None)
+    or_else (last_fitting ps names folder)
+    (if fits_entry p names folder then Some (verdict_of p) else None)

@@ -21,13 +21,16 @@ is_double_star (c ∷ d ∷ e ∷ cs) = false
 
 -- what stands between two slashes: `**`, or the pieces of one name
 unfoldable pub segment_of : List ℕ → Result Segment PatternError
-segment_of cs = if is_double_star cs then Ok AnyNames else and_then (pieces_of cs) (λ ps. Ok (Name ps))
+segment_of cs =
+    if is_double_star cs then Ok AnyNames else and_then (pieces_of cs) (λ ps. Ok (Name ps))
 
 -- the segments of the parts, behind those that are read
 unfoldable pub segments_from : List Segment → List (List ℕ) → Result (List Segment) PatternError
 segments_from read [] = Ok read
-segments_from read (part ∷ parts) = and_then (segment_of part) (λ s. segments_from (read ++ s ∷ []) parts)
+segments_from read (part ∷ parts) =
+    and_then (segment_of part) (λ s. segments_from (read ++ s ∷ []) parts)
 
+-- the last segment spans any number of names
 abbrev pub ends_in_names : List Segment → Bool
 ends_in_names [] = false
 ends_in_names (s ∷ []) = spans_names s
@@ -37,26 +40,33 @@ ends_in_names (s ∷ t ∷ ss) = ends_in_names (t ∷ ss)
 unfoldable pub closed : List Segment → List Segment
 closed ss = if ends_in_names ss then ss ++ Name (AnyRun ∷ []) ∷ [] else ss
 
+-- the character is a slash
 abbrev pub is_slash : ℕ → Bool
 is_slash c = c == 47
 
--- what is left is cut at its slashes; where no slash anchors it, any number of names may stand in front
+-- what is left is cut at its slashes; where no slash anchors it, any number of names may stand in
+-- front
 unfoldable pub unanchored : Bool → List ℕ → List Segment
 unanchored anchored cs = if anchored || list_any is_slash cs then [] else AnyNames ∷ []
 
+-- the pattern of what is left: none of nothing, else its segments, cut at the slashes
 unfoldable pub from_rest : Bool → Bool → Bool → List ℕ → Result (Option Pattern) PatternError
 from_rest negated folders_only anchored cs =
     if is_empty cs then Ok None
     else and_then (segments_from (unanchored anchored cs) (slice_split is_slash cs))
-    (λ ss. Ok (Some (record { negated = negated; folders_only = folders_only; segments = closed ss })))
+    (λ ss. Ok
+    (Some (record { negated = negated; folders_only = folders_only; segments = closed ss })))
 
 -- one slash at the front anchors and is taken away
 unfoldable pub from_front : Bool → Bool → List ℕ → Result (Option Pattern) PatternError
-from_front negated folders_only cs = from_rest negated folders_only (begins_with 47 cs) (if begins_with 47 cs then without_first cs else cs)
+from_front negated folders_only cs =
+    from_rest negated folders_only (begins_with 47 cs)
+    (if begins_with 47 cs then without_first cs else cs)
 
 -- one slash at the end means folders only and is taken away
 unfoldable pub from_end : Bool → List ℕ → Result (Option Pattern) PatternError
-from_end negated cs = from_front negated (ends_in 47 cs) (if ends_in 47 cs then without_last cs else cs)
+from_end negated cs =
+    from_front negated (ends_in 47 cs) (if ends_in 47 cs then without_last cs else cs)
 
 -- an empty line, or one that begins with `#`, is none; a `!` at the front negates and is taken away
 unfoldable pub from_line : List ℕ → Result (Option Pattern) PatternError

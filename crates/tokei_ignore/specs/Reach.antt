@@ -9,11 +9,14 @@ use Rattle.tokei_ignore.specs.declared.matching.PathReach.{PathReach}
 use Rattle.tokei_ignore.specs.declared.matching.PathReach.TheVariants as in_path
 use Rattle.tokei_ignore.specs.Segments.{spans_characters, fits_character, spans_names, fits_name}
 
+-- the signs don't fit, or fit the whole list, or fit up to a sign that spans; signs and items are
+-- left
 pub data Reach (P X : Type 0) : Type 0 where
   fails : Reach P X
   done : Reach P X
   at_span : List P → List X → Reach P X
 
+-- behind the last sign: nothing may be left of the list
 abbrev pub ended : {P X : Type 0} → List X → Reach P X
 ended [] = done
 ended (x ∷ xs) = fails
@@ -23,21 +26,27 @@ abbrev pub onward : {P X : Type 0} → (X → Bool) → (List X → Reach P X) �
 onward test next [] = fails
 onward test next (x ∷ xs) = cond (test x) (next xs) fails
 
+-- how far the signs fit the list, by which signs span and which item fits each of the others
 abbrev pub reach : {P X : Type 0} → (P → Bool) → (P → X → Bool) → List P → List X → Reach P X
 reach spans fits_one [] xs = ended xs
-reach spans fits_one (p ∷ ps) xs = cond (spans p) (at_span ps xs) (onward (fits_one p) (reach spans fits_one ps) xs)
+reach spans fits_one (p ∷ ps) xs =
+    cond (spans p) (at_span ps xs) (onward (fits_one p) (reach spans fits_one ps) xs)
 
+-- how far pieces fit the characters of a name
 abbrev pub name_reach : List Piece → List ℕ → Reach Piece ℕ
 name_reach = reach spans_characters fits_character
 
+-- how far segments fit the names of a path
 abbrev pub path_reach : List Segment → List (List ℕ) → Reach Segment (List ℕ)
 path_reach = reach spans_names fits_name
 
+-- the code's reach in a name, with the characters that are left
 abbrev pub name_reach_view : NameReach → Reach Piece ℕ
 name_reach_view in_name.Fails = fails
 name_reach_view in_name.Done = done
 name_reach_view (in_name.AtSpan ps rest) = at_span ps.now (chars rest.now)
 
+-- the code's reach in a path, with the names that are left
 abbrev pub path_reach_view : PathReach → Reach Segment (List ℕ)
 path_reach_view in_path.Fails = fails
 path_reach_view in_path.Done = done

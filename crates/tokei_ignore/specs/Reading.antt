@@ -15,7 +15,8 @@ after_piece r p = record r { pieces = r.pieces ++ p ∷ []; place = Outside }
 
 -- a class of the members so far is read
 abbrev pub after_class : Reading → Bool → Reading
-after_class r turned = record r { pieces = r.pieces ++ Class turned r.ranges ∷ []; ranges = []; place = Outside }
+after_class r turned =
+    record r { pieces = r.pieces ++ Class turned r.ranges ∷ []; ranges = []; place = Outside }
 
 -- one more range of characters is read
 abbrev pub with_range : Reading → ℕ → ℕ → Reading
@@ -36,11 +37,13 @@ outside r quoted c =
 
 -- a member of a class is read, but for `[:`
 abbrev pub member : Reading → Bool → Bool → ℕ → Bool → Result Reading PatternError
-member r turned quoted c colon = if names_class quoted c colon then Err Bad else Ok (record r { place = Behind turned c })
+member r turned quoted c colon =
+    if names_class quoted c colon then Err Bad else Ok (record r { place = Behind turned c })
 
 -- the end of a class or its next member
 abbrev pub inside : Reading → Bool → Bool → ℕ → Bool → Result Reading PatternError
-inside r turned quoted c colon = if not quoted && (c == 93) then Ok (after_class r turned) else member r turned quoted c colon
+inside r turned quoted c colon =
+    if not quoted && (c == 93) then Ok (after_class r turned) else member r turned quoted c colon
 
 -- a mark that turns a class round, or its first member
 abbrev pub opened : Reading → Bool → ℕ → Bool → Result Reading PatternError
@@ -57,7 +60,8 @@ behind r turned low quoted c colon =
 -- the range's high end, not below its low one; before the class's end the `-` is a member
 abbrev pub dash : Reading → Bool → ℕ → Bool → ℕ → Bool → Result Reading PatternError
 dash r turned low quoted c colon =
-    if not quoted && (c == 93) then Ok (after_class (with_range (with_range r low low) 45 45) turned)
+    if not quoted && (c == 93)
+    then Ok (after_class (with_range (with_range r low low) 45 45) turned)
     else (if names_class quoted c colon || nat_lt c low then Err Bad
     else Ok (record (with_range r low c) { place = Inside turned }))
 
@@ -76,7 +80,9 @@ taken r c colon =
     if not r.quoted && (c == 92) then Ok (record r { quoted = true })
     else at_place (record r { quoted = false }) r.place r.quoted c colon
 
-abbrev pub and_then : {A B : Type 0} → Result A PatternError → (A → Result B PatternError) → Result B PatternError
+-- the next step on what was read, or the error that came first
+abbrev pub and_then : {A B : Type 0} → Result A PatternError → (A → Result B PatternError)
+    → Result B PatternError
 and_then (Ok a) f = f a
 and_then (Err e) f = Err e
 
@@ -85,6 +91,7 @@ abbrev pub read : Reading → List ℕ → Result Reading PatternError
 read r [] = Ok r
 read r (c ∷ cs) = and_then (taken r c (begins_with 58 cs)) (λ s. read s cs)
 
+-- no class of characters is open
 abbrev pub is_outside : Place → Bool
 is_outside Outside = true
 is_outside Opened = false

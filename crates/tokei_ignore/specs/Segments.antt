@@ -1,4 +1,5 @@
--- When a name fits the pieces of a segment, and when the names of a path fit the segments of a pattern.
+-- When a name fits the pieces of a segment, and when the names of a path fit the segments of a
+-- pattern.
 use Rattle.std.specs.Prelude.{ℕ, ◌==◌, ◌&&◌, List, Bool, true, false, not, nat_le, cond}
 use Rattle.std.specs.List.{list_any}
 use Rattle.std.specs.Str.{chars}
@@ -20,12 +21,14 @@ spans_characters AnyOne = false
 spans_characters (Exactly x) = false
 spans_characters (Class turned ranges) = false
 
--- `?` fits each character, a character itself, a class its members or, where it is turned, all others
+-- `?` fits each character, a character itself, a class its members or, where it is turned, all
+-- others
 abbrev pub fits_character : Piece → ℕ → Bool
 fits_character AnyRun c = false
 fits_character AnyOne c = true
 fits_character (Exactly x) c = x == c
-fits_character (Class turned ranges) c = cond turned (not (list_any (is_in_range c) ranges)) (list_any (is_in_range c) ranges)
+fits_character (Class turned ranges) c =
+    cond turned (not (list_any (is_in_range c) ranges)) (list_any (is_in_range c) ranges)
 
 -- the pieces take all the characters
 abbrev pub fits_characters : List Piece → List ℕ → Bool

@@ -11,7 +11,8 @@ abbrev pub without_spaces : List ℕ → List ℕ
 without_spaces [] = []
 without_spaces (c ∷ cs) = onto_kept c (without_spaces cs)
 
--- an odd number of backslashes ends the line, where `odd` says whether an odd number stands before it
+-- an odd number of backslashes ends the line, where `odd` says whether an odd number stands before
+-- it
 abbrev pub is_escaped : Bool → List ℕ → Bool
 is_escaped odd [] = odd
 is_escaped odd (c ∷ cs) = is_escaped (c == 92 && not odd) cs
@@ -19,5 +20,6 @@ is_escaped odd (c ∷ cs) = is_escaped (c == 92 && not odd) cs
 -- without its spaces at the end, but for one that a backslash quotes
 unfoldable pub trimmed : List ℕ → List ℕ
 trimmed cs =
-    if nat_lt (length (without_spaces cs)) (length cs) && is_escaped false (without_spaces cs) then without_spaces cs ++ 32 ∷ []
+    if nat_lt (length (without_spaces cs)) (length cs) && is_escaped false (without_spaces cs)
+    then without_spaces cs ++ 32 ∷ []
     else without_spaces cs

@@ -1,7 +1,8 @@
 -- A source or a sink of which one call alone fails.
 use Rattle.std.specs.Prelude.{ℕ, zero, suc, Option, None, Some}
 
--- how many faults it made itself, where so many calls come before the one that fails, and `None` says that it has failed
+-- how many faults it made itself, where so many calls come before the one that fails, and `None`
+-- says that it has failed
 abbrev pub own_faults : Option ℕ → ℕ
 own_faults None = 1
 own_faults (Some n) = 0

@@ -10,7 +10,8 @@ use crate::source::Source;
 use std::io;
 use std::io::{Error, ErrorKind};
 
-/// A source or a sink of which one call alone fails, and is counted; every other call is the inner one's.
+/// A source or a sink of which one call alone fails, and is counted; every other call is the inner
+/// one's.
 #[derive(Drop)]
 pub struct FailOnce<T> {
     /// What the other calls go to.
@@ -66,7 +67,8 @@ impl<S: Source> Source for FailOnce<S> {
     /// The inner source's call, save one, which takes no byte and is a fault.
     fn pull(&mut self, buffer: &mut [u8]) -> io::Result<usize>
         ensures bound { ReadsAtMost result buffer.new }
-        ensures bytes { ReadConsumes (S.remaining self.old.inner) (S.remaining self.new.inner) result buffer.new }
+        ensures bytes { ReadConsumes (S.remaining self.old.inner) (S.remaining self.new.inner)
+            result buffer.new }
         ensures left { self.new.left ≡ after_call self.old.left }
         ensures fails { self.old.left ≡ Some 0 → IsErr result }
         ensures passes { self.old.left ≡ Some 0 → self.new.inner ≡ self.old.inner }
@@ -90,7 +92,8 @@ impl<S: Sink> Sink for FailOnce<S> {
 
     /// The inner sink's call, save one, which appends nothing and is a fault.
     fn put(&mut self, bytes: &[u8]) -> io::Result<()>
-        ensures bytes { OnOk result (Appends (S.contents self.old.inner) (S.contents self.new.inner) bytes.now) }
+        ensures bytes { OnOk result
+            (Appends (S.contents self.old.inner) (S.contents self.new.inner) bytes.now) }
         ensures left { self.new.left ≡ after_call self.old.left }
         ensures fails { self.old.left ≡ Some 0 → IsErr result }
         ensures passes { self.old.left ≡ Some 0 → self.new.inner ≡ self.old.inner }

@@ -1,5 +1,5 @@
-//! What a program reads from and writes to: sources and sinks that count their faults, those over readers and writers of
-//! the standard library, and those of which one call alone fails.
+//! What a program reads from and writes to: sources and sinks that count their faults, those over
+//! readers and writers of the standard library, and those of which one call alone fails.
 #![tactic(auto)]
 
 pub mod counted;

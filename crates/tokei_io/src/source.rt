@@ -14,8 +14,8 @@ pub trait Source {
     /// How many calls were faults; the number stays at the greatest `u64`.
     ghost faults: { Self → ℕ };
 
-    /// Takes bytes off the source into the front of the buffer, and answers how many; 0 means that the source has
-    /// ended, or that the buffer has no room. A fault takes none.
+    /// Takes bytes off the source into the front of the buffer, and answers how many; 0 means that
+    /// the source has ended, or that the buffer has no room. A fault takes none.
     fn pull(&mut self, buffer: &mut [u8]) -> io::Result<usize>
         ensures bound { ReadsAtMost result buffer.new }
         ensures bytes { ReadConsumes (remaining self.old) (remaining self.new) result buffer.new }

@@ -21,7 +21,8 @@ fn copied(alloc: Global, languages: &Languages) -> Result<Languages, CountError>
     Ok(copies)
 }
 
-/// The languages of earlier runs, to which a job's own are added: a copy of each, and none where the job has none.
+/// The languages of earlier runs, to which a job's own are added: a copy of each, and none where
+/// the job has none.
 pub fn earlier_languages(alloc: Global, job: &Job) -> Result<Languages, CountError>
     ensures ok { IfOk result (λ languages. languages_of languages ≡ earlier_of job.now.earlier) }
     ensures memory { IfErr result (λ e. e ≡ CountError.Memory) }

@@ -26,7 +26,8 @@ pub struct Job {
     /// The results of earlier runs, which are added first.
     pub earlier: Option<Languages>,
     pub wanted: Wanted,
-    /// The width of the printed report, in characters; fewer than 81 mean 81, and more than 65,535 mean 65,535.
+    /// The width of the printed report, in characters; fewer than 81 mean 81, and more than 65,535
+    /// mean 65,535.
     pub columns: usize,
     /// Whether the report lists every file.
     pub files: bool,

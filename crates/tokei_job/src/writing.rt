@@ -7,12 +7,14 @@ ghost use Rattle.tokei_io.specs.Faults.{TellsFault, PassesNoFault};
 use crate::error::RunError;
 use tokei_io::Sink;
 
-/// Puts a text behind what stands in the writer. Of what was written nothing is said where the writer had a fault.
+/// Puts a text behind what stands in the writer. Of what was written nothing is said where the
+/// writer had a fault.
 pub fn put<W: Sink>(writer: &mut W, text: &[u8]) -> Result<(), RunError>
     ensures bytes { OnOk result (Appends (W.contents writer.old) (W.contents writer.new) text.now) }
     ensures fault { TellsFault W.faults writer.old writer.new result WriteFault }
     ensures no_fault { PassesNoFault W.faults writer.old writer.new result WriteFault }
-    ensures untouched { IfErr result (λ e. e ≢ WriteFault → W.contents writer.new ≡ W.contents writer.old) }
+    ensures untouched { IfErr result (λ e. e ≢ WriteFault
+        → W.contents writer.new ≡ W.contents writer.old) }
     ensures overflow { result ≢ Err SumOverflow }
 {
     match writer.put(text) {

@@ -1,4 +1,5 @@
--- Languages as JSON data, beside their total. Languages stand under their names, and members in byte order.
+-- Languages as JSON data, beside their total. Languages stand under their names, and members in
+-- byte order.
 use Rattle.std.specs.Prelude.{ℕ, List, codes}
 use Rattle.serde_json.specs.Data.{Data, boolean, object, no_members, member, put}
 pub use Rattle.tokei_json.specs.ReportData.{count, name_of, statistics_data, blobs_data, report_data}
@@ -7,6 +8,7 @@ use Rattle.tokei_languages.specs.Summaries.{total_of}
 use Rattle.tokei_languages.specs.Values.{LanguageValue}
 use Rattle.tokei_table.specs.Row.{Row}
 
+-- a language: its counts, its children and reports, and whether it is inaccurate
 abbrev pub language_data : List Row → LanguageValue → Data
 language_data rows l = object
     (member (codes "blanks") (count l.counts.blanks)

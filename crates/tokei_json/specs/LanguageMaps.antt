@@ -1,4 +1,5 @@
--- The objects of a document whose members are languages: its own, those of children and those of blobs.
+-- The objects of a document whose members are languages: its own, those of children and those of
+-- blobs.
 use Rattle.std.specs.Prelude.{ℕ, List, Bool, true, false, ◌&&◌, ◌||◌, not, Option, None, Some, is_some, codes, bytes_eq, if◌then◌else◌}
 use Rattle.serde_json.specs.Data.{Data, array, object, Members, no_members, member}
 use Rattle.serde_json.specs.Find.{get}
@@ -31,7 +32,8 @@ knows_names rows d = true
 
 -- no language stands both by its key and by its name
 abbrev pub names_once : List Row → Data → Bool
-names_once rows (object ms) = all_names (λ k. not (has_both rows (object ms) (language_named rows k))) ms
+names_once rows (object ms) =
+    all_names (λ k. not (has_both rows (object ms) (language_named rows k))) ms
 names_once rows d = true
 
 -- the two tests of such an object
@@ -45,21 +47,27 @@ abbrev mutual
   statistics_pass test (object ms) = blobs_at_pass test ms
   statistics_pass test d = true
 
+  -- whether the first member `blobs` passes; with none they do
   pub blobs_at_pass : (Data → Bool) → Members → Bool
   blobs_at_pass test no_members = true
-  blobs_at_pass test (member k d ms) = if bytes_eq k (codes "blobs") then blobs_pass test d else blobs_at_pass test ms
+  blobs_at_pass test (member k d ms) =
+      if bytes_eq k (codes "blobs") then blobs_pass test d else blobs_at_pass test ms
 
+  -- whether an object of blobs passes, and all inside it
   pub blobs_pass : (Data → Bool) → Data → Bool
   blobs_pass test (object ms) = test (object ms) && each_passes test ms
   blobs_pass test d = true
 
+  -- whether the statistics of each member pass
   pub each_passes : (Data → Bool) → Members → Bool
   each_passes test no_members = true
   each_passes test (member k d ms) = statistics_pass test d && each_passes test ms
 
+-- whether the statistics of a report pass
 abbrev pub report_passes : (Data → Bool) → Data → Bool
 report_passes test d = absent_or (statistics_pass test) (get (codes "stats") d)
 
+-- whether the reports of a list pass
 abbrev pub reports_pass : (Data → Bool) → Data → Bool
 reports_pass test (array ds) = all_items (report_passes test) ds
 reports_pass test d = true
@@ -69,18 +77,22 @@ abbrev pub lists_pass : (Data → Bool) → Members → Bool
 lists_pass test no_members = true
 lists_pass test (member k d ms) = reports_pass test d && lists_pass test ms
 
+-- whether an object of children passes, and the lists in it
 abbrev pub children_pass : (Data → Bool) → Data → Bool
 children_pass test (object ms) = test (object ms) && lists_pass test ms
 children_pass test d = true
 
+-- whether the reports and the children of a language pass
 abbrev pub language_passes : (Data → Bool) → Data → Bool
 language_passes test d =
-    absent_or (reports_pass test) (get (codes "reports") d) && absent_or (children_pass test) (get (codes "children") d)
+    absent_or (reports_pass test) (get (codes "reports") d)
+    && absent_or (children_pass test) (get (codes "children") d)
 
 -- the total isn't looked into
 abbrev pub languages_pass : (Data → Bool) → Members → Bool
 languages_pass test no_members = true
-languages_pass test (member k d ms) = (bytes_eq k (codes "Total") || language_passes test d) && languages_pass test ms
+languages_pass test (member k d ms) =
+    (bytes_eq k (codes "Total") || language_passes test d) && languages_pass test ms
 
 -- every name is that of a language, save `Total` among the document's own members
 unfoldable pub all_known : List Row → Data → Bool

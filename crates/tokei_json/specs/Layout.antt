@@ -22,21 +22,25 @@ abbrev mutual
   is_statistics (object ms) = has_counts (object ms) && blobs_stand ms
   is_statistics d = false
 
+  -- the first member `blobs` is there, and holds blobs
   pub blobs_stand : Members → Bool
   blobs_stand no_members = false
   blobs_stand (member k d ms) = if bytes_eq k (codes "blobs") then are_blobs d else blobs_stand ms
 
+  -- blobs are an object of statistics
   pub are_blobs : Data → Bool
   are_blobs (object ms) = all_statistics ms
   are_blobs d = false
 
+  -- each member is statistics
   pub all_statistics : Members → Bool
   all_statistics no_members = true
   all_statistics (member k d ms) = is_statistics d && all_statistics ms
 
 -- a report has a name and statistics
 abbrev pub is_report : Data → Bool
-is_report d = stands_and is_text (get (codes "name") d) && stands_and is_statistics (get (codes "stats") d)
+is_report d =
+    stands_and is_text (get (codes "name") d) && stands_and is_statistics (get (codes "stats") d)
 
 -- a list of reports
 abbrev pub are_reports : Data → Bool

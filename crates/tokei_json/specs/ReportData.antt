@@ -1,4 +1,5 @@
--- Statistics and reports as JSON data. Languages stand under their names, and members in byte order.
+-- Statistics and reports as JSON data. Languages stand under their names, and members in byte
+-- order.
 use Rattle.std.specs.Prelude.{ℕ, List, [], ◌∷◌, codes, map}
 use Rattle.serde_json.specs.Data.{Data, unsigned, number, string, array, object, Members, no_members, member, put}
 use Rattle.serde_json.specs.View.{items_of}
@@ -9,6 +10,7 @@ use Rattle.tokei_stats.specs.Statistics.Blobs.{none, blob}
 use Rattle.tokei_table.specs.Row.{Row}
 use Rattle.tokei_table.specs.Lookups.{row_at}
 
+-- a count as a number
 abbrev pub count : ℕ → Data
 count n = number (unsigned n)
 
@@ -25,10 +27,13 @@ abbrev mutual
       (member (codes "code") (count n.code)
       (member (codes "comments") (count n.comments) no_members))))
 
+  -- the members, and then one for each blob, under the name of its language
   pub blobs_data : List Row → Blobs → Members → Members
   blobs_data rows none ms = ms
-  blobs_data rows (blob k t rest) ms = blobs_data rows rest (put (name_of rows k) (statistics_data rows t) ms)
+  blobs_data rows (blob k t rest) ms =
+      blobs_data rows rest (put (name_of rows k) (statistics_data rows t) ms)
 
+-- a report: its name and its statistics
 abbrev pub report_data : List Row → ReportValue → Data
 report_data rows r = object
     (member (codes "name") (string r.name)
@@ -47,4 +52,5 @@ reports_data rows rs = array (items_of (map (report_data rows) rs))
 -- the members, and then one for each entry, under the name of its language
 abbrev pub named_data : {S : Type 0} → List Row → (S → Data) → List (ℕ × S) → Members → Members
 named_data rows value_of [] ms = ms
-named_data rows value_of (e ∷ es) ms = named_data rows value_of es (put (name_of rows e.0) (value_of e.1) ms)
+named_data rows value_of (e ∷ es) ms =
+    named_data rows value_of es (put (name_of rows e.0) (value_of e.1) ms)

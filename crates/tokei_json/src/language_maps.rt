@@ -1,4 +1,5 @@
-//! Whether each object of a document whose members are languages names known languages, and each of them once.
+//! Whether each object of a document whose members are languages names known languages, and each of
+//! them once.
 ghost use Rattle.std.specs.Prelude.{◌≡◌, ◌||◌, bytes_eq, codes, is_some, not};
 ghost use Rattle.serde_json.specs.View.{view, items_view, members_view};
 ghost use Rattle.tokei_table.specs.Layout.{all_items};
@@ -33,7 +34,8 @@ fn has_both(table: &NamedTable, value: &Value, name: &str) -> bool
 }
 
 fn all_are_known(table: &NamedTable, members: &Map<String, Value>) -> bool
-    ensures { result ≡ all_names (λ k. is_some (language_named table.now k)) (members_view members.now.entries) }
+    ensures { result
+        ≡ all_names (λ k. is_some (language_named table.now k)) (members_view members.now.entries) }
 {
     for (name, _) in members.iter() {
         if table.language(name.as_str()).is_none() {
@@ -54,7 +56,8 @@ fn knows_names(table: &NamedTable, value: &Value) -> bool
 
 /// Whether none of the members' languages stands in the value by its key and by its name.
 fn none_has_both(table: &NamedTable, value: &Value, members: &Map<String, Value>) -> bool
-    ensures { result ≡ all_names (λ k. not (has_both table.now (view value.now) (language_named table.now k)))
+    ensures { result
+        ≡ all_names (λ k. not (has_both table.now (view value.now) (language_named table.now k)))
         (members_view members.now.entries) }
 {
     for (name, _) in members.iter() {
@@ -138,7 +141,8 @@ fn report_passes(table: &NamedTable, test: MapTest, value: &Value) -> bool
 }
 
 fn all_items_pass(table: &NamedTable, test: MapTest, items: &Vec<Value>) -> bool
-    ensures { result ≡ all_items (report_passes (passes table.now test)) (items_view items.now.items) }
+    ensures { result
+        ≡ all_items (report_passes (passes table.now test)) (items_view items.now.items) }
 {
     for item in items {
         if !report_passes(table, test, item) {
@@ -203,7 +207,8 @@ fn languages_pass(table: &NamedTable, test: MapTest, members: &Map<String, Value
 }
 
 fn knows_languages(table: &NamedTable, members: &Map<String, Value>) -> bool
-    ensures { result ≡ all_names (λ k. bytes_eq k (codes "Total") || is_some (language_named table.now k))
+    ensures { result
+        ≡ all_names (λ k. bytes_eq k (codes "Total") || is_some (language_named table.now k))
         (members_view members.now.entries) }
 {
     for (name, _) in members.iter() {

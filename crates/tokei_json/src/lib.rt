@@ -1,5 +1,5 @@
-//! Languages, statistics and reports as JSON: the document of a run, a file's report as a line of a stream, and which JSON
-//! values are documents.
+//! Languages, statistics and reports as JSON: the document of a run, a file's report as a line of a
+//! stream, and which JSON values are documents.
 #![tactic(auto)]
 
 pub mod language_maps;

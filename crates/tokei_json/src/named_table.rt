@@ -77,7 +77,8 @@ impl<'a> NamedTable<'a> {
         self.table
     }
 
-    /// The language whose key or name this is. It takes a walk over the table only where there is none.
+    /// The language whose key or name this is. It takes a walk over the table only where there is
+    /// none.
     pub fn language(&self, name: &str) -> Option<LanguageType>
         ensures value { result ≡ language_named self.now name.now }
         ensures of_table { IfSome result (λ l. l < length self.now) }

@@ -82,14 +82,16 @@ pub fn reports_value(
     Ok(Value::Array(items))
 }
 
-/// The reports of each language, by its name, with members in byte order. Out of memory is the only refusal.
+/// The reports of each language, by its name, with members in byte order. Out of memory is the only
+/// refusal.
 pub fn children_value(
     alloc: Global,
     table: &LanguageTable,
     children: &BTreeMap<LanguageType, Vec<Report>>,
 ) -> Result<Map<String, Value>, AllocError>
     ensures { IfOk result (λ m. members_view m.entries
-        ≡ named_data table.now (reports_data table.now) (children_of children.now.entries) no_members) }
+        ≡ named_data table.now (reports_data table.now) (children_of children.now.entries)
+        no_members) }
 {
     let mut members = Map::new(alloc);
     for (language, reports) in children.iter() {
@@ -114,8 +116,8 @@ fn line_value(
     json!(in alloc; {"language": name, "stats": stats})
 }
 
-/// A file's report beside the name of its language, as one compact JSON text with no newline: a line of a stream. Out
-/// of memory is the only refusal.
+/// A file's report beside the name of its language, as one compact JSON text with no newline: a
+/// line of a stream. Out of memory is the only refusal.
 pub fn report_line(
     alloc: Global,
     table: &LanguageTable,

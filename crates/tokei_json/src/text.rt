@@ -13,14 +13,17 @@ use std::alloc::Global;
 use tokei_languages::{CountError, Languages};
 use tokei_table::LanguageTable;
 
-/// The compact text of `to_value`. `Overflow` only where a count of the total passes the greatest `usize`, or `Memory`.
+/// The compact text of `to_value`. `Overflow` only where a count of the total passes the greatest
+/// `usize`, or `Memory`.
 pub fn to_text(
     alloc: Global,
     table: &LanguageTable,
     languages: &Languages,
 ) -> Result<String, CountError>
-    ensures text { IfOk result (λ s. string_bytes s ≡ compact_text (document table.now (languages_of languages.now))) }
-    ensures reads_back { IfOk result (λ s. depth (document table.now (languages_of languages.now)) ≤ max_depth
+    ensures text { IfOk result (λ s. string_bytes s
+        ≡ compact_text (document table.now (languages_of languages.now))) }
+    ensures reads_back { IfOk result (λ s. depth (document table.now (languages_of languages.now))
+        ≤ max_depth
         → read (string_bytes s) ≡ Some (document table.now (languages_of languages.now))) }
     ensures overflow { IsErrOf result CountError.Overflow
         → ¬ CountsFit (languages_summary (languages_of languages.now)) }

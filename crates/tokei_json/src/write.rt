@@ -58,7 +58,8 @@ fn reports_by_language_value(
     languages: &Languages,
 ) -> Result<Map<String, Value>, AllocError>
     ensures { IfOk result (λ m. members_view m.entries
-        ≡ named_data table.now (reports_data table.now) (reports_by_language (languages_of languages.now)) no_members) }
+        ≡ named_data table.now (reports_data table.now)
+        (reports_by_language (languages_of languages.now)) no_members) }
 {
     let mut members = Map::new(alloc);
     for (language, value) in languages.iter() {
@@ -77,7 +78,8 @@ fn total_of_counts_value(
     counts: Sums,
 ) -> Result<Value, AllocError>
     requires { sums_of counts ≡ languages_summary (languages_of languages.now) }
-    ensures { IfOk result (λ v. view v ≡ language_data table.now (total_of (languages_of languages.now))) }
+    ensures { IfOk result (λ v. view v
+        ≡ language_data table.now (total_of (languages_of languages.now))) }
 {
     let children = Value::Object(reports_by_language_value(alloc, table, languages)?);
     json!(in alloc; {
@@ -90,13 +92,15 @@ fn total_of_counts_value(
     })
 }
 
-/// The total of the languages. `Overflow` only where one of its counts passes the greatest `usize`, or `Memory`.
+/// The total of the languages. `Overflow` only where one of its counts passes the greatest `usize`,
+/// or `Memory`.
 fn total_value(
     alloc: Global,
     table: &LanguageTable,
     languages: &Languages,
 ) -> Result<Value, CountError>
-    ensures value { IfOk result (λ v. view v ≡ language_data table.now (total_of (languages_of languages.now))) }
+    ensures value { IfOk result (λ v. view v
+        ≡ language_data table.now (total_of (languages_of languages.now))) }
     ensures overflow { IsErrOf result CountError.Overflow
         → ¬ CountsFit (languages_summary (languages_of languages.now)) }
 {
@@ -120,8 +124,9 @@ fn document_of_total(
     Ok(Value::Object(members))
 }
 
-/// The languages by name beside their total, members in byte order; a language that isn't of the table has an empty
-/// name. `Overflow` only where a count of the total passes the greatest `usize`, or `Memory`.
+/// The languages by name beside their total, members in byte order; a language that isn't of the
+/// table has an empty name. `Overflow` only where a count of the total passes the greatest `usize`,
+/// or `Memory`.
 pub fn to_value(
     alloc: Global,
     table: &LanguageTable,

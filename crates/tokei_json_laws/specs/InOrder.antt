@@ -6,6 +6,7 @@ use Rattle.std.specs.List.Sorted.{IsStrictlySortedBy}
 use Rattle.tokei_languages.specs.Values.{ReportValue, LanguageValue}
 use Rattle.tokei_stats.specs.Ordered.{IsOrdered}
 
+-- the blobs of each report stand in the table's order
 abbrev pub ReportsAreInOrder : List ReportValue → Type 0
 ReportsAreInOrder [] = ⊤
 ReportsAreInOrder (r ∷ rs) = IsOrdered r.stats × ReportsAreInOrder rs
@@ -21,6 +22,7 @@ pub record LanguageIsInOrder (l : LanguageValue) : Type 0 where
   pub lists : ListsAreInOrder l.children
   pub children : IsStrictlySortedBy nat_cmp (keys_of l.children)
 
+-- what each language holds stands in the table's order
 abbrev pub ValuesAreInOrder : List (ℕ × LanguageValue) → Type 0
 ValuesAreInOrder [] = ⊤
 ValuesAreInOrder (e ∷ es) = LanguageIsInOrder e.1 × ValuesAreInOrder es

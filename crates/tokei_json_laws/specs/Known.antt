@@ -10,14 +10,17 @@ abbrev mutual
   pub AreKnown : ℕ → Statistics → Type 0
   AreKnown n (node c bs) = BlobsAreKnown n bs
 
+  -- each language of the blobs is one of the first n, at every depth
   pub BlobsAreKnown : ℕ → Blobs → Type 0
   BlobsAreKnown n none = ⊤
   BlobsAreKnown n (blob k t rest) = (k < n) × (AreKnown n t × BlobsAreKnown n rest)
 
+-- each language in the reports is one of the first n
 abbrev pub ReportsAreKnown : ℕ → List ReportValue → Type 0
 ReportsAreKnown n [] = ⊤
 ReportsAreKnown n (r ∷ rs) = AreKnown n r.stats × ReportsAreKnown n rs
 
+-- each child's language is one of the first n, and so are those in its reports
 abbrev pub ChildrenAreKnown : ℕ → List (ℕ × List ReportValue) → Type 0
 ChildrenAreKnown n [] = ⊤
 ChildrenAreKnown n (e ∷ es) = (e.0 < n) × (ReportsAreKnown n e.1 × ChildrenAreKnown n es)
@@ -25,4 +28,6 @@ ChildrenAreKnown n (e ∷ es) = (e.0 < n) × (ReportsAreKnown n e.1 × ChildrenA
 -- each language is one of the first n, and so are those inside it
 abbrev pub LanguagesAreKnown : ℕ → List (ℕ × LanguageValue) → Type 0
 LanguagesAreKnown n [] = ⊤
-LanguagesAreKnown n (e ∷ es) = (e.0 < n) × (ReportsAreKnown n e.1.reports × (ChildrenAreKnown n e.1.children × LanguagesAreKnown n es))
+LanguagesAreKnown n (e ∷ es) =
+    (e.0 < n)
+    × (ReportsAreKnown n e.1.reports × (ChildrenAreKnown n e.1.children × LanguagesAreKnown n es))

@@ -1,4 +1,5 @@
-//! The law of documents, as the contract of a function that does nothing, and languages that are written and read back.
+//! The law of documents, as the contract of a function that does nothing, and languages that are
+//! written and read back.
 ghost use Rattle.std.specs.Prelude.{◌≡◌, ◌≢◌, length, IfErr, IfOk};
 ghost use Rattle.std.specs.List.Sorted.{IsStrictlySortedBy};
 ghost use Rattle.std.specs.Map.{keys_of};
@@ -59,7 +60,8 @@ pub fn languages_are_in_order(languages: &Languages)
     }
 }
 
-/// Writes languages of the table as a value and reads it: they are the same. Refused for `Overflow` or `Memory` alone.
+/// Writes languages of the table as a value and reads it: they are the same. Refused for `Overflow`
+/// or `Memory` alone.
 pub fn written_and_read(
     alloc: Global,
     table: &LanguageTable,
@@ -78,8 +80,8 @@ pub fn written_and_read(
     }
 }
 
-/// Prints languages of the table, in which no statistics hold more than 60 levels of blobs, and reads the text: they are
-/// the same. Refused for `Overflow` or `Memory` alone.
+/// Prints languages of the table, in which no statistics hold more than 60 levels of blobs, and
+/// reads the text: they are the same. Refused for `Overflow` or `Memory` alone.
 pub fn printed_and_read(
     alloc: Global,
     table: &LanguageTable,

@@ -13,17 +13,21 @@ with_file s None = marked s
 with_file s (Some r) = with_report s r
 
 -- the languages with these files more, each under its language
-abbrev pub with_files : List (ℕ × LanguageValue) → List (ℕ × Option ReportValue) → List (ℕ × LanguageValue)
+abbrev pub with_files : List (ℕ × LanguageValue) → List (ℕ × Option ReportValue)
+    → List (ℕ × LanguageValue)
 with_files es [] = es
-with_files es (f ∷ fs) = with_files (put_at (λ s. with_file s f.1) (with_file empty_language f.1) es f.0) fs
+with_files es (f ∷ fs) =
+    with_files (put_at (λ s. with_file s f.1) (with_file empty_language f.1) es f.0) fs
 
 -- how many reports of a language pass a test
 abbrev pub passing_reports : ℕ → (ReportValue → Bool) → List (ℕ × LanguageValue) → ℕ
 passing_reports k test [] = 0
-passing_reports k test (e ∷ es) = (if k == e.0 then count_by test e.1.reports else 0) + passing_reports k test es
+passing_reports k test (e ∷ es) =
+    (if k == e.0 then count_by test e.1.reports else 0) + passing_reports k test es
 
 -- equal totals, and the same reports of each language, whatever their order
 pub record DifferInOrderAlone (es fs : List (ℕ × LanguageValue)) : Type 0 where
   pub totals : languages_summary (renewed_languages es) ≡ languages_summary (renewed_languages fs)
   pub marks : any_inaccurate es ≡ any_inaccurate fs
-  pub reports : (k : ℕ) (test : ReportValue → Bool) → passing_reports k test es ≡ passing_reports k test fs
+  pub reports : (k : ℕ) (test : ReportValue → Bool)
+      → passing_reports k test es ≡ passing_reports k test fs

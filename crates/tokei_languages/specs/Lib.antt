@@ -1,4 +1,5 @@
--- What contracts say of the languages that were counted: how they are added, renewed, summarised and sorted, and laws.
+-- What contracts say of the languages that were counted: how they are added, renewed, summarised
+-- and sorted, and laws.
 pub mod AnyOrder
 pub mod Laws
 pub mod Maps

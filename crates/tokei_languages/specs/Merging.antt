@@ -7,15 +7,18 @@ use Rattle.tokei_languages.specs.Maps.{merged}
 use Rattle.tokei_languages.specs.Values.{ReportValue, LanguageValue, language_at}
 
 -- the reports of either, by language, the left one's first
-abbrev pub appended : List (ℕ × List ReportValue) → List (ℕ × List ReportValue) → List (ℕ × List ReportValue)
+abbrev pub appended : List (ℕ × List ReportValue) → List (ℕ × List ReportValue)
+    → List (ℕ × List ReportValue)
 appended a b = merged (λ rs more. rs ++ more) a b
 
 -- a report of this name for each blob
 abbrev pub blob_reports : List ℕ → Blobs → List (ℕ × List ReportValue)
 blob_reports name none = []
-blob_reports name (blob k s rest) = (k, record { name = name; stats = s } ∷ []) ∷ blob_reports name rest
+blob_reports name (blob k s rest) =
+    (k, record { name = name; stats = s } ∷ []) ∷ blob_reports name rest
 
--- with one report more, and a child report for each of its blobs; the counts stay until they are renewed
+-- with one report more, and a child report for each of its blobs; the counts stay until they are
+-- renewed
 abbrev pub with_report : LanguageValue → ReportValue → LanguageValue
 with_report s r = record s {
   reports = s.reports ++ r ∷ [];
@@ -32,7 +35,8 @@ merged_language s t = record {
 }
 
 -- every language of either; one of both is added
-abbrev pub merged_languages : List (ℕ × LanguageValue) → List (ℕ × LanguageValue) → List (ℕ × LanguageValue)
+abbrev pub merged_languages : List (ℕ × LanguageValue) → List (ℕ × LanguageValue)
+    → List (ℕ × LanguageValue)
 merged_languages a b = merged merged_language a b
 
 -- the counts of a language that is there fit with those that are added

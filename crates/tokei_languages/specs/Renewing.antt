@@ -9,9 +9,11 @@ abbrev pub own_sum : List ReportValue → Counts
 own_sum [] = no_lines
 own_sum (r ∷ rs) = plus (own r.stats) (own_sum rs)
 
+-- a language whose counts are the sum of its reports' own counts
 abbrev pub renewed : LanguageValue → LanguageValue
 renewed s = record s { counts = own_sum s.reports }
 
+-- each language renewed
 abbrev pub renewed_languages : List (ℕ × LanguageValue) → List (ℕ × LanguageValue)
 renewed_languages es = map (λ e. (e.0, renewed e.1)) es
 

@@ -6,6 +6,7 @@ use Rattle.tokei_languages.specs.Values.{LanguageValue}
 use Rattle.tokei_languages.specs.declared.language.Language.{Language}
 use Rattle.tokei_languages.specs.declared.languages.Languages.{Languages}
 
+-- a language: its counts, its reports, those of its children, and whether it is inaccurate
 abbrev pub language_of : Language → LanguageValue
 language_of s = record {
   counts = record { blanks = s.blanks; code = s.code; comments = s.comments };
@@ -18,6 +19,7 @@ language_of s = record {
 abbrev pub entries_of : List (ℕ × Language) → List (ℕ × LanguageValue)
 entries_of es = map (λ e. (e.0, language_of e.1)) es
 
+-- the languages by their numbers
 abbrev pub languages_of : Languages → List (ℕ × LanguageValue)
 languages_of s = entries_of s.languages.entries
 

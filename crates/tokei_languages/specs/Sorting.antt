@@ -16,7 +16,8 @@ puts_first Code r s = nat_lt (own s.stats).code (own r.stats).code
 puts_first Files r s = is_lt (slice_cmp nat_cmp r.name s.name)
 puts_first Lines r s = nat_lt (lines_of (own s.stats)) (lines_of (own r.stats))
 
--- with x before the first that it stands before or ties with, where before y x says that y stands before x
+-- with x before the first that it stands before or ties with, where before y x says that y stands
+-- before x
 abbrev pub placed : {X : Type 0} → (X → X → Bool) → X → List X → List X
 placed before x [] = x ∷ []
 placed before x (y ∷ ys) = if before y x then (y ∷ placed before x ys) else (x ∷ y ∷ ys)
@@ -26,7 +27,8 @@ abbrev pub stably_sorted : {X : Type 0} → (X → X → Bool) → List X → Li
 stably_sorted before [] = []
 stably_sorted before (x ∷ xs) = placed before x (stably_sorted before xs)
 
--- ys has the elements of xs, none stands behind one that it goes before, and those that tie stay in their order
+-- ys has the elements of xs, none stands behind one that it goes before, and those that tie stay in
+-- their order
 pub record IsStableSort {X : Type 0} (before : X → X → Bool) (xs ys : List X) : Type 0 where
   pub permutation : IsPermutation xs ys
   pub sorted : IsSortedBy before ys

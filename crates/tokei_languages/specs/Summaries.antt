@@ -26,7 +26,8 @@ any_inaccurate (e ∷ es) = e.1.inaccurate || any_inaccurate es
 abbrev pub reports_by_language : List (ℕ × LanguageValue) → List (ℕ × List ReportValue)
 reports_by_language es = map (λ e. (e.0, e.1.reports)) es
 
--- all languages in one: the summaries added up, the reports by language as children, the marks joined
+-- all languages in one: the summaries added up, the reports by language as children, the marks
+-- joined
 abbrev pub total_of : List (ℕ × LanguageValue) → LanguageValue
 total_of es = record {
   counts = languages_summary es;

@@ -9,10 +9,12 @@ abbrev pub first : Option ℕ → Option (List ReportValue → List ReportValue)
 first before = option_map (λ n. take n) before
 
 -- the lists as they were before these grew, the last of them taken back first
-abbrev pub all_taken_back : List (ℕ × List ReportValue) → List (ℕ × Option ℕ) → List (ℕ × List ReportValue)
+abbrev pub all_taken_back : List (ℕ × List ReportValue) → List (ℕ × Option ℕ)
+    → List (ℕ × List ReportValue)
 all_taken_back es [] = es
 all_taken_back es (b ∷ bs) = taken_back (first b.1) (all_taken_back es bs) b.0
 
+-- the language with the counts it had, and its reports and children cut to what they were
 abbrev pub restored : Before → LanguageValue → LanguageValue
 restored b s = record {
   counts = record { blanks = b.blanks; code = b.code; comments = b.comments };

@@ -7,13 +7,15 @@ use Rattle.std.specs.Map.{keys_of, lookup}
 use Rattle.tokei_stats.specs.Statistics.{Counts, no_lines}
 pub use Rattle.tokei_stats.specs.Reports.{ReportValue}
 
--- a language: its counts, its files' reports, those of each language inside, and whether a file couldn't be read
+-- a language: its counts, its files' reports, those of each language inside, and whether a file
+-- couldn't be read
 pub record LanguageValue : Type 0 where
   pub counts : Counts
   pub reports : List ReportValue
   pub children : List (ℕ × List ReportValue)
   pub inaccurate : Bool
 
+-- a language of which nothing was counted
 abbrev pub empty_language : LanguageValue
 empty_language = record { counts = no_lines; reports = []; children = []; inaccurate = false }
 

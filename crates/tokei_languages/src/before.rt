@@ -4,8 +4,8 @@ use crate::language::Language;
 use tokei_stats::CountError;
 use tokei_table::LanguageType;
 
-/// What takes a language back to what it was before another was added: its counts, how many reports it had, and how
-/// many of each language inside.
+/// What takes a language back to what it was before another was added: its counts, how many reports
+/// it had, and how many of each language inside.
 #[derive(Drop)]
 pub(crate) struct Before {
     pub(crate) blanks: usize,

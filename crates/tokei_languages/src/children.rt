@@ -10,8 +10,8 @@ use std::collections::BTreeMap;
 use tokei_stats::{CountError, Report};
 use tokei_table::LanguageType;
 
-/// Appends the reports to those of the language. The answer is how many stood there, or none where the language is new:
-/// it is what `take_back` needs.
+/// Appends the reports to those of the language. The answer is how many stood there, or none where
+/// the language is new: it is what `take_back` needs.
 fn append_at(
     children: &mut BTreeMap<LanguageType, Vec<Report>>,
     language: LanguageType,
@@ -70,7 +70,8 @@ pub(crate) fn take_all_back(
     }
 }
 
-/// Appends the reports of each language. A refusal changes nothing. The answer is what `take_all_back` needs.
+/// Appends the reports of each language. A refusal changes nothing. The answer is what
+/// `take_all_back` needs.
 pub(crate) fn append(
     alloc: Global,
     children: &mut BTreeMap<LanguageType, Vec<Report>>,

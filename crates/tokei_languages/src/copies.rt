@@ -27,7 +27,8 @@ pub(crate) fn copy_at(
     reports: &[Report],
 ) -> Result<(), CountError>
     ensures ok { OnOk result (children_of copies.new.entries
-        ≡ insert_entry nat_cmp (children_of copies.old.entries) language (map report_of reports.now)) }
+        ≡ insert_entry nat_cmp (children_of copies.old.entries) language
+        (map report_of reports.now)) }
     ensures memory { IfErr result (λ e. e ≡ CountError.Memory) }
 {
     let copy = copied_reports(alloc, reports)?;

@@ -8,8 +8,8 @@ use std::fmt;
 use tokei_stats::{CountError, Report, Sums};
 use tokei_table::LanguageType;
 
-/// How many lines of a language are blank, code and comments, the reports of its files, and those of the texts of other
-/// languages inside its files.
+/// How many lines of a language are blank, code and comments, the reports of its files, and those
+/// of the texts of other languages inside its files.
 #[derive(PartialEq, Drop)]
 pub struct Language {
     pub blanks: usize,
@@ -17,7 +17,8 @@ pub struct Language {
     pub comments: usize,
     /// One for each file, in the order in which they were added, or were sorted.
     pub reports: Vec<Report>,
-    /// By the language inside: a report, under the file's name, for each file that holds texts of it.
+    /// By the language inside: a report, under the file's name, for each file that holds texts of
+    /// it.
     pub children: BTreeMap<LanguageType, Vec<Report>>,
     /// Whether a file of the language couldn't be read.
     pub inaccurate: bool,
@@ -80,7 +81,8 @@ impl Language {
         self.blanks == 0 && self.code == 0 && self.comments == 0 && self.children.is_empty()
     }
 
-    /// The sum of the three counts; refused with `Overflow` exactly where it passes the greatest `usize`.
+    /// The sum of the three counts; refused with `Overflow` exactly where it passes the greatest
+    /// `usize`.
     pub fn lines(&self) -> Result<usize, CountError>
         ensures sum { IfOk result (λ n. n ≡ lines_of (language_of self.now).counts) }
         ensures past { OnErr result (usize.MAX < lines_of (language_of self.now).counts) }
@@ -119,8 +121,9 @@ impl Language {
         self.comments = counts.comments;
     }
 
-    /// Puts the report behind the others, and one of the same name for each of its blobs behind those of the blob's
-    /// language; the counts stay until `total` renews them. A refusal, only when out of memory, changes nothing.
+    /// Puts the report behind the others, and one of the same name for each of its blobs behind
+    /// those of the blob's language; the counts stay until `total` renews them. A refusal, only
+    /// when out of memory, changes nothing.
     pub fn add_report(&mut self, report: Report) -> Result<(), CountError>
         ensures ok { OnOk result
             (language_of self.new ≡ with_report (language_of self.old) (report_of report)) }
@@ -134,8 +137,9 @@ impl Language {
         Ok(())
     }
 
-    /// Adds the counts, puts the other's reports behind these, and joins the marks. `Overflow` exactly where a sum of
-    /// two counts passes the greatest `usize`, or `Memory`; a refusal changes nothing.
+    /// Adds the counts, puts the other's reports behind these, and joins the marks. `Overflow`
+    /// exactly where a sum of two counts passes the greatest `usize`, or `Memory`; a refusal
+    /// changes nothing.
     pub fn add(&mut self, other: Language) -> Result<(), CountError>
         ensures ok { OnOk result
             (language_of self.new ≡ merged_language (language_of self.old) (language_of other)) }
@@ -151,8 +155,8 @@ impl Language {
         Ok(())
     }
 
-    /// Renews the counts: they become the sums of the reports' own counts. `Overflow` exactly where one of these passes
-    /// the greatest `usize`, which changes nothing.
+    /// Renews the counts: they become the sums of the reports' own counts. `Overflow` exactly where
+    /// one of these passes the greatest `usize`, which changes nothing.
     pub fn total(&mut self) -> Result<(), CountError>
         ensures ok { OnOk result (language_of self.new ≡ renewed (language_of self.old)) }
         ensures fits { OnOk result (CountsFit (own_sum (language_of self.old).reports)) }
@@ -165,8 +169,8 @@ impl Language {
         Ok(())
     }
 
-    /// The counts with those of the texts inside: the counts of `summarise`, without its memory. `Overflow` exactly
-    /// where one of the three passes the greatest `usize`.
+    /// The counts with those of the texts inside: the counts of `summarise`, without its memory.
+    /// `Overflow` exactly where one of the three passes the greatest `usize`.
     pub fn summary_counts(&self) -> Result<Sums, CountError>
         ensures sum { IfOk result (λ n. sums_of n ≡ language_summary (language_of self.now)) }
         ensures past { OnErr result (¬ CountsFit (language_summary (language_of self.now))) }
@@ -175,8 +179,9 @@ impl Language {
         add_children(self.counts(), &self.children)
     }
 
-    /// A copy without children, whose counts have taken in the summaries of all child reports; reports and mark stay.
-    /// `Overflow` exactly where a count passes the greatest `usize`, or `Memory`.
+    /// A copy without children, whose counts have taken in the summaries of all child reports;
+    /// reports and mark stay. `Overflow` exactly where a count passes the greatest `usize`, or
+    /// `Memory`.
     pub fn summarise(&self) -> Result<Language, CountError>
         ensures ok { IfOk result (λ summary.
             language_of summary ≡ summarised (language_of self.now)) }
@@ -198,7 +203,8 @@ impl Language {
         })
     }
 
-    /// A copy, equal by `==`, which differs from a clone in that it may be refused when out of memory.
+    /// A copy, equal by `==`, which differs from a clone in that it may be refused when out of
+    /// memory.
     pub fn try_clone(&self) -> Result<Language, CountError>
         ensures ok { IfOk result (λ copy. language_of copy ≡ language_of self.now) }
         ensures equal { IfOk result (λ copy. IsTrue (⟦<Language as PartialEq>⟧.eq copy self.now)) }

@@ -73,7 +73,8 @@ impl Languages {
         self.languages.iter()
     }
 
-    /// Puts what was counted of the language, and answers what stood there. A refusal changes nothing.
+    /// Puts what was counted of the language, and answers what stood there. A refusal changes
+    /// nothing.
     pub fn insert(
         &mut self,
         language: LanguageType,
@@ -89,8 +90,8 @@ impl Languages {
         Ok(self.languages.insert(language, value)?)
     }
 
-    /// Adds the report to the language, which is put there where it is missing. A refusal, only when out of memory,
-    /// changes nothing.
+    /// Adds the report to the language, which is put there where it is missing. A refusal, only
+    /// when out of memory, changes nothing.
     pub fn add_report(&mut self, language: LanguageType, report: Report) -> Result<(), CountError>
         ensures ok { OnOk result (languages_of self.new
             ≡ put_at (λ s. with_report s (report_of report))
@@ -107,8 +108,8 @@ impl Languages {
         Ok(())
     }
 
-    /// Marks the language, which is put there where it is missing, as counted without all of its files. A refusal,
-    /// only when out of memory, changes nothing.
+    /// Marks the language, which is put there where it is missing, as counted without all of its
+    /// files. A refusal, only when out of memory, changes nothing.
     pub fn mark_inaccurate(&mut self, language: LanguageType) -> Result<(), CountError>
         ensures ok { OnOk result (languages_of self.new
             ≡ put_at marked (marked empty_language) (languages_of self.old) language) }
@@ -125,8 +126,8 @@ impl Languages {
         Ok(())
     }
 
-    /// Adds every language of the other. `Overflow` only where a sum of two counts passes the greatest `usize`, or
-    /// `Memory`; a refusal changes nothing.
+    /// Adds every language of the other. `Overflow` only where a sum of two counts passes the
+    /// greatest `usize`, or `Memory`; a refusal changes nothing.
     pub fn add(&mut self, other: Languages) -> Result<(), CountError>
         ensures ok { OnOk result (languages_of self.new
             ≡ merged_languages (languages_of self.old) (languages_of other)) }

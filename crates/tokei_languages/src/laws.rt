@@ -34,7 +34,8 @@ pub fn equality_is_of_all_members(language: &Language, other: &Language) -> bool
     language == other
 }
 
-/// The counted languages are equal by `==` exactly where the same ones are there, with equal members.
+/// The counted languages are equal by `==` exactly where the same ones are there, with equal
+/// members.
 pub fn equality_is_of_all_languages(languages: &Languages, other: &Languages) -> bool
     ensures { IsTrue result ↔ (languages_of languages.now ≡ languages_of other.now) }
 {

@@ -1,5 +1,5 @@
-//! The languages that were counted: their counts, their files' reports, how these are added, renewed, summarised and
-//! sorted, and the laws of that.
+//! The languages that were counted: their counts, their files' reports, how these are added,
+//! renewed, summarised and sorted, and the laws of that.
 #![tactic(auto)]
 
 mod before;

@@ -12,8 +12,8 @@ use std::collections::BTreeMap;
 use tokei_stats::CountError;
 use tokei_table::LanguageType;
 
-/// Adds what was counted to that of the language. The answer is what `take_back` needs, or none where the language is
-/// new.
+/// Adds what was counted to that of the language. The answer is what `take_back` needs, or none
+/// where the language is new.
 fn add_at(
     languages: &mut BTreeMap<LanguageType, Language>,
     language: LanguageType,

@@ -39,8 +39,8 @@ impl Language {
     ghost use Rattle.tokei_languages.specs.Seen.{language_of};
     ghost use Rattle.tokei_languages.specs.Sorting.{puts_first, sorted_by, IsStableSort};
 
-    /// Sorts the reports, stably: descending by the count of the column, or by name for `Files`. A refusal, only when
-    /// out of memory, changes nothing.
+    /// Sorts the reports, stably: descending by the count of the column, or by name for `Files`. A
+    /// refusal, only when out of memory, changes nothing.
     pub fn sort_by(&mut self, sort: Sort) -> Result<(), CountError>
         ensures ok { OnOk result (language_of self.new ≡ sorted_by sort (language_of self.old)) }
         ensures stable { OnOk result (IsStableSort (puts_first sort)
@@ -62,7 +62,8 @@ fn sort_at(
     mut value: Language,
 ) -> Result<(), CountError>
     ensures ok { OnOk result (entries_of sorted.new.entries
-        ≡ insert_entry nat_cmp (entries_of sorted.old.entries) language (sorted_by sort (language_of value))) }
+        ≡ insert_entry nat_cmp (entries_of sorted.old.entries) language
+        (sorted_by sort (language_of value))) }
     ensures memory { IfErr result (λ e. e ≡ CountError.Memory) }
 {
     value.sort_by(sort)?;
@@ -81,7 +82,8 @@ impl Languages {
     ghost use Rattle.tokei_languages.specs.Seen.{languages_of};
     ghost use Rattle.tokei_languages.specs.Sorting.{sorted_languages};
 
-    /// The languages with the reports of each sorted as by `Language::sort_by`; refused only when out of memory.
+    /// The languages with the reports of each sorted as by `Language::sort_by`; refused only when
+    /// out of memory.
     pub fn with_sorted_reports(self, sort: Sort) -> Result<Languages, CountError>
         ensures ok { IfOk result (λ sorted.
             languages_of sorted ≡ sorted_languages sort (languages_of self)) }

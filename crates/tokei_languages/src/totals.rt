@@ -54,8 +54,8 @@ impl Languages {
     ghost use Rattle.tokei_languages.specs.Seen.{children_of, language_of, languages_of};
     ghost use Rattle.tokei_languages.specs.Summaries.{any_inaccurate, languages_summary, reports_by_language, total_of};
 
-    /// Renews the counts of every language: they become the sums of its reports' own counts. `Overflow` exactly where
-    /// one of these passes the greatest `usize`, which changes nothing.
+    /// Renews the counts of every language: they become the sums of its reports' own counts.
+    /// `Overflow` exactly where one of these passes the greatest `usize`, which changes nothing.
     pub fn renew_counts(&mut self) -> Result<(), CountError>
         ensures ok { OnOk result
             (languages_of self.new ≡ renewed_languages (languages_of self.old)) }
@@ -81,8 +81,8 @@ impl Languages {
         false
     }
 
-    /// The counts of all languages with those of the texts inside, added up: the counts of `total`, without its memory.
-    /// `Overflow` exactly where one of the three passes the greatest `usize`.
+    /// The counts of all languages with those of the texts inside, added up: the counts of `total`,
+    /// without its memory. `Overflow` exactly where one of the three passes the greatest `usize`.
     pub fn summary_counts(&self) -> Result<Sums, CountError>
         ensures sum { IfOk result (λ n. sums_of n ≡ languages_summary (languages_of self.now)) }
         ensures past { OnErr result (¬ CountsFit (languages_summary (languages_of self.now))) }
@@ -108,8 +108,9 @@ impl Languages {
         Ok(copies)
     }
 
-    /// All languages in one: their summaries added up, a copy of the reports of each language as children, and the
-    /// marks joined. `Overflow` exactly where a count passes the greatest `usize`, or `Memory`.
+    /// All languages in one: their summaries added up, a copy of the reports of each language as
+    /// children, and the marks joined. `Overflow` exactly where a count passes the greatest
+    /// `usize`, or `Memory`.
     pub fn total(&self) -> Result<Language, CountError>
         ensures ok { IfOk result (λ total. language_of total ≡ total_of (languages_of self.now)) }
         ensures fits { OnOk result (CountsFit (languages_summary (languages_of self.now))) }

@@ -15,7 +15,8 @@ fn words(rt: &HostRuntime) -> io::Result<Vec<String>> {
     Ok(env::args(rt)?.collect(rt.alloc())?)
 }
 
-/// The text of an environment variable; none where it isn't set or is no text. It fails where memory runs out.
+/// The text of an environment variable; none where it isn't set or is no text. It fails where
+/// memory runs out.
 fn variable(rt: &HostRuntime, name: &str) -> io::Result<Option<String>> {
     match env::var(rt, name) {
         Ok(text) => Ok(Some(text)),
@@ -33,8 +34,8 @@ fn variables(rt: &HostRuntime) -> io::Result<Env> {
     })
 }
 
-/// Writes out what is left of the output, and answers the program's status; where that fails, it says so, and answers
-/// that of a failure.
+/// Writes out what is left of the output, and answers the program's status; where that fails, it
+/// says so, and answers that of a failure.
 fn flushed<W: Write, E: Write>(status: u8, out: &mut W, err: &mut E) -> ExitCode {
     match out.flush() {
         Ok(()) => ExitCode::from(status),

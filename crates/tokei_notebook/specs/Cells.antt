@@ -16,10 +16,12 @@ pub record Cell : Type 0 where
   pub language : ℕ
   pub source : List ℕ
 
+-- a cell of the code: its language, and the bytes of its text
 abbrev pub cell_of : CodeCell → Cell
 cell_of c = record { language = c.language; source = c.source.items }
 
--- the language that the kernel names: its name is the text in any ASCII case; other values name none
+-- the language that the kernel names: its name is the text in any ASCII case; other values name
+-- none
 abbrev pub by_kernel : List Row → Option Data → Option ℕ
 by_kernel rows (Some (string t)) = first_where (has_name_in_any_case t) rows
 by_kernel rows d = None
@@ -66,6 +68,7 @@ cells_in markdown code (item d ds) =
       source = source_of (get (codes "source") d);
     } ∷ cells_in markdown code ds
 
+-- the cells of the member `cells`; where that is no list there are none
 abbrev pub cells_at : ℕ → ℕ → Option Data → List Cell
 cells_at markdown code (Some (array ds)) = cells_in markdown code ds
 cells_at markdown code d = []

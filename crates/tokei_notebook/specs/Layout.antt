@@ -27,4 +27,5 @@ has_metadata d = is_some (get (codes "kernelspec") d) && is_some (get (codes "la
 -- A notebook has cells and metadata; other members are passed over.
 unfoldable pub has_notebook_layout : Data → Bool
 has_notebook_layout d =
-    stands_and (is_list is_cell) (get (codes "cells") d) && stands_and has_metadata (get (codes "metadata") d)
+    stands_and (is_list is_cell) (get (codes "cells") d)
+    && stands_and has_metadata (get (codes "metadata") d)

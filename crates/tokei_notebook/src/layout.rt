@@ -17,7 +17,8 @@ pub(crate) fn is_markdown(member: Option<&Value>) -> bool
 }
 
 fn is_kind(member: Option<&Value>) -> bool
-    ensures { result ≡ stands_and (λ k. is_markdown k || is_code k) (option_map (λ v. view v.now) member.entry) }
+    ensures { result
+        ≡ stands_and (λ k. is_markdown k || is_code k) (option_map (λ v. view v.now) member.entry) }
 {
     match member {
         Some(Value::String(text)) => text.as_str() == "markdown" || text.as_str() == "code",

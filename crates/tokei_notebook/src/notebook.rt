@@ -87,7 +87,8 @@ fn code_language(
 ) -> LanguageType
     requires { notebook < length table.now }
     ensures known { result < length table.now }
-    ensures value { result ≡ code_language table.now notebook (option_map (λ v. view v.now) metadata.entry) }
+    ensures value { result
+        ≡ code_language table.now notebook (option_map (λ v. view v.now) metadata.entry) }
 {
     if let Some(metadata) = metadata {
         if let Some(named) = by_kernel(table, get_in(metadata, "kernelspec", "language")) {
@@ -136,7 +137,8 @@ fn cells_in(
     code: LanguageType,
     items: &Vec<Value>,
 ) -> Result<Vec<Cell>, AllocError>
-    ensures { IfOk result (λ v. map cell_of v.items ≡ cells_in markdown code (items_view items.now.items)) }
+    ensures { IfOk result (λ v. map cell_of v.items
+        ≡ cells_in markdown code (items_view items.now.items)) }
 {
     let mut cells = Vec::new(alloc);
     for item in items {
@@ -166,8 +168,8 @@ fn cells_at(
     }
 }
 
-/// The cells of a text in the table's language of notebooks, in their order; a text that is no notebook has none. It
-/// fails where memory runs out.
+/// The cells of a text in the table's language of notebooks, in their order; a text that is no
+/// notebook has none. It fails where memory runs out.
 #[tactic(auto, unfolding(crate::specs::Cells::cells_of))]
 pub fn cells(
     alloc: Global,
@@ -176,7 +178,8 @@ pub fn cells(
     text: &[u8],
 ) -> Result<Vec<Cell>, AllocError>
     requires { notebook < length table.now }
-    ensures value { IfOk result (λ v. map cell_of v.items ≡ notebook_cells table.now notebook text.now) }
+    ensures value { IfOk result (λ v. map cell_of v.items
+        ≡ notebook_cells table.now notebook text.now) }
     ensures known { IfOk result (λ v. AreKnown (length table.now) (map cell_of v.items)) }
 {
     let value = match data(alloc, text)? {

@@ -5,6 +5,7 @@ use Rattle.tokei_options.specs.declared.streaming.Streaming.{Streaming}
 use Rattle.tokei_options.specs.declared.streaming.Streaming.TheVariants.{Simple, Json}
 use Rattle.tokei_options.specs.declared.streaming.StreamingError.{StreamingError}
 
+-- the word that names the form
 abbrev pub form_name : Streaming → List ℕ
 form_name Simple = codes "simple"
 form_name Json = codes "json"

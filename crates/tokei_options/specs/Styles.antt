@@ -4,6 +4,7 @@ use Rattle.tokei_options.specs.declared.number_format.NumberFormatStyle.{NumberF
 use Rattle.tokei_options.specs.declared.number_format.NumberFormatStyle.TheVariants.{Plain, Commas, Dots, Underscores}
 use Rattle.tokei_options.specs.declared.number_format.StyleError.{StyleError}
 
+-- the word that names the style
 abbrev pub style_name : NumberFormatStyle → List ℕ
 style_name Plain = codes "plain"
 style_name Commas = codes "commas"
@@ -16,12 +17,15 @@ ParsesStyle text r = MatchResult r
     (λ style. text ≡ style_name style)
     (λ _. (style : NumberFormatStyle) → text ≢ style_name style)
 
+-- the byte of a comma, `,`
 abbrev pub comma : ℕ
 comma = 44
 
+-- the byte of a dot, `.`
 abbrev pub dot : ℕ
 dot = 46
 
+-- the byte of an underscore, `_`
 abbrev pub underscore : ℕ
 underscore = 95
 

@@ -1,5 +1,6 @@
-//! What a caller chooses of a count and of its output: how texts are counted, by which column languages are sorted, how the
-//! digits of a number are grouped, the forms of a stream, and the widths of columns.
+//! What a caller chooses of a count and of its output: how texts are counted, by which column
+//! languages are sorted, how the digits of a number are grouped, the forms of a stream, and the
+//! widths of columns.
 #![tactic(auto)]
 
 pub mod columns;

@@ -71,7 +71,8 @@ impl NumberFormat {
 
     /// The number's digits, a separator behind each digit that a multiple of three digits follow.
     pub fn grouped(&self, alloc: Global, number: usize) -> Result<String, AllocError>
-        ensures { IfOk result (λ s. string_bytes s ≡ grouped (separator_text self.now.separator) (decimal number)) }
+        ensures { IfOk result (λ s. string_bytes s
+            ≡ grouped (separator_text self.now.separator) (decimal number)) }
     {
         let digits = format!(in alloc; "{number}")?;
         let digits = digits.as_bytes();
@@ -86,7 +87,8 @@ impl NumberFormat {
     /// Appends the separator where so many digits that follow end a group.
     fn end_group(&self, text: &mut String, behind: usize) -> Result<(), AllocError>
         ensures { OnOk result (string_bytes text.new
-            ≡ string_bytes text.old ++ (if ends_group behind then separator_text self.now.separator else [])) }
+            ≡ string_bytes text.old
+            ++ (if ends_group behind then separator_text self.now.separator else [])) }
     {
         if behind > 0 && behind % 3 == 0 {
             if let Some(separator) = self.separator {

@@ -7,7 +7,8 @@ ghost use Rattle.tokei_options.specs.Sorts.{sort_of_word};
 use std::str::FromStr;
 use thiserror::Error;
 
-/// The column by which languages and reports are sorted, in the order in which they are listed here.
+/// The column by which languages and reports are sorted, in the order in which they are listed
+/// here.
 #[derive(Clone, Copy, Debug, PartialEq, Eq, PartialOrd, Ord)]
 pub enum Sort {
     Blanks,
@@ -23,12 +24,14 @@ pub enum Sort {
 pub struct SortError;
 
 fn is_same_in_any_case(word: &str, name: &str) -> bool
-    ensures { result ≡ bytes_eq (str_to_ascii_lowercase word.now) (str_to_ascii_lowercase name.now) }
+    ensures { result
+        ≡ bytes_eq (str_to_ascii_lowercase word.now) (str_to_ascii_lowercase name.now) }
 {
     word.eq_ignore_ascii_case(name)
 }
 
-/// Reads `blanks`, `comments`, `code`, `files` or `lines`, in any ASCII case and with nothing around it.
+/// Reads `blanks`, `comments`, `code`, `files` or `lines`, in any ASCII case and with nothing
+/// around it.
 impl FromStr for Sort {
     type Err = SortError;
 

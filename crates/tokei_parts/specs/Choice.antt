@@ -10,6 +10,7 @@ use Rattle.tokei_parts.specs.declared.items.Kind.{Kind}
 use Rattle.tokei_parts.specs.declared.items.Kind.TheVariants.{DocString, VerbatimString, OrdinaryString}
 use Rattle.tokei_parts.specs.declared.items.Kind.TheVariants.{MultiLineComment}
 
+-- what is read at a place; where nothing else fits, the byte that stands there
 pub data Choice : Type 0 where
   closes : Choice
   escapes : Choice
@@ -32,7 +33,8 @@ abbrev pub or_else : {A B : Type 0} → Option A → (A → B) → B → B
 or_else None f b = b
 or_else (Some a) f b = f a
 
--- an escape is a backslash before a backslash, or before an opener of `quotes`; both are two bytes long
+-- an escape is a backslash before a backslash, or before an opener of `quotes`; both are two bytes
+-- long
 abbrev pub is_escape : Row → List ℕ → Bool
 is_escape r [] = false
 is_escape r (b ∷ t) = (b == backslash) && (begins (backslash ∷ []) t || is_some (opened r.quotes t))
@@ -41,10 +43,11 @@ is_escape r (b ∷ t) = (b == backslash) && (begins (backslash ∷ []) t || is_s
 abbrev pub has_pair : List Pair → Pair → Bool
 has_pair qs p = list_any (λ q. bytes_eq q.opener p.opener && bytes_eq q.closer p.closer) qs
 
--- A multi-line opener that is met inside a comment opens where `nested` is true or its pair is in `nested_comments`;
--- else it is passed over whole.
+-- A multi-line opener that is met inside a comment opens where `nested` is true or its pair is in
+-- `nested_comments`; else it is passed over whole.
 abbrev pub met_in_comment : Row → Pair → Choice
-met_in_comment r p = if r.nested || has_pair r.nested_comments p then opens MultiLineComment p else passes_over p
+met_in_comment r p =
+    if r.nested || has_pair r.nested_comments p then opens MultiLineComment p else passes_over p
 
 -- in a string: its closer; an escape, unless the string is verbatim; one byte
 abbrev pub choice_in_string : Row → Bool → List ℕ → List ℕ → Choice
@@ -53,7 +56,8 @@ choice_in_string r verbatim closer t =
     else if (if verbatim then false else is_escape r t) then escapes
     else takes_byte
 
--- in a comment: an escape; the innermost closer; a multi-line opener, then a nested opener; one byte
+-- in a comment: an escape; the innermost closer; a multi-line opener, then a nested opener; one
+-- byte
 abbrev pub choice_in_comment : Row → List ℕ → List ℕ → Choice
 choice_in_comment r closer t =
     if is_escape r t then escapes
@@ -61,14 +65,16 @@ choice_in_comment r closer t =
     else or_else (opened r.multi_line_comments t) (met_in_comment r) (
     or_else (opened r.nested_comments t) (opens MultiLineComment) takes_byte)
 
--- in plain text where no string opens: a multi-line comment; a nested comment; a line comment; one byte
+-- in plain text where no string opens: a multi-line comment; a nested comment; a line comment; one
+-- byte
 abbrev pub comment_in_plain : Row → List ℕ → Choice
 comment_in_plain r t =
     or_else (opened r.multi_line_comments t) (opens MultiLineComment) (
     or_else (opened r.nested_comments t) (opens MultiLineComment) (
     if any_begins r.line_comment t then begins_line_comment else takes_byte))
 
--- where no child opens and no escape stands: a doc quote; a verbatim quote; a quote; else as where no string opens
+-- where no child opens and no escape stands: a doc quote; a verbatim quote; a quote; else as where
+-- no string opens
 abbrev pub opening_in_plain : Row → List ℕ → Choice
 opening_in_plain r t =
     or_else (opened r.doc_quotes t) (opens DocString) (
@@ -77,7 +83,8 @@ opening_in_plain r t =
 
 -- in plain text: an escape; a child; else as where none of both is
 abbrev pub choice_in_plain : Row → Option Block → List ℕ → Choice
-choice_in_plain r block t = if is_escape r t then escapes else or_else block child_opens (opening_in_plain r t)
+choice_in_plain r block t =
+    if is_escape r t then escapes else or_else block child_opens (opening_in_plain r t)
 
 -- by the kind of the item that encloses the place
 abbrev pub choice_within : Row → Kind → List ℕ → List ℕ → Choice

@@ -14,22 +14,26 @@ use Rattle.tokei_parts.specs.declared.items.Kind.{Kind}
 use Rattle.tokei_parts.specs.declared.items.Kind.TheVariants.{DocString, VerbatimString, OrdinaryString}
 use Rattle.tokei_parts.specs.declared.items.Kind.TheVariants.{MultiLineComment}
 
+-- a multi-line comment
 abbrev pub is_comment : Kind → Bool
 is_comment DocString = false
 is_comment VerbatimString = false
 is_comment OrdinaryString = false
 is_comment MultiLineComment = true
 
+-- a doc string
 abbrev pub is_doc_string : Kind → Bool
 is_doc_string DocString = true
 is_doc_string VerbatimString = false
 is_doc_string OrdinaryString = false
 is_doc_string MultiLineComment = false
 
+-- in no item
 abbrev pub is_plain : Mode → Bool
 is_plain None = true
 is_plain (Some e) = false
 
+-- in a multi-line comment
 abbrev pub in_comment : Mode → Bool
 in_comment None = false
 in_comment (Some e) = is_comment e.kind
@@ -39,18 +43,22 @@ abbrev pub in_string : Mode → Bool
 in_string None = false
 in_string (Some e) = not (is_comment e.kind)
 
+-- in a doc string
 abbrev pub in_doc_string : Mode → Bool
 in_doc_string None = false
 in_doc_string (Some e) = is_doc_string e.kind
 
--- In the languages whose comments are told by their column the head is the part as it stands, else the trimmed part.
+-- In the languages whose comments are told by their column the head is the part as it stands, else
+-- the trimmed part.
 abbrev pub keeps_columns : List ℕ → Bool
 keeps_columns key = bytes_eq key (codes "FortranLegacy") || bytes_eq key (codes "FortranModern")
 
+-- the part as it stands, or trimmed
 abbrev pub head_of : Row → List ℕ → List ℕ
 head_of r t = if keeps_columns r.key then t else trim t
 
--- some pair of the list opens at the front of the text and closes at its end; opener and closer may overlap
+-- some pair of the list opens at the front of the text and closes at its end; opener and closer may
+-- overlap
 abbrev pub encloses : List Pair → List ℕ → Bool
 encloses ps t = list_any (λ p. begins p.opener t && ends p.closer t) ps
 
@@ -61,7 +69,8 @@ opens_with ps t c = list_any (λ p. begins p.opener t && bytes_eq p.closer c) ps
 -- the mode is a comment, and a pair that opens at the head closes as the innermost comment does
 abbrev pub ends_opened : Row → List ℕ → Mode → Bool
 ends_opened r head e = in_comment e
-    && (opens_with r.multi_line_comments head (closer_of e) || opens_with r.nested_comments head (closer_of e))
+    && (opens_with r.multi_line_comments head (closer_of e)
+    || opens_with r.nested_comments head (closer_of e))
 
 -- The rules, in order. `docs_are_comments` says whether doc strings are treated as comments.
 -- 1. begun plain and blank: blank
@@ -71,8 +80,10 @@ ends_opened r head e = in_comment e
 -- 5. begun in a comment, or in a doc string with `docs_are_comments`: comment
 -- 6. begun in another string: code
 -- 7. the head begins with a line comment: comment
--- 8. the trimmed part begins with a multi-line or nested opener and ends with the closer of that pair: comment
--- 9. ends in a comment, and the head begins with an opener whose closer is the innermost one: comment
+-- 8. the trimmed part begins with a multi-line or nested opener and ends with the closer of that
+-- pair: comment
+-- 9. ends in a comment, and the head begins with an opener whose closer is the innermost one:
+-- comment
 -- 10. else code
 unfoldable pub class_of : Row → Bool → Part → Class
 class_of r docs_are_comments p =
@@ -83,6 +94,8 @@ class_of r docs_are_comments p =
     else if in_comment p.begun || (in_doc_string p.begun && docs_are_comments) then Comment
     else if in_string p.begun then Code
     else if any_begins r.line_comment (head_of r p.bytes) then Comment
-    else if encloses r.multi_line_comments (trim p.bytes) || encloses r.nested_comments (trim p.bytes) then Comment
+    else if encloses r.multi_line_comments (trim p.bytes)
+    || encloses r.nested_comments (trim p.bytes)
+    then Comment
     else if ends_opened r (head_of r p.bytes) p.ended then Comment
     else Code

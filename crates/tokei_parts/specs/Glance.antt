@@ -8,8 +8,8 @@ use Rattle.tokei_parts.specs.Class.{is_plain}
 abbrev pub holds : List (List ℕ) → List ℕ → Bool
 holds openers t = is_some (first_opener openers t)
 
--- A part is walked where it begins in a string or a comment, or its reach holds an opener. The reach goes to the end of
--- the part's line, also where a child breaks the part off.
+-- A part is walked where it begins in a string or a comment, or its reach holds an opener. The
+-- reach goes to the end of the part's line, also where a child breaks the part off.
 abbrev pub is_walked : List (List ℕ) → Mode → List ℕ → Bool
 is_walked openers begun reach = not (is_plain begun) || holds openers reach
 

@@ -22,12 +22,13 @@ usual_key Script = codes "JavaScript"
 usual_key Style = codes "Css"
 usual_key Template = codes "Html"
 
+-- the language that the attribute's value names, else the usual one of the tag
 abbrev pub element_language : List Row → ℕ → Tag → Option (List ℕ) → ℕ
 element_language rows parent tag v =
     unwrap_or (option_and_then (by_value rows tag) v) (fallback rows parent (usual_key tag))
 
--- The text of an element is read without the blank rest of its first line and the blank front of its last one. The
--- opening is one line of code of the parent.
+-- The text of an element is read without the blank rest of its first line and the blank front of
+-- its last one. The opening is one line of code of the parent.
 abbrev pub element_child : List Row → ℕ → Tag → TagBlock → Block
 element_child rows parent tag e = record {
   language = element_language rows parent tag e.value;
@@ -36,15 +37,18 @@ element_child rows parent tag e = record {
   share = record { blanks = 0; code = 1; comments = 0 };
 }
 
+-- the child that an element at this place of the part is, where one stands there
 abbrev pub element_at : List Row → ℕ → Tag → List ℕ → ℕ → List ℕ → Option Block
-element_at rows parent tag part place rest = option_map (element_child rows parent tag) (tag_block tag part place rest)
+element_at rows parent tag part place rest =
+    option_map (element_child rows parent tag) (tag_block tag part place rest)
 
 -- the first that there is
 abbrev pub first_block : Option Block → Option Block → Option Block
 first_block None o = o
 first_block (Some k) o = Some k
 
--- the child that opens at a place of the part, by any of the three tags; `rest` is the text from the place on
+-- the child that opens at a place of the part, by any of the three tags; `rest` is the text from
+-- the place on
 abbrev pub html_block : List Row → ℕ → List ℕ → ℕ → List ℕ → Option Block
 html_block rows parent part place rest =
     first_block (element_at rows parent Script part place rest) (

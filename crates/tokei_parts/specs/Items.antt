@@ -6,17 +6,17 @@ use Rattle.tokei_parts.specs.declared.items.Kind.{Kind}
 use Rattle.tokei_parts.specs.declared.items.Kind.TheVariants.{DocString, VerbatimString, OrdinaryString}
 use Rattle.tokei_parts.specs.declared.items.Kind.TheVariants.{MultiLineComment}
 
--- what opens as a child: its language, its text, how many bytes of the parent it takes, and what it adds to the
--- parent's counts
+-- what opens as a child: its language, its text, how many bytes of the parent it takes, and what it
+-- adds to the parent's counts
 pub record Block : Type 0 where
   pub language : ℕ
   pub contents : List ℕ
   pub size : ℕ
   pub share : Counts
 
--- a byte; an escape, of two bytes; an opener that is passed over in a comment; a string literal and a comment, each
--- with its pair, its body and whether its closer came; a line comment, through its newline or to the text's end;
--- a child, with the bytes that it takes
+-- a byte; an escape, of two bytes; an opener that is passed over in a comment; a string literal and
+-- a comment, each with its pair, its body and whether its closer came; a line comment, through its
+-- newline or to the text's end; a child, with the bytes that it takes
 mutual
   pub data Item : Type 0 where
     one : ℕ → Item
@@ -27,6 +27,7 @@ mutual
     line_comment : List ℕ → Item
     child : Block → List ℕ → Item
 
+  -- items one after another
   pub data Items : Type 0 where
     none : Items
     more : Item → Items → Items
@@ -43,6 +44,7 @@ pub record Enclosure : Type 0 where
   pub kind : Kind
   pub closer : List ℕ
 
+-- the item that the pair opens
 abbrev pub enclosure : Kind → Pair → Enclosure
 enclosure k p = record { kind = k; closer = p.closer }
 

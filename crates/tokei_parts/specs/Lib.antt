@@ -1,4 +1,5 @@
--- What contracts say of the parts of a text: its items, the choice at a place, the class of each part, the children.
+-- What contracts say of the parts of a text: its items, the choice at a place, the class of each
+-- part, the children.
 pub mod Calm
 pub mod Choice
 pub mod Class

@@ -11,14 +11,14 @@ use Rattle.tokei_parts.specs.NamedLanguages.{by_name}
 abbrev pub target_name : List ℕ → List ℕ
 target_name word = if bytes_eq word (codes "CCpp") then codes "C" else word
 
--- The text's target names the language of its blocks; where none is named, or the table has no such language, they are
--- Lingua Franca, as their parent.
+-- The text's target names the language of its blocks; where none is named, or the table has no such
+-- language, they are Lingua Franca, as their parent.
 abbrev pub target_language : List Row → ℕ → Option (List ℕ) → ℕ
 target_language rows parent None = parent
 target_language rows parent (Some word) = unwrap_or (by_name rows (target_name word)) parent
 
--- the text of a block is read without the blank rest of its first line and the blank front of its last one; it adds
--- nothing to the parent
+-- the text of a block is read without the blank rest of its first line and the blank front of its
+-- last one; it adds nothing to the parent
 abbrev pub target_child : List Row → ℕ → List ℕ → TargetBlock → Block
 target_child rows parent text b = record {
   language = target_language rows parent (target_of text);

@@ -8,6 +8,7 @@ use Rattle.tokei_embedding.specs.Fences.{Fence, fence_block}
 use Rattle.tokei_parts.specs.Items.{Block}
 use Rattle.tokei_parts.specs.NamedLanguages.{by_word}
 
+-- whether the byte is a comma, `,`
 abbrev pub is_comma : ℕ → Bool
 is_comma b = b == 44
 
@@ -20,7 +21,8 @@ first_named rows (piece ∷ pieces) = option_or (by_word rows piece) (first_name
 abbrev pub known_piece : List Row → List ℕ → Option ℕ
 known_piece rows info = first_named rows (slice_split is_comma info)
 
--- The text of a fence is read trimmed. Its own lines are comments of the parent: 2 where it is closed, else 1.
+-- The text of a fence is read trimmed. Its own lines are comments of the parent: 2 where it is
+-- closed, else 1.
 abbrev pub fence_as : Fence → ℕ → Block
 fence_as f language = record {
   language = language;
@@ -35,4 +37,5 @@ fence_child rows f = option_map (fence_as f) (known_piece rows f.info)
 
 -- the child that opens at a place of the part; `rest` is the text from the place on
 abbrev pub markdown_block : List Row → List ℕ → ℕ → List ℕ → Option Block
-markdown_block rows part place rest = option_and_then (fence_child rows) (fence_block part place rest)
+markdown_block rows part place rest =
+    option_and_then (fence_child rows) (fence_block part place rest)

@@ -12,31 +12,36 @@ use Rattle.tokei_table.specs.Row.{Pair, Row}
 abbrev pub begins_opener : List Pair → ℕ → Bool
 begins_opener ps b = list_any (λ p. is_first_of b p.opener) ps
 
--- At the byte a choice other than a byte, a closer and a child can begin: it is a backslash, or the first byte of an
--- opener or a line comment.
+-- At the byte a choice other than a byte, a closer and a child can begin: it is a backslash, or the
+-- first byte of an opener or a line comment.
 abbrev pub begins_choice : Row → ℕ → Bool
 begins_choice r b =
-    (b == backslash) || (begins_opener r.quotes b || (begins_opener r.verbatim_quotes b || (begins_opener r.doc_quotes b
+    (b == backslash)
+    || (begins_opener r.quotes b
+    || (begins_opener r.verbatim_quotes b || (begins_opener r.doc_quotes b
     || (begins_opener r.multi_line_comments b || (begins_opener r.nested_comments b
     || list_any (is_first_of b) r.line_comment)))))
 
--- In a comment one can begin: it is a backslash, or the first byte of a multi-line or nested opener.
+-- In a comment one can begin: it is a backslash, or the first byte of a multi-line or nested
+-- opener.
 abbrev pub begins_in_comment : Row → ℕ → Bool
-begins_in_comment r b = (b == backslash) || (begins_opener r.multi_line_comments b || begins_opener r.nested_comments b)
+begins_in_comment r b =
+    (b == backslash) || (begins_opener r.multi_line_comments b || begins_opener r.nested_comments b)
 
 -- the test's answers for the bytes below n
 abbrev pub flags : (ℕ → Bool) → ℕ → List Bool
 flags f zero = []
 flags f (suc n) = flags f n ++ f n ∷ []
 
--- the openers that a part is searched for, for each byte whether a choice can begin at it, in plain text and in a
--- comment, and how the language opens children
+-- the openers that a part is searched for, for each byte whether a choice can begin at it, in plain
+-- text and in a comment, and how the language opens children
 pub record Matchers : Type 0 where
   pub openers : List (List ℕ)
   pub begins : List Bool
   pub begins_in_comment : List Bool
   pub family : Family
 
+-- the matchers that a row of the table gives
 abbrev pub matchers_of : Row → Matchers
 matchers_of r = record {
   openers = openers r;

@@ -1,4 +1,5 @@
--- The mode at each place: the items that enclose it, begun before it, and ended after it or not closed.
+-- The mode at each place: the items that enclose it, begun before it, and ended after it or not
+-- closed.
 use Rattle.std.specs.Prelude.{ℕ, Bool, true, false, if◌then◌else◌, List, [], ◌∷◌, ◌++◌, None, Some}
 use Rattle.tokei_parts.specs.Items.{Block, Item, Items, Enclosure, Mode, enclosure}
 use Rattle.tokei_parts.specs.Items.Item.{one, escaped, passed_over, string_literal, comment, line_comment, child}
@@ -29,13 +30,14 @@ abbrev pub of_choice : Chain → List ℕ → List Mark
 of_choice c [] = []
 of_choice c (b ∷ t) = byte_at b true c ∷ inside c t
 
--- the bytes of a closer, the first being the beginning of a choice or not: its item, the innermost of c, encloses each
--- place before its end, and d encloses that
+-- the bytes of a closer, the first being the beginning of a choice or not: its item, the innermost
+-- of c, encloses each place before its end, and d encloses that
 abbrev pub closing_from : Bool → Chain → Chain → List ℕ → List Mark
 closing_from x c d [] = []
 closing_from x c d (b ∷ []) = byte_at b x d ∷ []
 closing_from x c d (b ∷ b' ∷ t) = byte_at b x c ∷ closing_from false c d (b' ∷ t)
 
+-- the marks of the bytes of a closer, of which the first begins a choice
 abbrev pub closing : Chain → Chain → List ℕ → List Mark
 closing c d t = closing_from true c d t
 
@@ -50,7 +52,8 @@ unfoldable mutual
   marks_of c (escaped a b) = byte_at a true c ∷ byte_at b false c ∷ []
   marks_of c (passed_over p) = of_choice c p.opener
   marks_of c (string_literal k p is closed) = of_choice (enclosure k p ∷ c) p.opener
-      ++ (marks (enclosure k p ∷ c) is ++ (if closed then closing (enclosure k p ∷ c) c p.closer else []))
+      ++ (marks (enclosure k p ∷ c) is
+      ++ (if closed then closing (enclosure k p ∷ c) c p.closer else []))
   marks_of c (comment p is closed) = of_choice (enclosure MultiLineComment p ∷ c) p.opener
       ++ (marks (enclosure MultiLineComment p ∷ c) is
       ++ (if closed then closing (enclosure MultiLineComment p ∷ c) c p.closer else []))

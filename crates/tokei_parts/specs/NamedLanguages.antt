@@ -8,6 +8,7 @@ use Rattle.tokei_table.specs.Lookups.{first_where, has_name, has_name_in_any_cas
 abbrev pub by_word : List Row → List ℕ → Option ℕ
 by_word rows word = if is_utf8 word then first_where (has_name_in_any_case word) rows else None
 
+-- by the MIME type: the first language of the table that has it
 abbrev pub by_mime : List Row → List ℕ → Option ℕ
 by_mime rows mime = if is_utf8 mime then first_where (has_mime mime) rows else None
 

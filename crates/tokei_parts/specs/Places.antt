@@ -20,10 +20,11 @@ text_from p at = drop at (text_of p)
 abbrev pub part_to : Place → ℕ → List ℕ
 part_to p stop = take (stop - p.start) (drop p.start (text_of p))
 
--- the block that can open at another place of the part, and at the place itself
+-- the block that can open at another place of the part
 abbrev pub block_from : Place → ℕ → Option Block
 block_from p at = blocks_of p.reading.now p.behind_child (text_from p at)
 
+-- the block that can open at the place itself
 abbrev pub block_here : Place → Option Block
 block_here p = block_from p p.at
 
@@ -52,4 +53,5 @@ Childless p to = (q : ℕ) → p.at ≤ q → q < to → block_from p q ≡ None
 -- each choice from the place to before `to` takes a byte, where these items enclose it
 abbrev pub LeadsTo : Place → Chain → ℕ → Type 0
 LeadsTo p c to =
-    Leads (row_in p.reading.now) (blocks_of p.reading.now) p.behind_child c (to - p.at) (to - p.at) c (text_from p p.at)
+    Leads (row_in p.reading.now) (blocks_of p.reading.now) p.behind_child c (to - p.at) (to - p.at)
+    c (text_from p p.at)

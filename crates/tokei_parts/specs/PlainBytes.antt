@@ -28,4 +28,5 @@ BeginsNoneWithin m MultiLineComment b = IsOutside m.begins_in_comment b
 -- the closer of the innermost item doesn't begin at the byte, and nothing else does
 abbrev pub IsPlainByte : Matchers → Mode → ℕ → Type 0
 IsPlainByte m None b = BeginsNone m b
-IsPlainByte m (Some e) b = BeginsNoneWithin m e.kind b × (is_first_of b e.closer ≡ false) × (e.closer ≡ [] → ⊥)
+IsPlainByte m (Some e) b =
+    BeginsNoneWithin m e.kind b × (is_first_of b e.closer ≡ false) × (e.closer ≡ [] → ⊥)

@@ -1,4 +1,5 @@
--- How the reading of a text goes on from a place: what is left of it, given the items that enclose the place.
+-- How the reading of a text goes on from a place: what is left of it, given the items that enclose
+-- the place.
 use Rattle.std.specs.Prelude.{◌≡◌, ℕ, ◌+◌, ◌-◌, ◌<◌, ◌≤◌, Bool, true, if◌then◌else◌, ⊤}
 use Rattle.std.specs.Prelude.{List, [], ◌∷◌, ◌++◌, take, drop, length, Option, None, Some}
 use Rattle.tokei_table.specs.Openers.{openers}
@@ -23,7 +24,8 @@ module _ (r : Row) (block : ℕ → List ℕ → Option Block) where
   abbrev pub body : ℕ → Chain → List ℕ → Body
   body l c t = derive r block t 0 l (innermost c)
 
-  -- the marks of what is left of the text: the body that is under way, its closer, and the bodies around it
+  -- the marks of what is left of the text: the body that is under way, its closer, and the bodies
+  -- around it
   unfoldable pub marks_ahead : ℕ → Chain → List ℕ → List Mark
   marks_ahead l [] t = marks [] (body l [] t).items
   marks_ahead l (e ∷ c) t = marks (e ∷ c) (body l (e ∷ c) t).items
@@ -31,8 +33,9 @@ module _ (r : Row) (block : ℕ → List ℕ → Option Block) where
       then closing (e ∷ c) c e.closer ++ marks_ahead l c (drop (body l (e ∷ c) t).taken t)
       else [])
 
-  -- Through n bytes of its line the text leads from the items of c to those of d. Among the n bytes and a newline
-  -- behind them that no choice of its own takes, j choices begin more than where one takes it.
+  -- Through n bytes of its line the text leads from the items of c to those of d. Among the n bytes
+  -- and a newline behind them that no choice of its own takes, j choices begin more than where one
+  -- takes it.
   pub record Leads (l : ℕ) (c : Chain) (n j : ℕ) (d : Chain) (t : List ℕ) : Type 0 where
     pub within : n ≤ line_len t
     pub same : (m : _) (s : List ℕ) → cut m s (innermost c) (marks_ahead l c t)
@@ -55,8 +58,8 @@ IsClosable [] = ⊤
 IsClosable (e ∷ c) = (is_token e.closer ≡ true) × IsClosable c
 
 module _ (r : Row) (block : ℕ → List ℕ → Option Block) (l : ℕ) where
-  -- one choice leads on from c to d: n bytes, at least one, all of one line; j is 1, or for a choice that takes the
-  -- newline behind them too 0
+  -- one choice leads on from c to d: n bytes, at least one, all of one line; j is 1, or for a
+  -- choice that takes the newline behind them too 0
   pub record Goes (c : Chain) (n j : ℕ) (d : Chain) (t : List ℕ) : Type 0 where
     pub leads : Leads r block l c n j d t
     pub some : 0 < n
@@ -74,21 +77,25 @@ module _ (r : Row) (block : ℕ → List ℕ → Option Block) (l : ℕ) where
 
   -- the choices that are left in walked parts, given these items
   abbrev pub steps_left : Chain → List ℕ → ℕ
-  steps_left c t = choices_passed (openers r) (running (innermost c) [] 0 t (marks_ahead r block l c t))
+  steps_left c t =
+      choices_passed (openers r) (running (innermost c) [] 0 t (marks_ahead r block l c t))
 
-  -- One line: n bytes. It is one part, of this class, in which j choices begin, and the text goes on from d.
+  -- One line: n bytes. It is one part, of this class, in which j choices begin, and the text goes
+  -- on from d.
   pub record ReadsLine (docs_are_comments : Bool) (c : Chain) (n j : ℕ) (class : Class) (d : Chain)
       (t : List ℕ) : Type 0 where
     pub some : 0 < n
     pub within : n ≤ length t
     pub closable : IsClosable d
-    pub counts : counts_left docs_are_comments c t ≡ plus (one_of class) (counts_left docs_are_comments d (drop n t))
+    pub counts : counts_left docs_are_comments c t
+        ≡ plus (one_of class) (counts_left docs_are_comments d (drop n t))
     pub kids : children_left c t ≡ children_left d (drop n t)
     pub steps : steps_left c t
-        ≡ (if is_walked (openers r) (innermost c) (take n t) then j else 0) + steps_left d (drop n t)
+        ≡ (if is_walked (openers r) (innermost c) (take n t) then j else 0)
+        + steps_left d (drop n t)
 
-  -- A part that a child breaks off: the child k opens behind n bytes, at which j choices begin, in plain text, and the
-  -- text goes on behind it.
+  -- A part that a child breaks off: the child k opens behind n bytes, at which j choices begin, in
+  -- plain text, and the text goes on behind it.
   pub record ReadsChild (docs_are_comments : Bool) (c : Chain) (n j : ℕ) (k : Block) (d : Chain)
       (t : List ℕ) : Type 0 where
     pub some : 0 < k.size
@@ -97,8 +104,10 @@ module _ (r : Row) (block : ℕ → List ℕ → Option Block) (l : ℕ) where
     pub counts : counts_left docs_are_comments c t
         ≡ tally r docs_are_comments
         (cut None [] None (marks_ahead r block (length t - (n + k.size)) [] (drop (n + k.size) t)))
-    pub kids : children_left c t ≡ k ∷ children (marks_ahead r block (length t - (n + k.size)) [] (drop (n + k.size) t))
-    pub steps : steps_left c t ≡ (if is_walked (openers r) (innermost c) (first_line t) then j else 0)
+    pub kids : children_left c t
+        ≡ k ∷ children (marks_ahead r block (length t - (n + k.size)) [] (drop (n + k.size) t))
+    pub steps :
+        steps_left c t ≡ (if is_walked (openers r) (innermost c) (first_line t) then j else 0)
         + choices_passed (openers r) (running None [] 0 (drop (n + k.size) t)
         (marks_ahead r block (length t - (n + k.size)) [] (drop (n + k.size) t)))
 
@@ -108,13 +117,15 @@ module _ (r : Row) (block : ℕ → List ℕ → Option Block) (l : ℕ) where
     pub after : d ≡ []
     pub chosen : choice r None (block l t) t ≡ child_opens k
 
--- what the blocks of a text are held to: none opens at a newline; each takes a byte at least and no more than there are
+-- what the blocks of a text are held to: none opens at a newline; each takes a byte at least and no
+-- more than there are
 pub record FitsBlocks (block : ℕ → List ℕ → Option Block) : Type 0 where
   pub in_line : OpensInLine block
   pub some : (l : ℕ) (t : List ℕ) (k : Block) → block l t ≡ Some k → 0 < k.size
   pub within : (l : ℕ) (t : List ℕ) (k : Block) → block l t ≡ Some k → k.size ≤ length t
 
--- a part of the text that began at `start` is under way at the place, where l bytes were left behind the last child
+-- a part of the text that began at `start` is under way at the place, where l bytes were left
+-- behind the last child
 pub record IsPart (text : List ℕ) (l start place : ℕ) : Type 0 where
   pub low : start ≤ place
   pub high : place ≤ length text

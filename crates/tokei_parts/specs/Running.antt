@@ -8,7 +8,8 @@ use Rattle.tokei_parts.specs.Modes.{Mark, innermost}
 use Rattle.tokei_parts.specs.Modes.Mark.{byte_at, child_at}
 use Rattle.tokei_parts.specs.Stretches.{one_if}
 
--- a stretch that was passed: the mode at its beginning, its reach, and how many bytes and choices it has
+-- a stretch that was passed: the mode at its beginning, its reach, and how many bytes and choices
+-- it has
 pub record Passed : Type 0 where
   pub begun : Mode
   pub reach : List ℕ
@@ -23,7 +24,12 @@ running m s n t [] = elim s [
 ]
 running m s n t (byte_at b x c ∷ ms) =
     if b == newline
-    then record { begun = m; reach = s ++ b ∷ []; size = length (s ++ b ∷ []); choices = n + one_if x }
+    then record {
+      begun = m;
+      reach = s ++ b ∷ [];
+      size = length (s ++ b ∷ []);
+      choices = n + one_if x;
+    }
     ∷ running (innermost c) [] 0 (drop 1 t) ms
     else running m (s ++ b ∷ []) (n + one_if x) (drop 1 t) ms
 running m s n t (child_at k ∷ ms) =
@@ -33,4 +39,5 @@ running m s n t (child_at k ∷ ms) =
 -- the choices of those that are walked
 abbrev pub choices_passed : List (List ℕ) → List Passed → ℕ
 choices_passed os [] = 0
-choices_passed os (s ∷ ss) = (if is_walked os s.begun s.reach then s.choices else 0) + choices_passed os ss
+choices_passed os (s ∷ ss) =
+    (if is_walked os s.begun s.reach then s.choices else 0) + choices_passed os ss

@@ -12,6 +12,7 @@ use Rattle.tokei_parts.specs.declared.openings.Block as CodeBlock
 abbrev pub contents_of : CodeBlock.Block → List ℕ
 contents_of k = if k.is_doc then trim (doc_text k.contents.now) else k.contents.now
 
+-- a child: its language, its text, its size in bytes, and the lines that it adds to its parent's
 abbrev pub block_of : CodeBlock.Block → Block
 block_of k = record {
   language = k.language;

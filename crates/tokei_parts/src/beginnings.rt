@@ -11,7 +11,8 @@ use tokei_table::Syntax;
 
 /// Sets the flag of the byte.
 fn flag(flags: &mut [bool; 256], byte: u8)
-    ensures { (x : ℕ) → x < 256 → slice_index_or flags.new x false ≡ (slice_index_or flags.old x false || (x == byte)) }
+    ensures { (x : ℕ) → x < 256
+        → slice_index_or flags.new x false ≡ (slice_index_or flags.old x false || (x == byte)) }
 {
     flags[byte as usize] = true;
 }
@@ -19,7 +20,8 @@ fn flag(flags: &mut [bool; 256], byte: u8)
 /// Sets the flag of the token's first byte.
 fn flag_token(flags: &mut [bool; 256], token: &[u8])
     ensures { (x : ℕ) → x < 256
-        → slice_index_or flags.new x false ≡ (slice_index_or flags.old x false || is_first_of x token.now) }
+        → slice_index_or flags.new x false
+        ≡ (slice_index_or flags.old x false || is_first_of x token.now) }
 {
     match token {
         [] => {}
@@ -47,8 +49,8 @@ fn flag_tokens(flags: &mut [bool; 256], tokens: &[String])
     }
 }
 
-/// The bytes at which a choice other than the byte itself, a closer and a child can begin in plain text. It fails where
-/// memory runs out.
+/// The bytes at which a choice other than the byte itself, a closer and a child can begin in plain
+/// text. It fails where memory runs out.
 pub fn beginnings(alloc: Global, syntax: &Syntax) -> Result<ByteSet, AllocError>
     ensures { IfOk result (λ s. s ≡ flags (begins_choice (row_of syntax.now)) 256) }
 {

@@ -8,8 +8,8 @@ use crate::items::Enclosure;
 use crate::plain_bytes::{begins_none_within, item_end};
 use crate::reading::Reading;
 
-/// Whether nothing but the item's closer can begin at the place, which the item encloses, and that doesn't stand there:
-/// as at a star in a comment that no slash follows.
+/// Whether nothing but the item's closer can begin at the place, which the item encloses, and that
+/// doesn't stand there: as at a star in a comment that no slash follows.
 #[inline(always)]
 fn takes_byte(reading: &Reading, item: Enclosure, at: usize) -> bool
     requires { at < length reading.now.text.now }
@@ -19,8 +19,8 @@ fn takes_byte(reading: &Reading, item: Enclosure, at: usize) -> bool
     begins_none_within(reading.matchers, item.kind, text[at]) && !stands(item.closer, &text[at..])
 }
 
-/// From the place `at` of the reading's text to before the answer each choice takes its byte, where the item encloses
-/// them: up to the item's closer, or to where an escape or an opener can begin.
+/// From the place `at` of the reading's text to before the answer each choice takes its byte, where
+/// the item encloses them: up to the item's closer, or to where an escape or an opener can begin.
 #[inline(never)]
 pub fn calm_end(reading: &Reading, item: Enclosure, at: usize) -> usize
     requires { at ≤ length reading.now.text.now }

@@ -31,7 +31,8 @@ pub enum Choice<'a> {
     TakesByte,
 }
 
-/// Whether the token stands at the front of the text. One or two bytes, as most tokens have, are compared in place.
+/// Whether the token stands at the front of the text. One or two bytes, as most tokens have, are
+/// compared in place.
 #[inline(always)]
 pub fn stands(token: &[u8], text: &[u8]) -> bool
     ensures { result ≡ begins token.now text.now }
@@ -116,7 +117,8 @@ fn met_in_comment<'a>(syntax: &Syntax, pair: &'a (String, String)) -> Choice<'a>
 #[inline(always)]
 fn in_string<'a>(syntax: &Syntax, verbatim: bool, closer: &[u8], text: &[u8]) -> Choice<'a>
     ensures choice { (block : Option Block)
-        → choice_of block result ≡ choice_in_string (row_of syntax.now) verbatim closer.now text.now }
+        → choice_of block result
+        ≡ choice_in_string (row_of syntax.now) verbatim closer.now text.now }
     ensures no_child { result ≢ Choice.ChildOpens }
 {
     if stands(closer, text) {
@@ -198,7 +200,8 @@ fn in_plain<'a>(syntax: &'a Syntax, opens: bool, text: &[u8]) -> Choice<'a>
     }
 }
 
-/// The first choice that fits at the front of the text; `opens` says whether a child can open there.
+/// The first choice that fits at the front of the text; `opens` says whether a child can open
+/// there.
 #[tactic(auto, unfolding(crate::specs::Choice::choice))]
 #[inline(always)]
 pub fn choose<'a>(

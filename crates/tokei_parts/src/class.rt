@@ -103,8 +103,8 @@ fn ends_opened(syntax: &Syntax, head: &[u8], ended: Option<Enclosure>) -> bool
     }
 }
 
-/// The class of a part that began and ended in these modes; `docs_are_comments` says whether doc strings are treated as
-/// comments.
+/// The class of a part that began and ended in these modes; `docs_are_comments` says whether doc
+/// strings are treated as comments.
 #[tactic(auto, unfolding(crate::specs::Class::class_of))]
 #[inline(never)]
 pub fn class_of(
@@ -144,9 +144,10 @@ pub fn class_of(
     Class::Code
 }
 
-/// What the part of the text from `start` to before `stop` is by its front alone, where it begins plain: blank where
-/// all its bytes are, and code where neither a comment nor an opener can begin it or stand behind its front blanks,
-/// unless the language or the mode at its end says otherwise. Only blanks stand before `solid`.
+/// What the part of the text from `start` to before `stop` is by its front alone, where it begins
+/// plain: blank where all its bytes are, and code where neither a comment nor an opener can begin
+/// it or stand behind its front blanks, unless the language or the mode at its end says otherwise.
+/// Only blanks stand before `solid`.
 #[inline(always)]
 fn class_by_front(
     matchers: &LanguageMatchers,
@@ -159,8 +160,10 @@ fn class_by_front(
     requires within { stop ≤ length text.now }
     requires low { start ≤ solid }
     requires solid { (p : ℕ) → start ≤ p → p < solid → is_blank (slice_index text.now p) ≡ true }
-    ensures blank { result ≡ Some Class.Blank → trim_start (take (stop - start) (drop start text.now)) ≡ [] }
-    ensures code { result ≡ Some Class.Code → HasCodeHead matchers.now (take (stop - start) (drop start text.now)) }
+    ensures blank { result ≡ Some Class.Blank
+        → trim_start (take (stop - start) (drop start text.now)) ≡ [] }
+    ensures code { result ≡ Some Class.Code
+        → HasCodeHead matchers.now (take (stop - start) (drop start text.now)) }
 {
     if stop <= solid {
         return Some(Class::Blank);
@@ -185,9 +188,9 @@ fn is_comment(kind: Option<Kind>) -> bool
     }
 }
 
-/// The class of the part of the reading's text from `start` to before `stop`, which began in an item of that kind, or
-/// in plain text, and ended in that mode, as `class_of` has it. That is asked only where neither the part's front nor
-/// the kind and the mode tell.
+/// The class of the part of the reading's text from `start` to before `stop`, which began in an
+/// item of that kind, or in plain text, and ended in that mode, as `class_of` has it. That is asked
+/// only where neither the part's front nor the kind and the mode tell.
 #[inline(always)]
 pub fn class_by(
     reading: &Reading,
@@ -223,10 +226,17 @@ pub fn class_by(
     }
 }
 
-/// The class of each line that begins and ends within the item, as `class_of` has it: its bytes say nothing.
+/// The class of each line that begins and ends within the item, as `class_of` has it: its bytes say
+/// nothing.
 pub fn class_within(reading: &Reading, item: Enclosure) -> Class
-    ensures { (bytes : List ℕ) → result ≡ class_of (row_in reading.now) reading.now.docs_are_comments
-        (record { begun = mode_of (Some item.entry); bytes = bytes; ended = mode_of (Some item.entry) }) }
+    ensures { (bytes : List ℕ)
+        → result
+        ≡ class_of (row_in reading.now) reading.now.docs_are_comments
+        (record {
+          begun = mode_of (Some item.entry);
+          bytes = bytes;
+          ended = mode_of (Some item.entry);
+        }) }
 {
     let mode = Some(item);
     class_of(
@@ -238,8 +248,9 @@ pub fn class_within(reading: &Reading, item: Enclosure) -> Class
     )
 }
 
-/// The class of a line that no item encloses at either end, as `class_of` has it. It stands in no caller's code, since
-/// most lines are told by their fronts, and takes values, so that the caller's stand in no memory.
+/// The class of a line that no item encloses at either end, as `class_of` has it. It stands in no
+/// caller's code, since most lines are told by their fronts, and takes values, so that the caller's
+/// stand in no memory.
 #[inline(never)]
 fn class_of_line(syntax: &Syntax, docs_are_comments: bool, bytes: &[u8]) -> Class
     ensures { result ≡ class_of (row_of syntax.now) docs_are_comments
@@ -248,8 +259,8 @@ fn class_of_line(syntax: &Syntax, docs_are_comments: bool, bytes: &[u8]) -> Clas
     class_of(syntax, docs_are_comments, None, bytes, None)
 }
 
-/// The class of the line of a text from `start` to before `stop`, in the reading's language, which no item encloses at
-/// either end, as `class_of` has it. Only blanks stand before `solid`.
+/// The class of the line of a text from `start` to before `stop`, in the reading's language, which
+/// no item encloses at either end, as `class_of` has it. Only blanks stand before `solid`.
 #[inline(always)]
 pub fn class_of_plain(
     reading: &Reading,

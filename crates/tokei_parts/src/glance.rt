@@ -5,8 +5,8 @@ ghost use Rattle.tokei_parts.specs.Glanced.{Knows};
 
 use crate::matchers::LanguageMatchers;
 
-/// The place of the first opener at `start` or behind it, or the text's end. It is `next`, where that is behind
-/// `start`: the place that an earlier search came to.
+/// The place of the first opener at `start` or behind it, or the text's end. It is `next`, where
+/// that is behind `start`: the place that an earlier search came to.
 pub fn next_opener(matchers: &LanguageMatchers, text: &[u8], start: usize, next: usize) -> usize
     requires start { start ≤ length text.now }
     requires known { Knows matchers.now.openers text.now start next }

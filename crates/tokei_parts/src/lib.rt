@@ -1,7 +1,8 @@
-//! The parts of a text: each line of it that no child breaks off, the class of each, and the child that opens in it.
+//! The parts of a text: each line of it that no child breaks off, the class of each, and the child
+//! that opens in it.
 //!
-//! The choice at a place says what ends, opens or stands there, by the item that encloses the place and the row of the
-//! text's language; a walk over a part makes one choice after another.
+//! The choice at a place says what ends, opens or stands there, by the item that encloses the place
+//! and the row of the text's language; a walk over a part makes one choice after another.
 #![tactic(auto)]
 
 mod beginnings;

@@ -5,7 +5,8 @@ ghost use Rattle.tokei_parts.specs.Lines.{line_len};
 
 use tokei_bytes::{BLOCK, first_in_block, first_of_one, first_other_in_block};
 
-/// The first newline of the text from the place `at` on, or `to` where none stands before that. It is mostly near.
+/// The first newline of the text from the place `at` on, or `to` where none stands before that. It
+/// is mostly near.
 #[inline(always)]
 pub fn newline_before(text: &[u8], at: usize, to: usize) -> usize
     requires order { at ≤ to }
@@ -22,8 +23,8 @@ pub fn newline_before(text: &[u8], at: usize, to: usize) -> usize
 pub struct LineFront {
     /// The line's newline, or where it is sought no further.
     pub newline: usize,
-    /// Only blanks stand before that place: mostly the first byte that is none, and where the look began if no block of
-    /// the text begins there.
+    /// Only blanks stand before that place: mostly the first byte that is none, and where the look
+    /// began if no block of the text begins there.
     pub solid: usize,
 }
 
@@ -63,8 +64,9 @@ pub fn line_len(text: &[u8]) -> usize
     newline_before(text, 0, text.len())
 }
 
-/// Where the line of the place `start` goes to, before its newline. `end` is where an earlier place's line went to:
-/// the same line, where `start` hasn't passed it, and nothing is searched. No newline stands before `clear`.
+/// Where the line of the place `start` goes to, before its newline. `end` is where an earlier
+/// place's line went to: the same line, where `start` hasn't passed it, and nothing is searched. No
+/// newline stands before `clear`.
 #[inline(always)]
 pub fn line_end(text: &[u8], start: usize, clear: usize, end: usize) -> usize
     requires start { start ≤ length text.now }

@@ -13,9 +13,9 @@ use std::marker::Model;
 use tokei_bytes::ByteSet;
 use tokei_table::{Family, LanguageTable, LanguageType};
 
-/// What the texts of a language are searched and walked with: its openers, the bytes at which a choice other than the
-/// byte itself, a closer and a child can begin, in plain text and in a comment, and how they open children. Contracts
-/// see all four.
+/// What the texts of a language are searched and walked with: its openers, the bytes at which a
+/// choice other than the byte itself, a closer and a child can begin, in plain text and in a
+/// comment, and how they open children. Contracts see all four.
 #[derive(Drop)]
 pub struct LanguageMatchers {
     shared: SharedMatchers,
@@ -97,26 +97,30 @@ impl LanguageMatchers {
         self.begins_in_comment.has(byte)
     }
 
-    /// How far, from the place `at` of the text on and no further than `to`, no such choice can begin in plain text.
+    /// How far, from the place `at` of the text on and no further than `to`, no such choice can
+    /// begin in plain text.
     #[inline(always)]
     pub fn plain_end(&self, text: &[u8], at: usize, to: usize) -> usize
         requires order { at ≤ to }
         requires within { to ≤ length text.now }
         ensures low { at ≤ result }
         ensures high { result ≤ to }
-        ensures none { (p : ℕ) → at ≤ p → p < result → IsOutside self.now.begins (slice_index text.now p) }
+        ensures none { (p : ℕ) → at ≤ p → p < result
+            → IsOutside self.now.begins (slice_index text.now p) }
     {
         self.begins.clear_end(text, at, to)
     }
 
-    /// The same in a comment whose closer's first byte is `first`, which doesn't stand there either.
+    /// The same in a comment whose closer's first byte is `first`, which doesn't stand there
+    /// either.
     #[inline(always)]
     pub fn comment_end(&self, first: u8, text: &[u8], at: usize, to: usize) -> usize
         requires order { at ≤ to }
         requires within { to ≤ length text.now }
         ensures low { at ≤ result }
         ensures high { result ≤ to }
-        ensures none { (p : ℕ) → at ≤ p → p < result → IsOutside self.now.begins_in_comment (slice_index text.now p) }
+        ensures none { (p : ℕ) → at ≤ p → p < result
+            → IsOutside self.now.begins_in_comment (slice_index text.now p) }
         ensures open { (p : ℕ) → at ≤ p → p < result → (slice_index text.now p == first) ≡ false }
     {
         self.begins_in_comment.clear_end_with(first, text, at, to)

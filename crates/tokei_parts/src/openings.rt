@@ -267,8 +267,9 @@ fn franca_block<'a>(
     requires searched { search.old ≡ text_of place.now }
     ensures same { search.new ≡ search.old }
     ensures block { option_map block_of result
-        ≡ franca_block place.now.reading.now.table.now place.now.reading.now.language (text_of place.now)
-        (part_to place.now to) (place.now.at - place.now.start) (text_from place.now place.now.at) }
+        ≡ franca_block place.now.reading.now.table.now place.now.reading.now.language
+        (text_of place.now) (part_to place.now to) (place.now.at - place.now.start)
+        (text_from place.now place.now.at) }
 {
     let reading = place.reading;
     let block = target_at(reading.text, place.start, place.at, to)?;
@@ -282,7 +283,8 @@ fn franca_block<'a>(
     })
 }
 
-/// Where the next element can open at the place `at` or behind it, in the part `text[start..to]`, or the part's end.
+/// Where the next element can open at the place `at` or behind it, in the part `text[start..to]`,
+/// or the part's end.
 fn next_element(search: &mut BlockSearch, start: usize, at: usize, to: usize) -> usize
     requires order { start ≤ at }
     requires inside { at ≤ to }
@@ -297,9 +299,9 @@ fn next_element(search: &mut BlockSearch, start: usize, at: usize, to: usize) ->
     script.min(style).min(template)
 }
 
-/// From the place to before the answer no child opens in its part, which goes to `to`. `child` is such an answer for
-/// an earlier place of the part, or that place: while it lies ahead, or where nothing is to be skipped, nothing is
-/// searched anew.
+/// From the place to before the answer no child opens in its part, which goes to `to`. `child` is
+/// such an answer for an earlier place of the part, or that place: while it lies ahead, or where
+/// nothing is to be skipped, nothing is searched anew.
 #[inline(always)]
 pub fn next_child<'a>(
     place: &Place<'_, 'a>,

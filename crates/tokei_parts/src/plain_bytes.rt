@@ -32,15 +32,16 @@ pub fn is_plain_byte(matchers: &LanguageMatchers, mode: Option<Enclosure>, byte:
     }
 }
 
-/// From the place `at` of the text to before the answer, which goes no further than `to`, no choice but the byte
-/// itself and a child can begin at a byte, in plain text. Often one begins at the place itself, and nothing is
-/// searched.
+/// From the place `at` of the text to before the answer, which goes no further than `to`, no choice
+/// but the byte itself and a child can begin at a byte, in plain text. Often one begins at the
+/// place itself, and nothing is searched.
 #[inline(always)]
 pub fn plain_end(matchers: &LanguageMatchers, text: &[u8], at: usize, to: usize) -> usize
     requires { to ≤ length text.now }
     ensures low { at ≤ result }
     ensures high { at < result → result ≤ to }
-    ensures plain { (p : ℕ) → at ≤ p → p < result → IsPlainByte matchers.now None (slice_index text.now p) }
+    ensures plain { (p : ℕ) → at ≤ p → p < result
+        → IsPlainByte matchers.now None (slice_index text.now p) }
 {
     if to <= at || matchers.begins(text[at]) {
         return at;

@@ -28,7 +28,8 @@ pub struct Reading<'a> {
     pub docs_are_comments: bool,
     /// How deep children may still open.
     pub levels: u32,
-    /// Whether parts that begin plain and hold no opener are skipped, and children looked for ahead.
+    /// Whether parts that begin plain and hold no opener are skipped, and children looked for
+    /// ahead.
     pub skips: bool,
     ghost known: { language < length table.now },
     ghost row: { row_of syntax.now ≡ row_at table.now language },

@@ -49,7 +49,8 @@ impl SharedMatchers {
         Ok(SharedMatchers { openers })
     }
 
-    /// The least place of the text at which an opener stands, None where none does. It takes no memory.
+    /// The least place of the text at which an opener stands, None where none does. It takes no
+    /// memory.
     pub fn first_in(&self, text: &[u8]) -> Option<usize>
         ensures { result ≡ first_opener self.now text.now }
     {

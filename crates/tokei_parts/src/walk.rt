@@ -61,8 +61,8 @@ pub fn innermost<'a>(stack: &[Enclosure<'a>]) -> Option<Enclosure<'a>>
     stack.last().copied()
 }
 
-/// Whether a child opens at the place, which is put into `found`. It stands in no caller's code, since few choices come
-/// to it.
+/// Whether a child opens at the place, which is put into `found`. It stands in no caller's code,
+/// since few choices come to it.
 #[inline(never)]
 fn finds_block<'a>(
     place: &Place<'_, 'a>,
@@ -109,8 +109,8 @@ fn finds_child<'a>(
     finds_block(&here, search, found)
 }
 
-/// The choice at the place, which is one step; `opens` says whether a child can open there, and `plain` that nothing
-/// but the byte itself can begin.
+/// The choice at the place, which is one step; `opens` says whether a child can open there, and
+/// `plain` that nothing but the byte itself can begin.
 #[inline(always)]
 fn choice_at<'a>(
     place: &Place<'_, 'a>,
@@ -127,7 +127,8 @@ fn choice_at<'a>(
     requires plain { plain ≡ true → choice_here place.now (mode_of mode) ≡ takes_byte }
     ensures counted { steps.new ≡ steps.old + 1 }
     ensures child { result ≡ Choice.ChildOpens → opens ≡ true }
-    ensures choice { choice_of (block_here place.now) result ≡ choice_here place.now (mode_of mode.entry) }
+    ensures choice { choice_of (block_here place.now) result
+        ≡ choice_here place.now (mode_of mode.entry) }
 {
     *steps += 1;
     if plain {
@@ -141,8 +142,9 @@ fn choice_at<'a>(
     )
 }
 
-/// Takes the bytes from the place on to before `to`, if that lies ahead, and answers the place behind them. Nothing but
-/// the byte itself can begin at any, in the mode of the stack's items. Each is a choice, which `choice_at` makes.
+/// Takes the bytes from the place on to before `to`, if that lies ahead, and answers the place
+/// behind them. Nothing but the byte itself can begin at any, in the mode of the stack's items.
+/// Each is a choice, which `choice_at` makes.
 #[inline(always)]
 fn take_bytes<'a>(
     place: &Place<'_, 'a>,
@@ -157,7 +159,8 @@ fn take_bytes<'a>(
     requires few { steps.old ≤ place.now.at - place.now.start }
     requires within { place.now.at < to → to ≤ place.now.end }
     requires plain { (p : ℕ) → place.now.at ≤ p → p < to
-        → IsPlainByte place.now.reading.now.matchers.now (mode_of mode) (slice_index (text_of place.now) p) }
+        → IsPlainByte place.now.reading.now.matchers.now (mode_of mode)
+        (slice_index (text_of place.now) p) }
     requires childless { innermost (chain_of stack.now) ≡ None → Childless place.now to }
     ensures low { place.now.at ≤ result }
     ensures high { result ≤ place.now.end }
@@ -175,8 +178,8 @@ fn take_bytes<'a>(
     next
 }
 
-/// Takes the choice at a place, which `choice_at` makes, in the mode of the stack's items; `opens` says whether a child
-/// can open there.
+/// Takes the choice at a place, which `choice_at` makes, in the mode of the stack's items; `opens`
+/// says whether a child can open there.
 #[inline(always)]
 fn take_choice<'a>(
     place: &Place<'_, 'a>,
@@ -191,13 +194,15 @@ fn take_choice<'a>(
     requires some { place.now.at < place.now.end }
     requires room { steps.old < length (text_of place.now) }
     requires child { opens ≡ true → is_some (block_here place.now) ≡ true }
-    requires childless { opens ≡ false → innermost (chain_of stack.old.items) ≡ None → block_here place.now ≡ None }
+    requires childless { opens ≡ false → innermost (chain_of stack.old.items) ≡ None
+        → block_here place.now ≡ None }
     ensures counted { steps.new ≡ steps.old + 1 }
     ensures child { IfOk result (λ m. m ≡ Move.Child → opens ≡ true) }
     ensures plain { IfOk result (λ m. m ≡ Move.Rest → innermost (chain_of stack.old.items) ≡ None) }
     ensures kept { IfOk result (λ m. (n : ℕ) → m ≡ Move.On n → stack.new.items ≡ stack.old.items) }
-    ensures takes { IfOk result (Moves (row_in place.now.reading.now) (blocks_of place.now.reading.now)
-        place.now.behind_child (chain_of stack.old.items) (chain_of stack.new.items) (text_of place.now) place.now.at) }
+    ensures takes { IfOk result (Moves (row_in place.now.reading.now)
+        (blocks_of place.now.reading.now) place.now.behind_child (chain_of stack.old.items)
+        (chain_of stack.new.items) (text_of place.now) place.now.at) }
 {
     match choice_at(place, mode, opens, false, steps) {
         Choice::Closes => match stack.pop() {
@@ -234,8 +239,8 @@ fn take_newline<'a>(place: &Place<'_, 'a>, mode: Option<Enclosure<'a>>, steps: &
     let _newline = choice_at(place, mode, false, plain, steps);
 }
 
-/// Takes the choices from the place on within the item that encloses it, up to behind its closer or another item's
-/// opener, or to the line's end, and answers the place behind them.
+/// Takes the choices from the place on within the item that encloses it, up to behind its closer or
+/// another item's opener, or to the line's end, and answers the place behind them.
 #[inline(always)]
 fn take_within<'a>(
     place: &Place<'_, 'a>,
@@ -250,13 +255,15 @@ fn take_within<'a>(
     requires few { steps.old ≤ place.now.at - place.now.start }
     ensures on { IfOk result (λ at. place.now.at < at) }
     ensures closable { IfOk result (λ at. IsClosable (chain_of stack.new.items)) }
-    ensures part { IfOk result (λ at. IsPart (text_of place.now) place.now.behind_child place.now.start at) }
+    ensures part { IfOk result (λ at. IsPart (text_of place.now) place.now.behind_child
+        place.now.start at) }
     ensures line { IfOk result (λ at. place.now.end ≡ at + line_len (text_from place.now at)) }
     ensures more { steps.old ≤ steps.new }
     ensures few { IfOk result (λ at. steps.new ≤ at - place.now.start) }
-    ensures leads { IfOk result (λ at. Leads (row_in place.now.reading.now) (blocks_of place.now.reading.now)
-        place.now.behind_child (chain_of stack.old.items) (at - place.now.at) (steps.new - steps.old)
-        (chain_of stack.new.items) (text_from place.now place.now.at)) }
+    ensures leads { IfOk result (λ at. Leads (row_in place.now.reading.now)
+        (blocks_of place.now.reading.now) place.now.behind_child (chain_of stack.old.items)
+        (at - place.now.at) (steps.new - steps.old) (chain_of stack.new.items)
+        (text_from place.now place.now.at)) }
 {
     let reading = place.reading;
     let mode = Some(item);
@@ -279,8 +286,9 @@ fn take_within<'a>(
     Ok(at)
 }
 
-/// Reads the part that begins at the place. Where the reading skips, it looks for the part's children ahead, and at a
-/// byte at which no choice can begin it looks no further. The child that breaks the part off is put into `found`.
+/// Reads the part that begins at the place. Where the reading skips, it looks for the part's
+/// children ahead, and at a byte at which no choice can begin it looks no further. The child that
+/// breaks the part off is put into `found`.
 pub fn read_part<'a>(
     part: &Place<'_, 'a>,
     search: &mut BlockSearch<'a>,
@@ -292,9 +300,10 @@ pub fn read_part<'a>(
     requires some { part.now.start < length (text_of part.now) }
     requires searched { search.old ≡ text_of part.now }
     ensures same { search.new ≡ search.old }
-    ensures reads { IfOk result (Reads (row_in part.now.reading.now) (blocks_of part.now.reading.now)
-        part.now.behind_child part.now.reading.now.docs_are_comments (chain_of stack.old.items)
-        (chain_of stack.new.items) part.now.start (text_of part.now)) }
+    ensures reads { IfOk result (Reads (row_in part.now.reading.now)
+        (blocks_of part.now.reading.now) part.now.behind_child
+        part.now.reading.now.docs_are_comments (chain_of stack.old.items) (chain_of stack.new.items)
+        part.now.start (text_of part.now)) }
     ensures found { IfOk result (λ r. (at : ℕ) → r.end ≡ PartEnd.Broken at
         → block_from part.now at ≡ Some (block_of found.new)) }
 {

@@ -1,4 +1,5 @@
--- The rows of a file that holds other languages: its name, its own counts, and a row for each language inside.
+-- The rows of a file that holds other languages: its name, its own counts, and a row for each
+-- language inside.
 use Rattle.std.specs.Prelude.{ℕ, ◌-◌, List, [], ◌∷◌, ◌++◌, Bool, ⊤, codes, length, replicate, if◌then◌else◌}
 use Rattle.tokei_stats.specs.ReportRow.{report_row}
 use Rattle.tokei_stats.specs.Statistics.{Statistics, Blobs, own}
@@ -12,6 +13,7 @@ use Rattle.tokei_print.specs.NameSection.{name_section}
 use Rattle.tokei_print.specs.Rules.{newline}
 use Rattle.tokei_print.specs.Subtotal.{path_places}
 
+-- the byte of a dash, `-`
 abbrev pub dash : ℕ
 dash = 45
 
@@ -19,17 +21,21 @@ dash = 45
 abbrev pub name_line : Layout → Bool → List ℕ → List ℕ
 name_line layout first name =
     if first then space ∷ (name ++ newline)
-    else codes "-- " ++ (name ++ (space ∷ (replicate (layout.columns - 4 - length name) dash ++ newline)))
+    else codes "-- "
+    ++ (name ++ (space ∷ (replicate (layout.columns - 4 - length name) dash ++ newline)))
 
 -- the own counts of a file, under the name of its language
 abbrev pub own_row : Layout → List ℕ → Statistics → List ℕ
-own_row layout name stats = codes " |-" ++ (report_row (path_places layout.columns - 3) name (own stats) ++ newline)
+own_row layout name stats =
+    codes " |-" ++ (report_row (path_places layout.columns - 3) name (own stats) ++ newline)
 
 -- the own counts of a language inside a file
 abbrev pub blob_row : Layout → Bool → List ℕ → Statistics → List ℕ
 blob_row layout inaccurate name stats =
     name_section layout.columns inaccurate name (codes " |-")
-    ++ (space ∷ (replicate files_places space ++ (number_cells (separator_in layout) (own stats) ++ newline)))
+    ++ (space
+    ∷ (replicate files_places space
+    ++ (number_cells (separator_in layout) (own stats) ++ newline)))
 
 -- a row for each language inside, in their order
 abbrev pub blob_rows : Layout → (ℕ → List ℕ) → Bool → Blobs → List ℕ

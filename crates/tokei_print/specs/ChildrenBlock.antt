@@ -9,4 +9,5 @@ pub use Rattle.tokei_print.specs.ChildRows.{child_counts, child_row, child_rows}
 -- the rows of a language's children, and their subtotal
 abbrev pub children_block : Layout → (ℕ → List ℕ) → LanguageValue → List ℕ
 children_block layout names language =
-    child_rows layout names language.children ++ subtotal layout (codes "(Total)") (language_summary language)
+    child_rows layout names language.children
+    ++ subtotal layout (codes "(Total)") (language_summary language)

@@ -1,4 +1,5 @@
--- The rows of a language's files: first those of files with no other language inside, then the others with their blobs.
+-- The rows of a language's files: first those of files with no other language inside, then the
+-- others with their blobs.
 use Rattle.std.specs.Prelude.{ℕ, List, [], ◌∷◌, ◌++◌, ◌==◌, ◌||◌, Bool, true, false, not, codes, filter, length}
 use Rattle.tokei_stats.specs.Reports.{ReportValue}
 use Rattle.tokei_print.specs.BlobRows.{blob_rows, name_line, own_row}
@@ -11,8 +12,10 @@ use Rattle.tokei_stats.specs.Statistics.Blobs.{none, blob}
 
 -- a report's row of its own counts
 abbrev pub file_row : Layout → ReportValue → List ℕ
-file_row layout report = report_row (path_places layout.columns) report.name (own report.stats) ++ newline
+file_row layout report =
+    report_row (path_places layout.columns) report.name (own report.stats) ++ newline
 
+-- the rows of the reports' own counts, in their order
 abbrev pub file_rows : Layout → List ReportValue → List ℕ
 file_rows layout [] = []
 file_rows layout (report ∷ reports) = file_row layout report ++ file_rows layout reports
@@ -32,6 +35,7 @@ file_blocks layout names inaccurate language first (report ∷ reports) =
     file_block layout names inaccurate language first report
     ++ file_blocks layout names inaccurate language false reports
 
+-- no other language stands inside
 abbrev pub no_blobs : Blobs → Bool
 no_blobs none = true
 no_blobs (blob key stats rest) = false
@@ -49,4 +53,5 @@ abbrev pub listed_files : Layout → (ℕ → List ℕ) → Bool → Bool → Li
 listed_files layout names compact inaccurate language reports =
     let alone = filter (has_row_alone compact) reports in
     file_rows layout alone
-    ++ file_blocks layout names inaccurate language (length alone == 0) (with_blocks compact reports)
+    ++ file_blocks layout names inaccurate language (length alone == 0)
+    (with_blocks compact reports)

@@ -12,4 +12,5 @@ files_places = 8
 -- how many files, and their counts, behind a name
 abbrev pub files_and_counts : List ℕ → ℕ → Counts → List ℕ
 files_and_counts separator files n =
-    space ∷ (right_in files_places (number_text separator files) ++ (number_cells separator n ++ newline))
+    space
+    ∷ (right_in files_places (number_text separator files) ++ (number_cells separator n ++ newline))

@@ -12,8 +12,10 @@ column_names columns =
     ++ (space ∷ (right_in 14 (codes "Files")
     ++ four_cells (codes "Lines") (codes "Code") (codes "Comments") (codes "Blanks"))))
 
+-- the names of the columns between two rows of strokes
 abbrev pub header : ℕ → List ℕ
 header columns = row columns ++ (column_names columns ++ (newline ++ row columns))
 
+-- the line that says what the mark `(!)` means
 abbrev pub warning : List ℕ
 warning = codes "Note: results can be inaccurate for languages marked with '(!)'" ++ newline

@@ -1,4 +1,5 @@
--- What contracts say of what is printed: cells, rows, the order of rows, the whole report, streams, and when sums fit.
+-- What contracts say of what is printed: cells, rows, the order of rows, the whole report, streams,
+-- and when sums fit.
 pub mod BlobRows
 pub mod Cells
 pub mod ChildRows

@@ -8,13 +8,15 @@ use Rattle.tokei_stats.specs.Reports.{ReportValue}
 abbrev pub placed : ReportValue → List ReportValue → List ReportValue
 placed report [] = report ∷ []
 placed report (other ∷ others) =
-    if is_lt (slice_cmp nat_cmp report.name other.name) then report ∷ other ∷ others else (other ∷ placed report others)
+    if is_lt (slice_cmp nat_cmp report.name other.name) then report ∷ other ∷ others
+    else (other ∷ placed report others)
 
 -- the reports, each placed among those before it
 abbrev pub placed_onto : List ReportValue → List ReportValue → List ReportValue
 placed_onto done [] = done
 placed_onto done (report ∷ reports) = placed_onto (placed report done) reports
 
+-- the reports in the order of their names
 abbrev pub by_name : List ReportValue → List ReportValue
 by_name reports = placed_onto [] reports
 

@@ -21,8 +21,10 @@ room columns inaccurate prefix = columns - 63 - length prefix - length (mark ina
 -- a name of more bytes than places is its first characters and a bar
 abbrev pub shown_name : ℕ → List ℕ → List ℕ
 shown_name places name =
-    if nat_lt places (length name) then take_chars (places - 1) name ++ codes "|" else left_in places name
+    if nat_lt places (length name) then take_chars (places - 1) name ++ codes "|"
+    else left_in places name
 
+-- a name behind its prefix, cut to the places that are left, with the mark behind it
 abbrev pub name_section : ℕ → Bool → List ℕ → List ℕ → List ℕ
 name_section columns inaccurate name prefix =
     prefix ++ (space ∷ (shown_name (room columns inaccurate prefix) name ++ mark inaccurate))

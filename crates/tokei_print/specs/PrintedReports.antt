@@ -23,7 +23,8 @@ abbrev pub warning_of : List (ℕ × LanguageValue) → List ℕ
 warning_of languages = if any_inaccurate languages then warning else []
 
 -- the rows of a report: languages as they are listed, and the total of all
-abbrev pub report_text : Layout → List Row → ReportStyle → List (ℕ × LanguageValue) → List (ℕ × LanguageValue) → List ℕ
+abbrev pub report_text : Layout → List Row → ReportStyle → List (ℕ × LanguageValue)
+    → List (ℕ × LanguageValue) → List ℕ
 report_text layout rows style listed languages =
     warning_of languages
     ++ (header layout.columns
@@ -31,8 +32,8 @@ report_text layout rows style listed languages =
     ++ total_text layout languages))
 
 -- a text is the report of languages, listed so, and laid out as its style says
-pub record IsReport (rows : List Row) (style : ReportStyle) (listed languages : List (ℕ × LanguageValue)) (text : List ℕ)
-    : Type 0 where
+pub record IsReport (rows : List Row) (style : ReportStyle)
+    (listed languages : List (ℕ × LanguageValue)) (text : List ℕ) : Type 0 where
   pub layout : Layout
   pub columns : layout.columns ≡ columns_of style.columns
   pub files : layout.list_files ≡ style.files
@@ -40,7 +41,9 @@ pub record IsReport (rows : List Row) (style : ReportStyle) (listed languages : 
   pub shown : text ≡ report_text layout rows style listed languages
 
 -- a text is the report of languages: in the table's order, or in the order of the sort
-abbrev pub IsPrintedReport : Option Sort → List Row → ReportStyle → List (ℕ × LanguageValue) → List ℕ → Type 0
+abbrev pub IsPrintedReport : Option Sort → List Row → ReportStyle → List (ℕ × LanguageValue)
+    → List ℕ → Type 0
 IsPrintedReport None rows style languages text = IsReport rows style languages languages text
 IsPrintedReport (Some sort) rows style languages text =
-    IsReport rows style (listed_by sort style.reverse languages) (sorted_languages sort languages) text
+    IsReport rows style (listed_by sort style.reverse languages) (sorted_languages sort languages)
+    text

@@ -9,7 +9,8 @@ use Rattle.tokei_print.specs.Sorted.{listed_by}
 use Rattle.tokei_print.specs.declared.style.ReportStyle.{ReportStyle}
 
 -- the sums that the rows of a report show fit
-pub record ReportFits (style : ReportStyle) (listed languages : List (ℕ × LanguageValue)) : Type 0 where
+pub record ReportFits (style : ReportStyle)
+    (listed languages : List (ℕ × LanguageValue)) : Type 0 where
   pub results : ResultsFit style.files style.compact (is_some style.sort) listed
   pub total : TotalFits languages
 

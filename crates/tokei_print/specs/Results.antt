@@ -1,4 +1,5 @@
--- The rows of all languages: first those without children, then the others, each group in the order given.
+-- The rows of all languages: first those without children, then the others, each group in the order
+-- given.
 use Rattle.std.specs.Prelude.{ℕ, List, [], ◌∷◌, ◌++◌, ◌==◌, ◌&&◌, Bool, true, false, not, filter, length, if◌then◌else◌}
 use Rattle.tokei_languages.specs.Values.{LanguageValue}
 use Rattle.tokei_print.specs.ChildrenBlock.{children_block}
@@ -20,8 +21,10 @@ shows_children compact language = not compact && not (length language.children =
 
 -- a language of the group whose children are shown, or of the other
 abbrev pub is_of_group : Bool → Bool → LanguageValue → Bool
-is_of_group compact true language = not (is_empty_language language) && shows_children compact language
-is_of_group compact false language = not (is_empty_language language) && not (shows_children compact language)
+is_of_group compact true language =
+    not (is_empty_language language) && shows_children compact language
+is_of_group compact false language =
+    not (is_empty_language language) && not (shows_children compact language)
 
 -- a language's own row, and those of its children
 abbrev pub counts_block : Layout → (ℕ → List ℕ) → Bool → List ℕ → LanguageValue → List ℕ
@@ -50,18 +53,23 @@ language_block layout names compact sorted first key language =
     ++ (counts_block layout names compact (names key) language
     ++ files_block layout names compact sorted (names key) language)
 
-abbrev pub language_blocks : Layout → (ℕ → List ℕ) → Bool → Bool → Bool → List (ℕ × LanguageValue) → List ℕ
+-- all rows of the languages, in their order; `first` says whether none stands above them
+abbrev pub language_blocks : Layout → (ℕ → List ℕ) → Bool → Bool → Bool → List (ℕ × LanguageValue)
+    → List ℕ
 language_blocks layout names compact sorted first [] = []
 language_blocks layout names compact sorted first (e ∷ es) =
-    language_block layout names compact sorted first e.0 e.1 ++ language_blocks layout names compact sorted false es
+    language_block layout names compact sorted first e.0 e.1
+    ++ language_blocks layout names compact sorted false es
 
 -- the languages of a group, in their order
 abbrev pub group_of : Bool → Bool → List (ℕ × LanguageValue) → List (ℕ × LanguageValue)
-group_of compact with_children languages = filter (λ e. is_of_group compact with_children e.1) languages
+group_of compact with_children languages =
+    filter (λ e. is_of_group compact with_children e.1) languages
 
 -- first the languages whose children aren't shown, then the others
 abbrev pub results_text : Layout → (ℕ → List ℕ) → Bool → Bool → List (ℕ × LanguageValue) → List ℕ
 results_text layout names compact sorted languages =
     let alone = group_of compact false languages in
     language_blocks layout names compact sorted true alone
-    ++ language_blocks layout names compact sorted (length alone == 0) (group_of compact true languages)
+    ++ language_blocks layout names compact sorted (length alone == 0)
+    (group_of compact true languages)

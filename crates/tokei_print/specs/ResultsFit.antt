@@ -14,11 +14,15 @@ pub record LanguageFits (listed compact sorted : Bool) (language : LanguageValue
   pub children : shows_children compact language ≡ true → ChildrenBlockFits language
   pub files : listed ≡ true → FileBlocksFit (with_blocks compact (in_order sorted language.reports))
 
+-- the sums of each language's rows fit
 abbrev pub LanguagesFit : Bool → Bool → Bool → List (ℕ × LanguageValue) → Type 0
 LanguagesFit listed compact sorted [] = ⊤
 LanguagesFit listed compact sorted (e ∷ es) =
     LanguageFits listed compact sorted e.1 × LanguagesFit listed compact sorted es
 
-pub record ResultsFit (listed compact sorted : Bool) (languages : List (ℕ × LanguageValue)) : Type 0 where
+-- the sums of both groups' rows fit: of the languages without shown children, and of those with
+-- them
+pub record ResultsFit (listed compact sorted : Bool)
+    (languages : List (ℕ × LanguageValue)) : Type 0 where
   pub alone : LanguagesFit listed compact sorted (group_of compact false languages)
   pub others : LanguagesFit listed compact sorted (group_of compact true languages)

@@ -14,8 +14,10 @@ heavy = 226 ∷ 148 ∷ 129 ∷ []
 abbrev pub light : List ℕ
 light = 226 ∷ 148 ∷ 128 ∷ []
 
+-- heavy strokes across all columns, as a line
 abbrev pub row : ℕ → List ℕ
 row columns = repeat columns heavy ++ newline
 
+-- light strokes across all columns, as a line
 abbrev pub subrow : ℕ → List ℕ
 subrow columns = repeat columns light ++ newline

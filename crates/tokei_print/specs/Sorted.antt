@@ -1,5 +1,5 @@
--- The order of languages in a report that is sorted: descending by the count of a column, those with equal counts in
--- the table's order, or all of it reversed.
+-- The order of languages in a report that is sorted: descending by the count of a column, those
+-- with equal counts in the table's order, or all of it reversed.
 use Rattle.std.specs.Prelude.{ℕ, Bool, List, length, nat_lt, reverse, if◌then◌else◌}
 use Rattle.tokei_languages.specs.Sorting.{sorted_languages, stably_sorted}
 use Rattle.tokei_languages.specs.Values.{LanguageValue}

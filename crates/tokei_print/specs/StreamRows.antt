@@ -7,6 +7,7 @@ use Rattle.tokei_table.specs.Bytes.{space}
 use Rattle.tokei_print.specs.Cells.{centred_in, right_in}
 use Rattle.tokei_print.specs.Rules.{newline}
 
+-- the byte of a number sign, `#`
 abbrev pub number_sign : ℕ
 number_sign = 35
 
@@ -49,4 +50,5 @@ stream_heading = stream_names ++ (newline ++ (stream_strokes ++ newline))
 -- a file's own counts behind the name of its language and its path; the lines are their exact sum
 abbrev pub stream_row : List ℕ → List ℕ → Counts → List ℕ
 stream_row language path n =
-    right_in language_places language ++ (space ∷ (left_in stream_path_places path ++ (counts_cells n ++ newline)))
+    right_in language_places language
+    ++ (space ∷ (left_in stream_path_places path ++ (counts_cells n ++ newline)))

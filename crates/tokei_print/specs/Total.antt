@@ -23,8 +23,10 @@ total_row layout languages =
     (report_count (reports_by_language languages))
     (languages_summary languages)
 
+-- the row of the total between two rows of strokes
 abbrev pub total_text : Layout → List (ℕ × LanguageValue) → List ℕ
-total_text layout languages = row layout.columns ++ (total_row layout languages ++ row layout.columns)
+total_text layout languages =
+    row layout.columns ++ (total_row layout languages ++ row layout.columns)
 
 -- the sums that the row shows are at most the greatest `usize`
 pub record TotalFits (languages : List (ℕ × LanguageValue)) : Type 0 where

@@ -34,7 +34,8 @@ impl Layout {
         name: &str,
         stats: &CodeStats,
     ) -> Result<String, AllocError>
-        ensures { IfOk result (λ s. string_bytes s ≡ own_row self.now name.now (stats_of stats.now)) }
+        ensures { IfOk result (λ s. string_bytes s
+            ≡ own_row self.now name.now (stats_of stats.now)) }
     {
         let mut report = Report::new(alloc, String::from_str(alloc, name)?);
         report.stats.blanks = stats.blanks;
@@ -44,7 +45,8 @@ impl Layout {
         format!(in alloc; " |-{row}\n")
     }
 
-    /// The own counts of a language inside a file. `Overflow` only where its lines pass the greatest `usize`.
+    /// The own counts of a language inside a file. `Overflow` only where its lines pass the
+    /// greatest `usize`.
     fn blob_row(
         &self,
         alloc: Global,
@@ -52,7 +54,8 @@ impl Layout {
         inaccurate: bool,
         stats: &CodeStats,
     ) -> Result<String, CountError>
-        ensures ok { IfOk result (λ s. string_bytes s ≡ blob_row self.now inaccurate name.now (stats_of stats.now)) }
+        ensures ok { IfOk result (λ s. string_bytes s
+            ≡ blob_row self.now inaccurate name.now (stats_of stats.now)) }
         ensures overflow { IsErrOf result CountError.Overflow → ¬ LinesFit (counts_of stats.now) }
     {
         let section = self.name_section(alloc, inaccurate, name, " |-")?;
@@ -70,8 +73,10 @@ impl Layout {
         blobs: &BTreeMap<LanguageType, CodeStats>,
     ) -> Result<String, CountError>
         ensures ok { IfOk result (λ s. string_bytes s
-            ≡ blob_rows self.now (name_in table.now) inaccurate (blobs_of (entries_of blobs.now.entries))) }
-        ensures overflow { IsErrOf result CountError.Overflow → ¬ BlobRowsFit (blobs_of (entries_of blobs.now.entries)) }
+            ≡ blob_rows self.now (name_in table.now) inaccurate
+            (blobs_of (entries_of blobs.now.entries))) }
+        ensures overflow { IsErrOf result CountError.Overflow
+            → ¬ BlobRowsFit (blobs_of (entries_of blobs.now.entries)) }
     {
         let mut rows = String::new(alloc);
         for (language, stats) in blobs.iter() {

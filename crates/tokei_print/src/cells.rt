@@ -35,18 +35,21 @@ pub(crate) fn four_cells(
     comments: &str,
     blanks: &str,
 ) -> Result<String, AllocError>
-    ensures { IfOk result (λ s. string_bytes s ≡ four_cells lines.now code.now comments.now blanks.now) }
+    ensures { IfOk result (λ s. string_bytes s
+        ≡ four_cells lines.now code.now comments.now blanks.now) }
 {
     format!(in alloc; " {lines:>12} {code:>12} {comments:>12} {blanks:>12}")
 }
 
-/// Lines, code, comments and blanks as numbers. `Overflow` exactly where the lines pass the greatest `usize`.
+/// Lines, code, comments and blanks as numbers. `Overflow` exactly where the lines pass the
+/// greatest `usize`.
 pub(crate) fn number_cells(
     alloc: Global,
     format: NumberFormat,
     counts: Sums,
 ) -> Result<String, CountError>
-    ensures ok { IfOk result (λ s. string_bytes s ≡ number_cells (separator_text format.separator) (sums_of counts)) }
+    ensures ok { IfOk result (λ s. string_bytes s
+        ≡ number_cells (separator_text format.separator) (sums_of counts)) }
     ensures fits { OnOk result (LinesFit (sums_of counts)) }
     ensures overflow { IsErrOf result CountError.Overflow → ¬ LinesFit (sums_of counts) }
 {
@@ -64,7 +67,8 @@ pub(crate) fn subtotal_cells(
     format: NumberFormat,
     counts: Sums,
 ) -> Result<String, CountError>
-    ensures ok { IfOk result (λ s. string_bytes s ≡ subtotal_cells (separator_text format.separator) (sums_of counts)) }
+    ensures ok { IfOk result (λ s. string_bytes s
+        ≡ subtotal_cells (separator_text format.separator) (sums_of counts)) }
     ensures overflow { IsErrOf result CountError.Overflow → ¬ LinesFit (sums_of counts) }
 {
     let lines = format.grouped(alloc, lines(counts)?)?;

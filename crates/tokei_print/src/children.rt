@@ -21,7 +21,8 @@ pub(crate) fn children_block(
 ) -> Result<String, CountError>
     ensures ok { IfOk result (λ s. string_bytes s
         ≡ children_block layout.now (name_in table.now) (language_of language.now)) }
-    ensures overflow { IsErrOf result CountError.Overflow → ¬ ChildrenBlockFits (language_of language.now) }
+    ensures overflow { IsErrOf result CountError.Overflow
+        → ¬ ChildrenBlockFits (language_of language.now) }
 {
     let rows = child_rows(layout, alloc, table, &language.children)?;
     let subtotal = layout.subtotal(alloc, "(Total)", language.summary_counts()?)?;

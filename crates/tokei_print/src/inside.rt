@@ -29,14 +29,16 @@ fn summaries(reports: &[Report]) -> Result<Sums, CountError>
     Ok(sums)
 }
 
-/// The row of a language inside the files of another. `Overflow` only where its lines pass the greatest `usize`.
+/// The row of a language inside the files of another. `Overflow` only where its lines pass the
+/// greatest `usize`.
 fn child_row(
     layout: &Layout,
     alloc: Global,
     name: &str,
     reports: &[Report],
 ) -> Result<String, CountError>
-    ensures ok { IfOk result (λ s. string_bytes s ≡ child_row layout.now name.now (map report_of reports.now)) }
+    ensures ok { IfOk result (λ s. string_bytes s
+        ≡ child_row layout.now name.now (map report_of reports.now)) }
     ensures overflow { IsErrOf result CountError.Overflow
         → ¬ LinesFit (reports_summary (map report_of reports.now)) }
 {
@@ -59,7 +61,8 @@ pub fn child_rows(
 ) -> Result<String, CountError>
     ensures ok { IfOk result (λ s. string_bytes s
         ≡ child_rows layout.now (name_in table.now) (children_of children.now.entries)) }
-    ensures overflow { IsErrOf result CountError.Overflow → ¬ ChildrenFit (children_of children.now.entries) }
+    ensures overflow { IsErrOf result CountError.Overflow
+        → ¬ ChildrenFit (children_of children.now.entries) }
 {
     let mut rows = String::new(alloc);
     for (language, reports) in children.iter() {

@@ -10,16 +10,19 @@ use std::alloc::Global;
 use tokei_languages::Language;
 use tokei_stats::{CountError, Sums};
 
-/// The language's row under this name. `Overflow` exactly where its lines pass the greatest `usize`.
+/// The language's row under this name. `Overflow` exactly where its lines pass the greatest
+/// `usize`.
 pub(crate) fn language_row(
     layout: &Layout,
     alloc: Global,
     language: &Language,
     name: &str,
 ) -> Result<String, CountError>
-    ensures ok { IfOk result (λ s. string_bytes s ≡ language_row layout.now (language_of language.now) name.now) }
+    ensures ok { IfOk result (λ s. string_bytes s
+        ≡ language_row layout.now (language_of language.now) name.now) }
     ensures fits { OnOk result (LinesFit (language_of language.now).counts) }
-    ensures overflow { IsErrOf result CountError.Overflow → ¬ LinesFit (language_of language.now).counts }
+    ensures overflow { IsErrOf result CountError.Overflow
+        → ¬ LinesFit (language_of language.now).counts }
 {
     let counts = Sums {
         blanks: language.blanks,

@@ -1,5 +1,5 @@
-//! The printed report: how rows are laid out and sorted, the rows of languages, of those inside them, of their files and
-//! of the total, the whole text, and the rows of a stream.
+//! The printed report: how rows are laid out and sorted, the rows of languages, of those inside
+//! them, of their files and of the total, the whole text, and the rows of a stream.
 #![tactic(auto)]
 
 mod blob_rows;

@@ -31,7 +31,8 @@ impl Layout {
         name: &str,
         prefix: &str,
     ) -> Result<String, AllocError>
-        ensures { IfOk result (λ s. string_bytes s ≡ name_section self.now.columns inaccurate name.now prefix.now) }
+        ensures { IfOk result (λ s. string_bytes s
+            ≡ name_section self.now.columns inaccurate name.now prefix.now) }
     {
         let mark = if inaccurate { "(!)" } else { "" };
         let places = (self.columns - 63)

@@ -57,7 +57,8 @@ fn count_of(sort: Sort, language: &Language) -> u128
 
 /// How the sort puts the first language to the second.
 fn order_of(sort: Sort, first: &Language, second: &Language) -> Ordering
-    ensures { is_lt result ≡ language_goes_first sort (language_of first.now) (language_of second.now) }
+    ensures { is_lt result
+        ≡ language_goes_first sort (language_of first.now) (language_of second.now) }
 {
     count_of(sort, second).cmp(&count_of(sort, first))
 }
@@ -68,7 +69,8 @@ fn sorted(
     sort: Sort,
     languages: &Languages,
 ) -> Result<Vec<(LanguageType, &Language)>, AllocError>
-    ensures { IfOk result (λ v. languages_in v.items ≡ languages_sorted sort (languages_of languages.entry.now)) }
+    ensures { IfOk result (λ v. languages_in v.items
+        ≡ languages_sorted sort (languages_of languages.entry.now)) }
 {
     let mut all = listed(alloc, languages)?;
     all.sort_by(|first, second| order_of(sort, first.1, second.1))?;

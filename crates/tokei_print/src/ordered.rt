@@ -36,7 +36,8 @@ fn as_they_stand(alloc: Global, reports: &[Report]) -> Result<Vec<&Report>, Allo
 
 /// The reports in the order in which they are listed: by name, where they aren't sorted otherwise.
 pub fn in_order(alloc: Global, reports: &[Report], sorted: bool) -> Result<Vec<&Report>, AllocError>
-    ensures { IfOk result (λ v. reports_in v.items ≡ in_order sorted (map report_of reports.entry.now)) }
+    ensures { IfOk result (λ v. reports_in v.items
+        ≡ in_order sorted (map report_of reports.entry.now)) }
 {
     if sorted {
         as_they_stand(alloc, reports)

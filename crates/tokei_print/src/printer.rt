@@ -10,7 +10,8 @@ use tokei_languages::{Language, Languages};
 use tokei_options::NumberFormat;
 use tokei_table::{LanguageTable, LanguageType};
 
-/// Writes the rows of a report to a sink. After a refused call nothing is said of the bytes that it wrote.
+/// Writes the rows of a report to a sink. After a refused call nothing is said of the bytes that it
+/// wrote.
 #[derive(Drop)]
 pub struct Printer<W> {
     pub layout: Layout,
@@ -33,7 +34,8 @@ impl<W: Sink + Drop> Printer<W> {
     ghost use Rattle.tokei_print.specs.ResultsFit.{ResultsFit};
     ghost use Rattle.tokei_print.specs.Total.{total_text, TotalFits};
 
-    /// A printer of rows of so many columns, which lists each language's files where `list_files` says so.
+    /// A printer of rows of so many columns, which lists each language's files where `list_files`
+    /// says so.
     pub fn new(
         alloc: Global,
         columns: usize,
@@ -59,7 +61,8 @@ impl<W: Sink + Drop> Printer<W> {
 
     /// Puts the text behind what stands in the writer.
     fn put(&mut self, text: &str) -> Result<(), PrintError>
-        ensures bytes { OnOk result (Appends (W.contents self.old.writer) (W.contents self.new.writer) text.now) }
+        ensures bytes { OnOk result
+            (Appends (W.contents self.old.writer) (W.contents self.new.writer) text.now) }
         ensures faults { W.faults self.old.writer < u64.MAX
             → W.faults self.new.writer ≡ faults_after_printing result (W.faults self.old.writer) }
         ensures overflow { result ≢ Err PrintError.Overflow }
@@ -73,8 +76,8 @@ impl<W: Sink + Drop> Printer<W> {
 
     /// The names of the columns, between two rows.
     pub fn print_header(&mut self) -> Result<(), PrintError>
-        ensures bytes { OnOk result
-            (Appends (W.contents self.old.writer) (W.contents self.new.writer) (header self.old.layout.columns)) }
+        ensures bytes { OnOk result (Appends (W.contents self.old.writer)
+            (W.contents self.new.writer) (header self.old.layout.columns)) }
         ensures faults { W.faults self.old.writer < u64.MAX
             → W.faults self.new.writer ≡ faults_after_printing result (W.faults self.old.writer) }
         ensures overflow { result ≢ Err PrintError.Overflow }
@@ -86,7 +89,8 @@ impl<W: Sink + Drop> Printer<W> {
 
     /// The note that counts can be inaccurate.
     pub fn print_inaccuracy_warning(&mut self) -> Result<(), PrintError>
-        ensures bytes { OnOk result (Appends (W.contents self.old.writer) (W.contents self.new.writer) warning) }
+        ensures bytes { OnOk result
+            (Appends (W.contents self.old.writer) (W.contents self.new.writer) warning) }
         ensures faults { W.faults self.old.writer < u64.MAX
             → W.faults self.new.writer ≡ faults_after_printing result (W.faults self.old.writer) }
         ensures overflow { result ≢ Err PrintError.Overflow }
@@ -102,8 +106,10 @@ impl<W: Sink + Drop> Printer<W> {
         name: &str,
         prefix: Option<&str>,
     ) -> Result<(), PrintError>
-        ensures bytes { OnOk result (Appends (W.contents self.old.writer) (W.contents self.new.writer)
-            (name_section self.old.layout.columns inaccurate name.now (prefix_of (option_map (λ p. p.now) prefix.entry)))) }
+        ensures bytes { OnOk result (Appends (W.contents self.old.writer)
+            (W.contents self.new.writer)
+            (name_section self.old.layout.columns inaccurate name.now
+            (prefix_of (option_map (λ p. p.now) prefix.entry)))) }
         ensures faults { W.faults self.old.writer < u64.MAX
             → W.faults self.new.writer ≡ faults_after_printing result (W.faults self.old.writer) }
         ensures overflow { result ≢ Err PrintError.Overflow }
@@ -118,21 +124,24 @@ impl<W: Sink + Drop> Printer<W> {
 
     /// A language's row under this name. `Overflow` only where its lines pass the greatest `usize`.
     pub fn print_language(&mut self, language: &Language, name: &str) -> Result<(), PrintError>
-        ensures bytes { OnOk result (Appends (W.contents self.old.writer) (W.contents self.new.writer)
+        ensures bytes { OnOk result (Appends (W.contents self.old.writer)
+            (W.contents self.new.writer)
             (language_row self.old.layout (language_of language.now) name.now)) }
         ensures faults { W.faults self.old.writer < u64.MAX
             → W.faults self.new.writer ≡ faults_after_printing result (W.faults self.old.writer) }
         ensures fits { OnOk result (LinesFit (language_of language.now).counts) }
-        ensures overflow { IsErrOf result PrintError.Overflow → ¬ LinesFit (language_of language.now).counts }
+        ensures overflow { IsErrOf result PrintError.Overflow
+            → ¬ LinesFit (language_of language.now).counts }
         ensures layout { self.new.layout ≡ self.old.layout }
     {
         let text = language_row(&self.layout, self.alloc, language, name)?;
         self.put(text.as_str())
     }
 
-    /// The rows of the languages: first those without children, then the others, each group in the order given. Where
-    /// `compact`, no language has children. Listed files stand by name, unless they are `sorted` already. A language that
-    /// isn't of the table has an empty name. `Overflow` only where a sum that a row shows passes the greatest `usize`.
+    /// The rows of the languages: first those without children, then the others, each group in the
+    /// order given. Where `compact`, no language has children. Listed files stand by name, unless
+    /// they are `sorted` already. A language that isn't of the table has an empty name. `Overflow`
+    /// only where a sum that a row shows passes the greatest `usize`.
     pub fn print_results(
         &mut self,
         table: &LanguageTable,
@@ -140,8 +149,10 @@ impl<W: Sink + Drop> Printer<W> {
         compact: bool,
         sorted: bool,
     ) -> Result<(), PrintError>
-        ensures bytes { OnOk result (Appends (W.contents self.old.writer) (W.contents self.new.writer)
-            (results_text self.old.layout (name_in table.now) compact sorted (languages_in languages.now))) }
+        ensures bytes { OnOk result (Appends (W.contents self.old.writer)
+            (W.contents self.new.writer)
+            (results_text self.old.layout (name_in table.now) compact sorted
+            (languages_in languages.now))) }
         ensures faults { W.faults self.old.writer < u64.MAX
             → W.faults self.new.writer ≡ faults_after_printing result (W.faults self.old.writer) }
         ensures overflow { IsErrOf result PrintError.Overflow
@@ -157,14 +168,16 @@ impl<W: Sink + Drop> Printer<W> {
         self.put(text.as_str())
     }
 
-    /// The row of all languages together, between two rows. `Overflow` only where a sum that it shows passes the greatest
-    /// `usize`.
+    /// The row of all languages together, between two rows. `Overflow` only where a sum that it
+    /// shows passes the greatest `usize`.
     pub fn print_total(&mut self, languages: &Languages) -> Result<(), PrintError>
-        ensures bytes { OnOk result (Appends (W.contents self.old.writer) (W.contents self.new.writer)
+        ensures bytes { OnOk result (Appends (W.contents self.old.writer)
+            (W.contents self.new.writer)
             (total_text self.old.layout (languages_of languages.now))) }
         ensures faults { W.faults self.old.writer < u64.MAX
             → W.faults self.new.writer ≡ faults_after_printing result (W.faults self.old.writer) }
-        ensures overflow { IsErrOf result PrintError.Overflow → ¬ TotalFits (languages_of languages.now) }
+        ensures overflow { IsErrOf result PrintError.Overflow
+            → ¬ TotalFits (languages_of languages.now) }
         ensures layout { self.new.layout ≡ self.old.layout }
     {
         let text = total(&self.layout, self.alloc, languages)?;

@@ -93,8 +93,8 @@ fn report(
     style: ReportStyle,
     languages: &Languages,
 ) -> Result<Vec<u8>, CountError>
-    ensures text { IfOk result (λ v.
-        IsReport table.now style (languages_of languages.now) (languages_of languages.now) v.items) }
+    ensures text { IfOk result (λ v. IsReport table.now style (languages_of languages.now)
+        (languages_of languages.now) v.items) }
     ensures overflow { result ≡ Err Overflow
         → ¬ ReportFits style (languages_of languages.now) (languages_of languages.now) }
 {
@@ -122,16 +122,18 @@ fn sorted_report(
     text_in_memory(alloc, table, style, &all, &languages)
 }
 
-/// The report of languages, sorted where its style says so. `Overflow` only where a sum that it shows passes the
-/// greatest `usize`, or `Memory`.
+/// The report of languages, sorted where its style says so. `Overflow` only where a sum that it
+/// shows passes the greatest `usize`, or `Memory`.
 pub fn text_of_report(
     alloc: Global,
     table: &LanguageTable,
     style: ReportStyle,
     languages: Languages,
 ) -> Result<Vec<u8>, CountError>
-    ensures text { IfOk result (λ v. IsPrintedReport style.sort table.now style (languages_of languages) v.items) }
-    ensures overflow { result ≡ Err Overflow → ¬ PrintedReportFits style.sort style (languages_of languages) }
+    ensures text { IfOk result (λ v. IsPrintedReport style.sort table.now style
+        (languages_of languages) v.items) }
+    ensures overflow { result ≡ Err Overflow
+        → ¬ PrintedReportFits style.sort style (languages_of languages) }
 {
     match style.sort {
         None => report(alloc, table, style, &languages),

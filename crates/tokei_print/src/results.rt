@@ -86,10 +86,12 @@ fn counts_block(
     name: &str,
     language: &Language,
 ) -> Result<String, CountError>
-    ensures ok { IfOk result (λ s. string_bytes s ≡ counts_block layout.now
-        (name_in showing.entry.table.now) showing.entry.compact name.now (language_of language.now)) }
+    ensures ok { IfOk result (λ s. string_bytes s
+        ≡ counts_block layout.now (name_in showing.entry.table.now) showing.entry.compact name.now
+        (language_of language.now)) }
     ensures overflow { IsErrOf result CountError.Overflow
-        → ¬ LanguageFits layout.now.list_files showing.entry.compact showing.entry.sorted (language_of language.now) }
+        → ¬ LanguageFits layout.now.list_files showing.entry.compact showing.entry.sorted
+        (language_of language.now) }
 {
     let row = language_row(layout, alloc, language, name)?;
     if !shows_children(language, showing.compact) {
@@ -108,10 +110,12 @@ fn files_block(
     name: &str,
     language: &Language,
 ) -> Result<String, CountError>
-    ensures ok { IfOk result (λ s. string_bytes s ≡ files_block layout.now
-        (name_in showing.entry.table.now) showing.entry.compact showing.entry.sorted name.now (language_of language.now)) }
+    ensures ok { IfOk result (λ s. string_bytes s
+        ≡ files_block layout.now (name_in showing.entry.table.now) showing.entry.compact
+        showing.entry.sorted name.now (language_of language.now)) }
     ensures overflow { IsErrOf result CountError.Overflow
-        → ¬ LanguageFits layout.now.list_files showing.entry.compact showing.entry.sorted (language_of language.now) }
+        → ¬ LanguageFits layout.now.list_files showing.entry.compact showing.entry.sorted
+        (language_of language.now) }
 {
     if !layout.list_files {
         return Ok(String::new(alloc));
@@ -135,10 +139,12 @@ fn language_block(
     first: bool,
     entry: &(LanguageType, &Language),
 ) -> Result<String, CountError>
-    ensures ok { IfOk result (λ s. string_bytes s ≡ language_block layout.now (name_in showing.entry.table.now)
-        showing.entry.compact showing.entry.sorted first entry.now.0 (language_of entry.now.1.now)) }
+    ensures ok { IfOk result (λ s. string_bytes s
+        ≡ language_block layout.now (name_in showing.entry.table.now) showing.entry.compact
+        showing.entry.sorted first entry.now.0 (language_of entry.now.1.now)) }
     ensures overflow { IsErrOf result CountError.Overflow
-        → ¬ LanguageFits layout.now.list_files showing.entry.compact showing.entry.sorted (language_of entry.now.1.now) }
+        → ¬ LanguageFits layout.now.list_files showing.entry.compact showing.entry.sorted
+        (language_of entry.now.1.now) }
 {
     let language = entry.1;
     let name = name_of(showing.table, entry.0);
@@ -157,8 +163,9 @@ fn group_rows(
     group: Group,
     languages: &[(LanguageType, &Language)],
 ) -> Result<String, CountError>
-    ensures ok { IfOk result (λ s. string_bytes s ≡ language_blocks layout.now (name_in showing.entry.table.now)
-        showing.entry.compact showing.entry.sorted group.first
+    ensures ok { IfOk result (λ s. string_bytes s
+        ≡ language_blocks layout.now (name_in showing.entry.table.now) showing.entry.compact
+        showing.entry.sorted group.first
         (group_of showing.entry.compact group.with_children (languages_in languages.now))) }
     ensures overflow { IsErrOf result CountError.Overflow
         → ¬ LanguagesFit layout.now.list_files showing.entry.compact showing.entry.sorted
@@ -183,10 +190,12 @@ pub(crate) fn results(
     showing: Showing,
     languages: &[(LanguageType, &Language)],
 ) -> Result<String, CountError>
-    ensures ok { IfOk result (λ s. string_bytes s ≡ results_text layout.now (name_in showing.entry.table.now)
-        showing.entry.compact showing.entry.sorted (languages_in languages.now)) }
+    ensures ok { IfOk result (λ s. string_bytes s
+        ≡ results_text layout.now (name_in showing.entry.table.now) showing.entry.compact
+        showing.entry.sorted (languages_in languages.now)) }
     ensures overflow { IsErrOf result CountError.Overflow
-        → ¬ ResultsFit layout.now.list_files showing.entry.compact showing.entry.sorted (languages_in languages.now) }
+        → ¬ ResultsFit layout.now.list_files showing.entry.compact showing.entry.sorted
+        (languages_in languages.now) }
 {
     let alone = Group {
         with_children: false,

@@ -31,7 +31,8 @@ fn put_text<W: Sink>(writer: &mut W, text: &str) -> Result<(), PrintError>
 /// The two rows above a stream of columns.
 #[tactic(auto, using(crate::proofs::Headings::heading_text))]
 pub fn print_stream_heading<W: Sink>(writer: &mut W) -> Result<(), PrintError>
-    ensures bytes { OnOk result (Appends (W.contents writer.old) (W.contents writer.new) stream_heading) }
+    ensures bytes { OnOk result
+        (Appends (W.contents writer.old) (W.contents writer.new) stream_heading) }
     ensures faults { W.faults writer.old < u64.MAX
         → W.faults writer.new ≡ faults_after_printing result (W.faults writer.old) }
     ensures overflow { result ≢ Err PrintError.Overflow }
@@ -39,7 +40,8 @@ pub fn print_stream_heading<W: Sink>(writer: &mut W) -> Result<(), PrintError>
     put_text(writer, HEADING)
 }
 
-/// Lines, code, comments and blanks, each behind a space and right in 12 places; the lines are their exact sum.
+/// Lines, code, comments and blanks, each behind a space and right in 12 places; the lines are
+/// their exact sum.
 #[tactic(auto, using(tokei_stats::proofs::Padding::padded_right))]
 fn plain_cells(alloc: Global, counts: Sums) -> Result<String, AllocError>
     ensures { IfOk result (λ s. string_bytes s ≡ counts_cells (sums_of counts)) }

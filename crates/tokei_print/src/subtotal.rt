@@ -10,11 +10,13 @@ impl Layout {
     ghost use Rattle.tokei_print.specs.LinesFit.{LinesFit};
     ghost use Rattle.tokei_print.specs.Subtotal.{path_places, subtotal};
 
-    /// The row of counts that take in those of the texts inside. `Overflow` only where the lines pass the greatest `usize`.
+    /// The row of counts that take in those of the texts inside. `Overflow` only where the lines
+    /// pass the greatest `usize`.
     #[tactic(auto, using(crate::proofs::Padding::short_cell, tokei_stats::proofs::Padding::styled_left))]
     pub fn subtotal(&self, alloc: Global, name: &str, counts: Sums) -> Result<String, CountError>
         requires { length name.now ≤ path_places self.now.columns }
-        ensures ok { IfOk result (λ s. string_bytes s ≡ subtotal self.now name.now (sums_of counts)) }
+        ensures ok { IfOk result (λ s. string_bytes s
+            ≡ subtotal self.now name.now (sums_of counts)) }
         ensures overflow { IsErrOf result CountError.Overflow → ¬ LinesFit (sums_of counts) }
     {
         let places = self.columns - 56;

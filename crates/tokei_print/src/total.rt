@@ -12,7 +12,8 @@ use tokei_stats::CountError;
 
 /// How many reports there are of all languages.
 fn count_reports(languages: &Languages) -> Result<usize, CountError>
-    ensures sum { IfOk result (λ n. n ≡ report_count (reports_by_language (languages_of languages.now))) }
+    ensures sum { IfOk result (λ n. n
+        ≡ report_count (reports_by_language (languages_of languages.now))) }
     ensures past { OnErr result
         (¬ (report_count (reports_by_language (languages_of languages.now)) < 2 ^ 64)) }
     ensures overflow { IfErr result (λ e. e ≡ CountError.Overflow) }
@@ -27,15 +28,17 @@ fn count_reports(languages: &Languages) -> Result<usize, CountError>
     Ok(files)
 }
 
-/// The row of all languages together, between two rows. `Overflow` only where a sum that it shows passes the greatest
-/// `usize`.
+/// The row of all languages together, between two rows. `Overflow` only where a sum that it shows
+/// passes the greatest `usize`.
 pub(crate) fn total(
     layout: &Layout,
     alloc: Global,
     languages: &Languages,
 ) -> Result<String, CountError>
-    ensures ok { IfOk result (λ s. string_bytes s ≡ total_text layout.now (languages_of languages.now)) }
-    ensures overflow { IsErrOf result CountError.Overflow → ¬ TotalFits (languages_of languages.now) }
+    ensures ok { IfOk result (λ s. string_bytes s
+        ≡ total_text layout.now (languages_of languages.now)) }
+    ensures overflow { IsErrOf result CountError.Overflow
+        → ¬ TotalFits (languages_of languages.now) }
 {
     let row = layout.row();
     let files = count_reports(languages)?;

@@ -1,4 +1,5 @@
--- What the words of a command line choose: what is written, by which column it is sorted, and how numbers are shown.
+-- What the words of a command line choose: what is written, by which column it is sorted, and how
+-- numbers are shown.
 use Rattle.std.specs.Prelude.{◌≡◌, ℕ, List, Option, None, Some, Result, unwrap_or}
 use Rattle.std.specs.Result.{result_ok}
 use Rattle.tokei_job.specs.declared.job.Wanted.{Wanted}
@@ -35,8 +36,10 @@ wanted_of None None = Report
 abbrev pub style_of : Option NumberFormatStyle → NumberFormatStyle
 style_of style = unwrap_or style Plain
 
--- a command line chooses what is written, the column that it sorts by, if any, and how numbers are shown
-pub record Chooses (c : Cli) (wanted : Wanted) (sort : Option Sort) (style : NumberFormatStyle) : Type 0 where
+-- a command line chooses what is written, the column that it sorts by, if any, and how numbers are
+-- shown
+pub record Chooses (c : Cli) (wanted : Wanted) (sort : Option Sort)
+    (style : NumberFormatStyle) : Type 0 where
   pub output : Option Format
   pub format : ReadsAs GivesFormat c.output output
   pub streaming : Option Streaming

@@ -17,13 +17,16 @@ is_absolute (b ∷ bs) = b == 47
 abbrev pub in_home : List ℕ → List ℕ
 in_home home = home ++ codes "/.config"
 
--- the user's folder for configuration: the one that is named, where its place is absolute, else the one in the user's own
+-- the user's folder for configuration: the one that is named, where its place is absolute, else the
+-- one in the user's own
 abbrev pub config_folder_of : Option (List ℕ) → Option (List ℕ) → Option (List ℕ)
 config_folder_of None home = option_map in_home home
-config_folder_of (Some folder) home = if is_absolute folder then Some folder else option_map in_home home
+config_folder_of (Some folder) home =
+    if is_absolute folder then Some folder else option_map in_home home
 
 -- the folders of an environment
 pub record AreDirs (env : Env) (dirs : ConfigDirs) : Type 0 where
-  pub config : text_of dirs.config ≡ config_folder_of (text_of env.xdg_config_home) (text_of env.home)
+  pub config :
+      text_of dirs.config ≡ config_folder_of (text_of env.xdg_config_home) (text_of env.home)
   pub home : text_of dirs.home ≡ text_of env.home
   pub current : text_of dirs.current ≡ Some (codes ".")

@@ -8,7 +8,8 @@ use Rattle.tokei_languages.specs.Seen.{languages_of}
 use Rattle.tokei_program.specs.Tables.{content_at}
 use Rattle.tokei_table.specs.Row.{Row}
 
--- what a name means that is no file's: `stdin` what stands on standard input, and any other name itself
+-- what a name means that is no file's: `stdin` what stands on standard input, and any other name
+-- itself
 abbrev pub unfiled : Option (List ℕ) → List ℕ → Option (List ℕ)
 unfiled input name = if bytes_eq name (codes "stdin") then input else Some name
 
@@ -20,9 +21,12 @@ bytes_named t input name = option_or (content_at t name) (unfiled input name)
 abbrev pub AreRead : List Row → Option (List ℕ) → Languages → Type 0
 AreRead rows bytes languages = IfSome bytes (IsAdded rows [] (languages_of languages))
 
--- the languages of earlier runs: none where no name is given, else those of the bytes that the name means
-abbrev pub AreEarlier : List Row → Tree → Option (List ℕ) → Option (List ℕ) → Option Languages → Type 0
+-- the languages of earlier runs: none where no name is given, else those of the bytes that the name
+-- means
+abbrev pub AreEarlier : List Row → Tree → Option (List ℕ) → Option (List ℕ) → Option Languages
+    → Type 0
 AreEarlier rows t input None None = ⊤
 AreEarlier rows t input None (Some languages) = ⊥
 AreEarlier rows t input (Some name) None = ⊥
-AreEarlier rows t input (Some name) (Some languages) = AreRead rows (bytes_named t input name) languages
+AreEarlier rows t input (Some name) (Some languages) =
+    AreRead rows (bytes_named t input name) languages

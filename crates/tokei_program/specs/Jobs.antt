@@ -19,7 +19,8 @@ use Rattle.tokei_table.specs.Row.{Row}
 use Rattle.tokei_walk.specs.Walks.{texts_of}
 
 -- the configuration of a user's files, with the options above it
-pub record IsConfig (rows : List Row) (c : Cli) (env : Env) (t : Tree) (config : Config) : Type 0 where
+pub record IsConfig (rows : List Row) (c : Cli) (env : Env) (t : Tree)
+    (config : Config) : Type 0 where
   pub dirs : ConfigDirs
   pub found : AreDirs env dirs
   pub settings : settings_of config ≡ overridden rows c (configuration rows t dirs)
@@ -34,7 +35,8 @@ pub record IsJob (c : Cli) (job : Job) : Type 0 where
   pub reverse : job.reverse ≡ c.sort_reverse
 
 -- the run of a command line, in an environment, over a known tree and what stands on standard input
-pub record IsJobOf (rows : List Row) (c : Cli) (env : Env) (t : Tree) (input : Option (List ℕ)) (job : Job) : Type 0 where
+pub record IsJobOf (rows : List Row) (c : Cli) (env : Env) (t : Tree) (input : Option (List ℕ))
+    (job : Job) : Type 0 where
   pub members : IsJob c job
   pub chosen : Chooses c job.wanted job.sort job.numbers
   pub config : IsConfig rows c env t job.config

@@ -34,12 +34,14 @@ words_of TooDeep = codes "folder too deep"
 abbrev pub filter_of : ℕ → LevelFilter
 filter_of n =
     if n == 1 then level_filter.Warn
-    else (if n == 2 then level_filter.Debug else (if n == 3 then level_filter.Trace else level_filter.Error))
+    else (if n == 2 then level_filter.Debug
+    else (if n == 3 then level_filter.Trace else level_filter.Error))
 
 -- `[ERROR not found] nope`
 abbrev pub note_line : Note → List ℕ
 note_line n = header_text (level_of n.kind) (words_of n.kind) ++ n.place
 
+-- the filter lets the note through, by its level
 abbrev pub is_shown : LevelFilter → Note → Bool
 is_shown f n = allows f (level_of n.kind)
 

@@ -3,7 +3,8 @@ use Rattle.std.specs.Prelude.{ℕ, List, Option, None, Some, Result, Ok, String,
 use Rattle.std.specs.Global.{Global}
 
 -- by what a word gives: nothing where the option isn't given, and else a value that its word gives
-abbrev pub ReadsAs : {T E : Type 0} → (List ℕ → Result T E → Type 0) → Option (String Global) → Option T → Type 0
+abbrev pub ReadsAs : {T E : Type 0} → (List ℕ → Result T E → Type 0) → Option (String Global)
+    → Option T → Type 0
 ReadsAs gives None None = ⊤
 ReadsAs gives None (Some value) = ⊥
 ReadsAs gives (Some word) None = ⊥

@@ -15,7 +15,8 @@ use Rattle.tokei_program.specs.Tables.{table_at}
 use Rattle.tokei_table.specs.Row.{Row}
 
 -- behind what stood there a writer has what the run of a command line outputs
-pub record WritesCounts (c : Cli) (env : Env) (t : Tree) (input old new : Option (List ℕ)) : Type 0 where
+pub record WritesCounts (c : Cli) (env : Env) (t : Tree)
+    (input old new : Option (List ℕ)) : Type 0 where
   pub rows : List Row
   pub table : table_at t (table_of c) ≡ Some (Ok rows)
   pub job : Job
@@ -29,17 +30,20 @@ pub record WritesList (c : Cli) (t : Tree) (old new : Option (List ℕ)) : Type 
   pub appended : Appends old new (languages_text rows)
 
 -- the list, where it is asked for, and else the counts
-abbrev pub WritesBy : Bool → Cli → Env → Tree → Option (List ℕ) → Option (List ℕ) → Option (List ℕ) → Type 0
+abbrev pub WritesBy : Bool → Cli → Env → Tree → Option (List ℕ) → Option (List ℕ) → Option (List ℕ)
+    → Type 0
 WritesBy true c env t input old new = WritesList c t old new
 WritesBy false c env t input old new = WritesCounts c env t input old new
 
 -- what a command line asks for is written
-pub record WritesAsked (line : Cli) (env : Env) (t : Tree) (input old new : Option (List ℕ)) : Type 0 where
+pub record WritesAsked (line : Cli) (env : Env) (t : Tree)
+    (input old new : Option (List ℕ)) : Type 0 where
   pub inputs : inputs_of line ≢ []
   pub written : WritesBy line.print_languages line env t input old new
 
 -- what the command line of these words asks for is written
-pub record WritesLine (words : List (List ℕ)) (env : Env) (t : Tree) (input old new : Option (List ℕ)) : Type 0 where
+pub record WritesLine (words : List (List ℕ)) (env : Env) (t : Tree)
+    (input old new : Option (List ℕ)) : Type 0 where
   pub line : Cli
   pub spelled : IsLineOf words line
   pub asked : WritesAsked line env t input old new
@@ -51,5 +55,6 @@ pub record WritesText (old new : Option (List ℕ)) : Type 0 where
   pub appended : Appends old new text
 
 -- either of them
-abbrev pub Writes : List (List ℕ) → Env → Tree → Option (List ℕ) → Option (List ℕ) → Option (List ℕ) → Type 0
+abbrev pub Writes : List (List ℕ) → Env → Tree → Option (List ℕ) → Option (List ℕ) → Option (List ℕ)
+    → Type 0
 Writes words env t input old new = WritesText old new ⊎ WritesLine words env t input old new

@@ -19,7 +19,8 @@ pub struct Choices {
     pub numbers: NumberFormatStyle,
 }
 
-/// What a word is read as, where there is a word; refused with a text that names the word and its option.
+/// What a word is read as, where there is a word; refused with a text that names the word and its
+/// option.
 fn read<T: FromStr>(alloc: Global, option: &str, word: &Option<String>) -> Result<Option<T>, Ending>
 where
     T::Err: Drop,
@@ -51,7 +52,8 @@ fn wanted(streaming: Option<Streaming>, output: Option<Format>) -> Wanted
 }
 
 impl Choices {
-    /// Reads the words of output, streaming, sort and num-format. One that isn't known is a refused command line.
+    /// Reads the words of output, streaming, sort and num-format. One that isn't known is a refused
+    /// command line.
     pub fn of(alloc: Global, cli: &Cli) -> Result<Choices, Ending>
         ensures { IfOk result (λ c. Chooses cli.now c.wanted c.sort c.numbers) }
     {

@@ -19,7 +19,8 @@ use std::alloc::Global;
 use tokei::{Folders, Sink, Source, run};
 use tokei_cli::{Cli, CliError, print_supported_languages};
 
-/// Counts what a command line names, and writes what it wants of that. What is to be said beside it is answer_words.
+/// Counts what a command line names, and writes what it wants of that. What is to be said beside it
+/// is answer_words.
 fn counted<F: Folders, S: Source, W: Sink>(
     alloc: Global,
     cli: &Cli,
@@ -63,8 +64,8 @@ fn listed<F: Folders, W: Sink>(
     Ok(String::new(alloc))
 }
 
-/// Does what a command line asks for, and answers what is to be said on standard error beside it. A refused one is seen
-/// before anything is read or written.
+/// Does what a command line asks for, and answers what is to be said on standard error beside it. A
+/// refused one is seen before anything is read or written.
 fn carry_out<F: Folders, S: Source, W: Sink>(
     alloc: Global,
     cli: &Cli,
@@ -80,7 +81,8 @@ fn carry_out<F: Folders, S: Source, W: Sink>(
     ensures beside { IfOk result (λ text. ShowsNotes cli.now (string_bytes text)) }
     ensures fault { W.faults out.old < u64.MAX → OnOk result (W.faults out.new ≡ W.faults out.old) }
     ensures unwritten { IfErr result (λ e. status_of e ≡ 2 → out.new ≡ out.old) }
-    ensures unread { IfErr result (λ e. status_of e ≡ 2 → (folders.new ≡ folders.old) × (input.new ≡ input.old)) }
+    ensures unread { IfErr result (λ e. status_of e ≡ 2
+        → (folders.new ≡ folders.old) × (input.new ≡ input.old)) }
 {
     let choices = Choices::of(alloc, cli)?;
     if cli.print_languages {
@@ -100,12 +102,15 @@ fn answer_words<F: Folders, S: Source, W: Sink>(
     out: &mut W,
 ) -> Result<String, Ending>
     ensures same { SameTree F.tree folders.old folders.new }
-    ensures told { Told (F.tree folders.old) (λ t. OnOk result (Writes
-        (map (λ w. w.now) words.now) env.now t (S.remaining input.old) (W.contents out.old) (W.contents out.new))) }
-    ensures beside { IfOk result (λ text. IsBeside (map (λ w. w.now) words.now) (string_bytes text)) }
+    ensures told { Told (F.tree folders.old) (λ t. OnOk result
+        (Writes (map (λ w. w.now) words.now) env.now t (S.remaining input.old) (W.contents out.old)
+        (W.contents out.new))) }
+    ensures beside { IfOk result (λ text. IsBeside (map (λ w. w.now) words.now)
+        (string_bytes text)) }
     ensures fault { W.faults out.old < u64.MAX → OnOk result (W.faults out.new ≡ W.faults out.old) }
     ensures unwritten { IfErr result (λ e. status_of e ≡ 2 → out.new ≡ out.old) }
-    ensures unread { IfErr result (λ e. status_of e ≡ 2 → (folders.new ≡ folders.old) × (input.new ≡ input.old)) }
+    ensures unread { IfErr result (λ e. status_of e ≡ 2
+        → (folders.new ≡ folders.old) × (input.new ≡ input.old)) }
 {
     match Cli::from_words(alloc, words) {
         Ok(cli) => carry_out(alloc, &cli, env, folders, input, out),
@@ -118,15 +123,16 @@ fn answer_words<F: Folders, S: Source, W: Sink>(
     }
 }
 
-/// Runs the program with these words, of which the first is its name, and answers its exit status: 0 where it did what was
-/// asked, 2 where the command line is refused, 1 where something failed. What is asked for goes to `out`, and what is to be
-/// said beside it to `err`.
+/// Runs the program with these words, of which the first is its name, and answers its exit status:
+/// 0 where it did what was asked, 2 where the command line is refused, 1 where something failed.
+/// What is asked for goes to `out`, and what is to be said beside it to `err`.
 ///
-/// With status 0 `out` has gained, over a known tree, help, the version, or what the command line of the words asks for: the
-/// list of languages, or what `run` writes for its job; and `err` has gained nothing, or notes of what was passed over, as
-/// many as the command line shows. A refused command line is seen before anything is read or written.
-/// Any other status than 1 says that neither writer had a fault. Where the status is 1 and `err` had no fault, one message
-/// stands in it.
+/// With status 0 `out` has gained, over a known tree, help, the version, or what the command line
+/// of the words asks for: the list of languages, or what `run` writes for its job; and `err` has
+/// gained nothing, or notes of what was passed over, as many as the command line shows. A refused
+/// command line is seen before anything is read or written. Any other status than 1 says that
+/// neither writer had a fault. Where the status is 1 and `err` had no fault, one message stands in
+/// it.
 pub fn program<F: Folders, S: Source, W: Sink, E: Sink>(
     alloc: Global,
     words: &[&str],
@@ -137,14 +143,18 @@ pub fn program<F: Folders, S: Source, W: Sink, E: Sink>(
     err: &mut E,
 ) -> u8
     ensures same { SameTree F.tree folders.old folders.new }
-    ensures written { Told (F.tree folders.old) (λ t. result ≡ 0 → Writes
-        (map (λ w. w.now) words.now) env.now t (S.remaining input.old) (W.contents out.old) (W.contents out.new)) }
-    ensures beside { result ≡ 0 → SaysBeside (map (λ w. w.now) words.now) (E.contents err.old) (E.contents err.new) }
+    ensures written { Told (F.tree folders.old) (λ t. result ≡ 0
+        → Writes (map (λ w. w.now) words.now) env.now t (S.remaining input.old) (W.contents out.old)
+        (W.contents out.new)) }
+    ensures beside { result ≡ 0
+        → SaysBeside (map (λ w. w.now) words.now) (E.contents err.old) (E.contents err.new) }
     ensures status { result ≤ 2 }
     ensures refused { result ≡ 2 → out.new ≡ out.old }
     ensures unread { result ≡ 2 → (folders.new ≡ folders.old) × (input.new ≡ input.old) }
-    ensures out_fault { W.faults out.old < u64.MAX → result ≢ 1 → W.faults out.new ≡ W.faults out.old }
-    ensures err_fault { E.faults err.old < u64.MAX → result ≢ 1 → E.faults err.new ≡ E.faults err.old }
+    ensures out_fault { W.faults out.old < u64.MAX → result ≢ 1
+        → W.faults out.new ≡ W.faults out.old }
+    ensures err_fault { E.faults err.old < u64.MAX → result ≢ 1
+        → E.faults err.new ≡ E.faults err.old }
     ensures said { E.faults err.old < u64.MAX → E.faults err.new ≡ E.faults err.old
         → result ≡ 1 → Says (E.contents err.old) (E.contents err.new) }
 {

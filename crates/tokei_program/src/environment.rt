@@ -34,7 +34,8 @@ fn is_absolute(place: &str) -> bool
     }
 }
 
-/// The user's folder for configuration: `XDG_CONFIG_HOME` where it begins with `/`, else `.config` in `HOME`.
+/// The user's folder for configuration: `XDG_CONFIG_HOME` where it begins with `/`, else `.config`
+/// in `HOME`.
 fn config_folder(alloc: Global, env: &Env) -> Result<Option<String>, AllocError>
     ensures { IfOk result (λ o. text_of o
         ≡ config_folder_of (text_of env.now.xdg_config_home) (text_of env.now.home)) }

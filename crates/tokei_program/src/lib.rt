@@ -1,8 +1,8 @@
-//! The program as a call: it takes the words of a command line, the environment, folders, and three ends to read from and
-//! write to, and returns the exit status.
+//! The program as a call: it takes the words of a command line, the environment, folders, and three
+//! ends to read from and write to, and returns the exit status.
 //!
-//! `specs/` holds what the program writes and what it says beside that, of which job it writes it, the exit statuses, the
-//! messages, and the notes of a walk as lines of a log.
+//! `specs/` holds what the program writes and what it says beside that, of which job it writes it,
+//! the exit statuses, the messages, and the notes of a walk as lines of a log.
 #![tactic(auto)]
 
 pub mod choices;

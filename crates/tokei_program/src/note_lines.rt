@@ -61,9 +61,9 @@ fn push_note(note: &Note, lines: &mut Lines) -> Result<(), AllocError>
     lines.push(&record)
 }
 
-/// Adds, in order, the line of each note whose level is shown where `--verbose` was given so often: errors alone, with
-/// 1 warnings too, with 2 or 3 everything, and errors alone with any other count. Where memory is refused a beginning of
-/// these lines has been added.
+/// Adds, in order, the line of each note whose level is shown where `--verbose` was given so often:
+/// errors alone, with 1 warnings too, with 2 or 3 everything, and errors alone with any other
+/// count. Where memory is refused a beginning of these lines has been added.
 pub fn log_notes(notes: &[Note], verbose: u8, lines: &mut Lines) -> Result<(), AllocError>
     ensures ok { OnOk result (lines.new ≡ lines.old ++ lines_of (filter_of verbose) notes.now) }
     ensures err { OnErr result (IsBeginning (filter_of verbose) lines.old lines.new notes.now) }

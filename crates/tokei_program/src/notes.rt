@@ -16,8 +16,8 @@ fn push_line(text: &mut String, line: &str) -> Result<(), AllocError>
     Ok(())
 }
 
-/// The lines of what a run passed over, of those that are shown where `--verbose` was given so often. It fails where memory
-/// runs out.
+/// The lines of what a run passed over, of those that are shown where `--verbose` was given so
+/// often. It fails where memory runs out.
 pub fn notes_text(alloc: Global, notes: &[Note], verbose: u8) -> Result<String, AllocError>
     ensures { IfOk result (λ text. string_bytes text ≡ notes_text verbose notes.now) }
 {

@@ -33,7 +33,8 @@ pub fn table_of<F: Folders>(
     folders: &mut F,
 ) -> Result<LanguageTable, Ending>
     ensures same { SameTree F.tree folders.old folders.new }
-    ensures told { Told (F.tree folders.old) (λ t. IfOk result (λ rows. table_at t (table_named cli.now) ≡ Some (Ok rows))) }
+    ensures told { Told (F.tree folders.old) (λ t. IfOk result
+        (λ rows. table_at t (table_named cli.now) ≡ Some (Ok rows))) }
     ensures failed { IfErr result (λ e. status_of e ≡ 1) }
 {
     match folders.read(cli.table()) {
@@ -52,7 +53,8 @@ fn configuration<F: Folders>(
     folders: &mut F,
 ) -> Result<Config, Ending>
     ensures same { SameTree F.tree folders.old folders.new }
-    ensures told { Told (F.tree folders.old) (λ t. IfOk result (IsConfig table.now cli.now env.now t)) }
+    ensures told { Told (F.tree folders.old) (λ t. IfOk result
+        (IsConfig table.now cli.now env.now t)) }
     ensures failed { IfErr result (λ e. status_of e ≡ 1) }
 {
     let dirs = config_dirs(alloc, env)?;
@@ -81,8 +83,8 @@ fn languages_of<S: Source>(
     }
 }
 
-/// The earlier results of that name: the file's; where it can't be read those on standard input, if the name is
-/// `stdin`; and else the name is their text.
+/// The earlier results of that name: the file's; where it can't be read those on standard input, if
+/// the name is `stdin`; and else the name is their text.
 fn earlier_of<F: Folders, S: Source>(
     alloc: Global,
     table: &LanguageTable,

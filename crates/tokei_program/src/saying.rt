@@ -40,11 +40,12 @@ fn say_refused_input<E: Sink>(alloc: Global, name: &str, err: &mut E) -> Result<
     }
 }
 
-/// Says how a run ended; where there is no memory for its words, that memory ran out. After a fault of the writer nothing is
-/// said of what was written.
+/// Says how a run ended; where there is no memory for its words, that memory ran out. After a fault
+/// of the writer nothing is said of what was written.
 #[tactic(auto, using(crate::proofs::Messages::no_memory_said, crate::proofs::Messages::said))]
 pub fn say<E: Sink>(alloc: Global, ending: &Ending, err: &mut E) -> Result<(), Ending>
-    ensures said { status_of ending.now ≡ 1 → OnOk result (Says (E.contents err.old) (E.contents err.new)) }
+    ensures said { status_of ending.now ≡ 1
+        → OnOk result (Says (E.contents err.old) (E.contents err.new)) }
     ensures faults { E.faults err.old < u64.MAX
         → E.faults err.new ≡ faults_after result (E.faults err.old) }
 {

@@ -7,7 +7,8 @@ use std::io::{Error, ErrorKind, Read};
 /// The most reads of one file.
 pub(crate) const MAX_READS: u64 = 4_294_967_296;
 
-/// A reader that gives what another one gives, in `MAX_READS` reads at most; a further read is a fault.
+/// A reader that gives what another one gives, in `MAX_READS` reads at most; a further read is a
+/// fault.
 #[derive(Drop)]
 pub(crate) struct Limited<R> {
     pub inner: R,

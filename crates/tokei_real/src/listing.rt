@@ -11,8 +11,8 @@ use std::rt::Files;
 use std::{fs, io};
 use tokei_folders::{Entry, Kind, Listing, Text};
 
-/// What the system says stands there. A link that isn't followed is neither a file nor a folder, nor is a device, a pipe or
-/// a socket.
+/// What the system says stands there. A link that isn't followed is neither a file nor a folder,
+/// nor is a device, a pipe or a socket.
 pub(crate) fn kind_of(metadata: &Metadata) -> Kind
     ensures file { result ≡ Kind.File ↔ IsFile (file_type metadata.now) }
     ensures folder { result ≡ Kind.Folder ↔ IsDir (file_type metadata.now) }
@@ -26,7 +26,8 @@ pub(crate) fn kind_of(metadata: &Metadata) -> Kind
     }
 }
 
-/// Puts the entries in the byte order of their names; where memory is refused they stay as they were.
+/// Puts the entries in the byte order of their names; where memory is refused they stay as they
+/// were.
 fn put_in_order(entries: &mut Vec<Entry>) -> Result<(), AllocError>
     ensures sorted { OnOk result (IsSorted by_name entries.new.items) }
     ensures same { IsPermutation entries.old.items entries.new.items }

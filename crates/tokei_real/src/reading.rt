@@ -24,8 +24,9 @@ fn kept(buffer: &mut Vec<u8>) -> Result<&mut [u8], AllocError> {
     Ok(buffer)
 }
 
-/// The first bytes of a file, and behind them all that its reader has left. Room is made once for the number of bytes
-/// that the file is said to have; where it has more or fewer, all of them are read.
+/// The first bytes of a file, and behind them all that its reader has left. Room is made once for
+/// the number of bytes that the file is said to have; where it has more or fewer, all of them are
+/// read.
 fn all_behind<R: Read + Drop>(
     alloc: Global,
     front: &[u8],
@@ -41,18 +42,20 @@ fn all_behind<R: Read + Drop>(
     Ok(bytes)
 }
 
-/// All that a reader has left. Room is made once for the number of bytes that it is said to have; where it has more or
-/// fewer, all of them are read.
+/// All that a reader has left. Room is made once for the number of bytes that it is said to have;
+/// where it has more or fewer, all of them are read.
 pub fn all_of<R: Read + Drop>(alloc: Global, reader: R, said: usize) -> io::Result<Vec<u8>>
     ensures { IfOk result (λ v. IfSome (R.remaining reader) (λ text. v.items ≡ text)) }
 {
     all_behind(alloc, &[], reader, said)
 }
 
-/// Reads what a reader has left to the front of a buffer, until that is full or the reader has ended; how many bytes.
+/// Reads what a reader has left to the front of a buffer, until that is full or the reader has
+/// ended; how many bytes.
 fn fill<R: Read>(reader: &mut R, buffer: &mut [u8]) -> io::Result<usize>
     ensures bound { ReadsAtMost result buffer.new }
-    ensures read { IfOk result (λ n. Consumes (R.remaining reader.old) (R.remaining reader.new) (take n buffer.new)) }
+    ensures read { IfOk result (λ n. Consumes (R.remaining reader.old) (R.remaining reader.new)
+        (take n buffer.new)) }
     ensures end { IfOk result (λ n. n < length buffer.new → IsAtEnd (R.remaining reader.new)) }
 {
     let mut filled = 0;
@@ -70,8 +73,9 @@ fn fill<R: Read>(reader: &mut R, buffer: &mut [u8]) -> io::Result<usize>
     Err(Error::from(ErrorKind::Other))
 }
 
-/// All that an open file has left, read by a buffer that is kept between files. Only where that is filled is the length
-/// asked, and room made for the rest; where the file has more or fewer bytes, all of them are read.
+/// All that an open file has left, read by a buffer that is kept between files. Only where that is
+/// filled is the length asked, and room made for the rest; where the file has more or fewer bytes,
+/// all of them are read.
 pub fn all_by<R: Read + OpenFile + Drop>(
     alloc: Global,
     mut reader: R,
@@ -96,8 +100,8 @@ pub fn head_of<R: Read + Drop>(alloc: Global, reader: R) -> io::Result<Vec<u8>>
     Ok(bytes)
 }
 
-/// How many bytes the file at a place has, links followed. Anything else isn't read, and never opened: opening a pipe
-/// would wait for its writer.
+/// How many bytes the file at a place has, links followed. Anything else isn't read, and never
+/// opened: opening a pipe would wait for its writer.
 fn length_of_file<R: Files>(rt: &R, place: &str) -> io::Result<usize> {
     let metadata = fs::metadata(rt, place)?;
     if !metadata.is_file() {
@@ -112,8 +116,9 @@ pub(crate) fn content<R: Files + AllocGlobal>(rt: &R, place: &str) -> io::Result
     all_of(rt.alloc(), File::open(rt, place)?, length)
 }
 
-/// The content of the file at a place, of which a listing or a status has told that it is one. Only a change since then
-/// could make the opening wait. It is read by a buffer that is kept between files.
+/// The content of the file at a place, of which a listing or a status has told that it is one. Only
+/// a change since then could make the opening wait. It is read by a buffer that is kept between
+/// files.
 pub(crate) fn listed_content<R: Files + AllocGlobal>(
     rt: &R,
     place: &str,

@@ -10,7 +10,8 @@ use std::rt::Files;
 use std::{fs, io};
 use tokei_folders::{Above, Fault, Folders, Kind, Listing};
 
-/// The folders of the system, which tell no tree. Places are paths, read from the current folder on.
+/// The folders of the system, which tell no tree. Places are paths, read from the current folder
+/// on.
 #[derive(Drop)]
 pub struct RealFolders<R> {
     rt: R,

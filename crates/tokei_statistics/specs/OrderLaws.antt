@@ -17,5 +17,8 @@ pub record HaveEqualTotals (a b : List (ℕ × LanguageValue)) : Type 0 where
 
 -- files that are counted in another order give equal totals, whatever was counted before
 abbrev pub OrderKeepsTotals : Type 0
-OrderKeepsTotals = (c : Counting) (t : Tree) (earlier : List (ℕ × LanguageValue)) (files others : List KeptFile) → IsPermutation files others
-    → HaveEqualTotals (renewed_languages (merged_languages earlier (languages_of_run c t files))) (renewed_languages (merged_languages earlier (languages_of_run c t others)))
+OrderKeepsTotals =
+    (c : Counting) (t : Tree) (earlier : List (ℕ × LanguageValue)) (files others : List KeptFile)
+    → IsPermutation files others
+    → HaveEqualTotals (renewed_languages (merged_languages earlier (languages_of_run c t files)))
+    (renewed_languages (merged_languages earlier (languages_of_run c t others)))

@@ -16,8 +16,8 @@ use tokei_files::{Counting, ParseFault};
 use tokei_languages::Languages;
 use tokei_walk::{Folders, KeptFile, Note, Rules, Walk};
 
-/// Counts one file: its report goes to its language, or a mark where it can't be read. A refusal changes nothing of
-/// the languages.
+/// Counts one file: its report goes to its language, or a mark where it can't be read. A refusal
+/// changes nothing of the languages.
 pub fn add_file<F: Folders>(
     counting: &Counting,
     folders: &mut F,
@@ -31,7 +31,8 @@ pub fn add_file<F: Folders>(
     ensures stays { OnErr result (languages_of languages.new ≡ languages_of languages.old) }
     ensures overflow { IsErrOf result CountError.Overflow → Told (F.tree folders.old) (λ t.
         ¬ FileFits (counting_of counting.now) t file) }
-    ensures honest { result ≢ Err CountError.Memory → FaultsStay F.memory_faults folders.old folders.new }
+    ensures honest { result ≢ Err CountError.Memory
+        → FaultsStay F.memory_faults folders.old folders.new }
 {
     let language = match counting.language(folders, &file)? {
         Some(language) => language,
@@ -48,8 +49,8 @@ pub fn add_file<F: Folders>(
     }
 }
 
-/// Counts the files that a walk still gives, as it gives them. After a refusal the languages are those from before
-/// with those of the first files, so many as were counted.
+/// Counts the files that a walk still gives, as it gives them. After a refusal the languages are
+/// those from before with those of the first files, so many as were counted.
 pub fn count_files<F: Folders>(
     counting: &Counting,
     folders: &mut F,
@@ -74,8 +75,9 @@ pub fn count_files<F: Folders>(
     Ok(())
 }
 
-/// Counts the files that the rules keep below the roots, and answers what was passed over. After a refusal the
-/// languages are those from before with those of the first files, so many as were counted.
+/// Counts the files that the rules keep below the roots, and answers what was passed over. After a
+/// refusal the languages are those from before with those of the first files, so many as were
+/// counted.
 pub fn count_roots<F: Folders>(
     counting: &Counting,
     folders: &mut F,
@@ -85,10 +87,12 @@ pub fn count_roots<F: Folders>(
     languages: &mut Languages,
 ) -> Result<Vec<Note>, CountError>
     ensures same { SameTree F.tree folders.old folders.new }
-    ensures told { Told (F.tree folders.old) (λ t. OnOk result (AddsFiles (counting_of counting.now) t
+    ensures told { Told (F.tree folders.old) (λ t. OnOk result
+        (AddsFiles (counting_of counting.now) t
         (kept_in (excludes_of (texts_of excludes.now)) rules.now t (texts_of roots.now))
         (languages_of languages.old) (languages_of languages.new))) }
-    ensures partly { Told (F.tree folders.old) (λ t. OnErr result (AddsFirst (counting_of counting.now) t
+    ensures partly { Told (F.tree folders.old) (λ t. OnErr result
+        (AddsFirst (counting_of counting.now) t
         (kept_in (excludes_of (texts_of excludes.now)) rules.now t (texts_of roots.now))
         (languages_of languages.old) (languages_of languages.new))) }
     ensures overflow { IsErrOf result CountError.Overflow → Told (F.tree folders.old) (λ t.

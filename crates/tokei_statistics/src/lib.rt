@@ -1,5 +1,5 @@
-//! Where the walk and the counter meet: the statistics of all files that the ignore rules keep below some roots. The
-//! names for the language and the report of one file are handed on.
+//! Where the walk and the counter meet: the statistics of all files that the ignore rules keep
+//! below some roots. The names for the language and the report of one file are handed on.
 //!
 //! `specs/` holds the rules, one idea a file: the languages of a run, and the order of its files.
 #![tactic(auto)]

@@ -21,13 +21,15 @@ use tokei_walk::Note;
 
 /// Languages into which the files of folders are counted.
 pub trait CountFiles {
-    /// Counts each file that the configuration keeps below the paths, as the walk gives it, in the language that it has by
-    /// the table in which languages have gained the configuration's extensions; the counts of languages aren't renewed.
-    /// Excludes are patterns, as in an ignore file. A file that can't be read marks its language and leaves no report.
-    /// What was passed over is answered.
+    /// Counts each file that the configuration keeps below the paths, as the walk gives it, in the
+    /// language that it has by the table in which languages have gained the configuration's
+    /// extensions; the counts of languages aren't renewed. Excludes are patterns, as in an ignore
+    /// file. A file that can't be read marks its language and leaves no report. What was passed
+    /// over is answered.
     ///
-    /// `Overflow` comes only where a count of a file passes the greatest `usize`. After a refusal the languages are those
-    /// from before with those of the first files, so many as were counted, and the folders keep their tree.
+    /// `Overflow` comes only where a count of a file passes the greatest `usize`. After a refusal
+    /// the languages are those from before with those of the first files, so many as were counted,
+    /// and the folders keep their tree.
     fn get_all_files<F: Folders>(
         &mut self,
         table: &LanguageTable,
@@ -37,10 +39,11 @@ pub trait CountFiles {
         config: &Config,
     ) -> Result<Vec<Note>, CountError>;
 
-    /// The same, and then the counts of every language are renewed: they become the sums of its reports' own counts.
+    /// The same, and then the counts of every language are renewed: they become the sums of its
+    /// reports' own counts.
     ///
-    /// `Overflow` comes only where a count of a file, or such a sum, passes the greatest `usize`. After a refusal no counts
-    /// are renewed.
+    /// `Overflow` comes only where a count of a file, or such a sum, passes the greatest `usize`.
+    /// After a refusal no counts are renewed.
     fn get_statistics<F: Folders>(
         &mut self,
         table: &LanguageTable,
@@ -72,7 +75,8 @@ impl CountFiles for Languages {
         ensures overflow { IsErrOf result CountError.Overflow → Told (F.tree folders.old) (λ t.
             ¬ ReadingsFit (counting_by table.now (settings_of config.now)) t
             (kept_by (settings_of config.now) t (texts_of paths.now) (texts_of ignored.now))) }
-        ensures notes { IfOk result (λ n. Grows (notes_of_excludes (texts_of ignored.now)) n.items) }
+        ensures notes { IfOk result (λ n. Grows (notes_of_excludes (texts_of ignored.now))
+            n.items) }
         ensures honest { NoFault F.memory_faults folders.old folders.new result }
     {
         let alloc = self.allocator();
@@ -108,7 +112,8 @@ impl CountFiles for Languages {
             ¬ RunFits (counting_by table.now (settings_of config.now)) t
             (kept_by (settings_of config.now) t (texts_of paths.now) (texts_of ignored.now))
             (languages_of self.old)) }
-        ensures notes { IfOk result (λ n. Grows (notes_of_excludes (texts_of ignored.now)) n.items) }
+        ensures notes { IfOk result (λ n. Grows (notes_of_excludes (texts_of ignored.now))
+            n.items) }
         ensures honest { NoFault F.memory_faults folders.old folders.new result }
     {
         let notes = self.get_all_files(table, folders, paths, ignored, config)?;

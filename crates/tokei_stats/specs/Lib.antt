@@ -1,4 +1,5 @@
--- What contracts say of statistics: sums and summaries, when these fit, their laws, and the row of a report.
+-- What contracts say of statistics: sums and summaries, when these fit, their laws, and the row of
+-- a report.
 pub use Rattle.tokei_table_row.specs.Counts
 pub mod Ordered
 pub mod Overflow

@@ -15,6 +15,7 @@ abbrev mutual
   pub Fits : Statistics → Type 0
   Fits (node n bs) = CountsFit n × BlobsFit bs
 
+  -- the counts of each of the blobs fit, at every depth
   pub BlobsFit : Blobs → Type 0
   BlobsFit none = ⊤
   BlobsFit (blob k t rest) = Fits t × BlobsFit rest

@@ -1,5 +1,5 @@
--- The row of a report as a text, without the newline that a printer ends it with: a space, the name, and the four
--- counts.
+-- The row of a report as a text, without the newline that a printer ends it with: a space, the
+-- name, and the four counts.
 use Rattle.std.specs.Prelude.{ℕ, ◌+◌, ◌-◌, List, ◌∷◌, ◌++◌, length, drop, nat_lt, if◌then◌else◌}
 use Rattle.tokei_stats.specs.Places.{left_in, number_in}
 use Rattle.tokei_table_row.specs.Counts.{Counts, lines_of}
@@ -10,14 +10,18 @@ use Rattle.tokei_bytes.specs.Boundaries.{boundary_from}
 abbrev pub bar : ℕ
 bar = 124
 
--- a name of more than w bytes is a bar and its end, from the first character that leaves room for the bar
+-- a name of more than w bytes is a bar and its end, from the first character that leaves room for
+-- the bar
 abbrev pub shortened : ℕ → List ℕ → List ℕ
-shortened w name = if nat_lt w (length name) then bar ∷ drop (boundary_from name (length name + 1 - w)) name else name
+shortened w name =
+    if nat_lt w (length name) then bar ∷ drop (boundary_from name (length name + 1 - w)) name
+    else name
 
 -- how many places a row of this width has for the name
 abbrev pub name_places : ℕ → ℕ
 name_places width = width + 2
 
+-- the name in so many places, cut where it is longer, else filled with spaces behind it
 abbrev pub name_cell : ℕ → List ℕ → List ℕ
 name_cell w name = left_in w (shortened w name)
 
@@ -33,5 +37,6 @@ counts_cells n =
     ++ (space ∷ (number_in count_places n.comments
     ++ (space ∷ number_in count_places n.blanks))))))
 
+-- the row of a name and its counts, in so many columns
 abbrev pub report_row : ℕ → List ℕ → Counts → List ℕ
 report_row width name n = space ∷ (name_cell (name_places width) name ++ counts_cells n)

@@ -11,9 +11,11 @@ pub record ReportValue : Type 0 where
   pub name : List ℕ
   pub stats : Statistics
 
+-- a report's name in bytes, and its statistics
 abbrev pub report_of : Report → ReportValue
 report_of r = record { name = string_bytes r.name; stats = stats_of r.stats }
 
+-- the reports of a list, in their order
 abbrev pub reports_of : Vec Report Global → List ReportValue
 reports_of v = map report_of v.items
 

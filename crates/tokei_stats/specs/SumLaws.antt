@@ -5,37 +5,48 @@ use Rattle.tokei_stats.specs.Statistics.{Statistics, Blobs, own, blobs, empty, p
 use Rattle.tokei_stats.specs.Statistics.Statistics.{node}
 use Rattle.tokei_stats.specs.Statistics.Blobs.{none}
 
+-- a sum of ordered statistics is ordered
 abbrev pub SumsStayOrdered : Type 0
 SumsStayOrdered = (s t : Statistics) → IsOrdered s → IsOrdered t → IsOrdered (sum s t)
 
+-- which of two is added to the other makes no difference
 abbrev pub SumsCommute : Type 0
 SumsCommute = (s t : Statistics) → IsOrdered s → IsOrdered t → sum s t ≡ sum t s
 
+-- which two of three are added first makes no difference
 abbrev pub SumsAssociate : Type 0
-SumsAssociate = (s t u : Statistics) → IsOrdered s → IsOrdered t → IsOrdered u → sum (sum s t) u ≡ sum s (sum t u)
+SumsAssociate =
+    (s t u : Statistics) → IsOrdered s → IsOrdered t → IsOrdered u
+    → sum (sum s t) u ≡ sum s (sum t u)
 
+-- adding empty statistics changes nothing, on either side
 abbrev pub EmptyIsNeutral : Type 0
 EmptyIsNeutral = (s : Statistics) → IsOrdered s → (sum s empty ≡ s) × (sum empty s ≡ s)
 
 -- the summary of a sum is the sum of the summaries
 abbrev pub SummariesAdd : Type 0
-SummariesAdd = (s t : Statistics) → IsOrdered s → IsOrdered t → summary (sum s t) ≡ plus (summary s) (summary t)
+SummariesAdd =
+    (s t : Statistics) → IsOrdered s → IsOrdered t
+    → summary (sum s t) ≡ plus (summary s) (summary t)
 
 -- summarising twice is once
 abbrev pub SummarisingOnceSuffices : Type 0
 SummarisingOnceSuffices = (s : Statistics) → summary (node (summary s) none) ≡ summary s
 
--- the statistics of a language in a sum, by those of the two sides: the sum of both, or the one that is there
+-- the statistics of a language in a sum, by those of the two sides: the sum of both, or the one
+-- that is there
 abbrev pub both : Option Statistics → Option Statistics → Option Statistics
 both None y = y
 both (Some s) None = Some s
 both (Some s) (Some t) = Some (sum s t)
 
--- the statistics have the numbers of both sides added up, and at each language the sum of both, or the one there is
+-- the statistics have the numbers of both sides added up, and at each language the sum of both, or
+-- the one there is
 pub record HoldsBoth (s t total : Statistics) : Type 0 where
   pub numbers : own total ≡ plus (own s) (own t)
   pub languages : (k : ℕ) → at (blobs total) k ≡ both (at (blobs s) k) (at (blobs t) k)
 
+-- a sum has each language of the two, with the sum of what they have there
 abbrev pub SumsHoldBoth : Type 0
 SumsHoldBoth = (s t : Statistics) → IsOrdered t → HoldsBoth s t (sum s t)
 
@@ -44,5 +55,6 @@ pub record ChangesOne (old new : Blobs) (k : ℕ) (s : Statistics) : Type 0 wher
   pub here : at new k ≡ Some s
   pub others : (i : ℕ) → i ≢ k → at new i ≡ at old i
 
+-- putting statistics at a language changes that language alone
 abbrev pub PutsChangeOne : Type 0
 PutsChangeOne = (bs : Blobs) (k : ℕ) (s : Statistics) → ChangesOne bs (put bs k s) k s

@@ -1,5 +1,6 @@
-//! The statistics of a text and of the texts of other languages inside it: their sums and summaries, a file's report, the
-//! row that shows a report, and the laws of sums, summaries and order.
+//! The statistics of a text and of the texts of other languages inside it: their sums and
+//! summaries, a file's report, the row that shows a report, and the laws of sums, summaries and
+//! order.
 #![tactic(auto)]
 
 mod counts_cells;

@@ -31,10 +31,12 @@ impl Report {
         }
     }
 
-    /// Adds the statistics to those of the report, by number and by language, at every depth. `Overflow` exactly where
-    /// a sum of two numbers passes the greatest `usize`, or `Memory`; a refusal changes nothing.
+    /// Adds the statistics to those of the report, by number and by language, at every depth.
+    /// `Overflow` exactly where a sum of two numbers passes the greatest `usize`, or `Memory`; a
+    /// refusal changes nothing.
     pub fn add(&mut self, stats: CodeStats) -> Result<(), CountError>
-        ensures ok { OnOk result (stats_of self.new.stats ≡ sum (stats_of self.old.stats) (stats_of stats)) }
+        ensures ok { OnOk result
+            (stats_of self.new.stats ≡ sum (stats_of self.old.stats) (stats_of stats)) }
         ensures name { self.new.name ≡ self.old.name }
         ensures fits { OnOk result (Fits (sum (stats_of self.old.stats) (stats_of stats))) }
         ensures overflow { IsErrOf result CountError.Overflow
@@ -44,7 +46,8 @@ impl Report {
         self.stats.add(&stats)
     }
 
-    /// A copy, equal by `==`, which differs from a clone in that it may be refused when out of memory.
+    /// A copy, equal by `==`, which differs from a clone in that it may be refused when out of
+    /// memory.
     pub fn try_clone(&self) -> Result<Report, CountError>
         ensures stats { IfOk result (λ r. stats_of r.stats ≡ stats_of self.now.stats) }
         ensures name { IfOk result (λ r. string_bytes r.name ≡ string_bytes self.now.name) }
@@ -60,7 +63,8 @@ impl Report {
     /// The row that shows the report, with `width + 2` places for the name; takes no memory.
     pub fn display_in(&self, width: usize) -> ReportRow<'_>
         requires { width ≤ 65535 }
-        ensures { result ≡ report_row width (string_bytes self.now.name) (counts_of self.now.stats) }
+        ensures { result
+            ≡ report_row width (string_bytes self.now.name) (counts_of self.now.stats) }
     {
         let counts = CountsCells {
             blanks: self.stats.blanks,

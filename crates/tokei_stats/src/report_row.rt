@@ -4,8 +4,8 @@ use crate::name_cell::NameCell;
 use std::fmt;
 use std::marker::Model;
 
-/// A report's row: a space, the name, and its lines, code, comments and blanks. It has no newline, and printing it
-/// takes no memory.
+/// A report's row: a space, the name, and its lines, code, comments and blanks. It has no newline,
+/// and printing it takes no memory.
 #[derive(Debug, Drop)]
 pub struct ReportRow<'a> {
     name: &'a str,

@@ -6,13 +6,15 @@ use std::collections::BTreeMap;
 use std::fmt;
 use tokei_table::LanguageType;
 
-/// How many lines of a text are blank, code and comments, and the same of the texts of other languages inside it.
+/// How many lines of a text are blank, code and comments, and the same of the texts of other
+/// languages inside it.
 #[derive(PartialEq, Drop)]
 pub struct CodeStats {
     pub blanks: usize,
     pub code: usize,
     pub comments: usize,
-    /// The statistics of the texts inside, added up by language; they aren't in the three numbers above.
+    /// The statistics of the texts inside, added up by language; they aren't in the three numbers
+    /// above.
     pub blobs: BTreeMap<LanguageType, CodeStats>,
     alloc: Global,
 }
@@ -55,8 +57,8 @@ impl CodeStats {
         }
     }
 
-    /// All lines of the text itself, of whatever class; refused with `Overflow` where their number passes the greatest
-    /// `usize`.
+    /// All lines of the text itself, of whatever class; refused with `Overflow` where their number
+    /// passes the greatest `usize`.
     pub fn lines(&self) -> Result<usize, CountError>
         ensures sum { IfOk result (λ n. n ≡ lines_of (counts_of self.now)) }
         ensures past { OnErr result (usize.MAX < lines_of (counts_of self.now)) }
@@ -71,7 +73,8 @@ impl CodeStats {
         }
     }
 
-    /// A copy, equal by `==`, which differs from a clone in that it may be refused when out of memory.
+    /// A copy, equal by `==`, which differs from a clone in that it may be refused when out of
+    /// memory.
     pub fn try_clone(&self) -> Result<CodeStats, CountError>
         ensures ok { IfOk result (λ s. stats_of s ≡ stats_of self.now) }
         ensures equal { IfOk result (λ s. IsTrue (⟦<CodeStats as PartialEq>⟧.eq s self.now)) }
@@ -114,7 +117,8 @@ impl CodeStats {
     fn added_to(&self, other: &CodeStats) -> Result<CodeStats, CountError>
         ensures ok { IfOk result (λ s. stats_of s ≡ sum (stats_of other.now) (stats_of self.now)) }
         ensures fits { OnOk result (Fits (sum (stats_of other.now) (stats_of self.now))) }
-        ensures overflow { IsErrOf result CountError.Overflow → ¬ Fits (sum (stats_of other.now) (stats_of self.now)) }
+        ensures overflow { IsErrOf result CountError.Overflow
+            → ¬ Fits (sum (stats_of other.now) (stats_of self.now)) }
     {
         let own = other.own_counts().plus(self.own_counts())?;
         let CodeStats {
@@ -134,12 +138,15 @@ impl CodeStats {
         Ok(CodeStats::assembled(alloc, own, blobs))
     }
 
-    /// Adds the other statistics, by number and by language, at every depth. `Overflow` exactly where a sum of two
-    /// numbers passes the greatest `usize`, or `Memory`; a refusal changes nothing.
+    /// Adds the other statistics, by number and by language, at every depth. `Overflow` exactly
+    /// where a sum of two numbers passes the greatest `usize`, or `Memory`; a refusal changes
+    /// nothing.
     pub fn add(&mut self, other: &CodeStats) -> Result<(), CountError>
-        ensures ok { OnOk result (stats_of self.new ≡ sum (stats_of self.old) (stats_of other.now)) }
+        ensures ok { OnOk result
+            (stats_of self.new ≡ sum (stats_of self.old) (stats_of other.now)) }
         ensures fits { OnOk result (Fits (sum (stats_of self.old) (stats_of other.now))) }
-        ensures overflow { IsErrOf result CountError.Overflow → ¬ Fits (sum (stats_of self.old) (stats_of other.now)) }
+        ensures overflow { IsErrOf result CountError.Overflow
+            → ¬ Fits (sum (stats_of self.old) (stats_of other.now)) }
         ensures err { OnErr result (self.new ≡ self.old) }
     {
         *self = other.added_to(self)?;
@@ -149,8 +156,10 @@ impl CodeStats {
     /// Adds other statistics that have no blobs: the three numbers. A refusal changes nothing.
     fn add_lines(&mut self, other: &CodeStats) -> Result<(), CountError>
         requires { blobs (stats_of other.now) ≡ none }
-        ensures ok { OnOk result (stats_of self.new ≡ sum (stats_of self.old) (stats_of other.now)) }
-        ensures overflow { IsErrOf result CountError.Overflow → ¬ Fits (sum (stats_of self.old) (stats_of other.now)) }
+        ensures ok { OnOk result
+            (stats_of self.new ≡ sum (stats_of self.old) (stats_of other.now)) }
+        ensures overflow { IsErrOf result CountError.Overflow
+            → ¬ Fits (sum (stats_of self.old) (stats_of other.now)) }
         ensures err { OnErr result (self.new ≡ self.old) }
     {
         let both = self.own_counts().plus(other.own_counts())?;
@@ -162,8 +171,10 @@ impl CodeStats {
 
     /// Adds the other statistics, as `add`; where they have no blobs, the three numbers alone.
     fn join(&mut self, other: &CodeStats) -> Result<(), CountError>
-        ensures ok { OnOk result (stats_of self.new ≡ sum (stats_of self.old) (stats_of other.now)) }
-        ensures overflow { IsErrOf result CountError.Overflow → ¬ Fits (sum (stats_of self.old) (stats_of other.now)) }
+        ensures ok { OnOk result
+            (stats_of self.new ≡ sum (stats_of self.old) (stats_of other.now)) }
+        ensures overflow { IsErrOf result CountError.Overflow
+            → ¬ Fits (sum (stats_of self.old) (stats_of other.now)) }
         ensures err { OnErr result (self.new ≡ self.old) }
     {
         if other.blobs.is_empty() {
@@ -172,8 +183,9 @@ impl CodeStats {
         self.add(other)
     }
 
-    /// The counts of this text and of all texts inside it, added up: the counts of `summarise`, without its memory.
-    /// `Overflow` exactly where one of the three numbers passes the greatest `usize`.
+    /// The counts of this text and of all texts inside it, added up: the counts of `summarise`,
+    /// without its memory. `Overflow` exactly where one of the three numbers passes the greatest
+    /// `usize`.
     pub fn summary_counts(&self) -> Result<Sums, CountError>
         ensures sum { IfOk result (λ n. sums_of n ≡ summary (stats_of self.now)) }
         ensures past { OnErr result (¬ CountsFit (summary (stats_of self.now))) }
@@ -187,8 +199,8 @@ impl CodeStats {
         Ok(sums)
     }
 
-    /// The counts of this text and of all texts inside it, added up, with no blobs. `Overflow` exactly where one of the
-    /// three numbers passes the greatest `usize`.
+    /// The counts of this text and of all texts inside it, added up, with no blobs. `Overflow`
+    /// exactly where one of the three numbers passes the greatest `usize`.
     pub fn summarise(&self) -> Result<CodeStats, CountError>
         ensures sum { IfOk result (λ s. stats_of s ≡ node (summary (stats_of self.now)) none) }
         ensures past { OnErr result (¬ CountsFit (summary (stats_of self.now))) }
@@ -212,7 +224,8 @@ fn put(
     language: LanguageType,
     stats: CodeStats,
 ) -> Result<(), CountError>
-    ensures ok { OnOk result (blobs.new.entries ≡ insert_entry nat_cmp blobs.old.entries language stats) }
+    ensures ok { OnOk result
+        (blobs.new.entries ≡ insert_entry nat_cmp blobs.old.entries language stats) }
     ensures err { OnErr result (blobs.new.entries ≡ blobs.old.entries) }
     ensures memory { IfErr result (λ e. e ≡ CountError.Memory) }
 {
@@ -228,12 +241,12 @@ pub fn add_blob(
 ) -> Result<(), CountError>
     ensures ok { OnOk result (blobs_of (entries_of blobs.new.entries)
         ≡ put (blobs_of (entries_of blobs.old.entries)) language
-        (joined (at (blobs_of (entries_of blobs.old.entries)) language) (λ s. sum s (stats_of stats))
-        (stats_of stats))) }
+        (joined (at (blobs_of (entries_of blobs.old.entries)) language)
+        (λ s. sum s (stats_of stats)) (stats_of stats))) }
     ensures err { OnErr result (blobs.new.entries ≡ blobs.old.entries) }
     ensures overflow { IsErrOf result CountError.Overflow
-        → ¬ Fits (joined (at (blobs_of (entries_of blobs.old.entries)) language) (λ s. sum s (stats_of stats))
-        (stats_of stats)) }
+        → ¬ Fits (joined (at (blobs_of (entries_of blobs.old.entries)) language)
+        (λ s. sum s (stats_of stats)) (stats_of stats)) }
 {
     if let Some(there) = blobs.get_mut(&language) {
         return there.join(&stats);

@@ -1,4 +1,5 @@
-//! Laws of the definitions, each the contract of a function that does nothing, and the order of every value.
+//! Laws of the definitions, each the contract of a function that does nothing, and the order of
+//! every value.
 ghost use Rattle.tokei_stats.specs.Seen.{stats_of};
 ghost use Rattle.tokei_stats.specs.Ordered.{IsOrdered};
 ghost use Rattle.tokei_stats.specs.SumLaws.{SumsStayOrdered, SumsCommute, SumsAssociate, EmptyIsNeutral};
@@ -26,8 +27,8 @@ pub fn empty_is_neutral()
     ensures { EmptyIsNeutral }
 {}
 
-/// The sum of two statistics has their numbers added up, and at each language the sum of both, or the one that is
-/// there; the second side is in the table's order.
+/// The sum of two statistics has their numbers added up, and at each language the sum of both, or
+/// the one that is there; the second side is in the table's order.
 pub fn sums_hold_both()
     ensures { SumsHoldBoth }
 {}

@@ -1,5 +1,5 @@
--- A stream: a row for each file that counts in a language and can be read, in the order of the walk, and nothing
--- behind the last one.
+-- A stream: a row for each file that counts in a language and can be read, in the order of the
+-- walk, and nothing behind the last one.
 use Rattle.std.specs.Prelude.{ℕ, List, [], ◌++◌, Option, None, Some, option_and_then, option_map}
 use Rattle.std.specs.List.{flat_map}
 use Rattle.tokei_folders.specs.Tree.{Tree}
@@ -14,7 +14,8 @@ use Rattle.tokei_walk.specs.declared.kept_file.KeptFile.{KeptFile}
 -- the report of a file in a language, where the file can be read
 abbrev pub report_in : Counting → Tree → KeptFile → ℕ → Option (ℕ × ReportValue)
 report_in c t file language =
-    option_map (λ s. (language, record { name = file.path; stats = s })) (stats_at t c.rows c.docs language file.place)
+    option_map (λ s. (language, record { name = file.path; stats = s }))
+    (stats_at t c.rows c.docs language file.place)
 
 -- the report of a file beside its language, where it counts in one and can be read
 unfoldable pub report_of_file : Counting → Tree → KeptFile → Option (ℕ × ReportValue)

@@ -86,7 +86,8 @@ pub fn write_row<W: Sink>(
 
 /// Writes the heading of a stream, where it has one.
 pub fn write_heading<W: Sink>(form: Streaming, writer: &mut W) -> Result<(), RunError>
-    ensures bytes { OnOk result (Appends (W.contents writer.old) (W.contents writer.new) (heading_of form)) }
+    ensures bytes { OnOk result
+        (Appends (W.contents writer.old) (W.contents writer.new) (heading_of form)) }
     ensures fault { TellsFault W.faults writer.old writer.new result WriteFault }
     ensures no_fault { PassesNoFault W.faults writer.old writer.new result WriteFault }
     ensures overflow { result ≢ Err SumOverflow }

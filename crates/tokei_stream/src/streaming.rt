@@ -35,8 +35,9 @@ fn report_of<F: Folders>(
     file: KeptFile,
 ) -> Result<Option<(LanguageType, Report)>, RunError>
     ensures same { SameTree F.tree folders.old folders.new }
-    ensures told { Told (F.tree folders.old) (λ t. IfOk result (λ o.
-        option_map (λ r. (r.0, report_value r.1)) o ≡ report_of_file (counting_value counting.now) t file)) }
+    ensures told { Told (F.tree folders.old) (λ t. IfOk result (λ o. option_map
+        (λ r. (r.0, report_value r.1)) o
+        ≡ report_of_file (counting_value counting.now) t file)) }
     ensures unwritten { result ≢ Err WriteFault }
     ensures overflow { result ≡ Err SumOverflow → Told (F.tree folders.old) (λ t.
         ¬ FileFits (counting_value counting.now) t file) }
@@ -66,7 +67,8 @@ fn write_file<F: Folders, W: Sink>(
     writer: &mut W,
 ) -> Result<(), RunError>
     ensures same { SameTree F.tree folders.old folders.new }
-    ensures told { Told (F.tree folders.old) (λ t. OnOk result (Appends (W.contents writer.old) (W.contents writer.new)
+    ensures told { Told (F.tree folders.old) (λ t. OnOk result
+        (Appends (W.contents writer.old) (W.contents writer.new)
         (file_row rows.now.form rows.now.table.now (counting_value counting.now) t file))) }
     ensures overflow { result ≡ Err SumOverflow → Told (F.tree folders.old) (λ t.
         ¬ FileFits (counting_value counting.now) t file) }
@@ -90,8 +92,10 @@ fn write_rows<F: Folders, W: Sink>(
     writer: &mut W,
 ) -> Result<(), RunError>
     ensures same { SameTree F.tree folders.old folders.new }
-    ensures told { Told (F.tree folders.old) (λ t. OnOk result (Appends (W.contents writer.old) (W.contents writer.new)
-        (rows_of rows.now.form rows.now.table.now (counting_value counting.now) t (to_come t walk.old)))) }
+    ensures told { Told (F.tree folders.old) (λ t. OnOk result
+        (Appends (W.contents writer.old) (W.contents writer.new)
+        (rows_of rows.now.form rows.now.table.now (counting_value counting.now) t
+        (to_come t walk.old)))) }
     ensures overflow { result ≡ Err SumOverflow → Told (F.tree folders.old) (λ t.
         ¬ ReadingsFit (counting_value counting.now) t (to_come t walk.old)) }
     ensures fault { TellsFault W.faults writer.old writer.new result WriteFault }
@@ -105,9 +109,11 @@ fn write_rows<F: Folders, W: Sink>(
     Ok(())
 }
 
-/// Renews the counts of earlier results, which a stream doesn't show: it only asks whether they fit.
+/// Renews the counts of earlier results, which a stream doesn't show: it only asks whether they
+/// fit.
 fn test_earlier(alloc: Global, job: &Job) -> Result<(), CountError>
-    ensures overflow { IsErrOf result CountError.Overflow → ¬ RenewalFits (earlier_of job.now.earlier) }
+    ensures overflow { IsErrOf result CountError.Overflow
+        → ¬ RenewalFits (earlier_of job.now.earlier) }
     ensures fits { OnOk result (RenewalFits (earlier_of job.now.earlier)) }
 {
     let mut languages = earlier_languages(alloc, job)?;
@@ -131,8 +137,10 @@ fn write_headed<F: Folders, W: Sink>(
     writer: &mut W,
 ) -> Result<(), RunError>
     ensures same { SameTree F.tree folders.old folders.new }
-    ensures told { Told (F.tree folders.old) (λ t. OnOk result (Appends (W.contents writer.old) (W.contents writer.new)
-        (stream_text rows.now.form rows.now.table.now (counting_value counting.now) t (to_come t walk.old)))) }
+    ensures told { Told (F.tree folders.old) (λ t. OnOk result
+        (Appends (W.contents writer.old) (W.contents writer.new)
+        (stream_text rows.now.form rows.now.table.now (counting_value counting.now) t
+        (to_come t walk.old)))) }
     ensures overflow { result ≡ Err SumOverflow → Told (F.tree folders.old) (λ t.
         ¬ ReadingsFit (counting_value counting.now) t (to_come t walk.old)) }
     ensures fault { TellsFault W.faults writer.old writer.new result WriteFault }
@@ -153,8 +161,10 @@ fn write_stream<F: Folders, W: Sink>(
     writer: &mut W,
 ) -> Result<Vec<Note>, RunError>
     ensures same { SameTree F.tree folders.old folders.new }
-    ensures told { Told (F.tree folders.old) (λ t. OnOk result (Appends (W.contents writer.old) (W.contents writer.new)
-        (stream_text rows.now.form rows.now.table.now (counting_value counting.now) t (files_of job.now t)))) }
+    ensures told { Told (F.tree folders.old) (λ t. OnOk result
+        (Appends (W.contents writer.old) (W.contents writer.new)
+        (stream_text rows.now.form rows.now.table.now (counting_value counting.now) t
+        (files_of job.now t)))) }
     ensures overflow { result ≡ Err SumOverflow → Told (F.tree folders.old) (λ t.
         ¬ ReadingsFit (counting_value counting.now) t (files_of job.now t)) }
     ensures fault { TellsFault W.faults writer.old writer.new result WriteFault }
@@ -168,8 +178,8 @@ fn write_stream<F: Folders, W: Sink>(
     Ok(walk.into_notes())
 }
 
-/// Writes a row for each file of a job, as it is counted, and answers what the walk passed over. No report is kept,
-/// and no file is counted where the renewed counts of earlier results don't fit.
+/// Writes a row for each file of a job, as it is counted, and answers what the walk passed over. No
+/// report is kept, and no file is counted where the renewed counts of earlier results don't fit.
 pub fn stream<F: Folders, W: Sink>(
     rows: &Rows,
     folders: &mut F,

@@ -7,8 +7,8 @@ use Rattle.tokei_table_rules.specs.Tokens.{has_tokens}
 use Rattle.tokei_table_json.specs.KeyOrder.{IsInKeyOrder}
 use Rattle.tokei_table_row.specs.Row.{Row}
 
--- The keys ascend, all texts that a count looks for are tokens, no text names two languages, none is `Total`, and the
--- languages are there on which children fall back.
+-- The keys ascend, all texts that a count looks for are tokens, no text names two languages, none
+-- is `Total`, and the languages are there on which children fall back.
 pub record IsWellFormed (rs : List Row) : Type 0 where
   pub ordered : IsInKeyOrder rs
   pub tokens : list_all has_tokens rs ≡ true

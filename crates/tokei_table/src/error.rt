@@ -3,8 +3,8 @@
 use std::alloc::{AllocError, AllocFailed};
 use thiserror::Error;
 
-/// Why a table is refused. Of the causes that apply the first in this order is answered, but `Memory` may come
-/// before any.
+/// Why a table is refused. Of the causes that apply the first in this order is answered, but
+/// `Memory` may come before any.
 #[derive(Clone, Copy, Debug, PartialEq, Eq, Error)]
 pub enum TableError {
     /// The bytes are no JSON text.

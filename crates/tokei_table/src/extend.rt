@@ -15,7 +15,8 @@ fn listed_for(
     place: usize,
     additions: &[(LanguageType, &[String])],
 ) -> Result<Vec<String>, AllocError>
-    ensures { IfOk result (λ v. tokens_of v.items ≡ listed_for place (map addition_of additions.now)) }
+    ensures { IfOk result (λ v. tokens_of v.items
+        ≡ listed_for place (map addition_of additions.now)) }
 {
     let mut out = Vec::new(alloc);
     for addition in additions {
@@ -26,7 +27,8 @@ fn listed_for(
     Ok(out)
 }
 
-/// The row with those of the extensions listed for it that aren't known yet, and which are known from then on.
+/// The row with those of the extensions listed for it that aren't known yet, and which are known
+/// from then on.
 fn extended_row(
     alloc: Global,
     known: &mut Vec<String>,
@@ -51,7 +53,8 @@ pub(crate) fn extended_rows(
     rows: &[Syntax],
     additions: &[(LanguageType, &[String])],
 ) -> Result<Vec<Syntax>, AllocError>
-    ensures { IfOk result (λ v. map row_of v.items ≡ extended (map row_of rows.now) (map addition_of additions.now)) }
+    ensures { IfOk result (λ v. map row_of v.items
+        ≡ extended (map row_of rows.now) (map addition_of additions.now)) }
 {
     let mut known = all_extensions(alloc, rows)?;
     let mut out = Vec::new(alloc);

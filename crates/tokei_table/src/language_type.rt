@@ -139,7 +139,8 @@ impl LanguageType {
         &table.syntax(self).shebangs
     }
 
-    /// All languages in the order of the table, each with its extensions. It fails where memory runs out.
+    /// All languages in the order of the table, each with its extensions. It fails where memory
+    /// runs out.
     pub fn list<'a>(
         alloc: Global,
         table: &'a LanguageTable,

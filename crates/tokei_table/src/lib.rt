@@ -1,4 +1,5 @@
-//! The table of languages: how each one's comments and string literals are written, and by which names it is found.
+//! The table of languages: how each one's comments and string literals are written, and by which
+//! names it is found.
 #![tactic(auto)]
 
 pub mod error;

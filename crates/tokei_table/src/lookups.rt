@@ -1,5 +1,5 @@
-//! Which language of a table a word, a MIME type, a file's name or a script's head stands for. Of two languages the
-//! first in the table is answered.
+//! Which language of a table a word, a MIME type, a file's name or a script's head stands for. Of
+//! two languages the first in the table is answered.
 ghost use Rattle.std.specs.Prelude.{◌≡◌, ◌<◌, length, IfOk, IfSome};
 ghost use Rattle.tokei_table_rules.specs.Lookups.{first_where, has_name, has_name_in_any_case, has_mime};
 ghost use Rattle.tokei_table_rules.specs.Lookups.{has_extension, from_file_name};
@@ -55,8 +55,8 @@ impl LanguageType {
         language(with_extension(table.indexed_rows(), extension.as_bytes()))
     }
 
-    /// The language of a file of that name, whatever it holds: by the whole name, else by a suffix of it, else by its
-    /// extension, each in ASCII lower case. It fails where memory runs out.
+    /// The language of a file of that name, whatever it holds: by the whole name, else by a suffix
+    /// of it, else by its extension, each in ASCII lower case. It fails where memory runs out.
     pub fn from_file_name(
         alloc: Global,
         table: &LanguageTable,
@@ -70,8 +70,9 @@ impl LanguageType {
         Ok(language(in_lowered_name(table.indexed_rows(), lowered.as_bytes())))
     }
 
-    /// The language of a script with that head, of which the first line of the first 128 bytes is looked at: its first
-    /// word names the program, or the second does where the first is `#!/usr/bin/env`.
+    /// The language of a script with that head, of which the first line of the first 128 bytes is
+    /// looked at: its first word names the program, or the second does where the first is
+    /// `#!/usr/bin/env`.
     pub fn from_shebang_bytes(table: &LanguageTable, head: &[u8]) -> Option<LanguageType>
         ensures value { result ≡ from_shebang table.now head.now }
         ensures of_table { IfSome result (λ l. l < length table.now) }

@@ -12,8 +12,9 @@ use std::alloc::{AllocError, Global};
 use tokei_table_rules::openers::{important_syntax, openers};
 
 impl LanguageType {
-    /// The starts of string literals, of documentation in them and of comments, the member `important_syntax`, and in
-    /// a language of kind `html` the tags with their bracket. It fails where memory runs out.
+    /// The starts of string literals, of documentation in them and of comments, the member
+    /// `important_syntax`, and in a language of kind `html` the tags with their bracket. It fails
+    /// where memory runs out.
     pub fn important_syntax(
         self,
         alloc: Global,
@@ -25,8 +26,8 @@ impl LanguageType {
         important_syntax(alloc, table.syntax(self))
     }
 
-    /// What `important_syntax` answers, then the starts of string literals in which a backslash means itself, then what
-    /// opens children. It fails where memory runs out.
+    /// What `important_syntax` answers, then the starts of string literals in which a backslash
+    /// means itself, then what opens children. It fails where memory runs out.
     pub fn openers(self, alloc: Global, table: &LanguageTable) -> Result<Vec<String>, AllocError>
         requires { self < length table.now }
         ensures value { IfOk result (λ v. tokens_of v.items ≡ openers (row_at table.now self)) }

@@ -112,8 +112,8 @@ fn indexed(alloc: Global, rows: Vec<Syntax>) -> Result<LanguageTable, AllocError
 }
 
 impl LanguageTable {
-    /// Reads a table from its JSON text. Refused is exactly what has a cause of `TableError`, and of those that apply
-    /// the first is answered; `Memory` comes only where an allocation failed.
+    /// Reads a table from its JSON text. Refused is exactly what has a cause of `TableError`, and
+    /// of those that apply the first is answered; `Memory` comes only where an allocation failed.
     pub fn from_json(alloc: Global, bytes: &[u8]) -> Result<LanguageTable, TableError>
         ensures { result ≢ Err MemoryFault → result ≡ outcome bytes.now }
     {
@@ -159,7 +159,8 @@ impl LanguageTable {
         language.index() < self.rows.rows().len()
     }
 
-    /// The language's row as read. All its tokens are neither empty nor all blank, and none holds a newline.
+    /// The language's row as read. All its tokens are neither empty nor all blank, and none holds a
+    /// newline.
     pub fn syntax(&self, language: LanguageType) -> &Syntax
         requires { language < length self.now }
         ensures row { row_of result.now ≡ row_at self.entry.now language }
@@ -169,8 +170,9 @@ impl LanguageTable {
         &self.rows.rows()[language.index()]
     }
 
-    /// The table in which, in its order, each language gains those of the extensions listed for it that no language
-    /// has yet; a language may be listed more than once. It fails where memory runs out.
+    /// The table in which, in its order, each language gains those of the extensions listed for it
+    /// that no language has yet; a language may be listed more than once. It fails where memory
+    /// runs out.
     pub fn extended(
         &self,
         alloc: Global,

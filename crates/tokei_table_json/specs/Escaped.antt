@@ -1,4 +1,5 @@
--- Where the texts of a table have no escapes but the known ones; keys and the member `kind` have none at all.
+-- Where the texts of a table have no escapes but the known ones; keys and the member `kind` have
+-- none at all.
 use Rattle.std.specs.Prelude.{Bool, true, ◌&&◌, ◌||◌, not, Option, Some, codes}
 use Rattle.serde_json.specs.Data.{Data, string, array, object, Members, no_members, member}
 use Rattle.serde_json.specs.Find.{get}
@@ -54,7 +55,8 @@ unfoldable pub has_escaped_traits : Data → Bool
 has_escaped_traits d =
     absent_or is_escaped_value (get (codes "name") d)
     && absent_or is_escaped_list (get (codes "important_syntax") d)
-    && (not (is_html_kind (get (codes "kind") d)) || absent_or are_escaped_contexts (get (codes "contexts") d))
+    && (not (is_html_kind (get (codes "kind") d))
+    || absent_or are_escaped_contexts (get (codes "contexts") d))
 
 -- All members of a language.
 abbrev pub is_escaped_language : Data → Bool

@@ -3,36 +3,47 @@ use Rattle.std.specs.Prelude.{ℕ, ◌==◌, ◌&&◌, List, [], ◌∷◌, Bool
 use Rattle.std.specs.Prelude.{Option, Some, None, is_some, unwrap_or}
 use Rattle.std.specs.Str.{chars}
 
+-- The character of code 0, which `\0` stands for.
 abbrev pub nul : ℕ
 nul = 0
 
+-- The tab, which `\t` stands for.
 abbrev pub tab : ℕ
 tab = 9
 
+-- The newline, which `\n` stands for.
 abbrev pub newline : ℕ
 newline = 10
 
+-- The carriage return, which `\r` stands for.
 abbrev pub carriage_return : ℕ
 carriage_return = 13
 
+-- The double quote, `"`.
 abbrev pub quote_mark : ℕ
 quote_mark = 34
 
+-- The single quote, `'`.
 abbrev pub apostrophe : ℕ
 apostrophe = 39
 
+-- The backslash, which begins each escape.
 abbrev pub backslash : ℕ
 backslash = 92
 
+-- The character `0` behind the backslash of an escape.
 abbrev pub digit_0 : ℕ
 digit_0 = 48
 
+-- The character `n` behind the backslash of an escape.
 abbrev pub letter_n : ℕ
 letter_n = 110
 
+-- The character `r` behind the backslash of an escape.
 abbrev pub letter_r : ℕ
 letter_r = 114
 
+-- The character `t` behind the backslash of an escape.
 abbrev pub letter_t : ℕ
 letter_t = 116
 
@@ -48,12 +59,14 @@ escape_value c =
     else (if c == digit_0 then Some nul
     else None))))))
 
--- Whether each backslash begins an escape; `is_escape` asks it of the characters behind a backslash.
+-- Whether each backslash begins an escape; `is_escape` asks it of the characters behind a
+-- backslash.
 abbrev mutual
   pub is_escaped : List ℕ → Bool
   is_escaped [] = true
   is_escaped (c ∷ cs) = if c == backslash then is_escape cs else is_escaped cs
 
+  -- Whether a known escape goes on here, behind its backslash, and what follows is escaped.
   pub is_escape : List ℕ → Bool
   is_escape [] = false
   is_escape (c ∷ cs) = is_some (escape_value c) && is_escaped cs
@@ -64,6 +77,7 @@ abbrev mutual
   unescaped [] = []
   unescaped (c ∷ cs) = if c == backslash then after_backslash cs else c ∷ unescaped cs
 
+  -- The same behind a backslash: an unknown escape stands for its own character.
   pub after_backslash : List ℕ → List ℕ
   after_backslash [] = []
   after_backslash (c ∷ cs) = unwrap_or (escape_value c) c ∷ unescaped cs

@@ -89,9 +89,11 @@ has_traits d =
     && absent_or is_truth_value (get (codes "literate") d)
     && absent_or is_truth_value (get (codes "blank") d)
     && absent_or (is_list is_text) (get (codes "important_syntax") d)
-    && absent_or (is_list (is_context (is_html_kind (get (codes "kind") d)))) (get (codes "contexts") d)
+    && absent_or (is_list (is_context (is_html_kind (get (codes "kind") d))))
+    (get (codes "contexts") d)
 
--- A language is an object whose members, where they stand, hold such values; others are passed over.
+-- A language is an object whose members, where they stand, hold such values; others are passed
+-- over.
 abbrev pub is_language : Data → Bool
 is_language d = is_object d && has_comments d && has_literals d && has_finders d && has_traits d
 
@@ -105,6 +107,7 @@ abbrev pub is_object_of_languages : Data → Bool
 is_object_of_languages (object ms) = are_languages ms
 is_object_of_languages d = false
 
--- A table is an object with an object `languages`; no number in it, wherever it stands, is but a whole one of 64 bits.
+-- A table is an object with an object `languages`; no number in it, wherever it stands, is but a
+-- whole one of 64 bits.
 unfoldable pub has_layout : Data → Bool
 has_layout d = not (has_float d) && stands_and is_object_of_languages (get (codes "languages") d)

@@ -8,8 +8,10 @@ use Rattle.tokei_table_row.specs.Row.{is_html}
 
 -- By the text of its kind a row tells whether the member `kind` is `html`.
 abbrev pub KindTellsHtml : Type 0
-KindTellsHtml = (key : List ℕ) (d : Data) → is_html (row_in key d) ≡ is_html_kind (get (codes "kind") d)
+KindTellsHtml =
+    (key : List ℕ) (d : Data) → is_html (row_in key d) ≡ is_html_kind (get (codes "kind") d)
 
 -- A row of another kind has no tags.
 abbrev pub OnlyHtmlHasTags : Type 0
-OnlyHtmlHasTags = (key : List ℕ) (d : Data) → is_html (row_in key d) ≡ false → (row_in key d).contexts ≡ []
+OnlyHtmlHasTags =
+    (key : List ℕ) (d : Data) → is_html (row_in key d) ≡ false → (row_in key d).contexts ≡ []

@@ -1,5 +1,6 @@
--- The rows of a table that has its layout and but the known escapes: each member as it stands there, texts other than
--- keys and kinds after escapes; a member that is left out is empty or false.
+-- The rows of a table that has its layout and but the known escapes: each member as it stands
+-- there, texts other than keys and kinds after escapes; a member that is left out is empty or
+-- false.
 use Rattle.std.specs.Prelude.{ℕ, Bool, true, false, List, [], ◌∷◌, Option, Some, None, codes}
 use Rattle.serde_json.specs.Data.{Data, boolean, string, array, object, Items, no_items, item, Members, no_members}
 use Rattle.serde_json.specs.Data.{member}
@@ -18,7 +19,8 @@ abbrev pub text_at : Option Data → List ℕ
 text_at None = []
 text_at (Some d) = text_of d
 
--- The text of the member `kind` as it stands there, for it has no escapes; empty where it is left out.
+-- The text of the member `kind` as it stands there, for it has no escapes; empty where it is left
+-- out.
 abbrev pub kind_at : Option Data → List ℕ
 kind_at (Some (string t)) = t
 kind_at d = []

@@ -123,7 +123,8 @@ fn all_pairs(items: &Vec<Value>) -> bool
 }
 
 fn may_be_pairs(member: Option<&Value>) -> bool
-    ensures { result ≡ absent_or (is_list is_text_pair) (option_map (λ v. view v.now) member.entry) }
+    ensures { result
+        ≡ absent_or (is_list is_text_pair) (option_map (λ v. view v.now) member.entry) }
 {
     match member {
         None => true,
@@ -169,7 +170,8 @@ fn all_contexts(html: bool, items: &Vec<Value>) -> bool
 }
 
 fn may_be_contexts(html: bool, member: Option<&Value>) -> bool
-    ensures { result ≡ absent_or (is_list (is_context html)) (option_map (λ v. view v.now) member.entry) }
+    ensures { result
+        ≡ absent_or (is_list (is_context html)) (option_map (λ v. view v.now) member.entry) }
 {
     match member {
         None => true,

@@ -1,4 +1,5 @@
-//! A table of languages in JSON: its layout, the escapes in its texts, and the rows of languages that it holds.
+//! A table of languages in JSON: its layout, the escapes in its texts, and the rows of languages
+//! that it holds.
 #![tactic(auto)]
 
 pub mod escaped;

@@ -24,7 +24,8 @@ fn text(alloc: Global, value: &Value) -> Result<String, AllocError>
 }
 
 fn text_at(alloc: Global, member: Option<&Value>) -> Result<String, AllocError>
-    ensures { IfOk result (λ s. string_bytes s ≡ text_at (option_map (λ v. view v.now) member.entry)) }
+    ensures { IfOk result (λ s. string_bytes s
+        ≡ text_at (option_map (λ v. view v.now) member.entry)) }
 {
     match member {
         None => Ok(String::new(alloc)),
@@ -33,7 +34,8 @@ fn text_at(alloc: Global, member: Option<&Value>) -> Result<String, AllocError>
 }
 
 fn kind_at(alloc: Global, member: Option<&Value>) -> Result<String, AllocError>
-    ensures { IfOk result (λ s. string_bytes s ≡ kind_at (option_map (λ v. view v.now) member.entry)) }
+    ensures { IfOk result (λ s. string_bytes s
+        ≡ kind_at (option_map (λ v. view v.now) member.entry)) }
 {
     match member {
         Some(Value::String(kind)) => String::from_str(alloc, kind.as_str()),
@@ -52,7 +54,8 @@ fn texts(alloc: Global, items: &Vec<Value>) -> Result<Vec<String>, AllocError>
 }
 
 fn texts_at(alloc: Global, member: Option<&Value>) -> Result<Vec<String>, AllocError>
-    ensures { IfOk result (λ v. tokens_of v.items ≡ texts_at (option_map (λ w. view w.now) member.entry)) }
+    ensures { IfOk result (λ v. tokens_of v.items
+        ≡ texts_at (option_map (λ w. view w.now) member.entry)) }
 {
     match member {
         Some(Value::Array(items)) => texts(alloc, items),
@@ -90,7 +93,8 @@ fn pairs(alloc: Global, items: &Vec<Value>) -> Result<Vec<(String, String)>, All
 }
 
 fn pairs_at(alloc: Global, member: Option<&Value>) -> Result<Vec<(String, String)>, AllocError>
-    ensures { IfOk result (λ v. pairs_of v.items ≡ pairs_at (option_map (λ w. view w.now) member.entry)) }
+    ensures { IfOk result (λ v. pairs_of v.items
+        ≡ pairs_at (option_map (λ w. view w.now) member.entry)) }
 {
     match member {
         Some(Value::Array(items)) => pairs(alloc, items),
@@ -118,7 +122,8 @@ fn tags(alloc: Global, items: &Vec<Value>) -> Result<Vec<String>, AllocError>
 }
 
 fn tags_at(alloc: Global, html: bool, member: Option<&Value>) -> Result<Vec<String>, AllocError>
-    ensures { IfOk result (λ v. tokens_of v.items ≡ tags_at html (option_map (λ w. view w.now) member.entry)) }
+    ensures { IfOk result (λ v. tokens_of v.items
+        ≡ tags_at html (option_map (λ w. view w.now) member.entry)) }
 {
     if !html {
         return Ok(Vec::new(alloc));
@@ -200,7 +205,8 @@ fn row(alloc: Global, key: &str, value: &Value) -> Result<Syntax, AllocError>
 }
 
 fn rows(alloc: Global, members: &Map<String, Value>) -> Result<Vec<Syntax>, AllocError>
-    ensures value { IfOk result (λ v. map row_of v.items ≡ rows_in (members_view members.now.entries)) }
+    ensures value { IfOk result (λ v. map row_of v.items
+        ≡ rows_in (members_view members.now.entries)) }
     ensures ordered { IfOk result (λ v. IsInKeyOrder (map row_of v.items)) }
 {
     let mut out = Vec::new(alloc);
@@ -212,7 +218,8 @@ fn rows(alloc: Global, members: &Map<String, Value>) -> Result<Vec<Syntax>, Allo
 
 /// The rows of the object `languages`.
 pub fn rows_at(alloc: Global, languages: Option<&Value>) -> Result<Vec<Syntax>, AllocError>
-    ensures value { IfOk result (λ v. map row_of v.items ≡ rows_at (option_map (λ w. view w.now) languages.entry)) }
+    ensures value { IfOk result (λ v. map row_of v.items
+        ≡ rows_at (option_map (λ w. view w.now) languages.entry)) }
     ensures ordered { IfOk result (λ v. IsInKeyOrder (map row_of v.items)) }
 {
     match languages {

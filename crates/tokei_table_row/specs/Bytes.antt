@@ -2,22 +2,28 @@
 use Rattle.std.specs.Prelude.{ℕ, Bool, true, ◌&&◌, ◌||◌, ◌==◌, nat_le, nat_eq, if◌then◌else◌, List, [], ◌∷◌, bytes_eq}
 use Rattle.std.specs.List.{list_any, starts_with, ends_with}
 
+-- The byte of a horizontal tab.
 abbrev pub tab : ℕ
 tab = 9
 
+-- The byte that ends a line.
 abbrev pub newline : ℕ
 newline = 10
 
+-- The byte that stands before a newline where lines end in two bytes.
 abbrev pub carriage_return : ℕ
 carriage_return = 13
 
+-- The byte of a space.
 abbrev pub space : ℕ
 space = 32
 
+-- The byte of a backslash, `\`.
 abbrev pub backslash : ℕ
 backslash = 92
 
--- The blanks are the space and the bytes from the tab to the carriage return, the newline among them.
+-- The blanks are the space and the bytes from the tab to the carriage return, the newline among
+-- them.
 abbrev pub is_blank : ℕ → Bool
 is_blank b = (b == space) || (nat_le tab b && nat_le b carriage_return)
 

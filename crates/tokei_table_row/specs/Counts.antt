@@ -11,9 +11,14 @@ pub record Counts : Type 0 where
 abbrev pub lines_of : Counts → ℕ
 lines_of n = n.blanks + n.code + n.comments
 
+-- the counts of a text without lines
 abbrev pub no_lines : Counts
 no_lines = record { blanks = 0; code = 0; comments = 0 }
 
 -- both, added up
 abbrev pub plus : Counts → Counts → Counts
-plus a b = record { blanks = a.blanks + b.blanks; code = a.code + b.code; comments = a.comments + b.comments }
+plus a b = record {
+  blanks = a.blanks + b.blanks;
+  code = a.code + b.code;
+  comments = a.comments + b.comments;
+}

@@ -1,4 +1,5 @@
--- What contracts say of a language's row, of numbers of lines, and of blanks, trims, slices and openers.
+-- What contracts say of a language's row, of numbers of lines, and of blanks, trims, slices and
+-- openers.
 pub mod Bytes
 pub mod Counts
 pub mod FirstOpener

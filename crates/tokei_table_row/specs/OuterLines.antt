@@ -22,7 +22,8 @@ abbrev pub last_stop : List ℕ → Option ℕ
 last_stop [] = None
 last_stop (b ∷ t) = later_or (is_stop b) (last_stop t)
 
--- Where the block begins in a text of that length: behind the first stop, but no later than at the last byte.
+-- Where the block begins in a text of that length: behind the first stop, but no later than at the
+-- last byte.
 abbrev pub start_behind : ℕ → Option ℕ → ℕ
 start_behind n None = 0
 start_behind n (Some i) = min (i + 1) (n - 1)
@@ -30,9 +31,11 @@ start_behind n (Some i) = min (i + 1) (n - 1)
 -- Whether that index is the one of a newline behind a carriage return.
 abbrev pub is_return_newline : List ℕ → ℕ → Bool
 is_return_newline t zero = false
-is_return_newline t (suc i) = (slice_index t i == carriage_return) && (slice_index t (suc i) == newline)
+is_return_newline t (suc i) =
+    (slice_index t i == carriage_return) && (slice_index t (suc i) == newline)
 
--- Behind which byte the block ends: behind the last stop, or before it where it is a newline behind a carriage return.
+-- Behind which byte the block ends: behind the last stop, or before it where it is a newline behind
+-- a carriage return.
 abbrev pub end_behind : List ℕ → Option ℕ → ℕ
 end_behind t None = length t
 end_behind t (Some i) = if is_return_newline t i then i else i + 1

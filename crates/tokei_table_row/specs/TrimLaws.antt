@@ -20,7 +20,8 @@ pub record DropsFront (text left : List ℕ) : Type 0 where
   pub joined : text ≡ front ++ left
   pub begins : BeginsSolid left
 
--- The text is what is left between blanks; what is left is empty, or begins and ends with a byte that isn't blank.
+-- The text is what is left between blanks; what is left is empty, or begins and ends with a byte
+-- that isn't blank.
 pub record DropsEnds (text left : List ℕ) : Type 0 where
   pub front : List ℕ
   pub back : List ℕ

@@ -76,8 +76,8 @@ pub fn contains_slice(text: &[u8], needle: &[u8]) -> bool
     !needle.is_empty() && memmem::find(text, needle).is_some()
 }
 
-/// Whether the token stands at the front of the text. Three bytes, as the longest of most languages have, are compared
-/// in place.
+/// Whether the token stands at the front of the text. Three bytes, as the longest of most languages
+/// have, are compared in place.
 #[inline(always)]
 fn begins(token: &[u8], text: &[u8]) -> bool
     ensures { result ≡ begins token.now text.now }
@@ -172,10 +172,10 @@ fn inner_end(text: &[u8]) -> usize
     }
 }
 
-/// The text without the blank rest of its first line and the blank front of its last one: from behind the first
-/// stop, but no later than the last byte, through the last stop, a stop being a newline or a byte that isn't
-/// blank. A last stop that is the newline of a carriage return and a newline goes too. Without a stop the text
-/// stays.
+/// The text without the blank rest of its first line and the blank front of its last one: from
+/// behind the first stop, but no later than the last byte, through the last stop, a stop being a
+/// newline or a byte that isn't blank. A last stop that is the newline of a carriage return and a
+/// newline goes too. Without a stop the text stays.
 pub fn trim_first_and_last_line_of_whitespace(text: &[u8]) -> &[u8]
     ensures { result.now ≡ trim_outer_lines text.now }
 {

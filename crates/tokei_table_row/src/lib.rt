@@ -1,5 +1,5 @@
-//! What a table says of one language, how many lines a text has of each class, and questions on bytes: blanks, trims and
-//! slices.
+//! What a table says of one language, how many lines a text has of each class, and questions on
+//! bytes: blanks, trims and slices.
 #![tactic(auto)]
 
 pub mod ext;

@@ -52,7 +52,8 @@ pub struct Syntax {
 }
 
 impl Syntax {
-    /// A language of that key and name, without comments, string literals or files. It fails where memory runs out.
+    /// A language of that key and name, without comments, string literals or files. It fails where
+    /// memory runs out.
     pub fn new(alloc: Global, key: &str) -> Result<Syntax, AllocError>
         ensures { IfOk result (λ s. row_of s ≡ new_row key.now) }
     {

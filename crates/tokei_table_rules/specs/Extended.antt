@@ -25,7 +25,8 @@ listed_for language (a ∷ additions) =
 abbrev pub with_extensions : Row → List (List ℕ) → Row
 with_extensions r es = record r { extensions = r.extensions ++ es }
 
--- In the order of the table each language, of which the first has that place, gains what no language has yet.
+-- In the order of the table each language, of which the first has that place, gains what no
+-- language has yet.
 abbrev pub extended_from : ℕ → List (List ℕ) → List (ℕ × List (List ℕ)) → List Row → List Row
 extended_from place known additions [] = []
 extended_from place known additions (r ∷ rs) =

@@ -18,14 +18,16 @@ is_html_like key =
 -- The family of the language of that key.
 abbrev pub family_of : List ℕ → Family
 family_of key =
-    if bytes_eq key (codes "Markdown") || bytes_eq key (codes "UnrealDeveloperMarkdown") then Markdown
+    if bytes_eq key (codes "Markdown") || bytes_eq key (codes "UnrealDeveloperMarkdown")
+    then Markdown
     else (if is_html_like key then HtmlLike
     else (if bytes_eq key (codes "Rust") then Rust
     else (if bytes_eq key (codes "LinguaFranca") then LinguaFranca
     else (if bytes_eq key (codes "Jupyter") then Jupyter
     else Plain))))
 
--- The keys that a table with a language of the family has to have: those that its children fall back on.
+-- The keys that a table with a language of the family has to have: those that its children fall
+-- back on.
 abbrev pub needed_keys : Family → List (List ℕ)
 needed_keys Plain = []
 needed_keys Markdown = []
@@ -34,7 +36,7 @@ needed_keys Rust = codes "Markdown" ∷ []
 needed_keys LinguaFranca = codes "C" ∷ []
 needed_keys Jupyter = codes "Markdown" ∷ codes "Python" ∷ []
 
--- The language that a child falls back on. A well-formed table has it under that key, and no other language of that
--- name; without it the parent's own language stands.
+-- The language that a child falls back on. A well-formed table has it under that key, and no other
+-- language of that name; without it the parent's own language stands.
 abbrev pub fallback : List Row → ℕ → List ℕ → ℕ
 fallback rows parent key = unwrap_or (first_where (has_name key) rows) parent

@@ -1,4 +1,5 @@
--- What contracts say of a table's rows: whether they can be counted with, families and openers, further extensions, look-ups.
+-- What contracts say of a table's rows: whether they can be counted with, families and openers,
+-- further extensions, look-ups.
 pub use Rattle.tokei_table_row.specs.Bytes
 pub use Rattle.tokei_table_row.specs.FirstRows
 pub use Rattle.tokei_table_row.specs.NewRow

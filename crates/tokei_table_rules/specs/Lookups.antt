@@ -42,10 +42,12 @@ ends_with_one suffixes name = list_any (λ s. ends s name) suffixes
 abbrev pub has_path_suffix : List ℕ → Row → Bool
 has_path_suffix name r = ends_with_one r.path_suffixes name
 
+-- The byte of a dot, `.`.
 abbrev pub dot : ℕ
 dot = 46
 
--- What stands behind the last dot, by whether the first byte is one and by what stands behind a later one.
+-- What stands behind the last dot, by whether the first byte is one and by what stands behind a
+-- later one.
 abbrev pub behind_dot : Bool → List ℕ → Option (List ℕ) → Option (List ℕ)
 behind_dot is_dot t (Some later) = Some later
 behind_dot is_dot t None = if is_dot then Some t else None
@@ -55,7 +57,8 @@ abbrev pub behind_last_dot : List ℕ → Option (List ℕ)
 behind_last_dot [] = None
 behind_last_dot (b ∷ t) = behind_dot (b == dot) t (behind_last_dot t)
 
--- A name's extension is what follows its last dot, where that dot isn't the name's first byte; it may be empty.
+-- A name's extension is what follows its last dot, where that dot isn't the name's first byte; it
+-- may be empty.
 abbrev pub extension_of : List ℕ → Option (List ℕ)
 extension_of [] = None
 extension_of (b ∷ t) = behind_last_dot t

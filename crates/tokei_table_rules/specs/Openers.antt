@@ -17,8 +17,8 @@ tag_start tag = codes "<" ++ tag
 abbrev pub tag_starts : List (List ℕ) → List (List ℕ)
 tag_starts tags = map tag_start tags
 
--- The starts of string literals, of documentation in them and of comments, the member `important_syntax`, and the
--- tags; a language whose kind isn't `html` has no tags.
+-- The starts of string literals, of documentation in them and of comments, the member
+-- `important_syntax`, and the tags; a language whose kind isn't `html` has no tags.
 abbrev pub important_syntax : Row → List (List ℕ)
 important_syntax r =
     starts_of r.quotes
@@ -37,6 +37,7 @@ child_openers Rust = codes "///" ∷ codes "//!" ∷ []
 child_openers LinguaFranca = codes "{=" ∷ []
 child_openers Jupyter = []
 
--- These, the starts of string literals in which a backslash means itself, and what opens children; repeats stay.
+-- These, the starts of string literals in which a backslash means itself, and what opens children;
+-- repeats stay.
 abbrev pub openers : Row → List (List ℕ)
 openers r = important_syntax r ++ (starts_of r.verbatim_quotes ++ child_openers (family_of r.key))

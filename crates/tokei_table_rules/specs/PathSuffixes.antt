@@ -7,8 +7,10 @@ abbrev pub is_filled : List (List ℕ) → Bool
 is_filled [] = false
 is_filled (t ∷ ts) = true
 
--- In their order the places of the rows that have a path suffix, where the first row has that place.
+-- In their order the places of the rows that have a path suffix, where the first row has that
+-- place.
 abbrev pub suffixed_from : ℕ → List Row → List ℕ
 suffixed_from place [] = []
 suffixed_from place (r ∷ rs) =
-    if is_filled r.path_suffixes then place ∷ suffixed_from (place + 1) rs else suffixed_from (place + 1) rs
+    if is_filled r.path_suffixes then place ∷ suffixed_from (place + 1) rs
+    else suffixed_from (place + 1) rs

@@ -5,7 +5,8 @@ use Rattle.tokei_table_row.specs.Row.{Row}
 
 -- A text is key or name of both.
 abbrev pub shares_name : Row → Row → Bool
-shares_name r s = bytes_eq r.key s.key || bytes_eq r.key s.name || bytes_eq r.name s.key || bytes_eq r.name s.name
+shares_name r s =
+    bytes_eq r.key s.key || bytes_eq r.key s.name || bytes_eq r.name s.key || bytes_eq r.name s.name
 
 -- A text is key or name of two languages.
 abbrev pub names_twice : List Row → Bool

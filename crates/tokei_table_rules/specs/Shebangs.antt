@@ -54,7 +54,8 @@ head_line head = take (line_len (take head_len head)) (take head_len head)
 
 -- By that line, which has to be UTF-8.
 abbrev pub from_line : List Row → List ℕ → Option ℕ
-from_line rows line = if is_utf8 line then from_words rows (first_word line) (behind_word line) else None
+from_line rows line =
+    if is_utf8 line then from_words rows (first_word line) (behind_word line) else None
 
 -- By the head of a file.
 abbrev pub from_shebang : List Row → List ℕ → Option ℕ

@@ -1,4 +1,5 @@
--- Which rows have a text, by groups of texts: an index that a look-up goes by, in place of a walk over the table.
+-- Which rows have a text, by groups of texts: an index that a look-up goes by, in place of a walk
+-- over the table.
 use Rattle.std.specs.Prelude.{◌≡◌, ℕ, ◌+◌, ◌*◌, ◌%◌, ◌<◌, ◌==◌, Bool, if◌then◌else◌, List, [], ◌∷◌, ◌++◌, length}
 use Rattle.std.specs.Prelude.{slice_index_or, Option, Some, None}
 use Rattle.std.specs.Str.{str_to_ascii_lowercase}

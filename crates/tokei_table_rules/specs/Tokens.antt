@@ -4,7 +4,8 @@ use Rattle.std.specs.List.{list_all}
 use Rattle.tokei_table_row.specs.Row.{Row}
 use Rattle.tokei_table_row.specs.Sound.{is_token, is_pair}
 
--- Each text of the comments and string literals, each of `important_syntax` and each tag is a token.
+-- Each text of the comments and string literals, each of `important_syntax` and each tag is a
+-- token.
 unfoldable pub has_tokens : Row → Bool
 has_tokens r =
     list_all is_token r.line_comment

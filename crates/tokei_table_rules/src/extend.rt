@@ -86,8 +86,8 @@ fn fill(
     row: &Syntax,
     extensions: &[String],
 ) -> Result<(), AllocError>
-    ensures { OnOk result (row_of copy.new ≡ with_extensions (filled (row_of copy.old) (row_of row.now)) (tokens_of
-        extensions.now)) }
+    ensures { OnOk result (row_of copy.new
+        ≡ with_extensions (filled (row_of copy.old) (row_of row.now)) (tokens_of extensions.now)) }
 {
     copy_name(alloc, copy, row)?;
     copy_comments(alloc, copy, row)?;
@@ -116,7 +116,8 @@ fn is_new(known: &[String], more: &[String], extension: &[u8]) -> bool
 
 /// Those of the listed extensions that aren't known yet, each once. It fails where memory runs out.
 pub fn gained(alloc: Global, known: &[String], listed: &[String]) -> Result<Vec<String>, AllocError>
-    ensures { IfOk result (λ v. tokens_of v.items ≡ gained (tokens_of known.now) (tokens_of listed.now)) }
+    ensures { IfOk result (λ v. tokens_of v.items
+        ≡ gained (tokens_of known.now) (tokens_of listed.now)) }
 {
     let mut out = Vec::new(alloc);
     for extension in listed {
@@ -133,7 +134,8 @@ pub fn with_extensions(
     row: &Syntax,
     extensions: &[String],
 ) -> Result<Syntax, AllocError>
-    ensures { IfOk result (λ s. row_of s ≡ with_extensions (row_of row.now) (tokens_of extensions.now)) }
+    ensures { IfOk result (λ s. row_of s
+        ≡ with_extensions (row_of row.now) (tokens_of extensions.now)) }
 {
     let mut extended = Syntax::new(alloc, row.key.as_str())?;
     fill(alloc, &mut extended, row, extensions)?;

@@ -1,4 +1,5 @@
-//! Rows of languages with an index of their names, extensions, whole names of files and path suffixes.
+//! Rows of languages with an index of their names, extensions, whole names of files and path
+//! suffixes.
 ghost use Rattle.std.specs.Prelude.{◌≡◌, map, IfOk};
 ghost use Rattle.std.specs.Str.{str_to_ascii_lowercase};
 ghost use Rattle.tokei_table_rules.specs.PathSuffixes.{suffixed_from};
@@ -11,7 +12,8 @@ use std::alloc::{AllocError, Global};
 use std::marker::Model;
 use tokei_table_row::Syntax;
 
-/// Rows and what is kept beside them, so that no look-up walks over all of them. Contracts see the rows.
+/// Rows and what is kept beside them, so that no look-up walks over all of them. Contracts see the
+/// rows.
 #[derive(Drop)]
 pub struct IndexedRows {
     rows: Vec<Syntax>,
@@ -32,13 +34,14 @@ impl Model for IndexedRows {
 
     ghost view = { λ t. map row_of t.rows.items };
 
-    ghost invariant = { λ t. IsIndexed (map row_of t.rows.items) t.by_name t.by_lowered_name t.by_extension t.by_filename
-        t.suffixed.items };
+    ghost invariant = { λ t. IsIndexed (map row_of t.rows.items) t.by_name t.by_lowered_name
+        t.by_extension t.by_filename t.suffixed.items };
 }
 
 impl IndexedRows {
-    /// These rows with an index of their keys and names, one of their names in lower case, one of their extensions and
-    /// one of whole names of files, and with the places of those that have path suffixes. It fails where memory runs out.
+    /// These rows with an index of their keys and names, one of their names in lower case, one of
+    /// their extensions and one of whole names of files, and with the places of those that have
+    /// path suffixes. It fails where memory runs out.
     pub fn new(alloc: Global, rows: Vec<Syntax>) -> Result<IndexedRows, AllocError>
         ensures { IfOk result (λ t. t ≡ map row_of rows.items) }
     {
@@ -81,14 +84,17 @@ impl IndexedRows {
 
     /// The same of an extension.
     pub(crate) fn extension_places(&self, extension: &[u8]) -> &[usize]
-        ensures { result.now ≡ in_group (group_of extension.now) (entries_from (λ r. r.extensions) 0 self.entry.now) }
+        ensures { result.now
+            ≡ in_group (group_of extension.now)
+            (entries_from (λ r. r.extensions) 0 self.entry.now) }
     {
         self.by_extension.places(extension)
     }
 
     /// The same of a whole name of a file.
     pub(crate) fn filename_places(&self, name: &[u8]) -> &[usize]
-        ensures { result.now ≡ in_group (group_of name.now) (entries_from (λ r. r.filenames) 0 self.entry.now) }
+        ensures { result.now
+            ≡ in_group (group_of name.now) (entries_from (λ r. r.filenames) 0 self.entry.now) }
     {
         self.by_filename.places(name)
     }

@@ -1,5 +1,6 @@
-//! What a table of languages asks of its rows: whether they can be counted with, which texts open something in one,
-//! copies with further extensions, and which row a name, a file or a script's head stands for, by an index beside the rows.
+//! What a table of languages asks of its rows: whether they can be counted with, which texts open
+//! something in one, copies with further extensions, and which row a name, a file or a script's
+//! head stands for, by an index beside the rows.
 #![tactic(auto)]
 
 pub mod extend;

@@ -1,4 +1,5 @@
-//! Which of the rows a word, a MIME type, a file's name or a script's head stands for. Of two rows the first is answered.
+//! Which of the rows a word, a MIME type, a file's name or a script's head stands for. Of two rows
+//! the first is answered.
 ghost use Rattle.std.specs.Prelude.{◌≡◌, ℕ, ◌≤◌, ◌<◌, length, map, take, is_some, option_map, bytes_eq, slice_index};
 ghost use Rattle.std.specs.Str.{is_utf8, str_to_ascii_lowercase};
 ghost use Rattle.tokei_table_rules.specs.Lookups.{first_where, has_name, has_name_in_any_case, has_mime};
@@ -57,14 +58,16 @@ pub fn with_name(rows: &IndexedRows, word: &str) -> Option<usize>
 }
 
 fn is_same_in_any_case(name: &str, word: &str) -> bool
-    ensures { result ≡ bytes_eq (str_to_ascii_lowercase name.now) (str_to_ascii_lowercase word.now) }
+    ensures { result
+        ≡ bytes_eq (str_to_ascii_lowercase name.now) (str_to_ascii_lowercase word.now) }
 {
     name.eq_ignore_ascii_case(word)
 }
 
 fn first_with_name_in_any_case(rows: &[Syntax], places: &[usize], word: &str) -> Option<usize>
     requires { (k : ℕ) → k < length places.now → slice_index places.now k < length rows.now }
-    ensures { result ≡ first_among (has_name_in_any_case word.now) (map row_of rows.now) places.now }
+    ensures { result
+        ≡ first_among (has_name_in_any_case word.now) (map row_of rows.now) places.now }
 {
     for place in places {
         if is_same_in_any_case(row(rows, *place).name.as_str(), word) {
@@ -236,7 +239,8 @@ fn of_program(rows: &[Syntax], rest: &[u8]) -> Option<usize>
 }
 
 fn in_line(rows: &[Syntax], line: &[u8]) -> Option<usize>
-    ensures { result ≡ from_words (map row_of rows.now) (first_word line.now) (behind_word line.now) }
+    ensures { result
+        ≡ from_words (map row_of rows.now) (first_word line.now) (behind_word line.now) }
 {
     let line = trim_start(line);
     let (word, rest) = line.split_at(word_len(line));

@@ -23,7 +23,8 @@ fn was_met(names: &BTreeMap<&str, ()>, row: &Syntax) -> bool
 }
 
 fn add_name<'a>(names: &mut BTreeMap<&'a str, ()>, name: &'a str) -> Result<(), AllocError>
-    ensures { OnOk result ((q : List ℕ) → is_met names.new q ≡ (is_met names.old q || bytes_eq name.now q)) }
+    ensures { OnOk result
+        ((q : List ℕ) → is_met names.new q ≡ (is_met names.old q || bytes_eq name.now q)) }
 {
     match names.insert(name, ()) {
         Ok(_old) => Ok(()),
@@ -33,7 +34,8 @@ fn add_name<'a>(names: &mut BTreeMap<&'a str, ()>, name: &'a str) -> Result<(), 
 
 /// Adds the row's key and its name to those that were met.
 fn add_names<'a>(names: &mut BTreeMap<&'a str, ()>, row: &'a Syntax) -> Result<(), AllocError>
-    ensures { OnOk result ((q : List ℕ) → is_met names.new q ≡ (is_met names.old q || has_name q (row_of row.now))) }
+    ensures { OnOk result
+        ((q : List ℕ) → is_met names.new q ≡ (is_met names.old q || has_name q (row_of row.now))) }
 {
     add_name(names, row.key.as_str())?;
     add_name(names, row.name.as_str())

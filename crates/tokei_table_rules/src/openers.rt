@@ -12,7 +12,8 @@ fn add_starts(
     out: &mut Vec<String>,
     pairs: &[(String, String)],
 ) -> Result<(), AllocError>
-    ensures { OnOk result (tokens_of out.new.items ≡ tokens_of out.old.items ++ starts_of (pairs_of pairs.now)) }
+    ensures { OnOk result
+        (tokens_of out.new.items ≡ tokens_of out.old.items ++ starts_of (pairs_of pairs.now)) }
 {
     for pair in pairs {
         out.push(String::from_str(alloc, pair.0.as_str())?)?;
@@ -22,7 +23,8 @@ fn add_starts(
 
 /// Adds copies of the texts. It fails where memory runs out.
 pub fn add_texts(alloc: Global, out: &mut Vec<String>, texts: &[String]) -> Result<(), AllocError>
-    ensures { OnOk result (tokens_of out.new.items ≡ tokens_of out.old.items ++ tokens_of texts.now) }
+    ensures { OnOk result
+        (tokens_of out.new.items ≡ tokens_of out.old.items ++ tokens_of texts.now) }
 {
     for text in texts {
         out.push(String::from_str(alloc, text.as_str())?)?;
@@ -39,7 +41,8 @@ fn tag_start(alloc: Global, tag: &str) -> Result<String, AllocError>
 }
 
 fn add_tags(alloc: Global, out: &mut Vec<String>, tags: &[String]) -> Result<(), AllocError>
-    ensures { OnOk result (tokens_of out.new.items ≡ tokens_of out.old.items ++ tag_starts (tokens_of tags.now)) }
+    ensures { OnOk result
+        (tokens_of out.new.items ≡ tokens_of out.old.items ++ tag_starts (tokens_of tags.now)) }
 {
     for tag in tags {
         out.push(tag_start(alloc, tag.as_str())?)?;
@@ -54,8 +57,9 @@ pub(crate) fn add_word(alloc: Global, out: &mut Vec<String>, word: &str) -> Resu
     Ok(())
 }
 
-/// The starts of string literals, of documentation in them and of comments, the member `important_syntax`, and in a row
-/// of kind `html` the tags with their bracket. It fails where memory runs out.
+/// The starts of string literals, of documentation in them and of comments, the member
+/// `important_syntax`, and in a row of kind `html` the tags with their bracket. It fails where
+/// memory runs out.
 pub fn important_syntax(alloc: Global, row: &Syntax) -> Result<Vec<String>, AllocError>
     ensures { IfOk result (λ v. tokens_of v.items ≡ important_syntax (row_of row.now)) }
 {
@@ -70,7 +74,8 @@ pub fn important_syntax(alloc: Global, row: &Syntax) -> Result<Vec<String>, Allo
 }
 
 fn add_child_openers(alloc: Global, out: &mut Vec<String>, family: Family) -> Result<(), AllocError>
-    ensures { OnOk result (tokens_of out.new.items ≡ tokens_of out.old.items ++ child_openers family) }
+    ensures { OnOk result
+        (tokens_of out.new.items ≡ tokens_of out.old.items ++ child_openers family) }
 {
     match family {
         Family::Plain | Family::Jupyter => Ok(()),
@@ -88,8 +93,8 @@ fn add_child_openers(alloc: Global, out: &mut Vec<String>, family: Family) -> Re
     }
 }
 
-/// What `important_syntax` answers, then the starts of string literals in which a backslash means itself, then what opens
-/// children. It fails where memory runs out.
+/// What `important_syntax` answers, then the starts of string literals in which a backslash means
+/// itself, then what opens children. It fails where memory runs out.
 pub fn openers(alloc: Global, row: &Syntax) -> Result<Vec<String>, AllocError>
     ensures { IfOk result (λ v. tokens_of v.items ≡ openers (row_of row.now)) }
 {

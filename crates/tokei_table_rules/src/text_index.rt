@@ -34,7 +34,8 @@ impl Group {
     }
 }
 
-/// For each group of texts the rows that have one of them. Contracts see the rows' places, group by group.
+/// For each group of texts the rows that have one of them. Contracts see the rows' places, group by
+/// group.
 #[derive(Drop)]
 pub(crate) struct TextIndex {
     groups: Vec<Group>,
@@ -82,7 +83,8 @@ fn add_entries(
     place: usize,
     texts: &[String],
 ) -> Result<(), AllocError>
-    ensures { OnOk result (entries.new.items ≡ entries.old.items ++ entries_of place (tokens_of texts.now)) }
+    ensures { OnOk result
+        (entries.new.items ≡ entries.old.items ++ entries_of place (tokens_of texts.now)) }
 {
     for text in texts {
         entries.push((group_of(text.as_bytes()), place))?;
@@ -92,7 +94,8 @@ fn add_entries(
 
 /// The group of each extension of the rows, beside the row's place.
 fn extension_entries(alloc: Global, rows: &[Syntax]) -> Result<Vec<(usize, usize)>, AllocError>
-    ensures { IfOk result (λ v. v.items ≡ entries_from (λ r. r.extensions) 0 (map row_of rows.now)) }
+    ensures { IfOk result (λ v. v.items
+        ≡ entries_from (λ r. r.extensions) 0 (map row_of rows.now)) }
 {
     let mut entries = Vec::new(alloc);
     for (place, row) in rows.iter().enumerate() {
@@ -173,7 +176,8 @@ impl TextIndex {
 
     /// The index of the rows' extensions. It fails where memory runs out.
     pub(crate) fn of_extensions(alloc: Global, rows: &[Syntax]) -> Result<TextIndex, AllocError>
-        ensures { IfOk result (λ x. AreGroups (entries_from (λ r. r.extensions) 0 (map row_of rows.now)) x) }
+        ensures { IfOk result (λ x. AreGroups
+            (entries_from (λ r. r.extensions) 0 (map row_of rows.now)) x) }
     {
         let entries = extension_entries(alloc, rows)?;
         TextIndex::of_entries(alloc, &entries)
@@ -181,7 +185,8 @@ impl TextIndex {
 
     /// The index of the whole names of files. It fails where memory runs out.
     pub(crate) fn of_filenames(alloc: Global, rows: &[Syntax]) -> Result<TextIndex, AllocError>
-        ensures { IfOk result (λ x. AreGroups (entries_from (λ r. r.filenames) 0 (map row_of rows.now)) x) }
+        ensures { IfOk result (λ x. AreGroups
+            (entries_from (λ r. r.filenames) 0 (map row_of rows.now)) x) }
     {
         let entries = filename_entries(alloc, rows)?;
         TextIndex::of_entries(alloc, &entries)
@@ -197,7 +202,8 @@ impl TextIndex {
 
     /// The index of the names in ASCII lower case. It fails where memory runs out.
     pub(crate) fn of_lowered_names(alloc: Global, rows: &[Syntax]) -> Result<TextIndex, AllocError>
-        ensures { IfOk result (λ x. AreGroups (entries_from lowered_name 0 (map row_of rows.now)) x) }
+        ensures { IfOk result (λ x. AreGroups (entries_from lowered_name 0 (map row_of rows.now))
+            x) }
     {
         let entries = lowered_name_entries(alloc, rows)?;
         TextIndex::of_entries(alloc, &entries)
@@ -212,7 +218,8 @@ impl TextIndex {
     }
     /// The same of the group of the text's ASCII lower case.
     pub(crate) fn lowered_places(&self, text: &[u8]) -> &[usize]
-        ensures places { result.now ≡ slice_index_or self.entry.now (group_of (str_to_ascii_lowercase text.now)) [] }
+        ensures places { result.now
+            ≡ slice_index_or self.entry.now (group_of (str_to_ascii_lowercase text.now)) [] }
         ensures within { group_of (str_to_ascii_lowercase text.now) < 256 }
     {
         self.groups[lowered_group_of(text)].places()

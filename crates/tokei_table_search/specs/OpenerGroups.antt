@@ -24,12 +24,15 @@ is_whole_with y (a ∷ b ∷ []) = b == y
 is_whole_with y (a ∷ b ∷ c ∷ o) = false
 
 -- For each byte, a flag tells whether one of the openers passes the test with it.
-pub record HasFlags (test : ℕ → List ℕ → Bool) (openers : List (List ℕ)) (flags : List Bool) : Type 0 where
+pub record HasFlags (test : ℕ → List ℕ → Bool) (openers : List (List ℕ))
+    (flags : List Bool) : Type 0 where
   pub all : length flags ≡ 256
   pub each : (y : ℕ) → y < 256 → slice_index_or flags y false ≡ list_any (test y) openers
 
--- No opener is empty, the list of first bytes has those of the openers, and beside each stand the openers with it.
-pub record IsIndexOf (openers : List (List ℕ)) (firsts : List ℕ) (groups : List (List (List ℕ))) : Type 0 where
+-- No opener is empty, the list of first bytes has those of the openers, and beside each stand the
+-- openers with it.
+pub record IsIndexOf (openers : List (List ℕ)) (firsts : List ℕ)
+    (groups : List (List (List ℕ))) : Type 0 where
   pub nonempty : list_all is_nonempty openers ≡ true
   pub firsts_are : (x : ℕ) → is_one_of firsts x ≡ is_first openers x
   pub grouped : groups ≡ map (λ x. with_first x openers) firsts

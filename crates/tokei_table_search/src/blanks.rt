@@ -5,8 +5,9 @@ ghost use Rattle.tokei_table_row.specs.Bytes.{is_blank};
 use tokei_bytes::first_not_of_four;
 use tokei_table_row::is_whitespace;
 
-/// Where the blanks end that stand at the front of the stretch of the text from `from` to before `to`: the first place
-/// whose byte is no blank, or `to`. A place counts the bytes of the text before it.
+/// Where the blanks end that stand at the front of the stretch of the text from `from` to before
+/// `to`: the first place whose byte is no blank, or `to`. A place counts the bytes of the text
+/// before it.
 #[inline(always)]
 pub fn blanks_end(text: &[u8], from: usize, to: usize) -> usize
     requires order { from ≤ to }

@@ -1,4 +1,5 @@
-//! Searches over a text: for the first of some openers, by their first bytes, and past the blanks at its front.
+//! Searches over a text: for the first of some openers, by their first bytes, and past the blanks
+//! at its front.
 #![tactic(auto)]
 
 pub mod blanks;

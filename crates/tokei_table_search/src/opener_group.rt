@@ -13,7 +13,8 @@ use std::marker::Model;
 use tokei_bytes::ByteSet;
 use tokei_table_row::ext::begins_with_one;
 
-/// Some openers, with tables of what can follow a first byte of theirs. Contracts see the list of the openers.
+/// Some openers, with tables of what can follow a first byte of theirs. Contracts see the list of
+/// the openers.
 #[derive(Drop)]
 pub(crate) struct OpenerGroup {
     openers: Vec<String>,
@@ -123,7 +124,8 @@ impl OpenerGroup {
         self.seconds.has(byte)
     }
 
-    /// The bytes with which one of the openers can go on behind its first one, where they are one to four.
+    /// The bytes with which one of the openers can go on behind its first one, where they are one
+    /// to four.
     #[inline(always)]
     pub(crate) fn few_seconds(&self) -> Option<[u8; 4]>
         ensures { IfSome result (λ few. (y : ℕ) → y < 256
@@ -140,8 +142,8 @@ impl OpenerGroup {
         self.wholes[byte as usize]
     }
 
-    /// Whether one of the openers, all with the first byte that stands at the place, stands there. Mostly the second
-    /// byte tells.
+    /// Whether one of the openers, all with the first byte that stands at the place, stands there.
+    /// Mostly the second byte tells.
     #[inline(always)]
     pub(crate) fn stands(&self, text: &[u8], at: usize) -> bool
         requires inside { at < length text.now }
@@ -160,15 +162,16 @@ impl OpenerGroup {
         begins_with_one(&self.openers, &text[at..])
     }
 
-    /// Up to which place the text, from a place on, goes on with the byte alone and each time with a byte behind it
-    /// with which none of the openers goes on.
+    /// Up to which place the text, from a place on, goes on with the byte alone and each time with
+    /// a byte behind it with which none of the openers goes on.
     #[inline(always)]
     pub(crate) fn passed(&self, byte: u8, text: &[u8], from: usize) -> usize
         requires { from ≤ length text.now }
         ensures low { from ≤ result }
         ensures within { result ≤ length text.now }
         ensures run { (k : ℕ) → from ≤ k → k < result → slice_index text.now k ≡ byte }
-        ensures none { (k : ℕ) → from ≤ k → k < result → begins_with_one self.now (drop k text.now) ≡ false }
+        ensures none { (k : ℕ) → from ≤ k → k < result
+            → begins_with_one self.now (drop k text.now) ≡ false }
         ensures ends { result + 1 < length text.now → slice_index text.now result ≡ byte →
             list_any (goes_on_with (slice_index text.now (result + 1))) self.now ≡ true }
     {

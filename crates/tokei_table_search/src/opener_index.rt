@@ -20,11 +20,12 @@ use tokei_bytes::{first_of_four, next_pair};
 /// How many bytes are searched at first for more than three bytes.
 const FIRST_BLOCK: usize = 64;
 
-/// The most bytes that are searched at a time for more than three bytes, or for bytes by those behind them.
+/// The most bytes that are searched at a time for more than three bytes, or for bytes by those
+/// behind them.
 const LARGEST_BLOCK: usize = 4096;
 
-/// How close a byte that can begin an opener stands to the place behind another one, where such are taken to come
-/// often.
+/// How close a byte that can begin an opener stands to the place behind another one, where such are
+/// taken to come often.
 const CLOSE: usize = 8;
 
 /// How many bytes are searched at first for bytes by those behind them.
@@ -33,13 +34,15 @@ const FIRST_WIDTH: usize = 32;
 /// How many bytes are close by. Further ahead the searches of `memchr` are quicker.
 const NEAR: usize = 256;
 
-/// The openers of a language in groups of one first byte. Contracts see it as the list of its openers.
+/// The openers of a language in groups of one first byte. Contracts see it as the list of its
+/// openers.
 #[derive(Drop)]
 pub struct OpenerIndex {
     /// As they were given. The search goes by the groups.
     openers: Vec<String>,
     firsts: Vec<u8>,
-    /// The first bytes, where they are one to four; those that are fewer than four are named more than once.
+    /// The first bytes, where they are one to four; those that are fewer than four are named more
+    /// than once.
     near: Option<[u8; 4]>,
     /// For each of the first bytes the openers that begin with it.
     groups: Vec<OpenerGroup>,
@@ -90,7 +93,8 @@ fn add_first(firsts: &mut Vec<u8>, opener: &[u8]) -> Result<(), AllocError>
 
 /// The distinct first bytes of the openers.
 fn first_bytes(alloc: Global, openers: &[String]) -> Result<Vec<u8>, AllocError>
-    ensures { IfOk result (λ v. (x : ℕ) → is_one_of v.items x ≡ is_first (tokens_of openers.now) x) }
+    ensures { IfOk result (λ v. (x : ℕ)
+        → is_one_of v.items x ≡ is_first (tokens_of openers.now) x) }
 {
     let mut firsts = Vec::new(alloc);
     for opener in openers {
@@ -141,7 +145,8 @@ fn groups_of(
     firsts: &[u8],
     openers: &[String],
 ) -> Result<Vec<OpenerGroup>, AllocError>
-    ensures { IfOk result (λ v. v.items ≡ map (λ x. with_first x (tokens_of openers.now)) firsts.now) }
+    ensures { IfOk result (λ v. v.items
+        ≡ map (λ x. with_first x (tokens_of openers.now)) firsts.now) }
 {
     let mut groups = Vec::new(alloc);
     for byte in firsts {
@@ -168,8 +173,8 @@ fn first_of_few(bytes: &[u8], text: &[u8]) -> Option<usize>
     }
 }
 
-/// The first place of the text whose byte is in the list, by searches for three bytes at a time, each up to where the
-/// one before it ended.
+/// The first place of the text whose byte is in the list, by searches for three bytes at a time,
+/// each up to where the one before it ended.
 fn first_of(bytes: &[u8], text: &[u8]) -> Option<usize>
     ensures { IsFirstByte (is_one_of bytes.now) text.now result }
 {
@@ -213,15 +218,17 @@ fn first_of_any(bytes: &[u8], text: &[u8]) -> Option<usize>
     }
 }
 
-/// The first place of the text, from a place on, whose byte is in the list; the text's length where there is none. It
-/// stands in no caller's code, since most hits are close by.
+/// The first place of the text, from a place on, whose byte is in the list; the text's length where
+/// there is none. It stands in no caller's code, since most hits are close by.
 #[inline(never)]
 fn first_among(bytes: &[u8], text: &[u8], from: usize) -> usize
     requires { from ≤ length text.now }
     ensures low { from ≤ result }
     ensures within { result ≤ length text.now }
-    ensures passed { (k : ℕ) → from ≤ k → k < result → is_one_of bytes.now (slice_index text.now k) ≡ false }
-    ensures found { result < length text.now → is_one_of bytes.now (slice_index text.now result) ≡ true }
+    ensures passed { (k : ℕ) → from ≤ k → k < result
+        → is_one_of bytes.now (slice_index text.now k) ≡ false }
+    ensures found { result < length text.now
+        → is_one_of bytes.now (slice_index text.now result) ≡ true }
 {
     match first_of_any(bytes, &text[from..]) {
         Some(n) => from + n,
@@ -229,15 +236,18 @@ fn first_among(bytes: &[u8], text: &[u8], from: usize) -> usize
     }
 }
 
-/// The same, where up to four bytes are searched for, named by both lists: mostly the first place is close by.
+/// The same, where up to four bytes are searched for, named by both lists: mostly the first place
+/// is close by.
 #[inline(always)]
 fn first_near(near: [u8; 4], bytes: &[u8], text: &[u8], from: usize) -> usize
     requires order { from ≤ length text.now }
     requires same { SameBytes near bytes.now }
     ensures low { from ≤ result }
     ensures within { result ≤ length text.now }
-    ensures passed { (k : ℕ) → from ≤ k → k < result → is_one_of bytes.now (slice_index text.now k) ≡ false }
-    ensures found { result < length text.now → is_one_of bytes.now (slice_index text.now result) ≡ true }
+    ensures passed { (k : ℕ) → from ≤ k → k < result
+        → is_one_of bytes.now (slice_index text.now k) ≡ false }
+    ensures found { result < length text.now
+        → is_one_of bytes.now (slice_index text.now result) ≡ true }
 {
     let end = from + NEAR.min(text.len() - from);
     let [a, b, c, d] = near;
@@ -298,8 +308,10 @@ impl OpenerIndex {
     #[inline(always)]
     fn group_of(&self, byte: u8) -> Option<&OpenerGroup>
         ensures firsts { IfSome result (λ g. list_all (is_first_of byte) g.now ≡ true) }
-        ensures group { MatchOption result ((t : List ℕ) → begins_with_one self.entry.now (byte ∷ t) ≡ false)
-            (λ g. (t : List ℕ) → begins_with_one g.now (byte ∷ t) ≡ begins_with_one self.entry.now (byte ∷ t)) }
+        ensures group { MatchOption result
+            ((t : List ℕ) → begins_with_one self.entry.now (byte ∷ t) ≡ false)
+            (λ g. (t : List ℕ)
+            → begins_with_one g.now (byte ∷ t) ≡ begins_with_one self.entry.now (byte ∷ t)) }
     {
         for (i, first) in self.firsts.iter().enumerate() {
             if byte == *first {
@@ -309,14 +321,15 @@ impl OpenerIndex {
         None
     }
 
-    /// The first place, from a place on, at which an opener can stand by its first byte; the text's length where there
-    /// is none.
+    /// The first place, from a place on, at which an opener can stand by its first byte; the text's
+    /// length where there is none.
     #[inline(always)]
     fn next_first(&self, text: &[u8], from: usize) -> usize
         requires { from ≤ length text.now }
         ensures low { from ≤ result }
         ensures within { result ≤ length text.now }
-        ensures none { (k : ℕ) → from ≤ k → k < result → begins_with_one self.now (drop k text.now) ≡ false }
+        ensures none { (k : ℕ) → from ≤ k → k < result
+            → begins_with_one self.now (drop k text.now) ≡ false }
     {
         match self.near {
             Some(near) => first_near(near, &self.firsts, text, from),
@@ -336,8 +349,9 @@ impl OpenerIndex {
         }
     }
 
-    /// Up to which place no opener stands, from a place on and mostly no further than `to`. The byte, with which those
-    /// of the group begin, is told by the one behind it. It stands in no caller's code, since it is rarely run.
+    /// Up to which place no opener stands, from a place on and mostly no further than `to`. The
+    /// byte, with which those of the group begin, is told by the one behind it. It stands in no
+    /// caller's code, since it is rarely run.
     #[inline(never)]
     fn passed_by_pairs(
         &self,
@@ -349,10 +363,12 @@ impl OpenerIndex {
     ) -> usize
         requires order { from ≤ to }
         requires inside { to ≤ length text.now }
-        requires group { (t : List ℕ) → begins_with_one group.now (byte ∷ t) ≡ begins_with_one self.now (byte ∷ t) }
+        requires group { (t : List ℕ)
+            → begins_with_one group.now (byte ∷ t) ≡ begins_with_one self.now (byte ∷ t) }
         ensures low { from ≤ result }
         ensures within { result ≤ length text.now }
-        ensures none { (k : ℕ) → from ≤ k → k < result → begins_with_one self.now (drop k text.now) ≡ false }
+        ensures none { (k : ℕ) → from ≤ k → k < result
+            → begins_with_one self.now (drop k text.now) ≡ false }
     {
         let mut at = from;
         if let (Some(near), Some(seconds)) = (self.near, group.few_seconds()) {
@@ -367,8 +383,9 @@ impl OpenerIndex {
         at
     }
 
-    /// Up to which place no opener stands, from a place on at which one of the group can stand but doesn't. In the
-    /// `width` bytes behind it other places are passed over that need no more than a look at two bytes.
+    /// Up to which place no opener stands, from a place on at which one of the group can stand but
+    /// doesn't. In the `width` bytes behind it other places are passed over that need no more than
+    /// a look at two bytes.
     #[inline(always)]
     fn passed(&self, group: &OpenerGroup, text: &[u8], at: usize, width: usize) -> usize
         requires inside { at < length text.now }
@@ -376,7 +393,8 @@ impl OpenerIndex {
             ≡ begins_with_one self.now (slice_index text.now at ∷ t) }
         ensures low { at < result }
         ensures within { result ≤ length text.now }
-        ensures none { (k : ℕ) → at + 1 ≤ k → k < result → begins_with_one self.now (drop k text.now) ≡ false }
+        ensures none { (k : ℕ) → at + 1 ≤ k → k < result
+            → begins_with_one self.now (drop k text.now) ≡ false }
     {
         let from = at + 1;
         if width == 0 {
@@ -386,7 +404,8 @@ impl OpenerIndex {
         self.passed_by_pairs(group, text[at], text, from, to)
     }
 
-    /// The least place of the text at which some opener stands, None where there is none. It takes no memory.
+    /// The least place of the text at which some opener stands, None where there is none. It takes
+    /// no memory.
     pub fn first_in(&self, text: &[u8]) -> Option<usize>
         ensures { result ≡ first_opener self.now text.now }
     {

@@ -35,21 +35,27 @@ of_kind File dropped place inner = cond dropped [] (kept place)
 of_kind Folder dropped place inner = cond dropped [] inner
 of_kind Other dropped place inner = []
 
+-- whether the kind is a folder
 abbrev pub is_folder : Kind → Bool
 is_folder File = false
 is_folder Folder = true
 is_folder Other = false
 
-unfoldable pub of_entry : List Pattern → Rules → (Context → List ℕ → List KeptFile) → Context → List ℕ → Entry → List KeptFile
+-- the files of an entry of the folder at `place`: of a file itself, of a folder those inside
+unfoldable pub of_entry : List Pattern → Rules → (Context → List ℕ → List KeptFile) → Context
+    → List ℕ → Entry → List KeptFile
 of_entry excludes rules inside c place e =
     of_kind e.kind (drops excludes rules c e.name (is_folder e.kind)) (joined place e.name)
     (inside (under c e.name) (joined place e.name))
 
-unfoldable pub of_entries : List Pattern → Rules → (Context → List ℕ → List KeptFile) → Context → List ℕ → List Entry → List KeptFile
+-- the files of the entries, in their order
+unfoldable pub of_entries : List Pattern → Rules → (Context → List ℕ → List KeptFile) → Context
+    → List ℕ → List Entry → List KeptFile
 of_entries excludes rules inside c place es = flat_map (of_entry excludes rules inside c place) es
 
 -- a folder that can't be listed gives nothing
-abbrev pub of_listing : (Context → List ℕ → List Entry → List KeptFile) → Context → List ℕ → Result (List Entry) Fault → List KeptFile
+abbrev pub of_listing : (Context → List ℕ → List Entry → List KeptFile) → Context → List ℕ
+    → Result (List Entry) Fault → List KeptFile
 of_listing entries c place (Ok es) = entries c place es
 of_listing entries c place (Err e) = []
 
@@ -58,7 +64,8 @@ unfoldable pub descend : List Pattern → Rules → Tree → ℕ → Context →
 descend excludes rules t zero c place = []
 descend excludes rules t (suc n) c place =
     of_listing
-    (λ d at es. of_entries excludes rules (descend excludes rules t n) (with_level d (level_at t rules (names_of at))) at es)
+    (λ d at es. of_entries excludes rules (descend excludes rules t n)
+    (with_level d (level_at t rules (names_of at))) at es)
     c place (list_answer t (names_of place))
 
 -- the rules of the folders above a root, from the top down
@@ -77,10 +84,13 @@ root_context t rules p = record {
 abbrev pub of_node : List Pattern → Rules → Tree → List ℕ → Option Node → List KeptFile
 of_node excludes rules t root None = []
 of_node excludes rules t root (Some (file r h content)) = kept root
-of_node excludes rules t root (Some (folder r)) = descend excludes rules t 257 (root_context t rules (names_of root)) root
+of_node excludes rules t root (Some (folder r)) =
+    descend excludes rules t 257 (root_context t rules (names_of root)) root
 
+-- the files of a root; an empty root gives nothing
 unfoldable pub of_root : List Pattern → Rules → Tree → List ℕ → List KeptFile
-of_root excludes rules t root = if is_empty root then [] else of_node excludes rules t root (node_at t (names_of root))
+of_root excludes rules t root =
+    if is_empty root then [] else of_node excludes rules t root (node_at t (names_of root))
 
 -- the context without the last name
 abbrev pub without_name : Context → Context
@@ -88,18 +98,27 @@ without_name c = record c { names = without_last c.names; shown = without_last c
 
 -- the context of the folder that holds this one
 abbrev pub outer : Context → Context
-outer c = record { levels = without_last c.levels; names = without_last c.names; shown = without_last c.shown }
+outer c = record {
+  levels = without_last c.levels;
+  names = without_last c.names;
+  shown = without_last c.shown;
+}
 
 -- what the folders give that are entered and not left, the innermost first
 unfoldable pub of_frames : List Pattern → Rules → Tree → Context → List Frame → List KeptFile
 of_frames excludes rules t c [] = []
 of_frames excludes rules t c (f ∷ fs) =
-    of_entries excludes rules (descend excludes rules t (256 - length fs)) c f.place (reverse f.left)
+    of_entries excludes rules (descend excludes rules t (256 - length fs)) c f.place
+    (reverse f.left)
     ++ of_frames excludes rules t (outer c) fs
 
 -- what the folder that is walked still gives
 abbrev pub of_top : List Pattern → Rules → Tree → Stack → List KeptFile
-of_top excludes rules t s = of_entries excludes rules (descend excludes rules t (256 - length s.holders)) s.context s.place (reverse s.left)
+of_top excludes rules t s =
+    of_entries excludes rules (descend excludes rules t (256 - length s.holders)) s.context s.place
+    (reverse s.left)
 
+-- the files of the walked folder, and then those of the folders that hold it
 abbrev pub of_stack : List Pattern → Rules → Tree → Stack → List KeptFile
-of_stack excludes rules t s = of_top excludes rules t s ++ of_frames excludes rules t (outer s.context) (reverse s.holders)
+of_stack excludes rules t s =
+    of_top excludes rules t s ++ of_frames excludes rules t (outer s.context) (reverse s.holders)

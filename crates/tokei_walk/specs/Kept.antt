@@ -16,9 +16,11 @@ use Rattle.tokei_walk.specs.Levels.{level_at, drops_last}
 use Rattle.tokei_folders.specs.Tree.{Names, Tree, node_at, names_of, folders_above, below}
 
 -- the folders whose ignore files hold for an entry below a root, each with the name that leads down
--- from it: those from the root to the entry's folder and, where the rules say so, those above the root
+-- from it: those from the root to the entry's folder and, where the rules say so, those above the
+-- root
 abbrev pub chain : Rules → Names → Names → List (Names × List ℕ)
-chain rules root inner = if rules.parents then folders_above [] (root ++ inner) else folders_above root inner
+chain rules root inner =
+    if rules.parents then folders_above [] (root ++ inner) else folders_above root inner
 
 -- what decides about an entry below a root, by the names from the root down to it
 unfoldable pub context_at : Tree → Rules → Names → Names → Context
@@ -28,6 +30,7 @@ context_at t rules root inner = record {
   shown = root ++ inner;
 }
 
+-- the last of the names; of none it is empty
 abbrev pub last_name : Names → List ℕ
 last_name [] = []
 last_name (n ∷ []) = n
@@ -35,7 +38,8 @@ last_name (n ∷ m ∷ ns) = last_name (m ∷ ns)
 
 -- an entry below a root is dropped, whether it is a folder or not
 unfoldable pub is_dropped : List Pattern → Rules → Tree → Names → Names → Bool → Bool
-is_dropped excludes rules t root inner entered = drops_last excludes rules (context_at t rules root inner) (last_name inner) entered
+is_dropped excludes rules t root inner entered =
+    drops_last excludes rules (context_at t rules root inner) (last_name inner) entered
 
 -- the folders between a root and a place below it, by the names from the root down
 abbrev pub between : Names → Names → List Names
@@ -45,7 +49,8 @@ between seen (n ∷ m ∷ ns) = (seen ++ n ∷ []) ∷ between (seen ++ n ∷ []
 
 -- a folder below a root is entered where it can be listed and isn't dropped
 abbrev pub is_entered : List Pattern → Rules → Tree → Names → Names → Bool
-is_entered excludes rules t root inner = can_list (node_at t (root ++ inner)) && not (is_dropped excludes rules t root inner true)
+is_entered excludes rules t root inner =
+    can_list (node_at t (root ++ inner)) && not (is_dropped excludes rules t root inner true)
 
 -- a file below a root is kept where the root can be listed, each folder between them is entered and
 -- lies at most 256 below the root, and the file isn't dropped
@@ -61,6 +66,7 @@ abbrev pub names_from : Option Names → Names
 names_from None = []
 names_from (Some ns) = ns
 
+-- the names from a root down to an entry of the tree; none where it doesn't lie below the root
 abbrev pub names_below : Names → PlacedNode → Names
 names_below root e = names_from (below root e.names)
 
@@ -79,12 +85,14 @@ place_below place (n ∷ ns) = place_below (joined place n) ns
 abbrev pub file_at : List ℕ → KeptFile
 file_at place = record { path = place; place = place }
 
+-- the kept file of an entry of the tree below a root
 abbrev pub kept_file : List ℕ → PlacedNode → KeptFile
 kept_file root e = file_at (place_below root (names_below (names_of root) e))
 
 -- the kept files of a root that is a folder: of all places those that are kept, in their order
 unfoldable pub kept_below : List Pattern → Rules → Tree → List ℕ → List KeptFile
-kept_below excludes rules t root = map (kept_file root) (filter (is_kept excludes rules t (names_of root)) t)
+kept_below excludes rules t root =
+    map (kept_file root) (filter (is_kept excludes rules t (names_of root)) t)
 
 -- a root that is a file is kept itself; one that is missing gives nothing
 abbrev pub kept_at : List Pattern → Rules → Tree → List ℕ → Option Node → List KeptFile
@@ -92,8 +100,10 @@ kept_at excludes rules t root None = []
 kept_at excludes rules t root (Some (file r h content)) = file_at root ∷ []
 kept_at excludes rules t root (Some (folder r)) = kept_below excludes rules t root
 
+-- the files that are kept of a root; an empty root gives nothing
 unfoldable pub kept_of : List Pattern → Rules → Tree → List ℕ → List KeptFile
-kept_of excludes rules t root = if is_empty root then [] else kept_at excludes rules t root (node_at t (names_of root))
+kept_of excludes rules t root =
+    if is_empty root then [] else kept_at excludes rules t root (node_at t (names_of root))
 
 -- the kept files of the roots, in their order
 unfoldable pub kept_in : List Pattern → Rules → Tree → List (List ℕ) → List KeptFile

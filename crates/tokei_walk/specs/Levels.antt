@@ -1,4 +1,5 @@
--- The rules that a folder's ignore files give, and what the rules of folders inside one another decide.
+-- The rules that a folder's ignore files give, and what the rules of folders inside one another
+-- decide.
 use Rattle.std.specs.Prelude.{ℕ, ◌&&◌, List, [], ◌∷◌, ◌++◌, Bool, true, false, Option, Some, None, is_some, if◌then◌else◌, cond, codes}
 use Rattle.std.specs.List.{list_any}
 use Rattle.tokei_folders.specs.declared.nodes.Node.{Node}
@@ -36,10 +37,14 @@ level_at t rules p = record {
   tokeignore = if rules.dot then ignore_file_at t p (codes ".tokeignore" ∷ []) else [];
   ignore = if rules.dot then ignore_file_at t p (codes ".ignore" ∷ []) else [];
   gitignore = if rules.git then ignore_file_at t p (codes ".gitignore" ∷ []) else [];
-  git_exclude = if rules.git && has_git t p then ignore_file_at t p (codes ".git" ∷ codes "info" ∷ codes "exclude" ∷ []) else [];
+  git_exclude =
+      if rules.git && has_git t p
+      then ignore_file_at t p (codes ".git" ∷ codes "info" ∷ codes "exclude" ∷ [])
+      else [];
   git = rules.git && has_git t p;
 }
 
+-- the patterns of a level that come from one kind of ignore file
 abbrev pub patterns_from : Source → Level → List Pattern
 patterns_from Tokeignore l = l.tokeignore
 patterns_from Plain l = l.ignore
@@ -54,11 +59,14 @@ decision source (l ∷ ls) names entered found =
     decision source ls (without_first names) entered
     (or_else (last_fitting (patterns_from source l) names entered) found)
 
--- the folders from the nearest one with an entry `.git` on, with the names from there; none without one
+-- the folders from the nearest one with an entry `.git` on, with the names from there; none without
+-- one
 abbrev pub in_repository : List Level → Names → List Level × Names → List Level × Names
 in_repository [] names found = found
-in_repository (l ∷ ls) names found = in_repository ls (without_first names) (if l.git then (l ∷ ls, names) else found)
+in_repository (l ∷ ls) names found =
+    in_repository ls (without_first names) (if l.git then (l ∷ ls, names) else found)
 
+-- the levels of the repository around an entry, and the names from its folder down
 abbrev pub repository : List Level → Names → List Level × Names
 repository ls names = in_repository ls names ([], [])
 

@@ -18,6 +18,7 @@ abbrev pub notes_by : List ℕ → Result (Option Pattern) PatternError → List
 notes_by text (Ok p) = []
 notes_by text (Err e) = record { kind = BadExclude; place = text } ∷ []
 
+-- the notes of one exclude: one where its text is no pattern
 abbrev pub exclude_notes : List ℕ → List Note
 exclude_notes text = notes_by text (exclude_pattern (chars text))
 

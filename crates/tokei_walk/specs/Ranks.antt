@@ -1,4 +1,5 @@
--- A measure of a walk: it falls with each file that is answered, in folders that tell a tree and in others.
+-- A measure of a walk: it falls with each file that is answered, in folders that tell a tree and in
+-- others.
 use Rattle.std.specs.Prelude.{ℕ, zero, suc, ◌+◌, ◌*◌, ◌-◌, ◌<◌, ◌^◌, List, [], ◌∷◌, length, reverse}
 use Rattle.tokei_walk.specs.declared.stack.Frame.{Frame}
 use Rattle.tokei_walk.specs.declared.stack.Stack.{Stack}
@@ -6,7 +7,8 @@ use Rattle.tokei_walk.specs.declared.stack.Step.{Step}
 use Rattle.tokei_walk.specs.declared.stack.Step.TheVariants.{Found, Passed, Ended}
 use Rattle.tokei_walk.specs.declared.walking.Walk.{Walk}
 
--- what an entry weighs below which so many levels may be entered: more than all entries of one folder below it
+-- what an entry weighs below which so many levels may be entered: more than all entries of one
+-- folder below it
 unfoldable pub weight : ℕ → ℕ
 weight zero = 1
 weight (suc n) = 2 ^ 64 * weight n

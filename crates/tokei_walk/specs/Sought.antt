@@ -29,6 +29,8 @@ level_of t sought p = record {
   tokeignore = if sought.tokeignore then ignore_file_at t p (codes ".tokeignore" ∷ []) else [];
   ignore = if sought.ignore then ignore_file_at t p (codes ".ignore" ∷ []) else [];
   gitignore = if sought.gitignore then ignore_file_at t p (codes ".gitignore" ∷ []) else [];
-  git_exclude = if sought.git then ignore_file_at t p (codes ".git" ∷ codes "info" ∷ codes "exclude" ∷ []) else [];
+  git_exclude =
+      if sought.git then ignore_file_at t p (codes ".git" ∷ codes "info" ∷ codes "exclude" ∷ [])
+      else [];
   git = sought.git;
 }

@@ -16,12 +16,15 @@ use Rattle.tokei_folders.specs.Tree.{Tree, names_of}
 -- the next entry is taken from those that are left
 abbrev pub Pops : Stack → Stack → Option Entry → Type 0
 Pops old new None = (old.left ≡ []) × (new ≡ old)
-Pops old new (Some e) = (reverse old.left ≡ e ∷ reverse new.left) × (new ≡ record old { left = new.left })
+Pops old new (Some e) =
+    (reverse old.left ≡ e ∷ reverse new.left) × (new ≡ record old { left = new.left })
 
 -- the folder that holds the walked one is walked again
 abbrev pub Leaves : Stack → Stack → Bool → Type 0
 Leaves old new false = (old.holders ≡ []) × (new ≡ old)
-Leaves old new true = (old.holders ≡ new.holders ++ record { place = new.place; left = new.left } ∷ []) × (new.context ≡ outer old.context)
+Leaves old new true =
+    (old.holders ≡ new.holders ++ record { place = new.place; left = new.left } ∷ [])
+    × (new.context ≡ outer old.context)
 
 -- a folder is entered: the one that was walked holds it, and its rules stand last
 pub record Enters (old new : Stack) (place : List ℕ) : Type 0 where
@@ -50,34 +53,43 @@ file_kept false place = Found (record { path = place; place = place })
 
 -- what a step over one entry leaves
 abbrev pub StepTells : List Pattern → Rules → Tree → Stack → Stack → Step → Type 0
-StepTells excludes rules t old new (Found k) = of_stack excludes rules t old ≡ k ∷ of_stack excludes rules t new
-StepTells excludes rules t old new Passed = of_top excludes rules t old ≡ of_top excludes rules t new
+StepTells excludes rules t old new (Found k) =
+    of_stack excludes rules t old ≡ k ∷ of_stack excludes rules t new
+StepTells excludes rules t old new Passed =
+    of_top excludes rules t old ≡ of_top excludes rules t new
 StepTells excludes rules t old new Ended = of_top excludes rules t old ≡ []
 
 -- the walked folder stays, with what holds it
 abbrev pub Stays : Stack → Stack → Type 0
 Stays old new = (new.context ≡ old.context) × (new.place ≡ old.place) × (new.holders ≡ old.holders)
 
+-- a step that finds no file leaves the walked folder, with fewer entries left, or with none at its
+-- end
 abbrev pub StepStays : Stack → Stack → Step → Type 0
 StepStays old new (Found k) = Unit {0}
 StepStays old new Passed = Stays old new × (length new.left < length old.left)
 StepStays old new Ended = Stays old new × (new.left ≡ [])
 
+-- where no file was found, the walked folder stays, and has no entry left
 abbrev pub NoneStays : Stack → Stack → Option KeptFile → Type 0
 NoneStays old new None = Stays old new × (new.left ≡ [])
 NoneStays old new (Some k) = Unit {0}
 
+-- where no file was found, nothing has changed
 abbrev pub NoneIsSame : Stack → Stack → Option KeptFile → Type 0
 NoneIsSame old new None = new ≡ old
 NoneIsSame old new (Some k) = Unit {0}
 
 -- what a visit of a folder's entry leaves
-abbrev pub VisitTells : List Pattern → Rules → Tree → Stack → Stack → List ℕ → List ℕ → Option KeptFile → Type 0
+abbrev pub VisitTells : List Pattern → Rules → Tree → Stack → Stack → List ℕ → List ℕ
+    → Option KeptFile → Type 0
 VisitTells excludes rules t old new name place None = of_folder excludes rules t old name place ≡ []
 VisitTells excludes rules t old new name place (Some k) =
-    of_folder excludes rules t old name place ++ of_stack excludes rules t old ≡ k ∷ of_stack excludes rules t new
+    of_folder excludes rules t old name place ++ of_stack excludes rules t old
+    ≡ k ∷ of_stack excludes rules t new
 
 -- what the exploring of the walked folder leaves
 abbrev pub ExploreTells : List Pattern → Rules → Tree → Stack → Stack → Option KeptFile → Type 0
 ExploreTells excludes rules t old new None = of_top excludes rules t old ≡ []
-ExploreTells excludes rules t old new (Some k) = of_stack excludes rules t old ≡ k ∷ of_stack excludes rules t new
+ExploreTells excludes rules t old new (Some k) =
+    of_stack excludes rules t old ≡ k ∷ of_stack excludes rules t new

@@ -11,7 +11,8 @@ use Rattle.tokei_folders.specs.Tree.{Tree, is_sound, node_at, names_of}
 use Rattle.tokei_walk.specs.Notes.{Grows}
 use Rattle.tokei_walk.specs.Walks.{descended}
 
--- a descent through a sound tree meets the files that the filter of all its places keeps, in their order
+-- a descent through a sound tree meets the files that the filter of all its places keeps, in their
+-- order
 abbrev pub DescentMeetsKept : Type 0
 DescentMeetsKept =
     (excludes : List Pattern) (rules : Rules) (t : Tree) (roots : List (List ℕ)) → is_sound t ≡ true

@@ -22,6 +22,7 @@ use Rattle.tokei_folders.specs.Tree.{Tree, Names}
 unfoldable pub of_roots : List Pattern → Rules → Tree → List (List ℕ) → List KeptFile
 of_roots excludes rules t roots = flat_map (of_root excludes rules t) (reverse roots)
 
+-- the files of the walked folders, and then those of the roots that are left
 abbrev pub of_all : List Pattern → Rules → Tree → Stack → List (List ℕ) → List KeptFile
 of_all excludes rules t s roots = of_stack excludes rules t s ++ of_roots excludes rules t roots
 
@@ -29,6 +30,7 @@ of_all excludes rules t s roots = of_stack excludes rules t s ++ of_roots exclud
 unfoldable pub to_come : Tree → Walk → List KeptFile
 to_come t w = if w.failed then [] else of_all w.settings.excludes w.settings.rules t w.stack w.roots
 
+-- memory ran out in the walk
 unfoldable pub has_failed : Walk → Bool
 has_failed w = w.failed
 
@@ -44,7 +46,8 @@ is_over w = w.failed || (is_spent w.stack && is_empty w.roots)
 abbrev pub texts_of : List (String Global) → List (List ℕ)
 texts_of texts = map string_bytes texts
 
--- the answer is the first file of those to come, and the rest is left; there is none where none is to come
+-- the answer is the first file of those to come, and the rest is left; there is none where none is
+-- to come
 abbrev pub Advances : List KeptFile → List KeptFile → Option KeptFile → Type 0
 Advances old new None = old ≡ []
 Advances old new (Some k) = old ≡ k ∷ new
@@ -74,5 +77,6 @@ RootGives own left (Some k) = own ≡ k ∷ left
 abbrev pub names_over : List Above → Names
 names_over found = map (λ a. a.1) (map above_view (reverse found))
 
+-- the rules of the folders that were found above, from the top down
 abbrev pub levels_over : Tree → Rules → List Above → List Level
 levels_over t rules found = map (λ a. level_at t rules a.0) (map above_view (reverse found))

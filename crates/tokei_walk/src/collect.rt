@@ -31,9 +31,10 @@ pub fn kept_files<F: Folders>(
     rules: &Rules,
 ) -> Result<Kept, AllocError>
     ensures same { SameTree F.tree folders.old folders.new }
-    ensures told { Told (F.tree folders.old) (λ t. IfOk result (λ k.
-        k.files.items ≡ kept_in (excludes_of (texts_of excludes.now)) rules.now t (texts_of roots.now))) }
-    ensures notes { IfOk result (λ k. Grows (notes_of_excludes (texts_of excludes.now)) k.notes.items) }
+    ensures told { Told (F.tree folders.old) (λ t. IfOk result (λ k. k.files.items
+        ≡ kept_in (excludes_of (texts_of excludes.now)) rules.now t (texts_of roots.now))) }
+    ensures notes { IfOk result (λ k. Grows (notes_of_excludes (texts_of excludes.now))
+        k.notes.items) }
     ensures honest { NoFault F.memory_faults folders.old folders.new result }
 {
     let mut walk = Walk::new(alloc, roots, excludes, rules)?;

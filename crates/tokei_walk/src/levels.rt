@@ -152,8 +152,8 @@ fn begins_dotted(name: &str) -> bool
     }
 }
 
-/// Whether an exclude drops the entry of this name. The name is lent to the shown path and given back, so that nothing is
-/// copied.
+/// Whether an exclude drops the entry of this name. The name is lent to the shown path and given
+/// back, so that nothing is copied.
 fn is_excluded_under(
     excludes: &[Pattern],
     shown: &mut Items<Text>,
@@ -161,7 +161,8 @@ fn is_excluded_under(
     entered: bool,
 ) -> Result<(bool, Text), AllocError>
     ensures shown { OnOk result (shown.new ≡ shown.old) }
-    ensures excluded { IfOk result (λ p. p.0 ≡ excluded_by excludes.now (shown.old ++ name ∷ []) entered) }
+    ensures excluded { IfOk result (λ p. p.0
+        ≡ excluded_by excludes.now (shown.old ++ name ∷ []) entered) }
     ensures name { IfOk result (λ p. p.1 ≡ name) }
 {
     shown.push(name)?;
@@ -169,7 +170,8 @@ fn is_excluded_under(
     Ok((excluded, shown.pop().unwrap()))
 }
 
-/// What the ignore files decide about the entry of this name, which is lent to the names and given back.
+/// What the ignore files decide about the entry of this name, which is lent to the names and given
+/// back.
 fn decided_under(
     levels: &[Level],
     names: &mut Items<Text>,
@@ -177,7 +179,8 @@ fn decided_under(
     entered: bool,
 ) -> Result<(Option<Verdict>, Text), AllocError>
     ensures names { OnOk result (names.new ≡ names.old) }
-    ensures verdict { IfOk result (λ p. p.0 ≡ level_decided levels.now (names.old ++ name ∷ []) entered) }
+    ensures verdict { IfOk result (λ p. p.0
+        ≡ level_decided levels.now (names.old ++ name ∷ []) entered) }
     ensures name { IfOk result (λ p. p.1 ≡ name) }
 {
     names.push(name)?;
@@ -206,7 +209,8 @@ pub fn judge(
     entered: bool,
 ) -> Result<(bool, Text), AllocError>
     ensures context { OnOk result (context.new ≡ context.old) }
-    ensures dropped { IfOk result (λ p. p.0 ≡ drops excludes.now rules.now context.old name entered) }
+    ensures dropped { IfOk result (λ p. p.0
+        ≡ drops excludes.now rules.now context.old name entered) }
     ensures name { IfOk result (λ p. p.1 ≡ name) }
 {
     let (excluded, name) = is_excluded_under(excludes, &mut context.shown, name, entered)?;

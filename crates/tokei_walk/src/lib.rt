@@ -1,7 +1,8 @@
 //! The walk over the files that the ignore rules keep.
 //!
-//! `specs/` holds the rules, one idea a file: what the rules of folders inside one another decide, the kept files, a filter
-//! of all places of a tree, and what a walk still has to come. The names of the two crates below are handed on.
+//! `specs/` holds the rules, one idea a file: what the rules of folders inside one another decide,
+//! the kept files, a filter of all places of a tree, and what a walk still has to come. The names
+//! of the two crates below are handed on.
 #![tactic(auto)]
 
 mod collect;

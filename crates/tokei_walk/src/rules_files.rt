@@ -24,7 +24,8 @@ pub fn note(
     kind: NoteKind,
     place: &str,
 ) -> Result<(), AllocError>
-    ensures ok { OnOk result (notes.new ≡ notes.old ++ record { kind = kind; place = place.now } ∷ []) }
+    ensures ok { OnOk result
+        (notes.new ≡ notes.old ++ record { kind = kind; place = place.now } ∷ []) }
     ensures err { OnErr result (notes.new ≡ notes.old) }
     ensures grows { Grows notes.old notes.new }
 {

@@ -196,7 +196,8 @@ fn push_folder(
 ) -> Result<(), AllocError>
     ensures entered { OnOk result (Enters stack.old stack.new place) }
     ensures entries { OnOk result (reverse stack.new.left ≡ entries) }
-    ensures levels { OnOk result (stack.new.context.levels ≡ stack.old.context.levels ++ level ∷ []) }
+    ensures levels { OnOk result
+        (stack.new.context.levels ≡ stack.old.context.levels ++ level ∷ []) }
 {
     stack.context.levels.push(level)?;
     entries.reverse();

@@ -92,7 +92,8 @@ impl Walk {
         rules: &Rules,
     ) -> Result<Walk, AllocError>
         ensures comes { IfOk result (λ w. (t : Tree) → is_sound t ≡ true
-            → to_come t w ≡ kept_in (excludes_of (texts_of excludes.now)) rules.now t (texts_of roots.now)) }
+            → to_come t w
+            ≡ kept_in (excludes_of (texts_of excludes.now)) rules.now t (texts_of roots.now)) }
         ensures failed { IfOk result (λ w. walk_failed w ≡ false) }
         ensures notes { IfOk result (λ w. notes_of w ≡ notes_of_excludes (texts_of excludes.now)) }
     {
