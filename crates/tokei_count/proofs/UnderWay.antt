@@ -274,7 +274,9 @@ module _ (r : Reading) (p : ReadSoFar) (way : IsUnderWay r p) where
       pub walked_fits : Fits (reading_of r) → CountsFit (plus own (one_of class))
       walked_fits fits = line_sum_fits class behind made s part.some part.reads fits
 
-      pub walked_on : (o : Sums) (h : List ℕ) (k : CodeBlock.Block) → sums_of o ≡ plus own (one_of class) → h ≡ text → (r.skips ≡ true → is_walked (openers_in r) (innermost c) (first_line rest) ≡ true)
+      pub walked_on : (o : Sums) (h : List ℕ) (k : CodeBlock.Block)
+          → sums_of o ≡ plus own (one_of class) → h ≡ text
+          → (r.skips ≡ true → is_walked (openers_in r) (innermost c) (first_line rest) ≡ true)
           → IsUnderWay r (record {
             own = o;
             blobs = p.blobs;
