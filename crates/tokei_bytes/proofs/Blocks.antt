@@ -60,11 +60,19 @@ tops a b c d (x ∷ v) = ap₂ (λ y r. y ∷ r) (one_set (eqb x a) (eqb x b) (e
 splats : (a b c d : ℕ) (v : List ℕ) → length v ≡ 32
     → zip2 bit_or (zip2 bit_or (zip2 hit v (replicate 32 a)) (zip2 hit v (replicate 32 b))) (zip2 bit_or (zip2 hit v (replicate 32 c)) (zip2 hit v (replicate 32 d))) ≡ map (hit_of_four a b c d) v
 splats a b c d v long =
-    zip2_of_maps bit_or _ _ v (zip2_of_maps bit_or _ _ v (zip2_splat hit v 32 a long) (zip2_splat hit v 32 b long)) (zip2_of_maps bit_or _ _ v (zip2_splat hit v 32 c long) (zip2_splat hit v 32 d long))
+    zip2_of_maps bit_or _ _ v
+    (zip2_of_maps bit_or _ _ v (zip2_splat hit v 32 a long) (zip2_splat hit v 32 b long))
+    (zip2_of_maps bit_or _ _ v (zip2_splat hit v 32 c long) (zip2_splat hit v 32 d long))
 
 -- `to_bitmask` of the four comparisons
 pub mask_of_four : (bs v : List ℕ) → length bs ≡ 4 → length v ≡ 32
-    → mask_l (map (top 7) (zip2 bit_or (zip2 bit_or (zip2 hit v (replicate 32 (get_or bs 0 0))) (zip2 hit v (replicate 32 (get_or bs 1 0)))) (zip2 bit_or (zip2 hit v (replicate 32 (get_or bs 2 0))) (zip2 hit v (replicate 32 (get_or bs 3 0)))))) % 2 ^ 64 ≡ mask_l (map (is_one_of bs) v)
+    → mask_l (map (top 7) (zip2 bit_or
+    (zip2 bit_or (zip2 hit v (replicate 32 (get_or bs 0 0)))
+    (zip2 hit v (replicate 32 (get_or bs 1 0))))
+    (zip2 bit_or (zip2 hit v (replicate 32 (get_or bs 2 0)))
+    (zip2 hit v (replicate 32 (get_or bs 3 0))))))
+    % 2 ^ 64
+    ≡ mask_l (map (is_one_of bs) v)
 mask_of_four (a ∷ b ∷ c ∷ d ∷ []) v four long =
     ap (λ l. mask_l (map (top 7) l) % 2 ^ 64) (splats a b c d v long)
     ∙ ap (λ l. mask_l l % 2 ^ 64) (tops a b c d v)
@@ -97,7 +105,10 @@ miss x y = cond (not (eqb x y)) 255 0
 abbrev pub miss_of_four : ℕ → ℕ → ℕ → ℕ → ℕ → ℕ
 miss_of_four a b c d x = bit_and (bit_and (miss x a) (miss x b)) (bit_and (miss x c) (miss x d))
 
-none_set : (p q r s : Bool) → top 7 (bit_and (bit_and (cond (not p) 255 0) (cond (not q) 255 0)) (bit_and (cond (not r) 255 0) (cond (not s) 255 0))) ≡ not (cond p true (cond q true (cond r true (cond s true false))))
+none_set : (p q r s : Bool)
+    → top 7 (bit_and (bit_and (cond (not p) 255 0) (cond (not q) 255 0))
+    (bit_and (cond (not r) 255 0) (cond (not s) 255 0)))
+    ≡ not (cond p true (cond q true (cond r true (cond s true false))))
 none_set true true true true = refl
 none_set true true true false = refl
 none_set true true false true = refl
@@ -120,13 +131,23 @@ missing_tops a b c d [] = refl
 missing_tops a b c d (x ∷ v) = ap₂ (λ y r. y ∷ r) (none_set (eqb x a) (eqb x b) (eqb x c) (eqb x d)) (missing_tops a b c d v)
 
 missing_splats : (a b c d : ℕ) (v : List ℕ) → length v ≡ 16
-    → zip2 bit_and (zip2 bit_and (zip2 miss v (replicate 16 a)) (zip2 miss v (replicate 16 b))) (zip2 bit_and (zip2 miss v (replicate 16 c)) (zip2 miss v (replicate 16 d))) ≡ map (miss_of_four a b c d) v
+    → zip2 bit_and (zip2 bit_and (zip2 miss v (replicate 16 a)) (zip2 miss v (replicate 16 b)))
+    (zip2 bit_and (zip2 miss v (replicate 16 c)) (zip2 miss v (replicate 16 d)))
+    ≡ map (miss_of_four a b c d) v
 missing_splats a b c d v long =
-    zip2_of_maps bit_and _ _ v (zip2_of_maps bit_and _ _ v (zip2_splat miss v 16 a long) (zip2_splat miss v 16 b long)) (zip2_of_maps bit_and _ _ v (zip2_splat miss v 16 c long) (zip2_splat miss v 16 d long))
+    zip2_of_maps bit_and _ _ v
+    (zip2_of_maps bit_and _ _ v (zip2_splat miss v 16 a long) (zip2_splat miss v 16 b long))
+    (zip2_of_maps bit_and _ _ v (zip2_splat miss v 16 c long) (zip2_splat miss v 16 d long))
 
 -- the same of the four comparisons by which a lane is none of them
 pub mask_of_others : (bs v : List ℕ) → length bs ≡ 4 → length v ≡ 16
-    → mask_l (map (top 7) (zip2 bit_and (zip2 bit_and (zip2 miss v (replicate 16 (get_or bs 0 0))) (zip2 miss v (replicate 16 (get_or bs 1 0)))) (zip2 bit_and (zip2 miss v (replicate 16 (get_or bs 2 0))) (zip2 miss v (replicate 16 (get_or bs 3 0)))))) % 2 ^ 64 ≡ mask_l (map (λ x. not (is_one_of bs x)) v)
+    → mask_l (map (top 7) (zip2 bit_and
+    (zip2 bit_and (zip2 miss v (replicate 16 (get_or bs 0 0)))
+    (zip2 miss v (replicate 16 (get_or bs 1 0))))
+    (zip2 bit_and (zip2 miss v (replicate 16 (get_or bs 2 0)))
+    (zip2 miss v (replicate 16 (get_or bs 3 0))))))
+    % 2 ^ 64
+    ≡ mask_l (map (λ x. not (is_one_of bs x)) v)
 mask_of_others (a ∷ b ∷ c ∷ d ∷ []) v four long =
     ap (λ l. mask_l (map (top 7) l) % 2 ^ 64) (missing_splats a b c d v long)
     ∙ ap (λ l. mask_l l % 2 ^ 64) (missing_tops a b c d v)
@@ -157,7 +178,10 @@ module _ (p : ℕ → Bool) (w : ℕ) (t : List ℕ) (i m : ℕ) (most : w ≤ 6
         | inl inside ↦ inside
         | inr past ↦
             let clear : bit_at m (count_trailing_zeros 64 m) ≡ 0 =
-            ap (λ n. bit_at n (count_trailing_zeros 64 m)) marked ∙ bit_mask_l (map p (chunk i w t)) (count_trailing_zeros 64 m) ∙ ap (λ b. cond b 1 0) (get_or_past (map p (chunk i w t)) (count_trailing_zeros 64 m) false (omega (arith, lanes))) in
+            ap (λ n. bit_at n (count_trailing_zeros 64 m)) marked
+            ∙ bit_mask_l (map p (chunk i w t)) (count_trailing_zeros 64 m)
+            ∙ ap (λ b. cond b 1 0) (get_or_past (map p (chunk i w t)) (count_trailing_zeros 64 m)
+            false (omega (arith, lanes))) in
             absurd (omega (arith, clear, set.1))
       ]
 

@@ -119,14 +119,19 @@ apart_of_three few x b h = by_tests (b == get_or few 0 0) (b == get_or few 1 0) 
     by_tests false true r y h = cc
     by_tests true q r y h = cc
 
-pub met_of_three : (few : List ℕ) (x b : ℕ) (within : Bool) → length few ≡ 4 → (is_one_of few b ≡ true → within ≡ true) → is_one_of (get_or few 0 0 ∷ get_or few 1 0 ∷ get_or few 2 0 ∷ x ∷ []) b ≡ true → ((b == x) || within) ≡ true
+pub met_of_three : (few : List ℕ) (x b : ℕ) (within : Bool) → length few ≡ 4
+    → (is_one_of few b ≡ true → within ≡ true)
+    → is_one_of (get_or few 0 0 ∷ get_or few 1 0 ∷ get_or few 2 0 ∷ x ∷ []) b ≡ true
+    → ((b == x) || within) ≡ true
 met_of_three [] x b within four held h = absurd (omega arith)
 met_of_three (c ∷ []) x b within four held h = absurd (omega arith)
 met_of_three (c ∷ d ∷ []) x b within four held h = absurd (omega arith)
 met_of_three (c ∷ d ∷ e ∷ []) x b within four held h = absurd (omega arith)
 met_of_three (c ∷ d ∷ e ∷ f ∷ few) x b within four held h = by_tests (b == c) (b == d) (b == e) (b == x) held h
   where
-    by_tests : (p q r y : Bool) → (cond p true (cond q true (cond r true (is_one_of (f ∷ few) b))) ≡ true → within ≡ true) → cond p true (cond q true (cond r true (cond y true false))) ≡ true → (y || within) ≡ true
+    by_tests : (p q r y : Bool)
+        → (cond p true (cond q true (cond r true (is_one_of (f ∷ few) b))) ≡ true → within ≡ true)
+        → cond p true (cond q true (cond r true (cond y true false))) ≡ true → (y || within) ≡ true
     by_tests p q r true held h = refl
     by_tests true q r false held h = held refl
     by_tests false true r false held h = held refl

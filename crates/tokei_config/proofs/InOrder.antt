@@ -73,7 +73,10 @@ is_there-put es es' k v puts q = ap is_some (puts q) ∙ some_of (is_eq (nat_cmp
 pub clash-put : (es es' : Entries) (k : ℕ) (v : LanguageConfig) (w : List (List ℕ)) (rest : List Addition) → is_there es k ≡ false
     → ((q : ℕ) → lookup (is_at (nat_cmp q)) es' ≡ cond (is_eq (nat_cmp k q)) (Some v) (lookup (is_at (nat_cmp q)) es))
     → clash es ((k, w) ∷ rest) ≡ clash es' rest
-clash-put es es' k v w rest new puts = rw (new, ← any-in es es' k rest (is_there-put es es' k v puts)) (or_moved (list_any (λ b. is_there es b.0) rest) (list_any (λ b. b.0 == k) rest) (named_twice rest))
+clash-put es es' k v w rest new puts =
+    rw (new, ← any-in es es' k rest (is_there-put es es' k v puts))
+    (or_moved (list_any (λ b. is_there es b.0) rest) (list_any (λ b. b.0 == k) rest)
+    (named_twice rest))
 
 -- one more addition whose language has an entry
 pub clash-there : (es : Entries) (k : ℕ) (w : List (List ℕ)) (rest : List Addition) → is_there es k ≡ true → clash es ((k, w) ∷ rest) ≡ true

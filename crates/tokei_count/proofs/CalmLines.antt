@@ -65,7 +65,10 @@ module _ (r : Reading) (l : ℕ) (c : Chain) (item : CodeEnclosure.Enclosure) (c
       λ p below. ap (choice (row_in r) (mode_of (Some item)) None) (drop-drop p start text) ∙ calm (start + p) (omega arith) (omega (arith, below, stop_is, high, first_line-low u)) in
       let class_here : class ≡ class_of (row_in r) r.docs_are_comments (record { begun = innermost c; bytes = first_line u; ended = innermost c }) =
       class_is (first_line u) ∙ ap (λ m. class_of (row_in r) r.docs_are_comments (record { begun = m; bytes = first_line u; ended = m })) (sym within) in
-      let read = line_reads (row_in r) (blocks_of r) l r.docs_are_comments c c u class r.sound (blocks_fit r).in_line closable (omega (arith, length-drop start text, some)) (line_len u) (leads (line_len u) u (omega arith) calm_here) class_here in
+      let read =
+      line_reads (row_in r) (blocks_of r) l r.docs_are_comments c c u class r.sound
+      (blocks_fit r).in_line closable (omega (arith, length-drop start text, some)) (line_len u)
+      (leads (line_len u) u (omega arith) calm_here) class_here in
       record {
         some = omega (arith, stop_is, line_some text start some);
         within = omega (arith, stop_is, first_within u, length-drop start text, some);
@@ -79,7 +82,17 @@ module _ (r : Reading) (l : ℕ) (c : Chain) (item : CodeEnclosure.Enclosure) (c
 -- what was read so far, with those lines more, up to that place, each of whose bytes was a choice
 abbrev pub gone_within : ReadSoFar → Sums → ℕ → ReadSoFar
 gone_within p lines at =
-    record { own = sums_with p.own lines; blobs = p.blobs; own_steps = p.own_steps + (at - p.start); inner_steps = p.inner_steps; behind_child = p.behind_child; start = at; stack = p.stack; search = p.search; child = p.child }
+    record {
+      own = sums_with p.own lines;
+      blobs = p.blobs;
+      own_steps = p.own_steps + (at - p.start);
+      inner_steps = p.inner_steps;
+      behind_child = p.behind_child;
+      start = at;
+      stack = p.stack;
+      search = p.search;
+      child = p.child;
+    }
 
 -- lines within the item, and one more
 pub calm_more : (r : Reading) (p : ReadSoFar) (item : CodeEnclosure.Enclosure) (lines more : Sums) (at stop to : ℕ) (class : Class) → p.start ≤ at → IsUnderWay r (gone_within p lines at)
@@ -95,12 +108,39 @@ calm_more r p item lines more at stop to class low way more_is some within stop_
     let own_is : sums_of (sums_with p.own more) ≡ plus (sums_of q.own) (one_of class) = counts_same _ _ (omega (arith, blanks)) (omega (arith, code)) (omega (arith, comments)) in
     let line = calm_line r p.behind_child (chain_of p.stack.items) item way.closable within at stop to class some (way.part some) stop_is high calm class_is in
     let made : p.own_steps + (at - p.start) + (stop - at) ≡ p.own_steps + (stop - p.start) = omega (arith, low, line.some) in
-    let walked : is_walked (openers_in r) (innermost (chain_of p.stack.items)) (first_line (drop at r.text.now)) ≡ true = ap (λ m. is_walked (openers_in r) m (first_line (drop at r.text.now))) within in
-    subst (λ n. IsUnderWay r (record { own = sums_with p.own more; blobs = p.blobs; own_steps = n; inner_steps = p.inner_steps; behind_child = p.behind_child; start = stop; stack = p.stack; search = p.search; child = p.child })) made
+    let walked : is_walked (openers_in r) (innermost (chain_of p.stack.items))
+    (first_line (drop at r.text.now))
+    ≡ true =
+    ap (λ m. is_walked (openers_in r) m (first_line (drop at r.text.now))) within in
+    subst
+    (λ n. IsUnderWay r (record {
+      own = sums_with p.own more;
+      blobs = p.blobs;
+      own_steps = n;
+      inner_steps = p.inner_steps;
+      behind_child = p.behind_child;
+      start = stop;
+      stack = p.stack;
+      search = p.search;
+      child = p.child;
+    }))
+    made
     (walked_on r q way class stop (stop - at) p.stack line (sums_with p.own more) p.search p.child own_is way.searched (λ skipped. walked))
 
 -- before any lines more
 pub none_within : (r : Reading) (p : ReadSoFar) (way : IsUnderWay r p) (lines : Sums) → sums_of lines ≡ no_lines → IsUnderWay r (gone_within p lines p.start)
 none_within r p way lines none =
     let same : p.own_steps ≡ p.own_steps + (p.start - p.start) = omega arith in
-    subst (λ n. IsUnderWay r (record { own = sums_with p.own lines; blobs = p.blobs; own_steps = n; inner_steps = p.inner_steps; behind_child = p.behind_child; start = p.start; stack = p.stack; search = p.search; child = p.child })) same (none_more r p way lines none)
+    subst
+    (λ n. IsUnderWay r (record {
+      own = sums_with p.own lines;
+      blobs = p.blobs;
+      own_steps = n;
+      inner_steps = p.inner_steps;
+      behind_child = p.behind_child;
+      start = p.start;
+      stack = p.stack;
+      search = p.search;
+      child = p.child;
+    }))
+    same (none_more r p way lines none)

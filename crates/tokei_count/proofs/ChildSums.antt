@@ -20,5 +20,8 @@ module _ (ls : Languages) (own own' : Row → List ℕ → Items → ℕ) where
   unfolding with_children
   with_children-most most zero language t = cond-most (is_notebook (ls.row language)) 0 _ 0 _ (omega arith) (omega (arith, most zero language t))
   with_children-most most (suc levels) language t =
-      let sums = sum_less (λ k. with_children own ls levels k.language k.contents) (λ k. with_children own' ls levels k.language k.contents) (λ k. with_children-most most levels k.language k.contents) in
+      let sums =
+      sum_less (λ k. with_children own ls levels k.language k.contents)
+      (λ k. with_children own' ls levels k.language k.contents)
+      (λ k. with_children-most most levels k.language k.contents) in
       cond-most (is_notebook (ls.row language)) _ _ _ _ (sums (ls.cells language t)) (omega (arith, most (suc levels) language t, sums (children_in ls (suc levels) language t)))

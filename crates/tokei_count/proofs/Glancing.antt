@@ -48,7 +48,9 @@ calm_else None f y e k = k
 calm_else (Some p) f y e k = cc
 
 -- no comment opens where no opener stands
-pub no_comments : (g : Row) (u : List ℕ) → begins_with_one (openers g) u ≡ false → (begins_with_one (starts_of g.multi_line_comments) u ≡ false) × (begins_with_one (starts_of g.nested_comments) u ≡ false)
+pub no_comments : (g : Row) (u : List ℕ) → begins_with_one (openers g) u ≡ false
+    → (begins_with_one (starts_of g.multi_line_comments) u ≡ false)
+    × (begins_with_one (starts_of g.nested_comments) u ≡ false)
 no_comments g u h =
     let q = starts_of g.quotes in
     let d = starts_of g.doc_quotes in

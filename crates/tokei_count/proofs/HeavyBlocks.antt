@@ -96,13 +96,28 @@ module _ (rows : List Row) (language : ℕ) (text : List ℕ) where
   by_heavy Plain part tail place rest k r e = cc
   by_heavy Markdown part tail place rest k r e =
       chained (fence_child rows) (fence_block part place rest) k
-      (λ b f g. mapped (fence_as b) (known_piece rows b.info) k (λ n h. heavy (fence_as b n) b.size b.contents rest refl (trim_less b.contents) (fence_lines b.closed) (fence_reach part rest tail place b r f)) g) e
+      (λ b f g. mapped (fence_as b) (known_piece rows b.info) k
+      (λ n h. heavy (fence_as b n) b.size b.contents rest refl (trim_less b.contents)
+      (fence_lines b.closed) (fence_reach part rest tail place b r f))
+      g)
+      e
   by_heavy HtmlLike part tail place rest k r e =
       first_of_two (element_at rows language Script part place rest) (first_block (element_at rows language Style part place rest) (element_at rows language Template part place rest)) k
       (element_heavy Script part place rest k)
-      (first_of_two (element_at rows language Style part place rest) (element_at rows language Template part place rest) k (element_heavy Style part place rest k) (element_heavy Template part place rest k)) e
-  by_heavy Rust part tail place rest k r e = mapped (doc_child rows language) (doc_block rest) k (λ b f. heavy (doc_child rows language b) b.size b.contents rest refl (trim_less b.contents) (omega arith) (doc_reach rest b f)) e
-  by_heavy LinguaFranca part tail place rest k r e = mapped (target_child rows language text) (target_block part place rest) k (λ b f. heavy (target_child rows language text b) b.size b.contents rest refl (outer_less b.contents) (omega arith) (target_reach part rest tail place b r f)) e
+      (first_of_two (element_at rows language Style part place rest)
+      (element_at rows language Template part place rest) k
+      (element_heavy Style part place rest k) (element_heavy Template part place rest k))
+      e
+  by_heavy Rust part tail place rest k r e =
+      mapped (doc_child rows language) (doc_block rest) k
+      (λ b f. heavy (doc_child rows language b) b.size b.contents rest refl
+      (trim_less b.contents) (omega arith) (doc_reach rest b f))
+      e
+  by_heavy LinguaFranca part tail place rest k r e =
+      mapped (target_child rows language text) (target_block part place rest) k
+      (λ b f. heavy (target_child rows language text b) b.size b.contents rest refl
+      (outer_less b.contents) (omega arith) (target_reach part rest tail place b r f))
+      e
   by_heavy Jupyter part tail place rest k r e = cc
 
   pub blocks_heavy : (levels l : ℕ) (t : List ℕ) (k : Block) → blocks (languages_of rows) levels language text l t ≡ Some k → IsHeavy k

@@ -98,19 +98,32 @@ module _ (rows : List Row) (language : ℕ) (text : List ℕ) (known : language 
 
   element_known : (tag : Tag) (part : List ℕ) (place : ℕ) (rest : List ℕ) → HasKnown (length rows) (element_at rows language tag part place rest)
   element_known tag part place rest = mapped (length rows) (element_child rows language tag) (tag_block tag part place rest)
-      (λ b. unwrap_below (length rows) (option_and_then (by_value rows tag) b.value) (fallback rows language (usual_key tag)) (chained_below (length rows) (by_value rows tag) b.value (value_below rows tag)) (fallback_known (usual_key tag)))
+      (λ b. unwrap_below (length rows) (option_and_then (by_value rows tag) b.value)
+      (fallback rows language (usual_key tag))
+      (chained_below (length rows) (by_value rows tag) b.value (value_below rows tag))
+      (fallback_known (usual_key tag)))
 
   target_known : (o : Option (List ℕ)) → target_language rows language o < length rows
   target_known None = known
-  target_known (Some w) = unwrap_below (length rows) (by_name rows (target_name w)) language (cond_below (length rows) (is_utf8 (target_name w)) (first_where (has_name (target_name w)) rows) (where_below (has_name (target_name w)) rows)) known
+  target_known (Some w) =
+      unwrap_below (length rows) (by_name rows (target_name w)) language
+      (cond_below (length rows) (is_utf8 (target_name w))
+      (first_where (has_name (target_name w)) rows)
+      (where_below (has_name (target_name w)) rows))
+      known
 
   by_known : (f : Family) (part : List ℕ) (place : ℕ) (rest : List ℕ) → HasKnown (length rows) (block_by f rows language text part place rest)
   by_known Plain part place rest = tt
-  by_known Markdown part place rest = chained (length rows) (fence_child rows) (fence_block part place rest) (λ b. fence_known (length rows) b (known_piece rows b.info) (pieces_below rows (slice_split is_comma b.info)))
+  by_known Markdown part place rest =
+      chained (length rows) (fence_child rows) (fence_block part place rest)
+      (λ b. fence_known (length rows) b (known_piece rows b.info)
+      (pieces_below rows (slice_split is_comma b.info)))
   by_known HtmlLike part place rest =
       first_known (length rows) (element_at rows language Script part place rest) (first_block (element_at rows language Style part place rest) (element_at rows language Template part place rest))
       (element_known Script part place rest)
-      (first_known (length rows) (element_at rows language Style part place rest) (element_at rows language Template part place rest) (element_known Style part place rest) (element_known Template part place rest))
+      (first_known (length rows) (element_at rows language Style part place rest)
+      (element_at rows language Template part place rest) (element_known Style part place rest)
+      (element_known Template part place rest))
   by_known Rust part place rest = mapped (length rows) (doc_child rows language) (doc_block rest) (λ b. fallback_known _)
   by_known LinguaFranca part place rest = mapped (length rows) (target_child rows language text) (target_block part place rest) (λ b. target_known (target_of text))
   by_known Jupyter part place rest = tt

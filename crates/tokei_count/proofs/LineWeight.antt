@@ -25,7 +25,9 @@ use Rattle.tokei_count.proofs.Summaries.{text-lines, cell-lines, reading-ordered
 
 -- the children's numbers, and what the children add to the parent, fit into the bytes that they take and what they weigh
 -- more
-shares_within : (ls : Languages) (a e : Block → ℕ) → ((k : Block) → a k ≤ own_weight ls k.language k.contents + e k) → (ks : List Block) → EachOf IsHeavy ks → lines_of (shares ks) + sum_over a ks ≤ sizes ks + sum_over e ks
+shares_within : (ls : Languages) (a e : Block → ℕ)
+    → ((k : Block) → a k ≤ own_weight ls k.language k.contents + e k) → (ks : List Block)
+    → EachOf IsHeavy ks → lines_of (shares ks) + sum_over a ks ≤ sizes ks + sum_over e ks
 shares_within ls a e h [] f = omega arith
 shares_within ls a e h (k ∷ ks) f = omega (arith, h k, f.0.holds, f.0.few, own_less (is_notebook (ls.row k.language)) (length k.contents), shares_within ls a e h ks f.1)
 
@@ -77,7 +79,11 @@ module _ (rows : List Row) (tokens : HaveTokens rows) (docs_are_comments : Bool)
       inner_extra k = extra (languages_of rows) n k.language k.contents
 
       by_test : (x : Bool) → ((k : Block) → inner k ≤ inner_weight k)
-          → lines_of (summary (cond x (notebook_by read (cell_blocks rows language t)) (read_by (row_at rows language) docs_are_comments read ms))) ≤ cond x 0 (length t) + cond x (sum_over inner_weight (cell_blocks rows language t)) (sum_over inner_extra kids)
+          → lines_of (summary (cond x (notebook_by read (cell_blocks rows language t))
+          (read_by (row_at rows language) docs_are_comments read ms)))
+          ≤ cond x 0 (length t)
+          + cond x (sum_over inner_weight (cell_blocks rows language t))
+          (sum_over inner_extra kids)
       by_test true h = omega (arith, cell-lines read each_ordered (notebook_cells rows language t), sum_less inner inner_weight h (cell_blocks rows language t))
       by_test false h = omega (
         arith,

@@ -47,10 +47,16 @@ module _ (g : Row) (block : ℕ → List ℕ → Option Block) (s : IsSound g) (
 
   -- by the choice at the front of the text, where any shorter rest is loaded
   module _ (n l b : ℕ) (t : List ℕ) (h : suc (length t) ≤ suc n) (ih : (l : ℕ) (c : Chain) (u : List ℕ) → length u ≤ n → IsClosable c → IsLoaded P u (marks_ahead g block l c u)) where
-    closer_loaded : (d : Chain) → IsClosable d → choice g (innermost d) (block l (b ∷ t)) (b ∷ t) ≡ closes → FitsIn (block l (b ∷ t)) (innermost d) (b ∷ t) closes → IsLoaded P (b ∷ t) (marks_ahead g block l d (b ∷ t))
+    closer_loaded : (d : Chain) → IsClosable d
+        → choice g (innermost d) (block l (b ∷ t)) (b ∷ t) ≡ closes
+        → FitsIn (block l (b ∷ t)) (innermost d) (b ∷ t) closes
+        → IsLoaded P (b ∷ t) (marks_ahead g block l d (b ∷ t))
     closer_loaded [] k e j = absurd (omega (arith, j.some))
     closer_loaded (e' ∷ d) k e j = subst (IsLoaded P (b ∷ t)) (sym (marks_ahead-closer g block l e' d b t e))
-        (in_front (b ∷ t) (closing (e' ∷ d) d e'.closer) (marks_ahead g block l d (drop (length e'.closer) (b ∷ t))) (length e'.closer) (load-closing (e' ∷ d) d e'.closer) (children-closing (e' ∷ d) d e'.closer) (local_within e'.closer (b ∷ t) j)
+        (in_front (b ∷ t) (closing (e' ∷ d) d e'.closer)
+        (marks_ahead g block l d (drop (length e'.closer) (b ∷ t))) (length e'.closer)
+        (load-closing (e' ∷ d) d e'.closer) (children-closing (e' ∷ d) d e'.closer)
+        (local_within e'.closer (b ∷ t) j)
         (ih l d (drop (length e'.closer) (b ∷ t)) (left_less n (length e'.closer) b t h j.some) k.1))
 
     child_loaded : (d : Chain) (k : Block) → choice g (innermost d) (block l (b ∷ t)) (b ∷ t) ≡ child_opens k → block l (b ∷ t) ≡ Some k → IsLoaded P (b ∷ t) (marks_ahead g block l d (b ∷ t))
@@ -60,22 +66,33 @@ module _ (g : Row) (block : ℕ → List ℕ → Option Block) (s : IsSound g) (
         (record { within = omega (arith, rest.within, length-drop k.size (b ∷ t), f.within l (b ∷ t) k j); kids = (held l (b ∷ t) k j, rest.kids) })
     child_loaded (e' ∷ d) k e j = absurd (within_no_child g e' (block l (b ∷ t)) (b ∷ t) k e)
 
-    by_choice : (c : Chain) → IsClosable c → (x : Choice) → choice g (innermost c) (block l (b ∷ t)) (b ∷ t) ≡ x → FitsIn (block l (b ∷ t)) (innermost c) (b ∷ t) x → IsLoaded P (b ∷ t) (marks_ahead g block l c (b ∷ t))
+    by_choice : (c : Chain) → IsClosable c → (x : Choice)
+        → choice g (innermost c) (block l (b ∷ t)) (b ∷ t) ≡ x
+        → FitsIn (block l (b ∷ t)) (innermost c) (b ∷ t) x
+        → IsLoaded P (b ∷ t) (marks_ahead g block l c (b ∷ t))
     by_choice c closable closes e j = closer_loaded c closable e j
     by_choice c closable escapes e j = subst (IsLoaded P (b ∷ t)) (sym (marks_ahead-escape g block l c b t e))
         (in_front (b ∷ t) (byte_at b true c ∷ byte_at (second t) false c ∷ []) (marks_ahead g block l c (drop 1 t)) 2 refl refl (omega (arith, j, line_len_within (b ∷ t)))
         (ih l c (drop 2 (b ∷ t)) (left_less n 2 b t h (omega arith)) closable))
     by_choice c closable (child_opens k) e j = child_loaded c k e j
     by_choice c closable (opens k p) e j = subst (IsLoaded P (b ∷ t)) (sym (marks_ahead-opener g block l c b t k p j.0.some e))
-        (in_front (b ∷ t) (of_choice (enclosure k p ∷ c) p.opener) (marks_ahead g block l (enclosure k p ∷ c) (drop (length p.opener) (b ∷ t))) (length p.opener) (load-of_choice (enclosure k p ∷ c) p.opener) (children-of_choice (enclosure k p ∷ c) p.opener) (local_within p.opener (b ∷ t) j.0)
+        (in_front (b ∷ t) (of_choice (enclosure k p ∷ c) p.opener)
+        (marks_ahead g block l (enclosure k p ∷ c) (drop (length p.opener) (b ∷ t)))
+        (length p.opener) (load-of_choice (enclosure k p ∷ c) p.opener)
+        (children-of_choice (enclosure k p ∷ c) p.opener) (local_within p.opener (b ∷ t) j.0)
         (ih l (enclosure k p ∷ c) (drop (length p.opener) (b ∷ t)) (left_less n (length p.opener) b t h j.0.some) (j.1, closable)))
     by_choice c closable (passes_over p) e j = subst (IsLoaded P (b ∷ t)) (sym (marks_ahead-pass g block l c b t p j.some e))
-        (in_front (b ∷ t) (of_choice c p.opener) (marks_ahead g block l c (drop (length p.opener) (b ∷ t))) (length p.opener) (load-of_choice c p.opener) (children-of_choice c p.opener) (local_within p.opener (b ∷ t) j)
+        (in_front (b ∷ t) (of_choice c p.opener)
+        (marks_ahead g block l c (drop (length p.opener) (b ∷ t))) (length p.opener)
+        (load-of_choice c p.opener) (children-of_choice c p.opener)
+        (local_within p.opener (b ∷ t) j)
         (ih l c (drop (length p.opener) (b ∷ t)) (left_less n (length p.opener) b t h j.some) closable))
     by_choice c closable begins_line_comment e j =
         let m : ℕ = length (first_line (b ∷ t)) in
         subst (IsLoaded P (b ∷ t)) (sym (marks_ahead-rest g block l c b t (first_some b t) e))
-        (in_front (b ∷ t) (of_choice c (first_line (b ∷ t))) (marks_ahead g block l c (drop m (b ∷ t))) m (load-of_choice c (first_line (b ∷ t))) (children-of_choice c (first_line (b ∷ t))) (first_within (b ∷ t))
+        (in_front (b ∷ t) (of_choice c (first_line (b ∷ t)))
+        (marks_ahead g block l c (drop m (b ∷ t))) m (load-of_choice c (first_line (b ∷ t)))
+        (children-of_choice c (first_line (b ∷ t))) (first_within (b ∷ t))
         (ih l c (drop m (b ∷ t)) (left_less n m b t h (first_some b t)) closable))
     by_choice c closable takes_byte e j = subst (IsLoaded P (b ∷ t)) (sym (marks_ahead-byte g block l c b t e))
         (in_front (b ∷ t) (byte_at b true c ∷ []) (marks_ahead g block l c t) 1 refl refl (omega arith) (ih l c t (omega arith) closable))
@@ -83,7 +100,9 @@ module _ (g : Row) (block : ℕ → List ℕ → Option Block) (s : IsSound g) (
   loaded : (n l : ℕ) (c : Chain) (t : List ℕ) → length t ≤ n → IsClosable c → IsLoaded P t (marks_ahead g block l c t)
   loaded n l c [] h closable = rw (marks_ahead-end g block l c) (record { within = omega arith; kids = tt })
   loaded zero l c (b ∷ t) h closable = absurd (omega arith)
-  loaded (suc n) l c (b ∷ t) h closable = by_choice n l b t h (loaded n) c closable (choice g (innermost c) (block l (b ∷ t)) (b ∷ t)) refl (choice_fits g (block l (b ∷ t)) (innermost c) (b ∷ t) s (top_closed c closable))
+  loaded (suc n) l c (b ∷ t) h closable =
+      by_choice n l b t h (loaded n) c closable (choice g (innermost c) (block l (b ∷ t)) (b ∷ t))
+      refl (choice_fits g (block l (b ∷ t)) (innermost c) (b ∷ t) s (top_closed c closable))
 
   pub text_loaded : (t : List ℕ) → IsLoaded P t (marks [] (items_of g block t))
   unfolding marks_ahead

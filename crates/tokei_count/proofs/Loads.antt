@@ -62,8 +62,23 @@ choices_within os m [] n t [] = omega arith
 choices_within os m (a ∷ s) n t [] = omega (arith, some_or_none (is_walked os m (a ∷ s)) n)
 choices_within os m s n t (byte_at b x c ∷ ms) = by_test (b == 10) (choices_within os (innermost c) [] 0 (drop 1 t) ms) (choices_within os m (s ++ b ∷ []) (n + one_if x) (drop 1 t) ms)
   where
-    by_test : (y : Bool) → choices_passed os (running (innermost c) [] 0 (drop 1 t) ms) + sizes (children ms) ≤ 0 + load ms → choices_passed os (running m (s ++ b ∷ []) (n + one_if x) (drop 1 t) ms) + sizes (children ms) ≤ n + one_if x + load ms
-        → choices_passed os (cond y (record { begun = m; reach = s ++ b ∷ []; size = length (s ++ b ∷ []); choices = n + one_if x } ∷ running (innermost c) [] 0 (drop 1 t) ms) (running m (s ++ b ∷ []) (n + one_if x) (drop 1 t) ms)) + sizes (children ms) ≤ n + suc (load ms)
+    by_test : (y : Bool)
+        → choices_passed os (running (innermost c) [] 0 (drop 1 t) ms) + sizes (children ms)
+        ≤ 0 + load ms
+        → choices_passed os (running m (s ++ b ∷ []) (n + one_if x) (drop 1 t) ms)
+        + sizes (children ms)
+        ≤ n + one_if x + load ms
+        → choices_passed os (cond y
+        (record {
+          begun = m;
+          reach = s ++ b ∷ [];
+          size = length (s ++ b ∷ []);
+          choices = n + one_if x;
+        }
+        ∷ running (innermost c) [] 0 (drop 1 t) ms)
+        (running m (s ++ b ∷ []) (n + one_if x) (drop 1 t) ms))
+        + sizes (children ms)
+        ≤ n + suc (load ms)
     by_test true h k = omega (arith, some_or_none (is_walked os m (s ++ b ∷ [])) (n + one_if x), one_or_none x)
     by_test false h k = omega (arith, one_or_none x)
 choices_within os m s n t (child_at k ∷ ms) = omega (arith, choices_within os None [] 0 (drop k.size t) ms, some_or_none (is_walked os m (s ++ first_line t)) n)
@@ -81,14 +96,29 @@ one_more : (r : Row) (docs_are_comments : Bool) (p : Part) (ps : List Part) → 
 one_more r docs_are_comments p ps = omega (arith, lines-plus (one_of (class_of r docs_are_comments p)) (tally r docs_are_comments ps), one_line (class_of r docs_are_comments p))
 
 -- no more lines are counted than there are bytes outside the children
-pub lines_within : (r : Row) (docs_are_comments : Bool) (m : Mode) (s : List ℕ) (e : Mode) (ms : List Mark) → lines_of (tally r docs_are_comments (cut m s e ms)) + sizes (children ms) ≤ length s + load ms
+pub lines_within : (r : Row) (docs_are_comments : Bool) (m : Mode) (s : List ℕ) (e : Mode)
+    (ms : List Mark)
+    → lines_of (tally r docs_are_comments (cut m s e ms)) + sizes (children ms) ≤ length s + load ms
 unfolding cut
 lines_within r docs_are_comments m [] e [] = omega arith
 lines_within r docs_are_comments m (a ∷ s) e [] = omega (arith, one_more r docs_are_comments (record { begun = m; bytes = a ∷ s; ended = e }) [])
-lines_within r docs_are_comments m s e (byte_at b x c ∷ ms) = by_test (b == 10) (lines_within r docs_are_comments (innermost c) [] (innermost c) ms) (lines_within r docs_are_comments m (s ++ b ∷ []) (innermost c) ms)
+lines_within r docs_are_comments m s e (byte_at b x c ∷ ms) =
+    by_test (b == 10) (lines_within r docs_are_comments (innermost c) [] (innermost c) ms)
+    (lines_within r docs_are_comments m (s ++ b ∷ []) (innermost c) ms)
   where
-    by_test : (y : Bool) → lines_of (tally r docs_are_comments (cut (innermost c) [] (innermost c) ms)) + sizes (children ms) ≤ 0 + load ms → lines_of (tally r docs_are_comments (cut m (s ++ b ∷ []) (innermost c) ms)) + sizes (children ms) ≤ length (s ++ b ∷ []) + load ms
-        → lines_of (tally r docs_are_comments (cond y (record { begun = m; bytes = s ++ b ∷ []; ended = innermost c } ∷ cut (innermost c) [] (innermost c) ms) (cut m (s ++ b ∷ []) (innermost c) ms))) + sizes (children ms) ≤ length s + suc (load ms)
+    by_test : (y : Bool)
+        → lines_of (tally r docs_are_comments (cut (innermost c) [] (innermost c) ms))
+        + sizes (children ms)
+        ≤ 0 + load ms
+        → lines_of (tally r docs_are_comments (cut m (s ++ b ∷ []) (innermost c) ms))
+        + sizes (children ms)
+        ≤ length (s ++ b ∷ []) + load ms
+        → lines_of (tally r docs_are_comments (cond y
+        (record { begun = m; bytes = s ++ b ∷ []; ended = innermost c }
+        ∷ cut (innermost c) [] (innermost c) ms)
+        (cut m (s ++ b ∷ []) (innermost c) ms)))
+        + sizes (children ms)
+        ≤ length s + suc (load ms)
     by_test true h k = omega (arith, one_more r docs_are_comments (record { begun = m; bytes = s ++ b ∷ []; ended = innermost c }) (cut (innermost c) [] (innermost c) ms))
     by_test false h k = omega (arith, length-append s (b ∷ []))
 lines_within r docs_are_comments m s e (child_at k ∷ ms) = omega (arith, lines_within r docs_are_comments None [] None ms)

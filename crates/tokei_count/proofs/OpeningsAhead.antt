@@ -52,7 +52,11 @@ module _ (g : Row) (block : ℕ → List ℕ → Option Block) where
   unfolding openings_in
   openings_ahead-item l c t i n e =
       let rest : Body = body l c (drop n t) in
-      let here : openings_ahead l c t ≡ openings_by i + openings_in rest.items + beyond l c rest.closed (drop (n + rest.taken) t) = openings_ahead-is l c t ∙ ap (λ (d : Body). openings_in d.items + beyond l c d.closed (drop d.taken t)) e in
+      let here : openings_ahead l c t
+      ≡ openings_by i + openings_in rest.items
+      + beyond l c rest.closed (drop (n + rest.taken) t) =
+      openings_ahead-is l c t
+      ∙ ap (λ (d : Body). openings_in d.items + beyond l c d.closed (drop d.taken t)) e in
       let there : beyond l c rest.closed (drop (n + rest.taken) t) ≡ beyond l c rest.closed (drop rest.taken (drop n t)) = ap (beyond l c rest.closed) (sym (drop-drop rest.taken n t)) in
       omega (arith, here, there, openings_ahead-is l c (drop n t))
 
@@ -93,7 +97,12 @@ module _ (g : Row) (block : ℕ → List ℕ → Option Block) where
     unfolding openings_ahead openings_in
     opened_by_end k p h is n closed d e =
         let u : List ℕ = drop (length p.opener) (b ∷ t) in
-        let inner : openings_ahead l (enclosure k p ∷ c) u ≡ openings_in is + cond closed (openings_ahead l c (drop n u)) 0 = ap (λ (w : Body). openings_in w.items + cond w.closed (openings_ahead l c (drop w.taken u)) 0) d in
+        let inner : openings_ahead l (enclosure k p ∷ c) u
+        ≡ openings_in is + cond closed (openings_ahead l c (drop n u)) 0 =
+        ap
+        (λ (w : Body). openings_in w.items
+        + cond w.closed (openings_ahead l c (drop w.taken u)) 0)
+        d in
         by_end closed inner e
       where
         by_end : (x : Bool) → openings_ahead l (enclosure k p ∷ c) (drop (length p.opener) (b ∷ t)) ≡ openings_in is + cond x (openings_ahead l c (drop n (drop (length p.opener) (b ∷ t)))) 0
@@ -102,24 +111,40 @@ module _ (g : Row) (block : ℕ → List ℕ → Option Block) where
         by_end true inner e =
             let item : Item = enclosing_item k p is true in
             let rest : derive g block t (length p.opener - 1 + n) l (innermost c) ≡ body l c (drop (length p.opener + n) (b ∷ t)) = derive_less g block b t (length p.opener) n l (innermost c) h in
-            let here : openings_ahead l c (b ∷ t) ≡ openings_by item + openings_ahead l c (drop (length p.opener + n) (b ∷ t)) = openings_ahead-item l c (b ∷ t) item (length p.opener + n) (e ∙ ap (before item (length p.opener + n)) rest) in
-            let there : openings_ahead l c (drop n (drop (length p.opener) (b ∷ t))) ≡ openings_ahead l c (drop (length p.opener + n) (b ∷ t)) = ap (openings_ahead l c) (drop-drop n (length p.opener) (b ∷ t)) in
+            let here : openings_ahead l c (b ∷ t)
+            ≡ openings_by item + openings_ahead l c (drop (length p.opener + n) (b ∷ t)) =
+            openings_ahead-item l c (b ∷ t) item (length p.opener + n)
+            (e ∙ ap (before item (length p.opener + n)) rest) in
+            let there : openings_ahead l c (drop n (drop (length p.opener) (b ∷ t)))
+            ≡ openings_ahead l c (drop (length p.opener + n) (b ∷ t)) =
+            ap (openings_ahead l c) (drop-drop n (length p.opener) (b ∷ t)) in
             omega (arith, here, there, inner, openings_by-enclosing_item k p is true)
         by_end false inner e =
             let item : Item = enclosing_item k p is false in
-            let here : openings_ahead l c (b ∷ t) ≡ openings_by item + 0 + beyond l c false (drop (length p.opener + n + 0) (b ∷ t)) = openings_ahead-is l c (b ∷ t) ∙ ap (λ (w : Body). openings_in w.items + beyond l c w.closed (drop w.taken (b ∷ t))) e in
+            let here : openings_ahead l c (b ∷ t)
+            ≡ openings_by item + 0 + beyond l c false (drop (length p.opener + n + 0) (b ∷ t)) =
+            openings_ahead-is l c (b ∷ t)
+            ∙ ap (λ (w : Body). openings_in w.items + beyond l c w.closed (drop w.taken (b ∷ t)))
+            e in
             omega (arith, here, inner, nothing_beyond l c (drop (length p.opener + n + 0) (b ∷ t)), openings_by-enclosing_item k p is false)
 
-    pub openings_ahead-opener : (k : Kind) (p : Pair) → 0 < length p.opener → chosen (opens k p) → openings_ahead l c (b ∷ t) ≡ 1 + openings_ahead l (enclosure k p ∷ c) (drop (length p.opener) (b ∷ t))
+    pub openings_ahead-opener : (k : Kind) (p : Pair) → 0 < length p.opener → chosen (opens k p)
+        → openings_ahead l c (b ∷ t)
+        ≡ 1 + openings_ahead l (enclosure k p ∷ c) (drop (length p.opener) (b ∷ t))
     openings_ahead-opener k p h e =
         let inner : Body = derive g block t (length p.opener - 1) l (Some (enclosure k p)) in
         opened_by_end k p h inner.items inner.taken inner.closed (sym (derive_less_by g block b t (length p.opener) l (Some (enclosure k p)) h)) (by_choice (opens k p) e)
 
-  pub openings_ahead-closer : (l : ℕ) (e : Enclosure) (c : Chain) (b : ℕ) (t : List ℕ) → chosen l (e ∷ c) b t closes → openings_ahead l (e ∷ c) (b ∷ t) ≡ 0 + openings_ahead l c (drop (length e.closer) (b ∷ t))
+  pub openings_ahead-closer : (l : ℕ) (e : Enclosure) (c : Chain) (b : ℕ) (t : List ℕ)
+      → chosen l (e ∷ c) b t closes
+      → openings_ahead l (e ∷ c) (b ∷ t) ≡ 0 + openings_ahead l c (drop (length e.closer) (b ∷ t))
   unfolding openings_ahead openings_in
   openings_ahead-closer l e c b t h = ap (λ (w : Body). openings_in w.items + cond w.closed (openings_ahead l c (drop w.taken (b ∷ t))) 0) (by_choice l (e ∷ c) b t closes h)
 
-  pub openings_ahead-child : (l : ℕ) (b : ℕ) (t : List ℕ) (k : Block) → 0 < k.size → chosen l [] b t (child_opens k) → openings_ahead l [] (b ∷ t) ≡ 0 + openings_ahead (length (b ∷ t) - k.size) [] (drop k.size (b ∷ t))
+  pub openings_ahead-child : (l : ℕ) (b : ℕ) (t : List ℕ) (k : Block) → 0 < k.size
+      → chosen l [] b t (child_opens k)
+      → openings_ahead l [] (b ∷ t)
+      ≡ 0 + openings_ahead (length (b ∷ t) - k.size) [] (drop k.size (b ∷ t))
   unfolding openings_ahead openings_in
   openings_ahead-child l b t k h e =
       ap (λ (w : Body). openings_in w.items) (by_choice l [] b t (child_opens k) e ∙ ap (before (child k _) k.size) (derive_less_by g block b t k.size (length (b ∷ t) - k.size) None h))

@@ -57,8 +57,17 @@ module _ (rows : List Row) (language : ℕ) (text part : List ℕ) (place : ℕ)
       let n = begins_none HtmlLike line h in
       let n1 = rest_of (begins (codes "<script") line) _ n in
       let n2 = rest_of (begins (codes "<style") line) _ n1 in
-      ap (λ o. first_block (option_map (element_child rows language Script) o) (first_block (element_at rows language Style part place rest) (element_at rows language Template part place rest))) (laws.tags Script (ap (begins (codes "<script")) there ∙ first_of (begins (codes "<script") line) _ n))
-      ∙ ap (λ o. first_block (option_map (element_child rows language Style) o) (element_at rows language Template part place rest)) (laws.tags Style (ap (begins (codes "<style")) there ∙ first_of (begins (codes "<style") line) _ n1))
+      ap
+      (λ o. first_block (option_map (element_child rows language Script) o)
+      (first_block (element_at rows language Style part place rest)
+      (element_at rows language Template part place rest)))
+      (laws.tags Script
+      (ap (begins (codes "<script")) there ∙ first_of (begins (codes "<script") line) _ n))
+      ∙ ap
+      (λ o. first_block (option_map (element_child rows language Style) o)
+      (element_at rows language Template part place rest))
+      (laws.tags Style
+      (ap (begins (codes "<style")) there ∙ first_of (begins (codes "<style") line) _ n1))
       ∙ ap (option_map (element_child rows language Template)) (laws.tags Template (ap (begins (codes "<template")) there ∙ first_of (begins (codes "<template") line) _ n2))
   none_by Rust e h = ap (option_map (doc_child rows language)) (laws.docs (ap (first_opener (child_openers Rust)) (sym e) ∙ h))
   none_by LinguaFranca e h =
@@ -75,7 +84,9 @@ child_opener-none r u h =
 quiet_block : (rows : List Row) (language : ℕ) (text : List ℕ) (l : ℕ) (rest : List ℕ) → holds (openers (row_at rows language)) (first_line rest) ≡ false → block_in rows language text l rest ≡ None
 quiet_block rows language text l rest h =
     let front = part_front text l rest in
-    none_by rows language text (front ++ first_line rest) (length front) rest (first_line rest) (drop_front front (first_line rest)) (family_of (row_at rows language).key) refl (child_opener-none (row_at rows language) (first_line rest) h)
+    none_by rows language text (front ++ first_line rest) (length front) rest (first_line rest)
+    (drop_front front (first_line rest)) (family_of (row_at rows language).key) refl
+    (child_opener-none (row_at rows language) (first_line rest) h)
 
 pub quiet_blocks : (rows : List Row) (levels language : ℕ) (text : List ℕ) (l : ℕ) (u : List ℕ) → holds (openers (row_at rows language)) (first_line u) ≡ false
     → (n : ℕ) → n < line_len u → blocks (languages_of rows) levels language text l (drop n u) ≡ None

@@ -52,7 +52,10 @@ none_begins_front (p ∷ os) a b h =
 -- the front of a text that holds no opener holds none
 holds-front : (os : List (List ℕ)) (a b : List ℕ) → holds os (a ++ b) ≡ false → holds os a ≡ false
 holds-front os [] b h = refl
-holds-front os (x ∷ a) b h = ap (λ w. is_some (cond w (Some 0) (option_map suc (first_opener os a)))) (none_begins_front os (x ∷ a) b (none_here os x (a ++ b) h)) ∙ some_suc (first_opener os a) ∙ holds-front os a b (none_next os x (a ++ b) h)
+holds-front os (x ∷ a) b h =
+    ap (λ w. is_some (cond w (Some 0) (option_map suc (first_opener os a))))
+    (none_begins_front os (x ∷ a) b (none_here os x (a ++ b) h))
+    ∙ some_suc (first_opener os a) ∙ holds-front os a b (none_next os x (a ++ b) h)
   where
     some_suc : (o : Option ℕ) → is_some (option_map suc o) ≡ is_some o
     some_suc None = refl
@@ -77,7 +80,9 @@ module _ (g : Row) (block : ℕ → List ℕ → Option Block) where
   at_end : (l : ℕ) (c : Chain) → IsStill l c []
   unfolding running
   at_end l c s k plain h =
-      subst (λ ms. (choices_passed (openers g) (running None s k [] ms) ≡ 0) × (children ms ≡ [])) (sym (marks_ahead-end g block l c)) (by_bytes_left s (ap (holds (openers g)) (sym (append-nil s)) ∙ h), refl)
+      subst (λ ms. (choices_passed (openers g) (running None s k [] ms) ≡ 0) × (children ms ≡ []))
+      (sym (marks_ahead-end g block l c))
+      (by_bytes_left s (ap (holds (openers g)) (sym (append-nil s)) ∙ h), refl)
     where
       by_bytes_left : (s : List ℕ) → holds (openers g) s ≡ false → choices_passed (openers g) (running None s k [] []) ≡ 0
       by_bytes_left [] h = refl
@@ -88,7 +93,10 @@ module _ (g : Row) (block : ℕ → List ℕ → Option Block) where
   by_newline l [] u h ih s k plain q =
       let rest = ih [] 0 refl (none_next (openers g) 10 u (holds-behind (openers g) s (10 ∷ u) q)) in
       let line : holds (openers g) (s ++ 10 ∷ []) ≡ false = holds-front (openers g) (s ++ 10 ∷ []) u (ap (holds (openers g)) (append_assoc s (10 ∷ []) u) ∙ q) in (
-        ap (λ ms. choices_passed (openers g) (running None s k (10 ∷ u) ms)) h.marks ∙ ap (choices_passed (openers g)) (running_newline None s k (10 ∷ u) true [] (marks_ahead g block l [] u)) ∙ passed (s ++ 10 ∷ []) (k + 1) _ line rest.0,
+        ap (λ ms. choices_passed (openers g) (running None s k (10 ∷ u) ms)) h.marks
+            ∙ ap (choices_passed (openers g))
+            (running_newline None s k (10 ∷ u) true [] (marks_ahead g block l [] u))
+            ∙ passed (s ++ 10 ∷ []) (k + 1) _ line rest.0,
         ap children h.marks ∙ rest.1,
       )
 
@@ -134,8 +142,14 @@ module _ (rows : List Row) (language : ℕ) (t : List ℕ) (lines : is_notebook 
       ap (λ y. cond y (sum_over inner ((languages_of rows).cells language t)) (own (suc levels) + length (kids (suc levels)) + sum_over inner (kids (suc levels)))) lines
       ∙ ap₂ (λ n (ks : List Block). n + length ks + sum_over inner ks) none childless
 
-pub quiet_steps : (rows : List Row) → HaveTokens rows → (levels language : ℕ) (t : List ℕ) → is_notebook (row_at rows language) ≡ false → first_opener (openers (row_at rows language)) t ≡ None → steps (languages_of rows) levels language t ≡ 0
+pub quiet_steps : (rows : List Row) → HaveTokens rows → (levels language : ℕ) (t : List ℕ)
+    → is_notebook (row_at rows language) ≡ false
+    → first_opener (openers (row_at rows language)) t ≡ None
+    → steps (languages_of rows) levels language t ≡ 0
 unfolding own kids
 quiet_steps rows tokens levels language t lines none =
-    let both = quiet_text (row_at rows language) (blocks (languages_of rows) levels language t) (quiet_blocks rows levels language t) (every_token rows tokens language) (by_levels rows language t levels) t none in
+    let both =
+    quiet_text (row_at rows language) (blocks (languages_of rows) levels language t)
+    (quiet_blocks rows levels language t) (every_token rows tokens language)
+    (by_levels rows language t levels) t none in
     by_own rows language t lines levels both.0 both.1

@@ -96,7 +96,9 @@ module _ (g : Row) (block : ℕ → List ℕ → Option Block) (s : IsSound g) (
       two_bytes [] h = absurd (short (b == 10) h)
       two_bytes (b' ∷ v) h = refl
   spells_choice (child_opens k) b t l m go h c ih =
-      spells_item (closer_of m) (child k (take k.size (b ∷ t))) k.size b t (go (k.size - 1) (length (b ∷ t) - k.size) m) (sizes.some l (b ∷ t) k h) (take-append-drop k.size (b ∷ t)) (ih (k.size - 1) (length (b ∷ t) - k.size) m c)
+      spells_item (closer_of m) (child k (take k.size (b ∷ t))) k.size b t
+      (go (k.size - 1) (length (b ∷ t) - k.size) m) (sizes.some l (b ∷ t) k h)
+      (take-append-drop k.size (b ∷ t)) (ih (k.size - 1) (length (b ∷ t) - k.size) m c)
   spells_choice (opens k p) b t l m go h c ih =
       spells_opener (closer_of m) k p b t (go (length p.opener - 1) l (Some (enclosure k p))) (λ n. go n l m) h.0 (ih (length p.opener - 1) l (Some (enclosure k p)) h.1) (λ n. ih n l m c)
   spells_choice (passes_over p) b t l m go h c ih =

@@ -30,17 +30,25 @@ own_less true n = omega arith
 own_less false n = omega arith
 
 -- the children's numbers, each with one for the child, fit into the bytes that they take and what they weigh more
-kids_within : (ls : Languages) (a : Block → ℕ) (e : Block → ℕ) → ((k : Block) → a k ≤ own_weight ls k.language k.contents + e k) → (ks : List Block) → EachOf IsHeavy ks → length ks + sum_over a ks ≤ sizes ks + sum_over e ks
+kids_within : (ls : Languages) (a : Block → ℕ) (e : Block → ℕ)
+    → ((k : Block) → a k ≤ own_weight ls k.language k.contents + e k) → (ks : List Block)
+    → EachOf IsHeavy ks → length ks + sum_over a ks ≤ sizes ks + sum_over e ks
 kids_within ls a e h [] f = omega arith
 kids_within ls a e h (k ∷ ks) f = omega (arith, h k, f.0.holds, own_less (is_notebook (ls.row k.language)) (length k.contents), kids_within ls a e h ks f.1)
 
 module _ (rows : List Row) (tokens : HaveTokens rows) where
   -- the marks of a text have no more bytes than it, and its children are heavy
   pub loaded : (levels language : ℕ) (t : List ℕ) → IsLoaded IsHeavy t (marks [] (items_in (languages_of rows) levels language t))
-  loaded levels language t = text_loaded (row_at rows language) (blocks (languages_of rows) levels language t) (sound_row (row_at rows language) (every_token rows tokens language)) (by_levels rows language t levels) IsHeavy (blocks_heavy rows language t levels) t
+  loaded levels language t =
+      text_loaded (row_at rows language) (blocks (languages_of rows) levels language t)
+      (sound_row (row_at rows language) (every_token rows tokens language))
+      (by_levels rows language t levels) IsHeavy (blocks_heavy rows language t levels) t
 
   -- its own steps and the bytes of its children are no more than its bytes
-  own_within : (levels language : ℕ) (t : List ℕ) → own_steps (row_at rows language) t (items_in (languages_of rows) levels language t) + sizes (children_in (languages_of rows) levels language t) ≤ length t
+  own_within : (levels language : ℕ) (t : List ℕ)
+      → own_steps (row_at rows language) t (items_in (languages_of rows) levels language t)
+      + sizes (children_in (languages_of rows) levels language t)
+      ≤ length t
   own_within levels language t =
       let ms : List Mark = marks [] (items_in (languages_of rows) levels language t) in
       omega (
@@ -80,6 +88,11 @@ module _ (rows : List Row) (tokens : HaveTokens rows) where
       inner_extra : Block → ℕ
       inner_extra k = extra (languages_of rows) n k.language k.contents
 
-      by_test : (x : Bool) → ((k : Block) → inner k ≤ inner_weight k) → cond x (sum_over inner (cell_blocks rows language t)) (own + length kids + sum_over inner kids) ≤ cond x 0 (length t) + cond x (sum_over inner_weight (cell_blocks rows language t)) (sum_over inner_extra kids)
+      by_test : (x : Bool) → ((k : Block) → inner k ≤ inner_weight k)
+          → cond x (sum_over inner (cell_blocks rows language t))
+          (own + length kids + sum_over inner kids)
+          ≤ cond x 0 (length t)
+          + cond x (sum_over inner_weight (cell_blocks rows language t))
+          (sum_over inner_extra kids)
       by_test true h = omega (arith, sum_less inner inner_weight h (cell_blocks rows language t))
       by_test false h = omega (arith, own_within (suc n) language t, kids_within (languages_of rows) inner inner_extra h kids (loaded (suc n) language t).kids)

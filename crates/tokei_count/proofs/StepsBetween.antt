@@ -18,7 +18,9 @@ use Rattle.tokei_count.proofs.Weights.{every_token}
 pub steps-between : (rows : List Row) → HaveTokens rows → (levels language : ℕ) (t : List ℕ) → StepsLieBetween (languages_of rows) levels language t
 steps-between rows tokens levels language t = record {
   low = with_children-most (languages_of rows) own_openings own_steps
-      (λ levels language t. own_openings-most (row_at rows language) (blocks (languages_of rows) levels language t) (quiet_blocks rows levels language t) (every_token rows tokens language) (by_levels rows language t levels) t)
+      (λ levels language t. own_openings-most (row_at rows language)
+      (blocks (languages_of rows) levels language t) (quiet_blocks rows levels language t)
+      (every_token rows tokens language) (by_levels rows language t levels) t)
       levels language t;
   high = steps-most (languages_of rows) levels language t;
 }

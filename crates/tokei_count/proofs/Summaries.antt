@@ -29,7 +29,9 @@ module _ (read : Block → Statistics) (each : (k : Block) → IsOrdered (read k
 
   -- so has a text, with the lines of its parts
   pub text-lines : (r : Row) (docs_are_comments : Bool) (ms : List Mark)
-      → lines_of (summary (read_by r docs_are_comments read ms)) ≡ lines_of (tally r docs_are_comments (parts_of ms)) + lines_of (shares (children ms)) + sum_over (λ k. lines_of (summary (read k))) (children ms)
+      → lines_of (summary (read_by r docs_are_comments read ms))
+      ≡ lines_of (tally r docs_are_comments (parts_of ms)) + lines_of (shares (children ms))
+      + sum_over (λ k. lines_of (summary (read k))) (children ms)
   text-lines r docs_are_comments ms =
       omega (arith, ap lines_of (sum_summary (node (tally r docs_are_comments (parts_of ms)) none) (children_add read (children ms)) tt (add-ordered read each (children ms))), add-lines (children ms))
 

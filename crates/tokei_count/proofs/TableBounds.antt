@@ -29,7 +29,10 @@ pub capped-more : (a b : ℕ) → a ≤ b → capped a ≤ capped b
 capped-more a b h = by_case (capped-is a) (capped-is b)
   where
     by_case : ((a ≤ 340282366920938463463374607431768211455) × (capped a ≡ a)) ⊎ ((340282366920938463463374607431768211455 ≤ a) × (capped a ≡ 340282366920938463463374607431768211455))
-        → ((b ≤ 340282366920938463463374607431768211455) × (capped b ≡ b)) ⊎ ((340282366920938463463374607431768211455 ≤ b) × (capped b ≡ 340282366920938463463374607431768211455)) → capped a ≤ capped b
+        → ((b ≤ 340282366920938463463374607431768211455) × (capped b ≡ b))
+        ⊎ ((340282366920938463463374607431768211455 ≤ b)
+        × (capped b ≡ 340282366920938463463374607431768211455))
+        → capped a ≤ capped b
     by_case (inl f) (inl g) = omega (arith, f.1, g.1, h)
     by_case (inl f) (inr g) = omega (arith, f.0, f.1, g.1)
     by_case (inr f) (inl g) = omega (arith, f.0, f.1, g.0, g.1, h)

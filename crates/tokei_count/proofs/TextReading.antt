@@ -73,7 +73,12 @@ module _ (rows : List Row) (docs_are_comments : Bool) (levels language : ℕ) (t
   reading-lines h = by_levels levels h
     where
       by_levels : (n : ℕ) → is_notebook (row_at rows language) ≡ false
-          → reading (languages_of rows) docs_are_comments n language text ≡ node (plus (counts_left (row_at rows language) (blocks (languages_of rows) n language text) (length text) docs_are_comments [] text) (shares (children_left (row_at rows language) (blocks (languages_of rows) n language text) (length text) [] text)))
+          → reading (languages_of rows) docs_are_comments n language text
+          ≡ node (plus
+          (counts_left (row_at rows language) (blocks (languages_of rows) n language text)
+          (length text) docs_are_comments [] text)
+          (shares (children_left (row_at rows language)
+          (blocks (languages_of rows) n language text) (length text) [] text)))
           (gathered (child_reading (languages_of rows) docs_are_comments n) none (children_left (row_at rows language) (blocks (languages_of rows) n language text) (length text) [] text))
       by_levels zero h =
           let ms : List Mark = marks [] (items_of (row_at rows language) (blocks (languages_of rows) zero language text) text) in
@@ -104,7 +109,12 @@ module _ (rows : List Row) (docs_are_comments : Bool) (levels language : ℕ) (t
   reading-no_notebook h none_left = by_levels levels none_left h
     where
       by_levels : (n : ℕ) → n ≡ 0 → is_notebook (row_at rows language) ≡ true → reading (languages_of rows) docs_are_comments n language text ≡ empty
-      by_levels zero e h = ap (λ x. cond x empty (read_by (row_at rows language) docs_are_comments (λ k. empty) (marks [] (items_of (row_at rows language) (blocks (languages_of rows) zero language text) text)))) h
+      by_levels zero e h =
+          ap
+          (λ x. cond x empty (read_by (row_at rows language) docs_are_comments (λ k. empty)
+          (marks [] (items_of (row_at rows language)
+          (blocks (languages_of rows) zero language text) text))))
+          h
       by_levels (suc n) e h = absurd (omega (arith, e))
 
   -- at the end nothing is left
@@ -190,6 +200,8 @@ pub levels_left : (rows : List Row) (n language : ℕ) (text : List ℕ) (l : �
 levels_left rows zero language text l u k e = cc
 levels_left rows (suc n) language text l u k e = omega arith
 
-pub child_reading-is : (rows : List Row) (docs_are_comments : Bool) (n : ℕ) (k : Block) → 0 < n → child_reading (languages_of rows) docs_are_comments n k ≡ reading (languages_of rows) docs_are_comments (n - 1) k.language k.contents
+pub child_reading-is : (rows : List Row) (docs_are_comments : Bool) (n : ℕ) (k : Block) → 0 < n
+    → child_reading (languages_of rows) docs_are_comments n k
+    ≡ reading (languages_of rows) docs_are_comments (n - 1) k.language k.contents
 child_reading-is rows docs_are_comments zero k h = absurd (omega arith)
 child_reading-is rows docs_are_comments (suc n) k h = let e : n ≡ suc n - 1 = omega arith in ap (λ m. reading (languages_of rows) docs_are_comments m k.language k.contents) e

@@ -24,11 +24,17 @@ token_in_line (b ∷ t) h = and_left (no_newline (b ∷ t)) _ h
 
 tokens_in_line : (ts : List (List ℕ)) → list_all is_token ts ≡ true → list_all no_newline ts ≡ true
 tokens_in_line [] h = h
-tokens_in_line (t ∷ ts) h = both (no_newline t) (list_all no_newline ts) (token_in_line t (and_left (is_token t) (list_all is_token ts) h)) (tokens_in_line ts (and_right (is_token t) (list_all is_token ts) h))
+tokens_in_line (t ∷ ts) h =
+    both (no_newline t) (list_all no_newline ts)
+    (token_in_line t (and_left (is_token t) (list_all is_token ts) h))
+    (tokens_in_line ts (and_right (is_token t) (list_all is_token ts) h))
 
 tags_in_line : (ts : List (List ℕ)) → list_all is_token ts ≡ true → list_all no_newline (tag_starts ts) ≡ true
 tags_in_line [] h = h
-tags_in_line (t ∷ ts) h = both (no_newline t) (list_all no_newline (tag_starts ts)) (token_in_line t (and_left (is_token t) (list_all is_token ts) h)) (tags_in_line ts (and_right (is_token t) (list_all is_token ts) h))
+tags_in_line (t ∷ ts) h =
+    both (no_newline t) (list_all no_newline (tag_starts ts))
+    (token_in_line t (and_left (is_token t) (list_all is_token ts) h))
+    (tags_in_line ts (and_right (is_token t) (list_all is_token ts) h))
 
 starts_in_line : (ps : List Pair) → list_all is_pair ps ≡ true → list_all no_newline (starts_of ps) ≡ true
 starts_in_line [] h = h
@@ -64,4 +70,6 @@ openers_in_line r h =
     let e2 = all_both (starts_of r.doc_quotes) t3 (starts_in_line r.doc_quotes (and_right _ _ h6)) e3 in
     let e1 = all_both (starts_of r.quotes) t2 (starts_in_line r.quotes (and_right _ _ h4)) e2 in
     let more = starts_of r.verbatim_quotes ++ child_openers (family_of r.key) in
-    all_both (starts_of r.quotes ++ t2) more e1 (all_both (starts_of r.verbatim_quotes) (child_openers (family_of r.key)) (starts_in_line r.verbatim_quotes (and_right _ _ h5)) (child_in_line (family_of r.key)))
+    all_both (starts_of r.quotes ++ t2) more e1 (all_both (starts_of r.verbatim_quotes)
+    (child_openers (family_of r.key)) (starts_in_line r.verbatim_quotes (and_right _ _ h5))
+    (child_in_line (family_of r.key)))

@@ -79,7 +79,10 @@ module _ (g : Row) (block : ℕ → List ℕ → Option Block) where
   by_newline : (l : ℕ) (c : Chain) (u : List ℕ) → IsNewline g block l c u → ArePlain l c u → ArePlain l c (10 ∷ u)
   by_newline l c u h ih m s k plain =
       let rest = ih (innermost c) [] 0 (plain_first (openers g) c u) in (
-        subst (AllByRecursion (IsInPlainText (openers g))) (sym (ap (cut m s (innermost c)) h.marks ∙ cut_newline m s (innermost c) true c (marks_ahead g block l c u))) (both_plain m (s ++ 10 ∷ []) c plain, rest.0),
+        subst (AllByRecursion (IsInPlainText (openers g)))
+            (sym (ap (cut m s (innermost c)) h.marks
+            ∙ cut_newline m s (innermost c) true c (marks_ahead g block l c u)))
+            (both_plain m (s ++ 10 ∷ []) c plain, rest.0),
         subst (AllByRecursion (IsWhole (openers g))) (sym (ap (running m s k (10 ∷ u)) h.marks ∙ running_newline m s k (10 ∷ u) true c (marks_ahead g block l c u))) (λ e. refl, rest.1),
       )
 
@@ -107,7 +110,15 @@ module _ (g : Row) (block : ℕ → List ℕ → Option Block) where
     pub stay_plain : has_tokens g ≡ true → FitsBlocks block → (t : List ℕ) → UnwalkedStayPlain (openers g) t (marks [] (items_of g block t))
     unfolding marks_ahead
     stay_plain tokens fits t =
-        let all = by_choices g block tokens fits quiet ArePlain (record { at_end = at_end; by_newline = by_newline; by_bytes = by_bytes; by_child = by_child }) (length t) [] t tt None [] 0 (plain_first (openers g) [] t) in
+        let all =
+        by_choices g block tokens fits quiet ArePlain
+        (record {
+          at_end = at_end;
+          by_newline = by_newline;
+          by_bytes = by_bytes;
+          by_child = by_child;
+        })
+        (length t) [] t tt None [] 0 (plain_first (openers g) [] t) in
         let ms : List Mark = marks [] (items_of g block t) in
         record {
           parts = all.0;

@@ -52,7 +52,10 @@ module _ (g : Row) (block : ℕ → List ℕ → Option Block) where
   at_end l c m [] n o w = omega (arith, w.few, w.within, openings_ahead-end g block l c)
   at_end l c m (a ∷ s) n o w =
       let none : is_walked (openers g) m (a ∷ s) ≡ false → o ≡ 0 = λ h. w.none (ap (is_walked (openers g) m) (append-nil (a ∷ s)) ∙ h) in
-      let here : choices_passed (openers g) (running m (a ∷ s) n [] (marks_ahead g block l c [])) ≡ choices_passed (openers g) (running m (a ∷ s) n [] []) = ap (λ ms. choices_passed (openers g) (running m (a ∷ s) n [] ms)) (marks_ahead-end g block l c) in
+      let here : choices_passed (openers g) (running m (a ∷ s) n [] (marks_ahead g block l c []))
+      ≡ choices_passed (openers g) (running m (a ∷ s) n [] []) =
+      ap (λ ms. choices_passed (openers g) (running m (a ∷ s) n [] ms))
+      (marks_ahead-end g block l c) in
       let all : o + 0 ≤ choices_passed (openers g) (running m (a ∷ s) n [] []) = in_front (openers g) m (a ∷ s) (length (a ∷ s)) n o 0 [] w.few none (omega arith) in
       omega (arith, all, here, openings_ahead-end g block l c)
 
@@ -60,7 +63,10 @@ module _ (g : Row) (block : ℕ → List ℕ → Option Block) where
   by_newline l c u h ih m s n o w =
       let line : List ℕ = s ++ 10 ∷ [] in
       let rest : List Passed = running (innermost c) [] 0 u (marks_ahead g block l c u) in
-      let here : running m s n (10 ∷ u) (marks_ahead g block l c (10 ∷ u)) ≡ record { begun = m; reach = line; size = length line; choices = n + 1 } ∷ rest = ap (running m s n (10 ∷ u)) h.marks ∙ running_newline m s n (10 ∷ u) true c (marks_ahead g block l c u) in
+      let here : running m s n (10 ∷ u) (marks_ahead g block l c (10 ∷ u))
+      ≡ record { begun = m; reach = line; size = length line; choices = n + 1 } ∷ rest =
+      ap (running m s n (10 ∷ u)) h.marks
+      ∙ running_newline m s n (10 ∷ u) true c (marks_ahead g block l c u) in
       let left : openings_ahead g block l c u ≤ choices_passed (openers g) rest = omega (arith, ih (innermost c) [] 0 0 (begun c u)) in
       let all = in_front (openers g) m line (length line) (n + 1) o (openings_ahead g block l c u) rest (omega (arith, w.few)) w.none left in
       omega (arith, all, ap (choices_passed (openers g)) here, h.openings)
@@ -93,7 +99,11 @@ module _ (g : Row) (block : ℕ → List ℕ → Option Block) where
     pub own_openings-most : has_tokens g ≡ true → FitsBlocks block → (t : List ℕ) → own_openings g t (items_of g block t) ≤ own_steps g t (items_of g block t)
     unfolding openings_ahead marks_ahead
     own_openings-most tokens fits t =
-        let all : 0 + openings_ahead g block (length t) [] t ≤ choices_passed (openers g) (running None [] 0 t (marks_ahead g block (length t) [] t)) = by_choices g block tokens fits quiet AreWalked carried (length t) [] t tt None [] 0 0 (begun [] t) in
+        let all : 0 + openings_ahead g block (length t) [] t
+        ≤ choices_passed (openers g)
+        (running None [] 0 t (marks_ahead g block (length t) [] t)) =
+        by_choices g block tokens fits quiet AreWalked carried (length t) [] t tt None [] 0 0
+        (begun [] t) in
         omega (arith, all, own_steps-running g t (items_of g block t))
       where
         carried : IsCarried g block AreWalked

@@ -32,7 +32,15 @@ no_extra : (rows : List Row) → ((i : ℕ) → is_notebook (row_at rows i) ≡ 
 unfolding extra
 no_extra rows h zero language t = refl
 no_extra rows h (suc n) language t =
-    ap (λ x. cond x (sum_over (λ k. own_weight (languages_of rows) k.language k.contents + extra (languages_of rows) n k.language k.contents) (cell_blocks rows language t)) (sum_over (λ k. extra (languages_of rows) n k.language k.contents) (children_in (languages_of rows) (suc n) language t))) (h language)
+    ap
+    (λ x. cond x
+    (sum_over
+    (λ k. own_weight (languages_of rows) k.language k.contents
+    + extra (languages_of rows) n k.language k.contents)
+    (cell_blocks rows language t))
+    (sum_over (λ k. extra (languages_of rows) n k.language k.contents)
+    (children_in (languages_of rows) (suc n) language t)))
+    (h language)
     ∙ sum_none (λ (k : Block). extra (languages_of rows) n k.language k.contents) (λ k. no_extra rows h n k.language k.contents) (children_in (languages_of rows) (suc n) language t)
 
 pub weight-length : (rows : List Row) → HaveNoNotebook rows → (levels language : ℕ) (t : List ℕ) → weight (languages_of rows) levels language t ≡ length t

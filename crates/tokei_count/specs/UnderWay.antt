@@ -56,7 +56,8 @@ all_counts r =
 -- the counts of what is left of the text, with what its children add to them
 abbrev pub counts_ahead : Reading → ReadSoFar → Counts
 counts_ahead r p =
-    plus (counts_left (row_in r) (blocks_of r) p.behind_child r.docs_are_comments
+    plus
+    (counts_left (row_in r) (blocks_of r) p.behind_child r.docs_are_comments
     (chain_of p.stack.items) (ahead r p))
     (shares (children_ahead r p))
 

@@ -36,9 +36,16 @@ part_blank t from place to f low l m = by (cases_lt place to)
     by : (place < to) ⊎ (to ≤ place) → nat_le to place ≡ all_blank (take (to - from) (drop from t))
     by (inl h) =
         let e : place ≡ from + (place - from) = omega arith in
-        below place to h ∙ sym (one_solid (take (to - from) (drop from t)) (place - from) (omega (arith, long)) (ap is_blank (part_reads t from (to - from) (place - from) (omega arith) ∙ ap (λ k. get_or t k 0) (sym e)) ∙ f.solid low (omega arith)))
+        below place to h
+        ∙ sym (one_solid (take (to - from) (drop from t)) (place - from) (omega (arith, long))
+        (ap is_blank (part_reads t from (to - from) (place - from) (omega arith)
+        ∙ ap (λ k. get_or t k 0) (sym e))
+        ∙ f.solid low (omega arith)))
     by (inr h) =
-        above place to h ∙ sym (each_blank (take (to - from) (drop from t)) (λ k i. ap is_blank (part_reads t from (to - from) k (omega (arith, long, i))) ∙ f.blank (from + k) (omega arith) (omega (arith, long, i))))
+        above place to h
+        ∙ sym (each_blank (take (to - from) (drop from t)) (λ k i. ap is_blank
+        (part_reads t from (to - from) k (omega (arith, long, i)))
+        ∙ f.blank (from + k) (omega arith) (omega (arith, long, i))))
 
 -- what is the first one from a place on is so from a later place
 pub solid_later : (t : List ℕ) (from place p : ℕ) → IsFirstSolid t from place → from ≤ p → IsFirstSolid t p place

@@ -68,7 +68,10 @@ closing_fits (b ∷ t) = by (is_blank b)
     by true = omega arith
     by false = omega arith
 
-fence_reaches : (info : List ℕ) (n : ℕ) (rest : List ℕ) (o : Option ℕ) → 2 ≤ n → n ≤ length rest → Holds (begins fence) (drop n rest) o → Reaches (fence_to info n rest (drop n rest) o).size (fence_to info n rest (drop n rest) o).contents rest
+fence_reaches : (info : List ℕ) (n : ℕ) (rest : List ℕ) (o : Option ℕ) → 2 ≤ n → n ≤ length rest
+    → Holds (begins fence) (drop n rest) o
+    → Reaches (fence_to info n rest (drop n rest) o).size
+    (fence_to info n rest (drop n rest) o).contents rest
 unfolding Holds
 fence_reaches info n rest None l m h = record { some = omega arith; within = omega arith; holds = omega (arith, length-drop n rest) }
 fence_reaches info n rest (Some i) l m h =
@@ -98,13 +101,18 @@ fence_reach part rest tail k f e h =
     let stands = at_is opens_fence part k (first_fence part) (first_holds opens_fence part) c.0 in
     let long : info_len here + 4 ≤ length rest = omega (arith, opening_fits here stands.1, ap length e, length-append here tail) in
     subst (λ o. Within o rest) c.1
-    (fence_reaches (take (info_len here) (drop 3 rest)) (info_len here + 4) rest (first_of fence (drop (info_len here + 4) rest)) (omega arith) long (first_holds (begins fence) (drop (info_len here + 4) rest)))
+    (fence_reaches (take (info_len here) (drop 3 rest)) (info_len here + 4) rest
+    (first_of fence (drop (info_len here + 4) rest)) (omega arith) long
+    (first_holds (begins fence) (drop (info_len here + 4) rest)))
   where
     Within : Option Fence → List ℕ → Type 0
     Within None rest = Unit {0}
     Within (Some f) rest = Reaches f.size f.contents rest
 
-element_reaches : (value : Option (List ℕ)) (n : ℕ) (rest : List ℕ) (o : Option ℕ) (closer : List ℕ) (b : TagBlock) → 2 ≤ n → Holds (begins closer) (drop n rest) o → element_to value n (drop n rest) o ≡ Some b → Reaches b.size b.contents rest
+element_reaches : (value : Option (List ℕ)) (n : ℕ) (rest : List ℕ) (o : Option ℕ) (closer : List ℕ)
+    (b : TagBlock)
+    → 2 ≤ n → Holds (begins closer) (drop n rest) o → element_to value n (drop n rest) o ≡ Some b
+    → Reaches b.size b.contents rest
 unfolding Holds
 element_reaches value n rest None closer b l h e = absurd (cc)
 element_reaches value n rest (Some i) closer b l h e = by (all_blank (take i (drop n rest))) e
@@ -125,7 +133,13 @@ Past : ℕ → Option Opening → Type 0
 Past p None = Unit {0}
 Past p (Some o) = p + 2 ≤ o.whole.stop
 
-past_value : (p n : ℕ) (inside : List ℕ) (value : Option Span) (o : Option ℕ) → p < n → Past p (option_map (λ k. record { whole = record { start = p; stop = n + (value_end value + k + 1) }; value = option_map (shifted n) value }) o)
+past_value : (p n : ℕ) (inside : List ℕ) (value : Option Span) (o : Option ℕ) → p < n
+    → Past p (option_map
+    (λ k. record {
+      whole = record { start = p; stop = n + (value_end value + k + 1) };
+      value = option_map (shifted n) value;
+    })
+    o)
 unfolding Past
 past_value p n inside value None l = tt
 past_value p n inside value (Some k) l = omega arith
@@ -154,7 +168,9 @@ tag_reach tag part rest k b h =
     element_past tag part rest k (opening_at tag part k) b
     (past_before (attribute_of tag) k n (drop n part) (last_of (codes ">") (drop n part)) (omega (arith, token_some tag))) c.1
 
-target_reaches : (rest : List ℕ) (o : Option ℕ) → 2 ≤ length rest → Holds (begins (codes "=}")) (drop 2 rest) o → Reaches (2 + length (target_contents (drop 2 rest) o)) (target_contents (drop 2 rest) o) rest
+target_reaches : (rest : List ℕ) (o : Option ℕ) → 2 ≤ length rest
+    → Holds (begins (codes "=}")) (drop 2 rest) o
+    → Reaches (2 + length (target_contents (drop 2 rest) o)) (target_contents (drop 2 rest) o) rest
 unfolding Holds
 target_reaches rest None l h = record { some = omega arith; within = omega (arith, length-drop 2 rest); holds = omega arith }
 target_reaches rest (Some i) l h = record { some = omega arith; within = omega (arith, length-drop 2 rest, length-take i (drop 2 rest)); holds = omega arith }

@@ -78,6 +78,8 @@ doc_end s p k low high is =
     let rest = drop p s.text in
     let at : p + (k - p) ≡ k = omega (arith, low) in
     let same : drop (k - p) rest ≡ drop k s.text = drop-drop (k - p) p s.text ∙ ap (λ m. drop m s.text) at in
-    let here : begins s.token (trim_start (first_line (drop (k - p) rest))) ≡ true = ap (λ w. begins s.token (trim_start (first_line w))) same ∙ stands_behind (first_line (drop k s.text)) s.token is in
+    let here : begins s.token (trim_start (first_line (drop (k - p) rest))) ≡ true =
+    ap (λ w. begins s.token (trim_start (first_line w))) same
+    ∙ stands_behind (first_line (drop k s.text)) s.token is in
     let ends : k - p + block_len s.token (drop (k - p) rest) ≡ block_len s.token rest = within_block s.token (length rest) rest (omega arith) (k - p) (omega (arith, low, high)) here in
     omega (arith, ends, low, ap (block_len s.token) same)

@@ -72,7 +72,9 @@ mark_stands : (line : List ℕ) → Stands (trim_start line) (mark_of line)
 unfolding Stands
 mark_stands line = by (begins (codes "///") (trim_start line)) (begins (codes "//!") (trim_start line)) refl refl
   where
-    by : (x y : Bool) → begins (codes "///") (trim_start line) ≡ x → begins (codes "//!") (trim_start line) ≡ y → Stands (trim_start line) (cond x (Some (codes "///")) (cond y (Some (codes "//!")) None))
+    by : (x y : Bool) → begins (codes "///") (trim_start line) ≡ x
+        → begins (codes "//!") (trim_start line) ≡ y
+        → Stands (trim_start line) (cond x (Some (codes "///")) (cond y (Some (codes "//!")) None))
     by true y e f = (e, refl)
     by false true e f = (f, refl)
     by false false e f = tt
@@ -83,7 +85,10 @@ unfolding Stands
 stands_behind line mark e = (subst (Stands (trim_start line)) e (mark_stands line)).0
 
 -- the first line stays whole in a text that is cut behind it
-cut_step : (x : Bool) (n b : ℕ) (t : List ℕ) → (length (first_line t) ≤ n → first_line (take n t) ≡ first_line t) → length (cond x (b ∷ []) (b ∷ first_line t)) ≤ suc n → cond x (b ∷ []) (b ∷ first_line (take n t)) ≡ cond x (b ∷ []) (b ∷ first_line t)
+cut_step : (x : Bool) (n b : ℕ) (t : List ℕ)
+    → (length (first_line t) ≤ n → first_line (take n t) ≡ first_line t)
+    → length (cond x (b ∷ []) (b ∷ first_line t)) ≤ suc n
+    → cond x (b ∷ []) (b ∷ first_line (take n t)) ≡ cond x (b ∷ []) (b ∷ first_line t)
 cut_step true n b t behind l = refl
 cut_step false n b t behind l = ap (λ w. b ∷ w) (behind (omega arith))
 
@@ -111,7 +116,10 @@ said_below block line l e h =
       line_below block,
     )
 
-marked_reaches : (c : ℕ) (t mark : List ℕ) → begins mark (trim_start (first_line (c ∷ t))) ≡ true → length mark ≡ 3 → Reaches (marked_len mark (lines_of (c ∷ t))) (doc_text (take (marked_len mark (lines_of (c ∷ t))) (c ∷ t))) (c ∷ t)
+marked_reaches : (c : ℕ) (t mark : List ℕ) → begins mark (trim_start (first_line (c ∷ t))) ≡ true
+    → length mark ≡ 3
+    → Reaches (marked_len mark (lines_of (c ∷ t)))
+    (doc_text (take (marked_len mark (lines_of (c ∷ t))) (c ∷ t))) (c ∷ t)
 marked_reaches c t mark h three =
     let rest = c ∷ t in
     let line = first_line rest in
@@ -120,10 +128,15 @@ marked_reaches c t mark h three =
     let some : 0 < n = omega (arith, goes, first_line_some c t) in
     let within : n ≤ length rest = omega (arith, marked_below mark (lines_of rest), lines_total rest) in
     let long : 3 ≤ length (trim_start line) = omega (arith, three, begins-fits mark (trim_start line) h) in
-    let said : length (doc_text (take n rest)) + 3 ≤ length (take n rest) = said_below (take n rest) line (omega (arith, some, within, length-take n rest)) (sym (cut_line n rest (omega (arith, goes)))) long in
+    let said : length (doc_text (take n rest)) + 3 ≤ length (take n rest) =
+    said_below (take n rest) line (omega (arith, some, within, length-take n rest))
+    (sym (cut_line n rest (omega (arith, goes)))) long in
     record { some = some; within = within; holds = omega (arith, said, length-take n rest) }
 
-doc_step : (c : ℕ) (t : List ℕ) (b : DocBlock) (o : Option (List ℕ)) → Stands (trim_start (first_line (c ∷ t))) o → option_map (λ mark. doc_of (c ∷ t) (marked_len mark (lines_of (c ∷ t)))) o ≡ Some b → Reaches b.size b.contents (c ∷ t)
+doc_step : (c : ℕ) (t : List ℕ) (b : DocBlock) (o : Option (List ℕ))
+    → Stands (trim_start (first_line (c ∷ t))) o
+    → option_map (λ mark. doc_of (c ∷ t) (marked_len mark (lines_of (c ∷ t)))) o ≡ Some b
+    → Reaches b.size b.contents (c ∷ t)
 unfolding Stands
 doc_step c t b None h e = absurd (cc)
 doc_step c t b (Some mark) h e = subst Within e (marked_reaches c t mark h.0 h.1)

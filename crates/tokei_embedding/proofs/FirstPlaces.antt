@@ -15,19 +15,32 @@ part_length t p m l = omega (arith, length-take m (drop p t), length-drop p t)
 pub occurs_out : (t token : List ℕ) (p m j : ℕ) → OccursAt (take m (drop p t)) token j → 0 < length token → (OccursAt t token (p + j)) × (j + length token ≤ m)
 occurs_out t token p m j o l =
     let short : j + length token ≤ m = omega (arith, o.fits, length-take m (drop p t)) in
-    let within : j + length token ≤ length t - p = omega (arith, o.fits, length-take m (drop p t), length-drop p t) in
-    (record { fits = omega (arith, l, within); reads = λ i h. ap (λ k. get_or t k 0) (sym (sum_assoc p j i)) ∙ sym (get_or-drop p t (j + i) 0) ∙ sym (get_or-take m (drop p t) (j + i) 0 (omega (arith, h, short))) ∙ o.reads i h }, short)
+    let within : j + length token ≤ length t - p = omega (arith, o.fits, length-take m (drop p t), length-drop p t) in (
+      record {
+        fits = omega (arith, l, within);
+        reads = λ i h. ap (λ k. get_or t k 0) (sym (sum_assoc p j i))
+            ∙ sym (get_or-drop p t (j + i) 0)
+            ∙ sym (get_or-take m (drop p t) (j + i) 0 (omega (arith, h, short))) ∙ o.reads i h;
+      },
+      short,
+    )
 
 -- and where it stands in the text and ends in the part, it stands in the part
 pub occurs_in : (t token : List ℕ) (p m j : ℕ) → OccursAt t token (p + j) → j + length token ≤ m → p + m ≤ length t → OccursAt (take m (drop p t)) token j
 occurs_in t token p m j o l n =
-    record { fits = omega (arith, l, part_length t p m n); reads = λ i h. get_or-take m (drop p t) (j + i) 0 (omega (arith, h, l)) ∙ get_or-drop p t (j + i) 0 ∙ ap (λ k. get_or t k 0) (sum_assoc p j i) ∙ o.reads i h }
+    record {
+      fits = omega (arith, l, part_length t p m n);
+      reads = λ i h. get_or-take m (drop p t) (j + i) 0 (omega (arith, h, l))
+          ∙ get_or-drop p t (j + i) 0 ∙ ap (λ k. get_or t k 0) (sum_assoc p j i) ∙ o.reads i h;
+    }
 
 pub place_at : (t token : List ℕ) (k p : ℕ) → p ≤ k → OccursAt t token k → OccursAt t token (p + (k - p))
 place_at t token k p l o = let e : k ≡ p + (k - p) = omega arith in subst (OccursAt t token) e o
 
 -- the remembered place is the first one in a part that begins up to it and in which it ends
-pub first_is : (s : Sought) (from place p to : ℕ) → IsFirstPlace s from place → from ≤ p → p ≤ place → place ≤ to → to ≤ length s.text → length s.token ≤ to - place → Some (place - p) ≡ first_of s.token (take (to - p) (drop p s.text))
+pub first_is : (s : Sought) (from place p to : ℕ) → IsFirstPlace s from place → from ≤ p → p ≤ place
+    → place ≤ to → to ≤ length s.text → length s.token ≤ to - place
+    → Some (place - p) ≡ first_of s.token (take (to - p) (drop p s.text))
 first_is s from place p to f l m n e h =
     let part = take (to - p) (drop p s.text) in
     let fits : p + (to - p) ≤ length s.text = omega arith in
@@ -50,7 +63,9 @@ pub first_later : (s : Sought) (from place p : ℕ) → IsFirstPlace s from plac
 first_later s from place p f l m = record { some = f.some; none = λ k i j. f.none k (omega arith) j; stands = λ i j. f.stands (omega arith) j }
 
 -- what a search of the text from a place on comes to
-pub first_found : (s : Sought) (from i : ℕ) → 0 < length s.token → FindsNeedle (take (length s.text - from) (drop from s.text)) s.token 0 (Some i) → from ≤ length s.text → IsFirstPlace s from (from + i)
+pub first_found : (s : Sought) (from i : ℕ) → 0 < length s.token
+    → FindsNeedle (take (length s.text - from) (drop from s.text)) s.token 0 (Some i)
+    → from ≤ length s.text → IsFirstPlace s from (from + i)
 first_found s from i some f l =
     let m = length s.text - from in
     let fits : from + m ≤ length s.text = omega arith in
@@ -60,12 +75,17 @@ first_found s from i some f l =
       stands = λ a b. (occurs_out s.text s.token from m i f.1 some).0;
     }
 
-pub nothing_found : (s : Sought) (from : ℕ) → 0 < length s.token → FindsNeedle (take (length s.text - from) (drop from s.text)) s.token 0 None → from ≤ length s.text → IsFirstPlace s from (length s.text)
+pub nothing_found : (s : Sought) (from : ℕ) → 0 < length s.token
+    → FindsNeedle (take (length s.text - from) (drop from s.text)) s.token 0 None
+    → from ≤ length s.text → IsFirstPlace s from (length s.text)
 nothing_found s from some f l =
     let m = length s.text - from in
     let fits : from + m ≤ length s.text = omega arith in
     record {
       some = some;
-      none = λ k a b o. f (k - from) (omega arith) (omega (arith, part_length s.text from m fits)) (occurs_in s.text s.token from m (k - from) (place_at s.text s.token k from a o) (omega (arith, o.fits)) fits);
+      none =
+          λ k a b o. f (k - from) (omega arith) (omega (arith, part_length s.text from m fits))
+          (occurs_in s.text s.token from m (k - from) (place_at s.text s.token k from a o)
+          (omega (arith, o.fits)) fits);
       stands = λ a b. absurd (omega arith);
     }

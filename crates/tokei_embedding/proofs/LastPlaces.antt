@@ -7,13 +7,25 @@ use Rattle.tokei_embedding.specs.Remembered.{Sought, EndsNowhere, StandsLast}
 use Rattle.tokei_embedding.specs.Searches.{last_of}
 
 -- the last place of the text's range is the last one of that part
-pub last_is : (s : Sought) (from to place : ℕ) → 0 < length s.token → from ≤ to → to ≤ length s.text → StandsLast s from to place → Some (place - from) ≡ last_of s.token (take (to - from) (drop from s.text))
+pub last_is : (s : Sought) (from to place : ℕ) → 0 < length s.token → from ≤ to → to ≤ length s.text
+    → StandsLast s from to place
+    → Some (place - from) ≡ last_of s.token (take (to - from) (drop from s.text))
 last_is s from to place some l m f =
     let part = take (to - from) (drop from s.text) in
     let fits : from + (to - from) ≤ length s.text = omega arith in
-    let here : OccursAt part s.token (place - from) = occurs_in s.text s.token from (to - from) (place - from) (place_at s.text s.token place from f.order f.stands) (omega (arith, f.order, f.ends)) fits in
-    let found : FindsLastNeedle part s.token (Some (place - from)) =
-    (record { low = omega arith; high = omega (arith, here.fits); after = λ k i j o. let out = occurs_out s.text s.token from (to - from) k o some in f.none (from + k) (omega (arith, f.order)) (omega (arith, out.1)) out.0 }, here) in
+    let here : OccursAt part s.token (place - from) =
+    occurs_in s.text s.token from (to - from) (place - from)
+    (place_at s.text s.token place from f.order f.stands) (omega (arith, f.order, f.ends))
+    fits in
+    let found : FindsLastNeedle part s.token (Some (place - from)) = (
+      record {
+        low = omega arith;
+        high = omega (arith, here.fits);
+        after = λ k i j o. let out = occurs_out s.text s.token from (to - from) k o some
+            in f.none (from + k) (omega (arith, f.order)) (omega (arith, out.1)) out.0;
+      },
+      here,
+    ) in
     last_of-is part s.token (Some (place - from)) found some
 
 pub last_none : (s : Sought) (from to : ℕ) → 0 < length s.token → from ≤ to → EndsNowhere s from to → None ≡ last_of s.token (take (to - from) (drop from s.text))
@@ -35,7 +47,9 @@ pub nowhere_later : (s : Sought) (from to p : ℕ) → EndsNowhere s from to →
 nowhere_later s from to p f l = λ k i j. f k (omega arith) j
 
 -- what a search of a part from its end comes to
-pub last_found : (s : Sought) (from to i : ℕ) → 0 < length s.token → from ≤ to → to ≤ length s.text → FindsLastNeedle (take (to - from) (drop from s.text)) s.token (Some i) → StandsLast s from to (from + i)
+pub last_found : (s : Sought) (from to i : ℕ) → 0 < length s.token → from ≤ to → to ≤ length s.text
+    → FindsLastNeedle (take (to - from) (drop from s.text)) s.token (Some i)
+    → StandsLast s from to (from + i)
 last_found s from to i some l m f =
     let n = to - from in
     let fits : from + n ≤ length s.text = omega arith in
@@ -44,7 +58,11 @@ last_found s from to i some l m f =
       order = omega arith;
       ends = omega (arith, out.1);
       stands = out.0;
-      none = λ k a b o. f.0.after (k - from) (omega arith) (omega (arith, part_length s.text from n fits)) (occurs_in s.text s.token from n (k - from) (place_at s.text s.token k from (omega arith) o) (omega (arith, b)) fits);
+      none =
+          λ k a b o. f.0.after (k - from) (omega arith)
+          (omega (arith, part_length s.text from n fits))
+          (occurs_in s.text s.token from n (k - from)
+          (place_at s.text s.token k from (omega arith) o) (omega (arith, b)) fits);
     }
 
 pub none_found : (s : Sought) (from to : ℕ) → 0 < length s.token → from ≤ to → to ≤ length s.text → FindsLastNeedle (take (to - from) (drop from s.text)) s.token None → EndsNowhere s from to

@@ -19,7 +19,11 @@ first_line-all (b ∷ t) nowhere =
     let here : (b == 10) ≡ false = nowhere 0 (omega arith) in
     ap (λ w. b ∷ w) rest ∙ sym (ap (λ x. cond x (b ∷ []) (b ∷ first_line t)) here)
 
-split_step : (x : Bool) (b : ℕ) (t : List ℕ) → in_front b (lines_of t) ≡ (b ∷ first_line t) ∷ lines_of (drop (length (first_line t)) t) → cond x ((b ∷ []) ∷ lines_of t) (in_front b (lines_of t)) ≡ cond x (b ∷ []) (b ∷ first_line t) ∷ lines_of (drop (length (cond x (b ∷ []) (b ∷ first_line t))) (b ∷ t))
+split_step : (x : Bool) (b : ℕ) (t : List ℕ)
+    → in_front b (lines_of t) ≡ (b ∷ first_line t) ∷ lines_of (drop (length (first_line t)) t)
+    → cond x ((b ∷ []) ∷ lines_of t) (in_front b (lines_of t))
+    ≡ cond x (b ∷ []) (b ∷ first_line t)
+    ∷ lines_of (drop (length (cond x (b ∷ []) (b ∷ first_line t))) (b ∷ t))
 split_step true b t h = refl
 split_step false b t h = h
 
@@ -35,14 +39,21 @@ lines_first (b ∷ t) line l e = lines_split b t ∙ ap (λ w. w ∷ lines_of (d
 pub marked-stops : (mark t line : List ℕ) → 0 < length t → line ≡ first_line t → begins mark (trim_start line) ≡ false → marked_len mark (lines_of t) ≡ 0
 marked-stops mark t line l e h = ap (marked_len mark) (lines_first t line l e) ∙ ap (λ x. cond x (length line + marked_len mark (lines_of (drop (length line) t))) 0) h
 
-pub marked-goes : (mark t line : List ℕ) → 0 < length t → line ≡ first_line t → begins mark (trim_start line) ≡ true → marked_len mark (lines_of t) ≡ length line + marked_len mark (lines_of (drop (length line) t))
+pub marked-goes : (mark t line : List ℕ) → 0 < length t → line ≡ first_line t
+    → begins mark (trim_start line) ≡ true
+    → marked_len mark (lines_of t) ≡ length line + marked_len mark (lines_of (drop (length line) t))
 marked-goes mark t line l e h = ap (marked_len mark) (lines_first t line l e) ∙ ap (λ x. cond x (length line + marked_len mark (lines_of (drop (length line) t))) 0) h
 
 pub doc_text-goes : (t line : List ℕ) → 0 < length t → line ≡ first_line t → doc_text t ≡ drop 3 (trim_start line) ++ doc_text (drop (length line) t)
 doc_text-goes t line l e = ap unmarked (lines_first t line l e)
 
 -- one more line of a block is read
-pub doc_text-step : (block said said' rest line solid : List ℕ) (m : ℕ) → doc_text block ≡ said ++ doc_text rest → 0 < length rest → line ≡ first_line rest → solid ≡ trim_start line → m ≡ min (length solid) 3 → said' ≡ said ++ take (length solid - m) (drop m solid) → doc_text block ≡ said' ++ doc_text (take (length rest - length line) (drop (length line) rest))
+pub doc_text-step : (block said said' rest line solid : List ℕ) (m : ℕ)
+    → doc_text block ≡ said ++ doc_text rest → 0 < length rest → line ≡ first_line rest
+    → solid ≡ trim_start line → m ≡ min (length solid) 3
+    → said' ≡ said ++ take (length solid - m) (drop m solid)
+    → doc_text block
+    ≡ said' ++ doc_text (take (length rest - length line) (drop (length line) rest))
 doc_text-step block said said' rest line solid m inv l e s n i =
     let swap : min (length solid) 3 ≡ min 3 (length solid) = omega arith in
     let word : take (length solid - m) (drop m solid) ≡ drop 3 (trim_start line) = take_rest solid m ∙ ap (λ k. drop k solid) (n ∙ swap) ∙ drop_min 3 solid ∙ ap (drop 3) s in

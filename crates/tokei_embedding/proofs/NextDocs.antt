@@ -19,7 +19,10 @@ take_first : (t : List ℕ) → take (length (first_line t)) t ≡ first_line t
 take_first [] = refl
 take_first (b ∷ t) = take_step (b == 10) b t (take_first t)
 
-drop_step : (x : Bool) (b k : ℕ) (t : List ℕ) → (k < length (first_line t) → first_line (drop k t) ≡ drop k (first_line t)) → suc k < length (cond x (b ∷ []) (b ∷ first_line t)) → first_line (drop k t) ≡ drop (suc k) (cond x (b ∷ []) (b ∷ first_line t))
+drop_step : (x : Bool) (b k : ℕ) (t : List ℕ)
+    → (k < length (first_line t) → first_line (drop k t) ≡ drop k (first_line t))
+    → suc k < length (cond x (b ∷ []) (b ∷ first_line t))
+    → first_line (drop k t) ≡ drop (suc k) (cond x (b ∷ []) (b ∷ first_line t))
 drop_step true b k t behind l = absurd (omega (arith, l))
 drop_step false b k t behind l = behind (omega (arith, l))
 
@@ -46,7 +49,9 @@ some_of : (t : List ℕ) (o : Option (List ℕ)) → is_some o ≡ true → is_s
 some_of t None h = absurd (cc)
 some_of t (Some m) h = refl
 
-pub a_doc : (t : List ℕ) (at to p : ℕ) → to ≡ at + length (first_line (drop at t)) → at ≤ p → p < to → is_some (mark_of (drop (p - at) (take (to - at) (drop at t)))) ≡ true → is_some (doc_block (drop p t)) ≡ true
+pub a_doc : (t : List ℕ) (at to p : ℕ) → to ≡ at + length (first_line (drop at t)) → at ≤ p → p < to
+    → is_some (mark_of (drop (p - at) (take (to - at) (drop at t)))) ≡ true
+    → is_some (doc_block (drop p t)) ≡ true
 a_doc t at to p e l m h = some_of (drop p t) (mark_of (first_line (drop p t))) (ap (λ w. is_some (mark_of w)) (rest_of_line t at to p e l m) ∙ h)
 
 -- the mark at a place, by its byte
@@ -153,7 +158,9 @@ none_before t at to slash start p a b c d e none h =
 pub mark_behind_blanks : (t : List ℕ) (at to slash start : ℕ) → at ≤ start → start ≤ slash → slash < to → to ≤ length t → ((p : ℕ) → start ≤ p → p < slash → is_blank (get_or t p 0) ≡ true)
     → get_or t slash 0 ≡ 47 → is_some (front_mark (take (to - slash) (drop slash t))) ≡ true → is_some (mark_of (drop (start - at) (take (to - at) (drop at t)))) ≡ true
 mark_behind_blanks t at to slash start a b c d blank found h =
-    ap is_some (same_over (slash - start) (start - at) i line (omega arith) (omega (arith, long)) (λ j l m. ap is_blank (byte_of_line t at to j (omega arith)) ∙ blank (at + j) (omega arith) (omega arith)))
+    ap is_some (same_over (slash - start) (start - at) i line (omega arith) (omega (arith, long))
+    (λ j l m. ap is_blank (byte_of_line t at to j (omega arith))
+    ∙ blank (at + j) (omega arith) (omega arith)))
     ∙ ap is_some (mark_here line i (omega (arith, long)) (ap is_blank (byte_of_line t at to i (omega arith) ∙ ap (λ q. get_or t q 0) place ∙ found)))
     ∙ ap (λ w. is_some (front_mark w)) (part_from t at slash to (omega arith) (omega arith)) ∙ h
   where

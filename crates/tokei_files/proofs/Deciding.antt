@@ -7,7 +7,9 @@ use Rattle.tokei_folders.specs.Tree.{Tree}
 use Rattle.tokei_files.specs.Paths.{name_of, language_by_head, language_by_path}
 
 -- the head decides, where it is asked: the name doesn't, and has no extension
-head_decides : (t : Tree) (rows : List Row) (path name : List ℕ) (o : Option ℕ) → name ≡ name_of path → None ≡ from_file_name rows name → false ≡ is_some (extension_of name) → o ≡ language_by_head t rows path → o ≡ language_by_path t rows path
+head_decides : (t : Tree) (rows : List Row) (path name : List ℕ) (o : Option ℕ)
+    → name ≡ name_of path → None ≡ from_file_name rows name → false ≡ is_some (extension_of name)
+    → o ≡ language_by_head t rows path → o ≡ language_by_path t rows path
 head_decides t rows path name o is by_name none by_head =
     let byname : from_file_name rows (name_of path) ≡ None = ap (from_file_name rows) (sym is) ∙ sym by_name in
     let ext : is_some (extension_of (name_of path)) ≡ false = ap (λ n. is_some (extension_of n)) (sym is) ∙ sym none in
@@ -16,7 +18,11 @@ head_decides t rows path name o is by_name none by_head =
     ∙ ap (λ p. or_else p (cond (is_some (extension_of (name_of path))) None (language_by_head t rows path))) (sym byname)
 
 -- what the head says is the language
-pub told_by_head : {E : Type 0} (t : Tree) (rows : List Row) (path name : List ℕ) (r : Result (Option ℕ) E) → name ≡ name_of path → None ≡ from_file_name rows name → false ≡ is_some (extension_of name) → IfOk r (λ o. o ≡ language_by_head t rows path) → IfOk r (λ o. o ≡ language_by_path t rows path)
+pub told_by_head : {E : Type 0} (t : Tree) (rows : List Row) (path name : List ℕ)
+    (r : Result (Option ℕ) E)
+    → name ≡ name_of path → None ≡ from_file_name rows name → false ≡ is_some (extension_of name)
+    → IfOk r (λ o. o ≡ language_by_head t rows path)
+    → IfOk r (λ o. o ≡ language_by_path t rows path)
 told_by_head t rows path name (Ok o) is by_name none by_head = head_decides t rows path name o is by_name none by_head
 told_by_head t rows path name (Err x) is by_name none by_head = tt
 

@@ -9,5 +9,7 @@ module _ (adds : List (ℕ × List (List ℕ))) where
   same_length (r ∷ rs) n known = ap suc (same_length rs (n + 1) (known ++ gained known (listed_for n adds)))
 
   -- a language of the extended table is one of the table
-  pub of_both : {E : Type 0} (rows grown : List Row) (r : Result (Option ℕ) E) → grown ≡ extended rows adds → IfOk r (λ o. IfSome o (λ l. l < length grown)) → IfOk r (λ o. IfSome o (λ l. l < length rows))
+  pub of_both : {E : Type 0} (rows grown : List Row) (r : Result (Option ℕ) E)
+      → grown ≡ extended rows adds → IfOk r (λ o. IfSome o (λ l. l < length grown))
+      → IfOk r (λ o. IfSome o (λ l. l < length rows))
   of_both rows grown r is h = subst (λ (n : ℕ). IfOk r (λ o. IfSome o (λ l. l < n))) (ap length is ∙ same_length rows 0 (extensions_of rows)) h

@@ -35,7 +35,10 @@ pub folders_step : (p : Names) (i : ℕ) → i < length p → folders_at (take i
 folders_step p i h = ap (map (λ (a : Names × List ℕ). new_folder a.0)) (above_step p i [] h)
 
 -- one more of them
-pub folders_more : (p : Names) (i : ℕ) (fs gs : List PlacedNode) (q : Names) → i < length p → q ≡ take i p → gs ≡ fs ++ new_folder q ∷ [] → folders_to p ≡ fs ++ folders_at (take i p) (drop i p) → folders_to p ≡ gs ++ folders_at (take (i + 1) p) (drop (i + 1) p)
+pub folders_more : (p : Names) (i : ℕ) (fs gs : List PlacedNode) (q : Names) → i < length p
+    → q ≡ take i p → gs ≡ fs ++ new_folder q ∷ []
+    → folders_to p ≡ fs ++ folders_at (take i p) (drop i p)
+    → folders_to p ≡ gs ++ folders_at (take (i + 1) p) (drop (i + 1) p)
 folders_more p i fs gs q h is pushed so_far =
     let rest = folders_at (take (i + 1) p) (drop (i + 1) p) in
     so_far ∙ ap (λ (x : List PlacedNode). fs ++ x) (folders_step p i h) ∙ sym (append_assoc fs (new_folder (take i p) ∷ []) rest)
@@ -44,7 +47,9 @@ folders_more p i fs gs q h is pushed so_far =
 pub folders_end : (p : Names) (i : ℕ) → length p ≤ i → folders_at (take i p) (drop i p) ≡ []
 folders_end p i h = ap (folders_at (take i p)) (drop_all i p h)
 
-pub file_step : (t : Tree) (p : Names) (i : ℕ) (b : Bool) → i < length p → b ≡ is_file (node_at t (take i p)) → file_among t (take i p) (drop i p) ≡ (b || file_among t (take (i + 1) p) (drop (i + 1) p))
+pub file_step : (t : Tree) (p : Names) (i : ℕ) (b : Bool) → i < length p
+    → b ≡ is_file (node_at t (take i p))
+    → file_among t (take i p) (drop i p) ≡ (b || file_among t (take (i + 1) p) (drop (i + 1) p))
 file_step t p i b h e =
     ap (list_any (λ (a : Names × List ℕ). is_file (node_at t a.0))) (above_step p i [] h) ∙ ap (λ (x : Bool). x || file_among t (take (i + 1) p) (drop (i + 1) p)) (sym e)
 
@@ -84,21 +89,32 @@ folders_whole_from : (top ns : Names) → list_all is_whole_name top ≡ true �
 folders_whole_from top [] h k = refl
 folders_whole_from top (n ∷ ns) h k =
     let first = left_of_and (is_whole_name n) (list_all is_whole_name ns) k in
-    let longer : list_all is_whole_name (top ++ n ∷ []) ≡ true = list_all-append is_whole_name top (n ∷ []) ∙ both (list_all is_whole_name top) (is_whole_name n && true) h (both (is_whole_name n) true first refl) in
-    both (list_all is_whole_name top) (list_all has_names (folders_at (top ++ n ∷ []) ns)) h (folders_whole_from (top ++ n ∷ []) ns longer (right_of_and (is_whole_name n) (list_all is_whole_name ns) k))
+    let longer : list_all is_whole_name (top ++ n ∷ []) ≡ true =
+    list_all-append is_whole_name top (n ∷ [])
+    ∙ both (list_all is_whole_name top) (is_whole_name n && true) h
+    (both (is_whole_name n) true first refl) in
+    both (list_all is_whole_name top) (list_all has_names (folders_at (top ++ n ∷ []) ns)) h
+    (folders_whole_from (top ++ n ∷ []) ns longer
+    (right_of_and (is_whole_name n) (list_all is_whole_name ns) k))
 
 -- a place and the folders above it have whole names
 pub added_whole : (n : PlacedNode) (p : Names) → n.names ≡ p → list_all is_whole_name p ≡ true → list_all has_names (folders_to p ++ n ∷ []) ≡ true
 added_whole n p is h =
     list_all-append has_names (folders_to p) (n ∷ [])
-    ∙ both (list_all has_names (folders_to p)) (has_names n && true) (ap (list_all has_names) (folders_begin p) ∙ folders_whole_from [] p refl h) (both (has_names n) true (ap (list_all is_whole_name) is ∙ h) refl)
+    ∙ both (list_all has_names (folders_to p)) (has_names n && true)
+    (ap (list_all has_names) (folders_begin p) ∙ folders_whole_from [] p refl h)
+    (both (has_names n) true (ap (list_all is_whole_name) is ∙ h) refl)
 
-pub pushed_whole : (place : List ℕ) (p q : Names) (n : PlacedNode) (fs ns : List PlacedNode) → p ≡ names_of place → q ≡ p → n.names ≡ p → ns ≡ fs ++ n ∷ [] → fs ≡ folders_to q → list_all has_names ns ≡ true
+pub pushed_whole : (place : List ℕ) (p q : Names) (n : PlacedNode) (fs ns : List PlacedNode)
+    → p ≡ names_of place → q ≡ p → n.names ≡ p → ns ≡ fs ++ n ∷ [] → fs ≡ folders_to q
+    → list_all has_names ns ≡ true
 pushed_whole place p q n fs ns is same names pushed above =
     ap (list_all has_names) (pushed ∙ ap (λ (x : List PlacedNode). x ++ n ∷ []) (above ∙ ap folders_to same)) ∙ added_whole n p names (ap (list_all is_whole_name) is ∙ names_whole place)
 
 -- one more folder above, the one that was added last being the nearest
-pub found_more : (p : Names) (i : ℕ) (place n copy : List ℕ) (found more : List Above) → i < length p → n ≡ get_or p i n → copy ≡ n → names_of place ≡ take i p → more ≡ found ++ record { place = place; name = copy } ∷ []
+pub found_more : (p : Names) (i : ℕ) (place n copy : List ℕ) (found more : List Above)
+    → i < length p → n ≡ get_or p i n → copy ≡ n → names_of place ≡ take i p
+    → more ≡ found ++ record { place = place; name = copy } ∷ []
     → folders_above [] p ≡ map above_view found ++ folders_above (take i p) (drop i p) → folders_above [] p ≡ map above_view more ++ folders_above (take (i + 1) p) (drop (i + 1) p)
 found_more p i place n copy found more h is same at pushed so_far =
     let rest = folders_above (take (i + 1) p) (drop (i + 1) p) in
@@ -115,7 +131,9 @@ whole_at [] i n h is k = absurd (omega arith)
 whole_at (m ∷ p) zero n h is k = ap is_whole_name is ∙ left_of_and (is_whole_name m) (list_all is_whole_name p) k
 whole_at (m ∷ p) (suc i) n h is k = whole_at p i n (omega arith) is (right_of_and (is_whole_name m) (list_all is_whole_name p) k)
 
-uncut_by : (b : Bool) (x : ℕ) (parts : Names) (xs : List ℕ) → (b || list_any is_slash xs) ≡ false → (list_any is_slash xs ≡ false → parts ≡ xs ∷ []) → cond b ([] ∷ parts) (onto_first x parts) ≡ (x ∷ xs) ∷ []
+uncut_by : (b : Bool) (x : ℕ) (parts : Names) (xs : List ℕ) → (b || list_any is_slash xs) ≡ false
+    → (list_any is_slash xs ≡ false → parts ≡ xs ∷ [])
+    → cond b ([] ∷ parts) (onto_first x parts) ≡ (x ∷ xs) ∷ []
 uncut_by true x parts xs h ih = absurd (cc)
 uncut_by false x parts xs h ih = ap (onto_first x) (ih h)
 
@@ -138,6 +156,8 @@ unfolding names_of
 names_of_dot = refl
 
 -- the place of the next name
-pub next_place : (p : Names) (i : ℕ) (place n next : List ℕ) → i < length p → n ≡ get_or p i n → list_all is_whole_name p ≡ true → names_of place ≡ take i p → next ≡ joined place n → names_of next ≡ take (i + 1) p
+pub next_place : (p : Names) (i : ℕ) (place n next : List ℕ) → i < length p → n ≡ get_or p i n
+    → list_all is_whole_name p ≡ true → names_of place ≡ take i p → next ≡ joined place n
+    → names_of next ≡ take (i + 1) p
 next_place p i place n next h is whole here made =
     ap names_of made ∙ names_of-joined place n ∙ ap₂ (λ (x y : Names). x ++ y) here (one_name n (whole_at p i n h is whole)) ∙ ap (λ (x : List ℕ). take i p ++ x ∷ []) is ∙ sym (take_more p i n h)

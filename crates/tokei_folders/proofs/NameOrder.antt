@@ -34,7 +34,9 @@ before_trans a b c h k = ap is_lt (names_total.trans a b c (is_less (names_cmp a
 pub first_trans : (a b : Names) (t : Tree) → is_before a b ≡ true → is_first b t ≡ true → is_first a t ≡ true
 first_trans a b [] h k = refl
 first_trans a b (e ∷ t) h k =
-    both (is_before a e.names) (is_first a t) (before_trans a b e.names h (left_of_and (is_before b e.names) (is_first b t) k)) (first_trans a b t h (right_of_and (is_before b e.names) (is_first b t) k))
+    both (is_before a e.names) (is_first a t)
+    (before_trans a b e.names h (left_of_and (is_before b e.names) (is_first b t) k))
+    (first_trans a b t h (right_of_and (is_before b e.names) (is_first b t) k))
 
 reversed : (o p : Ordering) → o ≡ ordering_reverse p → o ≡ Greater → is_lt p ≡ true
 reversed o Less h e = refl

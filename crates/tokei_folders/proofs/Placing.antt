@@ -17,20 +17,30 @@ at_head ps i e h is = drop_more ps i e h ∙ ap (λ (x : PlacedNode). x ∷ drop
 placed_head : (e n : PlacedNode) (t : Tree) (o : Ordering) → names_cmp n.names e.names ≡ o → placed (e ∷ t) n ≡ match_ordering o (n ∷ e ∷ t) (e ∷ t) (e ∷ placed t n)
 placed_head e n t o is = ap (λ (x : Ordering). match_ordering x (n ∷ e ∷ t) (e ∷ t) (e ∷ placed t n)) is
 
-head_is : (ps : Tree) (i : ℕ) (e n : PlacedNode) (names : Names) (o : Ordering) → i < length ps → e ≡ get_or ps i e → n.names ≡ names → o ≡ names_cmp names e.names → placed (drop i ps) n ≡ match_ordering o (n ∷ drop i ps) (drop i ps) (e ∷ placed (drop (i + 1) ps) n)
+head_is : (ps : Tree) (i : ℕ) (e n : PlacedNode) (names : Names) (o : Ordering) → i < length ps
+    → e ≡ get_or ps i e → n.names ≡ names → o ≡ names_cmp names e.names
+    → placed (drop i ps) n
+    ≡ match_ordering o (n ∷ drop i ps) (drop i ps) (e ∷ placed (drop (i + 1) ps) n)
 head_is ps i e n names o h is same cmp =
     let d = at_head ps i e h is in
     let head = placed_head e n (drop (i + 1) ps) o (ap (λ (x : Names). names_cmp x e.names) same ∙ sym cmp) in
     ap (λ (x : Tree). placed x n) d ∙ head ∙ ap (λ (x : Tree). match_ordering o (n ∷ x) x (e ∷ placed (drop (i + 1) ps) n)) (sym d)
 
 -- a place goes before the first one that follows it
-pub goes_here : (ps : Tree) (i : ℕ) (e n : PlacedNode) (names : Names) → i < length ps → e ≡ get_or ps i e → n.names ≡ names → Less ≡ names_cmp names e.names → placed ps n ≡ take i ps ++ placed (drop i ps) n → placed ps n ≡ insert ps i n
+pub goes_here : (ps : Tree) (i : ℕ) (e n : PlacedNode) (names : Names) → i < length ps
+    → e ≡ get_or ps i e → n.names ≡ names → Less ≡ names_cmp names e.names
+    → placed ps n ≡ take i ps ++ placed (drop i ps) n → placed ps n ≡ insert ps i n
 goes_here ps i e n names h is same cmp so_far = so_far ∙ ap (λ (x : Tree). take i ps ++ x) (head_is ps i e n names Less h is same cmp)
 
-pub stands_here : (ps : Tree) (i : ℕ) (e n : PlacedNode) (names : Names) → i < length ps → e ≡ get_or ps i e → n.names ≡ names → Equal ≡ names_cmp names e.names → placed ps n ≡ take i ps ++ placed (drop i ps) n → placed ps n ≡ ps
+pub stands_here : (ps : Tree) (i : ℕ) (e n : PlacedNode) (names : Names) → i < length ps
+    → e ≡ get_or ps i e → n.names ≡ names → Equal ≡ names_cmp names e.names
+    → placed ps n ≡ take i ps ++ placed (drop i ps) n → placed ps n ≡ ps
 stands_here ps i e n names h is same cmp so_far = so_far ∙ ap (λ (x : Tree). take i ps ++ x) (head_is ps i e n names Equal h is same cmp) ∙ take-append-drop i ps
 
-pub goes_on : (ps : Tree) (i : ℕ) (e n : PlacedNode) (names : Names) → i < length ps → e ≡ get_or ps i e → n.names ≡ names → Greater ≡ names_cmp names e.names → placed ps n ≡ take i ps ++ placed (drop i ps) n → placed ps n ≡ take (i + 1) ps ++ placed (drop (i + 1) ps) n
+pub goes_on : (ps : Tree) (i : ℕ) (e n : PlacedNode) (names : Names) → i < length ps
+    → e ≡ get_or ps i e → n.names ≡ names → Greater ≡ names_cmp names e.names
+    → placed ps n ≡ take i ps ++ placed (drop i ps) n
+    → placed ps n ≡ take (i + 1) ps ++ placed (drop (i + 1) ps) n
 goes_on ps i e n names h is same cmp so_far =
     so_far ∙ ap (λ (x : Tree). take i ps ++ x) (head_is ps i e n names Greater h is same cmp) ∙ sym (append_assoc (take i ps) (e ∷ []) (placed (drop (i + 1) ps) n))
     ∙ ap (λ (x : Tree). x ++ placed (drop (i + 1) ps) n) (ap (λ (x : PlacedNode). take i ps ++ x ∷ []) is ∙ sym (take_more ps i e h))
@@ -40,7 +50,9 @@ goes_last ps i n h so_far =
     so_far ∙ ap (λ (x : Tree). take i ps ++ placed x n) (drop_all i ps h) ∙ ap (λ (x : Tree). x ++ n ∷ []) (take_all i ps h ∙ sym (take_all (length ps) ps (omega arith)))
     ∙ ap (λ (x : Tree). take (length ps) ps ++ n ∷ x) (sym (drop_all (length ps) ps (omega arith)))
 
-first_of : (p : Names) (e n : PlacedNode) (t : Tree) (o : Ordering) → is_before p n.names ≡ true → is_first p (e ∷ t) ≡ true → is_first p (placed t n) ≡ true → is_first p (match_ordering o (n ∷ e ∷ t) (e ∷ t) (e ∷ placed t n)) ≡ true
+first_of : (p : Names) (e n : PlacedNode) (t : Tree) (o : Ordering) → is_before p n.names ≡ true
+    → is_first p (e ∷ t) ≡ true → is_first p (placed t n) ≡ true
+    → is_first p (match_ordering o (n ∷ e ∷ t) (e ∷ t) (e ∷ placed t n)) ≡ true
 first_of p e n t Less h k ih = both (is_before p n.names) (is_first p (e ∷ t)) h k
 first_of p e n t Equal h k ih = k
 first_of p e n t Greater h k ih = both (is_before p e.names) (is_first p (placed t n)) (left_of_and (is_before p e.names) (is_first p t) k) ih
@@ -49,18 +61,30 @@ first_placed : (p : Names) (t : Tree) (n : PlacedNode) → is_before p n.names �
 first_placed p [] n h k = both (is_before p n.names) true h refl
 first_placed p (e ∷ t) n h k = first_of p e n t (names_cmp n.names e.names) h k (first_placed p t n h (right_of_and (is_before p e.names) (is_first p t) k))
 
-order_of : (e n : PlacedNode) (t : Tree) (o : Ordering) → names_cmp n.names e.names ≡ o → is_in_order (e ∷ t) ≡ true → is_in_order (placed t n) ≡ true → is_in_order (match_ordering o (n ∷ e ∷ t) (e ∷ t) (e ∷ placed t n)) ≡ true
+order_of : (e n : PlacedNode) (t : Tree) (o : Ordering) → names_cmp n.names e.names ≡ o
+    → is_in_order (e ∷ t) ≡ true → is_in_order (placed t n) ≡ true
+    → is_in_order (match_ordering o (n ∷ e ∷ t) (e ∷ t) (e ∷ placed t n)) ≡ true
 order_of e n t Less is k ih =
     let before : is_before n.names e.names ≡ true = ap is_lt is in
-    both (is_first n.names (e ∷ t)) (is_in_order (e ∷ t)) (both (is_before n.names e.names) (is_first n.names t) before (first_trans n.names e.names t before (left_of_and (is_first e.names t) (is_in_order t) k))) k
+    both (is_first n.names (e ∷ t)) (is_in_order (e ∷ t))
+    (both (is_before n.names e.names) (is_first n.names t) before
+    (first_trans n.names e.names t before
+    (left_of_and (is_first e.names t) (is_in_order t) k)))
+    k
 order_of e n t Equal is k ih = k
-order_of e n t Greater is k ih = both (is_first e.names (placed t n)) (is_in_order (placed t n)) (first_placed e.names t n (greater_after n.names e.names is) (left_of_and (is_first e.names t) (is_in_order t) k)) ih
+order_of e n t Greater is k ih =
+    both (is_first e.names (placed t n)) (is_in_order (placed t n))
+    (first_placed e.names t n (greater_after n.names e.names is)
+    (left_of_and (is_first e.names t) (is_in_order t) k))
+    ih
 
 placed_order : (t : Tree) (n : PlacedNode) → is_in_order t ≡ true → is_in_order (placed t n) ≡ true
 placed_order [] n k = refl
 placed_order (e ∷ t) n k = order_of e n t (names_cmp n.names e.names) refl k (placed_order t n (right_of_and (is_first e.names t) (is_in_order t) k))
 
-names_of_all : (e n : PlacedNode) (t : Tree) (o : Ordering) → has_names n ≡ true → list_all has_names (e ∷ t) ≡ true → list_all has_names (placed t n) ≡ true → list_all has_names (match_ordering o (n ∷ e ∷ t) (e ∷ t) (e ∷ placed t n)) ≡ true
+names_of_all : (e n : PlacedNode) (t : Tree) (o : Ordering) → has_names n ≡ true
+    → list_all has_names (e ∷ t) ≡ true → list_all has_names (placed t n) ≡ true
+    → list_all has_names (match_ordering o (n ∷ e ∷ t) (e ∷ t) (e ∷ placed t n)) ≡ true
 names_of_all e n t Less h k ih = both (has_names n) (list_all has_names (e ∷ t)) h k
 names_of_all e n t Equal h k ih = k
 names_of_all e n t Greater h k ih = both (has_names e) (list_all has_names (placed t n)) (left_of_and (has_names e) (list_all has_names t) k) ih
@@ -72,7 +96,9 @@ placed_names (e ∷ t) n h k = names_of_all e n t (names_cmp n.names e.names) h 
 pub placed_sound : (t : Tree) (n : PlacedNode) → has_names n ≡ true → is_sound t ≡ true → is_sound (placed t n) ≡ true
 unfolding is_sound
 placed_sound t n h k =
-    both (is_in_order (placed t n)) (list_all has_names (placed t n)) (placed_order t n (left_of_and (is_in_order t) (list_all has_names t) k)) (placed_names t n h (right_of_and (is_in_order t) (list_all has_names t) k))
+    both (is_in_order (placed t n)) (list_all has_names (placed t n))
+    (placed_order t n (left_of_and (is_in_order t) (list_all has_names t) k))
+    (placed_names t n h (right_of_and (is_in_order t) (list_all has_names t) k))
 
 pub all_sound : (t : Tree) (ns : List PlacedNode) → list_all has_names ns ≡ true → is_sound t ≡ true → is_sound (with_all t ns) ≡ true
 unfolding with_all
@@ -104,7 +130,10 @@ unfolding with_all
 with_none t = refl
 
 -- what is added in turn
-pub added_next : (start t next : Tree) (ns rest : List PlacedNode) (all : List PlacedNode) (n : PlacedNode) → ns ≡ rest ++ n ∷ [] → next ≡ placed t n → with_all start all ≡ with_all t (reverse ns) → with_all start all ≡ with_all next (reverse rest)
+pub added_next : (start t next : Tree) (ns rest : List PlacedNode) (all : List PlacedNode)
+    (n : PlacedNode)
+    → ns ≡ rest ++ n ∷ [] → next ≡ placed t n → with_all start all ≡ with_all t (reverse ns)
+    → with_all start all ≡ with_all next (reverse rest)
 added_next start t next ns rest all n is put so_far =
     so_far ∙ ap (with_all t) (ap reverse is ∙ reverse-append rest (n ∷ [])) ∙ with_step t n (reverse rest) ∙ ap (λ (x : Tree). with_all x (reverse rest)) (sym put)
 
@@ -113,6 +142,10 @@ added_all start t ns left given none is so_far =
     sym (ap (with_all start) (sym (ap reverse is ∙ reverse-reverse ns)) ∙ so_far ∙ ap (λ (x : List PlacedNode). with_all t (reverse x)) none ∙ with_none t)
 
 -- a tree that is added to, or left as it was
-pub sound_after : {E : Type 0} (r : Result (Unit {0}) E) (top : PlacedNode) (old new : Tree) (ns : List PlacedNode) → top.names ≡ [] → OnOk r ((t : PlacedNode) → t.names ≡ [] → t ∷ new ≡ with_all (t ∷ old) ns) → OnErr r (new ≡ old) → is_sound (top ∷ old) ≡ true → list_all has_names ns ≡ true → is_sound (top ∷ new) ≡ true
+pub sound_after : {E : Type 0} (r : Result (Unit {0}) E) (top : PlacedNode) (old new : Tree)
+    (ns : List PlacedNode)
+    → top.names ≡ [] → OnOk r ((t : PlacedNode) → t.names ≡ [] → t ∷ new ≡ with_all (t ∷ old) ns)
+    → OnErr r (new ≡ old) → is_sound (top ∷ old) ≡ true → list_all has_names ns ≡ true
+    → is_sound (top ∷ new) ≡ true
 sound_after (Ok u) top old new ns is ok err h k = ap is_sound (ok top is) ∙ all_sound (top ∷ old) ns k h
 sound_after (Err e) top old new ns is ok err h k = ap (λ (x : Tree). is_sound (top ∷ x)) err ∙ h

@@ -4,7 +4,10 @@ use Rattle.std.specs.List.{slice_split}
 use Rattle.std.proofs.lemmas.List.{take-append-drop, drop_more, take_rest, take_all}
 use Rattle.std.proofs.lemmas.List.Splits.{slice_split_at, slice_split_none}
 
-pub cut_here : (at : ℕ) (xs : List ℕ) (i c : ℕ) → i < length xs → c ≡ get_or xs i c → c ≡ at → All (λ x. (x == at) ≡ false) (take i xs) → slice_split (λ x. x == at) xs ≡ take i xs ∷ slice_split (λ x. x == at) (take (length xs - (i + 1)) (drop (i + 1) xs))
+pub cut_here : (at : ℕ) (xs : List ℕ) (i c : ℕ) → i < length xs → c ≡ get_or xs i c → c ≡ at
+    → All (λ x. (x == at) ≡ false) (take i xs)
+    → slice_split (λ x. x == at) xs
+    ≡ take i xs ∷ slice_split (λ x. x == at) (take (length xs - (i + 1)) (drop (i + 1) xs))
 cut_here at xs i c h is e before =
     let whole : xs ≡ take i xs ++ c ∷ drop (i + 1) xs = sym (take-append-drop i xs) ∙ ap (λ (r : List ℕ). take i xs ++ r) (drop_more xs i c h ∙ ap (λ (y : ℕ). y ∷ drop (i + 1) xs) (sym is)) in
     let rest : drop (i + 1) xs ≡ take (length xs - (i + 1)) (drop (i + 1) xs) = sym (take_rest xs (i + 1)) in

@@ -38,7 +38,9 @@ dropped_one xs ys whole e is same fits =
     )
 
 -- the line that is left, where the loop over its spaces ends
-pub trimmed_by : (xs whole : List ℕ) (spaces : Bool) → ends_in 32 xs ≡ false → without_spaces xs ≡ without_spaces whole → spaces ≡ nat_lt (length xs) (length whole) → cond (spaces && is_escaped false xs) (xs ++ 32 ∷ []) xs ≡ trimmed whole
+pub trimmed_by : (xs whole : List ℕ) (spaces : Bool) → ends_in 32 xs ≡ false
+    → without_spaces xs ≡ without_spaces whole → spaces ≡ nat_lt (length xs) (length whole)
+    → cond (spaces && is_escaped false xs) (xs ++ 32 ∷ []) xs ≡ trimmed whole
 unfolding trimmed
 trimmed_by xs whole spaces e same is =
     let left : xs ≡ without_spaces whole = sym (without_spaces_same xs e) ∙ same in

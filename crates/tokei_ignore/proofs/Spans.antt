@@ -37,7 +37,9 @@ flat test (x ∷ xs) e = cases_or (at_some_end test (x ∷ xs)) (at_some_end (at
 past : {X : Type 0} (one : X → Bool) (rest : List X → Bool) (x : X) (xs : List X) → at_some_end (first_and_rest one rest) (x ∷ xs) ≡ true → at_some_end rest xs ≡ true
 past one rest x [] e = cases_or (one x && rest []) false e (λ h. (cases_and (one x) (rest []) h).1) (λ h. absurd (cc))
 past one rest x (y ∷ ys) e =
-    cases_or (one x && rest (y ∷ ys)) (at_some_end (first_and_rest one rest) (y ∷ ys)) e (λ h. here rest (y ∷ ys) (cases_and (one x) (rest (y ∷ ys)) h).1) (λ h. either_right (rest (y ∷ ys)) _ (past one rest y ys h))
+    cases_or (one x && rest (y ∷ ys)) (at_some_end (first_and_rest one rest) (y ∷ ys)) e
+    (λ h. here rest (y ∷ ys) (cases_and (one x) (rest (y ∷ ys)) h).1)
+    (λ h. either_right (rest (y ∷ ys)) _ (past one rest y ys h))
 
 none_fits : {X : Type 0} (one : X → Bool) (rest : List X → Bool) → at_some_end (first_and_rest one rest) [] ≡ false
 none_fits one rest = refl
@@ -52,7 +54,10 @@ by_ended : {P X : Type 0} (spans : P → Bool) (fits_one : P → X → Bool) (xs
 by_ended spans fits_one [] = refl
 by_ended spans fits_one (x ∷ xs) = refl
 
-by_onward : {P X : Type 0} (spans : P → Bool) (fits_one : P → X → Bool) (one : X → Bool) (rest : List X → Bool) (next : List X → Reach P X) → ((xs : List X) → rest xs ≡ by_reach spans fits_one (next xs)) → (xs : List X) → first_and_rest one rest xs ≡ by_reach spans fits_one (onward one next xs)
+by_onward : {P X : Type 0} (spans : P → Bool) (fits_one : P → X → Bool) (one : X → Bool)
+    (rest : List X → Bool) (next : List X → Reach P X)
+    → ((xs : List X) → rest xs ≡ by_reach spans fits_one (next xs)) → (xs : List X)
+    → first_and_rest one rest xs ≡ by_reach spans fits_one (onward one next xs)
 by_onward spans fits_one one rest next e [] = refl
 by_onward spans fits_one one rest next e (x ∷ xs) = stepped (one x)
   where
@@ -60,7 +65,10 @@ by_onward spans fits_one one rest next e (x ∷ xs) = stepped (one x)
     stepped true = e xs
     stepped false = refl
 
-by_span : {P X : Type 0} (spans : P → Bool) (fits_one : P → X → Bool) (b : Bool) (some rest : Bool) (s r : Reach P X) → some ≡ by_reach spans fits_one s → rest ≡ by_reach spans fits_one r → cond b some rest ≡ by_reach spans fits_one (cond b s r)
+by_span : {P X : Type 0} (spans : P → Bool) (fits_one : P → X → Bool) (b : Bool) (some rest : Bool)
+    (s r : Reach P X)
+    → some ≡ by_reach spans fits_one s → rest ≡ by_reach spans fits_one r
+    → cond b some rest ≡ by_reach spans fits_one (cond b s r)
 by_span spans fits_one true some rest s r d e = d
 by_span spans fits_one false some rest s r d e = e
 
@@ -80,7 +88,10 @@ went_on : {P X : Type 0} (b : Bool) (r : Reach P X) (qs : List P) (ys : List X) 
 went_on true r qs ys e = e
 went_on false r qs ys e = absurd (cc)
 
-committed_more : {P X : Type 0} (spans : P → Bool) (fits_one : P → X → Bool) (p : P) (ps : List P) (qs : List P) (ys : List X) (b : Bool) (xs : List X) → ((zs : List X) → reach spans fits_one ps zs ≡ at_span qs ys → Commits (fits spans fits_one ps) (fits spans fits_one qs) ps zs qs ys)
+committed_more : {P X : Type 0} (spans : P → Bool) (fits_one : P → X → Bool) (p : P) (ps : List P)
+    (qs : List P) (ys : List X) (b : Bool) (xs : List X)
+    → ((zs : List X) → reach spans fits_one ps zs ≡ at_span qs ys
+    → Commits (fits spans fits_one ps) (fits spans fits_one qs) ps zs qs ys)
     → cond b (at_span ps xs) (onward (fits_one p) (reach spans fits_one ps) xs) ≡ at_span qs ys
     → Commits (λ zs. cond b (at_some_end (fits spans fits_one ps) zs) (first_and_rest (fits_one p) (fits spans fits_one ps) zs)) (fits spans fits_one qs) (p ∷ ps) xs qs ys
 committed_more spans fits_one p ps qs ys true xs ih e =
@@ -98,13 +109,19 @@ committed_more spans fits_one p ps qs ys false (x ∷ xs) ih e =
       shorter = omega (arith, h.shorter);
     }
 
-pub committed : {P X : Type 0} (spans : P → Bool) (fits_one : P → X → Bool) (ps : List P) (xs : List X) (qs : List P) (ys : List X) → reach spans fits_one ps xs ≡ at_span qs ys → Commits (fits spans fits_one ps) (fits spans fits_one qs) ps xs qs ys
+pub committed : {P X : Type 0} (spans : P → Bool) (fits_one : P → X → Bool) (ps : List P)
+    (xs : List X) (qs : List P) (ys : List X)
+    → reach spans fits_one ps xs ≡ at_span qs ys
+    → Commits (fits spans fits_one ps) (fits spans fits_one qs) ps xs qs ys
 committed spans fits_one [] [] qs ys e = absurd (cc)
 committed spans fits_one [] (x ∷ xs) qs ys e = absurd (cc)
 committed spans fits_one (p ∷ ps) xs qs ys e = committed_more spans fits_one p ps qs ys (spans p) xs (λ zs. committed spans fits_one ps zs qs ys) e
 
 -- where a span is reached, the rest of the search is that behind the span
-pub search_after : {P X : Type 0} (spans : P → Bool) (fits_one : P → X → Bool) (ps : List P) (xs : List X) (qs : List P) (ys : List X) → at_span qs ys ≡ reach spans fits_one ps xs → at_some_end (fits spans fits_one ps) xs ≡ at_some_end (fits spans fits_one qs) ys
+pub search_after : {P X : Type 0} (spans : P → Bool) (fits_one : P → X → Bool) (ps : List P)
+    (xs : List X) (qs : List P) (ys : List X)
+    → at_span qs ys ≡ reach spans fits_one ps xs
+    → at_some_end (fits spans fits_one ps) xs ≡ at_some_end (fits spans fits_one qs) ys
 search_after spans fits_one ps xs qs ys e =
     same_truth (at_some_end (fits spans fits_one ps) xs) (at_some_end (fits spans fits_one qs) ys) (committed spans fits_one ps xs qs ys (sym e)).ahead
     (λ h. here (fits spans fits_one ps) xs (fits-reach spans fits_one ps xs ∙ ap (by_reach spans fits_one) (sym e) ∙ h))
@@ -116,7 +133,10 @@ skipped : (a b : Bool) → a ≡ false → (a || b) ≡ b
 skipped true b e = absurd (cc)
 skipped false b e = refl
 
-pub search_on : {P X : Type 0} (spans : P → Bool) (fits_one : P → X → Bool) (ps : List P) (x : X) (xs : List X) → fails ≡ reach spans fits_one ps (x ∷ xs) → at_some_end (fits spans fits_one ps) (x ∷ xs) ≡ at_some_end (fits spans fits_one ps) xs
+pub search_on : {P X : Type 0} (spans : P → Bool) (fits_one : P → X → Bool) (ps : List P) (x : X)
+    (xs : List X)
+    → fails ≡ reach spans fits_one ps (x ∷ xs)
+    → at_some_end (fits spans fits_one ps) (x ∷ xs) ≡ at_some_end (fits spans fits_one ps) xs
 search_on spans fits_one ps x xs e = skipped (fits spans fits_one ps (x ∷ xs)) _ (fits-reach spans fits_one ps (x ∷ xs) ∙ ap (by_reach spans fits_one) (sym e))
 
 pub search_ends : {P X : Type 0} (spans : P → Bool) (fits_one : P → X → Bool) (ps : List P) → fails ≡ reach spans fits_one ps [] → at_some_end (fits spans fits_one ps) [] ≡ false

@@ -54,8 +54,11 @@ unfoldable pub from_rest : Bool → Bool → Bool → List ℕ → Result (Optio
 from_rest negated folders_only anchored cs =
     if is_empty cs then Ok None
     else and_then (segments_from (unanchored anchored cs) (slice_split is_slash cs))
-    (λ ss. Ok
-    (Some (record { negated = negated; folders_only = folders_only; segments = closed ss })))
+    (λ ss. Ok (Some (record {
+      negated = negated;
+      folders_only = folders_only;
+      segments = closed ss;
+    })))
 
 -- one slash at the front anchors and is taken away
 unfoldable pub from_front : Bool → Bool → List ℕ → Result (Option Pattern) PatternError

@@ -9,8 +9,8 @@ use Rattle.tokei_ignore.specs.declared.matching.PathReach.{PathReach}
 use Rattle.tokei_ignore.specs.declared.matching.PathReach.TheVariants as in_path
 use Rattle.tokei_ignore.specs.Segments.{spans_characters, fits_character, spans_names, fits_name}
 
--- the signs don't fit, or fit the whole list, or fit up to a sign that spans; signs and items are
--- left
+-- the signs don't fit the list, or fit all of it, or fit it up to a sign that spans: then the signs
+-- behind that one and the items that are left
 pub data Reach (P X : Type 0) : Type 0 where
   fails : Reach P X
   done : Reach P X

@@ -89,10 +89,18 @@ named (r ∷ rs) (suc k) word h once is =
     ∙ ap (option_map suc) (named rs k word within (right_false _ _ once) is)
 
 pub named_by_name : (rows : List Row) (k : ℕ) → k < length rows → names_twice rows ≡ false → first_where (has_name (row_at rows k).name) rows ≡ Some k
-named_by_name rows k h once = named rows k (row_at rows k).name h once (right_true (bytes_eq (row_at rows k).key (row_at rows k).name) (bytes_eq (row_at rows k).name (row_at rows k).name) ((bytes_eq-Decides (row_at rows k).name (row_at rows k).name).1 refl))
+named_by_name rows k h once =
+    named rows k (row_at rows k).name h once (right_true
+    (bytes_eq (row_at rows k).key (row_at rows k).name)
+    (bytes_eq (row_at rows k).name (row_at rows k).name)
+    ((bytes_eq-Decides (row_at rows k).name (row_at rows k).name).1 refl))
 
 pub named_by_key : (rows : List Row) (k : ℕ) → k < length rows → names_twice rows ≡ false → first_where (has_name (row_at rows k).key) rows ≡ Some k
-named_by_key rows k h once = named rows k (row_at rows k).key h once (left_true (bytes_eq (row_at rows k).key (row_at rows k).key) (bytes_eq (row_at rows k).name (row_at rows k).key) ((bytes_eq-Decides (row_at rows k).key (row_at rows k).key).1 refl))
+named_by_key rows k h once =
+    named rows k (row_at rows k).key h once (left_true
+    (bytes_eq (row_at rows k).key (row_at rows k).key)
+    (bytes_eq (row_at rows k).name (row_at rows k).key)
+    ((bytes_eq-Decides (row_at rows k).key (row_at rows k).key).1 refl))
 
 -- `Total` names no language
 pub total_unnamed : (rows : List Row) → list_any is_total rows ≡ false → first_where (has_name (codes "Total")) rows ≡ None

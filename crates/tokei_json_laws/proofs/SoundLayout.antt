@@ -60,7 +60,10 @@ module _ (rows : List Row) where
   unfolding is_language has_counts
   language_stands l =
       both (all_items is_report (items_of (map (report_data rows) l.reports)) && all_reports (named_data rows (reports_data rows) l.children no_members)) true
-      (both (all_items is_report (items_of (map (report_data rows) l.reports))) (all_reports (named_data rows (reports_data rows) l.children no_members)) (reports_stand l.reports) (children_stand l.children)) refl
+      (both (all_items is_report (items_of (map (report_data rows) l.reports)))
+      (all_reports (named_data rows (reports_data rows) l.children no_members))
+      (reports_stand l.reports) (children_stand l.children))
+      refl
 
   pub document_stands : (es : List (ℕ × LanguageValue)) → has_layout (document rows es) ≡ true
   unfolding has_layout document
@@ -69,7 +72,10 @@ module _ (rows : List Row) where
       let total : Data = language_data rows (total_of es) in
       let languages : AllMembers IsTotalOrLanguage (put (codes "Total") total ms) =
       all_put IsTotalOrLanguage (codes "Total") total ms (right_true (bytes_eq (codes "Total") (codes "Total")) (is_language total) (language_stands (total_of es)))
-      (all_named IsTotalOrLanguage rows (language_data rows) es no_members (λ k l. right_true (bytes_eq (name_of rows k) (codes "Total")) (is_language (language_data rows l)) (language_stands l)) tt) in
+      (all_named IsTotalOrLanguage rows (language_data rows) es no_members
+      (λ k l. right_true (bytes_eq (name_of rows k) (codes "Total"))
+      (is_language (language_data rows l)) (language_stands l))
+      tt) in
       both (not (has_float (document rows es))) _ (ap not (whole_document rows es))
       (both (is_some (get_member (codes "Total") (put (codes "Total") total ms))) (are_languages (put (codes "Total") total ms))
       (ap is_some (get_member-put (codes "Total") total ms)) (all_are_languages (put (codes "Total") total ms) languages))

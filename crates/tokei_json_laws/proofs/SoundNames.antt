@@ -145,7 +145,11 @@ module _ (rows : List Row) where
       entries_accepted : (es : List (ℕ × LanguageValue)) → LanguagesAreSound (length rows) es → AllByRecursion (λ e. TopPasses (name_of rows e.0) (language_data rows e.1)) es
       entries_accepted [] h = tt
       entries_accepted (e ∷ es) h = (
-        (inr (record { language = e.0; within = h.0; name = refl }), right_true (bytes_eq (name_of rows e.0) (codes "Total")) (language_passes test (language_data rows e.1)) (language_accepted e.1 h.1.0)),
+        (
+          inr (record { language = e.0; within = h.0; name = refl }),
+          right_true (bytes_eq (name_of rows e.0) (codes "Total"))
+              (language_passes test (language_data rows e.1)) (language_accepted e.1 h.1.0),
+        ),
         entries_accepted es h.1.1,
       )
 

@@ -15,7 +15,11 @@ use Rattle.tokei_parts.specs.declared.items.Kind.TheVariants.{DocString, Verbati
 use Rattle.tokei_table.specs.Row.{Row, Pair}
 
 -- an item with a body has the marks of its opener, its body and, where that is closed, its closer
-pub marks-enclosing_item : (c : Chain) (k : Kind) (p : Pair) (is : Items) (closed : Bool) → marks_of c (enclosing_item k p is closed) ≡ of_choice (enclosure k p ∷ c) p.opener ++ (marks (enclosure k p ∷ c) is ++ cond closed (closing (enclosure k p ∷ c) c p.closer) [])
+pub marks-enclosing_item : (c : Chain) (k : Kind) (p : Pair) (is : Items) (closed : Bool)
+    → marks_of c (enclosing_item k p is closed)
+    ≡ of_choice (enclosure k p ∷ c) p.opener
+    ++ (marks (enclosure k p ∷ c) is
+    ++ cond closed (closing (enclosure k p ∷ c) c p.closer) [])
 unfolding marks
 marks-enclosing_item c DocString p is closed = refl
 marks-enclosing_item c VerbatimString p is closed = refl
@@ -105,12 +109,21 @@ module _ (g : Row) (block : ℕ → List ℕ → Option Block) where
         pass_body : (p : Pair) → 0 < length p.opener → chosen (passes_over p) → body l c (b ∷ t) ≡ before (passed_over p) (length p.opener) (body l c (drop (length p.opener) (b ∷ t)))
         pass_body p h e = by_choice (passes_over p) e ∙ (ap (before (passed_over p) (length p.opener)) (derive_less_by b t (length p.opener) l (innermost c) h))
 
-    pub marks_ahead-rest : 0 < length (first_line (b ∷ t)) → chosen begins_line_comment → marks_ahead l c (b ∷ t) ≡ of_choice c (first_line (b ∷ t)) ++ marks_ahead l c (drop (length (first_line (b ∷ t))) (b ∷ t))
+    pub marks_ahead-rest : 0 < length (first_line (b ∷ t)) → chosen begins_line_comment
+        → marks_ahead l c (b ∷ t)
+        ≡ of_choice c (first_line (b ∷ t))
+        ++ marks_ahead l c (drop (length (first_line (b ∷ t))) (b ∷ t))
     unfolding marks derive
     marks_ahead-rest h e = marks_ahead-item l c (b ∷ t) (line_comment (first_line (b ∷ t))) (length (first_line (b ∷ t))) (rest_body h e)
       where
-        rest_body : 0 < length (first_line (b ∷ t)) → chosen begins_line_comment → body l c (b ∷ t) ≡ before (line_comment (first_line (b ∷ t))) (length (first_line (b ∷ t))) (body l c (drop (length (first_line (b ∷ t))) (b ∷ t)))
-        rest_body h e = by_choice begins_line_comment e ∙ (ap (before (line_comment (first_line (b ∷ t))) (length (first_line (b ∷ t)))) (derive_less_by b t (length (first_line (b ∷ t))) l (innermost c) h))
+        rest_body : 0 < length (first_line (b ∷ t)) → chosen begins_line_comment
+            → body l c (b ∷ t)
+            ≡ before (line_comment (first_line (b ∷ t))) (length (first_line (b ∷ t)))
+            (body l c (drop (length (first_line (b ∷ t))) (b ∷ t)))
+        rest_body h e =
+            by_choice begins_line_comment e
+            ∙ (ap (before (line_comment (first_line (b ∷ t))) (length (first_line (b ∷ t))))
+            (derive_less_by b t (length (first_line (b ∷ t))) l (innermost c) h))
 
     opened_by_end : (k : Kind) (p : Pair) → 0 < length p.opener → (is : Items) (n : ℕ) (closed : Bool)
         → derive g block (drop (length p.opener) (b ∷ t)) 0 l (Some (enclosure k p)) ≡ record { items = is; taken = n; closed = closed }
@@ -136,18 +149,27 @@ module _ (g : Row) (block : ℕ → List ℕ → Option Block) where
         ∙ ap (λ (w : Body). of_choice hs p.opener ++ (marks hs w.items ++ cond w.closed (closing hs c p.closer ++ marks_ahead l c (drop w.taken (drop (length p.opener) (b ∷ t)))) [])) (sym d)
 
     -- behind an opener the item that it opens holds the place
-    pub marks_ahead-opener : (k : Kind) (p : Pair) → 0 < length p.opener → chosen (opens k p) → marks_ahead l c (b ∷ t) ≡ of_choice (enclosure k p ∷ c) p.opener ++ marks_ahead l (enclosure k p ∷ c) (drop (length p.opener) (b ∷ t))
+    pub marks_ahead-opener : (k : Kind) (p : Pair) → 0 < length p.opener → chosen (opens k p)
+        → marks_ahead l c (b ∷ t)
+        ≡ of_choice (enclosure k p ∷ c) p.opener
+        ++ marks_ahead l (enclosure k p ∷ c) (drop (length p.opener) (b ∷ t))
     marks_ahead-opener k p h e =
         let inner : Body = derive g block t (length p.opener - 1) l (Some (enclosure k p)) in
         opened_by_end k p h inner.items inner.taken inner.closed (sym (derive_less_by b t (length p.opener) l (Some (enclosure k p)) h)) (by_choice (opens k p) e)
 
   -- behind a closer the items around hold the place
-  pub marks_ahead-closer : (l : ℕ) (h : Enclosure) (c : Chain) (b : ℕ) (t : List ℕ) → chosen l (h ∷ c) b t closes → marks_ahead l (h ∷ c) (b ∷ t) ≡ closing (h ∷ c) c h.closer ++ marks_ahead l c (drop (length h.closer) (b ∷ t))
+  pub marks_ahead-closer : (l : ℕ) (h : Enclosure) (c : Chain) (b : ℕ) (t : List ℕ)
+      → chosen l (h ∷ c) b t closes
+      → marks_ahead l (h ∷ c) (b ∷ t)
+      ≡ closing (h ∷ c) c h.closer ++ marks_ahead l c (drop (length h.closer) (b ∷ t))
   unfolding marks_ahead_of marks
   marks_ahead-closer l h c b t e =
       ap (λ (w : Body). marks (h ∷ c) w.items ++ cond w.closed (closing (h ∷ c) c h.closer ++ marks_ahead l c (drop w.taken (b ∷ t))) []) (by_choice l (h ∷ c) b t closes e)
 
-  pub marks_ahead-child : (l : ℕ) (b : ℕ) (t : List ℕ) (k : Block) → 0 < k.size → chosen l [] b t (child_opens k) → marks_ahead l [] (b ∷ t) ≡ child_at k ∷ marks_ahead (length (b ∷ t) - k.size) [] (drop k.size (b ∷ t))
+  pub marks_ahead-child : (l : ℕ) (b : ℕ) (t : List ℕ) (k : Block) → 0 < k.size
+      → chosen l [] b t (child_opens k)
+      → marks_ahead l [] (b ∷ t)
+      ≡ child_at k ∷ marks_ahead (length (b ∷ t) - k.size) [] (drop k.size (b ∷ t))
   unfolding marks_ahead_of marks
   marks_ahead-child l b t k h e =
       ap (λ (w : Body). marks [] w.items) (by_choice l [] b t (child_opens k) e ∙ ap (before (child k (take k.size (b ∷ t))) k.size) (derive_less_by b t k.size (length (b ∷ t) - k.size) None h))

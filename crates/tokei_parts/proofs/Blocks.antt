@@ -55,7 +55,11 @@ first_of_two (Some b) q k rest f g e = f e
 
 module _ (rows : List Row) (language : ℕ) (text : List ℕ) where
   element_within : (tag : Tag) (part : List ℕ) (place : ℕ) (rest : List ℕ) (k : Block) → element_at rows language tag part place rest ≡ Some k → IsWithin k rest
-  element_within tag part place rest k e = mapped (element_child rows language tag) (tag_block tag part place rest) k rest (λ b f. reaches (element_child rows language tag b) b.size b.contents rest refl (tag_reach tag part rest place b f)) e
+  element_within tag part place rest k e =
+      mapped (element_child rows language tag) (tag_block tag part place rest) k rest
+      (λ b f. reaches (element_child rows language tag b) b.size b.contents rest refl
+      (tag_reach tag part rest place b f))
+      e
 
   by_within : (f : Family) (part tail : List ℕ) (place : ℕ) (rest : List ℕ) (k : Block) → rest ≡ drop place part ++ tail → block_by f rows language text part place rest ≡ Some k → IsWithin k rest
   by_within Plain part tail place rest k r e = cc
@@ -65,9 +69,16 @@ module _ (rows : List Row) (language : ℕ) (text : List ℕ) where
   by_within HtmlLike part tail place rest k r e =
       first_of_two (element_at rows language Script part place rest) (first_block (element_at rows language Style part place rest) (element_at rows language Template part place rest)) k rest
       (element_within Script part place rest k)
-      (first_of_two (element_at rows language Style part place rest) (element_at rows language Template part place rest) k rest (element_within Style part place rest k) (element_within Template part place rest k)) e
+      (first_of_two (element_at rows language Style part place rest)
+      (element_at rows language Template part place rest) k rest
+      (element_within Style part place rest k) (element_within Template part place rest k))
+      e
   by_within Rust part tail place rest k r e = mapped (doc_child rows language) (doc_block rest) k rest (λ b f. reaches (doc_child rows language b) b.size b.contents rest refl (doc_reach rest b f)) e
-  by_within LinguaFranca part tail place rest k r e = mapped (target_child rows language text) (target_block part place rest) k rest (λ b f. reaches (target_child rows language text b) b.size b.contents rest refl (target_reach part rest tail place b r f)) e
+  by_within LinguaFranca part tail place rest k r e =
+      mapped (target_child rows language text) (target_block part place rest) k rest
+      (λ b f. reaches (target_child rows language text b) b.size b.contents rest refl
+      (target_reach part rest tail place b r f))
+      e
   by_within Jupyter part tail place rest k r e = cc
 
   by_newline : (f : Family) (part tail : List ℕ) (place : ℕ) (t : List ℕ) → 10 ∷ t ≡ drop place part ++ tail → block_by f rows language text part place (10 ∷ t) ≡ None
@@ -75,7 +86,11 @@ module _ (rows : List Row) (language : ℕ) (text : List ℕ) where
   by_newline Markdown part tail place t r = ap (option_and_then (fence_child rows)) (none_at_newline part t tail place r).fence
   by_newline HtmlLike part tail place t r =
       let n = none_at_newline part t tail place r in
-      ap (λ o. first_block (option_map (element_child rows language Script) o) (first_block (element_at rows language Style part place (10 ∷ t)) (element_at rows language Template part place (10 ∷ t)))) (n.tag Script)
+      ap
+      (λ o. first_block (option_map (element_child rows language Script) o)
+      (first_block (element_at rows language Style part place (10 ∷ t))
+      (element_at rows language Template part place (10 ∷ t))))
+      (n.tag Script)
       ∙ ap (λ o. first_block (option_map (element_child rows language Style) o) (element_at rows language Template part place (10 ∷ t))) (n.tag Style)
       ∙ ap (option_map (element_child rows language Template)) (n.tag Template)
   by_newline Rust part tail place t r = ap (option_map (doc_child rows language)) (none_at_newline part t tail place r).doc
@@ -97,13 +112,22 @@ no_child_fits = record { in_line = record { none = λ l u. refl }; some = λ l t
 
 block_in_fits : (rows : List Row) (language : ℕ) (text : List ℕ) → FitsBlocks (block_in rows language text)
 block_in_fits rows language text = record {
-  in_line = record { none = λ l u. let p = in_part (part_front text l (10 ∷ u)) (10 ∷ u) in by_newline rows language text (family_of (row_at rows language).key) (part_front text l (10 ∷ u) ++ first_line (10 ∷ u)) p.0 (length (part_front text l (10 ∷ u))) u p.1 };
+  in_line =
+      record {
+        none = λ l u. let p = in_part (part_front text l (10 ∷ u)) (10 ∷ u) in by_newline
+            rows language text (family_of (row_at rows language).key)
+            (part_front text l (10 ∷ u) ++ first_line (10 ∷ u)) p.0
+            (length (part_front text l (10 ∷ u))) u p.1;
+      };
   some = λ l t k e. (held l t k e).some;
   within = λ l t k e. (held l t k e).within;
 }
   where
     held : (l : ℕ) (t : List ℕ) (k : Block) → block_in rows language text l t ≡ Some k → IsWithin k t
-    held l t k e = let p = in_part (part_front text l t) t in by_within rows language text (family_of (row_at rows language).key) (part_front text l t ++ first_line t) p.0 (length (part_front text l t)) t k p.1 e
+    held l t k e =
+        let p = in_part (part_front text l t) t
+        in by_within rows language text (family_of (row_at rows language).key)
+        (part_front text l t ++ first_line t) p.0 (length (part_front text l t)) t k p.1 e
 
 pub by_levels : (rows : List Row) (language : ℕ) (text : List ℕ) (n : ℕ) → FitsBlocks (blocks_at (block_in rows) n language text)
 by_levels rows language text zero = no_child_fits

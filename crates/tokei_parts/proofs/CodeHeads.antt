@@ -87,12 +87,42 @@ module _ (g : Row) (s : IsSound g) (m : Matchers) (is : m ≡ matchers_of g) (do
   unfolding class_of
   by_rules t a t' b w e f blank h k =
       let no_line : any_begins g.line_comment (head_of g t) ≡ false = by_columns (keeps_columns g.key) in
-      let no_enclosed : (encloses g.multi_line_comments (trim t) || encloses g.nested_comments (trim t)) ≡ false = ap (λ u. encloses g.multi_line_comments u || encloses g.nested_comments u) f ∙ ap (λ x. x || encloses g.nested_comments (b ∷ w)) k.multi_line ∙ k.nested in
+      let no_enclosed : (encloses g.multi_line_comments (trim t)
+      || encloses g.nested_comments (trim t))
+      ≡ false =
+      ap (λ u. encloses g.multi_line_comments u || encloses g.nested_comments u) f
+      ∙ ap (λ x. x || encloses g.nested_comments (b ∷ w)) k.multi_line ∙ k.nested in
       let no_ended : ends_opened g (head_of g t) ended ≡ false = by_mode (in_comment ended) ∙ by_opened (keeps_columns g.key) in
-      ap (λ x. cond x Blank (cond g.literate Comment (cond (in_doc_string ended && docs_are_comments) Comment (cond (in_string ended) Code (cond (any_begins g.line_comment (head_of g t)) Comment (cond (encloses g.multi_line_comments (trim t) || encloses g.nested_comments (trim t)) Comment (cond (ends_opened g (head_of g t) ended) Comment Code))))))) blank
-      ∙ ap (λ x. cond x Comment (cond (in_doc_string ended && docs_are_comments) Comment (cond (in_string ended) Code (cond (any_begins g.line_comment (head_of g t)) Comment (cond (encloses g.multi_line_comments (trim t) || encloses g.nested_comments (trim t)) Comment (cond (ends_opened g (head_of g t) ended) Comment Code)))))) plain
-      ∙ ap (λ x. cond (x && docs_are_comments) Comment (cond (in_string ended) Code (cond (any_begins g.line_comment (head_of g t)) Comment (cond (encloses g.multi_line_comments (trim t) || encloses g.nested_comments (trim t)) Comment (cond (ends_opened g (head_of g t) ended) Comment Code))))) no_doc
-      ∙ ap (λ x. cond (in_string ended) Code (cond x Comment (cond (encloses g.multi_line_comments (trim t) || encloses g.nested_comments (trim t)) Comment (cond (ends_opened g (head_of g t) ended) Comment Code)))) no_line
+      ap
+      (λ x. cond x Blank (cond g.literate Comment (cond
+      (in_doc_string ended && docs_are_comments) Comment
+      (cond (in_string ended) Code (cond (any_begins g.line_comment (head_of g t)) Comment
+      (cond
+      (encloses g.multi_line_comments (trim t)
+      || encloses g.nested_comments (trim t))
+      Comment (cond (ends_opened g (head_of g t) ended) Comment Code)))))))
+      blank
+      ∙ ap
+      (λ x. cond x Comment (cond (in_doc_string ended && docs_are_comments) Comment
+      (cond (in_string ended) Code (cond (any_begins g.line_comment (head_of g t)) Comment
+      (cond
+      (encloses g.multi_line_comments (trim t)
+      || encloses g.nested_comments (trim t))
+      Comment (cond (ends_opened g (head_of g t) ended) Comment Code))))))
+      plain
+      ∙ ap
+      (λ x. cond (x && docs_are_comments) Comment (cond (in_string ended) Code
+      (cond (any_begins g.line_comment (head_of g t)) Comment
+      (cond
+      (encloses g.multi_line_comments (trim t)
+      || encloses g.nested_comments (trim t))
+      Comment (cond (ends_opened g (head_of g t) ended) Comment Code)))))
+      no_doc
+      ∙ ap
+      (λ x. cond (in_string ended) Code (cond x Comment (cond
+      (encloses g.multi_line_comments (trim t) || encloses g.nested_comments (trim t))
+      Comment (cond (ends_opened g (head_of g t) ended) Comment Code))))
+      no_line
       ∙ ap (λ x. cond (in_string ended) Code (cond x Comment (cond (ends_opened g (head_of g t) ended) Comment Code))) no_enclosed
       ∙ ap (λ x. cond (in_string ended) Code (cond x Comment Code)) no_ended
       ∙ both (in_string ended)
@@ -106,8 +136,14 @@ module _ (g : Row) (s : IsSound g) (m : Matchers) (is : m ≡ matchers_of g) (do
       by_columns false = ap (any_begins g.line_comment) f ∙ k.line
 
       none_opens : (x : Bool) (c : List ℕ) → (opens_with g.multi_line_comments (cond x t (trim t)) c || opens_with g.nested_comments (cond x t (trim t)) c) ≡ false
-      none_opens true c = ap (λ u. opens_with g.multi_line_comments u c || opens_with g.nested_comments u c) e ∙ ap (λ y. y || opens_with g.nested_comments (a ∷ t') c) (h.opens_multi_line c) ∙ h.opens_nested c
-      none_opens false c = ap (λ u. opens_with g.multi_line_comments u c || opens_with g.nested_comments u c) f ∙ ap (λ y. y || opens_with g.nested_comments (b ∷ w) c) (k.opens_multi_line c) ∙ k.opens_nested c
+      none_opens true c =
+          ap (λ u. opens_with g.multi_line_comments u c || opens_with g.nested_comments u c) e
+          ∙ ap (λ y. y || opens_with g.nested_comments (a ∷ t') c) (h.opens_multi_line c)
+          ∙ h.opens_nested c
+      none_opens false c =
+          ap (λ u. opens_with g.multi_line_comments u c || opens_with g.nested_comments u c) f
+          ∙ ap (λ y. y || opens_with g.nested_comments (b ∷ w) c) (k.opens_multi_line c)
+          ∙ k.opens_nested c
 
       by_mode : (y : Bool) → (y && (opens_with g.multi_line_comments (head_of g t) (closer_of ended) || opens_with g.nested_comments (head_of g t) (closer_of ended))) ≡ (y && false)
       by_mode y = ap (λ z. y && z) (none_opens (keeps_columns g.key) (closer_of ended))
@@ -122,7 +158,9 @@ module _ (g : Row) (s : IsSound g) (m : Matchers) (is : m ≡ matchers_of g) (do
   pub code_head : (t : List ℕ) → HasCodeHead m t → class_of g docs_are_comments (record { begun = None; bytes = t; ended = ended }) ≡ Code
   code_head t h = by_front t refl (trim_start t) refl h.first h.head
     where
-      by_front : (u : List ℕ) → t ≡ u → (v : List ℕ) → trim_start t ≡ v → FrontBeginsNone m u → FrontBeginsNone m v → class_of g docs_are_comments (record { begun = None; bytes = t; ended = ended }) ≡ Code
+      by_front : (u : List ℕ) → t ≡ u → (v : List ℕ) → trim_start t ≡ v → FrontBeginsNone m u
+          → FrontBeginsNone m v
+          → class_of g docs_are_comments (record { begun = None; bytes = t; ended = ended }) ≡ Code
       by_front [] e v f i k = absurd i
       by_front (a ∷ u) e [] f i k = absurd k
       by_front (a ∷ u) e (b ∷ w) f i k =
@@ -146,7 +184,9 @@ head_not_blank m t [] e k = absurd k
 head_not_blank m t (b ∷ w) e k = front_not_blank t b w e
 
 -- in a literate language a part with such a head is a comment
-pub literate_head : (g : Row) (docs_are_comments : Bool) (m : Matchers) (t : List ℕ) (ended : Mode) → g.literate ≡ true → HasCodeHead m t → class_of g docs_are_comments (record { begun = None; bytes = t; ended = ended }) ≡ Comment
+pub literate_head : (g : Row) (docs_are_comments : Bool) (m : Matchers) (t : List ℕ) (ended : Mode)
+    → g.literate ≡ true → HasCodeHead m t
+    → class_of g docs_are_comments (record { begun = None; bytes = t; ended = ended }) ≡ Comment
 unfolding class_of
 literate_head g docs_are_comments m t ended literate h = rw (head_not_blank m t (trim_start t) refl h.head, literate) refl
 
@@ -185,7 +225,11 @@ module _ (t : List ℕ) (i j h : ℕ) (low : i ≤ h) (high : h ≤ j) (within :
   pub code_front : (m : Matchers) → h < j → BeginsNone m (get_or t i 0) → BeginsNone m (get_or t h 0) → HasCodeHead m part
   code_front m l a b = record {
     first = begun_at m part 0 (omega (arith, length-part)) (subst (BeginsNone m) (ap (λ p. get_or t p 0) (omega arith) ∙ sym (byte_at 0 (omega arith))) a);
-    head = subst (FrontBeginsNone m) (sym front_is) (begun_at m part (h - i) (omega (arith, length-part)) (subst (BeginsNone m) (ap (λ p. get_or t p 0) (omega arith) ∙ sym (byte_at (h - i) (omega arith))) b));
+    head =
+        subst (FrontBeginsNone m) (sym front_is) (begun_at m part (h - i)
+        (omega (arith, length-part))
+        (subst (BeginsNone m)
+        (ap (λ p. get_or t p 0) (omega arith) ∙ sym (byte_at (h - i) (omega arith))) b));
   }
 
 -- a part that began in a comment and doesn't end in a string is a comment
@@ -199,7 +243,9 @@ not_doc (Some e) h = by_kind e.kind h
     by_kind OrdinaryString h = cc
     by_kind MultiLineComment h = refl
 
-pub comment_part : (g : Row) (docs_are_comments : Bool) (t : List ℕ) (begun ended : Mode) → in_comment begun ≡ true → in_string ended ≡ false → class_of g docs_are_comments (record { begun = begun; bytes = t; ended = ended }) ≡ Comment
+pub comment_part : (g : Row) (docs_are_comments : Bool) (t : List ℕ) (begun ended : Mode)
+    → in_comment begun ≡ true → in_string ended ≡ false
+    → class_of g docs_are_comments (record { begun = begun; bytes = t; ended = ended }) ≡ Comment
 unfolding class_of
 comment_part g docs_are_comments t None ended b e = cc
 comment_part g docs_are_comments t (Some x) ended b e = rw (not_doc ended e) (rw e (rw b (both g.literate)))

@@ -49,7 +49,9 @@ token_local (x ∷ p) u h b =
     record { some = omega arith; one_line = one_line; fits = both.0; reads = both.1 }
 
 -- what a search finds passes the test, and what holds of each element
-found_by : {A : Type 0} (test each : A → Bool) (y : A) (r : Option A) (x : A) (b : Bool) → test y ≡ b → each y ≡ true → (r ≡ Some x → (each x ≡ true) × (test x ≡ true)) → cond b (Some y) r ≡ Some x → (each x ≡ true) × (test x ≡ true)
+found_by : {A : Type 0} (test each : A → Bool) (y : A) (r : Option A) (x : A) (b : Bool)
+    → test y ≡ b → each y ≡ true → (r ≡ Some x → (each x ≡ true) × (test x ≡ true))
+    → cond b (Some y) r ≡ Some x → (each x ≡ true) × (test x ≡ true)
 found_by test each y r x true t h rec e =
     let same : y ≡ x = cc in
     (ap each (sym same) ∙ h, ap test (sym same) ∙ t)

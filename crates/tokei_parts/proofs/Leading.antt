@@ -100,13 +100,23 @@ length-take_some : (n b : ℕ) (t : List ℕ) → 0 < n → 0 < length (take n (
 length-take_some zero b t h = absurd (omega arith)
 length-take_some (suc n) b t h = omega arith
 
-ends_part : (m e : Mode) (b : ℕ) (t : List ℕ) (n : ℕ) (x : Bool) → drop (cond x 0 (suc n)) (b ∷ t) ≡ [] → cut m (take (cond x 0 (suc n)) (b ∷ t)) e [] ≡ record { begun = m; bytes = take (cond x 0 (suc n)) (b ∷ t); ended = e } ∷ cut e [] e []
+ends_part : (m e : Mode) (b : ℕ) (t : List ℕ) (n : ℕ) (x : Bool)
+    → drop (cond x 0 (suc n)) (b ∷ t) ≡ []
+    → cut m (take (cond x 0 (suc n)) (b ∷ t)) e []
+    ≡ record { begun = m; bytes = take (cond x 0 (suc n)) (b ∷ t); ended = e } ∷ cut e [] e []
 unfolding cut
 ends_part m e b t n true h = cc
 ends_part m e b t n false h = refl
 
 ends_stretch : (m e : Mode) (j b : ℕ) (t : List ℕ) (n : ℕ) (x : Bool) → drop (cond x 0 (suc n)) (b ∷ t) ≡ []
-    → running m (take (cond x 0 (suc n)) (b ∷ t)) j [] [] ≡ record { begun = m; reach = take (cond x 0 (suc n)) (b ∷ t); size = length (take (cond x 0 (suc n)) (b ∷ t)); choices = j } ∷ running e [] 0 [] []
+    → running m (take (cond x 0 (suc n)) (b ∷ t)) j [] []
+    ≡ record {
+      begun = m;
+      reach = take (cond x 0 (suc n)) (b ∷ t);
+      size = length (take (cond x 0 (suc n)) (b ∷ t));
+      choices = j;
+    }
+    ∷ running e [] 0 [] []
 unfolding running
 ends_stretch m e j b t n true h = cc
 ends_stretch m e j b t n false h = refl
@@ -133,7 +143,10 @@ module _ (g : Row) (block : ℕ → List ℕ → Option Block) (l : ℕ) where
     within = omega arith;
     same = λ m s. ap (λ w. cut m w (innermost c) (marks_ahead g block l c t)) (sym (append-nil s));
     kids = refl;
-    choices = λ m s k. let none : k ≡ k + 0 = omega arith in ap (λ w. running m w k t (marks_ahead g block l c t)) (sym (append-nil s)) ∙ ap (λ w. running m (s ++ []) w t (marks_ahead g block l c t)) none;
+    choices =
+        λ m s k. let none : k ≡ k + 0 = omega arith
+        in ap (λ w. running m w k t (marks_ahead g block l c t)) (sym (append-nil s))
+        ∙ ap (λ w. running m (s ++ []) w t (marks_ahead g block l c t)) none;
   }
 
   pub lead_on : (c d e : Chain) (n k x y : ℕ) (t : List ℕ) → Goes c n x d t → Goes d k y e (drop n t) → Goes c (n + k) (x + y) e t
@@ -149,7 +162,11 @@ module _ (g : Row) (block : ℕ → List ℕ → Option Block) (l : ℕ) where
         choices = λ m s a.
             let sum : a + x + y ≡ a + (x + y) = omega arith in
             h.choices m s a ∙ j.choices m (s ++ take n t) (a + x)
-            ∙ ap (λ w. running m w (a + x + y) (drop k (drop n t)) (marks_ahead g block l e (drop k (drop n t)))) (append_assoc s (take n t) (take k (drop n t)) ∙ ap (λ w. s ++ w) (sym (take-add n k t)))
+            ∙ ap
+            (λ w. running m w (a + x + y) (drop k (drop n t))
+            (marks_ahead g block l e (drop k (drop n t))))
+            (append_assoc s (take n t) (take k (drop n t))
+            ∙ ap (λ w. s ++ w) (sym (take-add n k t)))
             ∙ ap (λ w. running m (s ++ take (n + k) t) (a + x + y) w (marks_ahead g block l e w)) (drop-drop k n t)
             ∙ ap (λ w. running m (s ++ take (n + k) t) w (drop (n + k) t) (marks_ahead g block l e (drop (n + k) t))) sum;
       }
@@ -217,7 +234,10 @@ module _ (g : Row) (block : ℕ → List ℕ → Option Block) (l : ℕ) where
           within = h;
           same = λ m s. ap (cut m s (innermost c)) e ∙ cut_choice m s (innermost c) c (b ∷ b' ∷ []) (marks_ahead g block l c u) (omega arith) (two_lines (b == 10) (b' == 10) (line_len u) h);
           kids = ap children e;
-          choices = λ m s a. ap (running m s a (b ∷ b' ∷ u)) e ∙ running_choice m s a (b ∷ b' ∷ u) c (b ∷ b' ∷ []) (marks_ahead g block l c u) (omega arith) (two_lines (b == 10) (b' == 10) (line_len u) h);
+          choices =
+              λ m s a. ap (running m s a (b ∷ b' ∷ u)) e
+              ∙ running_choice m s a (b ∷ b' ∷ u) c (b ∷ b' ∷ []) (marks_ahead g block l c u)
+              (omega arith) (two_lines (b == 10) (b' == 10) (line_len u) h);
         }
 
   pub lead_closer : (h : Enclosure) (c : Chain) (b : ℕ) (t : List ℕ) → IsLocal h.closer (b ∷ t) → Here (h ∷ c) b t closes → Goes (h ∷ c) (length h.closer) 1 c (b ∷ t)
@@ -230,8 +250,15 @@ module _ (g : Row) (block : ℕ → List ℕ → Option Block) (l : ℕ) where
   marks_ahead-newline c u s o t = marks_ahead-byte g block l c 10 u (newline_byte g (block l (10 ∷ u)) (innermost c) u s t (o.none l u))
 
   -- a line comment leads to the line's end, and takes a newline there with it
-  pub lead_rest : (c : Chain) (b : ℕ) (t : List ℕ) → IsSound g → OpensInLine block → IsClosed (innermost c) → 0 < line_len (b ∷ t) → Here c b t begins_line_comment → Goes c (line_len (b ∷ t)) (1 - newlines (b ∷ t)) c (b ∷ t)
-  lead_rest c b t s o k h e = record { within = omega arith; same = λ m w. by_end m w (line_split (b ∷ t)); kids = kids_by (line_split (b ∷ t)); choices = λ m w a. choices_by m w a (line_split (b ∷ t)) }
+  pub lead_rest : (c : Chain) (b : ℕ) (t : List ℕ) → IsSound g → OpensInLine block
+      → IsClosed (innermost c) → 0 < line_len (b ∷ t) → Here c b t begins_line_comment
+      → Goes c (line_len (b ∷ t)) (1 - newlines (b ∷ t)) c (b ∷ t)
+  lead_rest c b t s o k h e = record {
+    within = omega arith;
+    same = λ m w. by_end m w (line_split (b ∷ t));
+    kids = kids_by (line_split (b ∷ t));
+    choices = λ m w a. choices_by m w a (line_split (b ∷ t));
+  }
     where
       some_line : (x : Bool) (y : List ℕ) → 0 < length (cond x (b ∷ []) (b ∷ y))
       some_line true y = omega arith
@@ -244,9 +271,16 @@ module _ (g : Row) (block : ℕ → List ℕ → Option Block) (l : ℕ) where
       some_taken = length-take_some (line_len (b ∷ t)) b t h
 
       kids_behind : children (marks_ahead g block l c (b ∷ t)) ≡ children (marks_ahead g block l c (drop (length (first_line (b ∷ t))) (b ∷ t)))
-      kids_behind = ap children all ∙ children-append (of_choice c (first_line (b ∷ t))) (marks_ahead g block l c (drop (length (first_line (b ∷ t))) (b ∷ t))) (children-of_choice c (first_line (b ∷ t)))
+      kids_behind =
+          ap children all
+          ∙ children-append (of_choice c (first_line (b ∷ t)))
+          (marks_ahead g block l c (drop (length (first_line (b ∷ t))) (b ∷ t)))
+          (children-of_choice c (first_line (b ∷ t)))
 
-      by_end : (m : Mode) (w : List ℕ) → Ends (b ∷ t) ⊎ Breaks (b ∷ t) → cut m w (innermost c) (marks_ahead g block l c (b ∷ t)) ≡ cut m (w ++ take (line_len (b ∷ t)) (b ∷ t)) (innermost c) (marks_ahead g block l c (drop (line_len (b ∷ t)) (b ∷ t)))
+      by_end : (m : Mode) (w : List ℕ) → Ends (b ∷ t) ⊎ Breaks (b ∷ t)
+          → cut m w (innermost c) (marks_ahead g block l c (b ∷ t))
+          ≡ cut m (w ++ take (line_len (b ∷ t)) (b ∷ t)) (innermost c)
+          (marks_ahead g block l c (drop (line_len (b ∷ t)) (b ∷ t)))
       by_end m w (inl f) =
           ap (cut m w (innermost c)) (all ∙ ap (λ x. of_choice c x ++ marks_ahead g block l c (drop (length (first_line (b ∷ t))) (b ∷ t))) f.line)
           ∙ cut_choice m w (innermost c) c (take (line_len (b ∷ t)) (b ∷ t)) (marks_ahead g block l c (drop (length (first_line (b ∷ t))) (b ∷ t))) some_taken (line_is_one (b ∷ t))
@@ -263,7 +297,10 @@ module _ (g : Row) (block : ℕ → List ℕ → Option Block) (l : ℕ) where
           ∙ ap (cut m (w ++ take n (b ∷ t)) (innermost c)) (sym (marks_ahead-newline c r s o k) ∙ ap (marks_ahead g block l c) (sym f.left))
 
       choices_by : (m : Mode) (w : List ℕ) (a : ℕ) → Ends (b ∷ t) ⊎ Breaks (b ∷ t)
-          → running m w a (b ∷ t) (marks_ahead g block l c (b ∷ t)) ≡ running m (w ++ take (line_len (b ∷ t)) (b ∷ t)) (a + (1 - newlines (b ∷ t))) (drop (line_len (b ∷ t)) (b ∷ t)) (marks_ahead g block l c (drop (line_len (b ∷ t)) (b ∷ t)))
+          → running m w a (b ∷ t) (marks_ahead g block l c (b ∷ t))
+          ≡ running m (w ++ take (line_len (b ∷ t)) (b ∷ t)) (a + (1 - newlines (b ∷ t)))
+          (drop (line_len (b ∷ t)) (b ∷ t))
+          (marks_ahead g block l c (drop (line_len (b ∷ t)) (b ∷ t)))
       choices_by m w a (inl f) =
           let n : ℕ = line_len (b ∷ t) in
           let p : List ℕ = take n (b ∷ t) in
@@ -302,10 +339,18 @@ module _ (g : Row) (block : ℕ → List ℕ → Option Block) (l : ℕ) where
 
   -- a line that is read through is a part
   pub line_done : (c d : Chain) (b : ℕ) (t : List ℕ) → IsSound g → OpensInLine block → IsClosed (innermost d) → {j : ℕ} → Goes c (line_len (b ∷ t)) j d (b ∷ t)
-      → cut (innermost c) [] (innermost c) (marks_ahead g block l c (b ∷ t)) ≡ record { begun = innermost c; bytes = first_line (b ∷ t); ended = innermost d } ∷ cut (innermost d) [] (innermost d) (marks_ahead g block l d (drop (length (first_line (b ∷ t))) (b ∷ t)))
+      → cut (innermost c) [] (innermost c) (marks_ahead g block l c (b ∷ t))
+      ≡ record { begun = innermost c; bytes = first_line (b ∷ t); ended = innermost d }
+      ∷ cut (innermost d) [] (innermost d)
+      (marks_ahead g block l d (drop (length (first_line (b ∷ t))) (b ∷ t)))
   line_done c d b t s o k h = h.same (innermost c) [] ∙ by_end (line_split (b ∷ t))
     where
-      by_end : Ends (b ∷ t) ⊎ Breaks (b ∷ t) → cut (innermost c) (take (line_len (b ∷ t)) (b ∷ t)) (innermost d) (marks_ahead g block l d (drop (line_len (b ∷ t)) (b ∷ t))) ≡ record { begun = innermost c; bytes = first_line (b ∷ t); ended = innermost d } ∷ cut (innermost d) [] (innermost d) (marks_ahead g block l d (drop (length (first_line (b ∷ t))) (b ∷ t)))
+      by_end : Ends (b ∷ t) ⊎ Breaks (b ∷ t)
+          → cut (innermost c) (take (line_len (b ∷ t)) (b ∷ t)) (innermost d)
+          (marks_ahead g block l d (drop (line_len (b ∷ t)) (b ∷ t)))
+          ≡ record { begun = innermost c; bytes = first_line (b ∷ t); ended = innermost d }
+          ∷ cut (innermost d) [] (innermost d)
+          (marks_ahead g block l d (drop (length (first_line (b ∷ t))) (b ∷ t)))
       by_end (inl f) =
           rw (f.left, f.nothing, f.line, marks_ahead-end g block l d) (ends_part (innermost c) (innermost d) b t (line_len t) (b == 10) f.left)
       by_end (inr f) =
@@ -330,12 +375,26 @@ module _ (g : Row) (block : ℕ → List ℕ → Option Block) (l : ℕ) where
   -- and its choices are those through its end, and the one of its newline
   pub line_choices : (c d : Chain) (b : ℕ) (t : List ℕ) → IsSound g → OpensInLine block → IsClosed (innermost d) → (j : ℕ) → Goes c (line_len (b ∷ t)) j d (b ∷ t)
       → running (innermost c) [] 0 (b ∷ t) (marks_ahead g block l c (b ∷ t))
-      ≡ record { begun = innermost c; reach = first_line (b ∷ t); size = length (first_line (b ∷ t)); choices = j + newlines (b ∷ t) } ∷ running (innermost d) [] 0 (drop (length (first_line (b ∷ t))) (b ∷ t)) (marks_ahead g block l d (drop (length (first_line (b ∷ t))) (b ∷ t)))
+      ≡ record {
+        begun = innermost c;
+        reach = first_line (b ∷ t);
+        size = length (first_line (b ∷ t));
+        choices = j + newlines (b ∷ t);
+      }
+      ∷ running (innermost d) [] 0 (drop (length (first_line (b ∷ t))) (b ∷ t))
+      (marks_ahead g block l d (drop (length (first_line (b ∷ t))) (b ∷ t)))
   line_choices c d b t s o k j h = h.choices (innermost c) [] 0 ∙ by_end (line_split (b ∷ t))
     where
       by_end : Ends (b ∷ t) ⊎ Breaks (b ∷ t)
           → running (innermost c) (take (line_len (b ∷ t)) (b ∷ t)) (0 + j) (drop (line_len (b ∷ t)) (b ∷ t)) (marks_ahead g block l d (drop (line_len (b ∷ t)) (b ∷ t)))
-          ≡ record { begun = innermost c; reach = first_line (b ∷ t); size = length (first_line (b ∷ t)); choices = j + newlines (b ∷ t) } ∷ running (innermost d) [] 0 (drop (length (first_line (b ∷ t))) (b ∷ t)) (marks_ahead g block l d (drop (length (first_line (b ∷ t))) (b ∷ t)))
+          ≡ record {
+            begun = innermost c;
+            reach = first_line (b ∷ t);
+            size = length (first_line (b ∷ t));
+            choices = j + newlines (b ∷ t);
+          }
+          ∷ running (innermost d) [] 0 (drop (length (first_line (b ∷ t))) (b ∷ t))
+          (marks_ahead g block l d (drop (length (first_line (b ∷ t))) (b ∷ t)))
       by_end (inl f) =
           let len : length (take (line_len (b ∷ t)) (b ∷ t)) ≡ line_len (b ∷ t) = length-line (b ∷ t) in
           let whole : length (first_line (b ∷ t)) ≡ length (take (line_len (b ∷ t)) (b ∷ t)) = ap length f.line in
@@ -345,8 +404,24 @@ module _ (g : Row) (block : ℕ → List ℕ → Option Block) (l : ℕ) where
           ∙ ap (running (innermost c) (take (line_len (b ∷ t)) (b ∷ t)) (j + newlines (b ∷ t)) []) (marks_ahead-end g block l d)
           ∙ ends_stretch (innermost c) (innermost d) (j + newlines (b ∷ t)) b t (line_len t) (b == 10) f.left
           ∙ ap (λ x. record { begun = innermost c; reach = x; size = length x; choices = j + newlines (b ∷ t) } ∷ running (innermost d) [] 0 [] []) (sym f.line)
-          ∙ ap (λ x. record { begun = innermost c; reach = first_line (b ∷ t); size = length (first_line (b ∷ t)); choices = j + newlines (b ∷ t) } ∷ running (innermost d) [] 0 [] x) (sym (marks_ahead-end g block l d))
-          ∙ ap (λ x. record { begun = innermost c; reach = first_line (b ∷ t); size = length (first_line (b ∷ t)); choices = j + newlines (b ∷ t) } ∷ running (innermost d) [] 0 x (marks_ahead g block l d x)) (sym f.nothing)
+          ∙ ap
+          (λ x. record {
+            begun = innermost c;
+            reach = first_line (b ∷ t);
+            size = length (first_line (b ∷ t));
+            choices = j + newlines (b ∷ t);
+          }
+          ∷ running (innermost d) [] 0 [] x)
+          (sym (marks_ahead-end g block l d))
+          ∙ ap
+          (λ x. record {
+            begun = innermost c;
+            reach = first_line (b ∷ t);
+            size = length (first_line (b ∷ t));
+            choices = j + newlines (b ∷ t);
+          }
+          ∷ running (innermost d) [] 0 x (marks_ahead g block l d x))
+          (sym f.nothing)
       by_end (inr f) =
           let n : ℕ = line_len (b ∷ t) in
           let p : List ℕ = take n (b ∷ t) in
@@ -360,4 +435,12 @@ module _ (g : Row) (block : ℕ → List ℕ → Option Block) (l : ℕ) where
           ∙ running_newline (innermost c) p (0 + j) u true d (marks_ahead g block l d r)
           ∙ ap (λ x. record { begun = innermost c; reach = p ++ 10 ∷ []; size = length (p ++ 10 ∷ []); choices = x } ∷ running (innermost d) [] 0 (drop 1 u) (marks_ahead g block l d r)) one
           ∙ ap (λ x. record { begun = innermost c; reach = x; size = length x; choices = j + newlines (b ∷ t) } ∷ running (innermost d) [] 0 (drop 1 u) (marks_ahead g block l d r)) (sym f.line)
-          ∙ ap (λ x. record { begun = innermost c; reach = first_line (b ∷ t); size = length (first_line (b ∷ t)); choices = j + newlines (b ∷ t) } ∷ running (innermost d) [] 0 x (marks_ahead g block l d r)) left
+          ∙ ap
+          (λ x. record {
+            begun = innermost c;
+            reach = first_line (b ∷ t);
+            size = length (first_line (b ∷ t));
+            choices = j + newlines (b ∷ t);
+          }
+          ∷ running (innermost d) [] 0 x (marks_ahead g block l d r))
+          left

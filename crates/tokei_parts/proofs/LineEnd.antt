@@ -20,7 +20,10 @@ line_len-behind [] (suc n) l f = absurd (omega arith)
 line_len-behind (b ∷ t) (suc n) l f = rw (f zero (omega arith)) (omega (arith, line_len-behind t n (omega arith) (λ k i. f (suc k) (omega arith))))
 
 -- the first newline from a place on, and what stands behind bytes that are none
-pub newline_at : (text : List ℕ) (at end : ℕ) → at ≤ end → end < length text → (get_or text end 0 == 10) ≡ true → ((k : ℕ) → at ≤ k → k < end → (get_or text k 0 == 10) ≡ false) → end ≡ at + line_len (drop at text)
+pub newline_at : (text : List ℕ) (at end : ℕ) → at ≤ end → end < length text
+    → (get_or text end 0 == 10) ≡ true
+    → ((k : ℕ) → at ≤ k → k < end → (get_or text k 0 == 10) ≡ false)
+    → end ≡ at + line_len (drop at text)
 newline_at text at end low high here before =
     let n : ℕ = end - at in
     let place : at + n ≡ end = omega (arith, low) in
@@ -31,7 +34,9 @@ newline_at text at end low high here before =
     (λ k i. ap (λ b. b == 10) (get_or-drop at text k 0) ∙ before (at + k) (omega arith) (omega (arith, i, low))) in
     omega (arith, is, low)
 
-pub newline_behind : (text : List ℕ) (at end : ℕ) → at ≤ end → end ≤ length text → ((k : ℕ) → at ≤ k → k < end → (get_or text k 0 == 10) ≡ false) → end + line_len (drop end text) ≡ at + line_len (drop at text)
+pub newline_behind : (text : List ℕ) (at end : ℕ) → at ≤ end → end ≤ length text
+    → ((k : ℕ) → at ≤ k → k < end → (get_or text k 0 == 10) ≡ false)
+    → end + line_len (drop end text) ≡ at + line_len (drop at text)
 newline_behind text at end low high before =
     let n : ℕ = end - at in
     let place : at + n ≡ end = omega (arith, low) in

@@ -18,7 +18,9 @@ below_or (suc a) (suc b) = later (below_or a b)
 pub end_within : (text : List ℕ) (at end : ℕ) → at ≤ length text → end ≡ at + line_len (drop at text) → end ≤ length text
 end_within text at end h e = omega (arith, line_len_within (drop at text), length-drop at text)
 
-pub end_is : (text : List ℕ) (at end to : ℕ) → at ≤ length text → end ≡ at + line_len (drop at text) → (end < length text → to ≡ end + 1) → (end ≡ length text → to ≡ end) → to ≡ at + length (first_line (drop at text))
+pub end_is : (text : List ℕ) (at end to : ℕ) → at ≤ length text → end ≡ at + line_len (drop at text)
+    → (end < length text → to ≡ end + 1) → (end ≡ length text → to ≡ end)
+    → to ≡ at + length (first_line (drop at text))
 end_is text at end to h e more last = by_case (below_or end (length text))
   where
     by_case : (end < length text) ⊎ (length text ≤ end) → to ≡ at + length (first_line (drop at text))

@@ -67,7 +67,12 @@ module _ (g : Row) (block : ℕ → List ℕ → Option Block) (l : ℕ) (docs_a
     some = first_some b t;
     within = first_within (b ∷ t);
     closable = k;
-    counts = ap (tally g docs_are_comments) (line_done g block l c d b t s o (top_closed d k) f) ∙ ap (λ w. plus (one_of w) (counts_left g block l docs_are_comments d (drop (length (first_line (b ∷ t))) (b ∷ t)))) (sym e);
+    counts =
+        ap (tally g docs_are_comments) (line_done g block l c d b t s o (top_closed d k) f)
+        ∙ ap
+        (λ w. plus (one_of w) (counts_left g block l docs_are_comments d
+        (drop (length (first_line (b ∷ t))) (b ∷ t))))
+        (sym e);
     kids = line_kids g block l c d b t s o (top_closed d k) f;
     steps = ap (choices_passed (openers g)) (line_choices g block l c d b t s o (top_closed d k) j f)
         ∙ ap (λ w. cond (is_walked (openers g) (innermost c) w) (j + newlines (b ∷ t)) 0 + steps_left g block l d (drop (length (first_line (b ∷ t))) (b ∷ t))) (sym (take-first (b ∷ t)));

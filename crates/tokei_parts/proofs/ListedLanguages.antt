@@ -53,7 +53,11 @@ more i = omega arith
 -- the matchers of one language more
 pub one_more : (rows : List Row) (all : List Matchers) (k i : ℕ) (m : Matchers) → all ≡ map matchers_of (take i rows) → IsPlaced k i (length rows) → m ≡ matchers_of (row_at rows k)
     → all ++ m ∷ [] ≡ map matchers_of (take (i + 1) rows)
-one_more rows all k i m a p e = ap (λ ms. ms ++ m ∷ []) a ∙ ap (λ x. map matchers_of (take i rows) ++ x ∷ []) (e ∙ ap (λ n. matchers_of (row_at rows n)) p.place) ∙ sym (map-append matchers_of (take i rows) (row_at rows i ∷ []))
+one_more rows all k i m a p e =
+    ap (λ ms. ms ++ m ∷ []) a
+    ∙ ap (λ x. map matchers_of (take i rows) ++ x ∷ [])
+    (e ∙ ap (λ n. matchers_of (row_at rows n)) p.place)
+    ∙ sym (map-append matchers_of (take i rows) (row_at rows i ∷ []))
     ∙ ap (map matchers_of) (sym (take-suc rows i (new_row []) p.known) ∙ ap (λ n. take n rows) (more i))
 
 pub listed_all : (rows : List Row) (items : List (ℕ × Bor (List (String Global)))) → map listed items ≡ languages_from 0 rows → length items ≡ length rows

@@ -60,7 +60,11 @@ holds-line os h (b ∷ t) = by_test (b == 10) refl (begins_with_one os (b ∷ t)
         → holds os (cond y (b ∷ []) (b ∷ first_line t)) ≡ below (cond x (Some 0) (option_map suc (first_opener os t))) (length (cond y (b ∷ []) (b ∷ first_line t)))
     by_test true e true f ih = ap (λ w. is_some (cond w (Some 0) (option_map suc (first_opener os [])))) (here true e ∙ f)
     by_test true e false f ih = ap (λ w. is_some (cond w (Some 0) (option_map suc (first_opener os [])))) (here true e ∙ f) ∙ sym (below_one (first_opener os t))
-    by_test false e true f ih = let some : true ≡ nat_lt 0 (suc (length (first_line t))) = grind (arith, nat_tests) in ap (λ w. is_some (cond w (Some 0) (option_map suc (first_opener os (first_line t))))) (here false e ∙ f) ∙ some
+    by_test false e true f ih =
+        let some : true ≡ nat_lt 0 (suc (length (first_line t))) = grind (arith, nat_tests)
+        in ap (λ w. is_some (cond w (Some 0) (option_map suc (first_opener os (first_line t)))))
+        (here false e ∙ f)
+        ∙ some
     by_test false e false f ih =
         ap (λ w. is_some (cond w (Some 0) (option_map suc (first_opener os (first_line t))))) (here false e ∙ f)
         ∙ is_some_suc (first_opener os (first_line t)) ∙ ih ∙ sym (below_suc (first_opener os t) (length (first_line t)))
@@ -86,7 +90,11 @@ none_later os zero u l h = h
 none_later os (suc n) [] l h = refl
 none_later os (suc n) (b ∷ t) l h = by_test (b == 10) l h (none_later os n t)
   where
-    by_test : (x : Bool) → suc n ≤ cond x 0 (suc (line_len t)) → holds os (cond x (b ∷ []) (b ∷ first_line t)) ≡ false → (n ≤ line_len t → holds os (first_line t) ≡ false → holds os (first_line (drop n t)) ≡ false) → holds os (first_line (drop n t)) ≡ false
+    by_test : (x : Bool) → suc n ≤ cond x 0 (suc (line_len t))
+        → holds os (cond x (b ∷ []) (b ∷ first_line t)) ≡ false
+        → (n ≤ line_len t → holds os (first_line t) ≡ false
+        → holds os (first_line (drop n t)) ≡ false)
+        → holds os (first_line (drop n t)) ≡ false
     by_test true l h f = absurd (omega arith)
     by_test false l h f = f (omega arith) (none_next os b (first_line t) h)
 
@@ -168,7 +176,9 @@ place_within os u = by_case (first_opener os u) refl
     by_case (Some k) e = omega (arith, first-below os u k (sym e))
 
 -- the first opener from a later place on that isn't behind it
-pub opener_later : (os : List (List ℕ)) (text : List ℕ) (start later next : ℕ) → start ≤ later → later ≤ next → next ≡ start + opener_place os (drop start text) → next ≡ later + opener_place os (drop later text)
+pub opener_later : (os : List (List ℕ)) (text : List ℕ) (start later next : ℕ) → start ≤ later
+    → later ≤ next → next ≡ start + opener_place os (drop start text)
+    → next ≡ later + opener_place os (drop later text)
 opener_later os text start later next low high e =
     let n : ℕ = later - start in
     let place : start + n ≡ later = omega (arith, low) in

@@ -87,7 +87,11 @@ part_anew text l start at p e h =
       low = omega arith;
       high = high;
       behind = omega (arith, p.behind, p.low);
-      front = front_on text l start at 1 p high ∙ at_newline (drop at text) (take (at - start) (drop start text)) e (omega (arith, length-drop at text, h)) ∙ ap (λ n. take n (drop (at + 1) text)) none;
+      front =
+          front_on text l start at 1 p high
+          ∙ at_newline (drop at text) (take (at - start) (drop start text)) e
+          (omega (arith, length-drop at text, h))
+          ∙ ap (λ n. take n (drop (at + 1) text)) none;
     }
   where
     none : 0 ≡ at + 1 - (at + 1)

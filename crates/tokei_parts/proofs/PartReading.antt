@@ -25,7 +25,9 @@ line_from zero t h = refl
 line_from (suc n) [] h = absurd (omega arith)
 line_from (suc n) (b ∷ t) h = by_test (b == 10) h (line_from n t)
   where
-    by_test : (x : Bool) → suc n ≤ cond x 0 (suc (line_len t)) → (n ≤ line_len t → take n t ++ first_line (drop n t) ≡ first_line t) → b ∷ (take n t ++ first_line (drop n t)) ≡ cond x (b ∷ []) (b ∷ first_line t)
+    by_test : (x : Bool) → suc n ≤ cond x 0 (suc (line_len t))
+        → (n ≤ line_len t → take n t ++ first_line (drop n t) ≡ first_line t)
+        → b ∷ (take n t ++ first_line (drop n t)) ≡ cond x (b ∷ []) (b ∷ first_line t)
     by_test true h f = absurd (omega arith)
     by_test false h f = ap (λ w. b ∷ w) (f (omega arith))
 
@@ -43,12 +45,17 @@ module _ (g : Row) (block : ℕ → List ℕ → Option Block) (fit : FitsBlocks
   unfolding cut
   cut_child c w k ms = refl
 
-  running_child : (m : Mode) (s : List ℕ) (n : ℕ) (t : List ℕ) (k : Block) (ms : List Mark) → running m s n t (child_at k ∷ ms) ≡ record { begun = m; reach = s ++ first_line t; size = length s; choices = n } ∷ running None [] 0 (drop k.size t) ms
+  running_child : (m : Mode) (s : List ℕ) (n : ℕ) (t : List ℕ) (k : Block) (ms : List Mark)
+      → running m s n t (child_at k ∷ ms)
+      ≡ record { begun = m; reach = s ++ first_line t; size = length s; choices = n }
+      ∷ running None [] 0 (drop k.size t) ms
   unfolding running
   running_child m s n t k ms = refl
 
   -- behind n bytes of its line a child opens
-  child_read : (c d e : Chain) (n : ℕ) (k : Block) (t : List ℕ) → n ≤ length t → (j : ℕ) → Leads g block l c n j e t → OpensChild g block l e k d (drop n t) → ReadsChild g block l docs_are_comments c n j k d t
+  child_read : (c d e : Chain) (n : ℕ) (k : Block) (t : List ℕ) → n ≤ length t → (j : ℕ)
+      → Leads g block l c n j e t → OpensChild g block l e k d (drop n t)
+      → ReadsChild g block l docs_are_comments c n j k d t
   child_read c d e n k t within j h o =
       let is_block : block l (drop n t) ≡ Some k = block_opens k e d (drop n t) o in
       let some : 0 < k.size = fit.some l (drop n t) k is_block in
@@ -69,13 +76,22 @@ module _ (g : Row) (block : ℕ → List ℕ → Option Block) (fit : FitsBlocks
         plain = o.after;
         counts = ap (tally g docs_are_comments) (lead.same (innermost c) []) ∙ ap (λ ms. tally g docs_are_comments (cut (innermost c) (take n t) None ms)) opened ∙ cut_child c (take n t) k after;
         kids = lead.kids ∙ ap children opened;
-        steps = ap (choices_passed (openers g)) (lead.choices (innermost c) [] 0 ∙ ap (λ x. running (innermost c) (take n t) x (drop n t) (marks_ahead g block l [] (drop n t))) none ∙ ap (running (innermost c) (take n t) j (drop n t)) opened ∙ running_child (innermost c) (take n t) j (drop n t) k after)
+        steps =
+            ap (choices_passed (openers g)) (lead.choices (innermost c) [] 0
+            ∙ ap
+            (λ x. running (innermost c) (take n t) x (drop n t)
+            (marks_ahead g block l [] (drop n t)))
+            none
+            ∙ ap (running (innermost c) (take n t) j (drop n t)) opened
+            ∙ running_child (innermost c) (take n t) j (drop n t) k after)
             ∙ ap (λ w. cond (is_walked (openers g) (innermost c) w) j 0 + choices_passed (openers g) (running None [] 0 (drop k.size (drop n t)) after)) (line_from n t lead.within)
             ∙ ap (λ w. cond (is_walked (openers g) (innermost c) (first_line t)) j 0 + choices_passed (openers g) (running None [] 0 w after)) rest;
       }
 
   -- the same by places of the text
-  pub child_read_at : (c d e : Chain) (start at : ℕ) (k : Block) (text : List ℕ) → IsPart text l start at → (j : ℕ) → Leads g block l c (at - start) j e (drop start text) → OpensChild g block l e k d (drop at text)
+  pub child_read_at : (c d e : Chain) (start at : ℕ) (k : Block) (text : List ℕ)
+      → IsPart text l start at → (j : ℕ) → Leads g block l c (at - start) j e (drop start text)
+      → OpensChild g block l e k d (drop at text)
       → ReadsChild g block l docs_are_comments c (at - start) j k d (drop start text)
   child_read_at c d e start at k text p j h o =
       let left : length (drop start text) ≡ length text - start = length-drop start text in

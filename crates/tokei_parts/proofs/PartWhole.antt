@@ -45,7 +45,10 @@ module _ (text : List ℕ) (l start at to : ℕ) (p : IsPart text l start at) (l
       ∙ ap (λ g. block_by g rows language text (part_front text l (drop at text) ++ first_line (drop at text)) (length (part_front text l (drop at text))) (drop at text)) (sym e)
 
 -- the same of a later place of the part
-pub block_later : (text : List ℕ) (l start at to place : ℕ) → IsPart text l start at → to ≡ at + length (first_line (drop at text)) → at ≤ place → place < to → (rows : List Row) (language levels : ℕ) (f : Family) → family_of (row_at rows language).key ≡ f → (levels ≡ 0 → ⊥)
+pub block_later : (text : List ℕ) (l start at to place : ℕ) → IsPart text l start at
+    → to ≡ at + length (first_line (drop at text)) → at ≤ place → place < to
+    → (rows : List Row) (language levels : ℕ) (f : Family)
+    → family_of (row_at rows language).key ≡ f → (levels ≡ 0 → ⊥)
     → block_by f rows language text (take (to - start) (drop start text)) (place - start) (drop place text) ≡ blocks_at (block_in rows) levels language text l (drop place text)
 block_later text l start at to place p line low high rows language levels f e z =
     let n : ℕ = place - at in
@@ -53,12 +56,27 @@ block_later text l start at to place p line low high rows language levels f e z 
     let inside : n ≤ line_len (drop at text) = omega (arith, line, high, low, first_line-high (drop at text)) in
     let part : IsPart text l start place = subst (IsPart text l start) there (part_on text l start at n p inside) in
     let rest : drop n (drop at text) ≡ drop place text = drop-drop n at text ∙ ap (λ m. drop m text) there in
-    let len : length (take n (drop at text)) + length (first_line (drop n (drop at text))) ≡ length (first_line (drop at text)) = sym (length-append (take n (drop at text)) (first_line (drop n (drop at text)))) ∙ ap length (line_from n (drop at text) inside) in
-    let whole : to ≡ place + length (first_line (drop place text)) = omega (arith, line, len, ap (λ w. length (first_line w)) rest, length-take n (drop at text), first_within (drop at text), high, low) in
+    let len : length (take n (drop at text)) + length (first_line (drop n (drop at text)))
+    ≡ length (first_line (drop at text)) =
+    sym (length-append (take n (drop at text)) (first_line (drop n (drop at text))))
+    ∙ ap length (line_from n (drop at text) inside) in
+    let whole : to ≡ place + length (first_line (drop place text)) =
+    omega (
+      arith,
+      line,
+      len,
+      ap (λ w. length (first_line w)) rest,
+      length-take n (drop at text),
+      first_within (drop at text),
+      high,
+      low,
+    ) in
     block_is text l start place to part whole rows language levels f e z
 
 -- where none of the three tags opens no element does
-pub none_of_three : (rows : List Row) (parent : ℕ) (part : List ℕ) (place : ℕ) (rest : List ℕ) → tag_block Script part place rest ≡ None → tag_block Style part place rest ≡ None → tag_block Template part place rest ≡ None → html_block rows parent part place rest ≡ None
+pub none_of_three : (rows : List Row) (parent : ℕ) (part : List ℕ) (place : ℕ) (rest : List ℕ)
+    → tag_block Script part place rest ≡ None → tag_block Style part place rest ≡ None
+    → tag_block Template part place rest ≡ None → html_block rows parent part place rest ≡ None
 none_of_three rows parent part place rest e f h =
     ap (λ o. first_block (option_map (element_child rows parent Script) o) (first_block (element_at rows parent Style part place rest) (element_at rows parent Template part place rest))) e
     ∙ ap (λ o. first_block (option_map (element_child rows parent Style) o) (element_at rows parent Template part place rest)) f

@@ -60,11 +60,21 @@ known_is rows info = known_onto rows [] info ∙ ap (first_named rows) (onto_non
 -- one byte more
 module _ (rows : List Row) (info : List ℕ) (begun i : ℕ) (low : begun ≤ i) (high : i < length info) where
   here : known_from rows (take (i - begun) (drop begun info)) (drop i info)
-      ≡ cond (get_or info i 0 == 44) (option_or (by_word rows (take (i - begun) (drop begun info))) (known_from rows [] (drop (i + 1) info))) (known_from rows (take (i - begun) (drop begun info) ++ get_or info i 0 ∷ []) (drop (i + 1) info))
+      ≡ cond (get_or info i 0 == 44)
+      (option_or (by_word rows (take (i - begun) (drop begun info)))
+      (known_from rows [] (drop (i + 1) info)))
+      (known_from rows (take (i - begun) (drop begun info) ++ get_or info i 0 ∷ [])
+      (drop (i + 1) info))
   here =
       let next : suc i ≡ i + 1 = omega arith in
       ap (known_from rows (take (i - begun) (drop begun info))) (drop-cons info i 0 high)
-      ∙ ap (λ m. cond (get_or info i 0 == 44) (option_or (by_word rows (take (i - begun) (drop begun info))) (known_from rows [] (drop m info))) (known_from rows (take (i - begun) (drop begun info) ++ get_or info i 0 ∷ []) (drop m info))) next
+      ∙ ap
+      (λ m. cond (get_or info i 0 == 44)
+      (option_or (by_word rows (take (i - begun) (drop begun info)))
+      (known_from rows [] (drop m info)))
+      (known_from rows (take (i - begun) (drop begun info) ++ get_or info i 0 ∷ [])
+      (drop m info)))
+      next
 
   -- at a comma a piece that names nothing ends
   pub piece_ends : (get_or info i 0 == 44) ≡ true → by_word rows (take (i - begun) (drop begun info)) ≡ None
@@ -72,7 +82,14 @@ module _ (rows : List Row) (info : List ℕ) (begun i : ℕ) (low : begun ≤ i)
   piece_ends b n =
       let none : i + 1 - (i + 1) ≡ 0 = omega arith in
       ap (λ m. known_from rows (take m (drop (i + 1) info)) (drop (i + 1) info)) none
-      ∙ sym (here ∙ ap (λ x. cond x (option_or (by_word rows (take (i - begun) (drop begun info))) (known_from rows [] (drop (i + 1) info))) (known_from rows (take (i - begun) (drop begun info) ++ get_or info i 0 ∷ []) (drop (i + 1) info))) b
+      ∙ sym (here
+      ∙ ap
+      (λ x. cond x
+      (option_or (by_word rows (take (i - begun) (drop begun info)))
+      (known_from rows [] (drop (i + 1) info)))
+      (known_from rows (take (i - begun) (drop begun info) ++ get_or info i 0 ∷ [])
+      (drop (i + 1) info)))
+      b
       ∙ ap (λ o. option_or o (known_from rows [] (drop (i + 1) info))) n)
 
   -- another byte belongs to the piece
@@ -86,4 +103,11 @@ module _ (rows : List Row) (info : List ℕ) (begun i : ℕ) (low : begun ≤ i)
       let byte : get_or (drop begun info) m 0 ≡ get_or info i 0 = get_or-drop begun info m 0 ∙ ap (λ k. get_or info k 0) place in
       ap (λ k. known_from rows (take k (drop begun info)) (drop (i + 1) info)) more
       ∙ ap (λ w. known_from rows w (drop (i + 1) info)) (take-suc (drop begun info) m 0 len ∙ ap (λ x. take m (drop begun info) ++ x ∷ []) byte)
-      ∙ sym (here ∙ ap (λ x. cond x (option_or (by_word rows (take (i - begun) (drop begun info))) (known_from rows [] (drop (i + 1) info))) (known_from rows (take (i - begun) (drop begun info) ++ get_or info i 0 ∷ []) (drop (i + 1) info))) b)
+      ∙ sym (here
+      ∙ ap
+      (λ x. cond x
+      (option_or (by_word rows (take (i - begun) (drop begun info)))
+      (known_from rows [] (drop (i + 1) info)))
+      (known_from rows (take (i - begun) (drop begun info) ++ get_or info i 0 ∷ [])
+      (drop (i + 1) info)))
+      b)

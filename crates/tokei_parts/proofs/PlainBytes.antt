@@ -97,7 +97,11 @@ in_comment r s b t h closer e =
     let h1 = or_right (b == 92) _ h in
     let no_multi_line : opened r.multi_line_comments (b ∷ t) ≡ None = none_opened r.multi_line_comments b t s.multi_line_comments (or_left (begins_opener r.multi_line_comments b) _ h1) in
     let no_nested : opened r.nested_comments (b ∷ t) ≡ None = none_opened r.nested_comments b t s.nested_comments (or_right (begins_opener r.multi_line_comments b) _ h1) in
-    ap (λ y. cond y escapes (cond (begins closer (b ∷ t)) closes (or_else (opened r.multi_line_comments (b ∷ t)) (met_in_comment r) (or_else (opened r.nested_comments (b ∷ t)) (opens MultiLineComment) takes_byte)))) (no_escape_at r b t (or_left (b == 92) _ h))
+    ap
+    (λ y. cond y escapes (cond (begins closer (b ∷ t)) closes
+    (or_else (opened r.multi_line_comments (b ∷ t)) (met_in_comment r)
+    (or_else (opened r.nested_comments (b ∷ t)) (opens MultiLineComment) takes_byte))))
+    (no_escape_at r b t (or_left (b == 92) _ h))
     ∙ ap (λ y. cond y closes (or_else (opened r.multi_line_comments (b ∷ t)) (met_in_comment r) (or_else (opened r.nested_comments (b ∷ t)) (opens MultiLineComment) takes_byte))) e
     ∙ ap (λ o. or_else o (met_in_comment r) (or_else (opened r.nested_comments (b ∷ t)) (opens MultiLineComment) takes_byte)) no_multi_line
     ∙ ap (λ o. or_else o (opens MultiLineComment) takes_byte) no_nested
@@ -106,7 +110,13 @@ module _ (r : Row) (s : IsSound r) (b : ℕ) (t : List ℕ) (h : begins_choice r
   slash : (b == 92) ≡ false
   slash = or_left (b == 92) _ h
 
-  h1 : (begins_opener r.quotes b || (begins_opener r.verbatim_quotes b || (begins_opener r.doc_quotes b || (begins_opener r.multi_line_comments b || (begins_opener r.nested_comments b || list_any (is_first_of b) r.line_comment))))) ≡ false
+  h1 : (begins_opener r.quotes b
+      || (begins_opener r.verbatim_quotes b
+      || (begins_opener r.doc_quotes b
+      || (begins_opener r.multi_line_comments b
+      || (begins_opener r.nested_comments b
+      || list_any (is_first_of b) r.line_comment)))))
+      ≡ false
   h1 = or_right (b == 92) _ h
 
   no_escape : is_escape r (b ∷ t) ≡ false
@@ -115,7 +125,11 @@ module _ (r : Row) (s : IsSound r) (b : ℕ) (t : List ℕ) (h : begins_choice r
   no_quote : opened r.quotes (b ∷ t) ≡ None
   no_quote = none_opened r.quotes b t s.quotes (or_left (begins_opener r.quotes b) _ h1)
 
-  h2 : (begins_opener r.verbatim_quotes b || (begins_opener r.doc_quotes b || (begins_opener r.multi_line_comments b || (begins_opener r.nested_comments b || list_any (is_first_of b) r.line_comment)))) ≡ false
+  h2 : (begins_opener r.verbatim_quotes b
+      || (begins_opener r.doc_quotes b
+      || (begins_opener r.multi_line_comments b
+      || (begins_opener r.nested_comments b || list_any (is_first_of b) r.line_comment))))
+      ≡ false
   h2 = or_right (begins_opener r.quotes b) _ h1
 
   h3 : (begins_opener r.doc_quotes b || (begins_opener r.multi_line_comments b || (begins_opener r.nested_comments b || list_any (is_first_of b) r.line_comment))) ≡ false
@@ -164,7 +178,10 @@ none_begun_in_comment : (r : Row) (b : ℕ) (m : Matchers) → m ≡ matchers_of
 none_begun_in_comment r b m is h = sym (flag_at (begins_in_comment r) 256 b h.small) ∙ ap (λ (n : Matchers). slice_index_or n.begins_in_comment b false) (sym is) ∙ h.outside
 
 -- in an item, where nothing but its closer can begin at the byte, and that doesn't stand there
-pub byte_within : (r : Row) (s : IsSound r) (i : Enclosure) (o : Option Block) (b : ℕ) (u : List ℕ) (m : Matchers) → u ≡ b ∷ drop 1 u → m ≡ matchers_of r → BeginsNoneWithin m i.kind b → begins i.closer u ≡ false → choice r (Some i) o u ≡ takes_byte
+pub byte_within : (r : Row) (s : IsSound r) (i : Enclosure) (o : Option Block) (b : ℕ) (u : List ℕ)
+    (m : Matchers)
+    → u ≡ b ∷ drop 1 u → m ≡ matchers_of r → BeginsNoneWithin m i.kind b → begins i.closer u ≡ false
+    → choice r (Some i) o u ≡ takes_byte
 unfolding choice
 byte_within r s i o b u m is known h none = ap (choice r (Some i) o) is ∙ by_kind i.kind i.closer h (ap (begins i.closer) (sym is) ∙ none)
   where
@@ -174,7 +191,10 @@ byte_within r s i o b u m is known h none = ap (choice r (Some i) o) is ∙ by_k
     by_kind OrdinaryString closer h e = in_string r b (drop 1 u) h false closer e
     by_kind MultiLineComment closer h e = in_comment r s b (drop 1 u) (none_begun_in_comment r b m known h) closer e
 
-pub plain_byte : (r : Row) (s : IsSound r) (mode : Mode) (o : Option Block) (b : ℕ) (u : List ℕ) (m : Matchers) → u ≡ b ∷ drop 1 u → m ≡ matchers_of r → IsPlainByte m mode b → (mode ≡ None → o ≡ None) → choice r mode o u ≡ takes_byte
+pub plain_byte : (r : Row) (s : IsSound r) (mode : Mode) (o : Option Block) (b : ℕ) (u : List ℕ)
+    (m : Matchers)
+    → u ≡ b ∷ drop 1 u → m ≡ matchers_of r → IsPlainByte m mode b → (mode ≡ None → o ≡ None)
+    → choice r mode o u ≡ takes_byte
 unfolding choice
 plain_byte r s mode o b u m e is h none = by_mode mode h none
   where
@@ -188,15 +208,23 @@ text_here text at some =
     let one : suc at ≡ at + 1 = omega arith in
     drop-cons text at 0 some ∙ ap (λ n. get_or text at 0 ∷ drop n text) one ∙ ap (λ w. get_or text at 0 ∷ w) (sym (drop-drop 1 at text))
 
-pub byte_within_at : (r : Row) (s : IsSound r) (i : Enclosure) (o : Option Block) (text : List ℕ) (at : ℕ) (m : Matchers) → m ≡ matchers_of r → at < length text → BeginsNoneWithin m i.kind (get_or text at 0) → begins i.closer (drop at text) ≡ false → choice r (Some i) o (drop at text) ≡ takes_byte
+pub byte_within_at : (r : Row) (s : IsSound r) (i : Enclosure) (o : Option Block) (text : List ℕ)
+    (at : ℕ) (m : Matchers)
+    → m ≡ matchers_of r → at < length text → BeginsNoneWithin m i.kind (get_or text at 0)
+    → begins i.closer (drop at text) ≡ false → choice r (Some i) o (drop at text) ≡ takes_byte
 byte_within_at r s i o text at m known some h none = byte_within r s i o (get_or text at 0) (drop at text) m (text_here text at some) known h none
 
 -- the same at a place of a text
-pub plain_byte_at : (r : Row) (s : IsSound r) (mode : Mode) (o : Option Block) (text : List ℕ) (at : ℕ) (m : Matchers) → m ≡ matchers_of r → at < length text → IsPlainByte m mode (get_or text at 0) → (mode ≡ None → o ≡ None) → choice r mode o (drop at text) ≡ takes_byte
+pub plain_byte_at : (r : Row) (s : IsSound r) (mode : Mode) (o : Option Block) (text : List ℕ)
+    (at : ℕ) (m : Matchers)
+    → m ≡ matchers_of r → at < length text → IsPlainByte m mode (get_or text at 0)
+    → (mode ≡ None → o ≡ None) → choice r mode o (drop at text) ≡ takes_byte
 plain_byte_at r s mode o text at m e some h none = plain_byte r s mode o (get_or text at 0) (drop at text) m (text_here text at some) e h none
 
 -- a choice that is no child, in an item or where no child can open, is the same whatever can open there
-pub same_choice : (r : Row) (mode : Mode) (o : Option Block) (u : List ℕ) (x : CodeChoice.Choice) → (mode ≡ None → o ≡ None) → (x ≡ ChildOpens → false ≡ true) → choice_of None x ≡ choice r mode None u → choice_of o x ≡ choice r mode o u
+pub same_choice : (r : Row) (mode : Mode) (o : Option Block) (u : List ℕ) (x : CodeChoice.Choice)
+    → (mode ≡ None → o ≡ None) → (x ≡ ChildOpens → false ≡ true)
+    → choice_of None x ≡ choice r mode None u → choice_of o x ≡ choice r mode o u
 unfolding choice
 same_choice r None o u x e n h = let none : o ≡ None = e refl in ap (λ p. choice_of p x) none ∙ h ∙ ap (λ p. choice_in_plain r p u) (sym none)
 same_choice r (Some m) o u x e n h = by_choice x n ∙ h

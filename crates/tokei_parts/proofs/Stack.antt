@@ -32,7 +32,10 @@ module _ (g : Row) (block : ℕ → List ℕ → Option Block) (l : ℕ) (s : Is
       (goes_closer g block l s o (enclosure_of x) (chain_of new) u (subst IsClosable chain_is k) some (subst (λ (c : Chain). choice g (innermost c) (block l u) u ≡ closes) chain_is e))
 
   -- what a push leaves
-  pub opener_pushes : (xs new : List Code.Enclosure) (x : Code.Enclosure) (q : Kind) (p : Pair) (u : List ℕ) → new ≡ xs ++ x ∷ [] → enclosure_of x ≡ enclosure q p → IsClosable (chain_of xs) → 0 < line_len u
+  pub opener_pushes : (xs new : List Code.Enclosure) (x : Code.Enclosure) (q : Kind) (p : Pair)
+      (u : List ℕ)
+      → new ≡ xs ++ x ∷ [] → enclosure_of x ≡ enclosure q p → IsClosable (chain_of xs)
+      → 0 < line_len u
       → at_stack xs u ≡ opens q p → Goes g block l (chain_of xs) (length p.opener) 1 (chain_of new) u
   opener_pushes xs new x q p u is same k some e =
       let chain_is : chain_of new ≡ enclosure q p ∷ chain_of xs = ap chain_of is ∙ chain_of-push xs x ∙ ap (λ h. h ∷ chain_of xs) same in
@@ -42,7 +45,10 @@ module _ (g : Row) (block : ℕ → List ℕ → Option Block) (l : ℕ) (s : Is
   no_pop xs u is e = no_closer g block l s o u (subst (λ (w : List Code.Enclosure). at_stack w u ≡ closes) is e)
 
 -- a child opens in plain text alone, where it can
-pub child_opens-plain : (g : Row) (block : ℕ → List ℕ → Option Block) (l : ℕ) (xs : List Code.Enclosure) (u : List ℕ) → is_some (block l u) ≡ true → choice g (innermost (chain_of xs)) (block l u) u ≡ or_else (block l u) child_opens takes_byte
+pub child_opens-plain : (g : Row) (block : ℕ → List ℕ → Option Block) (l : ℕ)
+    (xs : List Code.Enclosure) (u : List ℕ)
+    → is_some (block l u) ≡ true
+    → choice g (innermost (chain_of xs)) (block l u) u ≡ or_else (block l u) child_opens takes_byte
     → (k : Block) × OpensChild g block l (chain_of xs) k (chain_of xs) u
 child_opens-plain g block l xs u s e = by_block (block l u) refl s e
   where
@@ -50,7 +56,9 @@ child_opens-plain g block l xs u s e = by_block (block l u) refl s e
     by_chain k [] e = record { before = refl; after = refl; chosen = e }
     by_chain k (h ∷ c) e = absurd (within_no_child g h (block l u) u k e)
 
-    by_block : (o : Option Block) → block l u ≡ o → is_some o ≡ true → choice g (innermost (chain_of xs)) (block l u) u ≡ or_else o child_opens takes_byte → (k : Block) × OpensChild g block l (chain_of xs) k (chain_of xs) u
+    by_block : (o : Option Block) → block l u ≡ o → is_some o ≡ true
+        → choice g (innermost (chain_of xs)) (block l u) u ≡ or_else o child_opens takes_byte
+        → (k : Block) × OpensChild g block l (chain_of xs) k (chain_of xs) u
     by_block None f s e = cc
     by_block (Some k) f s e = (k, by_chain k (chain_of xs) e)
 

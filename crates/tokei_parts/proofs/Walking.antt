@@ -39,7 +39,10 @@ reached at end = at - (at - end)
 
 -- behind the bytes from `old` to `at`, of which each is a choice
 pub run_on : (g : Row) (block : ℕ → List ℕ → Option Block) (l : ℕ) (text : List ℕ) (start old at end steps more : ℕ) (c d : Chain) → old < end → IsPart text l start (reached old end)
-    → Leads g block l c (reached old end - start) (steps - (old - end)) d (drop start text) → old ≤ at → more ≡ steps + (at - old) → Leads g block l d (at - old) (at - old) d (drop old text) → Leads g block l c (at - start) more d (drop start text)
+    → Leads g block l c (reached old end - start) (steps - (old - end)) d (drop start text)
+    → old ≤ at → more ≡ steps + (at - old)
+    → Leads g block l d (at - old) (at - old) d (drop old text)
+    → Leads g block l c (at - start) more d (drop start text)
 run_on g block l text start old at end steps more c d inside part led low all went =
     let here : reached old end ≡ old = omega (arith, inside) in
     let none : steps - (old - end) ≡ steps = omega (arith, inside) in
@@ -48,8 +51,12 @@ run_on g block l text start old at end steps more c d inside part led low all we
     went (omega (arith, low)) (sym all)
 
 -- the same in an item that encloses them all, of which `old` choices came before
-pub bytes_on : (g : Row) (block : ℕ → List ℕ → Option Block) (l : ℕ) (text : List ℕ) (start from at old steps more : ℕ) (c d e : Chain) → start ≤ from → from ≤ at → old ≤ steps → more ≡ steps + (at - from) → d ≡ c → e ≡ d
-    → Leads g block l c (from - start) (steps - old) c (drop start text) → Leads g block l e (at - from) (at - from) e (drop from text) → Leads g block l c (at - start) (more - old) d (drop start text)
+pub bytes_on : (g : Row) (block : ℕ → List ℕ → Option Block) (l : ℕ) (text : List ℕ)
+    (start from at old steps more : ℕ) (c d e : Chain)
+    → start ≤ from → from ≤ at → old ≤ steps → more ≡ steps + (at - from) → d ≡ c → e ≡ d
+    → Leads g block l c (from - start) (steps - old) c (drop start text)
+    → Leads g block l e (at - from) (at - from) e (drop from text)
+    → Leads g block l c (at - start) (more - old) d (drop start text)
 bytes_on g block l text start from at old steps more c d e low on few all same held led went =
     led_on g block l text start from c d d (at - start) (steps - old) (at - from) (at - from) (more - old) low
     (subst (λ f. Leads g block l c (from - start) (steps - old) f (drop start text)) (sym same) led)

@@ -14,26 +14,26 @@ use Rattle.tokei_parts.specs.declared.items.Kind.{Kind}
 use Rattle.tokei_parts.specs.declared.items.Kind.TheVariants.{DocString, VerbatimString, OrdinaryString}
 use Rattle.tokei_parts.specs.declared.items.Kind.TheVariants.{MultiLineComment}
 
--- a multi-line comment
+-- the kind is that of comments that may span lines
 abbrev pub is_comment : Kind → Bool
 is_comment DocString = false
 is_comment VerbatimString = false
 is_comment OrdinaryString = false
 is_comment MultiLineComment = true
 
--- a doc string
+-- the kind is that of doc strings
 abbrev pub is_doc_string : Kind → Bool
 is_doc_string DocString = true
 is_doc_string VerbatimString = false
 is_doc_string OrdinaryString = false
 is_doc_string MultiLineComment = false
 
--- in no item
+-- in plain text, inside no item
 abbrev pub is_plain : Mode → Bool
 is_plain None = true
 is_plain (Some e) = false
 
--- in a multi-line comment
+-- in a comment that may span lines: it is the innermost item
 abbrev pub in_comment : Mode → Bool
 in_comment None = false
 in_comment (Some e) = is_comment e.kind
@@ -43,7 +43,7 @@ abbrev pub in_string : Mode → Bool
 in_string None = false
 in_string (Some e) = not (is_comment e.kind)
 
--- in a doc string
+-- in a doc string: it is the innermost item
 abbrev pub in_doc_string : Mode → Bool
 in_doc_string None = false
 in_doc_string (Some e) = is_doc_string e.kind
@@ -53,7 +53,7 @@ in_doc_string (Some e) = is_doc_string e.kind
 abbrev pub keeps_columns : List ℕ → Bool
 keeps_columns key = bytes_eq key (codes "FortranLegacy") || bytes_eq key (codes "FortranModern")
 
--- the part as it stands, or trimmed
+-- the head of a part: its bytes as they stand, or trimmed
 abbrev pub head_of : Row → List ℕ → List ℕ
 head_of r t = if keeps_columns r.key then t else trim t
 

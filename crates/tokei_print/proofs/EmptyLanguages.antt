@@ -31,7 +31,10 @@ decided true l h true e = refl
 decided false l h false e = refl
 decided true l h false e =
     let p = h.0 refl in
-    let yes : is_empty_language l ≡ true = tests_pass _ _ _ _ (ap (λ (n : Counts). n.blanks) p.0) (ap (λ (n : Counts). n.code) p.0) (ap (λ (n : Counts). n.comments) p.0) (ap (λ (cs : List (ℕ × List ReportValue)). length cs) p.1) in
+    let yes : is_empty_language l ≡ true =
+    tests_pass _ _ _ _ (ap (λ (n : Counts). n.blanks) p.0) (ap (λ (n : Counts). n.code) p.0)
+    (ap (λ (n : Counts). n.comments) p.0)
+    (ap (λ (cs : List (ℕ × List ReportValue)). length cs) p.1) in
     cc
 decided false l h true e =
     let z = passed l.counts.blanks l.counts.code l.counts.comments (length l.children) (cc) in

@@ -46,7 +46,10 @@ pub seen-insert : (n : ℕ) (es : List Entry) (key : Bor (List ℕ)) (report : B
     → seen (insert_entry by_key es (key, n) report) ≡ placed (report_of report.now) (seen es)
 seen-insert n [] key report is h = refl
 seen-insert n (e ∷ es) key report is h =
-    let here = placed_by (slice_cmp nat_cmp key.now e.0.0.now) (nat_cmp n e.0.1) e ((key, n), report) es (insert_entry by_key es (key, n) report) (greater n e.0.1 h.0) (seen-insert n es key report is h.2) in
+    let here =
+    placed_by (slice_cmp nat_cmp key.now e.0.0.now) (nat_cmp n e.0.1) e ((key, n), report) es
+    (insert_entry by_key es (key, n) report) (greater n e.0.1 h.0)
+    (seen-insert n es key report is h.2) in
     here ∙ ap₂ (λ x y. if is_lt (slice_cmp nat_cmp x y) then report_of report.now ∷ seen (e ∷ es) else (report_of e.1.now ∷ placed (report_of report.now) (seen es))) (sym is) (sym h.1)
 
 below_by : (n : ℕ) (o p : Ordering) (e new : Entry) (es more : List Entry) → p ≡ Greater → AreBelow n (e ∷ es) → AreBelow (n + 1) (new ∷ []) → AreBelow (n + 1) more
@@ -59,7 +62,9 @@ pub below-insert : (n : ℕ) (es : List Entry) (key : Bor (List ℕ)) (report : 
     → AreBelow (n + 1) (insert_entry by_key es (key, n) report)
 below-insert n [] key report is h = (omega arith, is, tt)
 below-insert n (e ∷ es) key report is h =
-    below_by n (slice_cmp nat_cmp key.now e.0.0.now) (nat_cmp n e.0.1) e ((key, n), report) es (insert_entry by_key es (key, n) report) (greater n e.0.1 h.0) h (omega arith, is, tt) (below-insert n es key report is h.2)
+    below_by n (slice_cmp nat_cmp key.now e.0.0.now) (nat_cmp n e.0.1) e ((key, n), report) es
+    (insert_entry by_key es (key, n) report) (greater n e.0.1 h.0) h (omega arith, is, tt)
+    (below-insert n es key report is h.2)
 
 -- the values in the order of the keys
 pub seen-values : (es : List Entry) → map (λ r. report_of r.now) (map (λ e. e.1) es) ≡ seen es

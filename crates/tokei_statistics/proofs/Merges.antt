@@ -41,7 +41,9 @@ module _ {S : Type 0} where
   before_put f s [] j k below first = below
   before_put f s (e ∷ es) j k below first = before_by (nat_cmp k e.0) f s e es j k (ranked k e.0 _ refl) below first
 
-  ascends_by : (o : Ordering) (f : S → S) (s : S) (e : ℕ × S) (es : List (ℕ × S)) (k : ℕ) → MatchOrdering o (k < e.0) (k ≡ e.0) (e.0 < k) → IsBefore e.0 es → Ascends es → Ascends (put_at f s es k) → Ascends (put_at f s (e ∷ es) k)
+  ascends_by : (o : Ordering) (f : S → S) (s : S) (e : ℕ × S) (es : List (ℕ × S)) (k : ℕ)
+      → MatchOrdering o (k < e.0) (k ≡ e.0) (e.0 < k) → IsBefore e.0 es → Ascends es
+      → Ascends (put_at f s es k) → Ascends (put_at f s (e ∷ es) k)
   ascends_by Less f s e es k h first rest more = subst Ascends (sym (put_less f s e es k h)) (h, (first, rest))
   ascends_by Equal f s e es k h first rest more = subst Ascends (sym (put_same f s e es k h)) (first, rest)
   ascends_by Greater f s e es k h first rest more = subst Ascends (sym (put_more f s e es k h)) (before_put f s es e.0 k h first, more)
@@ -121,7 +123,9 @@ module _ {S : Type 0} (join : S → S → S) (P : S → Type 0) (laws : Associat
   abbrev pub put : S → List (ℕ × S) → ℕ → List (ℕ × S)
   put s es k = put_at (λ x. join x s) s es k
 
-  meet_by : (o : Ordering) (s : S) (e : ℕ × S) (es : List (ℕ × S)) (k : ℕ) → MatchOrdering o (k < e.0) (k ≡ e.0) (e.0 < k) → P s → P e.1 → AllMeet P es → AllMeet P (put s es k) → AllMeet P (put s (e ∷ es) k)
+  meet_by : (o : Ordering) (s : S) (e : ℕ × S) (es : List (ℕ × S)) (k : ℕ)
+      → MatchOrdering o (k < e.0) (k ≡ e.0) (e.0 < k) → P s → P e.1 → AllMeet P es
+      → AllMeet P (put s es k) → AllMeet P (put s (e ∷ es) k)
   meet_by Less s e es k h p q r more = subst (AllMeet P) (sym (put_less (λ x. join x s) s e es k h)) (p, (q, r))
   meet_by Equal s e es k h p q r more = subst (AllMeet P) (sym (put_same (λ x. join x s) s e es k h)) (laws.closed e.1 s q p, r)
   meet_by Greater s e es k h p q r more = subst (AllMeet P) (sym (put_more (λ x. join x s) s e es k h)) (q, more)
@@ -142,7 +146,9 @@ module _ {S : Type 0} (join : S → S → S) (P : S → Type 0) (laws : Associat
       ih (put e.1 a e.0)
       ∙ ap (merged join (put e.1 a e.0)) (put_first (λ x. join x s) s es k (subst (λ j. IsBefore j es) (sym h) first))
       ∙ ap (λ j. merged join (put s (put e.1 a e.0) j) es) h
-      ∙ ap (λ b. merged join b es) (twice (λ x. join x e.1) (λ x. join x s) e.1 s a e.0 ∙ same_put (λ x. join (join x e.1) s) (λ x. join x (join e.1 s)) (join e.1 s) a e.0 (λ x. laws.same x e.1 s q p))
+      ∙ ap (λ b. merged join b es) (twice (λ x. join x e.1) (λ x. join x s) e.1 s a e.0
+      ∙ same_put (λ x. join (join x e.1) s) (λ x. join x (join e.1 s)) (join e.1 s) a e.0
+      (λ x. laws.same x e.1 s q p))
       ∙ ap (merged join a) (sym (put_same (λ x. join x s) s e es k h))
   seam_by Greater s a e es k h first q p ih =
       ih (put e.1 a e.0) ∙ ap (merged join a) (sym (put_more (λ x. join x s) s e es k h))

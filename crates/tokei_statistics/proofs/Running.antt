@@ -98,7 +98,9 @@ marked-merged s = λ i. record {
 }
 
 -- a report that is put
-pub report_put : (old : List (ℕ × LanguageValue)) (l : ℕ) (r : ReportValue) → put_at (λ s. with_report s r) (with_report empty_language r) old l ≡ merged_languages old ((l, with_report empty_language r) ∷ [])
+pub report_put : (old : List (ℕ × LanguageValue)) (l : ℕ) (r : ReportValue)
+    → put_at (λ s. with_report s r) (with_report empty_language r) old l
+    ≡ merged_languages old ((l, with_report empty_language r) ∷ [])
 report_put old l r = same_put (λ s. with_report s r) (λ s. merged_language s (with_report empty_language r)) (with_report empty_language r) old l (with_report-merged r)
 
 -- a mark that is put
@@ -158,7 +160,9 @@ module _ (c : Counting) (t : Tree) where
   none_yet files a = record { done = []; whole = refl; adds = refl }
 
   -- one file more
-  pub one_more : (files rest left : List KeptFile) (k : KeptFile) (a b d : List (ℕ × LanguageValue)) → SoFar files rest a b → rest ≡ k ∷ left → d ≡ merged_languages b (languages_of_file c t k) → SoFar files left a d
+  pub one_more : (files rest left : List KeptFile) (k : KeptFile) (a b d : List (ℕ × LanguageValue))
+      → SoFar files rest a b → rest ≡ k ∷ left → d ≡ merged_languages b (languages_of_file c t k)
+      → SoFar files left a d
   one_more files rest left k a b d h is one = record {
     done = h.done ++ k ∷ [];
     whole = append_assoc h.done (k ∷ []) left ∙ ap (λ (q : List KeptFile). h.done ++ q) (sym is) ∙ h.whole;
@@ -196,7 +200,10 @@ module _ (c : Counting) (t : Tree) where
   file_passed k o a is none = sym (ap (λ (q : Option ℕ). merged_languages a (languages_in c t k q)) (sym is ∙ none))
 
   -- a file that was read
-  pub file_reported : {E : Type 0} (q : Result (Unit {0}) E) (k : KeptFile) (o : Option ℕ) (l : ℕ) (s : Statistics) (r : ReportValue) (a b : List (ℕ × LanguageValue)) → o ≡ language_of_file c t k → o ≡ Some l → Some s ≡ stats_at t c.rows c.docs l k.place → r ≡ record { name = k.path; stats = s }
+  pub file_reported : {E : Type 0} (q : Result (Unit {0}) E) (k : KeptFile) (o : Option ℕ) (l : ℕ)
+      (s : Statistics) (r : ReportValue) (a b : List (ℕ × LanguageValue))
+      → o ≡ language_of_file c t k → o ≡ Some l → Some s ≡ stats_at t c.rows c.docs l k.place
+      → r ≡ record { name = k.path; stats = s }
       → OnOk q (b ≡ put_at (λ x. with_report x r) (with_report empty_language r) a l)
       → OnOk q (b ≡ merged_languages a (languages_of_file c t k))
   unfolding languages_of_file
@@ -208,7 +215,9 @@ module _ (c : Counting) (t : Tree) where
   file_reported (Err e) k o l s r a b is some read named put = tt
 
   -- a file that couldn't be read
-  pub file_marked : {E : Type 0} (q : Result (Unit {0}) E) (k : KeptFile) (o : Option ℕ) (l : ℕ) (a b : List (ℕ × LanguageValue)) → o ≡ language_of_file c t k → o ≡ Some l → content_at t k.place ≡ None
+  pub file_marked : {E : Type 0} (q : Result (Unit {0}) E) (k : KeptFile) (o : Option ℕ) (l : ℕ)
+      (a b : List (ℕ × LanguageValue))
+      → o ≡ language_of_file c t k → o ≡ Some l → content_at t k.place ≡ None
       → OnOk q (b ≡ put_at marked (marked empty_language) a l)
       → OnOk q (b ≡ merged_languages a (languages_of_file c t k))
   unfolding languages_of_file

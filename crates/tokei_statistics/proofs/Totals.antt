@@ -101,7 +101,10 @@ module _ (column : Counts → ℕ) (is : IsColumn column) where
       let own = sum_by-cons (λ (j : KeptFile). of_languages (languages_of_file c t j)) k ks in omega arith
 
   same_column : (c : Counting) (t : Tree) (old : List (ℕ × LanguageValue)) (xs ys : List KeptFile) → IsPermutation xs ys
-      → column (languages_summary (renewed_languages (merged_languages old (languages_of_run c t xs)))) ≡ column (languages_summary (renewed_languages (merged_languages old (languages_of_run c t ys))))
+      → column (languages_summary
+      (renewed_languages (merged_languages old (languages_of_run c t xs))))
+      ≡ column (languages_summary
+      (renewed_languages (merged_languages old (languages_of_run c t ys))))
   same_column c t old xs ys p =
       let first = languages_over (merged_languages old (languages_of_run c t xs)) in
       let second = languages_over (merged_languages old (languages_of_run c t ys)) in
@@ -161,7 +164,9 @@ module _ (c : Counting) (t : Tree) where
   same_marks : (old : List (ℕ × LanguageValue)) (xs ys : List KeptFile) → IsPermutation xs ys
       → any_inaccurate (renewed_languages (merged_languages old (languages_of_run c t xs))) ≡ any_inaccurate (renewed_languages (merged_languages old (languages_of_run c t ys)))
   same_marks old xs ys p =
-      let of_run : (ks : List KeptFile) → any_inaccurate (renewed_languages (merged_languages old (languages_of_run c t ks))) ≡ (any_inaccurate old || nat_lt 0 (sum_by (λ (k : KeptFile). one_if (is_marked k)) ks)) =
+      let of_run : (ks : List KeptFile) → any_inaccurate
+      (renewed_languages (merged_languages old (languages_of_run c t ks))) ≡
+      (any_inaccurate old || nat_lt 0 (sum_by (λ (k : KeptFile). one_if (is_marked k)) ks)) =
       λ ks. marks_renewed (merged_languages old (languages_of_run c t ks)) ∙ marks_merged old (languages_of_run c t ks) ∙ ap (λ b. any_inaccurate old || b) (run_marks ks) in
       of_run xs ∙ ap (λ n. any_inaccurate old || nat_lt 0 n) (sym (sum_by-IsPermutation (λ (k : KeptFile). one_if (is_marked k)) xs ys p)) ∙ sym (of_run ys)
 

@@ -55,9 +55,13 @@ add_one old new rest k v w e f =
     ∙ ap (put (blobs_of (entries_of old)) k) (e ∙ ap (λ o. joined o (λ s. sum s (stats_of w)) (stats_of w)) (sym (at_seen old k))))
 
 -- a map that fits, into which what fits was put
-pub put_one_fits : (old new : List (ℕ × CodeStats)) (k : ℕ) (v : CodeStats) → new ≡ insert_entry nat_cmp old k v → Fits (stats_of v) → BlobsFit (blobs_of (entries_of old)) → BlobsFit (blobs_of (entries_of new))
+pub put_one_fits : (old new : List (ℕ × CodeStats)) (k : ℕ) (v : CodeStats)
+    → new ≡ insert_entry nat_cmp old k v → Fits (stats_of v) → BlobsFit (blobs_of (entries_of old))
+    → BlobsFit (blobs_of (entries_of new))
 put_one_fits old new k v f h bs =
-    let is : blobs_of (entries_of new) ≡ put (blobs_of (entries_of old)) k (stats_of v) = ap (λ es. blobs_of (entries_of es)) f ∙ ap blobs_of (insert_seen old k v) ∙ sym (put_seen (entries_of old) k (stats_of v)) in
+    let is : blobs_of (entries_of new) ≡ put (blobs_of (entries_of old)) k (stats_of v) =
+    ap (λ es. blobs_of (entries_of es)) f ∙ ap blobs_of (insert_seen old k v)
+    ∙ sym (put_seen (entries_of old) k (stats_of v)) in
     subst BlobsFit (sym is) (put-fits (blobs_of (entries_of old)) k (stats_of v) bs h)
 
 -- where all fits, so does the sum of a turn of the loop

@@ -76,7 +76,10 @@ pub put_other : (bs : Blobs) (k : ℕ) (s : Statistics) (i : ℕ) → (i ≡ k �
 put_other none k s i n = at_tail i k s none n
 put_other (blob j t rest) k s i n = by_cmp (nat_cmp k j) (ranks k j) (put_other rest k s i n)
   where
-    by_cmp : (o : Ordering) → MatchOrdering o (k < j) (k ≡ j) (j < k) → at (put rest k s) i ≡ at rest i → at (by_order o (blob k s (blob j t rest)) (blob j s rest) (blob j t (put rest k s))) i ≡ at (blob j t rest) i
+    by_cmp : (o : Ordering) → MatchOrdering o (k < j) (k ≡ j) (j < k)
+        → at (put rest k s) i ≡ at rest i
+        → at (by_order o (blob k s (blob j t rest)) (blob j s rest) (blob j t (put rest k s))) i
+        ≡ at (blob j t rest) i
     by_cmp Less l r = at_tail i k s (blob j t rest) n
     by_cmp Equal e r = at_tail i j s rest (λ f. n (f ∙ sym e)) ∙ sym (at_tail i j t rest (λ f. n (f ∙ sym e)))
     by_cmp Greater l r = ap (λ x. by_order (nat_cmp i j) x (Some t) x) r

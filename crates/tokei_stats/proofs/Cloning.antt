@@ -16,7 +16,9 @@ all_at P [] k t rest h = h.0
 all_at P (a ∷ old) k t rest h = all_at P old k t rest h.1
 
 -- an entry above all goes to the end
-insert_last : {A : Type 0} (old : List (ℕ × A)) (k : ℕ) (t : A) (rest : List (ℕ × A)) → IsStrictlySortedBy nat_cmp (keys_of (old ++ (k, t) ∷ rest)) → insert_entry nat_cmp old k t ++ rest ≡ old ++ (k, t) ∷ rest
+insert_last : {A : Type 0} (old : List (ℕ × A)) (k : ℕ) (t : A) (rest : List (ℕ × A))
+    → IsStrictlySortedBy nat_cmp (keys_of (old ++ (k, t) ∷ rest))
+    → insert_entry nat_cmp old k t ++ rest ≡ old ++ (k, t) ∷ rest
 unfolding IsStrictlySortedBy
 insert_last [] k t rest h = refl
 insert_last (a ∷ old) k t rest h =
@@ -27,7 +29,9 @@ insert_last (a ∷ old) k t rest h =
 
 insert_by : {A B : Type 0} (f : A → B) (o : Ordering) (k : ℕ) (v : A) (e : ℕ × A) (es : List (ℕ × A)) (more : List (ℕ × A)) (more' : List (ℕ × B))
     → map (λ e. (e.0, f e.1)) more ≡ more'
-    → map (λ e. (e.0, f e.1)) (match_ordering o ((k, v) ∷ e ∷ es) ((e.0, v) ∷ es) (e ∷ more)) ≡ match_ordering o ((k, f v) ∷ (e.0, f e.1) ∷ map (λ e. (e.0, f e.1)) es) ((e.0, f v) ∷ map (λ e. (e.0, f e.1)) es) ((e.0, f e.1) ∷ more')
+    → map (λ e. (e.0, f e.1)) (match_ordering o ((k, v) ∷ e ∷ es) ((e.0, v) ∷ es) (e ∷ more))
+    ≡ match_ordering o ((k, f v) ∷ (e.0, f e.1) ∷ map (λ e. (e.0, f e.1)) es)
+    ((e.0, f v) ∷ map (λ e. (e.0, f e.1)) es) ((e.0, f e.1) ∷ more')
 insert_by f Less k v e es more more' h = refl
 insert_by f Equal k v e es more more' h = refl
 insert_by f Greater k v e es more more' h = ap (λ w. (e.0, f e.1) ∷ w) h

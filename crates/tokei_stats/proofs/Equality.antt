@@ -79,7 +79,10 @@ mutual
       let but_blanks = second_of_both _ _ all in
       let but_code = second_of_both _ _ but_blanks in
       let but_comments = second_of_both _ _ but_code in
-      let same : counts a ≡ counts b = same_counts (counts a) (counts b) (eqb-true _ _ (first_of_both _ _ all)) (eqb-true _ _ (first_of_both _ _ but_blanks)) (eqb-true _ _ (first_of_both _ _ but_code)) in
+      let same : counts a ≡ counts b =
+      same_counts (counts a) (counts b) (eqb-true _ _ (first_of_both _ _ all))
+      (eqb-true _ _ (first_of_both _ _ but_blanks))
+      (eqb-true _ _ (first_of_both _ _ but_code)) in
       seen a ∙ same_node (counts a) (counts b) _ _ same (entries_seen bs (entries a) (entries b) (ap blobs (e ∙ seen a)) (first_of_both _ _ but_comments)) ∙ sym (seen b)
 
   entries_seen : (bs : Blobs) (es fs : List (ℕ × CodeStats)) → bs ≡ blobs_of (entries_of es) → equal_entries es fs ≡ true → blobs_of (entries_of es) ≡ blobs_of (entries_of fs)

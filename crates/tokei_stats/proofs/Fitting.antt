@@ -29,7 +29,11 @@ pub put-others : (f : Statistics → Statistics) (t : Statistics) → ((s : Stat
 put-others f t g none k h = tt
 put-others f t g (blob j s rest) k h = by_cmp (nat_cmp k j) h (put-others f t g rest k)
   where
-    by_cmp : (o : Ordering) → BlobsFit (by_order o (blob k (joined (by_order o (at rest k) (Some s) (at rest k)) f t) (blob j s rest)) (blob j (joined (by_order o (at rest k) (Some s) (at rest k)) f t) rest) (blob j s (put rest k (joined (by_order o (at rest k) (Some s) (at rest k)) f t))))
+    by_cmp : (o : Ordering)
+        → BlobsFit (by_order o
+        (blob k (joined (by_order o (at rest k) (Some s) (at rest k)) f t) (blob j s rest))
+        (blob j (joined (by_order o (at rest k) (Some s) (at rest k)) f t) rest)
+        (blob j s (put rest k (joined (by_order o (at rest k) (Some s) (at rest k)) f t))))
         → (BlobsFit (put rest k (joined (at rest k) f t)) → BlobsFit rest) → Fits s × BlobsFit rest
     by_cmp Less h r = h.1
     by_cmp Equal h r = (g s h.0, h.1)

@@ -74,9 +74,15 @@ put_summaries f t g none k h = plus_commutes (summary t) no_lines
 put_summaries f t g (blob j s rest) k h = by_cmp (nat_cmp k j) (ranks k j) (put_summaries f t g rest k h.1.1)
   where
     by_cmp : (o : Ordering) → MatchOrdering o (k < j) (k ≡ j) (j < k) → summaries (put rest k (joined (at rest k) f t)) ≡ plus (summaries rest) (summary t)
-        → summaries (by_order o (blob k (joined (by_order o (at rest k) (Some s) (at rest k)) f t) (blob j s rest)) (blob j (joined (by_order o (at rest k) (Some s) (at rest k)) f t) rest) (blob j s (put rest k (joined (by_order o (at rest k) (Some s) (at rest k)) f t))))
+        → summaries (by_order o
+        (blob k (joined (by_order o (at rest k) (Some s) (at rest k)) f t) (blob j s rest))
+        (blob j (joined (by_order o (at rest k) (Some s) (at rest k)) f t) rest)
+        (blob j s (put rest k (joined (by_order o (at rest k) (Some s) (at rest k)) f t))))
         ≡ plus (plus (summary s) (summaries rest)) (summary t)
-    by_cmp Less l r = ap (λ o. plus (summary (joined o f t)) (plus (summary s) (summaries rest))) (none_behind k rest (behind_less k j rest l h.1.0)) ∙ plus_commutes (summary t) (plus (summary s) (summaries rest))
+    by_cmp Less l r =
+        ap (λ o. plus (summary (joined o f t)) (plus (summary s) (summaries rest)))
+        (none_behind k rest (behind_less k j rest l h.1.0))
+        ∙ plus_commutes (summary t) (plus (summary s) (summaries rest))
     by_cmp Equal e r = ap (λ n. plus n (summaries rest)) (g s h.0) ∙ plus_associates (summary s) (summary t) (summaries rest)
         ∙ ap (plus (summary s)) (plus_commutes (summary t) (summaries rest)) ∙ sym (plus_associates (summary s) (summaries rest) (summary t))
     by_cmp Greater l r = ap (plus (summary s)) r ∙ sym (plus_associates (summary s) (summaries rest) (summary t))

@@ -32,7 +32,10 @@ above_push top (n ∷ ns) m =
 abbrev context_by : Bool → Tree → Rules → Names → Names → Context
 context_by b t r p ds = record { levels = map (λ a. level_at t r a.0) (cond b (folders_above [] (p ++ ds)) (folders_above p ds)); names = cond b (p ++ ds) ds; shown = p ++ ds }
 
-levels_push : (t : Tree) (r : Rules) (above more : List (Names × List ℕ)) (q : Names) (m : List ℕ) → more ≡ above ++ (q, m) ∷ [] → map (λ (a : Names × List ℕ). level_at t r a.0) above ++ level_at t r q ∷ [] ≡ map (λ (a : Names × List ℕ). level_at t r a.0) more
+levels_push : (t : Tree) (r : Rules) (above more : List (Names × List ℕ)) (q : Names) (m : List ℕ)
+    → more ≡ above ++ (q, m) ∷ []
+    → map (λ (a : Names × List ℕ). level_at t r a.0) above ++ level_at t r q ∷ []
+    ≡ map (λ (a : Names × List ℕ). level_at t r a.0) more
 levels_push t r above more q m e = sym (ap (map (λ (a : Names × List ℕ). level_at t r a.0)) e ∙ map-append (λ (a : Names × List ℕ). level_at t r a.0) above ((q, m) ∷ []))
 
 context_push : (b : Bool) (t : Tree) (r : Rules) (p ds : Names) (m : List ℕ) → under (with_level (context_by b t r p ds) (level_at t r (p ++ ds))) m ≡ context_by b t r p (ds ++ m ∷ [])
@@ -51,7 +54,9 @@ last_push (d ∷ []) m = refl
 last_push (d ∷ e ∷ ds) m = last_push (e ∷ ds) m
 
 -- an entry of a folder is dropped by its own chain
-drops_down : (xs : List Pattern) (r : Rules) (t : Tree) (p ds : Names) (m : List ℕ) (b : Bool) → drops xs r (with_level (context_at t r p ds) (level_at t r (p ++ ds))) m b ≡ is_dropped xs r t p (ds ++ m ∷ []) b
+drops_down : (xs : List Pattern) (r : Rules) (t : Tree) (p ds : Names) (m : List ℕ) (b : Bool)
+    → drops xs r (with_level (context_at t r p ds) (level_at t r (p ++ ds))) m b
+    ≡ is_dropped xs r t p (ds ++ m ∷ []) b
 unfolding is_dropped
 drops_down xs r t p ds m b = ap₂ (λ (c : Context) (n : List ℕ). drops_last xs r c n b) (context_down t r p ds m) (sym (last_push ds m))
 
@@ -86,7 +91,9 @@ never : (f : Bool) (rest : Bool) (x : List KeptFile) → nothing ≡ cond (f && 
 never true rest x = refl
 never false rest x = refl
 
-deep_tests : (f w c d e a g : Bool) (x : List KeptFile) → cond c (cond d nothing (cond (f && (w && (e && (a && g)))) x nothing)) nothing ≡ cond (f && (w && (c && (((e && not d) && a) && g)))) x nothing
+deep_tests : (f w c d e a g : Bool) (x : List KeptFile)
+    → cond c (cond d nothing (cond (f && (w && (e && (a && g)))) x nothing)) nothing
+    ≡ cond (f && (w && (c && (((e && not d) && a) && g)))) x nothing
 deep_tests false w c d e a g x = none_twice c d
 deep_tests true false c d e a g x = none_twice c d
 deep_tests true true false d e a g x = refl
@@ -111,7 +118,9 @@ walked_file xs r t root p (suc k) ds m (file a b content) =
 further : (ds : Names) (m : List ℕ) (ms : Names) → (ds ++ m ∷ []) ++ ms ≡ ds ++ m ∷ ms
 further ds m ms = append_assoc ds (m ∷ []) ms
 
-walked_deep : (xs : List Pattern) (r : Rules) (t : Tree) (root : List ℕ) (p : Names) (k : ℕ) (ds : Names) (m l : List ℕ) (ms : Names) (n : Node) → Down xs r t root p k (ds ++ m ∷ []) (l ∷ ms) n → Down xs r t root p (suc k) ds (m ∷ l ∷ ms) n
+walked_deep : (xs : List Pattern) (r : Rules) (t : Tree) (root : List ℕ) (p : Names) (k : ℕ)
+    (ds : Names) (m l : List ℕ) (ms : Names) (n : Node)
+    → Down xs r t root p k (ds ++ m ∷ []) (l ∷ ms) n → Down xs r t root p (suc k) ds (m ∷ l ∷ ms) n
 unfolding walked_down
 walked_deep xs r t root p k ds m l ms n ih =
     let c = can_list (node_at t (p ++ ds)) in
@@ -146,7 +155,15 @@ unfolding is_kept_below place_below
 gate_is xs r t root p [] n = walked_end xs r t 257 (context_at t r p []) root p n
 gate_is xs r t root p (m ∷ ms) n =
     ap (λ (q : Names). walked_down xs r t 257 (context_at t r p []) root q (m ∷ ms) n) (sym (append-nil p)) ∙ walked_passes xs r t root p 257 [] m ms n
-    ∙ ap₂ (λ (b : Bool) (q : Names). cond (is_file (Some n) && (b && (can_list (node_at t q) && (list_all (is_entered xs r t p) (between [] (m ∷ ms)) && not (is_dropped xs r t p (m ∷ ms) false))))) (file_at (place_below root (m ∷ ms)) ∷ []) []) (within_is (m ∷ ms) 257) (append-nil p)
+    ∙ ap₂
+    (λ (b : Bool) (q : Names). cond
+    (is_file (Some n)
+    && (b
+    && (can_list (node_at t q)
+    && (list_all (is_entered xs r t p) (between [] (m ∷ ms))
+    && not (is_dropped xs r t p (m ∷ ms) false)))))
+    (file_at (place_below root (m ∷ ms)) ∷ []) [])
+    (within_is (m ∷ ms) 257) (append-nil p)
 
 -- the filter, place by place
 one_kept : (root : List ℕ) (e : PlacedNode) (b : Bool) (rest : Tree) → cond b (kept_file root e ∷ []) [] ++ map (kept_file root) rest ≡ map (kept_file root) (cond b (e ∷ rest) rest)
@@ -158,7 +175,10 @@ gate_below : (xs : List Pattern) (r : Rules) (t : Tree) (root : List ℕ) (p : N
 gate_below xs r t root p None n u = refl
 gate_below xs r t root p (Some ns) n u = refl
 
-filtered : (xs : List Pattern) (r : Rules) (t : Tree) (root : List ℕ) (u : Tree) → flat_map (λ (e : PlacedNode). gate xs r t root (names_of root) e.names e.node) (inside (names_of root) u) ≡ map (kept_file root) (filter (is_kept xs r t (names_of root)) u)
+filtered : (xs : List Pattern) (r : Rules) (t : Tree) (root : List ℕ) (u : Tree)
+    → flat_map (λ (e : PlacedNode). gate xs r t root (names_of root) e.names e.node)
+    (inside (names_of root) u)
+    ≡ map (kept_file root) (filter (is_kept xs r t (names_of root)) u)
 unfolding is_kept
 filtered xs r t root [] = refl
 filtered xs r t root (e ∷ u) =

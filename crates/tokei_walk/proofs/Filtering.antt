@@ -33,7 +33,12 @@ of_file excludes rules d place m = cond (drops excludes rules d m false) [] (kep
 unfoldable pub walked_down : List Pattern → Rules → Tree → ℕ → Context → List ℕ → Names → Names → Node → List KeptFile
 walked_down excludes rules t zero c place q ms n = []
 walked_down excludes rules t (suc k) c place q ms n =
-    cond (can_list (node_at t q)) (place_gives (below_entry excludes rules (walked_down excludes rules t k) (with_level c (level_at t rules q)) place q) (of_file excludes rules (with_level c (level_at t rules q)) place) ms n) []
+    cond (can_list (node_at t q))
+    (place_gives
+    (below_entry excludes rules (walked_down excludes rules t k)
+    (with_level c (level_at t rules q)) place q)
+    (of_file excludes rules (with_level c (level_at t rules q)) place) ms n)
+    []
 
 abbrev pub nothing : List KeptFile
 nothing = []
@@ -50,10 +55,21 @@ walked_end xs r t (suc k) c place q n = none_by (can_list (node_at t q))
 walked_shut : (xs : List Pattern) (r : Rules) (t : Tree) (k : ℕ) (c : Context) (place : List ℕ) (q ms : Names) (n : Node) → can_list (node_at t q) ≡ false → walked_down xs r t k c place q ms n ≡ []
 unfolding walked_down
 walked_shut xs r t zero c place q ms n h = refl
-walked_shut xs r t (suc k) c place q ms n h = ap (λ (b : Bool). cond b (place_gives (below_entry xs r (walked_down xs r t k) (with_level c (level_at t r q)) place q) (of_file xs r (with_level c (level_at t r q)) place) ms n) []) h
+walked_shut xs r t (suc k) c place q ms n h =
+    ap
+    (λ (b : Bool). cond b
+    (place_gives
+    (below_entry xs r (walked_down xs r t k) (with_level c (level_at t r q)) place q)
+    (of_file xs r (with_level c (level_at t r q)) place) ms n)
+    [])
+    h
 
 -- the entries of a part, as a folder lists them
-listed_place : (g : Entry → List KeptFile) (ns : Names) (n : Node) (t : Tree) → flat_map g (entries_in [] (record { names = ns; node = n } ∷ t)) ≡ entry_gives (λ m. g (record { name = m; kind = Folder })) (λ m. g (record { name = m; kind = File })) ns n ++ flat_map g (entries_in [] t)
+listed_place : (g : Entry → List KeptFile) (ns : Names) (n : Node) (t : Tree)
+    → flat_map g (entries_in [] (record { names = ns; node = n } ∷ t))
+    ≡ entry_gives (λ m. g (record { name = m; kind = Folder }))
+    (λ m. g (record { name = m; kind = File })) ns n
+    ++ flat_map g (entries_in [] t)
 listed_place g [] n t = refl
 listed_place g (m ∷ []) (file a b c) t = refl
 listed_place g (m ∷ []) (folder a) t = refl
@@ -61,7 +77,13 @@ listed_place g (m ∷ l ∷ ms) n t = refl
 
 listed : (g : Entry → List KeptFile) (t : Tree) → flat_map g (entries_in [] t) ≡ entries_give (λ m. g (record { name = m; kind = Folder })) (λ m. g (record { name = m; kind = File })) t
 listed g [] = refl
-listed g (e ∷ t) = listed_place g e.names e.node t ∙ ap (λ (x : List KeptFile). entry_gives (λ m. g (record { name = m; kind = Folder })) (λ m. g (record { name = m; kind = File })) e.names e.node ++ x) (listed g t)
+listed g (e ∷ t) =
+    listed_place g e.names e.node t
+    ∙ ap
+    (λ (x : List KeptFile). entry_gives (λ m. g (record { name = m; kind = Folder }))
+    (λ m. g (record { name = m; kind = File })) e.names e.node
+    ++ x)
+    (listed g t)
 
 none_give : (b : Bool) (f : PlacedNode → List KeptFile) (t : Tree) → b ≡ true → flat_map (λ (e : PlacedNode). cond b [] (f e)) t ≡ []
 none_give true f [] h = refl
@@ -83,7 +105,10 @@ all_map false f t h = absurd (cc)
 
 -- what a folder gives by the descent, and by all the places below it
 abbrev Descends : List Pattern → Rules → Tree → ℕ → Type 0
-Descends xs r t k = (c : Context) (place : List ℕ) (q : Names) → names_of place ≡ q → descend xs r t k c place ≡ flat_map (λ (e : PlacedNode). walked_down xs r t k c place q e.names e.node) (inside q t)
+Descends xs r t k =
+    (c : Context) (place : List ℕ) (q : Names) → names_of place ≡ q
+    → descend xs r t k c place
+    ≡ flat_map (λ (e : PlacedNode). walked_down xs r t k c place q e.names e.node) (inside q t)
 
 child_gives : (xs : List Pattern) (r : Rules) (t : Tree) (k : ℕ) (d : Context) (place : List ℕ) (q : Names) (m : List ℕ) → Descends xs r t k → names_of place ≡ q → is_whole_name m ≡ true
     → cond (drops xs r d m true) [] (descend xs r t k (under d m) (joined place m)) ≡ group (below_entry xs r (walked_down xs r t k) d place q) (inside q t) m
@@ -114,14 +139,27 @@ entries_walked xs r t k d place q sound ih at =
     ∙ entries_same (λ m. is_whole_name m ≡ true) x (group f (inside q t)) (of_file xs r d place) (inside q t) (named_whole (inside q t) whole) (λ m w. child_gives xs r t k d place q m ih at w)
     ∙ grouped (of_file xs r d place) (inside q t) order f (ends xs r t k d place q) (closed xs r t k d place q)
 
-listing_by : (xs : List Pattern) (r : Rules) (t : Tree) (k : ℕ) (c : Context) (place : List ℕ) (q : Names) (b : Bool) → can_list (node_at t q) ≡ b → is_sound t ≡ true → Descends xs r t k → names_of place ≡ q
+listing_by : (xs : List Pattern) (r : Rules) (t : Tree) (k : ℕ) (c : Context) (place : List ℕ)
+    (q : Names) (b : Bool)
+    → can_list (node_at t q) ≡ b → is_sound t ≡ true → Descends xs r t k → names_of place ≡ q
     → of_listing (λ d at es. of_entries xs r (descend xs r t k) (with_level d (level_at t r (names_of at))) at es) c place (cond b (Ok (entries_in q t)) (Err Refused))
-    ≡ flat_map (λ (e : PlacedNode). cond b (place_gives (below_entry xs r (walked_down xs r t k) (with_level c (level_at t r q)) place q) (of_file xs r (with_level c (level_at t r q)) place) e.names e.node) []) (inside q t)
+    ≡ flat_map
+    (λ (e : PlacedNode). cond b
+    (place_gives
+    (below_entry xs r (walked_down xs r t k) (with_level c (level_at t r q)) place q)
+    (of_file xs r (with_level c (level_at t r q)) place) e.names e.node)
+    [])
+    (inside q t)
 unfolding of_entries
 listing_by xs r t k c place q true is sound ih at =
     ap (λ (p : Names). flat_map (of_entry xs r (descend xs r t k) (with_level c (level_at t r p)) place) (entries_in q t)) at
     ∙ entries_walked xs r t k (with_level c (level_at t r q)) place q sound ih at
-listing_by xs r t k c place q false is sound ih at = sym (none_map false (λ (e : PlacedNode). place_gives (below_entry xs r (walked_down xs r t k) (with_level c (level_at t r q)) place q) (of_file xs r (with_level c (level_at t r q)) place) e.names e.node) (inside q t) refl)
+listing_by xs r t k c place q false is sound ih at =
+    sym (none_map false
+    (λ (e : PlacedNode). place_gives
+    (below_entry xs r (walked_down xs r t k) (with_level c (level_at t r q)) place q)
+    (of_file xs r (with_level c (level_at t r q)) place) e.names e.node)
+    (inside q t) refl)
 
 empty_map : (t : Tree) → [] ≡ flat_map (λ (e : PlacedNode). nothing) t
 empty_map [] = refl
@@ -132,5 +170,10 @@ pub descends : (xs : List Pattern) (r : Rules) (t : Tree) (k : ℕ) → is_sound
 unfolding descend walked_down list_answer
 descends xs r t zero sound c place q at = empty_map (inside q t)
 descends xs r t (suc k) sound c place q at =
-    ap (λ (p : Names). of_listing (λ d place es. of_entries xs r (descend xs r t k) (with_level d (level_at t r (names_of place))) place es) c place (cond (can_list (node_at t p)) (Ok (entries_in p t)) (Err Refused))) at
+    ap
+    (λ (p : Names). of_listing
+    (λ d place es. of_entries xs r (descend xs r t k)
+    (with_level d (level_at t r (names_of place))) place es)
+    c place (cond (can_list (node_at t p)) (Ok (entries_in p t)) (Err Refused)))
+    at
     ∙ listing_by xs r t k c place q (can_list (node_at t q)) refl sound (descends xs r t k sound) at

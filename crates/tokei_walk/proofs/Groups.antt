@@ -146,19 +146,31 @@ gone_place m k r (j ∷ ns) n t e h =
 group_gone : (m k : List ℕ) (r : Names) (t : Tree) → name_cmp m k ≡ Less → is_first (k ∷ r) t ≡ true → inside (m ∷ []) t ≡ []
 group_gone m k r [] e h = refl
 group_gone m k r (a ∷ t) e h =
-    gone_place m k r a.names a.node (inside (m ∷ []) t) e (left_of_and (is_before (k ∷ r) a.names) (is_first (k ∷ r) t) h) ∙ group_gone m k r t e (right_of_and (is_before (k ∷ r) a.names) (is_first (k ∷ r) t) h)
+    gone_place m k r a.names a.node (inside (m ∷ []) t) e
+    (left_of_and (is_before (k ∷ r) a.names) (is_first (k ∷ r) t) h)
+    ∙ group_gone m k r t e (right_of_and (is_before (k ∷ r) a.names) (is_first (k ∷ r) t) h)
 
 -- an entry that isn't dropped is split off with all that lies below it
 abbrev Splits : Gives → (List ℕ → List KeptFile) → List ℕ → Tree → Type 0
 Splits f s m t = all_give f s t ≡ group f t m ++ all_give (without f m) s t
 
 -- a place below the entry
-split_same : (f : Gives) (s : List ℕ → List KeptFile) (m k l : List ℕ) (ms : Names) (n : Node) (t : Tree) → name_cmp m k ≡ Equal → Splits f s m t → Splits f s m (record { names = k ∷ l ∷ ms; node = n } ∷ t)
+split_same : (f : Gives) (s : List ℕ → List KeptFile) (m k l : List ℕ) (ms : Names) (n : Node)
+    (t : Tree)
+    → name_cmp m k ≡ Equal → Splits f s m t
+    → Splits f s m (record { names = k ∷ l ∷ ms; node = n } ∷ t)
 split_same f s m k l ms n t e ih =
     let same : m ≡ k = same_name m k (ap is_eq e) in
     let back : name_cmp k m ≡ Equal = ap (λ (x : List ℕ). name_cmp k x) same ∙ itself k in
-    let below_it : group f (record { names = k ∷ l ∷ ms; node = n } ∷ t) m ≡ f m (l ∷ ms) n ++ group f t m = ap (λ (o : Ordering). flat_map (λ (e : PlacedNode). f m e.names e.node) (put_below (cond (is_eq o) (Some (l ∷ ms)) None) n (inside (m ∷ []) t))) e in
-    let rest : all_give (without f m) s (record { names = k ∷ l ∷ ms; node = n } ∷ t) ≡ all_give (without f m) s t = ap (λ (o : Ordering). cond (is_eq o) [] (f k (l ∷ ms) n) ++ all_give (without f m) s t) back in
+    let below_it : group f (record { names = k ∷ l ∷ ms; node = n } ∷ t) m
+    ≡ f m (l ∷ ms) n ++ group f t m =
+    ap
+    (λ (o : Ordering). flat_map (λ (e : PlacedNode). f m e.names e.node)
+    (put_below (cond (is_eq o) (Some (l ∷ ms)) None) n (inside (m ∷ []) t)))
+    e in
+    let rest : all_give (without f m) s (record { names = k ∷ l ∷ ms; node = n } ∷ t)
+    ≡ all_give (without f m) s t =
+    ap (λ (o : Ordering). cond (is_eq o) [] (f k (l ∷ ms) n) ++ all_give (without f m) s t) back in
     ap₂ (λ (x : List ℕ) (y : List KeptFile). f x (l ∷ ms) n ++ y) (sym same) ih ∙ sym (append_assoc (f m (l ∷ ms) n) (group f t m) (all_give (without f m) s t))
     ∙ sym (ap₂ (λ (x y : List KeptFile). x ++ y) below_it rest)
 
@@ -168,21 +180,35 @@ without_other f s m k [] (folder a) e = refl
 without_other f s m k (l ∷ ms) n e = sym (ap (λ (b : Bool). cond b [] (f k (l ∷ ms) n)) e)
 
 -- a place behind the entry and all that lies below it
-split_other : (f : Gives) (s : List ℕ → List KeptFile) (m k : List ℕ) (ns : Names) (n : Node) (t : Tree) → name_cmp m k ≡ Less → is_first (k ∷ ns) t ≡ true → Splits f s m t → Splits f s m (record { names = k ∷ ns; node = n } ∷ t)
+split_other : (f : Gives) (s : List ℕ → List KeptFile) (m k : List ℕ) (ns : Names) (n : Node)
+    (t : Tree)
+    → name_cmp m k ≡ Less → is_first (k ∷ ns) t ≡ true → Splits f s m t
+    → Splits f s m (record { names = k ∷ ns; node = n } ∷ t)
 split_other f s m k ns n t e first ih =
     let other : is_eq (name_cmp k m) ≡ false = other_back m k (ap is_eq e) in
     let gone : inside (m ∷ []) t ≡ [] = group_gone m k ns t e first in
     let rest : all_give f s t ≡ all_give (without f m) s t = ih ∙ ap (λ (x : Tree). flat_map (λ (e : PlacedNode). f m e.names e.node) x ++ all_give (without f m) s t) gone in
-    let none : group f (record { names = k ∷ ns; node = n } ∷ t) m ≡ [] = ap₂ (λ (o : Ordering) (x : Tree). flat_map (λ (e : PlacedNode). f m e.names e.node) (put_below (cond (is_eq o) (Some ns) None) n x)) e gone in
+    let none : group f (record { names = k ∷ ns; node = n } ∷ t) m ≡ [] =
+    ap₂
+    (λ (o : Ordering) (x : Tree). flat_map (λ (e : PlacedNode). f m e.names e.node)
+    (put_below (cond (is_eq o) (Some ns) None) n x))
+    e gone in
     ap₂ (λ (x y : List KeptFile). x ++ y) (without_other f s m k ns n other) rest ∙ sym (ap (λ (x : List KeptFile). x ++ all_give (without f m) s (record { names = k ∷ ns; node = n } ∷ t)) none)
 
-split_by : (f : Gives) (s : List ℕ → List KeptFile) (m k : List ℕ) (ns : Names) (n : Node) (t : Tree) (o : Ordering) → name_cmp m k ≡ o → is_lt (ordering_then o (names_cmp [] ns)) ≡ true → is_first (k ∷ ns) t ≡ true → Splits f s m t → Splits f s m (record { names = k ∷ ns; node = n } ∷ t)
+split_by : (f : Gives) (s : List ℕ → List KeptFile) (m k : List ℕ) (ns : Names) (n : Node)
+    (t : Tree) (o : Ordering)
+    → name_cmp m k ≡ o → is_lt (ordering_then o (names_cmp [] ns)) ≡ true
+    → is_first (k ∷ ns) t ≡ true → Splits f s m t
+    → Splits f s m (record { names = k ∷ ns; node = n } ∷ t)
 split_by f s m k ns n t Less e h first ih = split_other f s m k ns n t e first ih
 split_by f s m k [] n t Equal e h first ih = absurd (cc)
 split_by f s m k (l ∷ ms) n t Equal e h first ih = split_same f s m k l ms n t e ih
 split_by f s m k ns n t Greater e h first ih = absurd (cc)
 
-split_place : (f : Gives) (s : List ℕ → List KeptFile) (m : List ℕ) (ns : Names) (n : Node) (t : Tree) → is_before (m ∷ []) ns ≡ true → is_first ns t ≡ true → Splits f s m t → Splits f s m (record { names = ns; node = n } ∷ t)
+split_place : (f : Gives) (s : List ℕ → List KeptFile) (m : List ℕ) (ns : Names) (n : Node)
+    (t : Tree)
+    → is_before (m ∷ []) ns ≡ true → is_first ns t ≡ true → Splits f s m t
+    → Splits f s m (record { names = ns; node = n } ∷ t)
 split_place f s m [] n t h first ih = absurd (cc)
 split_place f s m (k ∷ ns) n t h first ih =
     let before : is_lt (ordering_then (name_cmp m k) (names_cmp [] ns)) ≡ true = h in
@@ -202,7 +228,11 @@ skip_by f n t k false ends = refl
 skip_end : (f : Gives) (m : List ℕ) (n : Node) (t : Tree) (k : List ℕ) → Ends f → group f (record { names = m ∷ []; node = n } ∷ t) k ≡ group f t k
 skip_end f m n t k ends = skip_by f n t k (is_eq (name_cmp k m)) ends
 
-deep_by : (f : Gives) (m : List ℕ) (ms : Names) (n : Node) (t : Tree) (k : List ℕ) (b : Bool) → is_eq (name_cmp k m) ≡ b → f m ms n ≡ [] → flat_map (λ (e : PlacedNode). f k e.names e.node) (put_below (cond b (Some ms) None) n (inside (k ∷ []) t)) ≡ group f t k
+deep_by : (f : Gives) (m : List ℕ) (ms : Names) (n : Node) (t : Tree) (k : List ℕ) (b : Bool)
+    → is_eq (name_cmp k m) ≡ b → f m ms n ≡ []
+    → flat_map (λ (e : PlacedNode). f k e.names e.node)
+    (put_below (cond b (Some ms) None) n (inside (k ∷ []) t))
+    ≡ group f t k
 deep_by f m ms n t k true is none = ap (λ (x : List KeptFile). x ++ group f t k) (ap (λ (x : List ℕ). f x ms n) (same_name k m is) ∙ none)
 deep_by f m ms n t k false is none = refl
 
@@ -218,7 +248,10 @@ closed_by : (b : Bool) (n : Node) (o : Option Node) → can_list (Some n) ≡ fa
 closed_by true n o h k = h
 closed_by false n o h k = k
 
-file_step : (f : Gives) (s : List ℕ → List KeptFile) (m : List ℕ) (n : Node) (t : Tree) → can_list (Some n) ≡ false → Ends f → Closed f (record { names = m ∷ []; node = n } ∷ t) → Grouped s t → entries_give (group f (record { names = m ∷ []; node = n } ∷ t)) s t ≡ all_give f s t
+file_step : (f : Gives) (s : List ℕ → List KeptFile) (m : List ℕ) (n : Node) (t : Tree)
+    → can_list (Some n) ≡ false → Ends f → Closed f (record { names = m ∷ []; node = n } ∷ t)
+    → Grouped s t
+    → entries_give (group f (record { names = m ∷ []; node = n } ∷ t)) s t ≡ all_give f s t
 file_step f s m n t none ends closed ih =
     all_same (group f (record { names = m ∷ []; node = n } ∷ t)) (group f t) s t (λ k. skip_end f m n t k ends)
     ∙ ih f ends (λ k h. closed k (closed_by (is_eq (names_cmp (m ∷ []) (k ∷ []))) n (node_at t (k ∷ [])) none h))
@@ -227,7 +260,10 @@ without_ends : (f : Gives) (m k : List ℕ) (n : Node) (b : Bool) → Ends f →
 without_ends f m k n true ends = refl
 without_ends f m k n false ends = ends k n
 
-without_closed : (f : Gives) (m : List ℕ) (n : Node) (t : Tree) (k : List ℕ) (ms : Names) (x : Node) (b : Bool) → is_eq (name_cmp k m) ≡ b → can_list (node_at t (k ∷ [])) ≡ false → Closed f (record { names = m ∷ []; node = n } ∷ t) → cond b [] (f k ms x) ≡ []
+without_closed : (f : Gives) (m : List ℕ) (n : Node) (t : Tree) (k : List ℕ) (ms : Names) (x : Node)
+    (b : Bool)
+    → is_eq (name_cmp k m) ≡ b → can_list (node_at t (k ∷ [])) ≡ false
+    → Closed f (record { names = m ∷ []; node = n } ∷ t) → cond b [] (f k ms x) ≡ []
 without_closed f m n t k ms x true is h closed = refl
 without_closed f m n t k ms x false is h closed =
     let other : is_eq (names_cmp (m ∷ []) (k ∷ [])) ≡ false = first_unequal (name_cmp m k) Equal (other_back k m is) in
@@ -237,7 +273,9 @@ same_without : (f : Gives) (m k : List ℕ) (b : Bool) (t : Tree) → b ≡ fals
 same_without f m k true t e = absurd (cc)
 same_without f m k false t e = refl
 
-folder_step : (f : Gives) (s : List ℕ → List KeptFile) (m : List ℕ) (n : Node) (t : Tree) → is_first (m ∷ []) t ≡ true → is_in_order t ≡ true → Ends f → Closed f (record { names = m ∷ []; node = n } ∷ t) → Grouped s t
+folder_step : (f : Gives) (s : List ℕ → List KeptFile) (m : List ℕ) (n : Node) (t : Tree)
+    → is_first (m ∷ []) t ≡ true → is_in_order t ≡ true → Ends f
+    → Closed f (record { names = m ∷ []; node = n } ∷ t) → Grouped s t
     → group f (record { names = m ∷ []; node = n } ∷ t) m ++ entries_give (group f (record { names = m ∷ []; node = n } ∷ t)) s t ≡ all_give f s t
 folder_step f s m n t first order ends closed ih =
     let rest : entries_give (group f (record { names = m ∷ []; node = n } ∷ t)) s t ≡ entries_give (group (without f m) t) s t =
@@ -252,7 +290,10 @@ deep_unequal Less = refl
 deep_unequal Equal = refl
 deep_unequal Greater = refl
 
-deep_step : (f : Gives) (s : List ℕ → List KeptFile) (m l : List ℕ) (ms : Names) (n : Node) (t : Tree) → is_first (m ∷ l ∷ ms) t ≡ true → Closed f (record { names = m ∷ l ∷ ms; node = n } ∷ t) → Ends f → Grouped s t
+deep_step : (f : Gives) (s : List ℕ → List KeptFile) (m l : List ℕ) (ms : Names) (n : Node)
+    (t : Tree)
+    → is_first (m ∷ l ∷ ms) t ≡ true → Closed f (record { names = m ∷ l ∷ ms; node = n } ∷ t)
+    → Ends f → Grouped s t
     → entries_give (group f (record { names = m ∷ l ∷ ms; node = n } ∷ t)) s t ≡ f m (l ∷ ms) n ++ all_give f s t
 deep_step f s m l ms n t first closed ends ih =
     let here : (k : List ℕ) → is_eq (names_cmp (m ∷ l ∷ ms) (k ∷ [])) ≡ false = λ k. deep_unequal (name_cmp m k) in
@@ -270,4 +311,7 @@ step s (m ∷ l ∷ ms) n t first order ih f ends closed = deep_step f s m l ms 
 
 pub grouped : (s : List ℕ → List KeptFile) (t : Tree) → is_in_order t ≡ true → Grouped s t
 grouped s [] h = λ f ends closed. refl
-grouped s (e ∷ t) h = step s e.names e.node t (left_of_and (is_first e.names t) (is_in_order t) h) (right_of_and (is_first e.names t) (is_in_order t) h) (grouped s t (right_of_and (is_first e.names t) (is_in_order t) h))
+grouped s (e ∷ t) h =
+    step s e.names e.node t (left_of_and (is_first e.names t) (is_in_order t) h)
+    (right_of_and (is_first e.names t) (is_in_order t) h)
+    (grouped s t (right_of_and (is_first e.names t) (is_in_order t) h))

@@ -60,7 +60,9 @@ pub below_append : (q ns : Names) → below q (q ++ ns) ≡ Some ns
 below_append [] ns = refl
 below_append (d ∷ ds) ns = ap (λ (o : Ordering). cond (is_eq o) (below ds (ds ++ ns)) None) (itself d) ∙ below_append ds ns
 
-put_first : (q a us : Names) (e : PlacedNode) (t : Tree) (o : Option Names) → below q a ≡ Some us → below q e.names ≡ o → is_before a e.names ≡ true → is_first us t ≡ true → is_first us (put_below o e.node t) ≡ true
+put_first : (q a us : Names) (e : PlacedNode) (t : Tree) (o : Option Names) → below q a ≡ Some us
+    → below q e.names ≡ o → is_before a e.names ≡ true → is_first us t ≡ true
+    → is_first us (put_below o e.node t) ≡ true
 put_first q a us e t None h is k m = m
 put_first q a us e t (Some bs) h is k m = both (is_before us bs) (is_first us t) (ap is_lt (sym (below_cmp q a e.names us bs h is)) ∙ k) m
 
@@ -69,7 +71,9 @@ inside_first q a us [] h k = refl
 inside_first q a us (e ∷ t) h k =
     put_first q a us e (inside q t) (below q e.names) h refl (left_of_and (is_before a e.names) (is_first a t) k) (inside_first q a us t h (right_of_and (is_before a e.names) (is_first a t) k))
 
-put_order : (q : Names) (e : PlacedNode) (t : Tree) (o : Option Names) → below q e.names ≡ o → is_first e.names t ≡ true → is_in_order (inside q t) ≡ true → is_in_order (put_below o e.node (inside q t)) ≡ true
+put_order : (q : Names) (e : PlacedNode) (t : Tree) (o : Option Names) → below q e.names ≡ o
+    → is_first e.names t ≡ true → is_in_order (inside q t) ≡ true
+    → is_in_order (put_below o e.node (inside q t)) ≡ true
 put_order q e t None is h k = k
 put_order q e t (Some bs) is h k = both (is_first bs (inside q t)) (is_in_order (inside q t)) (inside_first q e.names bs t is h) k
 
@@ -90,7 +94,10 @@ put_names q e t (Some bs) is h k = both (list_all is_whole_name bs) (list_all ha
 -- and has whole names
 pub inside_names : (q : Names) (t : Tree) → list_all has_names t ≡ true → list_all has_names (inside q t) ≡ true
 inside_names q [] h = refl
-inside_names q (e ∷ t) h = put_names q e (inside q t) (below q e.names) refl (left_of_and (has_names e) (list_all has_names t) h) (inside_names q t (right_of_and (has_names e) (list_all has_names t) h))
+inside_names q (e ∷ t) h =
+    put_names q e (inside q t) (below q e.names) refl
+    (left_of_and (has_names e) (list_all has_names t) h)
+    (inside_names q t (right_of_and (has_names e) (list_all has_names t) h))
 
 abbrev then_below : Option Names → Names → Option Names
 then_below None r = None
@@ -133,7 +140,9 @@ unequal_back Greater p e h = ap is_eq e
 pub other_back : (m n : List ℕ) → is_eq (name_cmp m n) ≡ false → is_eq (name_cmp n m) ≡ false
 other_back m n h = unequal_back (name_cmp m n) (name_cmp n m) (nat_list_cmp_total.antisymm n m) h
 
-unequal_by : (b : Bool) (d n : List ℕ) (o : Option Names) (p : Ordering) → is_eq (name_cmp d n) ≡ b → cond b o None ≡ None → (o ≡ None → is_eq p ≡ false) → is_eq (ordering_then (name_cmp n d) p) ≡ false
+unequal_by : (b : Bool) (d n : List ℕ) (o : Option Names) (p : Ordering) → is_eq (name_cmp d n) ≡ b
+    → cond b o None ≡ None → (o ≡ None → is_eq p ≡ false)
+    → is_eq (ordering_then (name_cmp n d) p) ≡ false
 unequal_by true d n o p is e rest = rest_unequal (name_cmp n d) p (rest e)
 unequal_by false d n o p is e rest = first_unequal (name_cmp n d) p (other_back d n is)
 
@@ -142,7 +151,10 @@ outside_unequal [] x ns e = absurd (cc)
 outside_unequal (d ∷ ds) [] ns e = refl
 outside_unequal (d ∷ ds) (n ∷ x) ns e = unequal_by (is_eq (name_cmp d n)) d n (below ds x) (names_cmp x (ds ++ ns)) refl e (outside_unequal ds x ns)
 
-node_by : (q ns : Names) (e : PlacedNode) (t : Tree) (o : Option Names) (rest : Option Node) → below q e.names ≡ o → node_at t ns ≡ rest → node_at (put_below o e.node t) ns ≡ cond (is_eq (names_cmp e.names (q ++ ns))) (Some e.node) rest
+node_by : (q ns : Names) (e : PlacedNode) (t : Tree) (o : Option Names) (rest : Option Node)
+    → below q e.names ≡ o → node_at t ns ≡ rest
+    → node_at (put_below o e.node t) ns
+    ≡ cond (is_eq (names_cmp e.names (q ++ ns))) (Some e.node) rest
 node_by q ns e t None rest is h = h ∙ ap (λ (b : Bool). cond b (Some e.node) rest) (sym (outside_unequal q e.names ns is))
 node_by q ns e t (Some bs) rest is h =
     ap₂ (λ (b : Bool) (o : Option Node). cond b (Some e.node) o) (ap is_eq (sym (below_cmp q e.names (q ++ ns) bs ns is (below_append q ns)))) h

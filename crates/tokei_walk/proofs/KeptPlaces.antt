@@ -65,7 +65,9 @@ kept_stands_by t root e (Some ns) more is h s k =
     ap (λ (q : Names). is_file (node_at t q)) at ∙ ap is_file s ∙ left_of_and (is_file (Some e.node)) more (right_of_and (not (is_empty ns)) (is_file (Some e.node) && more) k)
 
 -- a place that is kept is a file of the tree
-kept_stands : (xs : List Pattern) (r : Rules) (t : Tree) (root : List ℕ) (e : PlacedNode) → has_names e ≡ true → node_at t e.names ≡ Some e.node → is_kept xs r t (names_of root) e ≡ true → is_file_of t (kept_file root e) ≡ true
+kept_stands : (xs : List Pattern) (r : Rules) (t : Tree) (root : List ℕ) (e : PlacedNode)
+    → has_names e ≡ true → node_at t e.names ≡ Some e.node → is_kept xs r t (names_of root) e ≡ true
+    → is_file_of t (kept_file root e) ≡ true
 unfolding is_kept
 kept_stands xs r t root e h s k = kept_stands_by t root e (below (names_of root) e.names) (is_kept_below xs r t (names_of root) (names_below (names_of root) e)) refl h s k
 
@@ -95,11 +97,17 @@ of_root_by t false fs h = h
 of_one_root : (xs : List Pattern) (r : Rules) (t : Tree) (root : List ℕ) → is_sound t ≡ true → list_all (is_file_of t) (kept_of xs r t root) ≡ true
 unfolding kept_of is_sound
 of_one_root xs r t root h =
-    of_root_by t (is_empty root) (kept_at xs r t root (node_at t (names_of root))) (at_root xs r t root (node_at t (names_of root)) refl (left_of_and (is_in_order t) (list_all has_names t) h) (right_of_and (is_in_order t) (list_all has_names t) h))
+    of_root_by t (is_empty root) (kept_at xs r t root (node_at t (names_of root)))
+    (at_root xs r t root (node_at t (names_of root)) refl
+    (left_of_and (is_in_order t) (list_all has_names t) h)
+    (right_of_and (is_in_order t) (list_all has_names t) h))
 
 -- each kept file is a file of the tree
 pub kept_are_files : (xs : List Pattern) (r : Rules) (t : Tree) (roots : List (List ℕ)) → is_sound t ≡ true → list_all (is_file_of t) (kept_in xs r t roots) ≡ true
 unfolding kept_in
 kept_are_files xs r t [] h = refl
 kept_are_files xs r t (root ∷ roots) h =
-    list_all-append (is_file_of t) (kept_of xs r t root) (flat_map (kept_of xs r t) roots) ∙ both (list_all (is_file_of t) (kept_of xs r t root)) (list_all (is_file_of t) (flat_map (kept_of xs r t) roots)) (of_one_root xs r t root h) (kept_are_files xs r t roots h)
+    list_all-append (is_file_of t) (kept_of xs r t root) (flat_map (kept_of xs r t) roots)
+    ∙ both (list_all (is_file_of t) (kept_of xs r t root))
+    (list_all (is_file_of t) (flat_map (kept_of xs r t) roots)) (of_one_root xs r t root h)
+    (kept_are_files xs r t roots h)

@@ -33,7 +33,10 @@ either_some : {X : Type 0} (b : Bool) (x : X) (o : Option X) → is_some (cond b
 either_some true x o = refl
 either_some false x o = refl
 
-listed_by : (m : List ℕ) (ns : Names) (n : Node) (es : List Entry) (o : Option Node) → lists es m ≡ is_some o → lists (entry_named (only_name (Some ns)) n es) m ≡ is_some (cond (is_eq (names_cmp ns (m ∷ []))) (Some n) o)
+listed_by : (m : List ℕ) (ns : Names) (n : Node) (es : List Entry) (o : Option Node)
+    → lists es m ≡ is_some o
+    → lists (entry_named (only_name (Some ns)) n es) m
+    ≡ is_some (cond (is_eq (names_cmp ns (m ∷ []))) (Some n) o)
 listed_by m [] n es o h = h
 listed_by m (k ∷ []) n es o h =
     ap (λ (b : Bool). is_eq (name_cmp k m) || b) h ∙ sym (either_some (is_eq (name_cmp k m)) n o) ∙ ap (λ (b : Bool). is_some (cond b (Some n) o)) (sym (then_equal (name_cmp k m)))
@@ -67,6 +70,10 @@ unfolding level_of listed level_at ignore_file_at has_git
 level_listed t r p es e =
     let seen : (m : List ℕ) → lists es m ≡ is_some (node_at t (p ++ m ∷ [])) = λ m. ap (λ (fs : List Entry). lists fs m) (entries_are t p es e) ∙ listed_names p t m in
     let git : (r.git && lists es (codes ".git")) ≡ (r.git && is_some (node_at t (p ++ codes ".git" ∷ []))) = ap (λ (b : Bool). r.git && b) (seen (codes ".git")) in
-    same_level (sought_by r.dot (lists es (codes ".tokeignore")) (node_at t (p ++ codes ".tokeignore" ∷ [])) (seen (codes ".tokeignore"))) (sought_by r.dot (lists es (codes ".ignore")) (node_at t (p ++ codes ".ignore" ∷ [])) (seen (codes ".ignore")))
+    same_level
+    (sought_by r.dot (lists es (codes ".tokeignore"))
+    (node_at t (p ++ codes ".tokeignore" ∷ [])) (seen (codes ".tokeignore")))
+    (sought_by r.dot (lists es (codes ".ignore")) (node_at t (p ++ codes ".ignore" ∷ []))
+    (seen (codes ".ignore")))
     (sought_by r.git (lists es (codes ".gitignore")) (node_at t (p ++ codes ".gitignore" ∷ [])) (seen (codes ".gitignore")))
     (ap (λ (b : Bool). cond b (patterns_at (node_at t (p ++ codes ".git" ∷ codes "info" ∷ codes "exclude" ∷ []))) []) git) git

@@ -26,13 +26,19 @@ decision-push source (k ∷ ls) l names entered found =
 pub nearest_decides : (source : Source) (whole ls : List Level) (l : Level) (names below : Names) (entered : Bool) (v : Verdict) → whole ≡ ls ++ l ∷ [] → below ≡ drop (length ls) names
     → Some v ≡ last_fitting (patterns_from source l) below entered → Some v ≡ decision source whole names entered None
 nearest_decides source whole ls l names below entered v is at e =
-    ap (λ (o : Option Verdict). or_else o (decision source ls names entered None)) (e ∙ ap (λ (ns : Names). last_fitting (patterns_from source l) ns entered) at) ∙ sym (ap (λ (w : List Level). decision source w names entered None) is ∙ decision-push source ls l names entered None)
+    ap (λ (o : Option Verdict). or_else o (decision source ls names entered None))
+    (e ∙ ap (λ (ns : Names). last_fitting (patterns_from source l) ns entered) at)
+    ∙ sym (ap (λ (w : List Level). decision source w names entered None) is
+    ∙ decision-push source ls l names entered None)
 
 -- where it doesn't, those above it decide
 pub nearest_passes : (source : Source) (whole ls : List Level) (l : Level) (names below : Names) (entered : Bool) → whole ≡ ls ++ l ∷ [] → below ≡ drop (length ls) names
     → None ≡ last_fitting (patterns_from source l) below entered → decision source ls names entered None ≡ decision source whole names entered None
 nearest_passes source whole ls l names below entered is at e =
-    ap (λ (o : Option Verdict). or_else o (decision source ls names entered None)) (e ∙ ap (λ (ns : Names). last_fitting (patterns_from source l) ns entered) at) ∙ sym (ap (λ (w : List Level). decision source w names entered None) is ∙ decision-push source ls l names entered None)
+    ap (λ (o : Option Verdict). or_else o (decision source ls names entered None))
+    (e ∙ ap (λ (ns : Names). last_fitting (patterns_from source l) ns entered) at)
+    ∙ sym (ap (λ (w : List Level). decision source w names entered None) is
+    ∙ decision-push source ls l names entered None)
 
 -- no folder decides nothing
 pub none_decides : (source : Source) (ls : List Level) (names : Names) (entered : Bool) → length ls ≡ 0 → None ≡ decision source ls names entered None

@@ -16,7 +16,11 @@ none_left t w true is h = to_come_failed t w is
 none_left t w false is h =
     let spent = left_of_and (is_spent w.stack) (is_empty w.roots) h in
     to_come_left t w is
-    ∙ all_ended _ _ t w.stack w.roots (nothing_in w.stack.left (left_of_and (is_empty w.stack.left) (is_empty w.stack.holders) spent)) (nothing_in w.stack.holders (right_of_and (is_empty w.stack.left) (is_empty w.stack.holders) spent))
+    ∙ all_ended _ _ t w.stack w.roots
+    (nothing_in w.stack.left
+    (left_of_and (is_empty w.stack.left) (is_empty w.stack.holders) spent))
+    (nothing_in w.stack.holders
+    (right_of_and (is_empty w.stack.left) (is_empty w.stack.holders) spent))
     (nothing_in w.roots (right_of_and (is_spent w.stack) (is_empty w.roots) h))
 
 -- nothing is to come

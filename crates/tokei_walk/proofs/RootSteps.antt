@@ -35,9 +35,15 @@ turned found front a is = ap reverse is ∙ reverse-append front (a ∷ [])
 pub names_over_pop : (found front : List Above) (a : Above) → found ≡ front ++ a ∷ [] → names_over found ≡ a.name ∷ names_over front
 names_over_pop found front a is = ap (λ (q : List Above). map (λ b. b.1) (map above_view q)) (turned found front a is)
 
-pub levels_over_pop : (t : Tree) (r : Rules) (found front : List Above) (a : Above) (l : Level) (at : List ℕ) → found ≡ front ++ a ∷ [] → l ≡ level_at t r (names_of at) → at ≡ a.place → levels_over t r found ≡ l ∷ levels_over t r front
+pub levels_over_pop : (t : Tree) (r : Rules) (found front : List Above) (a : Above) (l : Level)
+    (at : List ℕ)
+    → found ≡ front ++ a ∷ [] → l ≡ level_at t r (names_of at) → at ≡ a.place
+    → levels_over t r found ≡ l ∷ levels_over t r front
 levels_over_pop t r found front a l at is level place =
-    ap (λ (q : List Above). map (λ b. level_at t r b.0) (map above_view q)) (turned found front a is) ∙ ap (λ (k : Level). k ∷ levels_over t r front) (sym (level ∙ ap (λ p. level_at t r (names_of p)) place))
+    ap (λ (q : List Above). map (λ b. level_at t r b.0) (map above_view q))
+    (turned found front a is)
+    ∙ ap (λ (k : Level). k ∷ levels_over t r front)
+    (sym (level ∙ ap (λ p. level_at t r (names_of p)) place))
 
 names_down : (top p : Names) → map (λ a. a.1) (folders_above top p) ≡ p
 names_down top [] = refl
@@ -47,7 +53,10 @@ if_on : {X : Type 0} (b : Bool) (x y : X) → b ≡ true → x ≡ cond b x y
 if_on true x y e = refl
 if_on false x y e = absurd (cc)
 
-pub context_told : (t : Tree) (r : Rules) (p : Names) (found : List Above) (c : Context) → r.parents ≡ true → map above_view (reverse found) ≡ folders_above [] p → c.levels ≡ levels_over t r found → c.names ≡ names_over found → c.shown ≡ p → c ≡ root_context t r p
+pub context_told : (t : Tree) (r : Rules) (p : Names) (found : List Above) (c : Context)
+    → r.parents ≡ true → map above_view (reverse found) ≡ folders_above [] p
+    → c.levels ≡ levels_over t r found → c.names ≡ names_over found → c.shown ≡ p
+    → c ≡ root_context t r p
 unfolding root_context levels_above
 context_told t r p found c on is levels names shown =
     same_context (levels ∙ ap (map (λ a. level_at t r a.0)) is ∙ if_on r.parents _ [] on) (names ∙ ap (map (λ a. a.1)) is ∙ names_down [] p ∙ if_on r.parents p [] on) shown
@@ -94,7 +103,9 @@ root_missing xs r t root e k = named xs r t root e ∙ node_missing xs r t root 
 pub root_file : (xs : List Pattern) (r : Rules) (t : Tree) (root : List ℕ) → is_empty root ≡ false → Some File ≡ node_kind (node_at t (names_of root)) → of_root xs r t root ≡ kept root
 root_file xs r t root e k = named xs r t root e ∙ node_file xs r t root (node_at t (names_of root)) (sym k)
 
-pub root_folder : (xs : List Pattern) (r : Rules) (t : Tree) (root : List ℕ) → is_empty root ≡ false → Some Folder ≡ node_kind (node_at t (names_of root)) → of_root xs r t root ≡ of_node xs r t root (Some (folder false))
+pub root_folder : (xs : List Pattern) (r : Rules) (t : Tree) (root : List ℕ) → is_empty root ≡ false
+    → Some Folder ≡ node_kind (node_at t (names_of root))
+    → of_root xs r t root ≡ of_node xs r t root (Some (folder false))
 root_folder xs r t root e k = named xs r t root e ∙ node_folder xs r t root (node_at t (names_of root)) (sym k)
 
 pub root_other : (t : Tree) (root : List ℕ) → Some Other ≡ node_kind (node_at t (names_of root)) → ⊥
@@ -116,7 +127,10 @@ unfolding of_roots
 roots_pop xs r t roots front root is = ap (λ q. flat_map (of_root xs r t) q) (ap reverse is ∙ reverse-append front (root ∷ []))
 
 -- the next root, where nothing of the one before is left
-pub root_begins : (xs : List Pattern) (r : Rules) (t : Tree) (s v : Stack) (roots front : List (List ℕ)) (root : List ℕ) → Stays s v → v.left ≡ [] → v.holders ≡ [] → of_top xs r t s ≡ [] → roots ≡ front ++ root ∷ [] → of_all xs r t s roots ≡ of_root xs r t root ++ of_roots xs r t front
+pub root_begins : (xs : List Pattern) (r : Rules) (t : Tree) (s v : Stack)
+    (roots front : List (List ℕ)) (root : List ℕ)
+    → Stays s v → v.left ≡ [] → v.holders ≡ [] → of_top xs r t s ≡ [] → roots ≡ front ++ root ∷ []
+    → of_all xs r t s roots ≡ of_root xs r t root ++ of_roots xs r t front
 root_begins xs r t s v roots front root stays left below none is =
     ap₂ (λ (a b : List KeptFile). a ++ b) (explored_none xs r t s v stays left none ∙ empty_gives xs r t v left below) (roots_pop xs r t roots front root is)
 
@@ -129,7 +143,9 @@ unfolding to_come
 to_come_failed t w e = ap (λ b. cond b [] (of_all w.settings.excludes w.settings.rules t w.stack w.roots)) e
 
 -- a walk that is begun has all files of its roots to come
-pub begun : (t : Tree) (w : Walk) (xs : List Pattern) (roots : List (List ℕ)) → w.failed ≡ false → w.settings.excludes ≡ xs → w.stack.left ≡ [] → w.stack.holders ≡ [] → w.roots ≡ reverse roots → to_come t w ≡ descended xs w.settings.rules t roots
+pub begun : (t : Tree) (w : Walk) (xs : List Pattern) (roots : List (List ℕ)) → w.failed ≡ false
+    → w.settings.excludes ≡ xs → w.stack.left ≡ [] → w.stack.holders ≡ [] → w.roots ≡ reverse roots
+    → to_come t w ≡ descended xs w.settings.rules t roots
 unfolding of_roots descended
 begun t w xs roots e is left below turned_round =
     to_come_left t w e ∙ ap (λ (q : List KeptFile). q ++ of_roots w.settings.excludes w.settings.rules t w.roots) (empty_gives w.settings.excludes w.settings.rules t w.stack left below)

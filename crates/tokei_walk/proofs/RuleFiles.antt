@@ -13,7 +13,10 @@ use Rattle.tokei_walk.specs.declared.levels.Rules.{Rules}
 use Rattle.tokei_ignore.specs.declared.patterns.Pattern.{Pattern}
 
 -- what is told of a joined place is told of the names
-pub told_of_joined : {X E : Type 0} (r : Result X E) (f : Names → X) (on : Bool) (none : X) (w p n : List ℕ) → on ≡ true → w ≡ joined p n → IfOk r (λ x. x ≡ f (names_of w)) → IfOk r (λ x. x ≡ cond on (f (names_of p ++ names_of n)) none)
+pub told_of_joined : {X E : Type 0} (r : Result X E) (f : Names → X) (on : Bool) (none : X)
+    (w p n : List ℕ)
+    → on ≡ true → w ≡ joined p n → IfOk r (λ x. x ≡ f (names_of w))
+    → IfOk r (λ x. x ≡ cond on (f (names_of p ++ names_of n)) none)
 told_of_joined r f on none w p n is_on is h =
     let same = ap names_of is ∙ names_of-joined p n in
     let q : f (names_of w) ≡ cond on (f (names_of p ++ names_of n)) none = ap f same ∙ sym (ap (λ b. cond b (f (names_of p ++ names_of n)) none) is_on) in

@@ -54,39 +54,73 @@ top_step xs r t s u entry h =
     ap (of_entries xs r (descend xs r t (256 - length s.holders)) s.context s.place) h.0 ∙ ap (λ (v : Stack). entry_of xs r t v entry ++ of_top xs r t v) (sym h.1)
 
 entry_is : (xs : List Pattern) (r : Rules) (t : Tree) (u : Stack) (entry : Entry) (k : Kind) → entry.kind ≡ k
-    → entry_of xs r t u entry ≡ of_kind k (drops xs r u.context entry.name (is_folder k)) (joined u.place entry.name) (descend xs r t (256 - length u.holders) (under u.context entry.name) (joined u.place entry.name))
+    → entry_of xs r t u entry
+    ≡ of_kind k (drops xs r u.context entry.name (is_folder k)) (joined u.place entry.name)
+    (descend xs r t (256 - length u.holders) (under u.context entry.name)
+    (joined u.place entry.name))
 unfolding of_entry
 entry_is xs r t u entry k e =
-    ap (λ (j : Kind). of_kind j (drops xs r u.context entry.name (is_folder j)) (joined u.place entry.name) (descend xs r t (256 - length u.holders) (under u.context entry.name) (joined u.place entry.name))) e
+    ap
+    (λ (j : Kind). of_kind j (drops xs r u.context entry.name (is_folder j))
+    (joined u.place entry.name)
+    (descend xs r t (256 - length u.holders) (under u.context entry.name)
+    (joined u.place entry.name)))
+    e
 
 pub tells_other : (xs : List Pattern) (r : Rules) (t : Tree) (s u : Stack) (entry : Entry) → Pops s u (Some entry) → entry.kind ≡ Other → of_top xs r t s ≡ of_top xs r t u
 tells_other xs r t s u entry h e = top_step xs r t s u entry h ∙ ap (λ (q : List KeptFile). q ++ of_top xs r t u) (entry_is xs r t u entry Other e)
 
 -- the folders that hold the walked one give the same
-same_frames : (xs : List Pattern) (r : Rules) (t : Tree) (s u : Stack) (entry : Entry) → Pops s u (Some entry) → of_frames xs r t (outer s.context) (reverse s.holders) ≡ of_frames xs r t (outer u.context) (reverse u.holders)
+same_frames : (xs : List Pattern) (r : Rules) (t : Tree) (s u : Stack) (entry : Entry)
+    → Pops s u (Some entry)
+    → of_frames xs r t (outer s.context) (reverse s.holders)
+    ≡ of_frames xs r t (outer u.context) (reverse u.holders)
 same_frames xs r t s u entry h = ap (λ (v : Stack). of_frames xs r t (outer v.context) (reverse v.holders)) (sym h.1)
 
 stack_step : (xs : List Pattern) (r : Rules) (t : Tree) (s u : Stack) (entry : Entry) → Pops s u (Some entry) → of_stack xs r t s ≡ entry_of xs r t u entry ++ of_stack xs r t u
 stack_step xs r t s u entry h =
-    ap₂ (λ (a b : List KeptFile). a ++ b) (top_step xs r t s u entry h) (same_frames xs r t s u entry h) ∙ append_assoc (entry_of xs r t u entry) (of_top xs r t u) (of_frames xs r t (outer u.context) (reverse u.holders))
+    ap₂ (λ (a b : List KeptFile). a ++ b) (top_step xs r t s u entry h)
+    (same_frames xs r t s u entry h)
+    ∙ append_assoc (entry_of xs r t u entry) (of_top xs r t u)
+    (of_frames xs r t (outer u.context) (reverse u.holders))
 
-file_tells : (xs : List Pattern) (r : Rules) (t : Tree) (s u : Stack) (place : List ℕ) (b : Bool) → of_top xs r t s ≡ cond b [] (kept place) ++ of_top xs r t u → of_stack xs r t s ≡ cond b [] (kept place) ++ of_stack xs r t u → StepTells xs r t s u (file_kept b place)
+file_tells : (xs : List Pattern) (r : Rules) (t : Tree) (s u : Stack) (place : List ℕ) (b : Bool)
+    → of_top xs r t s ≡ cond b [] (kept place) ++ of_top xs r t u
+    → of_stack xs r t s ≡ cond b [] (kept place) ++ of_stack xs r t u
+    → StepTells xs r t s u (file_kept b place)
 file_tells xs r t s u place true top all = top
 file_tells xs r t s u place false top all = all
 
-pub tells_file : (xs : List Pattern) (r : Rules) (t : Tree) (s u v : Stack) (entry : Entry) (st : Step) → Pops s u (Some entry) → entry.kind ≡ File → v ≡ u → st ≡ file_kept (drops xs r u.context entry.name false) (joined u.place entry.name) → StepTells xs r t s v st
+pub tells_file : (xs : List Pattern) (r : Rules) (t : Tree) (s u v : Stack) (entry : Entry)
+    (st : Step)
+    → Pops s u (Some entry) → entry.kind ≡ File → v ≡ u
+    → st ≡ file_kept (drops xs r u.context entry.name false) (joined u.place entry.name)
+    → StepTells xs r t s v st
 tells_file xs r t s u v entry st h e same is =
     let own = entry_is xs r t u entry File e in
     let top = top_step xs r t s u entry h ∙ ap (λ (q : List KeptFile). q ++ of_top xs r t u) own in
     let all = stack_step xs r t s u entry h ∙ ap (λ (q : List KeptFile). q ++ of_stack xs r t u) own in
     let P : Stack → Step → Type 0 = λ w x. StepTells xs r t s w x in
-    subst (λ (x : Step). P v x) (sym is) (subst (λ (w : Stack). P w (file_kept (drops xs r u.context entry.name false) (joined u.place entry.name))) (sym same) (file_tells xs r t s u (joined u.place entry.name) (drops xs r u.context entry.name false) top all))
+    subst (λ (x : Step). P v x) (sym is) (subst
+    (λ (w : Stack). P w
+    (file_kept (drops xs r u.context entry.name false) (joined u.place entry.name)))
+    (sym same)
+    (file_tells xs r t s u (joined u.place entry.name) (drops xs r u.context entry.name false)
+    top all))
 
-pub tells_folder_none : (xs : List Pattern) (r : Rules) (t : Tree) (s u v : Stack) (entry : Entry) → Pops s u (Some entry) → entry.kind ≡ Folder → v ≡ u → of_folder xs r t u entry.name (joined u.place entry.name) ≡ [] → of_top xs r t s ≡ of_top xs r t v
+pub tells_folder_none : (xs : List Pattern) (r : Rules) (t : Tree) (s u v : Stack) (entry : Entry)
+    → Pops s u (Some entry) → entry.kind ≡ Folder → v ≡ u
+    → of_folder xs r t u entry.name (joined u.place entry.name) ≡ []
+    → of_top xs r t s ≡ of_top xs r t v
 tells_folder_none xs r t s u v entry h e same none =
     top_step xs r t s u entry h ∙ ap (λ (q : List KeptFile). q ++ of_top xs r t u) (entry_is xs r t u entry Folder e ∙ none) ∙ ap (of_top xs r t) (sym same)
 
-pub tells_folder_some : (xs : List Pattern) (r : Rules) (t : Tree) (s u v : Stack) (entry : Entry) (k : KeptFile) → Pops s u (Some entry) → entry.kind ≡ Folder → of_folder xs r t u entry.name (joined u.place entry.name) ++ of_stack xs r t u ≡ k ∷ of_stack xs r t v → of_stack xs r t s ≡ k ∷ of_stack xs r t v
+pub tells_folder_some : (xs : List Pattern) (r : Rules) (t : Tree) (s u v : Stack) (entry : Entry)
+    (k : KeptFile)
+    → Pops s u (Some entry) → entry.kind ≡ Folder
+    → of_folder xs r t u entry.name (joined u.place entry.name) ++ of_stack xs r t u
+    ≡ k ∷ of_stack xs r t v
+    → of_stack xs r t s ≡ k ∷ of_stack xs r t v
 tells_folder_some xs r t s u v entry k h e some =
     stack_step xs r t s u entry h ∙ ap (λ (q : List KeptFile). q ++ of_stack xs r t u) (entry_is xs r t u entry Folder e) ∙ some
 
@@ -116,18 +150,32 @@ unlisted xs r t (suc n) c place e =
 pub visit_refused : (xs : List Pattern) (r : Rules) (t : Tree) (s : Stack) (name place : List ℕ) → list_answer t (names_of place) ≡ Err Refused → of_folder xs r t s name place ≡ []
 visit_refused xs r t s name place e = nothing_either (drops xs r s.context name true) _ (unlisted xs r t (256 - length s.holders) (under s.context name) place e)
 
-listed : (xs : List Pattern) (r : Rules) (t : Tree) (n : ℕ) (c : Context) (place : List ℕ) (es : List Entry) → list_answer t (names_of place) ≡ Ok es → descend xs r t (suc n) c place ≡ of_entries xs r (descend xs r t n) (with_level c (level_at t r (names_of place))) place es
+listed : (xs : List Pattern) (r : Rules) (t : Tree) (n : ℕ) (c : Context) (place : List ℕ)
+    (es : List Entry)
+    → list_answer t (names_of place) ≡ Ok es
+    → descend xs r t (suc n) c place
+    ≡ of_entries xs r (descend xs r t n) (with_level c (level_at t r (names_of place))) place es
 unfolding descend
 listed xs r t n c place es e = ap (of_listing (λ d at fs. of_entries xs r (descend xs r t n) (with_level d (level_at t r (names_of at))) at fs) c place) e
 
-same_top : (xs : List Pattern) (r : Rules) (t : Tree) {n n' : ℕ} {c c' : Context} {p p' : List ℕ} (es : List Entry) → n ≡ n' → c ≡ c' → p ≡ p' → of_entries xs r (descend xs r t n) c p es ≡ of_entries xs r (descend xs r t n') c' p' es
+same_top : (xs : List Pattern) (r : Rules) (t : Tree) {n n' : ℕ} {c c' : Context} {p p' : List ℕ}
+    (es : List Entry)
+    → n ≡ n' → c ≡ c' → p ≡ p'
+    → of_entries xs r (descend xs r t n) c p es ≡ of_entries xs r (descend xs r t n') c' p' es
 same_top xs r t es a b q = λ i. of_entries xs r (descend xs r t (a i)) (b i) (q i) es
 
-entered_context : (s u : Stack) (c : Context) (l : Level) (place name : List ℕ) → c ≡ under s.context name → Enters (with_context s c) u place → u.context.levels ≡ c.levels ++ l ∷ [] → with_level (under s.context name) l ≡ u.context
+entered_context : (s u : Stack) (c : Context) (l : Level) (place name : List ℕ)
+    → c ≡ under s.context name → Enters (with_context s c) u place
+    → u.context.levels ≡ c.levels ++ l ∷ [] → with_level (under s.context name) l ≡ u.context
 entered_context s u c l place name is h levels =
-    same_context (ap (λ (d : Context). d.levels ++ l ∷ []) (sym is) ∙ sym levels) (ap (λ (d : Context). d.names) (sym is) ∙ sym h.names_stay) (ap (λ (d : Context). d.shown) (sym is) ∙ sym h.shown_stay)
+    same_context (ap (λ (d : Context). d.levels ++ l ∷ []) (sym is) ∙ sym levels)
+    (ap (λ (d : Context). d.names) (sym is) ∙ sym h.names_stay)
+    (ap (λ (d : Context). d.shown) (sym is) ∙ sym h.shown_stay)
 
-pub visit_entered : (xs : List Pattern) (r : Rules) (t : Tree) (s u : Stack) (c : Context) (name place : List ℕ) → c ≡ under s.context name → drops xs r s.context name true ≡ false → length s.holders < 256 → Enters (with_context s c) u place → EntersTold t r (with_context s c) u place
+pub visit_entered : (xs : List Pattern) (r : Rules) (t : Tree) (s u : Stack) (c : Context)
+    (name place : List ℕ)
+    → c ≡ under s.context name → drops xs r s.context name true ≡ false → length s.holders < 256
+    → Enters (with_context s c) u place → EntersTold t r (with_context s c) u place
     → of_folder xs r t s name place ≡ of_top xs r t u
 visit_entered xs r t s u c name place is kept_in shallow h told =
     let n = 255 - length s.holders in
@@ -139,9 +187,16 @@ visit_entered xs r t s u c name place is kept_in shallow h told =
 
 outer_is : (s u : Stack) (c : Context) (name place : List ℕ) → c ≡ under s.context name → Enters (with_context s c) u place → outer u.context ≡ s.context
 outer_is s u c name place is h =
-    same_context (h.levels_is ∙ ap (λ (d : Context). d.levels) is) (ap without_last (h.names_stay ∙ ap (λ (d : Context). d.names) is) ∙ without_last-push s.context.names name) (ap without_last (h.shown_stay ∙ ap (λ (d : Context). d.shown) is) ∙ without_last-push s.context.shown name)
+    same_context (h.levels_is ∙ ap (λ (d : Context). d.levels) is)
+    (ap without_last (h.names_stay ∙ ap (λ (d : Context). d.names) is)
+    ∙ without_last-push s.context.names name)
+    (ap without_last (h.shown_stay ∙ ap (λ (d : Context). d.shown) is)
+    ∙ without_last-push s.context.shown name)
 
-pub stack_entered : (xs : List Pattern) (r : Rules) (t : Tree) (s u : Stack) (c : Context) (name place : List ℕ) → c ≡ under s.context name → Enters (with_context s c) u place → of_stack xs r t u ≡ of_top xs r t u ++ of_stack xs r t s
+pub stack_entered : (xs : List Pattern) (r : Rules) (t : Tree) (s u : Stack) (c : Context)
+    (name place : List ℕ)
+    → c ≡ under s.context name → Enters (with_context s c) u place
+    → of_stack xs r t u ≡ of_top xs r t u ++ of_stack xs r t s
 unfolding of_frames
 stack_entered xs r t s u c name place is h =
     let f : Frame = record { place = s.place; left = s.left } in
@@ -168,12 +223,21 @@ pub refused_stack : (s u : Stack) (d e : Context) (name : List ℕ) → u ≡ wi
 refused_stack s u d e name same is took =
     ap (λ (v : Stack). with_context v e) same ∙ forgotten_stack s d e name is (took ∙ ap (λ (v : Stack). without_name v.context) same)
 
-pub file_told : (xs : List Pattern) (r : Rules) (t : Tree) (s u v : Stack) (entry : Entry) (q : Result Step AllocError) → Pops s u (Some entry) → entry.kind ≡ File → OnOk q (v ≡ u) → IfOk q (λ st. st ≡ file_kept (drops xs r u.context entry.name false) (joined u.place entry.name)) → IfOk q (λ st. StepTells xs r t s v st)
+pub file_told : (xs : List Pattern) (r : Rules) (t : Tree) (s u v : Stack) (entry : Entry)
+    (q : Result Step AllocError)
+    → Pops s u (Some entry) → entry.kind ≡ File → OnOk q (v ≡ u)
+    → IfOk q (λ st. st
+    ≡ file_kept (drops xs r u.context entry.name false) (joined u.place entry.name))
+    → IfOk q (λ st. StepTells xs r t s v st)
 file_told xs r t s u v entry (Ok st) h e same is = tells_file xs r t s u v entry st h e same is
 file_told xs r t s u v entry (Err x) h e same is = tt
 
 -- a root that is walked
-pub root_entered : (xs : List Pattern) (r : Rules) (t : Tree) (s : Stack) (c d : Context) (l : Level) (root : List ℕ) → list_answer t (names_of root) ≡ Ok (reverse s.left) → c ≡ d → l ≡ level_at t r (names_of root) → s.context ≡ with_level c l → s.place ≡ root → s.holders ≡ [] → descend xs r t 257 d root ≡ of_stack xs r t s
+pub root_entered : (xs : List Pattern) (r : Rules) (t : Tree) (s : Stack) (c d : Context)
+    (l : Level) (root : List ℕ)
+    → list_answer t (names_of root) ≡ Ok (reverse s.left) → c ≡ d → l ≡ level_at t r (names_of root)
+    → s.context ≡ with_level c l → s.place ≡ root → s.holders ≡ []
+    → descend xs r t 257 d root ≡ of_stack xs r t s
 unfolding of_frames
 root_entered xs r t s c d l root entries is level context place below =
     let at : with_level d (level_at t r (names_of root)) ≡ s.context = sym (context ∙ ap₂ with_level is level) in
@@ -188,7 +252,10 @@ empty_gives xs r t s left below =
     ap₂ (λ (a b : List KeptFile). a ++ b) (top_ends xs r t s (ap reverse left)) (ap (λ (fs : List Frame). of_frames xs r t (outer s.context) (reverse fs)) below)
 
 -- a root that can't be listed leaves an empty stack
-pub root_unlisted : (xs : List Pattern) (r : Rules) (t : Tree) (s : Stack) (d : Context) (root : List ℕ) → list_answer t (names_of root) ≡ Err Refused → s.left ≡ [] → s.holders ≡ [] → descend xs r t 257 d root ≡ of_stack xs r t s
+pub root_unlisted : (xs : List Pattern) (r : Rules) (t : Tree) (s : Stack) (d : Context)
+    (root : List ℕ)
+    → list_answer t (names_of root) ≡ Err Refused → s.left ≡ [] → s.holders ≡ []
+    → descend xs r t 257 d root ≡ of_stack xs r t s
 root_unlisted xs r t s d root refused left below = unlisted xs r t 257 d root refused ∙ sym (empty_gives xs r t s left below)
 
 -- where the walked folder gives nothing more, what holds it goes on

@@ -41,7 +41,8 @@ is_folder File = false
 is_folder Folder = true
 is_folder Other = false
 
--- the files of an entry of the folder at `place`: of a file itself, of a folder those inside
+-- the files of an entry of the folder at `place`: a file itself, or those inside a folder, and
+-- none where the entry is dropped
 unfoldable pub of_entry : List Pattern → Rules → (Context → List ℕ → List KeptFile) → Context
     → List ℕ → Entry → List KeptFile
 of_entry excludes rules inside c place e =

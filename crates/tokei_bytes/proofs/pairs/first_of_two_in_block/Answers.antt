@@ -19,7 +19,10 @@ returns-clause-high c =
     let o : ℕ = bit_and c.marks_of_one.result (bit_not w64 c.marks_of_one-firsts.result) in
     let b : ℕ = bit_and c.marks_of_one-firsts.result c.marks_of_one-2.result in
     let m : ℕ = bit_or o b in
-    let small : m < 2 ^ 64 = or_lt 64 o b (omega (arith, and_le_l c.marks_of_one.result (bit_not w64 c.marks_of_one-firsts.result))) (omega (arith, and_le_l c.marks_of_one-firsts.result c.marks_of_one-2.result)) in
+    let small : m < 2 ^ 64 =
+    or_lt 64 o b
+    (omega (arith, and_le_l c.marks_of_one.result (bit_not w64 c.marks_of_one-firsts.result)))
+    (omega (arith, and_le_l c.marks_of_one-firsts.result c.marks_of_one-2.result)) in
     let lowest = bit_at-trailing_zeros w64 m (omega arith) small in
     let low = low_of_two a.other a.first a.second a.text.now a.from c.marks_of_one.result c.marks_of_one-firsts.result c.marks_of_one-2.result m
     c.requires c.marks_of_one.ensures c.marks_of_one-firsts.ensures c.marks_of_one-2.ensures (omega arith) refl _ lowest.1 in
@@ -31,7 +34,10 @@ returns-clause-passed c =
     let o : ℕ = bit_and c.marks_of_one.result (bit_not w64 c.marks_of_one-firsts.result) in
     let b : ℕ = bit_and c.marks_of_one-firsts.result c.marks_of_one-2.result in
     let m : ℕ = bit_or o b in
-    let small : m < 2 ^ 64 = or_lt 64 o b (omega (arith, and_le_l c.marks_of_one.result (bit_not w64 c.marks_of_one-firsts.result))) (omega (arith, and_le_l c.marks_of_one-firsts.result c.marks_of_one-2.result)) in
+    let small : m < 2 ^ 64 =
+    or_lt 64 o b
+    (omega (arith, and_le_l c.marks_of_one.result (bit_not w64 c.marks_of_one-firsts.result)))
+    (omega (arith, and_le_l c.marks_of_one-firsts.result c.marks_of_one-2.result)) in
     let lowest = bit_at-trailing_zeros w64 m (omega arith) small in
     let low = low_of_two a.other a.first a.second a.text.now a.from c.marks_of_one.result c.marks_of_one-firsts.result c.marks_of_one-2.result m
     c.requires c.marks_of_one.ensures c.marks_of_one-firsts.ensures c.marks_of_one-2.ensures (omega arith) refl _ lowest.1 in
@@ -44,7 +50,10 @@ returns-clause-found c = λ inside.
     let o : ℕ = bit_and c.marks_of_one.result (bit_not w64 c.marks_of_one-firsts.result) in
     let b : ℕ = bit_and c.marks_of_one-firsts.result c.marks_of_one-2.result in
     let m : ℕ = bit_or o b in
-    let small : m < 2 ^ 64 = or_lt 64 o b (omega (arith, and_le_l c.marks_of_one.result (bit_not w64 c.marks_of_one-firsts.result))) (omega (arith, and_le_l c.marks_of_one-firsts.result c.marks_of_one-2.result)) in
+    let small : m < 2 ^ 64 =
+    or_lt 64 o b
+    (omega (arith, and_le_l c.marks_of_one.result (bit_not w64 c.marks_of_one-firsts.result)))
+    (omega (arith, and_le_l c.marks_of_one-firsts.result c.marks_of_one-2.result)) in
     let lowest = bit_at-trailing_zeros w64 m (omega arith) small in
     let low = low_of_two a.other a.first a.second a.text.now a.from c.marks_of_one.result c.marks_of_one-firsts.result c.marks_of_one-2.result m
     c.requires c.marks_of_one.ensures c.marks_of_one-firsts.ensures c.marks_of_one-2.ensures (omega arith) refl _ lowest.1 in

@@ -23,7 +23,9 @@ loop-next-preserved c =
     let e = c.newline_before-newline.ensures in
     let some : at < length text = omega (arith, c.loop-next-test.true, c.requires.high) in
     let stop_is : c.line_stop-stop.result ≡ at + length (first_line (drop at text)) =
-    line_stops text at c.newline_before-newline.result c.args.to c.line_stop-stop.result c.loop-next-test.true c.requires.high e.high e.line e.found c.line_stop-stop.ensures.more c.line_stop-stop.ensures.last c.if-to-stop.false in
+    line_stops text at c.newline_before-newline.result c.args.to c.line_stop-stop.result
+    c.loop-next-test.true c.requires.high e.high e.line e.found c.line_stop-stop.ensures.more
+    c.line_stop-stop.ensures.last c.if-to-stop.false in
     record {
       under_way = calm_more c.args.reading.now c.args.so_far.now c.args.item c.loop-next.within c.one_more.new.lines at c.line_stop-stop.result c.args.to c.class_within-class.result
           c.loop-next.invariant.low c.loop-next.invariant.under_way c.one_more.ensures some c.requires.within stop_is c.if-to-stop.false
@@ -34,4 +36,7 @@ loop-next-preserved c =
     }
 
 pub returns-in_err-so_far-clause-overflow : goal.returns-in_err-so_far-clause-overflow
-returns-in_err-so_far-clause-overflow c = λ is fits. c.in_err-so_far.ensures.past (counts_fit c.args.reading.now (gone_within c.args.so_far.now c.loop-next.within c.loop-next.next) c.loop-next.invariant.under_way fits)
+returns-in_err-so_far-clause-overflow c =
+    λ is fits. c.in_err-so_far.ensures.past (counts_fit c.args.reading.now
+    (gone_within c.args.so_far.now c.loop-next.within c.loop-next.next)
+    c.loop-next.invariant.under_way fits)

@@ -10,5 +10,8 @@ returns-clause-len c = ap (λ n. c.args.from + n) (c.marked_len.ensures.value �
 
 pub returns-clause-end : goal.returns-clause-end
 returns-clause-end c =
-    let len : c.marked_len.result ≡ marked_len c.args.mark.now (lines_of (drop c.args.from c.args.text.now)) = c.marked_len.ensures.value ∙ ap (λ t. marked_len c.args.mark.now (lines_of t)) (take_rest c.args.text.now c.args.from) in
+    let len : c.marked_len.result
+    ≡ marked_len c.args.mark.now (lines_of (drop c.args.from c.args.text.now)) =
+    c.marked_len.ensures.value
+    ∙ ap (λ t. marked_len c.args.mark.now (lines_of t)) (take_rest c.args.text.now c.args.from) in
     rw len (doc_end (sought c.args.text.now c.args.mark.now) c.args.from)

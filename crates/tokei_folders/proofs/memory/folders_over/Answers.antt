@@ -16,7 +16,10 @@ loop-name-init c = record {
 pub loop-name-preserved : goal.loop-name-preserved
 loop-name-preserved c =
     let p = c.args.names.now in let i = c.loop-name.name-index in let n = c.name-item.result in let inv = c.loop-name.invariant in
-    let made : c.in_ok-next.next ≡ joined c.loop-name.place n = c.in_ok-next.ensures.place ∙ ap (λ (x : List ℕ). joined x c.as_str-in-loop-name.result.now) c.as_str.ensures ∙ ap (joined c.loop-name.place) c.as_str-in-loop-name.ensures in
+    let made : c.in_ok-next.next ≡ joined c.loop-name.place n =
+    c.in_ok-next.ensures.place
+    ∙ ap (λ (x : List ℕ). joined x c.as_str-in-loop-name.result.now) c.as_str.ensures
+    ∙ ap (joined c.loop-name.place) c.as_str-in-loop-name.ensures in
     let copied = c.in_ok-name.ensures ∙ c.as_str-in-loop-name-2.ensures in
     record {
       here = next_place p i c.loop-name.place n c.in_ok-next.next c.loop-name-test.true c.name-item.is c.requires inv.here made;
@@ -24,4 +27,8 @@ loop-name-preserved c =
     }
 
 pub returns : goal.returns
-returns c = ap (map above_view) (ap reverse c.reverse.ensures.turned ∙ reverse-reverse c.loop-name.found) ∙ sym (c.loop-name.invariant.found ∙ found_end c.args.names.now c.loop-name.name-index (map above_view c.loop-name.found) c.loop-name-test.false)
+returns c =
+    ap (map above_view) (ap reverse c.reverse.ensures.turned ∙ reverse-reverse c.loop-name.found)
+    ∙ sym (c.loop-name.invariant.found
+    ∙ found_end c.args.names.now c.loop-name.name-index (map above_view c.loop-name.found)
+    c.loop-name-test.false)

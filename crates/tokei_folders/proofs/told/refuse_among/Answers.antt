@@ -8,4 +8,7 @@ use Rattle.tokei_folders.proofs.told.refuse_among.Goals as goal
 pub returns-then-eq : goal.returns-then-eq
 returns-then-eq c =
     let same = ap (λ (x : Names). names_cmp x c.args.names.now) (sym c.as_slice.ensures) ∙ sym c.compare.ensures in
-    changed_here _ c.args.names.now c.loop-place.places c.args.places.now c.loop-place.place-index c.place-item.result _ c.loop-place-test.true c.loop-place.invariant.same (ap is_eq same ∙ is_eq_index c.compare.result ∙ sym c.if-eq.ensures) c.refuse_call.ensures c.loop-place.invariant.rest
+    changed_here _ c.args.names.now c.loop-place.places c.args.places.now c.loop-place.place-index
+    c.place-item.result _ c.loop-place-test.true c.loop-place.invariant.same
+    (ap is_eq same ∙ is_eq_index c.compare.result ∙ sym c.if-eq.ensures) c.refuse_call.ensures
+    c.loop-place.invariant.rest

@@ -10,7 +10,9 @@ pub returns-then-fits : goal.returns-then-fits
 returns-then-fits c =
     let names = c.args.names.now in let folder = c.args.folder in let p = c.in-Some.pattern.now in
     let fits : fits_entry p names folder ≡ true = sym c.fits.ensures ∙ c.if-fits.true in
-    ap Some c.given_by.ensures ∙ sym (decided c.in-Some.front.now p names folder fits) ∙ ap (λ (ps : List Pattern). last_fitting ps names folder) (sym c.in-Some.ensures.cases.0) ∙ c.loop-pattern.invariant
+    ap Some c.given_by.ensures ∙ sym (decided c.in-Some.front.now p names folder fits)
+    ∙ ap (λ (ps : List Pattern). last_fitting ps names folder) (sym c.in-Some.ensures.cases.0)
+    ∙ c.loop-pattern.invariant
 
 pub loop-pattern-preserved : goal.loop-pattern-preserved
 loop-pattern-preserved c =

@@ -17,7 +17,10 @@ loop-others-smaller-in-AtSpan c =
 pub loop-others-preserved-in-AtSpan : goal.loop-others-preserved-in-AtSpan
 loop-others-preserved-in-AtSpan c = (
   search rules,
-  c.loop-others.invariant.1 ∙ search_after spans_characters fits_character c.loop-others.left.now (chars c.loop-others.start.now) c.in-AtSpan.others.now (chars c.in-AtSpan.rest.now) c.in-AtSpan.ensures,
+  c.loop-others.invariant.1
+      ∙ search_after spans_characters fits_character c.loop-others.left.now
+      (chars c.loop-others.start.now) c.in-AtSpan.others.now (chars c.in-AtSpan.rest.now)
+      c.in-AtSpan.ensures,
 )
 
 pub returns-in-None : goal.returns-in-None
@@ -31,5 +34,7 @@ loop-others-preserved c =
     let e = c.in-Some.ensures.0 in
     let r = c.in-Fails.ensures ∙ ap (name_reach c.loop-others.left.now) e in (
       c.in-Some.ensures.2,
-      c.loop-others.invariant.1 ∙ ap (at_some_end (fits_characters c.loop-others.left.now)) e ∙ search_on spans_characters fits_character c.loop-others.left.now c.in-Some.field-0-0 (chars c.in-Some.later.now) r,
+      c.loop-others.invariant.1 ∙ ap (at_some_end (fits_characters c.loop-others.left.now)) e
+          ∙ search_on spans_characters fits_character c.loop-others.left.now c.in-Some.field-0-0
+          (chars c.in-Some.later.now) r,
     )

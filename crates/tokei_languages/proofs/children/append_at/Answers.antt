@@ -24,7 +24,9 @@ returns-in_err-append-clause-err c =
 pub returns-in-Some-clause-ok : goal.returns-in-Some-clause-ok
 returns-in-Some-clause-ok c =
     ap children_of (c.get_mut.follows.holds c.append.new.self).0
-    ∙ set_seen reports_of (λ rs. rs ++ reports_of c.args.reports) (reports_of c.args.reports) c.args.children.now.entries c.args.language c.in-Some.there.now c.append.new.self c.in-Some.ensures.ordered (sym c.in-Some.ensures.value)
+    ∙ set_seen reports_of (λ rs. rs ++ reports_of c.args.reports) (reports_of c.args.reports)
+    c.args.children.now.entries c.args.language c.in-Some.there.now c.append.new.self
+    c.in-Some.ensures.ordered (sym c.in-Some.ensures.value)
     (ap (map report_of) c.in_ok-append.ensures.items ∙ map-append report_of c.in-Some.there.now.items c.args.reports.items)
 
 pub returns-in-Some-clause-back : goal.returns-in-Some-clause-back
@@ -40,5 +42,10 @@ returns-clause-ok c =
 
 pub returns-clause-back : goal.returns-clause-back
 returns-clause-back c =
-    ap (λ es. taken_back None (children_of es) c.args.language) (c.in_ok-_none.ensures.entries ∙ ap (λ (m : BTreeMap ℕ (Vec Report Global)). insert_entry nat_cmp m.entries c.args.language c.args.reports) c.get_mut.follows.holds-at-none)
+    ap (λ es. taken_back None (children_of es) c.args.language)
+    (c.in_ok-_none.ensures.entries
+    ∙ ap
+    (λ (m : BTreeMap ℕ (Vec Report Global)). insert_entry nat_cmp m.entries
+    c.args.language c.args.reports)
+    c.get_mut.follows.holds-at-none)
     ∙ insert_taken_back reports_of c.args.children.now.entries c.args.language c.args.reports (sym c.in_default.ensures.value)

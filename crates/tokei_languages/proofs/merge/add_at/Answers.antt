@@ -22,12 +22,17 @@ returns-in_err-before-clause-err c =
 pub returns-in-Some-clause-ok : goal.returns-in-Some-clause-ok
 returns-in-Some-clause-ok c =
     ap entries_of (c.get_mut.follows.holds c.grow.new.self).0
-    ∙ set_seen language_of (λ s. merged_language s (language_of c.args.more)) (language_of c.args.more) c.args.languages.now.entries c.args.language c.in-Some.there.now c.grow.new.self c.in-Some.ensures.ordered (sym c.in-Some.ensures.value) c.in_ok-before.ensures.ok
+    ∙ set_seen language_of (λ s. merged_language s (language_of c.args.more))
+    (language_of c.args.more) c.args.languages.now.entries c.args.language c.in-Some.there.now
+    c.grow.new.self c.in-Some.ensures.ordered (sym c.in-Some.ensures.value)
+    c.in_ok-before.ensures.ok
 
 pub returns-in-Some-clause-back : goal.returns-in-Some-clause-back
 returns-in-Some-clause-back c =
     ap (λ es. taken_back (Some (restored c.in_ok-before.before)) (entries_of es) c.args.language) (c.get_mut.follows.holds c.grow.new.self).0
-    ∙ set_taken_back language_of (restored c.in_ok-before.before) c.args.languages.now.entries c.args.language c.in-Some.there.now c.grow.new.self (sym c.in-Some.ensures.value) c.in_ok-before.ensures.back
+    ∙ set_taken_back language_of (restored c.in_ok-before.before) c.args.languages.now.entries
+    c.args.language c.in-Some.there.now c.grow.new.self (sym c.in-Some.ensures.value)
+    c.in_ok-before.ensures.back
 
 pub returns-clause-ok : goal.returns-clause-ok
 returns-clause-ok c =
@@ -36,7 +41,12 @@ returns-clause-ok c =
 
 pub returns-clause-back : goal.returns-clause-back
 returns-clause-back c =
-    ap (λ es. taken_back None (entries_of es) c.args.language) (c.in_ok-_none.ensures.entries ∙ ap (λ (m : BTreeMap ℕ Language). insert_entry nat_cmp m.entries c.args.language c.args.more) c.get_mut.follows.holds-at-none)
+    ap (λ es. taken_back None (entries_of es) c.args.language)
+    (c.in_ok-_none.ensures.entries
+    ∙ ap
+    (λ (m : BTreeMap ℕ Language). insert_entry nat_cmp m.entries c.args.language
+    c.args.more)
+    c.get_mut.follows.holds-at-none)
     ∙ insert_taken_back language_of c.args.languages.now.entries c.args.language c.args.more (sym c.in_default.ensures.value)
 
 pub returns-in_err-before-clause-overflow : goal.returns-in_err-before-clause-overflow
@@ -49,7 +59,10 @@ returns-in_err-before-clause-overflow c =
 
 pub returns-in-Some-clause-fits : goal.returns-in-Some-clause-fits
 returns-in-Some-clause-fits c =
-    subst (λ o. FitAt o (language_of c.args.more)) (sym (at_seen language_of c.args.language c.args.languages.now.entries ∙ ap (option_map language_of) (sym c.in-Some.ensures.value))) c.in_ok-before.ensures.fits
+    subst (λ o. FitAt o (language_of c.args.more))
+    (sym (at_seen language_of c.args.language c.args.languages.now.entries
+    ∙ ap (option_map language_of) (sym c.in-Some.ensures.value)))
+    c.in_ok-before.ensures.fits
 
 pub returns-clause-fits : goal.returns-clause-fits
 returns-clause-fits c =

@@ -9,7 +9,9 @@ use Rattle.tokei_languages.proofs.merge.take_back.Goals as goal
 pub returns-in-Some-get_mut : goal.returns-in-Some-get_mut
 returns-in-Some-get_mut c =
     ap entries_of (c.get_mut.follows.holds c.take_back.new.self).0
-    ∙ take_seen language_of (restored c.in-Some.before) c.args.languages.now.entries c.args.language c.in-Some-get_mut.there.now c.take_back.new.self (sym c.in-Some-get_mut.ensures.value) c.take_back.ensures
+    ∙ take_seen language_of (restored c.in-Some.before) c.args.languages.now.entries c.args.language
+    c.in-Some-get_mut.there.now c.take_back.new.self (sym c.in-Some-get_mut.ensures.value)
+    c.take_back.ensures
     ∙ ap (λ b. taken_back (option_map restored b) (entries_of c.args.languages.now.entries) c.args.language) (sym c.in-Some.is)
 
 pub returns-in_default : goal.returns-in_default

@@ -8,4 +8,10 @@ if_ok (Ok a) f h = f a h
 if_ok (Err e) f h = h
 
 pub returns-clause-known : goal.returns-clause-known
-returns-clause-known c = if_ok c.cells_at.result (λ v e. subst (AreKnown (length c.args.table.now)) (sym e) (at_known (length c.args.table.now) c.fallback-markdown.result c.code_language-code.result _ c.fallback-markdown.ensures.known c.code_language-code.ensures.known)) c.cells_at.ensures
+returns-clause-known c =
+    if_ok c.cells_at.result
+    (λ v e. subst (AreKnown (length c.args.table.now)) (sym e)
+    (at_known (length c.args.table.now) c.fallback-markdown.result
+    c.code_language-code.result _ c.fallback-markdown.ensures.known
+    c.code_language-code.ensures.known))
+    c.cells_at.ensures

@@ -15,4 +15,7 @@ pub returns-in-Err : goal.returns-in-Err
 returns-in-Err c = sym (data_none c.args.text.now c.in-Err.ensures.cases.0)
 
 pub returns-else-is_memory : goal.returns-else-is_memory
-returns-else-is_memory c = sym (data_read c.args.text.now None c.in-Ok.ensures.cases.1 (ap read (sym c.in-Ok.ensures.cases.0) ∙ c.in-Err-from_str.ensures.err (λ m. not_false (c.if-is_memory.ensures.1 m))))
+returns-else-is_memory c =
+    sym (data_read c.args.text.now None c.in-Ok.ensures.cases.1
+    (ap read (sym c.in-Ok.ensures.cases.0)
+    ∙ c.in-Err-from_str.ensures.err (λ m. not_false (c.if-is_memory.ensures.1 m))))

@@ -5,4 +5,7 @@ use Rattle.tokei_table.specs.RowOf.{tokens_of}
 use Rattle.tokei_parts.proofs.beginnings.flag_tokens.Given as goal
 
 abbrev pub invariant-loop-token : goal.invariant-loop-token
-invariant-loop-token l = (x : ℕ) → x < 256 → (get_or l.flags x false || list_any (is_first_of x) (tokens_of (drop l.token-index l.tokens))) ≡ (get_or l.initial.flags x false || list_any (is_first_of x) (tokens_of l.tokens))
+invariant-loop-token l =
+    (x : ℕ) → x < 256
+    → (get_or l.flags x false || list_any (is_first_of x) (tokens_of (drop l.token-index l.tokens)))
+    ≡ (get_or l.initial.flags x false || list_any (is_first_of x) (tokens_of l.tokens))

@@ -7,7 +7,10 @@ use Rattle.tokei_parts.proofs.class.class_by_front.Goals as goal
 
 pub returns-then-stop-solid-clause-blank : goal.returns-then-stop-solid-clause-blank
 returns-then-stop-solid-clause-blank c _ =
-    blank_front c.args.text.now c.args.start c.args.stop c.args.stop c.requires.order (omega arith) c.requires.within (λ p low high. c.requires.solid p low (omega (arith, high, c.if-stop-solid.true))) (λ below. absurd (omega (arith, below))) refl
+    blank_front c.args.text.now c.args.start c.args.stop c.args.stop c.requires.order (omega arith)
+    c.requires.within
+    (λ p low high. c.requires.solid p low (omega (arith, high, c.if-stop-solid.true)))
+    (λ below. absurd (omega (arith, below))) refl
 
 -- the blanks before `solid` and those from it on
 blanks : (text : List ℕ) (start solid head : ℕ)
@@ -21,7 +24,11 @@ blanks text start solid head front rest p low high = elim (cases_lt p solid) [
 pub returns-then-head-stop-clause-blank : goal.returns-then-head-stop-clause-blank
 returns-then-head-stop-clause-blank c _ =
     let e = c.blanks_end-head.ensures in
-    blank_front c.args.text.now c.args.start c.args.stop c.blanks_end-head.result (omega (arith, c.requires.low, e.low)) e.high c.requires.within (blanks c.args.text.now c.args.start c.args.solid c.blanks_end-head.result c.requires.solid e.blank) e.found c.if-head-stop.true
+    blank_front c.args.text.now c.args.start c.args.stop c.blanks_end-head.result
+    (omega (arith, c.requires.low, e.low)) e.high c.requires.within
+    (blanks c.args.text.now c.args.start c.args.solid c.blanks_end-head.result c.requires.solid
+    e.blank)
+    e.found c.if-head-stop.true
 
 pub returns-clause-code : goal.returns-clause-code
 returns-clause-code c _ =
@@ -34,4 +41,8 @@ returns-clause-code c _ =
       small = (c.type_inv.text c.blanks_end-head.result).fits;
       outside = sym c.begins-else-begins.ensures ∙ c.if-begins-2.false;
     } in
-    code_front c.args.text.now c.args.start c.args.stop c.blanks_end-head.result (omega (arith, c.requires.low, e.low)) e.high c.requires.within (blanks c.args.text.now c.args.start c.args.solid c.blanks_end-head.result c.requires.solid e.blank) e.found c.args.matchers.now (omega (arith, c.if-head-stop.false, e.high)) first head
+    code_front c.args.text.now c.args.start c.args.stop c.blanks_end-head.result
+    (omega (arith, c.requires.low, e.low)) e.high c.requires.within
+    (blanks c.args.text.now c.args.start c.args.solid c.blanks_end-head.result c.requires.solid
+    e.blank)
+    e.found c.args.matchers.now (omega (arith, c.if-head-stop.false, e.high)) first head

@@ -23,7 +23,14 @@ pub returns : goal.returns
 returns c = λ bytes.
     by_row (row_of c.args.reading.now.syntax.now) (row_in c.args.reading.now) c.args.reading.now.row c.class_of.result c.class_of.ensures bytes
   where
-    by_row : (g h : Row) → g ≡ h → (class : Class) → class ≡ class_of g c.args.reading.now.docs_are_comments (record { begun = mode_of (Some c.args.item); bytes = []; ended = mode_of (Some c.args.item) }) → (bytes : List ℕ)
+    by_row : (g h : Row) → g ≡ h → (class : Class)
+        → class
+        ≡ class_of g c.args.reading.now.docs_are_comments (record {
+          begun = mode_of (Some c.args.item);
+          bytes = [];
+          ended = mode_of (Some c.args.item);
+        })
+        → (bytes : List ℕ)
         → class ≡ class_of h c.args.reading.now.docs_are_comments (record { begun = mode_of (Some c.args.item); bytes = bytes; ended = mode_of (Some c.args.item) })
     by_row g h same class is bytes = is ∙ ap (λ f. class_of f c.args.reading.now.docs_are_comments (record { begun = mode_of (Some c.args.item); bytes = []; ended = mode_of (Some c.args.item) })) same
         ∙ by_kind h c.args.reading.now.docs_are_comments c.args.item.kind c.args.item.closer.now [] bytes

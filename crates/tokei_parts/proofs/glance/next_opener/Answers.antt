@@ -6,7 +6,11 @@ use Rattle.tokei_parts.proofs.glance.next_opener.Goals as goal
 
 pub overflow_add-result : goal.overflow_add-result
 overflow_add-result c =
-    let below : c.in-Some.at < length (drop c.args.start c.args.text.now) = first-below c.args.matchers.now.openers (drop c.args.start c.args.text.now) c.in-Some.at (sym c.in-Some.is ∙ c.first_in.ensures ∙ ap (first_opener c.args.matchers.now.openers) (rest_is c.args.start c.args.text.now)) in
+    let below : c.in-Some.at < length (drop c.args.start c.args.text.now) =
+    first-below c.args.matchers.now.openers (drop c.args.start c.args.text.now) c.in-Some.at
+    (sym c.in-Some.is ∙ c.first_in.ensures
+    ∙ ap (first_opener c.args.matchers.now.openers)
+    (rest_is c.args.start c.args.text.now)) in
     omega (arith, below, length-drop c.args.start c.args.text.now, c.requires.start)
 
 pub returns-then-start-next-clause-within : goal.returns-then-start-next-clause-within
@@ -15,5 +19,9 @@ returns-then-start-next-clause-within c =
 
 pub returns-in-Some-clause-within : goal.returns-in-Some-clause-within
 returns-in-Some-clause-within c =
-    let below : c.in-Some.at < length (drop c.args.start c.args.text.now) = first-below c.args.matchers.now.openers (drop c.args.start c.args.text.now) c.in-Some.at (sym c.in-Some.is ∙ c.first_in.ensures ∙ ap (first_opener c.args.matchers.now.openers) (rest_is c.args.start c.args.text.now)) in
+    let below : c.in-Some.at < length (drop c.args.start c.args.text.now) =
+    first-below c.args.matchers.now.openers (drop c.args.start c.args.text.now) c.in-Some.at
+    (sym c.in-Some.is ∙ c.first_in.ensures
+    ∙ ap (first_opener c.args.matchers.now.openers)
+    (rest_is c.args.start c.args.text.now)) in
     omega (arith, below, length-drop c.args.start c.args.text.now, c.requires.start)

@@ -17,5 +17,8 @@ slice_bounds-line_len-start c = omega (arith, within c.args.text.now c.args.star
 pub returns : goal.returns
 returns c =
     let text : List ℕ = c.args.text.now in
-    let later : c.args.start + line_len (drop c.args.start text) ≡ c.args.clear + line_len (drop c.args.clear text) = end_later text c.args.start c.args.clear (c.args.start + line_len (drop c.args.start text)) c.requires.behind refl c.requires.clear in
+    let later : c.args.start + line_len (drop c.args.start text)
+    ≡ c.args.clear + line_len (drop c.args.clear text) =
+    end_later text c.args.start c.args.clear (c.args.start + line_len (drop c.args.start text))
+    c.requires.behind refl c.requires.clear in
     ap (λ n. c.args.clear + n) (c.line_len.ensures.value ∙ ap line_len (rest_is c.args.clear text)) ∙ sym later

@@ -25,7 +25,10 @@ returns-then-near-at-clause-found c below =
     let e = c.first_in_block-near.ensures in
     let here : c.min-newline.result ≡ c.first_in_block-near.result = omega (arith, c.min-newline.ensures, below) in
     let is : c.first_in_block-near.result ≡ c.args.at + line_len (drop c.args.at c.args.text.now) =
-    newline_at c.args.text.now c.args.at c.first_in_block-near.result e.low (omega (arith, below, here, c.requires.within)) (ap (λ b. b == 10) (the_one _ 10 (e.found c.if-near-at.true))) (λ k i j. other_than _ 10 (e.passed k i j)) in
+    newline_at c.args.text.now c.args.at c.first_in_block-near.result e.low
+    (omega (arith, below, here, c.requires.within))
+    (ap (λ b. b == 10) (the_one _ 10 (e.found c.if-near-at.true)))
+    (λ k i j. other_than _ 10 (e.passed k i j)) in
     omega (arith, here, is)
 
 pub returns-then-to-at-clause-line : goal.returns-then-to-at-clause-line
@@ -38,10 +41,22 @@ pub returns-else-to-at-clause-line : goal.returns-else-to-at-clause-line
 returns-else-to-at-clause-line c =
     let e = c.first_in_block-near.ensures in
     let within : c.first_in_block-near.result ≤ length c.args.text.now = omega (arith, e.high, c.if-text-at-lt-BLOCK.false, c.requires.order, c.requires.within) in
-    omega (arith, c.newline_before.ensures.line, ended c.args.text.now c.args.at c.first_in_block-near.result (c.args.at + 32) (omega (arith, e.high, c.if-near-at.false)) (sought c.args.text.now c.args.at c.first_in_block-near.result e.low within e.passed))
+    omega (
+      arith,
+      c.newline_before.ensures.line,
+      ended c.args.text.now c.args.at c.first_in_block-near.result (c.args.at + 32)
+          (omega (arith, e.high, c.if-near-at.false))
+          (sought c.args.text.now c.args.at c.first_in_block-near.result e.low within e.passed),
+    )
 
 pub returns-else-to-at-clause-found : goal.returns-else-to-at-clause-found
 returns-else-to-at-clause-found c below =
     let e = c.first_in_block-near.ensures in
     let within : c.first_in_block-near.result ≤ length c.args.text.now = omega (arith, e.high, c.if-text-at-lt-BLOCK.false, c.requires.order, c.requires.within) in
-    omega (arith, c.newline_before.ensures.found below, ended c.args.text.now c.args.at c.first_in_block-near.result (c.args.at + 32) (omega (arith, e.high, c.if-near-at.false)) (sought c.args.text.now c.args.at c.first_in_block-near.result e.low within e.passed))
+    omega (
+      arith,
+      c.newline_before.ensures.found below,
+      ended c.args.text.now c.args.at c.first_in_block-near.result (c.args.at + 32)
+          (omega (arith, e.high, c.if-near-at.false))
+          (sought c.args.text.now c.args.at c.first_in_block-near.result e.low within e.passed),
+    )

@@ -15,10 +15,19 @@ pub loop-language-preserved : goal.loop-language-preserved
 loop-language-preserved t =
     let e : map listed t.as_slice-language-items.result.now ≡ languages_from 0 t.args.table.now = ap (map listed) t.as_slice-language-items.ensures.value ∙ t.in_ok-languages.ensures in
     let p = listed_item t.args.table.now t.as_slice-language-items.result.now t.loop-language.language-index t.loop-language-item.result _ e t.loop-language-test.true t.loop-language-item.is in
-    t.in_ok-push.ensures.items ∙ one_more t.args.table.now t.loop-language.all.items t.loop-language-item.result.0 t.loop-language.language-index t.in_ok-new.field-0 t.loop-language.invariant p t.in_ok-new.ensures
+    t.in_ok-push.ensures.items
+    ∙ one_more t.args.table.now t.loop-language.all.items t.loop-language-item.result.0
+    t.loop-language.language-index t.in_ok-new.field-0 t.loop-language.invariant p
+    t.in_ok-new.ensures
 
 pub returns-clause-matchers : goal.returns-clause-matchers
 returns-clause-matchers t =
     let e : map listed t.as_slice-language-items.result.now ≡ languages_from 0 t.args.table.now = ap (map listed) t.as_slice-language-items.ensures.value ∙ t.in_ok-languages.ensures in
-    let all : t.loop-language.language-index ≡ length t.args.table.now = omega (arith, t.loop-language-test.false, t.loop-language.auto.language-index-end, listed_all t.args.table.now t.as_slice-language-items.result.now e) in
+    let all : t.loop-language.language-index ≡ length t.args.table.now =
+    omega (
+      arith,
+      t.loop-language-test.false,
+      t.loop-language.auto.language-index-end,
+      listed_all t.args.table.now t.as_slice-language-items.result.now e,
+    ) in
     t.loop-language.invariant ∙ ap (λ n. map matchers_of (take n t.args.table.now)) all ∙ ap (map matchers_of) (take-length t.args.table.now)

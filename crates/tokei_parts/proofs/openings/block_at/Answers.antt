@@ -11,28 +11,64 @@ pub line_stop-to-requires : goal.line_stop-to-requires
 line_stop-to-requires c = end_within c.args.place.now.reading.now.text.now c.args.place.now.at c.args.place.now.end c.requires.here.part.high c.requires.here.line
 
 pub markdown_block-requires-clause-inside : goal.markdown_block-requires-clause-inside
-markdown_block-requires-clause-inside c = end_behind c.args.place.now.reading.now.text.now c.args.place.now.at c.args.place.now.end c.line_stop-to.result c.requires.here.part.high c.requires.here.line c.requires.some c.line_stop-to.ensures.more c.line_stop-to.ensures.last
+markdown_block-requires-clause-inside c =
+    end_behind c.args.place.now.reading.now.text.now c.args.place.now.at c.args.place.now.end
+    c.line_stop-to.result c.requires.here.part.high c.requires.here.line c.requires.some
+    c.line_stop-to.ensures.more c.line_stop-to.ensures.last
 
 pub returns-in-Markdown-clause-block : goal.returns-in-Markdown-clause-block
 returns-in-Markdown-clause-block c =
-    let line : c.line_stop-to.result ≡ c.args.place.now.at + length (first_line (drop c.args.place.now.at c.args.place.now.reading.now.text.now)) = end_is c.args.place.now.reading.now.text.now c.args.place.now.at c.args.place.now.end c.line_stop-to.result c.requires.here.part.high c.requires.here.line c.line_stop-to.ensures.more c.line_stop-to.ensures.last in
+    let line : c.line_stop-to.result
+    ≡ c.args.place.now.at
+    + length (first_line (drop c.args.place.now.at c.args.place.now.reading.now.text.now)) =
+    end_is c.args.place.now.reading.now.text.now c.args.place.now.at c.args.place.now.end
+    c.line_stop-to.result c.requires.here.part.high c.requires.here.line
+    c.line_stop-to.ensures.more c.line_stop-to.ensures.last in
     let family : family_of (row_in c.args.place.now.reading.now).key ≡ Markdown = sym c.args.place.now.reading.now.opens ∙ c.in-Markdown.is in
-    c.markdown_block.ensures ∙ block_is c.args.place.now.reading.now.text.now c.args.place.now.behind_child c.args.place.now.start c.args.place.now.at c.line_stop-to.result c.requires.here.part line c.args.place.now.reading.now.table.now c.args.place.now.reading.now.language c.args.place.now.reading.now.levels Markdown family c.if-reading-eq0.false
+    c.markdown_block.ensures
+    ∙ block_is c.args.place.now.reading.now.text.now c.args.place.now.behind_child
+    c.args.place.now.start c.args.place.now.at c.line_stop-to.result c.requires.here.part
+    line c.args.place.now.reading.now.table.now c.args.place.now.reading.now.language
+    c.args.place.now.reading.now.levels Markdown family c.if-reading-eq0.false
 
 pub html_block-requires-clause-inside : goal.html_block-requires-clause-inside
-html_block-requires-clause-inside c = end_behind c.args.place.now.reading.now.text.now c.args.place.now.at c.args.place.now.end c.line_stop-to.result c.requires.here.part.high c.requires.here.line c.requires.some c.line_stop-to.ensures.more c.line_stop-to.ensures.last
+html_block-requires-clause-inside c =
+    end_behind c.args.place.now.reading.now.text.now c.args.place.now.at c.args.place.now.end
+    c.line_stop-to.result c.requires.here.part.high c.requires.here.line c.requires.some
+    c.line_stop-to.ensures.more c.line_stop-to.ensures.last
 
 pub returns-in-HtmlLike-clause-block : goal.returns-in-HtmlLike-clause-block
 returns-in-HtmlLike-clause-block c =
-    let line : c.line_stop-to.result ≡ c.args.place.now.at + length (first_line (drop c.args.place.now.at c.args.place.now.reading.now.text.now)) = end_is c.args.place.now.reading.now.text.now c.args.place.now.at c.args.place.now.end c.line_stop-to.result c.requires.here.part.high c.requires.here.line c.line_stop-to.ensures.more c.line_stop-to.ensures.last in
+    let line : c.line_stop-to.result
+    ≡ c.args.place.now.at
+    + length (first_line (drop c.args.place.now.at c.args.place.now.reading.now.text.now)) =
+    end_is c.args.place.now.reading.now.text.now c.args.place.now.at c.args.place.now.end
+    c.line_stop-to.result c.requires.here.part.high c.requires.here.line
+    c.line_stop-to.ensures.more c.line_stop-to.ensures.last in
     let family : family_of (row_in c.args.place.now.reading.now).key ≡ HtmlLike = sym c.args.place.now.reading.now.opens ∙ c.in-HtmlLike.is in
-    c.html_block.ensures.block ∙ block_is c.args.place.now.reading.now.text.now c.args.place.now.behind_child c.args.place.now.start c.args.place.now.at c.line_stop-to.result c.requires.here.part line c.args.place.now.reading.now.table.now c.args.place.now.reading.now.language c.args.place.now.reading.now.levels HtmlLike family c.if-reading-eq0.false
+    c.html_block.ensures.block
+    ∙ block_is c.args.place.now.reading.now.text.now c.args.place.now.behind_child
+    c.args.place.now.start c.args.place.now.at c.line_stop-to.result c.requires.here.part
+    line c.args.place.now.reading.now.table.now c.args.place.now.reading.now.language
+    c.args.place.now.reading.now.levels HtmlLike family c.if-reading-eq0.false
 
 pub franca_block-requires-clause-inside : goal.franca_block-requires-clause-inside
-franca_block-requires-clause-inside c = end_behind c.args.place.now.reading.now.text.now c.args.place.now.at c.args.place.now.end c.line_stop-to.result c.requires.here.part.high c.requires.here.line c.requires.some c.line_stop-to.ensures.more c.line_stop-to.ensures.last
+franca_block-requires-clause-inside c =
+    end_behind c.args.place.now.reading.now.text.now c.args.place.now.at c.args.place.now.end
+    c.line_stop-to.result c.requires.here.part.high c.requires.here.line c.requires.some
+    c.line_stop-to.ensures.more c.line_stop-to.ensures.last
 
 pub returns-in-LinguaFranca-clause-block : goal.returns-in-LinguaFranca-clause-block
 returns-in-LinguaFranca-clause-block c =
-    let line : c.line_stop-to.result ≡ c.args.place.now.at + length (first_line (drop c.args.place.now.at c.args.place.now.reading.now.text.now)) = end_is c.args.place.now.reading.now.text.now c.args.place.now.at c.args.place.now.end c.line_stop-to.result c.requires.here.part.high c.requires.here.line c.line_stop-to.ensures.more c.line_stop-to.ensures.last in
+    let line : c.line_stop-to.result
+    ≡ c.args.place.now.at
+    + length (first_line (drop c.args.place.now.at c.args.place.now.reading.now.text.now)) =
+    end_is c.args.place.now.reading.now.text.now c.args.place.now.at c.args.place.now.end
+    c.line_stop-to.result c.requires.here.part.high c.requires.here.line
+    c.line_stop-to.ensures.more c.line_stop-to.ensures.last in
     let family : family_of (row_in c.args.place.now.reading.now).key ≡ LinguaFranca = sym c.args.place.now.reading.now.opens ∙ c.in-LinguaFranca.is in
-    c.franca_block.ensures.block ∙ block_is c.args.place.now.reading.now.text.now c.args.place.now.behind_child c.args.place.now.start c.args.place.now.at c.line_stop-to.result c.requires.here.part line c.args.place.now.reading.now.table.now c.args.place.now.reading.now.language c.args.place.now.reading.now.levels LinguaFranca family c.if-reading-eq0.false
+    c.franca_block.ensures.block
+    ∙ block_is c.args.place.now.reading.now.text.now c.args.place.now.behind_child
+    c.args.place.now.start c.args.place.now.at c.line_stop-to.result c.requires.here.part
+    line c.args.place.now.reading.now.table.now c.args.place.now.reading.now.language
+    c.args.place.now.reading.now.levels LinguaFranca family c.if-reading-eq0.false

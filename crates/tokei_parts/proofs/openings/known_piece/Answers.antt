@@ -21,9 +21,21 @@ loop-i-preserved c = record {
   ];
   same = elim c.if-byte-eq44.branch [
     | then-byte-eq44+else-is_some w ↦
-        let none : by_word c.args.table.now (take (c.loop-i.i - c.loop-i.begun) (drop c.loop-i.begun c.args.info.now)) ≡ None = sym w.by_word-known.ensures ∙ is_none w.by_word-known.result (sym w.is_some.ensures ∙ w.if-is_some.false) in
-        rw w.begun-is (piece_ends c.args.table.now c.args.info.now c.loop-i.begun c.loop-i.i c.loop-i.invariant.begun c.loop-i-test.true (eq-eqb (get_or c.args.info.now c.loop-i.i 0) 44 w.if-byte-eq44.true) none ∙ c.loop-i.invariant.same)
+        let none : by_word c.args.table.now
+        (take (c.loop-i.i - c.loop-i.begun) (drop c.loop-i.begun c.args.info.now))
+        ≡ None =
+        sym w.by_word-known.ensures
+        ∙ is_none w.by_word-known.result (sym w.is_some.ensures ∙ w.if-is_some.false) in
+        rw w.begun-is (piece_ends c.args.table.now c.args.info.now c.loop-i.begun c.loop-i.i
+        c.loop-i.invariant.begun c.loop-i-test.true
+        (eq-eqb (get_or c.args.info.now c.loop-i.i 0) 44 w.if-byte-eq44.true) none
+        ∙ c.loop-i.invariant.same)
     | else-byte-eq44 w ↦
-        rw w.begun-is (piece_goes c.args.table.now c.args.info.now c.loop-i.begun c.loop-i.i c.loop-i.invariant.begun c.loop-i-test.true (not_true (get_or c.args.info.now c.loop-i.i 0 == 44) (λ h. w.if-byte-eq44.false ((Decides-eqb (get_or c.args.info.now c.loop-i.i 0) 44).0 h))) ∙ c.loop-i.invariant.same)
+        rw w.begun-is (piece_goes c.args.table.now c.args.info.now c.loop-i.begun c.loop-i.i
+        c.loop-i.invariant.begun c.loop-i-test.true
+        (not_true (get_or c.args.info.now c.loop-i.i 0 == 44)
+        (λ h. w.if-byte-eq44.false
+        ((Decides-eqb (get_or c.args.info.now c.loop-i.i 0) 44).0 h)))
+        ∙ c.loop-i.invariant.same)
   ];
 }

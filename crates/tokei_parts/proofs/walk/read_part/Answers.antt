@@ -40,7 +40,14 @@ stop_is c =
     end_is (text_of p) p.start p.end c.line_stop-stop.result c.requires.begins.part.high c.requires.begins.line c.line_stop-stop.ensures.more c.line_stop-stop.ensures.last
 
 -- the part is under way at the place of a turn
-is_at : (c : After-deref-in-loop-at) → IsAt (record { reading = c.args.part.now.reading; behind_child = c.args.part.now.behind_child; start = c.args.part.now.start; at = c.loop-at.at; end = c.args.part.now.end })
+is_at : (c : After-deref-in-loop-at)
+    → IsAt (record {
+      reading = c.args.part.now.reading;
+      behind_child = c.args.part.now.behind_child;
+      start = c.args.part.now.start;
+      at = c.loop-at.at;
+      end = c.args.part.now.end;
+    })
 is_at c =
     let p = c.args.part.now in
     let here : reached c.loop-at.at p.end ≡ c.loop-at.at = omega (arith, c.loop-at-test.true) in
@@ -50,7 +57,10 @@ is_at c =
     }
 
 -- how the part has led to the place of a turn
-led_here : (c : After-deref-in-loop-at) → LeadsIn c.args.part.now (chain_of c.args.stack.now.items) (c.loop-at.at - c.args.part.now.start) c.loop-at.steps (chain_of c.loop-at.stack.items) (ahead c.args.part.now)
+led_here : (c : After-deref-in-loop-at)
+    → LeadsIn c.args.part.now (chain_of c.args.stack.now.items)
+    (c.loop-at.at - c.args.part.now.start) c.loop-at.steps (chain_of c.loop-at.stack.items)
+    (ahead c.args.part.now)
 led_here c =
     let p = c.args.part.now in
     let here : reached c.loop-at.at p.end ≡ c.loop-at.at = omega (arith, c.loop-at-test.true) in
@@ -59,11 +69,16 @@ led_here c =
     (subst (λ m. LeadsIn p (chain_of c.args.stack.now.items) (m - p.start) (c.loop-at.steps - (c.loop-at.at - p.end)) (chain_of c.loop-at.stack.items) (ahead p)) here c.loop-at.invariant.leads)
 
 -- the same behind the bytes that a turn takes first
-led : (c : After-take_bytes-at) → LeadsIn c.args.part.now (chain_of c.args.stack.now.items) (c.take_bytes-at.result - c.args.part.now.start) c.take_bytes-at.new.steps (chain_of c.loop-at.stack.items) (ahead c.args.part.now)
+led : (c : After-take_bytes-at)
+    → LeadsIn c.args.part.now (chain_of c.args.stack.now.items)
+    (c.take_bytes-at.result - c.args.part.now.start) c.take_bytes-at.new.steps
+    (chain_of c.loop-at.stack.items) (ahead c.args.part.now)
 led c =
     let p = c.args.part.now in
     let at : ℕ = c.take_bytes-at.result in
-    run_on (row_in p.reading.now) (blocks_of p.reading.now) p.behind_child (text_of p) p.start c.loop-at.at at p.end c.loop-at.steps c.take_bytes-at.new.steps (chain_of c.args.stack.now.items) (chain_of c.loop-at.stack.items)
+    run_on (row_in p.reading.now) (blocks_of p.reading.now) p.behind_child (text_of p) p.start
+    c.loop-at.at at p.end c.loop-at.steps c.take_bytes-at.new.steps
+    (chain_of c.args.stack.now.items) (chain_of c.loop-at.stack.items)
     c.loop-at-test.true c.loop-at.invariant.part c.loop-at.invariant.leads c.take_bytes-at.ensures.low c.take_bytes-at.ensures.counted
     (subst (λ es. LeadsIn p (chain_of es) (at - c.loop-at.at) (at - c.loop-at.at) (chain_of es) (drop c.loop-at.at (text_of p))) c.deref-in-loop-at-2.ensures.value c.take_bytes-at.ensures.leads)
 
@@ -124,7 +139,10 @@ loop-at-preserved-in-Some c =
     let all : c.take_within.new.steps ≡ c.take_within.new.steps - (at - p.end) = omega (arith, behind) in
     record {
       same = c.loop-at.invariant.same;
-      leads = led_on (row_in p.reading.now) (blocks_of p.reading.now) p.behind_child (text_of p) p.start c.loop-at.at (chain_of c.args.stack.now.items) (chain_of c.loop-at.stack.items) (chain_of c.take_within.new.stack.items)
+      leads =
+          led_on (row_in p.reading.now) (blocks_of p.reading.now) p.behind_child (text_of p) p.start
+          c.loop-at.at (chain_of c.args.stack.now.items) (chain_of c.loop-at.stack.items)
+          (chain_of c.take_within.new.stack.items)
           (reached at p.end - p.start) c.loop-at.steps (at - c.loop-at.at) (c.take_within.new.steps - c.loop-at.steps) (c.take_within.new.steps - (at - p.end)) low (led_here d) e.leads
           (omega (arith, there, e.on, low)) (omega (arith, all, e.more));
       closable = e.closable;
@@ -151,7 +169,10 @@ loop-at-preserved c =
     let line_next : p.end ≡ next + line_len (drop next (text_of p)) = omega (arith, c.take_bytes-at.ensures.line, goes.within, line_is, ap line_len (drop-drop c.in-On.len at (text_of p))) in
     record {
       same = c.finds_child-opens.ensures.same ∙ c.next_child-child.ensures.same ∙ c.loop-at.invariant.same;
-      leads = led_on (row_in p.reading.now) (blocks_of p.reading.now) p.behind_child (text_of p) p.start at (chain_of c.args.stack.now.items) (chain_of c.loop-at.stack.items) (chain_of c.take_choice.new.stack.items)
+      leads =
+          led_on (row_in p.reading.now) (blocks_of p.reading.now) p.behind_child (text_of p) p.start
+          at (chain_of c.args.stack.now.items) (chain_of c.loop-at.stack.items)
+          (chain_of c.take_choice.new.stack.items)
           (reached next p.end - p.start) c.take_bytes-at.new.steps c.in-On.len 1 (c.take_choice.new.steps - (next - p.end)) part.low (led d) goes.leads
           (omega (arith, there)) (omega (arith, behind, c.in_ok-len.ensures.counted));
       closable = goes.closable;
@@ -181,7 +202,10 @@ loop-at-preserved-in-Rest-1 c =
     let line_next : line_len (drop (at + line_len u) (text_of p)) ≡ 0 = ap line_len (sym (drop-drop (line_len u) at (text_of p))) ∙ line_len-drop (line_len u) u (omega arith) ∙ omega arith in
     record {
       same = c.finds_child-opens.ensures.same ∙ c.next_child-child.ensures.same ∙ c.loop-at.invariant.same;
-      leads = led_on (row_in p.reading.now) (blocks_of p.reading.now) p.behind_child (text_of p) p.start at (chain_of c.args.stack.now.items) (chain_of c.loop-at.stack.items) (chain_of c.take_choice.new.stack.items)
+      leads =
+          led_on (row_in p.reading.now) (blocks_of p.reading.now) p.behind_child (text_of p) p.start
+          at (chain_of c.args.stack.now.items) (chain_of c.loop-at.stack.items)
+          (chain_of c.take_choice.new.stack.items)
           (reached stop p.end - p.start) c.take_bytes-at.new.steps (line_len u) (1 - newlines u) (c.take_choice.new.steps - (stop - p.end)) part.low (led d) goes.leads
           (omega (arith, there)) (omega (arith, line, stop_here, low, high, c.if-end-at.false, c.in_ok-len.ensures.counted));
       closable = goes.closable;
@@ -198,16 +222,26 @@ returns-in-Child-clause-reads c =
     let d = (goal.at.returns-in-Child-clause-reads c).After-take_bytes-at in
     let p = c.args.part.now in
     let at : ℕ = c.take_bytes-at.result in
-    let opens : MovesIn p (chain_of c.loop-at.stack.items) (chain_of c.take_choice.new.stack.items) at Child = subst (MovesIn p (chain_of c.loop-at.stack.items) (chain_of c.take_choice.new.stack.items) at) c.in-Child.is c.in_ok-len.ensures.takes in (
+    let opens : MovesIn p (chain_of c.loop-at.stack.items) (chain_of c.take_choice.new.stack.items)
+    at Child = subst
+    (MovesIn p (chain_of c.loop-at.stack.items) (chain_of c.take_choice.new.stack.items) at)
+    c.in-Child.is c.in_ok-len.ensures.takes
+    in (
       opens.0,
       c.take_bytes-at.new.steps,
       c.in_ok-len.ensures.counted,
       record {
         part = c.take_bytes-at.ensures.part;
         few = few_taken d;
-        opens = block_opens (row_in p.reading.now) (blocks_of p.reading.now) (blocks_fit p.reading.now) p.reading.now.sound p.behind_child p.reading.now.docs_are_comments opens.0 (chain_of c.loop-at.stack.items) (chain_of c.take_choice.new.stack.items) (drop at (text_of p)) opens.1;
+        opens =
+            block_opens (row_in p.reading.now) (blocks_of p.reading.now) (blocks_fit p.reading.now)
+            p.reading.now.sound p.behind_child p.reading.now.docs_are_comments opens.0
+            (chain_of c.loop-at.stack.items) (chain_of c.take_choice.new.stack.items)
+            (drop at (text_of p)) opens.1;
         reads = child_read_at (row_in p.reading.now) (blocks_of p.reading.now) (blocks_fit p.reading.now) p.reading.now.sound p.behind_child p.reading.now.docs_are_comments
-            (chain_of c.args.stack.now.items) (chain_of c.take_choice.new.stack.items) (chain_of c.loop-at.stack.items) p.start at opens.0 (text_of p) c.take_bytes-at.ensures.part c.take_bytes-at.new.steps (led d) opens.1;
+            (chain_of c.args.stack.now.items) (chain_of c.take_choice.new.stack.items)
+            (chain_of c.loop-at.stack.items) p.start at opens.0 (text_of p)
+            c.take_bytes-at.ensures.part c.take_bytes-at.new.steps (led d) opens.1;
         inside = omega (arith, c.requires.begins.line, c.if-end-at.false);
       },
     )
@@ -238,7 +272,10 @@ returns-clause-reads c =
     let bytes_is : take (stop - p.start) u ≡ first_line u = ap (λ n. take n u) first_is ∙ take-first u in
     let begun_is = c.innermost.ensures ∙ ap (λ w. innermost (chain_of w)) c.deref.ensures.value in
     let ended_is = c.innermost-2.ensures ∙ ap (λ w. innermost (chain_of w)) c.deref-2.ensures.value in
-    let class_is : c.class_by-class.result ≡ class_of (row_in p.reading.now) p.reading.now.docs_are_comments (record { begun = innermost begun_chain; bytes = first_line u; ended = innermost ended_chain }) =
+    let class_is : c.class_by-class.result ≡ class_of (row_in p.reading.now)
+    p.reading.now.docs_are_comments
+    (record { begun = innermost begun_chain; bytes = first_line u; ended = innermost ended_chain })
+    =
     c.class_by-class.ensures (innermost begun_chain) (sym (c.kind_of-begun.ensures ∙ ap kind_in begun_is))
     ∙ ap (λ b. class_of (row_in p.reading.now) p.reading.now.docs_are_comments (record { begun = innermost begun_chain; bytes = b; ended = mode_of c.innermost-2.result })) bytes_is
     ∙ ap (λ b. class_of (row_in p.reading.now) p.reading.now.docs_are_comments (record { begun = innermost begun_chain; bytes = first_line u; ended = b })) ended_is in
@@ -253,17 +290,31 @@ returns-clause-reads c =
     ] in
     let leads : LeadsIn p begun_chain (line_len u) (c.loop-at.steps - (at - end)) ended_chain u =
     subst (λ n. LeadsIn p begun_chain n (c.loop-at.steps - (at - end)) ended_chain u) whole c.loop-at.invariant.leads in
-    let line_read : ReadsLine (row_in p.reading.now) (blocks_of p.reading.now) p.behind_child p.reading.now.docs_are_comments begun_chain (length (first_line u)) (c.loop-at.steps - (at - end) + newlines u) c.class_by-class.result ended_chain u =
+    let line_read : ReadsLine (row_in p.reading.now) (blocks_of p.reading.now) p.behind_child
+    p.reading.now.docs_are_comments begun_chain (length (first_line u))
+    (c.loop-at.steps - (at - end) + newlines u) c.class_by-class.result ended_chain u =
     line_reads (row_in p.reading.now) (blocks_of p.reading.now) p.behind_child p.reading.now.docs_are_comments begun_chain ended_chain u c.class_by-class.result
     p.reading.now.sound (blocks_fit p.reading.now).in_line c.loop-at.invariant.closable (omega (arith, len_is, c.requires.some)) (c.loop-at.steps - (at - end)) leads class_is in
     let more_is : stop < length (text_of p) → stop ≡ end + 1 = λ more. ends_more (length (text_of p)) end stop part.high c.line_stop-stop.ensures.more c.line_stop-stop.ensures.last more in record {
       some = omega (arith, stops, line_read.some);
       within = c.line_stop-stop.ensures.within;
-      part = λ more. subst (λ m. IsPart (text_of p) p.behind_child m m) (sym (more_is more)) (part_anew (text_of p) p.behind_child p.start end part none_left (omega (arith, part.high, more_is more, more)));
+      part =
+          λ more. subst (λ m. IsPart (text_of p) p.behind_child m m) (sym (more_is more))
+          (part_anew (text_of p) p.behind_child p.start end part none_left
+          (omega (arith, part.high, more_is more, more)));
       few = few;
       line = stops;
-      reads = subst (λ j. ReadsLine (row_in p.reading.now) (blocks_of p.reading.now) p.behind_child p.reading.now.docs_are_comments begun_chain (stop - p.start) j c.class_by-class.result ended_chain u) (sym steps_are)
-          (subst (λ n. ReadsLine (row_in p.reading.now) (blocks_of p.reading.now) p.behind_child p.reading.now.docs_are_comments begun_chain n (c.loop-at.steps - (at - end) + newlines u) c.class_by-class.result ended_chain u) (sym first_is) line_read);
+      reads =
+          subst
+          (λ j. ReadsLine (row_in p.reading.now) (blocks_of p.reading.now) p.behind_child
+          p.reading.now.docs_are_comments begun_chain (stop - p.start) j
+          c.class_by-class.result ended_chain u)
+          (sym steps_are)
+          (subst
+          (λ n. ReadsLine (row_in p.reading.now) (blocks_of p.reading.now) p.behind_child
+          p.reading.now.docs_are_comments begun_chain n
+          (c.loop-at.steps - (at - end) + newlines u) c.class_by-class.result ended_chain u)
+          (sym first_is) line_read);
     }
 
 pub line_stop-stop-requires : goal.line_stop-stop-requires

@@ -9,7 +9,10 @@ use Rattle.tokei_parts.proofs.walk.read_part.Given as goal
 abbrev pub invariant-loop-at : goal.invariant-loop-at
 invariant-loop-at l = record {
   same : l.search ≡ l.fn.search;
-  leads : Leads (row_in l.part.reading.now) (blocks_of l.part.reading.now) l.part.behind_child (chain_of l.initial.stack.items) (reached l.at l.part.end - l.part.start) (l.steps - (l.at - l.part.end)) (chain_of l.stack.items) (drop l.part.start l.part.reading.now.text.now);
+  leads : Leads (row_in l.part.reading.now) (blocks_of l.part.reading.now) l.part.behind_child
+      (chain_of l.initial.stack.items) (reached l.at l.part.end - l.part.start)
+      (l.steps - (l.at - l.part.end)) (chain_of l.stack.items)
+      (drop l.part.start l.part.reading.now.text.now);
   closable : IsClosable (chain_of l.stack.items);
   part : IsPart l.part.reading.now.text.now l.part.behind_child l.part.start (reached l.at l.part.end);
   line : l.part.end ≡ reached l.at l.part.end + line_len (drop (reached l.at l.part.end) l.part.reading.now.text.now);

@@ -12,7 +12,9 @@ invariant-loop-next l = record {
   counted : l.steps ≡ l.fn.steps + (l.next - l.place.at);
   part : IsPart l.place.reading.now.text.now l.place.behind_child l.place.start l.next;
   line : l.place.end ≡ l.next + line_len (drop l.next l.place.reading.now.text.now);
-  leads : Leads (row_in l.place.reading.now) (blocks_of l.place.reading.now) l.place.behind_child (chain_of l.stack) (l.next - l.place.at) (l.next - l.place.at) (chain_of l.stack) (drop l.place.at l.place.reading.now.text.now);
+  leads : Leads (row_in l.place.reading.now) (blocks_of l.place.reading.now) l.place.behind_child
+      (chain_of l.stack) (l.next - l.place.at) (l.next - l.place.at) (chain_of l.stack)
+      (drop l.place.at l.place.reading.now.text.now);
 }
 
 abbrev pub decreases-loop-next : goal.decreases-loop-next

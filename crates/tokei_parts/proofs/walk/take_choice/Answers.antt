@@ -22,7 +22,10 @@ abbrev at_stack : Reading → ℕ → List ℕ → List Code.Enclosure → Choic
 at_stack r l u es = choice (row_in r) (innermost (chain_of es)) (blocks_of r l u) u
 
 -- the same by the mode
-by_mode : (r : Reading) (l : ℕ) (u : List ℕ) (es : List Code.Enclosure) (mode : Option Code.Enclosure) → mode_of mode ≡ innermost (chain_of es) → choice (row_in r) (mode_of mode) (blocks_of r l u) u ≡ at_stack r l u es
+by_mode : (r : Reading) (l : ℕ) (u : List ℕ) (es : List Code.Enclosure)
+    (mode : Option Code.Enclosure)
+    → mode_of mode ≡ innermost (chain_of es)
+    → choice (row_in r) (mode_of mode) (blocks_of r l u) u ≡ at_stack r l u es
 by_mode r l u es mode is = ap (λ m. choice (row_in r) m (blocks_of r l u) u) is
 
 pub choice_at-requires-clause-child : goal.choice_at-requires-clause-child
@@ -35,45 +38,98 @@ choice_at-requires-clause-childless c = λ _ unseen plain. c.requires.childless 
 pub returns-in-TakesByte-clause-takes : goal.returns-in-TakesByte-clause-takes
 returns-in-TakesByte-clause-takes c =
     let u : List ℕ = drop c.args.place.now.at c.args.place.now.reading.now.text.now in
-    let here : at_stack c.args.place.now.reading.now c.args.place.now.behind_child u c.args.stack.now.items ≡ takes_byte = sym (by_mode c.args.place.now.reading.now c.args.place.now.behind_child u c.args.stack.now.items c.args.mode c.requires.mode) ∙ sym c.choice_at.ensures.choice ∙ ap (choice_of (blocks_of c.args.place.now.reading.now c.args.place.now.behind_child u)) c.in-TakesByte.is in
+    let here : at_stack c.args.place.now.reading.now c.args.place.now.behind_child u
+    c.args.stack.now.items
+    ≡ takes_byte =
+    sym (by_mode c.args.place.now.reading.now c.args.place.now.behind_child u c.args.stack.now.items
+    c.args.mode c.requires.mode)
+    ∙ sym c.choice_at.ensures.choice
+    ∙ ap (choice_of (blocks_of c.args.place.now.reading.now c.args.place.now.behind_child u))
+    c.in-TakesByte.is in
     let some : 0 < line_len u = omega (arith, c.requires.some, c.requires.here.line) in
     let calm : OpensInLine (blocks_of c.args.place.now.reading.now) = (blocks_fit c.args.place.now.reading.now).in_line in
-    goes_byte (row_in c.args.place.now.reading.now) (blocks_of c.args.place.now.reading.now) c.args.place.now.behind_child c.args.place.now.reading.now.sound calm (chain_of c.args.stack.now.items) u c.requires.closable some here
+    goes_byte (row_in c.args.place.now.reading.now) (blocks_of c.args.place.now.reading.now)
+    c.args.place.now.behind_child c.args.place.now.reading.now.sound calm
+    (chain_of c.args.stack.now.items) u c.requires.closable some here
 
 pub returns-in-Escapes-clause-takes : goal.returns-in-Escapes-clause-takes
 returns-in-Escapes-clause-takes c =
     let u : List ℕ = drop c.args.place.now.at c.args.place.now.reading.now.text.now in
-    let here : at_stack c.args.place.now.reading.now c.args.place.now.behind_child u c.args.stack.now.items ≡ escapes = sym (by_mode c.args.place.now.reading.now c.args.place.now.behind_child u c.args.stack.now.items c.args.mode c.requires.mode) ∙ sym c.choice_at.ensures.choice ∙ ap (choice_of (blocks_of c.args.place.now.reading.now c.args.place.now.behind_child u)) c.in-Escapes.is in
+    let here : at_stack c.args.place.now.reading.now c.args.place.now.behind_child u
+    c.args.stack.now.items
+    ≡ escapes =
+    sym (by_mode c.args.place.now.reading.now c.args.place.now.behind_child u c.args.stack.now.items
+    c.args.mode c.requires.mode)
+    ∙ sym c.choice_at.ensures.choice
+    ∙ ap (choice_of (blocks_of c.args.place.now.reading.now c.args.place.now.behind_child u))
+    c.in-Escapes.is in
     let some : 0 < line_len u = omega (arith, c.requires.some, c.requires.here.line) in
     let calm : OpensInLine (blocks_of c.args.place.now.reading.now) = (blocks_fit c.args.place.now.reading.now).in_line in
-    goes_escape (row_in c.args.place.now.reading.now) (blocks_of c.args.place.now.reading.now) c.args.place.now.behind_child c.args.place.now.reading.now.sound calm (chain_of c.args.stack.now.items) u c.requires.closable some here
+    goes_escape (row_in c.args.place.now.reading.now) (blocks_of c.args.place.now.reading.now)
+    c.args.place.now.behind_child c.args.place.now.reading.now.sound calm
+    (chain_of c.args.stack.now.items) u c.requires.closable some here
 
 pub returns-in-BeginsLineComment-clause-takes : goal.returns-in-BeginsLineComment-clause-takes
 returns-in-BeginsLineComment-clause-takes c =
     let u : List ℕ = drop c.args.place.now.at c.args.place.now.reading.now.text.now in
-    let here : at_stack c.args.place.now.reading.now c.args.place.now.behind_child u c.args.stack.now.items ≡ begins_line_comment = sym (by_mode c.args.place.now.reading.now c.args.place.now.behind_child u c.args.stack.now.items c.args.mode c.requires.mode) ∙ sym c.choice_at.ensures.choice ∙ ap (choice_of (blocks_of c.args.place.now.reading.now c.args.place.now.behind_child u)) c.in-BeginsLineComment.is in
+    let here : at_stack c.args.place.now.reading.now c.args.place.now.behind_child u
+    c.args.stack.now.items
+    ≡ begins_line_comment =
+    sym (by_mode c.args.place.now.reading.now c.args.place.now.behind_child u c.args.stack.now.items
+    c.args.mode c.requires.mode)
+    ∙ sym c.choice_at.ensures.choice
+    ∙ ap (choice_of (blocks_of c.args.place.now.reading.now c.args.place.now.behind_child u))
+    c.in-BeginsLineComment.is in
     let some : 0 < line_len u = omega (arith, c.requires.some, c.requires.here.line) in
     let calm : OpensInLine (blocks_of c.args.place.now.reading.now) = (blocks_fit c.args.place.now.reading.now).in_line in
-    goes_rest (row_in c.args.place.now.reading.now) (blocks_of c.args.place.now.reading.now) c.args.place.now.behind_child c.args.place.now.reading.now.sound calm (chain_of c.args.stack.now.items) u c.requires.closable some here
+    goes_rest (row_in c.args.place.now.reading.now) (blocks_of c.args.place.now.reading.now)
+    c.args.place.now.behind_child c.args.place.now.reading.now.sound calm
+    (chain_of c.args.stack.now.items) u c.requires.closable some here
 
 pub returns-in-BeginsLineComment-clause-plain : goal.returns-in-BeginsLineComment-clause-plain
 returns-in-BeginsLineComment-clause-plain c = λ _.
     let u : List ℕ = drop c.args.place.now.at c.args.place.now.reading.now.text.now in
-    let here : at_stack c.args.place.now.reading.now c.args.place.now.behind_child u c.args.stack.now.items ≡ begins_line_comment = sym (by_mode c.args.place.now.reading.now c.args.place.now.behind_child u c.args.stack.now.items c.args.mode c.requires.mode) ∙ sym c.choice_at.ensures.choice ∙ ap (choice_of (blocks_of c.args.place.now.reading.now c.args.place.now.behind_child u)) c.in-BeginsLineComment.is in
+    let here : at_stack c.args.place.now.reading.now c.args.place.now.behind_child u
+    c.args.stack.now.items
+    ≡ begins_line_comment =
+    sym (by_mode c.args.place.now.reading.now c.args.place.now.behind_child u c.args.stack.now.items
+    c.args.mode c.requires.mode)
+    ∙ sym c.choice_at.ensures.choice
+    ∙ ap (choice_of (blocks_of c.args.place.now.reading.now c.args.place.now.behind_child u))
+    c.in-BeginsLineComment.is in
     line_comment_plain (row_in c.args.place.now.reading.now) (blocks_of c.args.place.now.reading.now) c.args.place.now.behind_child (innermost (chain_of c.args.stack.now.items)) u here
 
 pub returns-in-PassesOver-clause-takes : goal.returns-in-PassesOver-clause-takes
 returns-in-PassesOver-clause-takes c =
     let u : List ℕ = drop c.args.place.now.at c.args.place.now.reading.now.text.now in
-    let here : at_stack c.args.place.now.reading.now c.args.place.now.behind_child u c.args.stack.now.items ≡ passes_over (pair_of c.in-PassesOver.pair.now) = sym (by_mode c.args.place.now.reading.now c.args.place.now.behind_child u c.args.stack.now.items c.args.mode c.requires.mode) ∙ sym c.choice_at.ensures.choice ∙ ap (choice_of (blocks_of c.args.place.now.reading.now c.args.place.now.behind_child u)) c.in-PassesOver.is in
+    let here : at_stack c.args.place.now.reading.now c.args.place.now.behind_child u
+    c.args.stack.now.items
+    ≡ passes_over (pair_of c.in-PassesOver.pair.now) =
+    sym (by_mode c.args.place.now.reading.now c.args.place.now.behind_child u c.args.stack.now.items
+    c.args.mode c.requires.mode)
+    ∙ sym c.choice_at.ensures.choice
+    ∙ ap (choice_of (blocks_of c.args.place.now.reading.now c.args.place.now.behind_child u))
+    c.in-PassesOver.is in
     let some : 0 < line_len u = omega (arith, c.requires.some, c.requires.here.line) in
     let calm : OpensInLine (blocks_of c.args.place.now.reading.now) = (blocks_fit c.args.place.now.reading.now).in_line in
-    rw c.as_bytes-opener-in-PassesOver.ensures.value (goes_pass (row_in c.args.place.now.reading.now) (blocks_of c.args.place.now.reading.now) c.args.place.now.behind_child c.args.place.now.reading.now.sound calm (chain_of c.args.stack.now.items) u c.requires.closable some (pair_of c.in-PassesOver.pair.now) here)
+    rw c.as_bytes-opener-in-PassesOver.ensures.value (goes_pass
+    (row_in c.args.place.now.reading.now) (blocks_of c.args.place.now.reading.now)
+    c.args.place.now.behind_child c.args.place.now.reading.now.sound calm
+    (chain_of c.args.stack.now.items) u c.requires.closable some
+    (pair_of c.in-PassesOver.pair.now) here)
 
 pub returns-in-ChildOpens-clause-takes : goal.returns-in-ChildOpens-clause-takes
 returns-in-ChildOpens-clause-takes c =
     let u : List ℕ = drop c.args.place.now.at c.args.place.now.reading.now.text.now in
-    let here : at_stack c.args.place.now.reading.now c.args.place.now.behind_child u c.args.stack.now.items ≡ or_else (blocks_of c.args.place.now.reading.now c.args.place.now.behind_child u) child_opens takes_byte = sym (by_mode c.args.place.now.reading.now c.args.place.now.behind_child u c.args.stack.now.items c.args.mode c.requires.mode) ∙ sym c.choice_at.ensures.choice ∙ ap (choice_of (blocks_of c.args.place.now.reading.now c.args.place.now.behind_child u)) c.in-ChildOpens.is in
+    let here : at_stack c.args.place.now.reading.now c.args.place.now.behind_child u
+    c.args.stack.now.items
+    ≡ or_else (blocks_of c.args.place.now.reading.now c.args.place.now.behind_child u)
+    child_opens takes_byte =
+    sym (by_mode c.args.place.now.reading.now c.args.place.now.behind_child u c.args.stack.now.items
+    c.args.mode c.requires.mode)
+    ∙ sym c.choice_at.ensures.choice
+    ∙ ap (choice_of (blocks_of c.args.place.now.reading.now c.args.place.now.behind_child u))
+    c.in-ChildOpens.is in
     let some : is_some (block_here c.args.place.now) ≡ true = c.requires.child (c.choice_at.ensures.child c.in-ChildOpens.is) in
     child_opens-plain (row_in c.args.place.now.reading.now) (blocks_of c.args.place.now.reading.now) c.args.place.now.behind_child c.args.stack.now.items u some here
 
@@ -83,24 +139,52 @@ returns-in-ChildOpens-clause-child c = λ _. c.choice_at.ensures.child c.in-Chil
 pub returns-in_ok-push-in-Opens-clause-takes : goal.returns-in_ok-push-in-Opens-clause-takes
 returns-in_ok-push-in-Opens-clause-takes c =
     let u : List ℕ = drop c.args.place.now.at c.args.place.now.reading.now.text.now in
-    let here : at_stack c.args.place.now.reading.now c.args.place.now.behind_child u c.args.stack.now.items ≡ opens c.in-Opens.kind (pair_of c.in-Opens.pair.now) = sym (by_mode c.args.place.now.reading.now c.args.place.now.behind_child u c.args.stack.now.items c.args.mode c.requires.mode) ∙ sym c.choice_at.ensures.choice ∙ ap (choice_of (blocks_of c.args.place.now.reading.now c.args.place.now.behind_child u)) c.in-Opens.is in
+    let here : at_stack c.args.place.now.reading.now c.args.place.now.behind_child u
+    c.args.stack.now.items
+    ≡ opens c.in-Opens.kind (pair_of c.in-Opens.pair.now) =
+    sym (by_mode c.args.place.now.reading.now c.args.place.now.behind_child u c.args.stack.now.items
+    c.args.mode c.requires.mode)
+    ∙ sym c.choice_at.ensures.choice
+    ∙ ap (choice_of (blocks_of c.args.place.now.reading.now c.args.place.now.behind_child u))
+    c.in-Opens.is in
     let some : 0 < line_len u = omega (arith, c.requires.some, c.requires.here.line) in
     let calm : OpensInLine (blocks_of c.args.place.now.reading.now) = (blocks_fit c.args.place.now.reading.now).in_line in
-    rw c.as_bytes-opener.ensures.value (opener_pushes (row_in c.args.place.now.reading.now) (blocks_of c.args.place.now.reading.now) c.args.place.now.behind_child c.args.place.now.reading.now.sound calm c.args.stack.now.items c.push.new.self.items (record { kind = c.in-Opens.kind; closer = c.as_bytes-closer.result }) c.in-Opens.kind (pair_of c.in-Opens.pair.now) u
+    rw c.as_bytes-opener.ensures.value (opener_pushes (row_in c.args.place.now.reading.now)
+    (blocks_of c.args.place.now.reading.now) c.args.place.now.behind_child
+    c.args.place.now.reading.now.sound calm c.args.stack.now.items c.push.new.self.items
+    (record { kind = c.in-Opens.kind; closer = c.as_bytes-closer.result }) c.in-Opens.kind
+    (pair_of c.in-Opens.pair.now) u
     c.in_ok-push-in-Opens.ensures.items (ap (λ w. record { kind = c.in-Opens.kind; closer = w }) c.as_bytes-closer.ensures.value) c.requires.closable some here)
 
 pub returns-in-Some-clause-takes : goal.returns-in-Some-clause-takes
 returns-in-Some-clause-takes c =
     let u : List ℕ = drop c.args.place.now.at c.args.place.now.reading.now.text.now in
-    let here : at_stack c.args.place.now.reading.now c.args.place.now.behind_child u c.args.stack.now.items ≡ closes = sym (by_mode c.args.place.now.reading.now c.args.place.now.behind_child u c.args.stack.now.items c.args.mode c.requires.mode) ∙ sym c.choice_at.ensures.choice ∙ ap (choice_of (blocks_of c.args.place.now.reading.now c.args.place.now.behind_child u)) c.in-Closes.is in
+    let here : at_stack c.args.place.now.reading.now c.args.place.now.behind_child u
+    c.args.stack.now.items
+    ≡ closes =
+    sym (by_mode c.args.place.now.reading.now c.args.place.now.behind_child u c.args.stack.now.items
+    c.args.mode c.requires.mode)
+    ∙ sym c.choice_at.ensures.choice
+    ∙ ap (choice_of (blocks_of c.args.place.now.reading.now c.args.place.now.behind_child u))
+    c.in-Closes.is in
     let some : 0 < line_len u = omega (arith, c.requires.some, c.requires.here.line) in
     let calm : OpensInLine (blocks_of c.args.place.now.reading.now) = (blocks_fit c.args.place.now.reading.now).in_line in
-    closer_pops (row_in c.args.place.now.reading.now) (blocks_of c.args.place.now.reading.now) c.args.place.now.behind_child c.args.place.now.reading.now.sound calm c.args.stack.now.items c.pop.new.self.items c.in-Some.enclosure u c.in-Some.ensures.items c.requires.closable some here
+    closer_pops (row_in c.args.place.now.reading.now) (blocks_of c.args.place.now.reading.now)
+    c.args.place.now.behind_child c.args.place.now.reading.now.sound calm c.args.stack.now.items
+    c.pop.new.self.items c.in-Some.enclosure u c.in-Some.ensures.items c.requires.closable some
+    here
 
 pub unreachable-requires : goal.unreachable-requires
 unreachable-requires c =
     let u : List ℕ = drop c.args.place.now.at c.args.place.now.reading.now.text.now in
-    let here : at_stack c.args.place.now.reading.now c.args.place.now.behind_child u c.args.stack.now.items ≡ closes = sym (by_mode c.args.place.now.reading.now c.args.place.now.behind_child u c.args.stack.now.items c.args.mode c.requires.mode) ∙ sym c.choice_at.ensures.choice ∙ ap (choice_of (blocks_of c.args.place.now.reading.now c.args.place.now.behind_child u)) c.in-Closes.is in
+    let here : at_stack c.args.place.now.reading.now c.args.place.now.behind_child u
+    c.args.stack.now.items
+    ≡ closes =
+    sym (by_mode c.args.place.now.reading.now c.args.place.now.behind_child u c.args.stack.now.items
+    c.args.mode c.requires.mode)
+    ∙ sym c.choice_at.ensures.choice
+    ∙ ap (choice_of (blocks_of c.args.place.now.reading.now c.args.place.now.behind_child u))
+    c.in-Closes.is in
     let some : 0 < line_len u = omega (arith, c.requires.some, c.requires.here.line) in
     let calm : OpensInLine (blocks_of c.args.place.now.reading.now) = (blocks_fit c.args.place.now.reading.now).in_line in
     let empty : c.args.stack.now.items ≡ [] = c.in-None.ensures.items ∙ append-nil _ ∙ c.in-None.ensures.rest ∙ ap (λ n. take (n - 1) c.args.stack.now.items) c.in-None.ensures.cases.0 in

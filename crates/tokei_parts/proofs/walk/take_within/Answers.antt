@@ -10,7 +10,11 @@ use Rattle.tokei_parts.proofs.walk.take_within.Goals as goal
 use Rattle.tokei_parts.proofs.walk.take_within.Goals.{After-take_bytes-at, In-Turn}
 
 -- how the item's choices have led to behind the bytes that a turn takes first
-led : (c : After-take_bytes-at) → LeadsIn c.args.place.now (chain_of c.args.stack.now.items) (c.take_bytes-at.result - c.args.place.now.at) (c.take_bytes-at.new.steps - c.args.steps.now) (chain_of c.loop-at.stack.items) (drop c.args.place.now.at (text_of c.args.place.now))
+led : (c : After-take_bytes-at)
+    → LeadsIn c.args.place.now (chain_of c.args.stack.now.items)
+    (c.take_bytes-at.result - c.args.place.now.at)
+    (c.take_bytes-at.new.steps - c.args.steps.now) (chain_of c.loop-at.stack.items)
+    (drop c.args.place.now.at (text_of c.args.place.now))
 led c =
     let p = c.args.place.now in
     bytes_on (row_in p.reading.now) (blocks_of p.reading.now) p.behind_child (text_of p) p.at c.loop-at.at c.take_bytes-at.result c.args.steps.now c.loop-at.steps c.take_bytes-at.new.steps
@@ -59,10 +63,24 @@ loop-at-preserved c =
       part = part_on (text_of p) p.behind_child p.start at c.in-On.len c.take_bytes-at.ensures.part goes.within;
       line = end_later (text_of p) at next p.end (omega arith) c.take_bytes-at.ensures.line (omega (arith, c.take_bytes-at.ensures.line, goes.within));
       more = omega (arith, c.loop-at.invariant.more, c.take_bytes-at.ensures.counted, c.in_ok-len.ensures.counted);
-      few = omega (arith, c.loop-at.invariant.few, c.loop-at.invariant.part.low, c.take_bytes-at.ensures.low, c.take_bytes-at.ensures.counted, c.in_ok-len.ensures.counted, goes.some, c.take_bytes-at.ensures.part.low);
+      few =
+          omega (
+            arith,
+            c.loop-at.invariant.few,
+            c.loop-at.invariant.part.low,
+            c.take_bytes-at.ensures.low,
+            c.take_bytes-at.ensures.counted,
+            c.in_ok-len.ensures.counted,
+            goes.some,
+            c.take_bytes-at.ensures.part.low,
+          );
       leads = subst (λ d. LeadsIn p (chain_of c.args.stack.now.items) (next - p.at) (c.take_choice.new.steps - c.args.steps.now) d (drop p.at (text_of p))) (ap chain_of same)
-          (led_on (row_in p.reading.now) (blocks_of p.reading.now) p.behind_child (text_of p) p.at at (chain_of c.args.stack.now.items) (chain_of c.loop-at.stack.items) (chain_of c.take_choice.new.stack.items)
-          (next - p.at) (c.take_bytes-at.new.steps - c.args.steps.now) c.in-On.len 1 (c.take_choice.new.steps - c.args.steps.now) low (led (goal.at.loop-at-preserved c).After-take_bytes-at) goes.leads (omega arith)
+          (led_on (row_in p.reading.now) (blocks_of p.reading.now) p.behind_child (text_of p) p.at
+          at (chain_of c.args.stack.now.items) (chain_of c.loop-at.stack.items)
+          (chain_of c.take_choice.new.stack.items)
+          (next - p.at) (c.take_bytes-at.new.steps - c.args.steps.now) c.in-On.len 1
+          (c.take_choice.new.steps - c.args.steps.now) low
+          (led (goal.at.loop-at-preserved c).After-take_bytes-at) goes.leads (omega arith)
           (omega (arith, c.in_ok-len.ensures.counted, c.loop-at.invariant.more, c.take_bytes-at.ensures.counted)));
     }
 
@@ -75,7 +93,12 @@ pub returns-in-Turn-clause-line : goal.returns-in-Turn-clause-line
 returns-in-Turn-clause-line c =
     let p = c.args.place.now in
     let at : ℕ = c.take_bytes-at.result in
-    end_later (text_of p) at (at + c.in-Turn.len) p.end (omega arith) c.take_bytes-at.ensures.line (omega (arith, c.take_bytes-at.ensures.line, (turned (goal.at.returns-in-Turn-clause-line c).In-Turn).within))
+    end_later (text_of p) at (at + c.in-Turn.len) p.end (omega arith) c.take_bytes-at.ensures.line
+    (omega (
+      arith,
+      c.take_bytes-at.ensures.line,
+      (turned (goal.at.returns-in-Turn-clause-line c).In-Turn).within,
+    ))
 
 pub returns-in-Turn-clause-leads : goal.returns-in-Turn-clause-leads
 returns-in-Turn-clause-leads c =
@@ -83,8 +106,12 @@ returns-in-Turn-clause-leads c =
     let at : ℕ = c.take_bytes-at.result in
     let places = goal.at.returns-in-Turn-clause-leads c in
     let low : p.at ≤ at = omega (arith, c.loop-at.invariant.low, c.take_bytes-at.ensures.low) in
-    led_on (row_in p.reading.now) (blocks_of p.reading.now) p.behind_child (text_of p) p.at at (chain_of c.args.stack.now.items) (chain_of c.loop-at.stack.items) (chain_of c.take_choice.new.stack.items)
-    (at + c.in-Turn.len - p.at) (c.take_bytes-at.new.steps - c.args.steps.now) c.in-Turn.len 1 (c.take_choice.new.steps - c.args.steps.now) low (led places.After-take_bytes-at) (turned places.In-Turn).leads (omega arith)
+    led_on (row_in p.reading.now) (blocks_of p.reading.now) p.behind_child (text_of p) p.at at
+    (chain_of c.args.stack.now.items) (chain_of c.loop-at.stack.items)
+    (chain_of c.take_choice.new.stack.items)
+    (at + c.in-Turn.len - p.at) (c.take_bytes-at.new.steps - c.args.steps.now) c.in-Turn.len 1
+    (c.take_choice.new.steps - c.args.steps.now) low (led places.After-take_bytes-at)
+    (turned places.In-Turn).leads (omega arith)
     (omega (arith, c.in_ok-len.ensures.counted, c.loop-at.invariant.more, c.take_bytes-at.ensures.counted))
 
 pub item_end-plain-requires : goal.item_end-plain-requires

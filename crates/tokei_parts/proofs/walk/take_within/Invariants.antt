@@ -13,7 +13,9 @@ invariant-loop-at l = record {
   line : l.place.end ≡ l.at + line_len (drop l.at l.place.reading.now.text.now);
   more : l.initial.steps ≤ l.steps;
   few : l.steps ≤ l.at - l.place.start;
-  leads : Leads (row_in l.place.reading.now) (blocks_of l.place.reading.now) l.place.behind_child (chain_of l.initial.stack.items) (l.at - l.place.at) (l.steps - l.initial.steps) (chain_of l.initial.stack.items) (drop l.place.at l.place.reading.now.text.now);
+  leads : Leads (row_in l.place.reading.now) (blocks_of l.place.reading.now) l.place.behind_child
+      (chain_of l.initial.stack.items) (l.at - l.place.at) (l.steps - l.initial.steps)
+      (chain_of l.initial.stack.items) (drop l.place.at l.place.reading.now.text.now);
 }
 
 abbrev pub decreases-loop-at : goal.decreases-loop-at

@@ -7,7 +7,9 @@ use Rattle.tokei_print.proofs.ordered.by_name.Goals as goal
 
 pub loop-place-preserved : goal.loop-place-preserved
 loop-place-preserved c = (
-  place_step c.args.reports.now c.loop-place.place c.loop-place.places.entries c.insert.new.self.entries _ _ (omega arith) c.index-reports-place.is (sym c.as_str.ensures.value) c.in_ok-_none.ensures.entries c.loop-place.invariant.1
+  place_step c.args.reports.now c.loop-place.place c.loop-place.places.entries
+      c.insert.new.self.entries _ _ (omega arith) c.index-reports-place.is
+      (sym c.as_str.ensures.value) c.in_ok-_none.ensures.entries c.loop-place.invariant.1
       ∙ c.loop-place.invariant.0,
   below_step c.loop-place.place c.loop-place.places.entries c.insert.new.self.entries _ _ (sym c.as_str.ensures.value) c.in_ok-_none.ensures.entries c.loop-place.invariant.1,
 )

@@ -4,7 +4,11 @@ use Rattle.tokei_program.proofs.Asking.{beside_is, either_is}
 use Rattle.tokei_program.proofs.entry.answer_words.Goals as goal
 
 pub returns-in-Ok-clause-told : goal.returns-in-Ok-clause-told
-returns-in-Ok-clause-told g c t told = either_is (map (λ w. w.now) c.args.words.now) c.in-Ok.cli c.args.env.now t (g.S.Source.remaining c.args.input.now) (g.W.Sink.contents c.args.out.now) (g.W.Sink.contents c.carry_out.new.out) c.carry_out.result c.in-Ok.ensures.of_words (c.carry_out.ensures.told t told)
+returns-in-Ok-clause-told g c t told =
+    either_is (map (λ w. w.now) c.args.words.now) c.in-Ok.cli c.args.env.now t
+    (g.S.Source.remaining c.args.input.now) (g.W.Sink.contents c.args.out.now)
+    (g.W.Sink.contents c.carry_out.new.out) c.carry_out.result c.in-Ok.ensures.of_words
+    (c.carry_out.ensures.told t told)
 
 pub returns-in-Ok-clause-beside : goal.returns-in-Ok-clause-beside
 returns-in-Ok-clause-beside g c = beside_is (map (λ w. w.now) c.args.words.now) c.in-Ok.cli c.carry_out.result c.in-Ok.ensures.of_words c.carry_out.ensures.beside

@@ -16,7 +16,11 @@ returns-in-Ok-clause-told g c = λ t e.
     let by = counting_of c.args.counting.now in
     let here = c.language.ensures.same ∙ e in
     let read = c.in-Ok.ensures.told t here ∙ ap (stats_at t by.rows by.docs c.in-Some.language) c.as_str.ensures in
-    file_reported by t c.add_report.result c.args.file c.in_ok-language.field-0 c.in-Some.language (stats_of c.in-Ok.stats) _ (languages_of c.args.languages.now) (languages_of c.add_report.new.self) (c.in_ok-language.ensures.told t e) c.in-Some.is read (λ i. record { name = c.into_string-name.ensures i; stats = stats_of c.in-Ok.stats }) c.add_report.ensures.ok
+    file_reported by t c.add_report.result c.args.file c.in_ok-language.field-0 c.in-Some.language
+    (stats_of c.in-Ok.stats) _ (languages_of c.args.languages.now)
+    (languages_of c.add_report.new.self) (c.in_ok-language.ensures.told t e) c.in-Some.is read
+    (λ i. record { name = c.into_string-name.ensures i; stats = stats_of c.in-Ok.stats })
+    c.add_report.ensures.ok
 
 pub returns-in-Err-Refused-clause-told : goal.returns-in-Err-Refused-clause-told
 returns-in-Err-Refused-clause-told g c = λ t e.
@@ -24,4 +28,7 @@ returns-in-Err-Refused-clause-told g c = λ t e.
     let here = c.language.ensures.same ∙ e in
     let refused = c.in-Err-Refused.ensures.refused (ap (λ x. Err x) c.in-Err-Refused.field-0-is) t here in
     let none = sym (ap (content_at t) c.as_str.ensures) ∙ refused in
-    file_marked by t c.mark_inaccurate.result c.args.file c.in_ok-language.field-0 c.in-Some.language (languages_of c.args.languages.now) (languages_of c.mark_inaccurate.new.self) (c.in_ok-language.ensures.told t e) c.in-Some.is none c.mark_inaccurate.ensures.ok
+    file_marked by t c.mark_inaccurate.result c.args.file c.in_ok-language.field-0
+    c.in-Some.language (languages_of c.args.languages.now)
+    (languages_of c.mark_inaccurate.new.self) (c.in_ok-language.ensures.told t e) c.in-Some.is
+    none c.mark_inaccurate.ensures.ok

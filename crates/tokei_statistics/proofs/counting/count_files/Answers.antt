@@ -37,7 +37,10 @@ pub returns-in_err-add_file-clause-partly : goal.returns-in_err-add_file-clause-
 returns-in_err-add_file-clause-partly g c = λ t e.
     let by = counting_of c.args.counting.now in
     let some = first_done by t _ _ _ _ (c.loop-file.invariant.told t e) in
-    always_err c.from_residual-in_err-add_file.result (subst (λ (x : List (ℕ × LanguageValue)). AddsFirst by t (to_come t c.args.walk.now) (languages_of c.args.languages.now) x) (sym c.in_err-add_file.ensures.stays) some)
+    always_err c.from_residual-in_err-add_file.result (subst
+    (λ (x : List (ℕ × LanguageValue)). AddsFirst by t (to_come t c.args.walk.now)
+    (languages_of c.args.languages.now) x)
+    (sym c.in_err-add_file.ensures.stays) some)
 
 pub returns-in_err-add_file-clause-overflow : goal.returns-in_err-add_file-clause-overflow
 returns-in_err-add_file-clause-overflow g c = λ q t e.

@@ -37,15 +37,24 @@ module _ (old new : List (ℕ × CodeStats)) (k : ℕ) (v w more : CodeStats) (t
 
 pub returns-in-Some-clause-ok : goal.returns-in-Some-clause-ok
 returns-in-Some-clause-ok c =
-    on_ok c.join.result (added c.args.blobs.now.entries _ c.args.language c.in-Some.there.now c.join.new.self c.args.stats c.in-Some.ensures.value (c.get_mut.follows.holds c.join.new.self).0 c.in-Some.ensures.ordered) c.join.ensures.ok
+    on_ok c.join.result
+    (added c.args.blobs.now.entries _ c.args.language c.in-Some.there.now c.join.new.self
+    c.args.stats c.in-Some.ensures.value (c.get_mut.follows.holds c.join.new.self).0
+    c.in-Some.ensures.ordered)
+    c.join.ensures.ok
 
 pub returns-in-Some-clause-err : goal.returns-in-Some-clause-err
 returns-in-Some-clause-err c =
-    on_err c.join.result (kept c.args.blobs.now.entries _ c.args.language c.in-Some.there.now c.join.new.self c.args.stats c.in-Some.ensures.value (c.get_mut.follows.holds c.join.new.self).0) c.join.ensures.err
+    on_err c.join.result
+    (kept c.args.blobs.now.entries _ c.args.language c.in-Some.there.now c.join.new.self
+    c.args.stats c.in-Some.ensures.value (c.get_mut.follows.holds c.join.new.self).0)
+    c.join.ensures.err
 
 pub returns-in-Some-clause-overflow : goal.returns-in-Some-clause-overflow
 returns-in-Some-clause-overflow c is fits =
-    c.join.ensures.overflow is (fits_there c.args.blobs.now.entries _ c.args.language c.in-Some.there.now c.join.new.self c.args.stats c.in-Some.ensures.value (c.get_mut.follows.holds c.join.new.self).0 fits)
+    c.join.ensures.overflow is (fits_there c.args.blobs.now.entries _ c.args.language
+    c.in-Some.there.now c.join.new.self c.args.stats c.in-Some.ensures.value
+    (c.get_mut.follows.holds c.join.new.self).0 fits)
 
 pub returns-clause-ok : goal.returns-clause-ok
 returns-clause-ok c =

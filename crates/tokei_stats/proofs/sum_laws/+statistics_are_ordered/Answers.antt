@@ -14,7 +14,10 @@ loop-inner-preserved t c =
     let sorted : IsStrictlySortedBy nat_cmp (keys_of (first ∷ c.next.new.self)) = subst (λ es. IsStrictlySortedBy nat_cmp (keys_of es)) c.in-Some.ensures.steps c.loop-inner.invariant.sorted in
     record {
       sorted = sorted_rest first c.next.new.self sorted;
-      ordered = λ h. c.loop-inner.invariant.ordered (subst (λ es. AreOrdered (blobs_of (entries_of es))) (sym c.in-Some.ensures.steps) (ordered_first first c.next.new.self sorted c.statistics_are_ordered.ensures h));
+      ordered =
+          λ h. c.loop-inner.invariant.ordered (subst (λ es. AreOrdered (blobs_of (entries_of es)))
+          (sym c.in-Some.ensures.steps)
+          (ordered_first first c.next.new.self sorted c.statistics_are_ordered.ensures h));
     }
 
 pub returns : goal.returns

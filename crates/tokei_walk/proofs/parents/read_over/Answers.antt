@@ -11,7 +11,13 @@ loop-above-preserved g c =
       same = c.read_level.ensures.folders.same ∙ inv.same;
       honest = search rules;
       shown = inv.shown;
-      names = more cx.names c.push-in-Some.new.self (names_over c.loop-above.found) (names_over front) _ a.name c.in_ok-push-2.ensures.ok (names_over_pop c.loop-above.found front a c.in-Some.ensures) inv.names;
+      names =
+          more cx.names c.push-in-Some.new.self (names_over c.loop-above.found) (names_over front) _
+          a.name c.in_ok-push-2.ensures.ok
+          (names_over_pop c.loop-above.found front a c.in-Some.ensures) inv.names;
       levels = λ t e. more cx.levels c.push.new.self (levels_over t r c.loop-above.found) (levels_over t r front) _ c.in_ok-level.level c.in_ok-push.ensures.ok
-          (levels_over_pop t r c.loop-above.found front a c.in_ok-level.level c.as_str-place.result.now c.in-Some.ensures (c.in_ok-level.ensures.told t (inv.same ∙ e)) c.as_str-place.ensures) (inv.levels t e);
+          (levels_over_pop t r c.loop-above.found front a c.in_ok-level.level
+          c.as_str-place.result.now c.in-Some.ensures
+          (c.in_ok-level.ensures.told t (inv.same ∙ e)) c.as_str-place.ensures)
+          (inv.levels t e);
     }

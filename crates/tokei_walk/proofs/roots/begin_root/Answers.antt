@@ -23,7 +23,10 @@ returns-in_ok-path-in-Some-File-clause-told g c = λ t e left below.
     let x = c.args.settings.now in
     let named = sym c.is_empty_place.ensures ∙ c.if-is_empty_place.false in
     let kind = sym (c.in-Some-File.is ∙ ap Some c.in-Some-File.field-0-is) ∙ c.in_ok-kind_at.ensures.told t e ∙ ap (λ p. node_kind (node_at t (names_of p))) c.as_str-2.ensures in
-    root_file x.excludes x.rules t c.args.root named kind ∙ one_file c.in_ok-path-in-Some-File.path c.args.root _ (c.in_ok-path-in-Some-File.ensures ∙ c.as_str-in-Some-File.ensures) (empty_gives x.excludes x.rules t c.args.stack.now left below)
+    root_file x.excludes x.rules t c.args.root named kind
+    ∙ one_file c.in_ok-path-in-Some-File.path c.args.root _
+    (c.in_ok-path-in-Some-File.ensures ∙ c.as_str-in-Some-File.ensures)
+    (empty_gives x.excludes x.rules t c.args.stack.now left below)
 
 pub returns-in_ok-enter_root-in-Some-Folder-clause-told : goal.returns-in_ok-enter_root-in-Some-Folder-clause-told
 returns-in_ok-enter_root-in-Some-Folder-clause-told g c = λ t e left below.

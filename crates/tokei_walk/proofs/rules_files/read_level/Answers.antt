@@ -6,4 +6,7 @@ use Rattle.tokei_walk.proofs.rules_files.read_level.Goals as goal
 
 pub returns-clause-told : goal.returns-clause-told
 returns-clause-told g c = λ t e.
-    subst (λ (y : Level). IfOk c.read_sought.result (λ l. l ≡ y)) (level_asked t c.args.rules.now (names_of c.args.place.now) c.in_ok-git.git (c.in_ok-git.ensures.told t e)) (c.read_sought.ensures.told t (c.is_repository.ensures.folders.same ∙ e))
+    subst (λ (y : Level). IfOk c.read_sought.result (λ l. l ≡ y))
+    (level_asked t c.args.rules.now (names_of c.args.place.now) c.in_ok-git.git
+    (c.in_ok-git.ensures.told t e))
+    (c.read_sought.ensures.told t (c.is_repository.ensures.folders.same ∙ e))

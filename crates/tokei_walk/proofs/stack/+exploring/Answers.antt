@@ -42,7 +42,11 @@ pub meet_next-returns-in-Some-2-clause-told : goal.meet_next-returns-in-Some-2-c
 meet_next-returns-in-Some-2-clause-told g t c = λ t' e.
     let s = c.args.stack.now in let x = c.args.settings.now in let u = c.next_entry.new.stack in let entry = c.in-Some.entry in
     let pops = subst (λ (o : Option Entry). Pops s u o) c.in-Some.is c.next_entry.ensures in
-    let told = subst (λ (o : Option KeptFile). VisitTells x.excludes x.rules t' u c.visit.new.stack entry.name (joined u.place entry.name) o) c.in-Some-2.is (c.in_ok-file-in-Folder.ensures.told t' e) in
+    let told =
+    subst
+    (λ (o : Option KeptFile). VisitTells x.excludes x.rules t' u c.visit.new.stack entry.name
+    (joined u.place entry.name) o)
+    c.in-Some-2.is (c.in_ok-file-in-Folder.ensures.told t' e) in
     tells_folder_some x.excludes x.rules t' s u c.visit.new.stack entry c.in-Some-2.file pops c.in-Folder.is told
 
 pub meet_next-returns-in-None-clause-told : goal.meet_next-returns-in-None-clause-told
@@ -99,7 +103,12 @@ pub visit-returns-then-not-branch-clause-told : goal.visit-returns-then-not-bran
 visit-returns-then-not-branch-clause-told g t c = λ t' e.
     let x = c.args.settings.now in let s = c.args.stack.now in let d = c.push_name.new.context in let name = c.args.name in let place = c.in_ok-place.place in
     let at : place ≡ joined s.place name = c.in_ok-place.ensures.place ∙ ap₂ (λ (p n : List ℕ). joined p n) c.as_str.ensures (c.as_str-2.ensures ∙ c.in_ok-dropped.ensures.name) in
-    let told = subst (λ (b : Bool). MatchBool b (EntersTold t' x.rules (with_context s d) c.enter.new.stack place) (list_answer t' (names_of place) ≡ Err Refused)) c.if-not-branch.true (c.in_ok-enter.ensures.told t' e) in
+    let told =
+    subst
+    (λ (b : Bool). MatchBool b
+    (EntersTold t' x.rules (with_context s d) c.enter.new.stack place)
+    (list_answer t' (names_of place) ≡ Err Refused))
+    c.if-not-branch.true (c.in_ok-enter.ensures.told t' e) in
     ap (λ (p : List ℕ). of_folder x.excludes x.rules t' s name p) (sym at) ∙ visit_refused x.excludes x.rules t' s name place told
 
 pub visit-explore-requires : goal.visit-explore-requires
@@ -119,7 +128,11 @@ visit-returns-in-Some-clause-told g t c = λ t' e.
     let at : place ≡ joined s.place name = c.in_ok-place.ensures.place ∙ ap₂ (λ (p n : List ℕ). joined p n) c.as_str.ensures (c.as_str-2.ensures ∙ c.in_ok-dropped.ensures.name) in
     let stays = sym c.in_ok-dropped.ensures.dropped ∙ c.if-dropped.false in
     let enters = c.in_ok-enter.ensures.entered c.if-not-branch.false in
-    let told = subst (λ (b : Bool). MatchBool b (EntersTold t' x.rules (with_context s d) u place) (list_answer t' (names_of place) ≡ Err Refused)) c.if-not-branch.false (c.in_ok-enter.ensures.told t' e) in
+    let told =
+    subst
+    (λ (b : Bool). MatchBool b (EntersTold t' x.rules (with_context s d) u place)
+    (list_answer t' (names_of place) ≡ Err Refused))
+    c.if-not-branch.false (c.in_ok-enter.ensures.told t' e) in
     let explored = subst (λ (o : Option KeptFile). ExploreTells x.excludes x.rules t' u c.explore.new.stack o) c.in-Some.is (c.in_ok-file.ensures.told t' (c.enter.ensures.folders.same ∙ e)) in
     ap (λ (p : List ℕ). of_folder x.excludes x.rules t' s name p ++ of_stack x.excludes x.rules t' s) (sym at)
     ∙ ap (λ (q : List KeptFile). q ++ of_stack x.excludes x.rules t' s) (visit_entered x.excludes x.rules t' s u d name place is stays shallow enters told)
@@ -148,6 +161,10 @@ visit-returns-in-None-clause-told g t c = λ t' e.
     let at : place ≡ joined s.place name = c.in_ok-place.ensures.place ∙ ap₂ (λ (p n : List ℕ). joined p n) c.as_str.ensures (c.as_str-2.ensures ∙ c.in_ok-dropped.ensures.name) in
     let stays = sym c.in_ok-dropped.ensures.dropped ∙ c.if-dropped.false in
     let enters = c.in_ok-enter.ensures.entered c.if-not-branch.false in
-    let told = subst (λ (b : Bool). MatchBool b (EntersTold t' x.rules (with_context s d) u place) (list_answer t' (names_of place) ≡ Err Refused)) c.if-not-branch.false (c.in_ok-enter.ensures.told t' e) in
+    let told =
+    subst
+    (λ (b : Bool). MatchBool b (EntersTold t' x.rules (with_context s d) u place)
+    (list_answer t' (names_of place) ≡ Err Refused))
+    c.if-not-branch.false (c.in_ok-enter.ensures.told t' e) in
     let explored = subst (λ (o : Option KeptFile). ExploreTells x.excludes x.rules t' u c.explore.new.stack o) c.in-None.is (c.in_ok-file.ensures.told t' (c.enter.ensures.folders.same ∙ e)) in
     ap (λ (p : List ℕ). of_folder x.excludes x.rules t' s name p) (sym at) ∙ visit_entered x.excludes x.rules t' s u d name place is stays shallow enters told ∙ explored

@@ -14,10 +14,18 @@ pub returns-clause-told : goal.returns-clause-told
 returns-clause-told g c = λ t e.
     let x = c.args.settings.now in let place = c.args.place in
     let first = c.listing.ensures.folders.same ∙ e in
-    let told = subst (λ (o : Option Listing). MatchOption o (list_answer t (names_of c.as_str.result.now) ≡ Err Refused) (λ l. list_answer t (names_of c.as_str.result.now) ≡ Ok l.entries.items)) c.in-Some.is (c.in_ok-listing.ensures.told t e) in
+    let told =
+    subst
+    (λ (o : Option Listing). MatchOption o
+    (list_answer t (names_of c.as_str.result.now) ≡ Err Refused)
+    (λ l. list_answer t (names_of c.as_str.result.now) ≡ Ok l.entries.items))
+    c.in-Some.is (c.in_ok-listing.ensures.told t e) in
     let listed_here = ap (λ p. list_answer t (names_of p)) (sym c.as_str.ensures) ∙ told in
     let sought = c.sought_among-sought.ensures ∙ ap (listed x.rules) c.as_slice.ensures.value in
-    let level = c.in_ok-level.ensures.told t first ∙ ap₂ (λ (s : Sought) (p : List ℕ). level_of t s (names_of p)) sought c.as_str-3.ensures ∙ level_listed t x.rules (names_of place) c.in-Some.listing.entries.items listed_here in record {
+    let level = c.in_ok-level.ensures.told t first ∙ ap₂
+    (λ (s : Sought) (p : List ℕ). level_of t s (names_of p)) sought c.as_str-3.ensures ∙
+    level_listed t x.rules (names_of place) c.in-Some.listing.entries.items listed_here
+    in record {
       entries_are = listed_here ∙ ap Ok (sym (c.in_ok-push_folder.ensures.entries ∙ c.from_vec.ensures));
       levels_are = c.in_ok-push_folder.ensures.levels ∙ ap (λ (l : Level). c.args.stack.now.context.levels ++ l ∷ []) level;
     }

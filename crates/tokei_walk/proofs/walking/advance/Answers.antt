@@ -16,14 +16,28 @@ loop-file-preserved-then-leave g c =
     let inv = c.loop-file.invariant in let x = c.args.settings.now in let s = c.loop-file.stack in let v = c.explore.new.stack in
     let stays = subst (λ (o : Option KeptFile). NoneStays s v o) c.in-None.is c.in_ok-file.ensures.stays in record {
       notes = grows_on _ _ _ inv.notes c.explore.ensures.notes;
-      falls = omega (arith, all_stays s c.leave.new.stack c.loop-file.roots (omega (arith, explored_rank s v stays.0 stays.1, left_rank v c.leave.new.stack (subst (λ (b : Bool). Leaves v c.leave.new.stack b) c.if-leave.true c.leave.ensures))), inv.falls);
+      falls =
+          omega (
+            arith,
+            all_stays s c.leave.new.stack c.loop-file.roots
+                (omega (
+                  arith,
+                  explored_rank s v stays.0 stays.1,
+                  left_rank v c.leave.new.stack (subst
+                      (λ (b : Bool). Leaves v c.leave.new.stack b) c.if-leave.true
+                      c.leave.ensures),
+                )),
+            inv.falls,
+          );
       same = c.explore.ensures.folders.same ∙ inv.same;
       honest = search rules;
       told = λ t e.
           let top = subst (λ (o : Option KeptFile). ExploreTells x.excludes x.rules t s v o) c.in-None.is (c.in_ok-file.ensures.told t (inv.same ∙ e)) in
           inv.told t e
           ∙ ap (λ (q : List KeptFile). q ++ of_roots x.excludes x.rules t c.loop-file.roots)
-          (explored_none x.excludes x.rules t s v stays.0 stays.1 top ∙ left_gives x.excludes x.rules t v c.leave.new.stack c.leave.result c.if-leave.true (top_ends x.excludes x.rules t v (ap reverse stays.1)) c.leave.ensures);
+          (explored_none x.excludes x.rules t s v stays.0 stays.1 top
+          ∙ left_gives x.excludes x.rules t v c.leave.new.stack c.leave.result c.if-leave.true
+          (top_ends x.excludes x.rules t v (ap reverse stays.1)) c.leave.ensures);
     }
 
 pub returns-in-None-pop-clause-told : goal.returns-in-None-pop-clause-told
@@ -42,7 +56,14 @@ returns-in-Some-2-clause-told g c = λ t e.
     let top = subst (λ (o : Option KeptFile). ExploreTells x.excludes x.rules t s v o) c.in-None.is (c.in_ok-file.ensures.told t (inv.same ∙ e)) in
     let left = subst (λ (b : Bool). Leaves v c.leave.new.stack b) c.if-leave.false c.leave.ensures in
     let root = c.in-Some-pop.root in let front = c.pop.new.self in let w = c.begin_root.new.stack in
-    let given = subst (λ (o : Option KeptFile). RootGives (of_root x.excludes x.rules t root) (of_stack x.excludes x.rules t w) o) c.in-Some-2.is (c.in_ok-file-2.ensures.told t (c.explore.ensures.folders.same ∙ inv.same ∙ e) (ap (λ (u : Stack). u.left) left.1 ∙ stays.1) (ap (λ (u : Stack). u.holders) left.1 ∙ left.0)) in
+    let given =
+    subst
+    (λ (o : Option KeptFile). RootGives (of_root x.excludes x.rules t root)
+    (of_stack x.excludes x.rules t w) o)
+    c.in-Some-2.is
+    (c.in_ok-file-2.ensures.told t (c.explore.ensures.folders.same ∙ inv.same ∙ e)
+    (ap (λ (u : Stack). u.left) left.1 ∙ stays.1)
+    (ap (λ (u : Stack). u.holders) left.1 ∙ left.0)) in
     inv.told t e ∙ root_begins x.excludes x.rules t s v c.loop-file.roots front root stays.0 stays.1 left.0 top c.in-Some-pop.ensures
     ∙ ap (λ (q : List KeptFile). q ++ of_roots x.excludes x.rules t front) given
 
@@ -53,13 +74,34 @@ loop-file-preserved g c =
     let left = subst (λ (b : Bool). Leaves v c.leave.new.stack b) c.if-leave.false c.leave.ensures in
     let root = c.in-Some-pop.root in let front = c.pop.new.self in let w = c.begin_root.new.stack in record {
       notes = grows_on _ _ _ (grows_on _ _ _ inv.notes c.explore.ensures.notes) c.begin_root.ensures.notes;
-      falls = omega (arith, root_falls s w c.loop-file.roots front root c.in-Some-pop.ensures (omega (arith, explored_rank s v stays.0 stays.1, ap stack_rank left.1, c.in_ok-file-2.ensures.bounded)), inv.falls);
+      falls =
+          omega (
+            arith,
+            root_falls s w c.loop-file.roots front root c.in-Some-pop.ensures
+                (omega (
+                  arith,
+                  explored_rank s v stays.0 stays.1,
+                  ap stack_rank left.1,
+                  c.in_ok-file-2.ensures.bounded,
+                )),
+            inv.falls,
+          );
       same = c.begin_root.ensures.folders.same ∙ c.explore.ensures.folders.same ∙ inv.same;
       honest = search rules;
       told = λ t e.
           let top = subst (λ (o : Option KeptFile). ExploreTells x.excludes x.rules t s v o) c.in-None.is (c.in_ok-file.ensures.told t (inv.same ∙ e)) in
-          let given = subst (λ (o : Option KeptFile). RootGives (of_root x.excludes x.rules t root) (of_stack x.excludes x.rules t w) o) c.in-None-2.is (c.in_ok-file-2.ensures.told t (c.explore.ensures.folders.same ∙ inv.same ∙ e) (ap (λ (u : Stack). u.left) left.1 ∙ stays.1) (ap (λ (u : Stack). u.holders) left.1 ∙ left.0)) in
-          inv.told t e ∙ root_begins x.excludes x.rules t s v c.loop-file.roots front root stays.0 stays.1 left.0 top c.in-Some-pop.ensures ∙ ap (λ (q : List KeptFile). q ++ of_roots x.excludes x.rules t front) given;
+          let given =
+          subst
+          (λ (o : Option KeptFile). RootGives (of_root x.excludes x.rules t root)
+          (of_stack x.excludes x.rules t w) o)
+          c.in-None-2.is
+          (c.in_ok-file-2.ensures.told t (c.explore.ensures.folders.same ∙ inv.same ∙ e)
+          (ap (λ (u : Stack). u.left) left.1 ∙ stays.1)
+          (ap (λ (u : Stack). u.holders) left.1 ∙ left.0)) in
+          inv.told t e
+          ∙ root_begins x.excludes x.rules t s v c.loop-file.roots front root stays.0 stays.1
+          left.0 top c.in-Some-pop.ensures
+          ∙ ap (λ (q : List KeptFile). q ++ of_roots x.excludes x.rules t front) given;
     }
 
 pub returns-in-Some-clause-fewer : goal.returns-in-Some-clause-fewer
@@ -73,5 +115,12 @@ returns-in-Some-2-clause-fewer g c =
     let s = c.loop-file.stack in let v = c.explore.new.stack in let w = c.begin_root.new.stack in
     let stays = subst (λ (o : Option KeptFile). NoneStays s v o) c.in-None.is c.in_ok-file.ensures.stays in
     let left = subst (λ (b : Bool). Leaves v c.leave.new.stack b) c.if-leave.false c.leave.ensures in
-    let bound = root_falls s w c.loop-file.roots c.pop.new.self c.in-Some-pop.root c.in-Some-pop.ensures (omega (arith, explored_rank s v stays.0 stays.1, ap stack_rank left.1, c.in_ok-file-2.ensures.bounded)) in
+    let bound =
+    root_falls s w c.loop-file.roots c.pop.new.self c.in-Some-pop.root c.in-Some-pop.ensures
+    (omega (
+      arith,
+      explored_rank s v stays.0 stays.1,
+      ap stack_rank left.1,
+      c.in_ok-file-2.ensures.bounded,
+    )) in
     omega (arith, bound, c.loop-file.invariant.falls)

@@ -10,6 +10,8 @@ returns-then-self-le-FEW c =
       low = c.first_of_four.ensures.low;
       high = c.first_of_four.ensures.high;
       passed = λ p low high.
-          outside c.args.self.now c.self.inside.few c.self.inside.few c.self.inside.count (slice_index c.args.text.now p) has c.if-self-le-FEW.true (c.type_inv.text p).fits refl (c.first_of_four.ensures.passed p low high);
+          outside c.args.self.now c.self.inside.few c.self.inside.few c.self.inside.count
+          (slice_index c.args.text.now p) has c.if-self-le-FEW.true (c.type_inv.text p).fits
+          refl (c.first_of_four.ensures.passed p low high);
       found = λ inside. has.held (omega arith) (slice_index c.args.text.now c.first_of_four.result) (c.first_of_four.ensures.found inside);
     }

@@ -13,7 +13,14 @@ returns-then-self-lt-FEW c =
       high = there.ensures.high;
       passed = λ p low high.
           neither _ (is_in c.args.self.now (slice_index c.args.text.now p)) (apart_of_three few c.args.other (slice_index c.args.text.now p) (there.ensures.passed p low high))
-          (outside c.args.self.now few (get_or few 0 0 ∷ get_or few 1 0 ∷ get_or few 2 0 ∷ c.args.other ∷ []) c.self.inside.count (slice_index c.args.text.now p) has (omega (arith, c.if-self-lt-FEW.true)) (c.type_inv.text p).fits
+          (outside c.args.self.now few
+          (get_or few 0 0 ∷ get_or few 1 0 ∷ get_or few 2 0 ∷ c.args.other ∷ [])
+          c.self.inside.count (slice_index c.args.text.now p) has
+          (omega (arith, c.if-self-lt-FEW.true)) (c.type_inv.text p).fits
           (three few c.self.inside.count c.args.other has.four c.if-self-lt-FEW.true) (there.ensures.passed p low high));
-      found = λ inside. met_of_three few c.args.other (slice_index c.args.text.now there.result) (is_in c.args.self.now (slice_index c.args.text.now there.result)) has.four (has.held (omega arith) (slice_index c.args.text.now there.result)) (there.ensures.found inside);
+      found =
+          λ inside. met_of_three few c.args.other (slice_index c.args.text.now there.result)
+          (is_in c.args.self.now (slice_index c.args.text.now there.result)) has.four
+          (has.held (omega arith) (slice_index c.args.text.now there.result))
+          (there.ensures.found inside);
     }

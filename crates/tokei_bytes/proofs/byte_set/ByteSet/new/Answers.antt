@@ -28,7 +28,9 @@ loop-byte-preserved c = elim c.if-index.branch [
               | inr later ↦ inl (omega (arith, later, under))
             ]);
         held = λ some b h.
-            each_with_one (λ b. slice_index_or c.args.flags.items b false ≡ true) c.loop-byte.few c.loop-byte.count c.loop-byte.byte c.loop-byte.invariant.long member c.loop-byte.invariant.held b (ap (λ bs. is_one_of bs b) (sym is) ∙ h);
+            each_with_one (λ b. slice_index_or c.args.flags.items b false ≡ true) c.loop-byte.few
+            c.loop-byte.count c.loop-byte.byte c.loop-byte.invariant.long member
+            c.loop-byte.invariant.held b (ap (λ bs. is_one_of bs b) (sym is) ∙ h);
       }
   | else-index w ↦ record {
     bound = omega (arith, w.count-is, c.loop-byte.invariant.bound);
@@ -41,7 +43,10 @@ loop-byte-preserved c = elim c.if-index.branch [
             | inl many ↦ omega (arith, many.1, small, w.count-is)
             | inr off ↦
                 let is : b ≡ c.loop-byte.byte = omega (arith, later, under) in
-                let unset : slice_index_or c.args.flags.items c.loop-byte.byte false ≡ false = any_default c.args.flags.items c.loop-byte.byte false c.index.result.now (omega (arith, c.loop-byte-test.true, c.requires)) ∙ sym c.index.ensures ∙ off in
+                let unset : slice_index_or c.args.flags.items c.loop-byte.byte false ≡ false =
+                any_default c.args.flags.items c.loop-byte.byte false c.index.result.now
+                (omega (arith, c.loop-byte-test.true, c.requires))
+                ∙ sym c.index.ensures ∙ off in
                 contradiction (sym (ap (λ i. slice_index_or c.args.flags.items i false) is ∙ unset) ∙ flag)
           ])
         ]);

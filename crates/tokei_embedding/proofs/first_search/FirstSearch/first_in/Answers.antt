@@ -7,7 +7,9 @@ use Rattle.tokei_embedding.proofs.first_search.FirstSearch.first_in.Goals.{else-
 pub returns-then-self-to-clause-value : goal.returns-then-self-to-clause-value
 returns-then-self-to-clause-value c =
     let same : length c.self.inside.token.now ≡ length c.args.self.now.token = ap (λ (s : Sought). length s.token) (c.self.view_is ∙ c.place_from-place.ensures.same) in
-    first_is c.args.self.now c.args.from c.place_from-place.result c.args.from c.args.to c.place_from-place.ensures.first (omega arith) c.place_from-place.ensures.low c.if-place-to.true c.requires.ends (omega (arith, c.if-self-to.true, same))
+    first_is c.args.self.now c.args.from c.place_from-place.result c.args.from c.args.to
+    c.place_from-place.ensures.first (omega arith) c.place_from-place.ensures.low
+    c.if-place-to.true c.requires.ends (omega (arith, c.if-self-to.true, same))
 
 pub returns-clause-value : goal.returns-clause-value
 returns-clause-value c =

@@ -13,7 +13,9 @@ returns-in_err-last-clause-value c =
     let long : length c.token_of.result.now ≡ length (token_of a.self.now.tag) = ap length c.token_of.ensures ∙ ap (λ (v : TagSought). length (token_of v.tag)) c.self.view_is in
     rw (← c.self.view_is)
     (ap (option_map opening_seen) c.from_residual.ensures
-    ∙ no_opening s.tag s.text.now a.from a.at n a.to s.last_ends c.self.invariant.last (ap (λ t. a.at + length t) c.token_of.ensures) (omega (arith, long, c.requires.stands)) c.in_err-last.ensures.value)
+    ∙ no_opening s.tag s.text.now a.from a.at n a.to s.last_ends c.self.invariant.last
+    (ap (λ t. a.at + length t) c.token_of.ensures) (omega (arith, long, c.requires.stands))
+    c.in_err-last.ensures.value)
 
 pub returns-clause-value : goal.returns-clause-value
 returns-clause-value c =
@@ -24,4 +26,8 @@ returns-clause-value c =
     rw (← c.self.view_is)
     (c.opening_past.ensures.value
     ∙ ap (λ (v : TagSought). opening_past a.at n (take (a.to - (a.from + n)) (drop (a.from + n) v.text)) (option_map span_seen c.value_in-value.result)) c.value_in-value.ensures.same
-    ∙ opened s.tag s.text.now a.from a.at n a.to c.in_ok-last.last s.last_ends (option_map span_seen c.value_in-value.result) c.self.invariant.last (ap (λ t. a.at + length t) c.token_of.ensures) (omega (arith, long, c.requires.stands, c.in_ok-last.ensures.within)) c.in_ok-last.ensures.value c.value_in-value.ensures.value)
+    ∙ opened s.tag s.text.now a.from a.at n a.to c.in_ok-last.last s.last_ends
+    (option_map span_seen c.value_in-value.result) c.self.invariant.last
+    (ap (λ t. a.at + length t) c.token_of.ensures)
+    (omega (arith, long, c.requires.stands, c.in_ok-last.ensures.within))
+    c.in_ok-last.ensures.value c.value_in-value.ensures.value)

@@ -12,7 +12,9 @@ returns-in_err-end-clause-value c =
     let near : a.start + behind ≤ a.to = omega (arith, c.value_end-behind.ensures, end_within a.value (a.to - a.start) c.requires.within) in
     rw (← c.self.view_is)
     (ap (option_map opening_seen) c.from_residual.ensures
-    ∙ opens_past c.self.inside.text.now a.at a.inside a.start a.to behind c.self.inside.ends value (option_map (shifted a.inside) value) None c.self.invariant.first near c.value_end-behind.ensures refl c.in_err-end.ensures.value)
+    ∙ opens_past c.self.inside.text.now a.at a.inside a.start a.to behind c.self.inside.ends value
+    (option_map (shifted a.inside) value) None c.self.invariant.first near
+    c.value_end-behind.ensures refl c.in_err-end.ensures.value)
 
 pub returns-clause-value : goal.returns-clause-value
 returns-clause-value c =
@@ -20,4 +22,7 @@ returns-clause-value c =
     let behind = c.value_end-behind.result in
     let near : a.start + behind ≤ a.to = omega (arith, c.value_end-behind.ensures, end_within a.value (a.to - a.start) c.requires.within) in
     rw (← c.self.view_is)
-    (opens_past c.self.inside.text.now a.at a.inside a.start a.to behind c.self.inside.ends (option_map span_seen a.value) (option_map span_seen c.shifted.result) (Some c.in_ok-end.end) c.self.invariant.first near c.value_end-behind.ensures c.shifted.ensures.value c.in_ok-end.ensures.value)
+    (opens_past c.self.inside.text.now a.at a.inside a.start a.to behind c.self.inside.ends
+    (option_map span_seen a.value) (option_map span_seen c.shifted.result)
+    (Some c.in_ok-end.end) c.self.invariant.first near c.value_end-behind.ensures
+    c.shifted.ensures.value c.in_ok-end.ensures.value)

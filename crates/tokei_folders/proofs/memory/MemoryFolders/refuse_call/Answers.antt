@@ -13,4 +13,8 @@ invariant_of-self c = record { sound = ap is_sound c.refuse.ensures ∙ changed_
 
 pub returns-clause-marked : goal.returns-clause-marked
 returns-clause-marked c =
-    call_refused c.args.self.now.tree c.refuse.new.self _ c.as_slice.result.now c.args.call (c.as_slice.ensures ∙ c.in_ok-names.ensures) c.if-not-has.ensures (c.refuse.ensures ∙ ap (λ (x : Names). refused_at c.args.call x c.args.self.now.tree) (c.as_slice-2.ensures ∙ sym c.as_slice.ensures))
+    call_refused c.args.self.now.tree c.refuse.new.self _ c.as_slice.result.now c.args.call
+    (c.as_slice.ensures ∙ c.in_ok-names.ensures) c.if-not-has.ensures
+    (c.refuse.ensures
+    ∙ ap (λ (x : Names). refused_at c.args.call x c.args.self.now.tree)
+    (c.as_slice-2.ensures ∙ sym c.as_slice.ensures))

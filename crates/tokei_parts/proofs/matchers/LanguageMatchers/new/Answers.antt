@@ -12,6 +12,21 @@ returns c =
     let row_is = c.syntax-syntax.ensures.row in
     let family_is = c.of_key-family.ensures ∙ ap family_of c.as_str.ensures.value ∙ ap (λ (r : Row). family_of r.key) row_is in
     ap (λ os. record { openers = os; begins = c.in_ok-begins.begins; begins_in_comment = c.in_ok-begins_in_comment.begins_in_comment; family = c.of_key-family.result }) c.in_ok-shared.ensures
-    ∙ ap (λ bs. record { openers = openers g; begins = bs; begins_in_comment = c.in_ok-begins_in_comment.begins_in_comment; family = c.of_key-family.result }) (c.in_ok-begins.ensures ∙ ap (λ (r : Row). flags (begins_choice r) 256) row_is)
-    ∙ ap (λ bs. record { openers = openers g; begins = flags (begins_choice g) 256; begins_in_comment = bs; family = c.of_key-family.result }) (c.in_ok-begins_in_comment.ensures ∙ ap (λ (r : Row). flags (begins_in_comment r) 256) row_is)
+    ∙ ap
+    (λ bs. record {
+      openers = openers g;
+      begins = bs;
+      begins_in_comment = c.in_ok-begins_in_comment.begins_in_comment;
+      family = c.of_key-family.result;
+    })
+    (c.in_ok-begins.ensures ∙ ap (λ (r : Row). flags (begins_choice r) 256) row_is)
+    ∙ ap
+    (λ bs. record {
+      openers = openers g;
+      begins = flags (begins_choice g) 256;
+      begins_in_comment = bs;
+      family = c.of_key-family.result;
+    })
+    (c.in_ok-begins_in_comment.ensures
+    ∙ ap (λ (r : Row). flags (begins_in_comment r) 256) row_is)
     ∙ ap (λ f. record { openers = openers g; begins = flags (begins_choice g) 256; begins_in_comment = flags (begins_in_comment g) 256; family = f }) family_is

@@ -16,24 +16,45 @@ unfolding kept_by
 returns-clause-told g c = λ t e.
     let s = settings_of c.args.config.now in
     let code : Counting = record { rows = c.in_ok-counter.counter; docs = docs_of c.counting.result; types = option_map (λ types. types.now) c.types.result } in
-    let same : code ≡ counting_by c.args.table.now s = λ i. record { rows = (c.in_ok-counter.ensures ∙ c.in_ok-extended.ensures) i; docs = unwrap_or (c.counting.ensures i) false; types = c.types.ensures i } in
+    let same : code ≡ counting_by c.args.table.now s =
+    λ i. record {
+      rows = (c.in_ok-counter.ensures ∙ c.in_ok-extended.ensures) i;
+      docs = unwrap_or (c.counting.ensures i) false;
+      types = c.types.ensures i;
+    } in
     said_again (λ b ks. OnOk c.count_roots.result (AddsFiles b t ks (languages_of c.args.self.now) (languages_of c.count_roots.new.languages)))
-    (λ r. kept_in (excludes_of (texts_of c.args.ignored.now)) r t (texts_of c.args.paths.now)) code (counting_by c.args.table.now s) c.rules.result (rules_of s) same c.rules.ensures (c.count_roots.ensures.told t e)
+    (λ r. kept_in (excludes_of (texts_of c.args.ignored.now)) r t (texts_of c.args.paths.now)) code
+    (counting_by c.args.table.now s) c.rules.result (rules_of s) same c.rules.ensures
+    (c.count_roots.ensures.told t e)
 
 pub returns-clause-partly : goal.returns-clause-partly
 unfolding kept_by
 returns-clause-partly g c = λ t e.
     let s = settings_of c.args.config.now in
     let code : Counting = record { rows = c.in_ok-counter.counter; docs = docs_of c.counting.result; types = option_map (λ types. types.now) c.types.result } in
-    let same : code ≡ counting_by c.args.table.now s = λ i. record { rows = (c.in_ok-counter.ensures ∙ c.in_ok-extended.ensures) i; docs = unwrap_or (c.counting.ensures i) false; types = c.types.ensures i } in
+    let same : code ≡ counting_by c.args.table.now s =
+    λ i. record {
+      rows = (c.in_ok-counter.ensures ∙ c.in_ok-extended.ensures) i;
+      docs = unwrap_or (c.counting.ensures i) false;
+      types = c.types.ensures i;
+    } in
     said_again (λ b ks. OnErr c.count_roots.result (AddsFirst b t ks (languages_of c.args.self.now) (languages_of c.count_roots.new.languages)))
-    (λ r. kept_in (excludes_of (texts_of c.args.ignored.now)) r t (texts_of c.args.paths.now)) code (counting_by c.args.table.now s) c.rules.result (rules_of s) same c.rules.ensures (c.count_roots.ensures.partly t e)
+    (λ r. kept_in (excludes_of (texts_of c.args.ignored.now)) r t (texts_of c.args.paths.now)) code
+    (counting_by c.args.table.now s) c.rules.result (rules_of s) same c.rules.ensures
+    (c.count_roots.ensures.partly t e)
 
 pub returns-clause-overflow : goal.returns-clause-overflow
 unfolding kept_by
 returns-clause-overflow g c = λ q t e.
     let s = settings_of c.args.config.now in
     let code : Counting = record { rows = c.in_ok-counter.counter; docs = docs_of c.counting.result; types = option_map (λ types. types.now) c.types.result } in
-    let same : code ≡ counting_by c.args.table.now s = λ i. record { rows = (c.in_ok-counter.ensures ∙ c.in_ok-extended.ensures) i; docs = unwrap_or (c.counting.ensures i) false; types = c.types.ensures i } in
+    let same : code ≡ counting_by c.args.table.now s =
+    λ i. record {
+      rows = (c.in_ok-counter.ensures ∙ c.in_ok-extended.ensures) i;
+      docs = unwrap_or (c.counting.ensures i) false;
+      types = c.types.ensures i;
+    } in
     said_again (λ b ks. ReadingsFit b t ks → ⊥)
-    (λ r. kept_in (excludes_of (texts_of c.args.ignored.now)) r t (texts_of c.args.paths.now)) code (counting_by c.args.table.now s) c.rules.result (rules_of s) same c.rules.ensures (c.count_roots.ensures.overflow q t e)
+    (λ r. kept_in (excludes_of (texts_of c.args.ignored.now)) r t (texts_of c.args.paths.now)) code
+    (counting_by c.args.table.now s) c.rules.result (rules_of s) same c.rules.ensures
+    (c.count_roots.ensures.overflow q t e)

@@ -9,4 +9,7 @@ pub returns-in_err-renew_counts-clause-partly : goal.returns-in_err-renew_counts
 returns-in_err-renew_counts-clause-partly g c = λ t e.
     let s = settings_of c.args.config.now in
     always_err c.from_residual-in_err-renew_counts.result
-    (all_added (counting_by c.args.table.now s) t (kept_by s t (texts_of c.args.paths.now) (texts_of c.args.ignored.now)) (languages_of c.args.self.now) (languages_of c.get_all_files.new.self) _ (c.in_ok-notes.ensures.told t e) c.in_err-renew_counts.ensures.err)
+    (all_added (counting_by c.args.table.now s) t
+    (kept_by s t (texts_of c.args.paths.now) (texts_of c.args.ignored.now))
+    (languages_of c.args.self.now) (languages_of c.get_all_files.new.self) _
+    (c.in_ok-notes.ensures.told t e) c.in_err-renew_counts.ensures.err)

@@ -13,10 +13,23 @@ use Rattle.tokei_stats.proofs.stats.CodeStats.+added_to.Goals.{in-Some-get+in_ok
 
 pub loop-language-preserved : goal.loop-language-preserved
 loop-language-preserved t c =
-    let joined_is : stats_of c.match-get.both ≡ joined (option_map stats_of (lookup (is_at (nat_cmp c.in-Some.language.now)) c.loop-language.blobs.entries)) (λ s. sum s (stats_of c.in-Some.stats.now)) (stats_of c.in-Some.stats.now) =
+    let joined_is : stats_of c.match-get.both ≡ joined
+    (option_map stats_of
+    (lookup (is_at (nat_cmp c.in-Some.language.now)) c.loop-language.blobs.entries))
+    (λ s. sum s (stats_of c.in-Some.stats.now)) (stats_of c.in-Some.stats.now) =
     elim c.match-get.branch [
-      | in-Some-get+in_ok-both-in-Some-get w ↦ ap stats_of w.both-is ∙ w.in_ok-both-in-Some-get.ensures.ok ∙ ap (λ o. joined (option_map stats_of o) (λ s. sum s (stats_of c.in-Some.stats.now)) (stats_of c.in-Some.stats.now)) w.in-Some-get.ensures.value
-      | in-None-get+in_ok-both-in-None-get w ↦ ap stats_of w.both-is ∙ w.in_ok-both-in-None-get.ensures.ok ∙ ap (λ o. joined (option_map stats_of o) (λ s. sum s (stats_of c.in-Some.stats.now)) (stats_of c.in-Some.stats.now)) w.in-None-get.ensures.value
+      | in-Some-get+in_ok-both-in-Some-get w ↦ ap stats_of w.both-is
+          ∙ w.in_ok-both-in-Some-get.ensures.ok
+          ∙ ap
+          (λ o. joined (option_map stats_of o) (λ s. sum s (stats_of c.in-Some.stats.now))
+          (stats_of c.in-Some.stats.now))
+          w.in-Some-get.ensures.value
+      | in-None-get+in_ok-both-in-None-get w ↦ ap stats_of w.both-is
+          ∙ w.in_ok-both-in-None-get.ensures.ok
+          ∙ ap
+          (λ o. joined (option_map stats_of o) (λ s. sum s (stats_of c.in-Some.stats.now))
+          (stats_of c.in-Some.stats.now))
+          w.in-None-get.ensures.value
     ] in
     let fits_here : Fits (stats_of c.match-get.both) =
     elim c.match-get.branch [

@@ -11,7 +11,10 @@ pub loop-language-preserved : goal.loop-language-preserved
 loop-language-preserved t c = record {
   same = ap (λ es. entries_of es ++ entries_of c.next.new.self) c.in_ok-put.ensures.ok
       ∙ clone_more c.loop-language.blobs.entries c.next.new.self (out-CodeStats c.args.self.now).blobs.entries c.in-Some.language.now c.in_ok-copy.copy c.in-Some.stats.now
-      (ap (λ es. entries_of c.loop-language.blobs.entries ++ entries_of es) (sym c.in-Some.ensures.steps) ∙ c.loop-language.invariant.same) c.iter-language-items.ensures.ordered c.in_ok-copy.ensures.ok;
+      (ap (λ es. entries_of c.loop-language.blobs.entries ++ entries_of es)
+      (sym c.in-Some.ensures.steps)
+      ∙ c.loop-language.invariant.same)
+      c.iter-language-items.ensures.ordered c.in_ok-copy.ensures.ok;
   fits = put_one_fits c.loop-language.blobs.entries c.put.new.blobs.entries c.in-Some.language.now c.in_ok-copy.copy c.in_ok-put.ensures.ok c.in_ok-copy.ensures.fits c.loop-language.invariant.fits;
 }
 

@@ -6,5 +6,7 @@ use Rattle.tokei_walk.proofs.walking.Walk.new.Goals as goal
 
 pub returns-clause-comes : goal.returns-clause-comes
 returns-clause-comes c = λ t sound.
-    begun t _ _ (texts_of c.args.roots.now) refl c.in_ok-excludes.ensures.patterns c.in_ok-stack.ensures.left c.in_ok-stack.ensures.holders (c.reverse.ensures.turned ∙ ap reverse c.in_ok-roots.ensures)
+    begun t _ _ (texts_of c.args.roots.now) refl c.in_ok-excludes.ensures.patterns
+    c.in_ok-stack.ensures.left c.in_ok-stack.ensures.holders
+    (c.reverse.ensures.turned ∙ ap reverse c.in_ok-roots.ensures)
     ∙ descent_is_filter _ _ t (texts_of c.args.roots.now) sound

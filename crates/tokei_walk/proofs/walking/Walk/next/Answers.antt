@@ -14,7 +14,10 @@ returns-then-is_over-clause-ended g c = λ q t. over_gives t c.args.self.now (sy
 
 pub returns-clause-told : goal.returns-clause-told
 returns-clause-told g c = λ t e.
-    advances_by _ _ _ _ c.in_ok-found.found (to_come_left t c.args.self.now (not_failed c.args.self.now (sym c.is_over.ensures ∙ c.if-is_over.false))) (to_come_left t _ refl) (c.in_ok-found.ensures.told t e)
+    advances_by _ _ _ _ c.in_ok-found.found
+    (to_come_left t c.args.self.now
+    (not_failed c.args.self.now (sym c.is_over.ensures ∙ c.if-is_over.false)))
+    (to_come_left t _ refl) (c.in_ok-found.ensures.told t e)
 
 pub returns-clause-ended : goal.returns-clause-ended
 returns-clause-ended g c = λ q t.
