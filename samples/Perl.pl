@@ -1,4 +1,4 @@
-# 8 lines 2 code 5 comments 1 blanks
+# 25 lines 8 code 13 comments 4 blanks
 # for people who read
 =pod
 a page
@@ -6,3 +6,20 @@ a page
 
 my $name = 'a # name'; # of whom
 print "# no comment $name\n";
+croak qq{Can't};
+# a
+$h=header();
+# b
+
+=encoding utf8
+
+=cut
+
+=item a
+
+=cut
+
+$t = <<EOT;
+# text
+EOT
+$h = 1;
