@@ -1,4 +1,4 @@
--- 13 lines 8 code 4 comments 1 blanks
+-- 15 lines 9 code 5 comments 1 blanks
 -- for people who read
 
 with Ada.Text_IO;
@@ -11,3 +11,5 @@ end Greet;
 Path_Mark : constant String := "\";
 Quote : constant Character := '"';
 -- a comment, since no string is open
+   Mark : Character := '"';
+   --  a

@@ -1,7 +1,10 @@
-' 7 lines 2 code 4 comments 1 blanks
+' 10 lines 4 code 5 comments 1 blanks
 REM for people who read
 <!-- a block
      of two lines -->
 
 Dim name
 name = "' none" ' a text
+<p>Don't</p>
+<!-- a -->
+<p>b</p>

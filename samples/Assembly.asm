@@ -1,6 +1,10 @@
-; 6 lines 3 code 2 comments 1 blanks
+; 10 lines 5 code 4 comments 1 blanks
 ; for people who read
 
 section .text
 start: mov eax, 1 ; one
 msg db "; none", 0
+	mov al, '"'
+; a
+	mov al, "'"
+; b

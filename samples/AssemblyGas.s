@@ -1,4 +1,4 @@
-// 10 lines 4 code 5 comments 1 blanks
+// 13 lines 5 code 7 comments 1 blanks
 // for people who read
 /* a block
    of two lines */
@@ -8,3 +8,6 @@ start: mov $1, %eax // one
 msg: .ascii "// none"
 #define ONE 1
 # a comment, since a blank stands behind the mark
+; a
+	mov $'"', %al
+/* b */

@@ -1,4 +1,4 @@
-; 8 lines 2 code 5 comments 1 blanks
+; 11 lines 2 code 8 comments 1 blanks
 ; for people who read
 #cs
 a block
@@ -6,3 +6,6 @@ a block
 
 $name = "a ; name" ; of whom
 MsgBox(0, 'title', $name)
+#CS
+ a block
+#CE

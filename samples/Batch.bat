@@ -1,4 +1,4 @@
-:: 9 lines 4 code 4 comments 1 blanks
+:: 13 lines 4 code 8 comments 1 blanks
 :: for people who read
 
 @echo off
@@ -7,3 +7,7 @@ set name=a name
 goto :eof
 rem for people who read
 @rem for them too
+REM
+@rem
+rem	a
+REM---

@@ -1,5 +1,9 @@
-# 5 lines 2 code 2 comments 1 blanks
+# 9 lines 5 code 3 comments 1 blanks
 # for people who read
 
 SUMMARY = "Greets # none" # ours
 inherit autotools
+do_install() {
+    echo Don\'t
+    # a
+}

@@ -1,4 +1,4 @@
-// 8 lines 4 code 3 comments 1 blanks
+// 12 lines 5 code 6 comments 1 blanks
 /* a block /* in a block */
    and its end */
 
@@ -6,3 +6,7 @@ import std::io;
 fn void main() {
     io::printn("/* no comment"); // said once
 }
+char tick = '`';
+// a
+<* a page
+   of two lines *>

@@ -1,4 +1,4 @@
-# 8 lines 2 code 5 comments 1 blanks
+# 12 lines 5 code 6 comments 1 blanks
 # for people who read
 ###
 a block
@@ -6,3 +6,7 @@ a block
 
 name = 'a # name' # of whom
 console.log "# no comment #{name}"
+d = """
+  # "don't
+  """
+# a

@@ -1,7 +1,9 @@
-// 7 lines 3 code 3 comments 1 blanks
+// 9 lines 3 code 5 comments 1 blanks
 /* a block
    of two lines */
 
 component {
     function greet() { return "// no comment"; } // once
 }
+<!--- a
+      block --->

@@ -1,4 +1,4 @@
-// 11 lines 6 code 4 comments 1 blanks
+// 15 lines 9 code 5 comments 1 blanks
 /* a block
    of two lines */
 
@@ -9,3 +9,7 @@ std::string path() {
 }
 char mark = '"';
 // a comment, since the mark opens no string
+const char *raw = R"json(
+// a )" b
+)json";
+// a

@@ -1,4 +1,4 @@
-// 9 lines 5 code 3 comments 1 blanks
+// 13 lines 8 code 4 comments 1 blanks
 /* a block
    of two lines */
 
@@ -7,3 +7,7 @@ namespace shapes {
 constexpr const char *mark = "/*";
 double area(double side); // in square metres
 }
+const char *raw = R"json(
+// a )" b
+)json";
+// a

@@ -1,4 +1,4 @@
-// 12 lines 6 code 5 comments 1 blanks
+// 18 lines 9 code 8 comments 1 blanks
 /* a block */
 /+ a block /+ in a block +/
    and its end +/
@@ -10,3 +10,9 @@ void main() {
 string raw = `a \ " mark`;
 char mark = '"';
 // a comment, since no string is open
+char tick = '`';
+// a
+auto path = r"C:\";
+// b
+auto text = q"(a " b)";
+// c

@@ -1,4 +1,4 @@
-// 11 lines 7 code 3 comments 1 blanks
+// 14 lines 9 code 4 comments 1 blanks
 /* a block /* in a block */
    and its end */
 
@@ -9,3 +9,6 @@ void main() {
 const doc = '''
 // no comment
 ''';
+var raw = r"""
+// \""";
+// a

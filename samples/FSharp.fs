@@ -1,4 +1,4 @@
-// 9 lines 4 code 4 comments 1 blanks
+// 12 lines 6 code 5 comments 1 blanks
 // for people who read
 (* a block (* in a block *)
    and its end *)
@@ -7,3 +7,6 @@ let path = "http://example.org" // ours
 let raw = @"C:\work\"
 let quoted = """a "quoted" (* text"""
 printfn "%s" (path + raw + quoted)
+let times = (*)
+let twice = (2)
+// a

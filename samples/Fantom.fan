@@ -1,7 +1,9 @@
-// 7 lines 3 code 3 comments 1 blanks
+// 9 lines 4 code 4 comments 1 blanks
 ** documentation of the class
 /* a block */
 
 class Greeter {
   Str mark := "// none" // a text
 }
+  Int mark := '"'
+  // a

@@ -1,4 +1,4 @@
-! 10 lines 6 code 3 comments 1 blanks
+! 14 lines 8 code 5 comments 1 blanks
 ! for people who read
 
 program greet
@@ -8,3 +8,7 @@ subroutine path
   print *, 'C:\'
   ! a comment, since a backslash is a byte like others
 end subroutine path
+  write(*, 10)
+10 format(5hdon't)
+                        ! a
+		! b

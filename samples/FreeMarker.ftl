@@ -1,7 +1,10 @@
-<#-- 7 lines 3 code 3 comments 1 blanks -->
+<#-- 10 lines 5 code 4 comments 1 blanks -->
 <#-- a block
      of two lines -->
 
 <#if name??>
 <p>${name}</p> <#-- once -->
 </#if>
+<p>Don't</p>
+<!-- a -->
+<p>b</p>

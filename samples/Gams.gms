@@ -1,5 +1,8 @@
-* 5 lines 2 code 2 comments 1 blanks
+* 8 lines 2 code 5 comments 1 blanks
 * for people who read
 
 Set i / 1*3 /;
 Parameter p "* none";
+$onText
+a block
+$offText

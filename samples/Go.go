@@ -1,4 +1,4 @@
-// 12 lines 7 code 4 comments 1 blanks
+// 14 lines 8 code 5 comments 1 blanks
 /* a block
    of two lines */
 
@@ -10,3 +10,5 @@ func main() {
 }
 var mark = '"'
 // a comment, since the mark opens no string
+var tick = '`'
+// a

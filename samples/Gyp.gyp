@@ -1,5 +1,7 @@
-# 5 lines 2 code 2 comments 1 blanks
+# 7 lines 3 code 3 comments 1 blanks
 # for people who read
 
 { 'targets': [{ # ours
   'target_name': "# none" }] }
+'name': 'don\'t "',
+# a

@@ -1,4 +1,4 @@
-# 8 lines 3 code 4 comments 1 blanks
+# 12 lines 6 code 5 comments 1 blanks
 # for people who read
 /* a block
    of two lines */
@@ -6,3 +6,7 @@
 variable "name" { # of whom
   default = "a # name"
 }
+c = <<EOT
+# don't "
+EOT
+# a

@@ -1,4 +1,4 @@
--- 8 lines 3 code 4 comments 1 blanks
+-- 10 lines 4 code 5 comments 1 blanks
 -- for people who read
 {- a block {- in a block -}
    and its end -}
@@ -6,3 +6,5 @@
 module Main
 main : IO ()
 main = putStrLn "-- none" -- once
+||| a page
+c : Int

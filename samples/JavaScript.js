@@ -1,4 +1,4 @@
-// 12 lines 8 code 3 comments 1 blanks
+// 20 lines 12 code 7 comments 1 blanks
 /* a block
    of two lines */
 
@@ -10,3 +10,11 @@ greet(path);
 const text = `a ' mark
 // code, since the text goes on
 `;
+let a = b.replace(/"/g, c);
+// a
+let d = b.replace(/'/g, c);
+// b
+let e = b.replace(/[^"]/g, c);
+// c
+let f = b.replace(/\/*$/, c);
+// d

@@ -1,7 +1,11 @@
-# 7 lines 2 code 4 comments 1 blanks
+# 11 lines 5 code 5 comments 1 blanks
 # for people who read
 /* a block
    of two lines */
 
 { name: 'a # name', # of whom
   path: "http://example.org" }
+  d: |||
+    /* don't
+  |||,
+// a

@@ -1,6 +1,9 @@
-<%-- 6 lines 2 code 3 comments 1 blanks --%>
+<%-- 9 lines 4 code 4 comments 1 blanks --%>
 <%-- a block
      of two lines --%>
 
 <%@ page language="java" %>
 <p><%= name %></p> <%-- once --%>
+<p>Don't</p>
+<!-- a -->
+<p>b</p>

@@ -1,4 +1,4 @@
-// 8 lines 4 code 3 comments 1 blanks
+// 16 lines 8 code 7 comments 1 blanks
 /* a block
    of two lines */
 
@@ -6,3 +6,11 @@ export const Greeter = ({ name }) => {
     const mark = "// none"; // not shown
     return <b title={'/*'}>{name}</b>;
 };
+let a = b.replace(/"/g, c);
+// a
+let d = b.replace(/'/g, c);
+// b
+let e = b.replace(/[^"]/g, c);
+// c
+let f = b.replace(/\/*$/, c);
+// d

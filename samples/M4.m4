@@ -1,5 +1,7 @@
-dnl 5 lines 2 code 2 comments 1 blanks
+dnl 7 lines 3 code 3 comments 1 blanks
 dnl for people who read
 
 define(`name', `a name')
 name
+dnl
+define(a, b)

@@ -1,4 +1,4 @@
-% 8 lines 2 code 5 comments 1 blanks
+% 10 lines 3 code 6 comments 1 blanks
 % for people who read
 %{
 a block %{ in a block %}
@@ -6,3 +6,5 @@ a block %{ in a block %}
 
 x = a'; % transposed
 disp("% none")
+mark = '"';
+% a

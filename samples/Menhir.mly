@@ -1,4 +1,4 @@
-// 9 lines 3 code 5 comments 1 blanks
+// 11 lines 4 code 6 comments 1 blanks
 /* a block */
 (* a block (* in a block *)
    and its end *)
@@ -7,3 +7,5 @@
 sum: NUMBER PLUS NUMBER { "(* none" } // of two
 /* a block /* in no block */
 number: NUMBER { $1 }
+mark: MARK { '"' }
+// a

@@ -1,4 +1,4 @@
-% 8 lines 3 code 4 comments 1 blanks
+% 10 lines 4 code 5 comments 1 blanks
 % for people who read
 /* a block
    of two lines */
@@ -6,3 +6,5 @@
 :- module greeter.
 :- pred greet(string::in) is det. % once
 greet("% none").
+p :- q(0'a).
+% a

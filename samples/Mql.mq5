@@ -1,4 +1,4 @@
-// 9 lines 5 code 3 comments 1 blanks
+// 11 lines 6 code 4 comments 1 blanks
 /* a block
    of two lines */
 
@@ -7,3 +7,5 @@ int OnInit() {
    Print("/* no comment"); // said once
    return 0;
 }
+char mark = '"';
+// a

@@ -1,4 +1,4 @@
-(* 10 lines 5 code 4 comments 1 blanks *)
+(* 12 lines 6 code 5 comments 1 blanks *)
 (* a block (* in a block *)
    and its end *)
 
@@ -8,3 +8,5 @@ let rec poly : 'a -> 'a = fun x -> x (* same *)
 let () = print_endline (name ^ quoted)
 let mark = '"'
 (* a comment, since the mark opens no string *)
+let raw = {sql|don"t (* a|sql}
+(* a *)

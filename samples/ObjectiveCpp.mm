@@ -1,4 +1,4 @@
-// 9 lines 5 code 3 comments 1 blanks
+// 13 lines 8 code 4 comments 1 blanks
 /* a block
    of two lines */
 
@@ -7,3 +7,7 @@
 - (std::string)mark; // a C++ string
 @end
 static std::string mark = "/* none */";
+const char *raw = R"json(
+// a )" b
+)json";
+// a

@@ -1,4 +1,4 @@
--- 10 lines 4 code 5 comments 1 blanks
+-- 14 lines 6 code 7 comments 1 blanks
 -- for people who read
 /* a block
    of two lines */
@@ -8,3 +8,7 @@ BEGIN
 END;
 CREATE DIRECTORY work AS 'C:\work\';
 -- a comment, since a backslash is a byte like others
+  raw := q'[don't]';
+-- a
+  b := 1; /* c
+  d */

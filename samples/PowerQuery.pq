@@ -1,4 +1,4 @@
-// 8 lines 4 code 3 comments 1 blanks
+// 10 lines 5 code 4 comments 1 blanks
 /* a block
    of two lines */
 
@@ -6,3 +6,5 @@ let
     Source = Csv.Document("http://example.org"), // ours
     Rows = Table.RowCount(Source)
 in Rows
+path = "C:\",
+// a

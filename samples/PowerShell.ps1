@@ -1,4 +1,4 @@
-# 9 lines 3 code 5 comments 1 blanks
+# 11 lines 4 code 6 comments 1 blanks
 # for people who read
 <# a block
    of two lines #>
@@ -7,3 +7,5 @@ $name = 'a # name' # of whom
 Write-Output "# no comment $name"
 $folder = "C:\work\"
 # a comment, since a backslash is a byte like others
+$a = "`""
+# a

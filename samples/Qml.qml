@@ -1,4 +1,4 @@
-// 9 lines 5 code 3 comments 1 blanks
+// 17 lines 9 code 7 comments 1 blanks
 /* a block
    of two lines */
 
@@ -7,3 +7,11 @@ Text {
     text: "// no comment" // shown once
     property string mark: '/*'
 }
+let a = b.replace(/"/g, c);
+// a
+let d = b.replace(/'/g, c);
+// b
+let e = b.replace(/[^"]/g, c);
+// c
+let f = b.replace(/\/*$/, c);
+// d

@@ -1,6 +1,10 @@
-# 6 lines 3 code 2 comments 1 blanks
+# 10 lines 5 code 4 comments 1 blanks
 # for people who read
 
 task :greet do # on demand
   puts "# no comment"
 end
+a = %w(don't)
+# a
+b = /"/
+# b

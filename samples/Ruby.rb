@@ -1,4 +1,4 @@
-# 8 lines 2 code 5 comments 1 blanks
+# 16 lines 7 code 8 comments 1 blanks
 # for people who read
 =begin
 a block
@@ -6,3 +6,11 @@ a block
 
 name = 'a # name' # of whom
 puts "# no comment #{name}"
+a = %w(don't)
+# a
+b = /"/
+# b
+c = <<~EOS
+  # text, don't
+EOS
+# c

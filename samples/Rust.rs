@@ -1,4 +1,4 @@
-// 16 lines 9 code 6 comments 1 blanks
+// 20 lines 11 code 8 comments 1 blanks
 /* a block /* in a block */
    and its end */
 
@@ -14,3 +14,7 @@ const MARK: char = '"';
 const RAW: &str = r#"a " mark
 // code, since the string goes on
 "#;
+const PATH: &str = r"\";
+// a
+const RAW: &str = r##"a "# b"##;
+// b

@@ -1,4 +1,4 @@
-// 8 lines 4 code 3 comments 1 blanks
+// 10 lines 5 code 4 comments 1 blanks
 /* a block
    of two lines */
 
@@ -6,3 +6,5 @@ function y = twice(x)
   disp("// no comment"); // said once
   y = 2 * x;
 endfunction
+mark = '"';
+// a

@@ -1,4 +1,4 @@
-// 13 lines 9 code 3 comments 1 blanks
+// 17 lines 12 code 4 comments 1 blanks
 /* a block /* in a block */
    and its end */
 
@@ -11,3 +11,7 @@ let text = """
   a " mark
   // code, since the text goes on
   """
+let raw = #"""
+  /* a "#
+  """#
+// a

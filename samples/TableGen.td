@@ -1,6 +1,8 @@
-// 6 lines 2 code 3 comments 1 blanks
+// 8 lines 2 code 5 comments 1 blanks
 /* a block
    of two lines */
 
 class Shape<string n> { string name = n; }
 def Square : Shape<"// none">; // one
+/* a /* in a */
+   block */

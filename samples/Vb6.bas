@@ -1,4 +1,4 @@
-' 8 lines 4 code 3 comments 1 blanks
+' 10 lines 5 code 4 comments 1 blanks
 ' for people who read
 
 Sub Greet()
@@ -6,3 +6,5 @@ Sub Greet()
 End Sub
 Const Folder = "C:\work\"
 ' a comment, since a backslash is a byte like others
+Name = "don't ""go"" there"
+' a

@@ -1,6 +1,8 @@
-' 6 lines 3 code 2 comments 1 blanks
+' 8 lines 4 code 3 comments 1 blanks
 ' for people who read
 
 Dim name
 name = "' none" ' a text
 MsgBox name
+Name = "don't ""go"" there"
+' a

@@ -1,4 +1,4 @@
--- 10 lines 5 code 4 comments 1 blanks
+-- 16 lines 9 code 6 comments 1 blanks
 -- for people who read
 --[[ a block
      of two lines ]]
@@ -8,3 +8,9 @@ local text = [[
 -- no comment
 ]]
 print(name, "-- none", text)
+--[==[ a ]]
+  block ]==]
+local raw = [=[ a ]]
+-- text
+]=]
+print(raw)

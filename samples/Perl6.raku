@@ -1,4 +1,4 @@
-# 8 lines 2 code 5 comments 1 blanks
+# 10 lines 3 code 6 comments 1 blanks
 # for people who read
 =begin pod
 a page
@@ -6,3 +6,5 @@ a page
 
 my $name = 'a # name'; # of whom
 say "# no comment $name";
+my $isn't = 1;
+# a
