@@ -1,0 +1,101 @@
+//! What the public calls answer to a row.
+use crate::error::RowError;
+use std::alloc::Global;
+use toml::Value;
+
+/// What is answered for a member.
+#[derive(Drop)]
+pub struct Answer {
+    /// The member of the row which says what is wanted.
+    pub member: &'static str,
+    /// What came; none where what came isn't looked at.
+    pub came: Option<Value>,
+}
+
+/// What the public calls answer to a row, each under the member which says what is wanted.
+#[derive(Drop)]
+pub struct Answers {
+    alloc: Global,
+    list: Vec<Answer>,
+}
+
+/// A number as a value: a text of its digits where it passes the greatest number of TOML.
+pub fn number(alloc: Global, number: u128) -> Result<Value, RowError> {
+    match i64::try_from(number) {
+        Ok(number) => Ok(Value::Integer(number)),
+        Err(_) => Ok(Value::String(format!(in alloc; "{number}")?)),
+    }
+}
+
+/// Three numbers as a list.
+pub fn three(alloc: Global, numbers: (usize, usize, usize)) -> Result<Value, RowError> {
+    let (first, second, third) = numbers;
+    let mut values = Vec::new(alloc);
+    for one in [first, second, third] {
+        values.push(number(alloc, one as u128)?)?;
+    }
+    Ok(Value::Array(values))
+}
+
+/// Bytes as a value: their text, or their hexadecimal digits behind `hex ` where they aren't UTF-8.
+pub fn bytes(alloc: Global, bytes: &[u8]) -> Result<Value, RowError> {
+    match std::str::from_utf8(bytes) {
+        Ok(text) => Ok(Value::string(alloc, text)?),
+        Err(_) => {
+            let digits = hex::encode(alloc, bytes)?;
+            Ok(Value::String(format!(in alloc; "hex {digits}")?))
+        }
+    }
+}
+
+impl Answers {
+    /// No answers yet.
+    pub fn new(alloc: Global) -> Answers {
+        Answers {
+            alloc,
+            list: Vec::new(alloc),
+        }
+    }
+
+    /// Answers for a member.
+    pub fn say(&mut self, member: &'static str, value: Value) -> Result<(), RowError> {
+        self.list.push(Answer {
+            member,
+            came: Some(value),
+        })?;
+        Ok(())
+    }
+
+    /// Answers for a member by a text.
+    pub fn say_text(&mut self, member: &'static str, text: &str) -> Result<(), RowError> {
+        let value = Value::string(self.alloc, text)?;
+        self.say(member, value)
+    }
+
+    /// Answers for a member by a number.
+    pub fn say_number(&mut self, member: &'static str, wide: u128) -> Result<(), RowError> {
+        let value = number(self.alloc, wide)?;
+        self.say(member, value)
+    }
+
+    /// Answers for a member by true or false.
+    pub fn say_flag(&mut self, member: &'static str, flag: bool) -> Result<(), RowError> {
+        self.say(member, Value::Boolean(flag))
+    }
+
+    /// Leaves a member out of what is compared.
+    pub fn leave(&mut self, member: &'static str) -> Result<(), RowError> {
+        self.list.push(Answer { member, came: None })?;
+        Ok(())
+    }
+
+    /// What is answered for a member.
+    pub fn find(&self, member: &str) -> Option<&Answer> {
+        for answer in &self.list {
+            if answer.member == member {
+                return Some(answer);
+            }
+        }
+        None
+    }
+}
