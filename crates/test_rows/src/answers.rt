@@ -1,5 +1,6 @@
 //! What the public calls answer to a row.
 use crate::error::RowError;
+use crate::row::has_word;
 use std::alloc::Global;
 use toml::Value;
 
@@ -8,8 +9,8 @@ use toml::Value;
 pub struct Answer {
     /// The member of the row which says what is wanted.
     pub member: &'static str,
-    /// What came; none where what came isn't looked at.
-    pub came: Option<Value>,
+    /// What came.
+    pub came: Value,
 }
 
 /// What the public calls answer to a row, each under the member which says what is wanted.
@@ -17,6 +18,7 @@ pub struct Answer {
 pub struct Answers {
     alloc: Global,
     list: Vec<Answer>,
+    left: Vec<&'static str>,
 }
 
 /// A number as a value: a text of its digits where it passes the greatest number of TOML.
@@ -54,6 +56,7 @@ impl Answers {
         Answers {
             alloc,
             list: Vec::new(alloc),
+            left: Vec::new(alloc),
         }
     }
 
@@ -61,7 +64,7 @@ impl Answers {
     pub fn say(&mut self, member: &'static str, value: Value) -> Result<(), RowError> {
         self.list.push(Answer {
             member,
-            came: Some(value),
+            came: value,
         })?;
         Ok(())
     }
@@ -83,17 +86,22 @@ impl Answers {
         self.say(member, Value::Boolean(flag))
     }
 
-    /// Leaves a member out of what is compared.
+    /// Leaves a member out of what is compared, whatever is answered for it.
     pub fn leave(&mut self, member: &'static str) -> Result<(), RowError> {
-        self.list.push(Answer { member, came: None })?;
+        self.left.push(member)?;
         Ok(())
     }
 
+    /// Whether a member is left out of what is compared.
+    pub fn leaves(&self, member: &str) -> bool {
+        has_word(&self.left, member)
+    }
+
     /// What is answered for a member.
-    pub fn find(&self, member: &str) -> Option<&Answer> {
+    pub fn find(&self, member: &str) -> Option<&Value> {
         for answer in &self.list {
             if answer.member == member {
-                return Some(answer);
+                return Some(&answer.came);
             }
         }
         None

@@ -11,7 +11,7 @@ use tokei_table::LanguageTable;
 use toml::{Table, Value};
 
 /// The members of these rows. `counts` are the blank, code and comment lines; `blobs` those of the texts inside it, by
-/// the key of their language, and of texts inside these by both keys, as `"Html/Css"`.
+/// the key of their language, and of texts inside these by both keys, as `"Markdown/Rust"`; `summary` all together.
 pub const MEMBERS: Members = Members {
     given: &[
         "language",
@@ -20,12 +20,15 @@ pub const MEMBERS: Members = Members {
         "table_json",
         "doc_strings_are_comments",
     ],
-    wanted: &["counts", "blobs", "error"],
-    optional: &["steps"],
+    wanted: &["counts", "blobs"],
+    optional: &["steps", "summary"],
     by_table: true,
 };
 
-/// The key of a language in a text, behind those of the languages around it.
+/// A text inside another one: the keys of its language and of those around it, and its statistics.
+type Inside<'a> = (String, &'a CodeStats);
+
+/// The key of a language, behind those of the languages around it.
 fn path(alloc: Global, around: &str, key: &str) -> Result<String, RowError> {
     if around.is_empty() {
         return Ok(String::from_str(alloc, key)?);
@@ -33,66 +36,133 @@ fn path(alloc: Global, around: &str, key: &str) -> Result<String, RowError> {
     Ok(format!(in alloc; "{around}/{key}")?)
 }
 
-/// Puts the lines of the texts inside a text to those that are known.
-fn put_blobs(
+/// The texts right inside one.
+fn inside<'a>(
     alloc: Global,
     table: &LanguageTable,
-    stats: &CodeStats,
-    blobs: &mut Table,
+    around: &str,
+    stats: &'a CodeStats,
+    found: &mut Vec<Inside<'a>>,
 ) -> Result<(), RowError> {
     for (language, blob) in &stats.blobs {
         if table.has(*language) {
-            let key = path(alloc, "", language.key(table))?;
-            let lines = three(alloc, (blob.blanks, blob.code, blob.comments))?;
-            blobs.insert(key, lines)?;
+            let keys = path(alloc, around, language.key(table))?;
+            found.push((keys, blob))?;
         }
     }
     Ok(())
 }
 
+/// The texts right inside some, whose own lines are put to those that are known.
+fn level<'a>(
+    alloc: Global,
+    table: &LanguageTable,
+    texts: &[Inside<'a>],
+    blobs: &mut Table,
+) -> Result<Vec<Inside<'a>>, RowError> {
+    let mut found = Vec::new(alloc);
+    for (keys, stats) in texts {
+        let lines = three(alloc, (stats.blanks, stats.code, stats.comments))?;
+        blobs.insert(keys.clone()?, lines)?;
+        inside(alloc, table, keys.as_str(), stats, &mut found)?;
+    }
+    Ok(found)
+}
+
+/// The most texts inside one another that are told of.
+const LEVELS: u32 = 64;
+
+/// The lines of all texts inside a text.
+fn blobs_of(alloc: Global, table: &LanguageTable, stats: &CodeStats) -> Result<Table, RowError> {
+    let mut blobs = Table::new(alloc);
+    let mut texts = Vec::new(alloc);
+    inside(alloc, table, "", stats, &mut texts)?;
+    for _ in 0..LEVELS {
+        texts = level(alloc, table, &texts, &mut blobs)?;
+    }
+    Ok(blobs)
+}
+
+/// Answers by the lines of a text and of all texts inside it.
+fn say_summary(alloc: Global, stats: &CodeStats, answers: &mut Answers) -> Result<(), RowError> {
+    match stats.summarise() {
+        Ok(all) => answers.say(
+            "summary",
+            three(alloc, (all.blanks, all.code, all.comments))?,
+        ),
+        Err(cause) => Err(refused(alloc, cause)),
+    }
+}
+
+/// Why a row isn't answered, where a call refuses.
+pub fn refused(alloc: Global, cause: CountError) -> RowError {
+    match cause {
+        CountError::Memory => RowError::Memory,
+        CountError::Overflow => match String::from_str(alloc, "Overflow") {
+            Ok(text) => RowError::Told(text),
+            Err(_) => RowError::Memory,
+        },
+    }
+}
+
 /// The answers that statistics are.
-fn answers(
+fn answers_of(
     alloc: Global,
     table: &LanguageTable,
     stats: &CodeStats,
-    steps: u128,
 ) -> Result<Answers, RowError> {
     let mut answers = Answers::new(alloc);
-    let lines = three(alloc, (stats.blanks, stats.code, stats.comments))?;
-    answers.say("counts", lines)?;
-    answers.say_number("steps", steps)?;
-    let mut blobs = Table::new(alloc);
-    put_blobs(alloc, table, stats, &mut blobs)?;
+    answers.say(
+        "counts",
+        three(alloc, (stats.blanks, stats.code, stats.comments))?,
+    )?;
+    let blobs = blobs_of(alloc, table, stats)?;
     if !blobs.is_empty() {
         answers.say("blobs", Value::Table(blobs))?;
     }
+    say_summary(alloc, stats, &mut answers)?;
     Ok(answers)
+}
+
+/// The answers of all calls, where they tell the same.
+fn answers(
+    alloc: Global,
+    table: &LanguageTable,
+    row: &Row,
+    text: &[u8],
+) -> Result<Answers, RowError> {
+    let language = row.text("language")?;
+    let doc_strings = row.flag_if("doc_strings_are_comments")?;
+    match told(alloc, table, language, doc_strings, text) {
+        Ok(Some((stats, steps))) => {
+            let mut answers = answers_of(alloc, table, &stats)?;
+            answers.say_number("steps", steps)?;
+            Ok(answers)
+        }
+        Ok(None) => Err(RowError::Told(String::from_str(
+            alloc,
+            "the table hasn't the language, or two calls count otherwise",
+        )?)),
+        Err(cause) => Err(refused(alloc, cause)),
+    }
 }
 
 /// What the calls answer by a table.
 fn came_by(alloc: Global, table: &LanguageTable, row: &Row) -> Result<Answers, RowError> {
     let text = row.bytes(alloc, "text", "text_hex")?;
-    let language = row.text("language")?;
-    let doc_strings = row.flag_if("doc_strings_are_comments")?;
-    match told(alloc, table, language, doc_strings, &text) {
-        Ok(Some((stats, steps))) => answers(alloc, table, &stats, steps),
-        Ok(None) => Err(RowError::Told(String::from_str(
-            alloc,
-            "the table hasn't the language, or two calls count otherwise",
-        )?)),
-        Err(CountError::Memory) => Err(RowError::Memory),
-        Err(CountError::Overflow) => {
-            let mut answers = Answers::new(alloc);
-            answers.say_text("error", "Overflow")?;
-            Ok(answers)
-        }
-    }
+    answers(alloc, table, row, &text)
 }
 
-/// What the calls answer.
+/// What the calls answer. By another table than the row's own the steps may be others.
 pub fn came(alloc: Global, world: &World, row: &Row) -> Result<Answers, RowError> {
     match own_table(alloc, row)? {
         Some(table) => came_by(alloc, &table, row),
-        None => came_by(alloc, world.table()?, row),
+        None => {
+            let mut answers = came_by(alloc, world.table()?, row)?;
+            if world.replaced {
+                answers.leave("steps")?;
+            }
+            Ok(answers)
+        }
     }
 }
