@@ -4,12 +4,28 @@
 
 mod answers;
 mod check;
+mod configurations;
 mod counting;
+mod documents;
 mod error;
 mod file;
+mod files;
+mod folders;
+mod given_languages;
+mod ignore_files;
+mod languages;
+mod notes;
+mod odd_folders;
+mod patterns;
+mod printed;
 mod request;
 mod row;
+mod shown_languages;
+mod statistics;
 mod subject;
+mod trees;
+mod walks;
+mod words;
 mod world;
 
 use error::RowError;

@@ -1,9 +1,12 @@
 //! What rows are about: a file, the members of its rows, and the calls that they are asked of.
 use crate::answers::Answers;
-use crate::counting;
 use crate::error::RowError;
 use crate::row::Row;
 use crate::world::World;
+use crate::{
+    counting, documents, files, folders, ignore_files, languages, notes, patterns, printed,
+    statistics, walks, words,
+};
 use std::alloc::Global;
 
 /// The members of a subject's rows, beside `name`.
@@ -23,16 +26,51 @@ pub struct Members {
 #[derive(Clone, Copy)]
 pub enum Subject {
     Counting,
+    Documents,
+    Files,
+    Folders,
+    IgnoreFiles,
+    Languages,
+    Notes,
+    Patterns,
+    Printed,
+    Statistics,
+    Walks,
+    Words,
 }
 
 /// All subjects, in the order of their files' names.
-pub const SUBJECTS: [Subject; 1] = [Subject::Counting];
+pub const SUBJECTS: [Subject; 12] = [
+    Subject::Counting,
+    Subject::Documents,
+    Subject::Files,
+    Subject::Folders,
+    Subject::IgnoreFiles,
+    Subject::Languages,
+    Subject::Notes,
+    Subject::Patterns,
+    Subject::Printed,
+    Subject::Statistics,
+    Subject::Walks,
+    Subject::Words,
+];
 
 impl Subject {
     /// The name of the file with the subject's rows.
     pub fn file(self) -> &'static str {
         match self {
             Subject::Counting => "counting.toml",
+            Subject::Documents => "documents.toml",
+            Subject::Files => "files.toml",
+            Subject::Folders => "folders.toml",
+            Subject::IgnoreFiles => "ignore_files.toml",
+            Subject::Languages => "languages.toml",
+            Subject::Notes => "notes.toml",
+            Subject::Patterns => "patterns.toml",
+            Subject::Printed => "printed.toml",
+            Subject::Statistics => "statistics.toml",
+            Subject::Walks => "walks.toml",
+            Subject::Words => "words.toml",
         }
     }
 
@@ -40,6 +78,17 @@ impl Subject {
     pub fn members(self) -> Members {
         match self {
             Subject::Counting => counting::MEMBERS,
+            Subject::Documents => documents::MEMBERS,
+            Subject::Files => files::MEMBERS,
+            Subject::Folders => folders::MEMBERS,
+            Subject::IgnoreFiles => ignore_files::MEMBERS,
+            Subject::Languages => languages::MEMBERS,
+            Subject::Notes => notes::MEMBERS,
+            Subject::Patterns => patterns::MEMBERS,
+            Subject::Printed => printed::MEMBERS,
+            Subject::Statistics => statistics::MEMBERS,
+            Subject::Walks => walks::MEMBERS,
+            Subject::Words => words::MEMBERS,
         }
     }
 
@@ -47,6 +96,17 @@ impl Subject {
     pub fn came(self, alloc: Global, world: &World, row: &Row) -> Result<Answers, RowError> {
         match self {
             Subject::Counting => counting::came(alloc, world, row),
+            Subject::Documents => documents::came(alloc, row),
+            Subject::Files => files::came(alloc, world, row),
+            Subject::Folders => folders::came(alloc, row),
+            Subject::IgnoreFiles => ignore_files::came(alloc, row),
+            Subject::Languages => languages::came(alloc, row),
+            Subject::Notes => notes::came(alloc, row),
+            Subject::Patterns => patterns::came(alloc, row),
+            Subject::Printed => printed::came(alloc, row),
+            Subject::Statistics => statistics::came(alloc, world, row),
+            Subject::Walks => walks::came(alloc, row),
+            Subject::Words => words::came(alloc, row),
         }
     }
 }
