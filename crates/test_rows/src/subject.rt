@@ -4,8 +4,9 @@ use crate::error::RowError;
 use crate::row::Row;
 use crate::world::World;
 use crate::{
-    counting, documents, files, folders, ignore_files, languages, notes, patterns, printed,
-    statistics, walks, words,
+    columns, command_lines, configuration_files, counting, documents, files, folders, ignore_files,
+    languages, listings, notes, overriding, patterns, printed, program, program_faults, read_back,
+    run_sums, runs, statistics, walks, words,
 };
 use std::alloc::Global;
 
@@ -37,10 +38,22 @@ pub enum Subject {
     Statistics,
     Walks,
     Words,
+    Columns,
+    CommandLines,
+    ConfigurationFiles,
+    Listings,
+    Overriding,
+    Program,
+    ProgramFaults,
+    ReadBack,
+    ReportOrders,
+    ReportWidths,
+    RunSums,
+    Runs,
 }
 
 /// All subjects, in the order of their files' names.
-pub const SUBJECTS: [Subject; 12] = [
+pub const SUBJECTS: [Subject; 24] = [
     Subject::Counting,
     Subject::Documents,
     Subject::Files,
@@ -53,6 +66,18 @@ pub const SUBJECTS: [Subject; 12] = [
     Subject::Statistics,
     Subject::Walks,
     Subject::Words,
+    Subject::Columns,
+    Subject::CommandLines,
+    Subject::ConfigurationFiles,
+    Subject::Listings,
+    Subject::Overriding,
+    Subject::Program,
+    Subject::ProgramFaults,
+    Subject::ReadBack,
+    Subject::ReportOrders,
+    Subject::ReportWidths,
+    Subject::RunSums,
+    Subject::Runs,
 ];
 
 impl Subject {
@@ -71,6 +96,18 @@ impl Subject {
             Subject::Statistics => "statistics.toml",
             Subject::Walks => "walks.toml",
             Subject::Words => "words.toml",
+            Subject::Columns => "columns.toml",
+            Subject::CommandLines => "command_lines.toml",
+            Subject::ConfigurationFiles => "configuration_files.toml",
+            Subject::Listings => "listings.toml",
+            Subject::Overriding => "overriding.toml",
+            Subject::Program => "program.toml",
+            Subject::ProgramFaults => "program_faults.toml",
+            Subject::ReadBack => "read_back.toml",
+            Subject::ReportOrders => "report_orders.toml",
+            Subject::ReportWidths => "report_widths.toml",
+            Subject::RunSums => "run_sums.toml",
+            Subject::Runs => "runs.toml",
         }
     }
 
@@ -89,6 +126,18 @@ impl Subject {
             Subject::Statistics => statistics::MEMBERS,
             Subject::Walks => walks::MEMBERS,
             Subject::Words => words::MEMBERS,
+            Subject::Columns => columns::MEMBERS,
+            Subject::CommandLines => command_lines::MEMBERS,
+            Subject::ConfigurationFiles => configuration_files::MEMBERS,
+            Subject::Listings => listings::MEMBERS,
+            Subject::Overriding => overriding::MEMBERS,
+            Subject::Program => program::MEMBERS,
+            Subject::ProgramFaults => program_faults::MEMBERS,
+            Subject::ReadBack => read_back::MEMBERS,
+            Subject::ReportOrders => runs::MEMBERS,
+            Subject::ReportWidths => runs::MEMBERS,
+            Subject::RunSums => run_sums::MEMBERS,
+            Subject::Runs => runs::MEMBERS,
         }
     }
 
@@ -107,6 +156,18 @@ impl Subject {
             Subject::Statistics => statistics::came(alloc, world, row),
             Subject::Walks => walks::came(alloc, row),
             Subject::Words => words::came(alloc, row),
+            Subject::Columns => columns::came(alloc, world, row),
+            Subject::CommandLines => command_lines::came(alloc, world, row),
+            Subject::ConfigurationFiles => configuration_files::came(alloc, world, row),
+            Subject::Listings => listings::came(alloc, world, row),
+            Subject::Overriding => overriding::came(alloc, world, row),
+            Subject::Program => program::came(alloc, world, row),
+            Subject::ProgramFaults => program_faults::came(alloc, world, row),
+            Subject::ReadBack => read_back::came(alloc, world, row),
+            Subject::ReportOrders => runs::came(alloc, world, row),
+            Subject::ReportWidths => runs::came(alloc, world, row),
+            Subject::RunSums => run_sums::came(alloc, world, row),
+            Subject::Runs => runs::came(alloc, world, row),
         }
     }
 }

@@ -2,7 +2,7 @@
 use crate::error::RowError;
 use crate::row::Row;
 use std::alloc::Global;
-use tokei_table::LanguageTable;
+use tokei_table::{LanguageTable, TableError};
 
 /// The tables by which rows are asked.
 #[derive(Drop)]
@@ -30,6 +30,7 @@ pub fn own_table(alloc: Global, row: &Row) -> Result<Option<LanguageTable>, RowE
     };
     match LanguageTable::from_json(alloc, text.as_bytes()) {
         Ok(table) => Ok(Some(table)),
+        Err(TableError::Memory) => Err(RowError::Memory),
         Err(cause) => Err(RowError::Told(format!(in alloc; "{cause}")?)),
     }
 }
