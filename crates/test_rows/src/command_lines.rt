@@ -4,7 +4,7 @@ use crate::error::RowError;
 use crate::row::Row;
 use crate::subject::Members;
 use crate::taken::taken;
-use crate::texts::standing;
+use crate::text_parts::standing;
 use crate::world::World;
 use std::alloc::Global;
 use tokei_cli::{Cli, CliError, HELP, VERSION_LINE, command, crate_version};

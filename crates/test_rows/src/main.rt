@@ -36,7 +36,7 @@ mod shown_languages;
 mod statistics;
 mod subject;
 mod taken;
-mod texts;
+mod text_parts;
 mod trees;
 mod walks;
 mod words;

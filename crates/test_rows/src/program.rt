@@ -3,7 +3,7 @@ use crate::answers::Answers;
 use crate::error::RowError;
 use crate::row::Row;
 use crate::subject::Members;
-use crate::texts::{absent, beginning, standing};
+use crate::text_parts::{absent, beginning, standing};
 use crate::trees::folders_of;
 use crate::world::World;
 use std::alloc::Global;
