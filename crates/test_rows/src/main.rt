@@ -3,13 +3,27 @@
 #![tactic(auto)]
 
 mod answers;
+mod blocks;
+mod bytes;
+mod captures;
 mod check;
+mod contexts;
 mod counting;
 mod error;
 mod file;
+mod gains;
+mod look_ups;
+mod made;
+mod next_places;
+mod openers;
+mod reports;
 mod request;
 mod row;
 mod subject;
+mod sums;
+mod syntaxes;
+mod tables;
+mod texts;
 mod world;
 
 use error::RowError;
