@@ -16,7 +16,7 @@ pub const MEMBERS: Members = Members {
     wanted: &[],
     optional: &[
         "place",
-        "name",
+        "called",
         "kind",
         "is_html",
         "family",
@@ -59,7 +59,7 @@ fn say_kind(
     requires { language < length table.now }
 {
     answers.say_number("place", language.index() as u128)?;
-    answers.say_text("name", language.name(table))?;
+    answers.say_text("called", language.name(table))?;
     let syntax = table.syntax(language);
     answers.say_text("kind", syntax.kind.as_str())?;
     answers.say_flag("is_html", syntax.is_html())?;
