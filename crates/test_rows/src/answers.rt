@@ -32,11 +32,7 @@ pub fn number(alloc: Global, number: u128) -> Result<Value, RowError> {
 /// Three numbers as a list.
 pub fn three(alloc: Global, numbers: (usize, usize, usize)) -> Result<Value, RowError> {
     let (first, second, third) = numbers;
-    let mut values = Vec::new(alloc);
-    for one in [first, second, third] {
-        values.push(number(alloc, one as u128)?)?;
-    }
-    Ok(Value::Array(values))
+    places(alloc, &[first, second, third])
 }
 
 /// Bytes as a value: their text, or their hexadecimal digits behind `hex ` where they aren't UTF-8.
@@ -48,6 +44,24 @@ pub fn bytes(alloc: Global, bytes: &[u8]) -> Result<Value, RowError> {
             Ok(Value::String(format!(in alloc; "hex {digits}")?))
         }
     }
+}
+
+/// Texts as a list.
+pub fn texts(alloc: Global, texts: &[String]) -> Result<Value, RowError> {
+    let mut values = Vec::new(alloc);
+    for text in texts {
+        values.push(Value::string(alloc, text.as_str())?)?;
+    }
+    Ok(Value::Array(values))
+}
+
+/// Places in a text as a list.
+pub fn places(alloc: Global, places: &[usize]) -> Result<Value, RowError> {
+    let mut values = Vec::new(alloc);
+    for place in places {
+        values.push(number(alloc, *place as u128)?)?;
+    }
+    Ok(Value::Array(values))
 }
 
 impl Answers {
@@ -73,6 +87,24 @@ impl Answers {
     pub fn say_text(&mut self, member: &'static str, text: &str) -> Result<(), RowError> {
         let value = Value::string(self.alloc, text)?;
         self.say(member, value)
+    }
+
+    /// Answers for a member by bytes: by their text, or by `hex ` and their digits.
+    pub fn say_bytes(&mut self, member: &'static str, said: &[u8]) -> Result<(), RowError> {
+        let value = bytes(self.alloc, said)?;
+        self.say(member, value)
+    }
+
+    /// Answers for a member by a place in a text, or by `none`.
+    pub fn say_place(
+        &mut self,
+        member: &'static str,
+        place: Option<usize>,
+    ) -> Result<(), RowError> {
+        match place {
+            Some(place) => self.say_number(member, place as u128),
+            None => self.say_text(member, "none"),
+        }
     }
 
     /// Answers for a member by a number.
