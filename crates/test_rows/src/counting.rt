@@ -6,7 +6,7 @@ use crate::row::{Row, told as told_of};
 use crate::subject::Members;
 use crate::world::{World, own_table};
 use std::alloc::Global;
-use tokei_counting_rows::every_call::told;
+use test_texts::every_call::told;
 use tokei_table::LanguageTable;
 
 /// The members of these rows. `counts` are the blank, code and comment lines; `blobs` those of the texts inside it, by

@@ -1,41 +1,11 @@
-//! Texts that no one writes: bytes that aren't UTF-8, elements of blanks alone, children inside one another past the
-//! last level.
+//! Children inside one another past the last level.
 use crate::bench::bench_or_memory;
-use crate::every_call::{read_alone, told};
+use crate::every_call::told;
 use crate::lines::{Lines, own_of};
 use crate::verdict::all_right;
 use std::alloc::{AllocError, Global};
 use tokei_count::{CodeStats, CountError};
 use tokei_table::{LanguageTable, LanguageType};
-
-/// A language, a text, its lines and its steps.
-const HOSTILE: [(&str, &[u8], Lines, u128); 4] = [
-    ("C", b"\xff\n", (0, 1, 0), 0),
-    ("C", b"\"\xff\n\xfe\"\n", (0, 2, 0), 6),
-    ("Markdown", b"```\xff\nx\n", (0, 0, 2), 5),
-    ("Html", b"<script>\r\n \r\n</script>", (1, 2, 0), 10),
-];
-
-/// The place of the first row of which other lines or steps are told by the table, if there is such a row.
-fn first_unlike(alloc: Global, table: &LanguageTable) -> Result<Option<usize>, CountError> {
-    for (at, (key, text, want, steps)) in HOSTILE.iter().enumerate() {
-        if read_alone(alloc, table, key, None, text)? != Some((*want, *steps)) {
-            return Ok(Some(at));
-        }
-    }
-    Ok(None)
-}
-
-/// The same by the bench table.
-fn first_wrong(alloc: Global) -> Result<Option<usize>, CountError> {
-    let table = bench_or_memory(alloc)?;
-    first_unlike(alloc, &table)
-}
-
-#[test]
-fn hostile_texts(rt: HostRuntime) {
-    all_right(&rt, first_wrong(rt.alloc()));
-}
 
 /// The lines of the blob of the language that lies 50 deep and holds no blobs, where each text above it has no lines
 /// and one blob.

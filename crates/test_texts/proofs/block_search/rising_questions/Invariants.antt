@@ -1,5 +1,5 @@
 use Rattle.std.proofs.Common.{◌≡◌}
-use Rattle.tokei_worked_rows.proofs.block_search.rising_questions.Given as goal
+use Rattle.test_texts.proofs.block_search.rising_questions.Given as goal
 
 abbrev pub invariant-loop-from : goal.invariant-loop-from
 invariant-loop-from g l = l.search ≡ l.text

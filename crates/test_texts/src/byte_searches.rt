@@ -1,7 +1,7 @@
-//! Places that were counted by hand, and the search held against a plain loop.
+//! Searches for one of a few bytes, held against a plain loop.
 use std::alloc::Global;
 use std::test::Fail;
-use tokei_bytes::{ByteSet, first_not_of_four, first_of_four, first_of_one};
+use tokei_bytes::{first_not_of_four, first_of_four, first_of_one};
 
 /// The four bytes that are searched for.
 const FOUR: [u8; 4] = *b"abcd";
@@ -32,83 +32,6 @@ fn text_with(alloc: Global, length: usize, place: usize, byte: u8) -> Result<Vec
         text.push(if at == place { byte } else { b'.' })?;
     }
     Ok(text)
-}
-
-/// Length, place of the only hit, `from`, `to`, answer. A hit at 99 stands in no text.
-type Row = (usize, usize, usize, usize, usize);
-
-const ROWS: [Row; 30] = [
-    (70, 0, 0, 70, 0),
-    (70, 1, 0, 70, 1),
-    (70, 31, 0, 70, 31),
-    (70, 32, 0, 70, 32),
-    (70, 33, 0, 70, 33),
-    (70, 63, 0, 70, 63),
-    (70, 64, 0, 70, 64),
-    (70, 69, 0, 70, 69),
-    (70, 99, 0, 70, 70),
-    (0, 99, 0, 0, 0),
-    (1, 0, 0, 1, 0),
-    (1, 99, 0, 1, 1),
-    (31, 30, 0, 31, 30),
-    (31, 99, 0, 31, 31),
-    (32, 31, 0, 32, 31),
-    (32, 99, 0, 32, 32),
-    (33, 32, 0, 33, 32),
-    (33, 99, 0, 33, 33),
-    // `to` stands before the hit, or on it
-    (70, 20, 0, 10, 10),
-    (70, 20, 0, 20, 20),
-    (70, 20, 0, 21, 20),
-    (70, 40, 0, 33, 33),
-    (70, 68, 60, 65, 65),
-    (20, 15, 0, 10, 10),
-    // `from` stands behind the hit, or on it
-    (70, 20, 21, 70, 70),
-    (70, 20, 20, 70, 20),
-    (70, 1, 2, 40, 40),
-    (20, 5, 6, 20, 20),
-    // no place at all
-    (70, 20, 20, 20, 20),
-    (70, 99, 70, 70, 70),
-];
-
-/// What the search answers in the row's text with that byte.
-fn found_in(alloc: Global, row: &Row, byte: u8) -> Result<Option<usize>, Fail> {
-    let (length, place, from, to, _) = *row;
-    let text = text_with(alloc, length, place, byte)?;
-    Ok(search(&text, from, to))
-}
-
-#[test]
-fn hits_are_found_in_their_places(rt: HostRuntime) -> Result<(), Fail> {
-    for row in &ROWS {
-        for byte in &FOUR {
-            let found = found_in(rt.alloc(), row, *byte)?;
-            assert_eq!(rt; found, Some(row.4), "of {row:?}, {byte}");
-        }
-    }
-    Ok(())
-}
-
-const OTHERS: [u8; 6] = [0, b'`', b'e', b'A', 0xE1, 0xFF];
-
-#[test]
-fn other_bytes_are_no_hits(rt: HostRuntime) -> Result<(), Fail> {
-    for byte in &OTHERS {
-        let found = found_in(rt.alloc(), &(70, 5, 0, 70, 70), *byte)?;
-        assert_eq!(rt; found, Some(70), "of {byte}");
-    }
-    Ok(())
-}
-
-#[test]
-fn fewer_bytes_are_named_more_than_once(rt: HostRuntime) {
-    let text = b"a fork, a spoon and a knife on the table";
-    assert_eq!(rt; first_of_four(*b"kkkk", text, 0, 40), 5);
-    assert_eq!(rt; first_of_four(*b"kkkk", text, 6, 40), 22);
-    assert_eq!(rt; first_of_four(*b"tbtb", text, 0, 40), 31);
-    assert_eq!(rt; first_of_four(*b"zzzz", text, 0, 40), 40);
 }
 
 /// Texts of 70 bytes.
@@ -213,64 +136,6 @@ fn the_other_searches_answer_as_a_plain_loop(rt: HostRuntime) -> Result<(), Fail
     for (length, place) in &LENGTHS {
         let unlike = unlike_in(rt.alloc(), *length, *place)?;
         assert_eq!(rt; unlike, (None, None), "of {length}, {place}");
-    }
-    Ok(())
-}
-
-/// The set of the bytes.
-fn set_of(alloc: Global, bytes: &[u8]) -> Result<Option<ByteSet>, Fail> {
-    let mut flags = Vec::new(alloc);
-    for byte in 0..256usize {
-        flags.push(bytes.contains(&(byte as u8)))?;
-    }
-    if flags.len() == 256 {
-        Ok(Some(ByteSet::new(flags)))
-    } else {
-        Ok(None)
-    }
-}
-
-/// The set's bytes, the other byte, a text, how far it has none of the set, and how far nor the other byte either.
-const SETS: [(&[u8], u8, &[u8], usize, usize); 8] = [
-    (b"", b'*', b"a * b", 5, 2),
-    (b"/", b'*', b"a * b / c", 6, 2),
-    (b"/\\", b'*', b"a / b * c", 2, 2),
-    (b"/\\<", b'*', b"a b * c < d", 8, 4),
-    (b"/\\<#", b'*', b"a b * c # d", 8, 4),
-    (b"/\\<#$", b'*', b"a b * c / d", 8, 4),
-    (b"/\\<#$!", b'*', b"a b $ c * d", 4, 4),
-    (
-        b"/\\<#$!",
-        b'*',
-        b"nothing of it, in a text of more than 32 bytes",
-        46,
-        46,
-    ),
-];
-
-/// How far a text has none of the set, how far nor the other byte either, and whether the set has `/`.
-fn ends_of(
-    alloc: Global,
-    bytes: &[u8],
-    other: u8,
-    text: &[u8],
-) -> Result<Option<(usize, usize, bool)>, Fail> {
-    match set_of(alloc, bytes)? {
-        Some(set) => Ok(Some((
-            set.clear_end(text, 0, text.len()),
-            set.clear_end_with(other, text, 0, text.len()),
-            set.has(b'/'),
-        ))),
-        None => Ok(None),
-    }
-}
-
-#[test]
-fn texts_are_clear_up_to_a_byte_of_the_set(rt: HostRuntime) -> Result<(), Fail> {
-    for (bytes, other, text, clear, apart) in &SETS {
-        let found = ends_of(rt.alloc(), bytes, *other, text)?;
-        let want = Some((*clear, *apart, bytes.contains(&b'/')));
-        assert_eq!(rt; found, want, "of {bytes:?}");
     }
     Ok(())
 }

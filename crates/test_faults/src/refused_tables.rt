@@ -1,8 +1,52 @@
-//! Calls whose allocations are made to fail in turn: out of memory is fine, else the answer is the right one.
-use crate::shown::{are_texts, bench, extended, key_of, owned};
+//! Calls of a table whose allocations are made to fail in turn: out of memory is fine, else the answer is the right one.
 use std::alloc::{AllocError, Global};
 use std::process::Abort;
+use tokei_bench::bench_json;
 use tokei_table::{LanguageTable, LanguageType, OpenerIndex, TableError};
+
+/// The bench table.
+fn bench(alloc: Global) -> Result<LanguageTable, TableError> {
+    LanguageTable::from_json(alloc, bench_json())
+}
+
+/// The texts as owned ones.
+fn owned(alloc: Global, texts: &[&str]) -> Result<Vec<String>, AllocError> {
+    let mut strings = Vec::new(alloc);
+    for text in texts {
+        strings.push(String::from_str(alloc, text)?)?;
+    }
+    Ok(strings)
+}
+
+/// The table in which languages gain extensions.
+fn extended(
+    alloc: Global,
+    table: &LanguageTable,
+    more: &[(LanguageType, &[String])],
+) -> Result<LanguageTable, TableError> {
+    Ok(table.extended(alloc, more)?)
+}
+
+/// The key of a language that was found, or `none`.
+fn key_of<'a>(table: &'a LanguageTable, found: Option<LanguageType>) -> &'a str {
+    match found {
+        Some(language) => if table.has(language) {
+            language.key(table)
+        } else {
+            "not of the table"
+        },
+        None => "none",
+    }
+}
+
+/// Whether the texts are those wanted, in order.
+fn are_texts(texts: &[String], wanted: &[&str]) -> bool {
+    let mut same = texts.len() == wanted.len();
+    for (text, want) in texts.iter().zip(wanted) {
+        same = same && text.as_str() == *want;
+    }
+    same
+}
 
 /// What is wrong, if something is, or why nothing can be told.
 type Wrong = Result<Option<&'static str>, TableError>;

@@ -1,4 +1,4 @@
-//! Worked rows cut after each byte: of each piece every call tells the same, and neither its lines nor its steps are
+//! Worked texts cut after each byte: of each piece every call tells the same, and neither its lines nor its steps are
 //! more than its bytes.
 use crate::bench::bench_or_memory;
 use crate::every_call::told;

@@ -1,5 +1,5 @@
 use Rattle.std.proofs.Common.{◌≡◌}
-use Rattle.tokei_worked_rows.proofs.block_search.doc_comments_at_rising_and_falling_places.Given as goal
+use Rattle.test_texts.proofs.block_search.doc_comments_at_rising_and_falling_places.Given as goal
 
 abbrev pub invariant-loop-place : goal.invariant-loop-place
 invariant-loop-place g l = l.search ≡ l.text
