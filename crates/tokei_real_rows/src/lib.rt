@@ -1,5 +1,5 @@
-//! Worked rows of the folders of the system, made for each test, and of readers that fail. They stand apart from those
-//! of `tokei_walk_rows`, so that each crate's tests are proved beside the other's.
+//! Worked rows of the folders of the system, made for each test, and of readers that fail. They stand apart from the
+//! other tests, so that each crate's tests are proved beside the other's.
 #![tactic(auto)]
 
 #[cfg(test)]
@@ -8,3 +8,5 @@ mod made;
 mod readers;
 #[cfg(test)]
 mod real;
+#[cfg(test)]
+mod told;

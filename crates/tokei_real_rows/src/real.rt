@@ -1,5 +1,6 @@
 //! Folders of the system: what they list, answer of a place, and read, and what is above them.
 use crate::made::{Made, folder, folder_of, make, place_in};
+use crate::told::{ALONE, shown, texts};
 use std::alloc::{AllocError, Global};
 use std::process::Abort;
 use std::test::Fail;
@@ -7,7 +8,6 @@ use std::{fs, io};
 use tokei_folders::{Above, Entry, Fault, Folders, Kind, Listing};
 use tokei_real::RealFolders;
 use tokei_walk::{Kept, kept_files};
-use tokei_walk_rows::told::{ALONE, shown, texts};
 
 /// The place or the name of a row that is answered otherwise, if there is one.
 type Wrong = Result<Option<&'static str>, Fail>;

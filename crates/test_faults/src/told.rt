@@ -11,30 +11,6 @@ pub const ALL: Rules = Rules {
     hidden: true,
 };
 
-/// All rules apply but those of `.ignore` and `.tokeignore`.
-pub const NO_DOT: Rules = Rules {
-    parents: true,
-    dot: false,
-    git: true,
-    hidden: true,
-};
-
-/// All rules apply, and names that begin with a dot are seen.
-pub const SEEN: Rules = Rules {
-    parents: true,
-    dot: true,
-    git: true,
-    hidden: false,
-};
-
-/// All rules apply but those of the folders above a root.
-pub const ALONE: Rules = Rules {
-    parents: false,
-    dot: true,
-    git: true,
-    hidden: true,
-};
-
 /// A row of a table: a tree, what is asked of it, and the files and notes that are wanted.
 #[derive(Clone, Copy)]
 pub struct Row {

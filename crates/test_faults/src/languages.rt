@@ -1,10 +1,114 @@
-//! Calls of languages that are refused: what stood before stays. Each of their allocations is made to fail in turn.
-use crate::languages::{counted, one_file, report, report_with_blob, three};
+//! Calls of languages whose allocations fail: what stood before stays.
 use std::alloc::{AllocError, Global};
-use std::test::Fail;
 use tokei_languages::{CountError, Language, Languages};
 use tokei_options::Sort;
+use tokei_stats::{CodeStats, Report};
 use tokei_table::{LanguageTable, LanguageType, TableError};
+
+/// Three languages of a table, in its order.
+fn three(alloc: Global) -> Option<(LanguageType, LanguageType, LanguageType)> {
+    match LanguageTable::from_json(
+        alloc,
+        br#"{"languages":{"C":{},"JSON":{},"Markdown":{},"Rust":{}}}"#,
+    ) {
+        Ok(table) => Some((
+            LanguageType::from_name(&table, "C")?,
+            LanguageType::from_name(&table, "JSON")?,
+            LanguageType::from_name(&table, "Rust")?,
+        )),
+        Err(_) => None,
+    }
+}
+
+/// A report of these blank, code and comment lines.
+fn report(alloc: Global, name: &str, counts: (usize, usize, usize)) -> Result<Report, AllocError> {
+    let mut report = Report::new(alloc, String::from_str(alloc, name)?);
+    (
+        report.stats.blanks,
+        report.stats.code,
+        report.stats.comments,
+    ) = counts;
+    Ok(report)
+}
+
+/// A report of one line of each class, with a blob of these lines of code.
+fn report_with_blob(
+    alloc: Global,
+    name: &str,
+    inside: LanguageType,
+    code: usize,
+) -> Result<Report, AllocError> {
+    let mut report = report(alloc, name, (1, 1, 1))?;
+    let mut blob = CodeStats::new(alloc);
+    blob.code = code;
+    let _old = report.stats.blobs.insert(inside, blob)?;
+    Ok(report)
+}
+
+/// A language of these blank, code and comment lines.
+fn counted(alloc: Global, counts: (usize, usize, usize)) -> Language {
+    let mut language = Language::new(alloc);
+    (language.blanks, language.code, language.comments) = counts;
+    language
+}
+
+/// One file of the language, with a blob of the other.
+fn one_file(
+    alloc: Global,
+    language: LanguageType,
+    inside: LanguageType,
+) -> Result<Languages, CountError> {
+    let mut languages = Languages::new(alloc);
+    languages.add_report(language, report_with_blob(alloc, "a.c", inside, 4)?)?;
+    Ok(languages)
+}
+
+/// Out of memory, or both; a refusal changes nothing.
+#[test]
+fn refused_languages_add(rt: HostRuntime) {
+    if let Some((c, json, rust)) = three(rt.alloc()) {
+        if let (Ok(mut sum), Ok(same), Ok(other), Ok(more)) = (
+            one_file(rt.alloc(), c, json),
+            one_file(rt.alloc(), c, json),
+            one_file(rt.alloc(), c, rust),
+            one_file(rt.alloc(), rust, json),
+        ) {
+            match sum.add(other) {
+                Err(refused) => {
+                    assert_eq!(rt; refused, CountError::Memory);
+                    assert!(rt; sum == same);
+                }
+                Ok(()) => match sum.add(more) {
+                    Err(refused) => assert_eq!(rt; refused, CountError::Memory),
+                    Ok(()) => assert_eq!(rt; sum.len(), 2),
+                },
+            }
+        }
+    }
+}
+
+/// Out of memory, or the report; a refusal changes nothing.
+#[test]
+fn refused_add_report(rt: HostRuntime) {
+    if let Some((c, json, _)) = three(rt.alloc()) {
+        if let (Ok(mut languages), Ok(same), Ok(more)) = (
+            one_file(rt.alloc(), c, json),
+            one_file(rt.alloc(), c, json),
+            report_with_blob(rt.alloc(), "b.c", json, 2),
+        ) {
+            match languages.add_report(c, more) {
+                Err(refused) => {
+                    assert_eq!(rt; refused, CountError::Memory);
+                    assert!(rt; languages == same);
+                }
+                Ok(()) => {
+                    let count = languages.get(c).map(|language| language.reports.len());
+                    assert_eq!(rt; count, Some(2));
+                }
+            }
+        }
+    }
+}
 
 /// More languages than a node of a tree has room for.
 const MANY: &[u8] =
@@ -200,36 +304,4 @@ fn refused_total(rt: HostRuntime) {
             assert!(rt; languages == same);
         }
     }
-}
-
-/// A language whose counts are sums of others, and whose reports have these blank lines.
-fn of_blanks(alloc: Global, blanks: &[usize]) -> Result<Language, CountError> {
-    let mut language = counted(alloc, (4, 5, 6));
-    for count in blanks {
-        language.add_report(report(alloc, "a", (*count, 1, 1))?)?;
-    }
-    Ok(language)
-}
-
-#[test]
-fn a_refused_renewal_changes_nothing(rt: HostRuntime) -> Result<(), Fail> {
-    let alloc = rt.alloc();
-    let (c, _, rust) = three(alloc).ok_or("no languages")?;
-    let mut fits = of_blanks(alloc, &[usize::MAX])?;
-    assert_eq!(rt; fits.total(), Ok(()));
-    assert_eq!(rt; (fits.blanks, fits.code, fits.comments), (usize::MAX, 1, 1));
-    let mut past = of_blanks(alloc, &[usize::MAX, 1])?;
-    let same = of_blanks(alloc, &[usize::MAX, 1])?;
-    assert_eq!(rt; past.total(), Err(CountError::Overflow));
-    assert!(rt; past == same);
-    // Those that are renewed before the sum that passes stay too.
-    let mut languages = Languages::new(alloc);
-    let _none = languages.insert(c, of_blanks(alloc, &[2])?)?;
-    let _none = languages.insert(rust, past)?;
-    let mut before = Languages::new(alloc);
-    let _none = before.insert(c, of_blanks(alloc, &[2])?)?;
-    let _none = before.insert(rust, same)?;
-    assert_eq!(rt; languages.renew_counts(), Err(CountError::Overflow));
-    assert!(rt; languages == before);
-    Ok(())
 }

@@ -1,7 +1,6 @@
-//! The lines of notes, by how often `--verbose` was given.
+//! The lines of notes where memory runs out.
 use log::sink::Lines;
 use std::alloc::{AllocError, Global};
-use std::test::Fail;
 use tokei_notes::log_notes;
 use tokei_walk::{Note, NoteKind, Text};
 
@@ -14,12 +13,6 @@ const KINDS: [NoteKind; 7] = [
     NoteKind::TooDeep,
     NoteKind::BadExclude,
 ];
-
-const ERRORS: &str = "[ERROR not found] a/b
-[ERROR folder can't be listed] a/b
-[ERROR ignore file can't be read] a/b
-[ERROR exclude is no pattern] a/b
-";
 
 const ALL: &str = "[ERROR not found] a/b
 [WARN  bad line in ignore file] a/b
@@ -38,34 +31,6 @@ fn notes(alloc: Global) -> Result<Vec<Note>, AllocError> {
         notes.push(Note { kind, place })?;
     }
     Ok(notes)
-}
-
-/// The lines of a note of each kind.
-fn shown(alloc: Global, verbose: u8) -> Result<String, Fail> {
-    let notes = notes(alloc)?;
-    let mut lines = Lines::new(alloc);
-    log_notes(notes.as_slice(), verbose, &mut lines)?;
-    let mut shown = String::new(alloc);
-    for line in lines.as_slice() {
-        shown.push_str(line.as_str())?;
-        shown.push('\n')?;
-    }
-    Ok(shown)
-}
-
-#[test]
-fn lines_by_level(rt: HostRuntime) -> Result<(), Fail> {
-    for verbose in [0, 4, 255] {
-        assert_eq!(rt;
-            shown(rt.alloc(), verbose)?.as_str(),
-            ERRORS,
-            "with {verbose}"
-        );
-    }
-    for verbose in [1, 2, 3] {
-        assert_eq!(rt; shown(rt.alloc(), verbose)?.as_str(), ALL, "with {verbose}");
-    }
-    Ok(())
 }
 
 /// Whether the line of each note is added, or memory runs out and a beginning of these lines is; where it does so before

@@ -1,13 +1,12 @@
 //! Runs over folders in which memory runs out: the languages from before stay, with those of the first files. Each of their
 //! allocations is made to fail in turn, and each call of the folders.
-use crate::few_languages::{Few, few_languages, few_of, report, report_of_markdown, tree};
+use crate::few_languages::{Few, few_languages, few_of, owned, report, report_of_markdown, tree};
 use std::alloc::Global;
 use std::test::Fail;
 use tokei_config::Config;
 use tokei_count::CountError;
 use tokei_languages::{Language, Languages};
 use tokei_statistics::CountFiles;
-use tokei_statistics_rows::trees::owned;
 use tokei_table::{LanguageTable, TableError};
 use tokei_walk::{FailingFolders, Fault, Folders};
 

@@ -1,9 +1,27 @@
 //! A table of few languages, and a tree of files in them, small enough that each allocation can be made to fail in turn.
 use std::alloc::{AllocError, Global};
-use tokei_statistics_rows::trees::files;
+use tokei_count::CountError;
 use tokei_stats::{CodeStats, Report};
 use tokei_table::{LanguageTable, LanguageType, TableError};
 use tokei_walk::{Call, Fault, MemoryFolders};
+
+/// Files of these places and contents.
+pub fn files(alloc: Global, contents: &[(&str, &[u8])]) -> Result<MemoryFolders, Fault> {
+    let mut folders = MemoryFolders::new(alloc);
+    for (place, content) in contents {
+        folders.add_file(place, content)?;
+    }
+    Ok(folders)
+}
+
+/// The texts as owned ones.
+pub fn owned(alloc: Global, texts: &[&str]) -> Result<Vec<String>, CountError> {
+    let mut strings = Vec::new(alloc);
+    for text in texts {
+        strings.push(String::from_str(alloc, text)?)?;
+    }
+    Ok(strings)
+}
 
 const FEW: &[u8] =
     br#"{"languages":{"C":{"line_comment":["//"],"extensions":["c"]},"Markdown":{"literate":true,"extensions":["md"]},"Rust":{"extensions":["rs"]}}}"#;
