@@ -1,10 +1,10 @@
-"""The instructions that `tokei_bench_count` takes to count a text, by `valgrind --tool=callgrind`, which nothing else on
+"""The instructions that `bench_count` takes to count a text, by `valgrind --tool=callgrind`, which nothing else on
 the machine changes."""
 import subprocess
 import sys
 
 READING = "tokei_count::"
-CALLER = "tokei_bench_count::"
+CALLER = "bench_count::"
 
 
 def reading_cost(path):

@@ -1,0 +1,100 @@
+//! Searches standard input for the openers of a language of the bench table, and prints the place of the first one, or
+//! `none`. The language's key is the first argument. Where the second one is `times`, it prints instead how many
+//! nanoseconds the search takes, and how many the search for one byte that C texts haven't.
+#![tactic(auto)]
+
+use memchr::memchr;
+use std::alloc::Global;
+use std::io::Read;
+use std::process::ExitCode;
+use std::time::{Duration, Instant};
+use std::{env, io};
+use test_table::bench_json;
+use tokei_table::{LanguageTable, LanguageType, OpenerIndex, TableError};
+
+/// Of so many runs the quickest one stands.
+const RUNS: usize = 5;
+
+/// A byte that texts in C haven't.
+const ABSENT: u8 = 1;
+
+/// The openers of the language with that key, where the bench table has it.
+fn index_of(alloc: Global, key: &str) -> Result<Option<OpenerIndex>, TableError> {
+    let table = LanguageTable::from_json(alloc, bench_json())?;
+    match LanguageType::from_name(&table, key) {
+        Some(language) => {
+            let openers = language.openers(alloc, &table)?;
+            Ok(Some(OpenerIndex::of_texts(alloc, openers)?))
+        }
+        None => Ok(None),
+    }
+}
+
+fn print_place(rt: &HostRuntime, found: Option<usize>) -> io::Result<()> {
+    match found {
+        Some(place) => println!(rt; "{place}"),
+        None => println!(rt; "none"),
+    }
+}
+
+/// How long the quickest search takes for the openers, and for the absent byte.
+fn times(rt: &HostRuntime, index: &OpenerIndex, text: &[u8]) -> io::Result<(Duration, Duration)> {
+    let mut openers = Duration::MAX;
+    let mut byte = Duration::MAX;
+    for _ in 0..RUNS {
+        let begun = Instant::now(rt)?;
+        let found = index.first_in(text);
+        openers = openers.min(begun.elapsed(rt)?);
+        // what is found has to be used, or the search could be left out
+        if found.is_some() {
+            println!(rt; "an opener stands in the text")?;
+        }
+        let begun = Instant::now(rt)?;
+        let found = memchr(ABSENT, text);
+        byte = byte.min(begun.elapsed(rt)?);
+        if found.is_some() {
+            println!(rt; "the byte stands in the text")?;
+        }
+    }
+    Ok((openers, byte))
+}
+
+fn run(rt: &HostRuntime, index: &OpenerIndex, timed: bool) -> io::Result<()> {
+    let mut text = Vec::new(rt.alloc());
+    rt.reader().read_to_end(&mut text)?;
+    if !timed {
+        return print_place(rt, index.first_in(&text));
+    }
+    let (openers, byte) = times(rt, index, &text)?;
+    let openers = openers.as_nanos();
+    let byte = byte.as_nanos();
+    println!(rt; "openers {openers}\nbyte {byte}")
+}
+
+fn main(rt: HostRuntime) -> io::Result<ExitCode> {
+    let mut words = env::args(&rt)?;
+    let _program = words.next();
+    let key = words.next();
+    let timed = match words.next() {
+        Some(word) => word.as_str() == "times",
+        None => false,
+    };
+    let Some(key) = key else {
+        eprintln!(rt; "the first argument is the key of a language")?;
+        return Ok(ExitCode::FAILURE);
+    };
+    match index_of(rt.alloc(), key.as_str()) {
+        Ok(Some(index)) => {
+            run(&rt, &index, timed)?;
+            Ok(ExitCode::SUCCESS)
+        }
+        Ok(None) => {
+            eprintln!(rt; "the bench table has no such language")?;
+            Ok(ExitCode::FAILURE)
+        }
+        Err(refused) => {
+            eprintln!(rt; "{refused}")?;
+            Ok(ExitCode::FAILURE)
+        }
+    }
+}

@@ -1,0 +1,95 @@
+//! Rows of a walk's notes: their lines, by how often `--verbose` was given.
+use crate::answers::Answers;
+use crate::error::RowError;
+use crate::row::{Row, text_of};
+use crate::subject::Members;
+use log::sink::Lines;
+use std::alloc::Global;
+use tokei_folders::Text;
+use tokei_program::log_notes;
+use tokei_walk::{Note, NoteKind};
+
+/// The members of these rows: the notes, each by its kind and place, and how often `--verbose` was given.
+pub const MEMBERS: Members = Members {
+    given: &["verbose", "notes"],
+    wanted: &["lines"],
+    optional: &[],
+    by_table: false,
+};
+
+/// The words for the kinds of notes.
+pub const KINDS: [(&str, NoteKind); 7] = [
+    ("BadExclude", NoteKind::BadExclude),
+    ("BadLine", NoteKind::BadLine),
+    ("MissingRoot", NoteKind::MissingRoot),
+    ("TooDeep", NoteKind::TooDeep),
+    ("Unlisted", NoteKind::Unlisted),
+    ("Unnamed", NoteKind::Unnamed),
+    ("UnreadIgnore", NoteKind::UnreadIgnore),
+];
+
+/// The kind of that word.
+fn kind_of(word: &str) -> Option<NoteKind> {
+    for (known, kind) in KINDS {
+        if known == word {
+            return Some(kind);
+        }
+    }
+    None
+}
+
+/// The note that a text tells.
+fn note(alloc: Global, text: &str) -> Result<Note, RowError> {
+    let Some((word, place)) = text.split_once(' ') else {
+        return Err(RowError::Kind("notes", "a list of notes with a place"));
+    };
+    let Some(kind) = kind_of(word) else {
+        return Err(RowError::Kind("notes", "a list of kinds of notes"));
+    };
+    let place = Text::from_str(alloc, place)?;
+    Ok(Note { kind, place })
+}
+
+/// The notes of a row.
+fn notes(alloc: Global, row: &Row) -> Result<Vec<Note>, RowError> {
+    let mut notes = Vec::new(alloc);
+    for value in row.list("notes")? {
+        notes.push(note(alloc, text_of("notes", value)?)?)?;
+    }
+    Ok(notes)
+}
+
+/// How often `--verbose` was given.
+fn verbose(row: &Row) -> Result<u8, RowError> {
+    match u8::try_from(row.number("verbose")?) {
+        Ok(verbose) => Ok(verbose),
+        Err(_) => Err(RowError::Kind("verbose", "a number below 256")),
+    }
+}
+
+/// The lines of a row's notes.
+fn logged(alloc: Global, row: &Row) -> Result<Lines, RowError> {
+    let notes = notes(alloc, row)?;
+    let mut lines = Lines::new(alloc);
+    log_notes(notes.as_slice(), verbose(row)?, &mut lines)?;
+    Ok(lines)
+}
+
+/// The lines as one text.
+fn shown(alloc: Global, row: &Row) -> Result<String, RowError> {
+    let lines = logged(alloc, row)?;
+    let mut text = String::new(alloc);
+    for line in lines.as_slice() {
+        text.push_str(line.as_str())?;
+        text.push('\n')?;
+    }
+    Ok(text)
+}
+
+/// What the calls answer.
+pub fn came(alloc: Global, row: &Row) -> Result<Answers, RowError> {
+    let text = shown(alloc, row)?;
+    let mut answers = Answers::new(alloc);
+    answers.say_text("lines", text.as_str())?;
+    Ok(answers)
+}

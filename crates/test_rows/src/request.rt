@@ -1,0 +1,48 @@
+//! What the arguments ask for.
+use crate::subject::Subject;
+use anyhow::bail;
+use std::env;
+
+/// What the arguments ask for.
+#[derive(Drop)]
+pub struct Request {
+    /// The path of the table of rows that have none themselves; else that is the bench table.
+    pub table: Option<String>,
+    /// The file whose rows alone are asked.
+    pub file: Option<String>,
+    /// The name of the rows that alone are asked.
+    pub row: Option<String>,
+}
+
+impl Request {
+    /// Whether the rows of a subject are asked.
+    pub fn asks(&self, subject: Subject) -> bool {
+        match &self.file {
+            Some(file) => file.as_str() == subject.file(),
+            None => true,
+        }
+    }
+}
+
+/// What the program's arguments ask for: `--table PATH`, `--file NAME`, `--row NAME`.
+pub fn requested(rt: &HostRuntime) -> anyhow::Result<Request> {
+    let mut words = env::args(rt)?;
+    let _program = words.next();
+    let mut request = Request {
+        table: None,
+        file: None,
+        row: None,
+    };
+    for _ in 0..3 {
+        let (Some(word), value) = (words.next(), words.next()) else {
+            return Ok(request);
+        };
+        match word.as_str() {
+            "--table" => request.table = value,
+            "--file" => request.file = value,
+            "--row" => request.row = value,
+            other => bail!("{other} is neither --table nor --file nor --row"),
+        }
+    }
+    Ok(request)
+}

@@ -1,0 +1,138 @@
+//! Runs in which a call of the writer or of the folders fails.
+use crate::answers::Answers;
+use crate::error::RowError;
+use crate::jobs::job_of;
+use crate::row::Row;
+use crate::trees::folders_of;
+use std::alloc::Global;
+use tokei::{Counted, FailOnce, FailingFolders, Job, LanguageTable, MemoryFolders, RunError, run};
+
+/// What fails.
+#[derive(Clone, Copy)]
+enum Failing {
+    /// One write.
+    Write,
+    /// Each call of the folders from some call on.
+    Folders,
+}
+
+/// How a run ended.
+#[derive(Clone, Copy)]
+enum End {
+    /// No call failed, and the output is the right one.
+    Unfailed,
+    /// The run is refused for the call that failed, and what it wrote until then is the beginning of the right output.
+    Refused,
+    /// The run ended otherwise.
+    Wrong,
+}
+
+/// How the run over these folders ends whose write with this number fails.
+fn end_of_writing(
+    alloc: Global,
+    table: &LanguageTable,
+    mut folders: MemoryFolders,
+    job: &Job,
+    call: u64,
+    right: &[u8],
+) -> End {
+    let mut out = FailOnce::new(Counted::new(Vec::new(alloc)), call);
+    let refused = run(alloc, table, &mut folders, job, &mut out).err();
+    let failed = out.failed();
+    let text = out.inner.inner.as_slice();
+    match refused {
+        None if !failed && text == right => End::Unfailed,
+        Some(RunError::Write) if failed && right.starts_with(text) => End::Refused,
+        _ => End::Wrong,
+    }
+}
+
+/// How the run over these folders ends, which fail behind so many calls.
+fn end_of_reading(
+    alloc: Global,
+    table: &LanguageTable,
+    folders: MemoryFolders,
+    job: &Job,
+    call: u64,
+    right: &[u8],
+) -> End {
+    let mut folders = FailingFolders::new(folders, call);
+    let mut out = Counted::new(Vec::new(alloc));
+    let refused = run(alloc, table, &mut folders, job, &mut out).err();
+    let text = out.inner.as_slice();
+    match refused {
+        None if text == right => End::Unfailed,
+        Some(RunError::Memory) if right.starts_with(text) => End::Refused,
+        _ => End::Wrong,
+    }
+}
+
+/// A row's run.
+#[derive(Clone, Copy)]
+struct Asked<'a> {
+    alloc: Global,
+    table: &'a LanguageTable,
+    row: &'a Row<'a>,
+    job: &'a Job,
+}
+
+/// How a row's run ends in which the call with this number fails.
+fn end_of(asked: &Asked, failing: Failing, call: u64, right: &[u8]) -> Result<End, RowError> {
+    let Asked {
+        alloc,
+        table,
+        job,
+        ..
+    } = *asked;
+    let folders = folders_of(alloc, asked.row)?;
+    Ok(match failing {
+        Failing::Write => end_of_writing(alloc, table, folders, job, call, right),
+        Failing::Folders => end_of_reading(alloc, table, folders, job, call, right),
+    })
+}
+
+/// Whether each call that fails refuses the run, up to one without such a call; there is one at least.
+fn each_refuses(asked: &Asked, failing: Failing) -> Result<bool, RowError> {
+    let right = asked.row.text("output")?.as_bytes();
+    for call in 0..1_000 {
+        match end_of(asked, failing, call, right)? {
+            End::Refused => {}
+            End::Unfailed => return Ok(call != 0),
+            End::Wrong => return Ok(false),
+        }
+    }
+    Ok(false)
+}
+
+/// Answers whether each such call that fails refuses a row's run.
+fn say_refused(
+    asked: &Asked,
+    failing: Failing,
+    member: &'static str,
+    answers: &mut Answers,
+) -> Result<(), RowError> {
+    let each = if each_refuses(asked, failing)? {
+        "refuses the run"
+    } else {
+        "another end comes"
+    };
+    answers.say_text(member, each)
+}
+
+/// Answers what comes of a row's run by a table where each of its writes fails, and each call of its folders.
+pub fn say_faults(
+    alloc: Global,
+    table: &LanguageTable,
+    row: &Row,
+    answers: &mut Answers,
+) -> Result<(), RowError> {
+    let job = job_of(alloc, table, row)?;
+    let asked = Asked {
+        alloc,
+        table,
+        row,
+        job: &job,
+    };
+    say_refused(&asked, Failing::Write, "each_failing_write", answers)?;
+    say_refused(&asked, Failing::Folders, "each_failing_call", answers)
+}
