@@ -6,8 +6,8 @@ use crate::row::{Row, told as told_of};
 use crate::subject::Members;
 use crate::world::{World, own_table};
 use std::alloc::Global;
-use tokei_count::{CodeStats, CountError};
 use test_texts::every_call::counted;
+use tokei_count::{CodeStats, CountError};
 use tokei_stats::{Report, add_blob};
 use tokei_table::LanguageTable;
 
