@@ -1,5 +1,6 @@
 //! What the public calls answer to a row.
 use crate::error::RowError;
+use crate::row::has_word;
 use std::alloc::Global;
 use toml::Value;
 
@@ -8,8 +9,8 @@ use toml::Value;
 pub struct Answer {
     /// The member of the row which says what is wanted.
     pub member: &'static str,
-    /// What came; none where what came isn't looked at.
-    pub came: Option<Value>,
+    /// What came.
+    pub came: Value,
 }
 
 /// What the public calls answer to a row, each under the member which says what is wanted.
@@ -17,6 +18,7 @@ pub struct Answer {
 pub struct Answers {
     alloc: Global,
     list: Vec<Answer>,
+    left: Vec<&'static str>,
 }
 
 /// A number as a value: a text of its digits where it passes the greatest number of TOML.
@@ -30,11 +32,7 @@ pub fn number(alloc: Global, number: u128) -> Result<Value, RowError> {
 /// Three numbers as a list.
 pub fn three(alloc: Global, numbers: (usize, usize, usize)) -> Result<Value, RowError> {
     let (first, second, third) = numbers;
-    let mut values = Vec::new(alloc);
-    for one in [first, second, third] {
-        values.push(number(alloc, one as u128)?)?;
-    }
-    Ok(Value::Array(values))
+    places(alloc, &[first, second, third])
 }
 
 /// Bytes as a value: their text, or their hexadecimal digits behind `hex ` where they aren't UTF-8.
@@ -48,12 +46,31 @@ pub fn bytes(alloc: Global, bytes: &[u8]) -> Result<Value, RowError> {
     }
 }
 
+/// Texts as a list.
+pub fn texts(alloc: Global, texts: &[String]) -> Result<Value, RowError> {
+    let mut values = Vec::new(alloc);
+    for text in texts {
+        values.push(Value::string(alloc, text.as_str())?)?;
+    }
+    Ok(Value::Array(values))
+}
+
+/// Places in a text as a list.
+pub fn places(alloc: Global, places: &[usize]) -> Result<Value, RowError> {
+    let mut values = Vec::new(alloc);
+    for place in places {
+        values.push(number(alloc, *place as u128)?)?;
+    }
+    Ok(Value::Array(values))
+}
+
 impl Answers {
     /// No answers yet.
     pub fn new(alloc: Global) -> Answers {
         Answers {
             alloc,
             list: Vec::new(alloc),
+            left: Vec::new(alloc),
         }
     }
 
@@ -61,7 +78,7 @@ impl Answers {
     pub fn say(&mut self, member: &'static str, value: Value) -> Result<(), RowError> {
         self.list.push(Answer {
             member,
-            came: Some(value),
+            came: value,
         })?;
         Ok(())
     }
@@ -70,6 +87,24 @@ impl Answers {
     pub fn say_text(&mut self, member: &'static str, text: &str) -> Result<(), RowError> {
         let value = Value::string(self.alloc, text)?;
         self.say(member, value)
+    }
+
+    /// Answers for a member by bytes: by their text, or by `hex ` and their digits.
+    pub fn say_bytes(&mut self, member: &'static str, said: &[u8]) -> Result<(), RowError> {
+        let value = bytes(self.alloc, said)?;
+        self.say(member, value)
+    }
+
+    /// Answers for a member by a place in a text, or by `none`.
+    pub fn say_place(
+        &mut self,
+        member: &'static str,
+        place: Option<usize>,
+    ) -> Result<(), RowError> {
+        match place {
+            Some(place) => self.say_number(member, place as u128),
+            None => self.say_text(member, "none"),
+        }
     }
 
     /// Answers for a member by a number.
@@ -83,17 +118,22 @@ impl Answers {
         self.say(member, Value::Boolean(flag))
     }
 
-    /// Leaves a member out of what is compared.
+    /// Leaves a member out of what is compared, whatever is answered for it.
     pub fn leave(&mut self, member: &'static str) -> Result<(), RowError> {
-        self.list.push(Answer { member, came: None })?;
+        self.left.push(member)?;
         Ok(())
     }
 
+    /// Whether a member is left out of what is compared.
+    pub fn leaves(&self, member: &str) -> bool {
+        has_word(&self.left, member)
+    }
+
     /// What is answered for a member.
-    pub fn find(&self, member: &str) -> Option<&Answer> {
+    pub fn find(&self, member: &str) -> Option<&Value> {
         for answer in &self.list {
             if answer.member == member {
-                return Some(answer);
+                return Some(&answer.came);
             }
         }
         None

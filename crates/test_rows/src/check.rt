@@ -1,5 +1,5 @@
 //! Whether a row holds: what its calls answer is what it wants.
-use crate::answers::{Answer, Answers};
+use crate::answers::Answers;
 use crate::error::RowError;
 use crate::row::Row;
 use crate::subject::{Members, Subject};
@@ -44,16 +44,13 @@ fn put_difference(
     Ok(())
 }
 
-/// Whether a member is as its answer: neither stands, both are the same, or it may be left out.
-fn agrees(wanted: Option<&Value>, answer: Option<&Answer>, optional: bool) -> bool {
-    match (wanted, answer) {
+/// Whether a member is as its answer: neither stands, both are the same, or it may be left out and is.
+fn agrees(wanted: Option<&Value>, came: Option<&Value>, optional: bool) -> bool {
+    match (wanted, came) {
         (None, None) => true,
         (Some(_), None) => false,
-        (None, Some(answer)) => optional || answer.came.is_none(),
-        (Some(wanted), Some(answer)) => match &answer.came {
-            Some(came) => *came == *wanted,
-            None => true,
-        },
+        (None, Some(_)) => optional,
+        (Some(wanted), Some(came)) => *came == *wanted,
     }
 }
 
@@ -68,12 +65,8 @@ fn put_differences(
     let (members, optional) = list;
     for member in members {
         let wanted = row.value(member);
-        let answer = answers.find(member);
-        if !agrees(wanted, answer, optional) {
-            let came = match answer {
-                Some(answer) => answer.came.as_ref(),
-                None => None,
-            };
+        let came = answers.find(member);
+        if !answers.leaves(member) && !agrees(wanted, came, optional) {
             put_difference(alloc, told, member, wanted, came)?;
         }
     }

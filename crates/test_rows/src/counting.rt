@@ -1,17 +1,16 @@
 //! Rows of the four calls that count a text, all of which have to tell the same.
-use crate::answers::{Answers, three};
+use crate::answers::Answers;
 use crate::error::RowError;
-use crate::row::Row;
+use crate::made::{answers_of, refused};
+use crate::row::{Row, told as told_of};
 use crate::subject::Members;
 use crate::world::{World, own_table};
 use std::alloc::Global;
-use tokei_count::{CodeStats, CountError};
-use tokei_counting_rows::every_call::told;
+use test_texts::every_call::told;
 use tokei_table::LanguageTable;
-use toml::{Table, Value};
 
 /// The members of these rows. `counts` are the blank, code and comment lines; `blobs` those of the texts inside it, by
-/// the key of their language, and of texts inside these by both keys, as `"Html/Css"`.
+/// the key of their language, and of texts inside these by both keys, as `"Markdown/Rust"`; `summary` all together.
 pub const MEMBERS: Members = Members {
     given: &[
         "language",
@@ -20,79 +19,50 @@ pub const MEMBERS: Members = Members {
         "table_json",
         "doc_strings_are_comments",
     ],
-    wanted: &["counts", "blobs", "error"],
-    optional: &["steps"],
+    wanted: &["counts", "blobs"],
+    optional: &["steps", "summary", "lines"],
     by_table: true,
 };
 
-/// The key of a language in a text, behind those of the languages around it.
-fn path(alloc: Global, around: &str, key: &str) -> Result<String, RowError> {
-    if around.is_empty() {
-        return Ok(String::from_str(alloc, key)?);
-    }
-    Ok(format!(in alloc; "{around}/{key}")?)
-}
-
-/// Puts the lines of the texts inside a text to those that are known.
-fn put_blobs(
-    alloc: Global,
-    table: &LanguageTable,
-    stats: &CodeStats,
-    blobs: &mut Table,
-) -> Result<(), RowError> {
-    for (language, blob) in &stats.blobs {
-        if table.has(*language) {
-            let key = path(alloc, "", language.key(table))?;
-            let lines = three(alloc, (blob.blanks, blob.code, blob.comments))?;
-            blobs.insert(key, lines)?;
-        }
-    }
-    Ok(())
-}
-
-/// The answers that statistics are.
+/// The answers of all calls, where they tell the same.
 fn answers(
     alloc: Global,
     table: &LanguageTable,
-    stats: &CodeStats,
-    steps: u128,
+    row: &Row,
+    text: &[u8],
 ) -> Result<Answers, RowError> {
-    let mut answers = Answers::new(alloc);
-    let lines = three(alloc, (stats.blanks, stats.code, stats.comments))?;
-    answers.say("counts", lines)?;
-    answers.say_number("steps", steps)?;
-    let mut blobs = Table::new(alloc);
-    put_blobs(alloc, table, stats, &mut blobs)?;
-    if !blobs.is_empty() {
-        answers.say("blobs", Value::Table(blobs))?;
+    let language = row.text("language")?;
+    let doc_strings = row.flag_if("doc_strings_are_comments")?;
+    match told(alloc, table, language, doc_strings, text) {
+        Ok(Some((stats, steps))) => {
+            let mut answers = answers_of(alloc, table, &stats)?;
+            answers.say_number("steps", steps)?;
+            Ok(answers)
+        }
+        Ok(None) => told_of(
+            alloc,
+            "the table hasn't the language, or two calls count otherwise",
+        ),
+        Err(cause) => Err(refused(alloc, cause)),
     }
-    Ok(answers)
 }
 
 /// What the calls answer by a table.
 fn came_by(alloc: Global, table: &LanguageTable, row: &Row) -> Result<Answers, RowError> {
     let text = row.bytes(alloc, "text", "text_hex")?;
-    let language = row.text("language")?;
-    let doc_strings = row.flag_if("doc_strings_are_comments")?;
-    match told(alloc, table, language, doc_strings, &text) {
-        Ok(Some((stats, steps))) => answers(alloc, table, &stats, steps),
-        Ok(None) => Err(RowError::Told(String::from_str(
-            alloc,
-            "the table hasn't the language, or two calls count otherwise",
-        )?)),
-        Err(CountError::Memory) => Err(RowError::Memory),
-        Err(CountError::Overflow) => {
-            let mut answers = Answers::new(alloc);
-            answers.say_text("error", "Overflow")?;
-            Ok(answers)
-        }
-    }
+    answers(alloc, table, row, &text)
 }
 
-/// What the calls answer.
+/// What the calls answer. By another table than the row's own the steps may be others.
 pub fn came(alloc: Global, world: &World, row: &Row) -> Result<Answers, RowError> {
     match own_table(alloc, row)? {
         Some(table) => came_by(alloc, &table, row),
-        None => came_by(alloc, world.table()?, row),
+        None => {
+            let mut answers = came_by(alloc, world.table()?, row)?;
+            if world.replaced {
+                answers.leave("steps")?;
+            }
+            Ok(answers)
+        }
     }
 }

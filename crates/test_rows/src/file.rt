@@ -56,7 +56,7 @@ struct Asked<'a> {
 /// What the row of a name is called where something is told of it.
 fn head(alloc: Global, subject: Subject, name: &str) -> Result<String, RowError> {
     let file = subject.file();
-    Ok(format!(in alloc; "{file}: {name:?} doesn't hold")?)
+    Ok(format!(in alloc; "{file}: \"{name}\" doesn't hold")?)
 }
 
 /// Asks a row with its name.

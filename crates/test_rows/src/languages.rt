@@ -253,7 +253,7 @@ pub fn came(alloc: Global, row: &Row) -> Result<Answers, RowError> {
     let asked = Asked {
         alloc,
         table: &table,
-        row,
+        row: &*row,
     };
     match row.text_if("of")? {
         Some(name) => came_of_one(&asked, name),

@@ -73,6 +73,18 @@ struct Asked<'a> {
     languages: &'a Languages,
 }
 
+/// Adds a language to those that are printed.
+fn add<'a>(
+    list: &mut Vec<(LanguageType, &'a Language)>,
+    language: LanguageType,
+    value: &'a Language,
+) -> Result<(), RowError> {
+    match list.push((language, value)) {
+        Ok(()) => Ok(()),
+        Err(_) => Err(RowError::Memory),
+    }
+}
+
 /// The languages in the order of the table, as they are printed.
 fn listed(
     alloc: Global,
@@ -80,7 +92,7 @@ fn listed(
 ) -> Result<Vec<(LanguageType, &Language)>, RowError> {
     let mut list = Vec::new(alloc);
     for (language, value) in languages.iter() {
-        list.push((*language, value))?;
+        add(&mut list, *language, value)?;
     }
     Ok(list)
 }

@@ -45,6 +45,29 @@ pub fn number_of(member: &'static str, value: &Value) -> Result<u64, RowError> {
     }
 }
 
+/// The place in a text, or the length of one, that a value is.
+pub fn size_of(member: &'static str, value: &Value) -> Result<usize, RowError> {
+    match usize::try_from(number_of(member, value)?) {
+        Ok(size) => Ok(size),
+        Err(_) => Err(RowError::Kind(member, "a number")),
+    }
+}
+
+/// The three numbers that a value is.
+pub fn three_of(member: &'static str, value: &Value) -> Result<(usize, usize, usize), RowError> {
+    let Value::Array(values) = value else {
+        return Err(RowError::Kind(member, "three numbers"));
+    };
+    let [first, second, third] = values.as_slice() else {
+        return Err(RowError::Kind(member, "three numbers"));
+    };
+    Ok((
+        size_of(member, first)?,
+        size_of(member, second)?,
+        size_of(member, third)?,
+    ))
+}
+
 /// The text that a value is.
 pub fn text_of<'a>(member: &'static str, value: &'a Value) -> Result<&'a str, RowError> {
     match value {
@@ -139,6 +162,22 @@ impl<'a> Row<'a> {
         Ok(Some(self.number(member)?))
     }
 
+    /// The number of a member that is a place in a text, or the length of one.
+    pub fn place(&self, member: &'static str) -> Result<usize, RowError> {
+        match self.value(member) {
+            Some(value) => size_of(member, value),
+            None => Err(RowError::Missing(member)),
+        }
+    }
+
+    /// The three numbers of a member.
+    pub fn three(&self, member: &'static str) -> Result<(usize, usize, usize), RowError> {
+        match self.value(member) {
+            Some(value) => three_of(member, value),
+            None => Err(RowError::Missing(member)),
+        }
+    }
+
     /// Whether a member is true; none where it is left out.
     pub fn flag_if(&self, member: &'static str) -> Result<Option<bool>, RowError> {
         match self.value(member) {
@@ -224,6 +263,11 @@ impl<'a> Row<'a> {
             None => Ok(()),
         }
     }
+}
+
+/// Why a row can't be asked, in words.
+pub fn told<T>(alloc: Global, cause: &str) -> Result<T, RowError> {
+    Err(RowError::Told(String::from_str(alloc, cause)?))
 }
 
 /// Whether a list of words has a word.

@@ -4,8 +4,9 @@ use crate::error::RowError;
 use crate::row::Row;
 use crate::world::World;
 use crate::{
-    counting, documents, files, folders, ignore_files, languages, notes, patterns, printed,
-    statistics, walks, words,
+    blocks, bytes, captures, contexts, counting, documents, files, folders, ignore_files,
+    languages, look_ups, next_places, notes, openers, patterns, printed, reports, statistics, sums,
+    syntaxes, tables, texts, walks, words,
 };
 use std::alloc::Global;
 
@@ -25,32 +26,56 @@ pub struct Members {
 /// What rows are about.
 #[derive(Clone, Copy)]
 pub enum Subject {
+    Blocks,
+    Bytes,
+    Captures,
+    Contexts,
     Counting,
     Documents,
     Files,
     Folders,
     IgnoreFiles,
     Languages,
+    LookUps,
+    NextPlaces,
     Notes,
+    Openers,
     Patterns,
     Printed,
+    Reports,
     Statistics,
+    Sums,
+    Syntaxes,
+    Tables,
+    Texts,
     Walks,
     Words,
 }
 
 /// All subjects, in the order of their files' names.
-pub const SUBJECTS: [Subject; 12] = [
+pub const SUBJECTS: [Subject; 24] = [
+    Subject::Blocks,
+    Subject::Bytes,
+    Subject::Captures,
+    Subject::Contexts,
     Subject::Counting,
     Subject::Documents,
     Subject::Files,
     Subject::Folders,
     Subject::IgnoreFiles,
     Subject::Languages,
+    Subject::LookUps,
+    Subject::NextPlaces,
     Subject::Notes,
+    Subject::Openers,
     Subject::Patterns,
     Subject::Printed,
+    Subject::Reports,
     Subject::Statistics,
+    Subject::Sums,
+    Subject::Syntaxes,
+    Subject::Tables,
+    Subject::Texts,
     Subject::Walks,
     Subject::Words,
 ];
@@ -59,16 +84,28 @@ impl Subject {
     /// The name of the file with the subject's rows.
     pub fn file(self) -> &'static str {
         match self {
+            Subject::Blocks => "blocks.toml",
+            Subject::Bytes => "bytes.toml",
+            Subject::Captures => "captures.toml",
+            Subject::Contexts => "contexts.toml",
             Subject::Counting => "counting.toml",
             Subject::Documents => "documents.toml",
             Subject::Files => "files.toml",
             Subject::Folders => "folders.toml",
             Subject::IgnoreFiles => "ignore_files.toml",
             Subject::Languages => "languages.toml",
+            Subject::LookUps => "look_ups.toml",
+            Subject::NextPlaces => "next_places.toml",
             Subject::Notes => "notes.toml",
+            Subject::Openers => "openers.toml",
             Subject::Patterns => "patterns.toml",
             Subject::Printed => "printed.toml",
+            Subject::Reports => "reports.toml",
             Subject::Statistics => "statistics.toml",
+            Subject::Sums => "sums.toml",
+            Subject::Syntaxes => "syntaxes.toml",
+            Subject::Tables => "tables.toml",
+            Subject::Texts => "texts.toml",
             Subject::Walks => "walks.toml",
             Subject::Words => "words.toml",
         }
@@ -77,16 +114,28 @@ impl Subject {
     /// The members of the subject's rows.
     pub fn members(self) -> Members {
         match self {
+            Subject::Blocks => blocks::MEMBERS,
+            Subject::Bytes => bytes::MEMBERS,
+            Subject::Captures => captures::MEMBERS,
+            Subject::Contexts => contexts::MEMBERS,
             Subject::Counting => counting::MEMBERS,
             Subject::Documents => documents::MEMBERS,
             Subject::Files => files::MEMBERS,
             Subject::Folders => folders::MEMBERS,
             Subject::IgnoreFiles => ignore_files::MEMBERS,
             Subject::Languages => languages::MEMBERS,
+            Subject::LookUps => look_ups::MEMBERS,
+            Subject::NextPlaces => next_places::MEMBERS,
             Subject::Notes => notes::MEMBERS,
+            Subject::Openers => openers::MEMBERS,
             Subject::Patterns => patterns::MEMBERS,
             Subject::Printed => printed::MEMBERS,
+            Subject::Reports => reports::MEMBERS,
             Subject::Statistics => statistics::MEMBERS,
+            Subject::Sums => sums::MEMBERS,
+            Subject::Syntaxes => syntaxes::MEMBERS,
+            Subject::Tables => tables::MEMBERS,
+            Subject::Texts => texts::MEMBERS,
             Subject::Walks => walks::MEMBERS,
             Subject::Words => words::MEMBERS,
         }
@@ -95,16 +144,28 @@ impl Subject {
     /// What the public calls answer to a row.
     pub fn came(self, alloc: Global, world: &World, row: &Row) -> Result<Answers, RowError> {
         match self {
+            Subject::Blocks => blocks::came(alloc, world, row),
+            Subject::Bytes => bytes::came(alloc, world, row),
+            Subject::Captures => captures::came(alloc, world, row),
+            Subject::Contexts => contexts::came(alloc, world, row),
             Subject::Counting => counting::came(alloc, world, row),
             Subject::Documents => documents::came(alloc, row),
             Subject::Files => files::came(alloc, world, row),
             Subject::Folders => folders::came(alloc, row),
             Subject::IgnoreFiles => ignore_files::came(alloc, row),
             Subject::Languages => languages::came(alloc, row),
+            Subject::LookUps => look_ups::came(alloc, world, row),
+            Subject::NextPlaces => next_places::came(alloc, world, row),
             Subject::Notes => notes::came(alloc, row),
+            Subject::Openers => openers::came(alloc, world, row),
             Subject::Patterns => patterns::came(alloc, row),
             Subject::Printed => printed::came(alloc, row),
+            Subject::Reports => reports::came(alloc, world, row),
             Subject::Statistics => statistics::came(alloc, world, row),
+            Subject::Sums => sums::came(alloc, world, row),
+            Subject::Syntaxes => syntaxes::came(alloc, world, row),
+            Subject::Tables => tables::came(alloc, world, row),
+            Subject::Texts => texts::came(alloc, world, row),
             Subject::Walks => walks::came(alloc, row),
             Subject::Words => words::came(alloc, row),
         }

@@ -1,20 +1,7 @@
-//! The bench table, on which tests and measurements of this repository stand, and the rows of tests that hold of it.
+//! The bench table, on which tests and measurements of this repository stand.
 #![tactic(auto)]
 
 ghost use Rattle.std.specs.Prelude.{◌≡◌};
-
-#[cfg(test)]
-mod additions;
-#[cfg(test)]
-mod causes;
-#[cfg(test)]
-mod lookups;
-#[cfg(test)]
-mod openers;
-#[cfg(test)]
-mod refusals;
-#[cfg(test)]
-mod shown;
 
 /// Twenty languages in the layout of a table: the text of `bench/languages.json`, byte for byte.
 pub const BENCH: &str = r##"{

@@ -1,0 +1,27 @@
+//! Texts that a test makes in a loop: each text of a few pieces, worked texts cut after each byte, texts many levels deep,
+//! and searches between each pair of places, which are held against a plain loop. Of each text all calls that count texts
+//! have to tell the same. They stand here, above those crates, since the tests of a crate are proved together with the
+//! whole of it.
+#![tactic(auto)]
+
+pub mod bench;
+#[cfg(test)]
+mod block_search;
+#[cfg(test)]
+mod byte_searches;
+#[cfg(test)]
+mod cut_texts;
+#[cfg(test)]
+mod deep_tables;
+#[cfg(test)]
+mod deep_texts;
+pub mod every_call;
+pub mod lines;
+#[cfg(test)]
+mod long_texts;
+#[cfg(test)]
+mod nested_notebooks;
+#[cfg(test)]
+mod short_texts;
+#[cfg(test)]
+mod verdict;
