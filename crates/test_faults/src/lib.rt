@@ -34,6 +34,8 @@ mod refused_sums;
 #[cfg(test)]
 mod refused_tables;
 #[cfg(test)]
+mod slow_readers;
+#[cfg(test)]
 mod told;
 #[cfg(test)]
 mod walks;

@@ -16,6 +16,8 @@ mod deep_tables;
 #[cfg(test)]
 mod deep_texts;
 pub mod every_call;
+#[cfg(test)]
+mod large_texts;
 pub mod lines;
 #[cfg(test)]
 mod long_texts;
