@@ -4,7 +4,7 @@ import subprocess
 import sys
 
 READING = "tokei_count::"
-CALLER = "bench_count::"
+CALLERS = ("bench_count::", "tokei_bench_count::")  # the second was its name before 2026-11-26
 
 
 def reading_cost(path):
@@ -19,7 +19,7 @@ def reading_cost(path):
                 caller, callee = (name, "") if word == "fn" else (caller, name)
             elif word == "calls":
                 spent = int(next(lines).split()[-1])
-                cost += spent if caller.startswith(CALLER) and callee.startswith(READING) else 0
+                cost += spent if caller.startswith(CALLERS) and callee.startswith(READING) else 0
     return cost
 
 
