@@ -2,7 +2,6 @@
 use crate::answers::Answers;
 use crate::configurations::configuration;
 use crate::error::RowError;
-use crate::given_languages::language_named;
 use crate::row::Row;
 use crate::shown_languages::put_report;
 use crate::subject::Members;
@@ -77,7 +76,9 @@ fn parsed(
     language: &str,
 ) -> Result<Result<Report, (ParseFault, String)>, RowError> {
     let config = configuration(alloc, table, row)?;
-    let language = language_named(table, language)?;
+    let Some(language) = LanguageType::from_name(table, language) else {
+        return Err(RowError::Kind("language", "a language of the table"));
+    };
     let counter = Counter::new(alloc, table)?;
     let path = String::from_str(alloc, row.text("path")?)?;
     Ok(parse_file(alloc, &counter, language, folders, path, &config))
