@@ -7,7 +7,9 @@ use crate::trees::folders_of;
 use crate::world::{World, own_table};
 use std::alloc::{AllocError, Global};
 use std::collections::BTreeMap;
-use tokei::{Config, ConfigDirs, FailingFolders, Folders, LanguageConfig, LanguageTable, LanguageType};
+use tokei::{
+    Config, ConfigDirs, FailingFolders, Folders, LanguageConfig, LanguageTable, LanguageType,
+};
 use toml::Value;
 
 /// The members of these rows. `configuration` has all members of a configuration as its `Debug` shows them; `languages` and

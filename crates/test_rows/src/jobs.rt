@@ -2,7 +2,10 @@
 use crate::error::RowError;
 use crate::row::Row;
 use std::alloc::Global;
-use tokei::{Config, Format, InputError, Job, LanguageTable, Languages, NumberFormatStyle, Sort, Streaming, Wanted};
+use tokei::{
+    Config, Format, InputError, Job, LanguageTable, Languages, NumberFormatStyle, Sort, Streaming,
+    Wanted,
+};
 
 /// A form of output.
 #[derive(Clone, Copy)]
