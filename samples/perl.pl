@@ -1,4 +1,4 @@
-# 25 lines 8 code 13 comments 4 blanks
+# 29 lines 10 code 15 comments 4 blanks
 # for people who read
 =pod
 a page
@@ -23,3 +23,7 @@ $t = <<EOT;
 # text
 EOT
 $h = 1;
+$b = "=item";
+# c
+$c = /^=begin/;
+# d
