@@ -1,4 +1,4 @@
-# 29 lines 10 code 15 comments 4 blanks
+# 31 lines 11 code 16 comments 4 blanks
 # for people who read
 =pod
 a page
@@ -27,3 +27,5 @@ $b = "=item";
 # c
 $c = /^=begin/;
 # d
+s/=head1//;
+# e
