@@ -1,4 +1,4 @@
-// 8 lines 4 code 3 comments 1 blanks
+// 14 lines 8 code 5 comments 1 blanks
 /* a block /* in a block */
    and its end */
 
@@ -6,3 +6,9 @@ main(): Int64 {
     println("// no comment") // said once
     return 0
 }
+let raw = #"a " /* b"#
+// a
+let text = """
+  /* "b
+  """
+// b

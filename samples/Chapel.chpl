@@ -1,4 +1,4 @@
-// 8 lines 4 code 3 comments 1 blanks
+// 11 lines 6 code 4 comments 1 blanks
 /* a block /* in a block */
    and its end */
 
@@ -6,3 +6,6 @@ config const n = 3;
 for i in 1..n do
   writeln("/* no comment ", i); // said n times
 writeln('// done');
+var raw = """
+  /* \""";
+// a

@@ -1,4 +1,4 @@
-// 9 lines 4 code 4 comments 1 blanks
+// 11 lines 5 code 5 comments 1 blanks
 /* a block /* in a block */
    and its end */
 
@@ -6,4 +6,6 @@ define method greet () => ();
   format-out("// no comment"); // said once
 end method;
 define constant $mark = '"';
+// a
+define constant $path = #r"C:\";
 // a

@@ -1,4 +1,4 @@
-# 25 lines 8 code 13 comments 4 blanks
+# 31 lines 11 code 16 comments 4 blanks
 # for people who read
 =pod
 a page
@@ -23,3 +23,9 @@ $t = <<EOT;
 # text
 EOT
 $h = 1;
+$b = "=item";
+# c
+$c = /^=begin/;
+# d
+s/=head1//;
+# e
