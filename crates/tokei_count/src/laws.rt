@@ -3,7 +3,7 @@ ghost use Rattle.std.specs.Prelude.{◌<◌, ◌^◌, length};
 ghost use Rattle.tokei_count.specs.PartLaw.{UnwalkedPartsStayPlain};
 ghost use Rattle.tokei_count.specs.QuietLaw.{QuietTextsTakeNoSteps};
 ghost use Rattle.tokei_count.specs.Spelling.{ItemsSpellText, TextsAreSpelled};
-ghost use Rattle.tokei_count.specs.StepLaw.{OpeningsStepsWork};
+ghost use Rattle.tokei_count.specs.StepLaw.{OpeningsStepsWork, SkippingTakesNoMoreSteps};
 ghost use Rattle.tokei_count.specs.WeightLaws.{LightReadingsFit, LinesWithinWeight, ShortReadingsFit};
 ghost use Rattle.tokei_count.specs.WeightLaws.{StepsWithinWeight, WeightIsLength};
 
@@ -25,6 +25,11 @@ pub fn unwalked_parts_stay_plain()
 /// The steps of a text are at least its openings and at most its work, through all children.
 pub fn steps_lie_between()
     ensures { OpeningsStepsWork }
+{}
+
+/// A reading that skips takes at most the steps of the plain reading, through all children.
+pub fn skipping_takes_no_more_steps()
+    ensures { SkippingTakesNoMoreSteps }
 {}
 
 /// A text that isn't a notebook and holds no opener takes no steps.

@@ -14,8 +14,8 @@ use Rattle.tokei_table_row.specs.Counts.{Counts, plus, no_lines}
 use Rattle.tokei_parts.specs.declared.class.Class.{Class}
 use Rattle.tokei_table.specs.Openers.{openers}
 use Rattle.tokei_table.specs.Row.{Row}
-use Rattle.tokei_parts.specs.Glance.{is_walked}
-use Rattle.tokei_parts.specs.Running.{choices_passed}
+use Rattle.tokei_parts.specs.Glance.{walks}
+use Rattle.tokei_parts.specs.Running.{choices_made}
 use Rattle.tokei_table.specs.Sound.{IsSound}
 
 first_by : (x : Bool) (n k m : ℕ) (b : ℕ) (t : List ℕ) → (n < m → length t ≡ n + 1) → (m ≤ n → length t ≡ n) → cond x 0 (suc n) < suc m → length (cond x (b ∷ []) (b ∷ t)) ≡ cond x 0 (suc n) + 1
@@ -69,8 +69,8 @@ module _ (g : Row) (block : ℕ → List ℕ → Option Block) (l : ℕ) (docs_a
     closable = k;
     counts = ap (tally g docs_are_comments) (line_done g block l c d b t s o (top_closed d k) f) ∙ ap (λ w. plus (one_of w) (counts_left g block l docs_are_comments d (drop (length (first_line (b ∷ t))) (b ∷ t)))) (sym e);
     kids = line_kids g block l c d b t s o (top_closed d k) f;
-    steps = ap (choices_passed (openers g)) (line_choices g block l c d b t s o (top_closed d k) j f)
-        ∙ ap (λ w. cond (is_walked (openers g) (innermost c) w) (j + newlines (b ∷ t)) 0 + steps_left g block l d (drop (length (first_line (b ∷ t))) (b ∷ t))) (sym (take-first (b ∷ t)));
+    steps = λ skips. ap (choices_made skips (openers g)) (line_choices g block l c d b t s o (top_closed d k) j f)
+        ∙ ap (λ w. cond (walks skips (openers g) (innermost c) w) (j + newlines (b ∷ t)) 0 + steps_left g block l skips d (drop (length (first_line (b ∷ t))) (b ∷ t))) (sym (take-first (b ∷ t)));
   }
 
   -- nothing is left behind the text

@@ -9,8 +9,8 @@ use Rattle.tokei_parts.specs.Choice.{choice}
 use Rattle.tokei_parts.specs.Choice.Choice.{child_opens}
 use Rattle.tokei_parts.specs.Items.{Mode}
 use Rattle.tokei_parts.specs.Lines.{first_line, line_len}
-use Rattle.tokei_parts.specs.Glance.{is_walked}
-use Rattle.tokei_parts.specs.Running.{choices_passed, running}
+use Rattle.tokei_parts.specs.Glance.{walks}
+use Rattle.tokei_parts.specs.Running.{choices_made, running}
 use Rattle.tokei_parts.specs.Modes.{Mark, Chain, innermost}
 use Rattle.tokei_parts.specs.Modes.Mark.{child_at}
 use Rattle.tokei_parts.specs.Parts.{cut}
@@ -69,9 +69,9 @@ module _ (g : Row) (block : ℕ → List ℕ → Option Block) (fit : FitsBlocks
         plain = o.after;
         counts = ap (tally g docs_are_comments) (lead.same (innermost c) []) ∙ ap (λ ms. tally g docs_are_comments (cut (innermost c) (take n t) None ms)) opened ∙ cut_child c (take n t) k after;
         kids = lead.kids ∙ ap children opened;
-        steps = ap (choices_passed (openers g)) (lead.choices (innermost c) [] 0 ∙ ap (λ x. running (innermost c) (take n t) x (drop n t) (marks_ahead g block l [] (drop n t))) none ∙ ap (running (innermost c) (take n t) j (drop n t)) opened ∙ running_child (innermost c) (take n t) j (drop n t) k after)
-            ∙ ap (λ w. cond (is_walked (openers g) (innermost c) w) j 0 + choices_passed (openers g) (running None [] 0 (drop k.size (drop n t)) after)) (line_from n t lead.within)
-            ∙ ap (λ w. cond (is_walked (openers g) (innermost c) (first_line t)) j 0 + choices_passed (openers g) (running None [] 0 w after)) rest;
+        steps = λ skips. ap (choices_made skips (openers g)) (lead.choices (innermost c) [] 0 ∙ ap (λ x. running (innermost c) (take n t) x (drop n t) (marks_ahead g block l [] (drop n t))) none ∙ ap (running (innermost c) (take n t) j (drop n t)) opened ∙ running_child (innermost c) (take n t) j (drop n t) k after)
+            ∙ ap (λ w. cond (walks skips (openers g) (innermost c) w) j 0 + choices_made skips (openers g) (running None [] 0 (drop k.size (drop n t)) after)) (line_from n t lead.within)
+            ∙ ap (λ w. cond (walks skips (openers g) (innermost c) (first_line t)) j 0 + choices_made skips (openers g) (running None [] 0 w after)) rest;
       }
 
   -- the same by places of the text

@@ -13,6 +13,10 @@ holds openers t = is_some (first_opener openers t)
 abbrev pub is_walked : List (List ℕ) → Mode → List ℕ → Bool
 is_walked openers begun reach = not (is_plain begun) || holds openers reach
 
+-- A reading that skips walks such parts alone, and one that doesn't skip walks them all.
+abbrev pub walks : Bool → List (List ℕ) → Mode → List ℕ → Bool
+walks skips openers begun reach = not skips || is_walked openers begun reach
+
 -- where the first opener stands, or the end of the bytes where none does
 abbrev pub opener_place : List (List ℕ) → List ℕ → ℕ
 opener_place openers t = unwrap_or (first_opener openers t) (length t)

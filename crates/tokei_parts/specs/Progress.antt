@@ -12,8 +12,8 @@ use Rattle.tokei_parts.specs.Choice.Choice.{child_opens}
 use Rattle.tokei_parts.specs.Derivation.{Body, derive}
 use Rattle.tokei_parts.specs.Modes.{Mark, Chain, innermost, marks, closing}
 use Rattle.tokei_parts.specs.Parts.{cut, part_front}
-use Rattle.tokei_parts.specs.Glance.{is_walked}
-use Rattle.tokei_parts.specs.Running.{running, choices_passed}
+use Rattle.tokei_parts.specs.Glance.{walks}
+use Rattle.tokei_parts.specs.Running.{running, choices_made}
 use Rattle.tokei_table_row.specs.Counts.{Counts, plus}
 use Rattle.tokei_parts.specs.Tally.{tally, one_of, children}
 use Rattle.tokei_parts.specs.declared.class.Class.{Class}
@@ -72,9 +72,9 @@ module _ (r : Row) (block : ℕ → List ℕ → Option Block) (l : ℕ) where
   abbrev pub children_left : Chain → List ℕ → List Block
   children_left c t = children (marks_ahead r block l c t)
 
-  -- the choices that are left in walked parts, given these items
-  abbrev pub steps_left : Chain → List ℕ → ℕ
-  steps_left c t = choices_passed (openers r) (running (innermost c) [] 0 t (marks_ahead r block l c t))
+  -- the choices that are left in the parts that a reading walks, which skips the others or not, given these items
+  abbrev pub steps_left : Bool → Chain → List ℕ → ℕ
+  steps_left skips c t = choices_made skips (openers r) (running (innermost c) [] 0 t (marks_ahead r block l c t))
 
   -- One line: n bytes. It is one part, of this class, in which j choices begin, and the text goes on from d.
   pub record ReadsLine (docs_are_comments : Bool) (c : Chain) (n j : ℕ) (class : Class) (d : Chain)
@@ -84,8 +84,8 @@ module _ (r : Row) (block : ℕ → List ℕ → Option Block) (l : ℕ) where
     pub closable : IsClosable d
     pub counts : counts_left docs_are_comments c t ≡ plus (one_of class) (counts_left docs_are_comments d (drop n t))
     pub kids : children_left c t ≡ children_left d (drop n t)
-    pub steps : steps_left c t
-        ≡ (if is_walked (openers r) (innermost c) (take n t) then j else 0) + steps_left d (drop n t)
+    pub steps : (skips : Bool) → steps_left skips c t
+        ≡ (if walks skips (openers r) (innermost c) (take n t) then j else 0) + steps_left skips d (drop n t)
 
   -- A part that a child breaks off: the child k opens behind n bytes, at which j choices begin, in plain text, and the
   -- text goes on behind it.
@@ -98,8 +98,9 @@ module _ (r : Row) (block : ℕ → List ℕ → Option Block) (l : ℕ) where
         ≡ tally r docs_are_comments
         (cut None [] None (marks_ahead r block (length t - (n + k.size)) [] (drop (n + k.size) t)))
     pub kids : children_left c t ≡ k ∷ children (marks_ahead r block (length t - (n + k.size)) [] (drop (n + k.size) t))
-    pub steps : steps_left c t ≡ (if is_walked (openers r) (innermost c) (first_line t) then j else 0)
-        + choices_passed (openers r) (running None [] 0 (drop (n + k.size) t)
+    pub steps : (skips : Bool) → steps_left skips c t
+        ≡ (if walks skips (openers r) (innermost c) (first_line t) then j else 0)
+        + choices_made skips (openers r) (running None [] 0 (drop (n + k.size) t)
         (marks_ahead r block (length t - (n + k.size)) [] (drop (n + k.size) t)))
 
   -- the child k opens at the front of the text, which is plain there

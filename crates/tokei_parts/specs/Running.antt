@@ -1,7 +1,7 @@
 -- The stretches as the walk passes them, with how many choices began so far.
-use Rattle.std.specs.Prelude.{ℕ, ◌+◌, ◌==◌, if◌then◌else◌, List, [], ◌∷◌, ◌++◌, length, drop, None}
+use Rattle.std.specs.Prelude.{ℕ, ◌+◌, Bool, true, ◌==◌, if◌then◌else◌, List, [], ◌∷◌, ◌++◌, length, drop, None}
 use Rattle.tokei_table.specs.Bytes.{newline}
-use Rattle.tokei_parts.specs.Glance.{is_walked}
+use Rattle.tokei_parts.specs.Glance.{walks}
 use Rattle.tokei_parts.specs.Items.{Mode}
 use Rattle.tokei_parts.specs.Lines.{first_line}
 use Rattle.tokei_parts.specs.Modes.{Mark, innermost}
@@ -30,7 +30,11 @@ running m s n t (child_at k ∷ ms) =
     record { begun = m; reach = s ++ first_line t; size = length s; choices = n }
     ∷ running None [] 0 (drop k.size t) ms
 
--- the choices of those that are walked
+-- the choices of those that a reading walks, which skips the others or not
+abbrev pub choices_made : Bool → List (List ℕ) → List Passed → ℕ
+choices_made skips os [] = 0
+choices_made skips os (s ∷ ss) = (if walks skips os s.begun s.reach then s.choices else 0) + choices_made skips os ss
+
+-- of those that are walked by a reading that skips
 abbrev pub choices_passed : List (List ℕ) → List Passed → ℕ
-choices_passed os [] = 0
-choices_passed os (s ∷ ss) = (if is_walked os s.begun s.reach then s.choices else 0) + choices_passed os ss
+choices_passed = choices_made true
