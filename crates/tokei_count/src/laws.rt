@@ -2,6 +2,7 @@
 ghost use Rattle.std.specs.Prelude.{◌<◌, ◌^◌, length};
 ghost use Rattle.tokei_count.specs.PartLaw.{UnwalkedPartsStayPlain};
 ghost use Rattle.tokei_count.specs.QuietLaw.{QuietTextsTakeNoSteps};
+ghost use Rattle.tokei_count.specs.ReadingLaws.{ReadingsAreShallow, ReadingsKnowTheirLanguages};
 ghost use Rattle.tokei_count.specs.Spelling.{ItemsSpellText, TextsAreSpelled};
 ghost use Rattle.tokei_count.specs.StepLaw.{OpeningsStepsWork, SkippingTakesNoMoreSteps};
 ghost use Rattle.tokei_count.specs.WeightLaws.{LightReadingsFit, LinesWithinWeight, ShortReadingsFit};
@@ -60,6 +61,16 @@ pub fn weight_is_length()
 /// Without notebooks a reading fits the code's numbers wherever the length of its text does.
 pub fn short_readings_fit()
     ensures { ShortReadingsFit }
+{}
+
+/// A reading holds no more levels of blobs than there are levels to read.
+pub fn readings_are_shallow()
+    ensures { ReadingsAreShallow }
+{}
+
+/// The blobs of a reading in a language of the table are of its languages alone, at every depth.
+pub fn readings_know_their_languages()
+    ensures { ReadingsKnowTheirLanguages }
 {}
 
 /// A text has fewer than 2^64 bytes.
