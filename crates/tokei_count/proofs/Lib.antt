@@ -9,6 +9,7 @@ pub mod GlanceReading
 pub mod Glancing
 pub mod HeavyBlocks
 pub mod KnownLanguages
+pub mod KnownReadings
 pub mod LineWeight
 pub mod LoadedMarks
 pub mod Loads
@@ -17,6 +18,7 @@ pub mod OpeningsAhead
 pub mod QuietBlocks
 pub mod QuietSteps
 pub mod Running
+pub mod ShallowReadings
 pub mod SpelledItems
 pub mod StepReading
 pub mod StepWeight

@@ -9,8 +9,8 @@ use Rattle.tokei_parts.specs.Items.{Items, Mode}
 use Rattle.tokei_parts.specs.Lines.{first_line}
 use Rattle.tokei_parts.specs.Modes.{Mark, innermost, marks}
 use Rattle.tokei_parts.specs.Modes.Mark.{byte_at, child_at}
-use Rattle.tokei_parts.specs.Running.{Passed, running, choices_passed}
-use Rattle.tokei_count.specs.Steps.{own_steps, walked_choices}
+use Rattle.tokei_parts.specs.Running.{Passed, running, choices_made, choices_passed}
+use Rattle.tokei_count.specs.Steps.{own_steps, own_steps_by, all_choices, walked_choices}
 use Rattle.tokei_parts.specs.Stretches.{Stretch, stretches, bytes_of, choices_of, one_if}
 
 -- the stretch, as the walk passes it
@@ -66,6 +66,16 @@ choices-passed os (s ∷ ss) = ap (λ n. cond (is_walked os s.begun s.reach) (ch
 pub own_steps-running : (r : Row) (t : List ℕ) (is : Items) → own_steps r t is ≡ choices_passed (openers r) (running None [] 0 t (marks [] is))
 own_steps-running r t is =
     choices-passed (openers r) (stretches None [] t (marks [] is)) ∙ ap (choices_passed (openers r)) (sym (running-is None [] t (marks [] is)))
+
+choices-all : (os : List (List ℕ)) (ss : List Stretch) → all_choices ss ≡ choices_made false os (map passed_of ss)
+choices-all os [] = refl
+choices-all os (s ∷ ss) = ap (λ n. choices_of s.own + n) (choices-all os ss)
+
+-- and those that a reading makes, which skips or not
+pub own_steps_by-running : (skips : Bool) (r : Row) (t : List ℕ) (is : Items) → own_steps_by skips r t is ≡ choices_made skips (openers r) (running None [] 0 t (marks [] is))
+own_steps_by-running true r t is = own_steps-running r t is
+own_steps_by-running false r t is =
+    choices-all (openers r) (stretches None [] t (marks [] is)) ∙ ap (choices_made false (openers r)) (sym (running-is None [] t (marks [] is)))
 
 -- what holds of each stretch that was passed
 pub each-stretch : (P : Passed → Type 0) (ss : List Stretch) → AllByRecursion P (map passed_of ss) → AllByRecursion (λ s. P (passed_of s)) ss

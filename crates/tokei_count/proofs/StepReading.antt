@@ -6,7 +6,7 @@ use Rattle.tokei_table.specs.FirstOpener.{first_opener}
 use Rattle.tokei_table.specs.Lookups.{row_at}
 use Rattle.tokei_table.specs.Openers.{openers}
 use Rattle.tokei_table.specs.Row.{Row}
-use Rattle.tokei_parts.specs.Glance.{holds, is_walked, opener_place}
+use Rattle.tokei_parts.specs.Glance.{holds, is_walked, opener_place, walks}
 use Rattle.tokei_parts.specs.Glanced.{AreInLine, Knows}
 use Rattle.tokei_parts.specs.Items.{Block}
 use Rattle.tokei_count.specs.Languages.{is_notebook}
@@ -21,14 +21,14 @@ use Rattle.tokei_parts.specs.Progress.{marks_ahead, children_left, steps_left, I
 use Rattle.tokei_parts.proofs.Leading.{line_len-drop}
 use Rattle.tokei_parts.proofs.LineEnds.{below_or}
 use Rattle.tokei_parts.proofs.PartFronts.{line_len_within, part_on, part_anew}
-use Rattle.tokei_count.specs.Steps.{own_steps, items_in, children_in, sum_over, with_children, steps, child_steps, capped}
-use Rattle.tokei_parts.specs.Running.{choices_passed, running}
+use Rattle.tokei_count.specs.Steps.{own_steps_by, items_in, children_in, sum_over, with_children, made_steps, child_steps, capped}
+use Rattle.tokei_parts.specs.Running.{choices_made, running}
 use Rattle.tokei_parts.specs.declared.class.Class.{Class}
 use Rattle.tokei_parts.specs.declared.class.Class.TheVariants.{Blank, Code, Comment}
 use Rattle.tokei_stats.specs.Statistics.{Counts, plus, lines_of}
 use Rattle.tokei_parts.proofs.Ahead.{marks_ahead-end}
 use Rattle.tokei_parts.proofs.Lines.{children_left-none, length-whole, length-broken, first_some}
-use Rattle.tokei_count.proofs.Running.{own_steps-running}
+use Rattle.tokei_count.proofs.Running.{own_steps_by-running}
 use Rattle.tokei_parts.proofs.OpenersInLines.{below, holds-line, none_next, place-later}
 
 abbrev pub most : ℕ
@@ -114,7 +114,7 @@ sum_none : (f : Block → ℕ) → ((k : Block) → f k ≡ 0) → (ks : List Bl
 sum_none f h [] = refl
 sum_none f h (k ∷ ks) = omega (arith, h k, sum_none f h ks)
 
-module _ (rows : List Row) (levels language : ℕ) (text : List ℕ) where
+module _ (skips : Bool) (rows : List Row) (levels language : ℕ) (text : List ℕ) where
   abbrev g : Row
   g = row_at rows language
 
@@ -122,130 +122,88 @@ module _ (rows : List Row) (levels language : ℕ) (text : List ℕ) where
   block = blocks (languages_of rows) levels language text
 
   abbrev inner_of : List Block → ℕ
-  inner_of = sum_over (child_steps (languages_of rows) levels)
+  inner_of = sum_over (child_steps skips (languages_of rows) levels)
 
   abbrev all_kids : List Block
   all_kids = children_left g block (length text) [] text
 
   -- the steps so far and those that are left are all
   pub record AreUnderWay (made more l : ℕ) (c : Chain) (rest : List ℕ) : Type 0 where
-    pub own : made + (steps_left g block l c rest + length (children_left g block l c rest)) ≡ steps_left g block (length text) [] text + length all_kids
+    pub own : made + (steps_left g block l skips c rest + length (children_left g block l c rest)) ≡ steps_left g block (length text) skips [] text + length all_kids
     pub inner : capped (more + inner_of (children_left g block l c rest)) ≡ capped (inner_of all_kids)
 
-  pub steps-lines : is_notebook g ≡ false → steps (languages_of rows) levels language text ≡ steps_left g block (length text) [] text + length all_kids + inner_of all_kids
+  pub steps-lines : is_notebook g ≡ false → made_steps skips (languages_of rows) levels language text ≡ steps_left g block (length text) skips [] text + length all_kids + inner_of all_kids
   unfolding with_children marks_ahead
   steps-lines h = by_levels levels h
     where
       by_levels : (n : ℕ) → is_notebook (row_at rows language) ≡ false
-          → steps (languages_of rows) n language text
-          ≡ steps_left (row_at rows language) (blocks (languages_of rows) n language text)
-          (length text) [] text
-          + length (children_left (row_at rows language)
-          (blocks (languages_of rows) n language text) (length text) [] text)
-          + sum_over (child_steps (languages_of rows) n)
-          (children_left (row_at rows language)
-          (blocks (languages_of rows) n language text) (length text) [] text)
+          → made_steps skips (languages_of rows) n language text ≡ steps_left (row_at rows language) (blocks (languages_of rows) n language text) (length text) skips [] text + length (children_left (row_at rows language) (blocks (languages_of rows) n language text) (length text) [] text) + sum_over (child_steps skips (languages_of rows) n) (children_left (row_at rows language) (blocks (languages_of rows) n language text) (length text) [] text)
       by_levels zero h =
-          let none = sum_none (child_steps (languages_of rows) zero) (λ k. refl) (children_in (languages_of rows) zero language text) in
-          ap (λ x. cond x 0 (own_steps (row_at rows language) text (items_in (languages_of rows) zero language text) + length (children_in (languages_of rows) zero language text))) h
-          ∙ omega (arith, none, own_steps-running (row_at rows language) text (items_in (languages_of rows) zero language text))
-      by_levels (suc n) h =
-          ap
-          (λ x. cond x
-          (sum_over (λ k. steps (languages_of rows) n k.language k.contents)
-          (cell_blocks rows language text))
-          (own_steps (row_at rows language) text
-          (items_in (languages_of rows) (suc n) language text)
-          + length (children_in (languages_of rows) (suc n) language text)
-          + sum_over (λ k. steps (languages_of rows) n k.language k.contents)
-          (children_in (languages_of rows) (suc n) language text)))
-          h
-          ∙ ap
-          (λ m. m + length (children_in (languages_of rows) (suc n) language text)
-          + sum_over (λ k. steps (languages_of rows) n k.language k.contents)
-          (children_in (languages_of rows) (suc n) language text))
-          (own_steps-running (row_at rows language) text
-          (items_in (languages_of rows) (suc n) language text))
+          let none = sum_none (child_steps skips (languages_of rows) zero) (λ k. refl) (children_in (languages_of rows) zero language text) in
+          ap (λ x. cond x 0 (own_steps_by skips (row_at rows language) text (items_in (languages_of rows) zero language text) + length (children_in (languages_of rows) zero language text))) h
+          ∙ omega (arith, none, own_steps_by-running skips (row_at rows language) text (items_in (languages_of rows) zero language text))
+      by_levels (suc n) h = ap (λ x. cond x (sum_over (λ k. made_steps skips (languages_of rows) n k.language k.contents) (cell_blocks rows language text)) (own_steps_by skips (row_at rows language) text (items_in (languages_of rows) (suc n) language text) + length (children_in (languages_of rows) (suc n) language text) + sum_over (λ k. made_steps skips (languages_of rows) n k.language k.contents) (children_in (languages_of rows) (suc n) language text))) h
+          ∙ ap (λ m. m + length (children_in (languages_of rows) (suc n) language text) + sum_over (λ k. made_steps skips (languages_of rows) n k.language k.contents) (children_in (languages_of rows) (suc n) language text)) (own_steps_by-running skips (row_at rows language) text (items_in (languages_of rows) (suc n) language text))
 
   -- a notebook, with levels left or none
-  pub steps-notebook : is_notebook g ≡ true → 0 < levels → steps (languages_of rows) levels language text ≡ inner_of (cell_blocks rows language text)
+  pub steps-notebook : is_notebook g ≡ true → 0 < levels → made_steps skips (languages_of rows) levels language text ≡ inner_of (cell_blocks rows language text)
   unfolding with_children
   steps-notebook h some = by_levels levels some h
     where
-      by_levels : (n : ℕ) → 0 < n → is_notebook (row_at rows language) ≡ true
-          → steps (languages_of rows) n language text
-          ≡ sum_over (child_steps (languages_of rows) n) (cell_blocks rows language text)
+      by_levels : (n : ℕ) → 0 < n → is_notebook (row_at rows language) ≡ true → made_steps skips (languages_of rows) n language text ≡ sum_over (child_steps skips (languages_of rows) n) (cell_blocks rows language text)
       by_levels zero some h = absurd (omega (arith, some))
-      by_levels (suc n) some h =
-          ap
-          (λ x. cond x
-          (sum_over (λ k. steps (languages_of rows) n k.language k.contents)
-          (cell_blocks rows language text))
-          (own_steps (row_at rows language) text
-          (items_in (languages_of rows) (suc n) language text)
-          + length (children_in (languages_of rows) (suc n) language text)
-          + sum_over (λ k. steps (languages_of rows) n k.language k.contents)
-          (children_in (languages_of rows) (suc n) language text)))
-          h
+      by_levels (suc n) some h = ap (λ x. cond x (sum_over (λ k. made_steps skips (languages_of rows) n k.language k.contents) (cell_blocks rows language text)) (own_steps_by skips (row_at rows language) text (items_in (languages_of rows) (suc n) language text) + length (children_in (languages_of rows) (suc n) language text) + sum_over (λ k. made_steps skips (languages_of rows) n k.language k.contents) (children_in (languages_of rows) (suc n) language text))) h
 
-  pub steps-no_notebook : is_notebook g ≡ true → levels ≡ 0 → steps (languages_of rows) levels language text ≡ 0
+  pub steps-no_notebook : is_notebook g ≡ true → levels ≡ 0 → made_steps skips (languages_of rows) levels language text ≡ 0
   unfolding with_children
   steps-no_notebook h none_left = by_levels levels none_left h
     where
-      by_levels : (n : ℕ) → n ≡ 0 → is_notebook (row_at rows language) ≡ true → steps (languages_of rows) n language text ≡ 0
-      by_levels zero e h = ap (λ x. cond x 0 (own_steps (row_at rows language) text (items_in (languages_of rows) zero language text) + length (children_in (languages_of rows) zero language text))) h
+      by_levels : (n : ℕ) → n ≡ 0 → is_notebook (row_at rows language) ≡ true → made_steps skips (languages_of rows) n language text ≡ 0
+      by_levels zero e h = ap (λ x. cond x 0 (own_steps_by skips (row_at rows language) text (items_in (languages_of rows) zero language text) + length (children_in (languages_of rows) zero language text))) h
       by_levels (suc n) e h = absurd (omega (arith, e))
 
-  steps_left-none : (l : ℕ) (c : Chain) → steps_left g block l c [] ≡ 0
+  steps_left-none : (l : ℕ) (c : Chain) → steps_left g block l skips c [] ≡ 0
   unfolding running
-  steps_left-none l c = ap (λ ms. choices_passed (openers g) (running (innermost c) [] 0 [] ms)) (marks_ahead-end g block l c)
+  steps_left-none l c = ap (λ ms. choices_made skips (openers g) (running (innermost c) [] 0 [] ms)) (marks_ahead-end g block l c)
 
   -- at the end nothing is left
-  pub steps_whole : (own inner l : ℕ) (c : Chain) → is_notebook g ≡ false → AreUnderWay own inner l c [] → capped (inner + own) ≡ capped (steps (languages_of rows) levels language text)
+  pub steps_whole : (own inner l : ℕ) (c : Chain) → is_notebook g ≡ false → AreUnderWay own inner l c [] → capped (inner + own) ≡ capped (made_steps skips (languages_of rows) levels language text)
   steps_whole own inner l c n u =
       let no_kids : children_left g block l c [] ≡ [] = children_left-none g block l false c in
-      let own_is : own ≡ steps_left g block (length text) [] text + length all_kids = omega (arith, u.own, steps_left-none l c, ap length no_kids) in
+      let own_is : own ≡ steps_left g block (length text) skips [] text + length all_kids = omega (arith, u.own, steps_left-none l c, ap length no_kids) in
       let bare : inner ≡ inner + 0 = omega arith in
       let inner_is : capped inner ≡ capped (inner_of all_kids) = ap capped bare ∙ ap (λ ks. capped (inner + inner_of ks)) (sym no_kids) ∙ u.inner in
-      let all : inner_of all_kids + own ≡ steps (languages_of rows) levels language text = omega (arith, own_is, steps-lines n) in
+      let all : inner_of all_kids + own ≡ made_steps skips (languages_of rows) levels language text = omega (arith, own_is, steps-lines n) in
       sym (capped-left inner own) ∙ ap (λ m. capped (m + own)) inner_is ∙ capped-left (inner_of all_kids) own ∙ ap capped all
 
   module _ (own inner l : ℕ) (c : Chain) (rest : List ℕ) (u : AreUnderWay own inner l c rest) where
     -- a line that is walked
-    pub line_steps : (docs_are_comments : Bool) (n j : ℕ) (class : Class) (d : Chain)
-        → ReadsLine g block l docs_are_comments c n j class d rest
-        → is_walked (openers g) (innermost c) (take n rest) ≡ true
-        → AreUnderWay (own + j) inner l d (drop n rest)
+    pub line_steps : (docs_are_comments : Bool) (n j : ℕ) (class : Class) (d : Chain) → ReadsLine g block l docs_are_comments c n j class d rest → walks skips (openers g) (innermost c) (take n rest) ≡ true → AreUnderWay (own + j) inner l d (drop n rest)
     line_steps docs_are_comments n j class d r walked =
-        let here : steps_left g block l c rest ≡ j + steps_left g block l d (drop n rest) = r.steps ∙ ap (λ x. cond x j 0 + steps_left g block l d (drop n rest)) walked in
+        let here : steps_left g block l skips c rest ≡ j + steps_left g block l skips d (drop n rest) = r.steps skips ∙ ap (λ x. cond x j 0 + steps_left g block l skips d (drop n rest)) walked in
         record {
           own = omega (arith, u.own, here, ap length r.kids);
           inner = ap (λ ks. capped (inner + inner_of ks)) (sym r.kids) ∙ u.inner;
         }
 
     -- a line that isn't
-    pub line_skipped : (docs_are_comments : Bool) (n j : ℕ) (class : Class) (d : Chain)
-        → ReadsLine g block l docs_are_comments c n j class d rest
-        → is_walked (openers g) (innermost c) (take n rest) ≡ false
-        → AreUnderWay own inner l d (drop n rest)
+    pub line_skipped : (docs_are_comments : Bool) (n j : ℕ) (class : Class) (d : Chain) → ReadsLine g block l docs_are_comments c n j class d rest → walks skips (openers g) (innermost c) (take n rest) ≡ false → AreUnderWay own inner l d (drop n rest)
     line_skipped docs_are_comments n j class d r walked =
-        let here : steps_left g block l c rest ≡ 0 + steps_left g block l d (drop n rest) = r.steps ∙ ap (λ x. cond x j 0 + steps_left g block l d (drop n rest)) walked in
+        let here : steps_left g block l skips c rest ≡ 0 + steps_left g block l skips d (drop n rest) = r.steps skips ∙ ap (λ x. cond x j 0 + steps_left g block l skips d (drop n rest)) walked in
         record {
           own = omega (arith, u.own, here, ap length r.kids);
           inner = ap (λ ks. capped (inner + inner_of ks)) (sym r.kids) ∙ u.inner;
         }
 
     -- a part that a child breaks off, and the child
-    pub broken_steps : (docs_are_comments : Bool) (n j : ℕ) (k : Block) (d : Chain)
-        → ReadsChild g block l docs_are_comments c n j k d rest
-        → is_walked (openers g) (innermost c) (first_line rest) ≡ true
-        → AreUnderWay (own + (j + 1)) (capped (inner + capped (child_steps (languages_of rows) levels k))) (length rest - (n + k.size)) [] (drop (n + k.size) rest)
+    pub broken_steps : (docs_are_comments : Bool) (n j : ℕ) (k : Block) (d : Chain) → ReadsChild g block l docs_are_comments c n j k d rest → walks skips (openers g) (innermost c) (first_line rest) ≡ true
+        → AreUnderWay (own + (j + 1)) (capped (inner + capped (child_steps skips (languages_of rows) levels k))) (length rest - (n + k.size)) [] (drop (n + k.size) rest)
     broken_steps docs_are_comments n j k d r walked =
         let l' : ℕ = length rest - (n + k.size) in
         let behind : List ℕ = drop (n + k.size) rest in
         let kids : List Block = children_left g block l' [] behind in
-        let one : ℕ = child_steps (languages_of rows) levels k in
-        let here : steps_left g block l c rest ≡ j + steps_left g block l' [] behind = r.steps ∙ ap (λ x. cond x j 0 + steps_left g block l' [] behind) walked in
+        let one : ℕ = child_steps skips (languages_of rows) levels k in
+        let here : steps_left g block l skips c rest ≡ j + steps_left g block l' skips [] behind = r.steps skips ∙ ap (λ x. cond x j 0 + steps_left g block l' skips [] behind) walked in
         let all : inner + one + inner_of kids ≡ inner + inner_of (k ∷ kids) = omega arith in
         record {
           own = omega (arith, u.own, here, ap length r.kids);
@@ -255,9 +213,9 @@ module _ (rows : List Row) (levels language : ℕ) (text : List ℕ) where
               ∙ ap (λ ks. capped (inner + inner_of ks)) (sym r.kids) ∙ u.inner;
         }
 
-pub child_steps-is : (rows : List Row) (n : ℕ) (k : Block) → 0 < n → child_steps (languages_of rows) n k ≡ steps (languages_of rows) (n - 1) k.language k.contents
-child_steps-is rows zero k h = absurd (omega arith)
-child_steps-is rows (suc n) k h = let e : n ≡ suc n - 1 = omega arith in ap (λ m. steps (languages_of rows) m k.language k.contents) e
+pub child_steps-is : (skips : Bool) (rows : List Row) (n : ℕ) (k : Block) → 0 < n → child_steps skips (languages_of rows) n k ≡ made_steps skips (languages_of rows) (n - 1) k.language k.contents
+child_steps-is skips rows zero k h = absurd (omega arith)
+child_steps-is skips rows (suc n) k h = let e : n ≡ suc n - 1 = omega arith in ap (λ m. made_steps skips (languages_of rows) m k.language k.contents) e
 
 -- the matchers of a language of the table
 pub matchers_at : (rows : List Row) (language i : ℕ) (d : Matchers) → i ≡ language → language < length rows → get_or (map matchers_of rows) i d ≡ matchers_of (row_at rows language)

@@ -1,11 +1,11 @@
 -- A text that is under way goes on by a line, or by a part that a child breaks off and the child.
-use Rattle.std.proofs.Common.{◌≡◌, ℕ, ◌+◌, ◌-◌, ◌<◌, ◌≤◌, true, false, List, [], length, take, drop, None, Some, sym, ◌∙◌, ap, subst, arith, length-drop}
+use Rattle.std.proofs.Common.{◌≡◌, ℕ, ◌+◌, ◌-◌, ◌<◌, ◌≤◌, Bool, true, false, List, [], length, take, drop, None, Some, refl, sym, ◌∙◌, ap, subst, arith, length-drop}
 use Rattle.std.proofs.lemmas.List.{drop-drop, drop_all}
 use Rattle.std.specs.Global.{Vec}
 use Rattle.tokei_table.specs.FirstOpener.{first_opener}
 use Rattle.tokei_table.specs.Openers.{openers}
 use Rattle.tokei_parts.specs.Class.{class_of}
-use Rattle.tokei_parts.specs.Glance.{holds, is_walked, opener_place}
+use Rattle.tokei_parts.specs.Glance.{holds, is_walked, opener_place, walks}
 use Rattle.tokei_parts.specs.Glanced.{AreInLine}
 use Rattle.tokei_parts.specs.Items.{Block}
 use Rattle.tokei_parts.specs.Lines.{first_line, line_len}
@@ -16,7 +16,7 @@ use Rattle.tokei_parts.specs.Progress.{IsClosable, IsPart, ReadsLine}
 use Rattle.tokei_count.specs.Readers.{reading_of}
 use Rattle.tokei_parts.specs.ReadingOf.{row_in, blocks_of, openers_in, line_from}
 use Rattle.tokei_parts.specs.Seen.{chain_of}
-use Rattle.tokei_count.specs.Steps.{steps, capped}
+use Rattle.tokei_count.specs.Steps.{made_steps, capped}
 use Rattle.tokei_count.specs.UnderWay.{IsUnderWay, reading_inside, steps_inside}
 use Rattle.tokei_parts.specs.Walked.{ReadsTo, Breaks}
 use Rattle.tokei_parts.specs.declared.class.Class.{Class}
@@ -148,8 +148,16 @@ module _ (r : Reading) (p : ReadSoFar) (way : IsUnderWay r p) where
   counted : IsCounted r.table.now r.docs_are_comments r.levels r.language text own blobs p.behind_child c rest
   counted = record { counts = way.counts; kids = way.kids }
 
-  stepped : r.skips ≡ true → AreUnderWay r.table.now r.levels r.language text p.own_steps p.inner_steps p.behind_child c rest
-  stepped skipped = record { own = way.steps skipped; inner = way.inner skipped }
+  stepped : AreUnderWay r.skips r.table.now r.levels r.language text p.own_steps p.inner_steps p.behind_child c rest
+  stepped = record { own = way.steps; inner = way.inner }
+
+  -- a part that must be walked where the reading skips is walked
+  walks_here : (reach : List ℕ) → reach ≡ first_line rest → (r.skips ≡ true → is_walked (openers_in r) (innermost c) (first_line rest) ≡ true) → walks r.skips (openers (row_in r)) (innermost c) reach ≡ true
+  walks_here reach e walked = by_test r.skips (λ skipped. ap (is_walked (openers (row_in r)) (innermost c)) e ∙ ap (λ os. is_walked os (innermost c) (first_line rest)) (sym (openers_are r)) ∙ walked skipped)
+    where
+      by_test : (x : Bool) → (x ≡ true → is_walked (openers (row_in r)) (innermost c) reach ≡ true) → walks x (openers (row_in r)) (innermost c) reach ≡ true
+      by_test true h = h refl
+      by_test false h = refl
 
   in_line : AreInLine (openers (row_in r))
   in_line = openers_in_line (row_in r) way.tokens
@@ -162,9 +170,9 @@ module _ (r : Reading) (p : ReadSoFar) (way : IsUnderWay r p) where
   all_read over = read_whole r.table.now r.docs_are_comments r.levels r.language text own blobs p.behind_child c way.lines
       (subst (IsCounted r.table.now r.docs_are_comments r.levels r.language text own blobs p.behind_child c) (drop_all p.start text over) counted)
 
-  pub all_made : r.skips ≡ true → length text ≤ p.start → capped (p.inner_steps + p.own_steps) ≡ capped (steps (languages_of r.table.now) r.levels r.language text)
-  all_made skipped over = steps_whole r.table.now r.levels r.language text p.own_steps p.inner_steps p.behind_child c way.lines
-      (subst (AreUnderWay r.table.now r.levels r.language text p.own_steps p.inner_steps p.behind_child c) (drop_all p.start text over) (stepped skipped))
+  pub all_made : length text ≤ p.start → capped (p.inner_steps + p.own_steps) ≡ capped (made_steps r.skips (languages_of r.table.now) r.levels r.language text)
+  all_made over = steps_whole r.skips r.table.now r.levels r.language text p.own_steps p.inner_steps p.behind_child c way.lines
+      (subst (AreUnderWay r.skips r.table.now r.levels r.language text p.own_steps p.inner_steps p.behind_child c) (drop_all p.start text over) stepped)
 
   -- in a text without opener nothing is walked
   pub unwalked : r.skips ≡ true → first_opener (openers (row_in r)) text ≡ None → is_walked (openers_in r) (innermost c) (line_from r p.start) ≡ true → ⊥
@@ -187,42 +195,29 @@ module _ (r : Reading) (p : ReadSoFar) (way : IsUnderWay r p) where
       line_sum_fits : Fits (reading_of r) → CountsFit (plus own (one_of class))
       line_sum_fits fits = line_fits r.table.now r.docs_are_comments r.levels r.language text own blobs p.behind_child c rest counted n class d line way.lines fits
 
-      line_on : (o : Sums) (m : ℕ) (h : List ℕ) (k : CodeBlock.Block) → sums_of o ≡ plus own (one_of class) → h ≡ text → m ≤ behind → (behind < length text → IsPart text p.behind_child behind behind)
-          → (r.skips ≡ true → AreUnderWay r.table.now r.levels r.language text m p.inner_steps p.behind_child d (drop n rest))
-          → (r.skips ≡ true → first_opener (openers (row_in r)) text ≡ None → (d ≡ []) × (lines_of (sums_of o) ≤ behind))
-          → IsUnderWay r (record { own = o; blobs = p.blobs; own_steps = m; inner_steps = p.inner_steps; behind_child = p.behind_child; start = behind; stack = s; search = h; child = k })
-      line_on o m h k own_is searched few part taken quiet =
-          let went : IsCounted r.table.now r.docs_are_comments r.levels r.language text
-          (plus own (one_of class)) blobs p.behind_child d (drop n rest) =
-          line_read r.table.now r.docs_are_comments r.levels r.language text own blobs p.behind_child
-          c rest counted n class d line in
-          let moved : IsCounted r.table.now r.docs_are_comments r.levels r.language text
-          (plus own (one_of class)) blobs p.behind_child d (drop behind text) =
-          subst
-          (IsCounted r.table.now r.docs_are_comments r.levels r.language text
-          (plus own (one_of class)) blobs p.behind_child d)
-          there went in
-          let now : IsCounted r.table.now r.docs_are_comments r.levels r.language text (sums_of o)
-          blobs p.behind_child d (drop behind text) =
-          subst
-          (λ (m : Counts). IsCounted r.table.now r.docs_are_comments r.levels r.language text m
-          blobs p.behind_child d (drop behind text))
-          (sym own_is) moved in
-          let made = λ (skipped : r.skips ≡ true). subst (AreUnderWay r.table.now r.levels r.language text m p.inner_steps p.behind_child d) there (taken skipped) in
-          record {
-            lines = way.lines;
-            tokens = way.tokens;
-            closable = line.closable;
-            within = omega (arith, line.within, length-drop p.start text, low);
-            part = part;
-            searched = searched;
-            counts = now.counts;
-            kids = now.kids;
-            few = few;
-            steps = λ skipped. (made skipped).own;
-            inner = λ skipped. (made skipped).inner;
-            quiet = quiet;
-          }
+    line_on : (o : Sums) (m : ℕ) (h : List ℕ) (k : CodeBlock.Block) → sums_of o ≡ plus own (one_of class) → h ≡ text → m ≤ behind → (behind < length text → IsPart text p.behind_child behind behind)
+        → AreUnderWay r.skips r.table.now r.levels r.language text m p.inner_steps p.behind_child d (drop n rest)
+        → (r.skips ≡ true → first_opener (openers (row_in r)) text ≡ None → (d ≡ []) × (lines_of (sums_of o) ≤ behind))
+        → IsUnderWay r (record { own = o; blobs = p.blobs; own_steps = m; inner_steps = p.inner_steps; behind_child = p.behind_child; start = behind; stack = s; search = h; child = k })
+    line_on o m h k own_is searched few part taken quiet =
+        let went : IsCounted r.table.now r.docs_are_comments r.levels r.language text (plus own (one_of class)) blobs p.behind_child d (drop n rest) = line_read r.table.now r.docs_are_comments r.levels r.language text own blobs p.behind_child c rest counted n class d line in
+        let moved : IsCounted r.table.now r.docs_are_comments r.levels r.language text (plus own (one_of class)) blobs p.behind_child d (drop behind text) = subst (IsCounted r.table.now r.docs_are_comments r.levels r.language text (plus own (one_of class)) blobs p.behind_child d) there went in
+        let now : IsCounted r.table.now r.docs_are_comments r.levels r.language text (sums_of o) blobs p.behind_child d (drop behind text) = subst (λ (m : Counts). IsCounted r.table.now r.docs_are_comments r.levels r.language text m blobs p.behind_child d (drop behind text)) (sym own_is) moved in
+        let made = subst (AreUnderWay r.skips r.table.now r.levels r.language text m p.inner_steps p.behind_child d) there taken in
+        record {
+          lines = way.lines;
+          tokens = way.tokens;
+          closable = line.closable;
+          within = omega (arith, line.within, length-drop p.start text, low);
+          part = part;
+          searched = searched;
+          counts = now.counts;
+          kids = now.kids;
+          few = few;
+          steps = made.own;
+          inner = made.inner;
+          quiet = quiet;
+        }
 
   -- by what is seen of the stack
   pub walked_here : (e : Chain) → e ≡ c → is_walked (openers_in r) (innermost e) (line_from r p.start) ≡ true → is_walked (openers_in r) (innermost c) (line_from r p.start) ≡ true
@@ -249,22 +244,11 @@ module _ (r : Reading) (p : ReadSoFar) (way : IsUnderWay r p) where
     pub skipped_fits : Fits (reading_of r) → CountsFit (plus own (one_of class))
     skipped_fits fits = line_sum_fits class stop line.0 p.stack low line.1 fits
 
-    pub skipped_on : (o : Sums) → sums_of o ≡ plus own (one_of class)
-        → IsUnderWay r (record {
-          own = o;
-          blobs = p.blobs;
-          own_steps = p.own_steps;
-          inner_steps = p.inner_steps;
-          behind_child = p.behind_child;
-          start = stop;
-          stack = p.stack;
-          search = p.search;
-          child = p.child;
-        })
-    skipped_on o own_is = line_on class stop line.0 p.stack low line.1 o p.own_steps p.search p.child own_is way.searched (omega (arith, way.few, low))
+    pub skipped_on : r.skips ≡ true → (o : Sums) → sums_of o ≡ plus own (one_of class) → IsUnderWay r (record { own = o; blobs = p.blobs; own_steps = p.own_steps; inner_steps = p.inner_steps; behind_child = p.behind_child; start = stop; stack = p.stack; search = p.search; child = p.child })
+    skipped_on skipped o own_is = line_on class stop line.0 p.stack low line.1 o p.own_steps p.search p.child own_is way.searched (omega (arith, way.few, low))
         (λ more. glance_part text p.behind_child p.start stop (way.part some) stop_is some more)
-        (λ skipped. line_skipped r.table.now r.levels r.language text p.own_steps p.inner_steps p.behind_child c rest (stepped skipped) r.docs_are_comments (stop - p.start) line.0 class c line.1
-        (glance_walked (openers (row_in r)) c (stop - p.start) rest plain size holds_none))
+        (line_skipped r.skips r.table.now r.levels r.language text p.own_steps p.inner_steps p.behind_child c rest stepped r.docs_are_comments (stop - p.start) line.0 class c line.1
+        (ap (λ x. walks x (openers (row_in r)) (innermost c) (take (stop - p.start) rest)) skipped ∙ glance_walked (openers (row_in r)) c (stop - p.start) rest plain size holds_none))
         (λ skipped quiet. (plain, omega (arith, (way.quiet skipped quiet).1, ap lines_of own_is, lines_of-one own class, low)))
 
   -- a part that is walked to the end of its line, by so many steps
@@ -274,30 +258,15 @@ module _ (r : Reading) (p : ReadSoFar) (way : IsUnderWay r p) where
       pub walked_fits : Fits (reading_of r) → CountsFit (plus own (one_of class))
       walked_fits fits = line_sum_fits class behind made s part.some part.reads fits
 
-      pub walked_on : (o : Sums) (h : List ℕ) (k : CodeBlock.Block)
-          → sums_of o ≡ plus own (one_of class) → h ≡ text
-          → (r.skips ≡ true → is_walked (openers_in r) (innermost c) (first_line rest) ≡ true)
-          → IsUnderWay r (record {
-            own = o;
-            blobs = p.blobs;
-            own_steps = p.own_steps + made;
-            inner_steps = p.inner_steps;
-            behind_child = p.behind_child;
-            start = behind;
-            stack = s;
-            search = h;
-            child = k;
-          })
-      walked_on o h k own_is searched walked =
-          let size : behind - p.start ≡ length (first_line rest) = omega (arith, part.line) in
-          let reach : take (behind - p.start) rest ≡ first_line rest = ap (λ m. take m rest) size ∙ take-first rest in
-          let held = λ (skipped : r.skips ≡ true). ap (λ os. is_walked os (innermost c) (first_line rest)) (sym (openers_are r)) ∙ walked skipped in
-          line_on class behind made s part.some part.reads o (p.own_steps + made) h k own_is searched (omega (arith, way.few, part.some, part.few)) part.part
-          (λ skipped. line_steps r.table.now r.levels r.language text p.own_steps p.inner_steps
-          p.behind_child c rest (stepped skipped) r.docs_are_comments (behind - p.start) made
-          class (chain_of s.items) part.reads
-          (ap (is_walked (openers (row_in r)) (innermost c)) reach ∙ held skipped))
-          (λ skipped none. absurd (unwalked skipped none (walked skipped)))
+    pub walked_on : (o : Sums) (h : List ℕ) (k : CodeBlock.Block) → sums_of o ≡ plus own (one_of class) → h ≡ text → (r.skips ≡ true → is_walked (openers_in r) (innermost c) (first_line rest) ≡ true)
+        → IsUnderWay r (record { own = o; blobs = p.blobs; own_steps = p.own_steps + made; inner_steps = p.inner_steps; behind_child = p.behind_child; start = behind; stack = s; search = h; child = k })
+    walked_on o h k own_is searched walked =
+        let size : behind - p.start ≡ length (first_line rest) = omega (arith, part.line) in
+        let reach : take (behind - p.start) rest ≡ first_line rest = ap (λ m. take m rest) size ∙ take-first rest in
+        line_on class behind made s part.some part.reads o (p.own_steps + made) h k own_is searched (omega (arith, way.few, part.some, part.few)) part.part
+        (line_steps r.skips r.table.now r.levels r.language text p.own_steps p.inner_steps p.behind_child c rest stepped r.docs_are_comments (behind - p.start) made class (chain_of s.items) part.reads
+        (walks_here (take (behind - p.start) rest) reach walked))
+        (λ skipped none. absurd (unwalked skipped none (walked skipped)))
 
   -- a part that is walked to the place at which a child breaks it off, and the child k
   module _ (place made : ℕ) (d : Chain) (k : Block)
@@ -335,7 +304,7 @@ module _ (r : Reading) (p : ReadSoFar) (way : IsUnderWay r p) where
 
     pub broken_on : (q : ReadSoFar) → sums_of q.own ≡ plus own k.share
         → blobs_of (entries_of q.blobs.entries) ≡ put blobs k.language (joined (at blobs k.language) (λ s. sum s (reading_inside r k)) (reading_inside r k))
-        → q.own_steps ≡ p.own_steps + made → (r.skips ≡ true → q.inner_steps ≡ capped (p.inner_steps + capped (steps_inside r k)))
+        → q.own_steps ≡ p.own_steps + made → q.inner_steps ≡ capped (p.inner_steps + capped (steps_inside r k))
         → q.behind_child ≡ length text - (place + k.size) → q.start ≡ place + k.size → chain_of q.stack.items ≡ d → q.search ≡ text
         → (r.skips ≡ true → is_walked (openers_in r) (innermost c) (first_line rest) ≡ true) → IsUnderWay r q
     broken_on q own_is blobs_are made_is inner_is left_is start_is chain_is searched walked =
@@ -349,53 +318,18 @@ module _ (r : Reading) (p : ReadSoFar) (way : IsUnderWay r p) where
         let within : q.start ≤ length text = omega (arith, child_within, start_is) in
         let went = child_read r.table.now r.docs_are_comments r.levels r.language text own blobs p.behind_child c rest counted before j k d breaks.reads in
         let with_k : Blobs = put blobs k.language (joined (at blobs k.language) (λ s. sum s (reading_inside r k)) (reading_inside r k)) in
-        let went1 =
-        subst
-        (λ (m : Counts). IsCounted r.table.now r.docs_are_comments r.levels r.language text m
-        with_k (length rest - (before + k.size)) [] (drop (before + k.size) rest))
-        (sym own_is) went in
-        let went2 =
-        subst
-        (λ (bs : Blobs). IsCounted r.table.now r.docs_are_comments r.levels r.language text
-        (sums_of q.own) bs (length rest - (before + k.size)) []
-        (drop (before + k.size) rest))
-        (sym blobs_are) went1 in
-        let went3 =
-        subst
-        (λ (m : ℕ). IsCounted r.table.now r.docs_are_comments r.levels r.language text
-        (sums_of q.own) (blobs_of (entries_of q.blobs.entries)) m []
-        (drop (before + k.size) rest))
-        left' went2 in
-        let went4 =
-        subst
-        (λ (e : Chain). IsCounted r.table.now r.docs_are_comments r.levels r.language text
-        (sums_of q.own) (blobs_of (entries_of q.blobs.entries)) q.behind_child e
-        (drop (before + k.size) rest))
-        (sym plain) went3 in
-        let now =
-        subst
-        (IsCounted r.table.now r.docs_are_comments r.levels r.language text (sums_of q.own)
-        (blobs_of (entries_of q.blobs.entries)) q.behind_child (chain_of q.stack.items))
-        there went4 in
-        let held = λ (skipped : r.skips ≡ true). ap (λ os. is_walked os (innermost c) (first_line rest)) (sym (openers_are r)) ∙ walked skipped in
-        let taken = λ (skipped : r.skips ≡ true).
-        let stepped1 =
-        broken_steps r.table.now r.levels r.language text p.own_steps p.inner_steps p.behind_child c
-        rest (stepped skipped) r.docs_are_comments before j k d breaks.reads (held skipped) in
-        let stepped2 =
-        subst
-        (λ m. AreUnderWay r.table.now r.levels r.language text m
-        (capped (p.inner_steps + capped (steps_inside r k)))
-        (length rest - (before + k.size)) [] (drop (before + k.size) rest))
-        own_steps_are stepped1 in
-        let stepped3 =
-        subst
-        (λ m. AreUnderWay r.table.now r.levels r.language text q.own_steps m
-        (length rest - (before + k.size)) [] (drop (before + k.size) rest))
-        (sym (inner_is skipped)) stepped2 in
-        let stepped4 = subst (λ m. AreUnderWay r.table.now r.levels r.language text q.own_steps q.inner_steps m [] (drop (before + k.size) rest)) left' stepped3 in
-        let stepped5 = subst (λ (e : Chain). AreUnderWay r.table.now r.levels r.language text q.own_steps q.inner_steps q.behind_child e (drop (before + k.size) rest)) (sym plain) stepped4 in
-        subst (AreUnderWay r.table.now r.levels r.language text q.own_steps q.inner_steps q.behind_child (chain_of q.stack.items)) there stepped5 in
+        let went1 = subst (λ (m : Counts). IsCounted r.table.now r.docs_are_comments r.levels r.language text m with_k (length rest - (before + k.size)) [] (drop (before + k.size) rest)) (sym own_is) went in
+        let went2 = subst (λ (bs : Blobs). IsCounted r.table.now r.docs_are_comments r.levels r.language text (sums_of q.own) bs (length rest - (before + k.size)) [] (drop (before + k.size) rest)) (sym blobs_are) went1 in
+        let went3 = subst (λ (m : ℕ). IsCounted r.table.now r.docs_are_comments r.levels r.language text (sums_of q.own) (blobs_of (entries_of q.blobs.entries)) m [] (drop (before + k.size) rest)) left' went2 in
+        let went4 = subst (λ (e : Chain). IsCounted r.table.now r.docs_are_comments r.levels r.language text (sums_of q.own) (blobs_of (entries_of q.blobs.entries)) q.behind_child e (drop (before + k.size) rest)) (sym plain) went3 in
+        let now = subst (IsCounted r.table.now r.docs_are_comments r.levels r.language text (sums_of q.own) (blobs_of (entries_of q.blobs.entries)) q.behind_child (chain_of q.stack.items)) there went4 in
+        let taken =
+        let stepped1 = broken_steps r.skips r.table.now r.levels r.language text p.own_steps p.inner_steps p.behind_child c rest stepped r.docs_are_comments before j k d breaks.reads (walks_here (first_line rest) refl walked) in
+        let stepped2 = subst (λ m. AreUnderWay r.skips r.table.now r.levels r.language text m (capped (p.inner_steps + capped (steps_inside r k))) (length rest - (before + k.size)) [] (drop (before + k.size) rest)) own_steps_are stepped1 in
+        let stepped3 = subst (λ m. AreUnderWay r.skips r.table.now r.levels r.language text q.own_steps m (length rest - (before + k.size)) [] (drop (before + k.size) rest)) (sym inner_is) stepped2 in
+        let stepped4 = subst (λ m. AreUnderWay r.skips r.table.now r.levels r.language text q.own_steps q.inner_steps m [] (drop (before + k.size) rest)) left' stepped3 in
+        let stepped5 = subst (λ (e : Chain). AreUnderWay r.skips r.table.now r.levels r.language text q.own_steps q.inner_steps q.behind_child e (drop (before + k.size) rest)) (sym plain) stepped4 in
+        subst (AreUnderWay r.skips r.table.now r.levels r.language text q.own_steps q.inner_steps q.behind_child (chain_of q.stack.items)) there stepped5 in
         record {
           lines = way.lines;
           tokens = way.tokens;
@@ -410,17 +344,17 @@ module _ (r : Reading) (p : ReadSoFar) (way : IsUnderWay r p) where
           counts = now.counts;
           kids = now.kids;
           few = omega (arith, way.few, made_is, part.2, breaks.few, breaks.reads.some, low, start_is);
-          steps = λ skipped. (taken skipped).own;
-          inner = λ skipped. (taken skipped).inner;
+          steps = taken.own;
+          inner = taken.inner;
           quiet = λ skipped none. absurd (unwalked skipped none (walked skipped));
         }
 
 -- lines that were skipped, and one more, by the place of the first opener
-pub skipped_more : (r : Reading) (p : ReadSoFar) (lines more : Sums) (at stop next : ℕ) (class : Class) → IsUnderWay r (gone_on p lines at) → sums_of more ≡ plus (sums_of lines) (one_of class)
+pub skipped_more : (r : Reading) (p : ReadSoFar) (lines more : Sums) (at stop next : ℕ) (class : Class) → r.skips ≡ true → IsUnderWay r (gone_on p lines at) → sums_of more ≡ plus (sums_of lines) (one_of class)
     → at < length r.text.now → chain_of p.stack.items ≡ [] → stop ≡ at + length (first_line (drop at r.text.now)) → next ≡ at + opener_place (openers_in r) (drop at r.text.now) → stop ≤ next
     → class ≡ class_of (row_in r) r.docs_are_comments (record { begun = None; bytes = take (stop - at) (drop at r.text.now); ended = None })
     → IsUnderWay r (gone_on p more stop)
-skipped_more r p lines more at stop next class way more_is some plain stop_is next_is before class_is =
+skipped_more r p lines more at stop next class skipped way more_is some plain stop_is next_is before class_is =
     let q : ReadSoFar = gone_on p lines at in
     let u : List ℕ = drop at r.text.now in
     let none : holds (openers_in r) (first_line u) ≡ false =
@@ -431,7 +365,7 @@ skipped_more r p lines more at stop next class way more_is some plain stop_is ne
     let code : more.code ≡ lines.code + (one_of class).code = ap (λ (m : Counts). m.code) more_is in
     let comments : more.comments ≡ lines.comments + (one_of class).comments = ap (λ (m : Counts). m.comments) more_is in
     let own_is : sums_of (sums_with p.own more) ≡ plus (sums_of q.own) (one_of class) = counts_same _ _ (omega (arith, blanks)) (omega (arith, code)) (omega (arith, comments)) in
-    skipped_on r q way class stop some plain stop_is none class_is (sums_with p.own more) own_is
+    skipped_on r q way class stop some plain stop_is none class_is skipped (sums_with p.own more) own_is
 
 -- the part that is left where its line goes on behind the first opener is walked
 pub walked_behind : (r : Reading) (p : ReadSoFar) (next : ℕ) → IsUnderWay r p → chain_of p.stack.items ≡ [] → next ≡ p.start + opener_place (openers_in r) (drop p.start r.text.now)

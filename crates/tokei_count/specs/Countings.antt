@@ -12,7 +12,7 @@ use Rattle.tokei_count.specs.OpeningItems.{openings}
 use Rattle.tokei_count.specs.Languages.{languages_of}
 use Rattle.tokei_count.specs.PlainReading.{reading, outermost_levels}
 use Rattle.tokei_count.specs.Seen.{docs_of}
-use Rattle.tokei_count.specs.Steps.{steps, work}
+use Rattle.tokei_count.specs.Steps.{steps, plain_steps, work}
 use Rattle.tokei_count.specs.Weight.{weight}
 
 -- the statistics of the text, those of its children in it
@@ -24,7 +24,9 @@ text_reading rows config language text =
 abbrev pub text_steps : List Row → ℕ → List ℕ → ℕ
 text_steps rows language text = steps (languages_of rows) outermost_levels language text
 
--- how many items open in the text and in its children, and one for each child
+abbrev pub text_plain_steps : List Row → ℕ → List ℕ → ℕ
+text_plain_steps rows language text = plain_steps (languages_of rows) outermost_levels language text
+
 abbrev pub text_openings : List Row → ℕ → List ℕ → ℕ
 text_openings rows language text = openings (languages_of rows) outermost_levels language text
 

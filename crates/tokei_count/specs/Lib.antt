@@ -10,6 +10,7 @@ pub mod PartLaw
 pub mod PlainReading
 pub mod QuietLaw
 pub mod Readers
+pub mod ReadingLaws
 pub mod Seen
 pub mod Spelling
 pub mod StepLaw

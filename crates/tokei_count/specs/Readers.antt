@@ -2,7 +2,7 @@
 use Rattle.std.specs.Prelude.{ℕ, List}
 use Rattle.tokei_count.specs.Languages.{languages_of}
 use Rattle.tokei_count.specs.PlainReading.{reading}
-use Rattle.tokei_count.specs.Steps.{steps}
+use Rattle.tokei_count.specs.Steps.{made_steps}
 use Rattle.tokei_stats.specs.Statistics.{Statistics}
 use Rattle.tokei_count.specs.declared.reader.Reader.{Reader}
 use Rattle.tokei_parts.specs.declared.reading.Reading.{Reading}
@@ -12,9 +12,9 @@ abbrev pub reading_by : Reader → ℕ → ℕ → List ℕ → Statistics
 reading_by r levels language text =
     reading (languages_of r.table.now) r.docs_are_comments levels language text
 
--- its steps
+-- the steps that the reader takes for it
 abbrev pub steps_by : Reader → ℕ → ℕ → List ℕ → ℕ
-steps_by r levels language text = steps (languages_of r.table.now) levels language text
+steps_by r levels language text = made_steps r.skips (languages_of r.table.now) levels language text
 
 -- the plain reading of a text that is read
 abbrev pub reading_of : Reading → Statistics

@@ -5,7 +5,7 @@ use Rattle.tokei_table.specs.Row.{Row}
 use Rattle.tokei_count.specs.Languages.{Languages}
 use Rattle.tokei_count.specs.OpeningItems.{openings}
 use Rattle.tokei_count.specs.Languages.{languages_of}
-use Rattle.tokei_count.specs.Steps.{steps, work}
+use Rattle.tokei_count.specs.Steps.{steps, plain_steps, work}
 use Rattle.tokei_count.specs.WeightLaws.{HaveTokens}
 
 -- the steps of a text are at least its openings, and at most its work
@@ -17,3 +17,8 @@ pub record StepsLieBetween (ls : Languages) (levels language : ℕ) (t : List �
 abbrev pub OpeningsStepsWork : Type 0
 OpeningsStepsWork = (rows : List Row) → HaveTokens rows → (levels language : ℕ) (t : List ℕ)
     → StepsLieBetween (languages_of rows) levels language t
+
+-- a reading that skips takes at most the steps of the plain reading, through all children
+abbrev pub SkippingTakesNoMoreSteps : Type 0
+SkippingTakesNoMoreSteps = (rows : List Row) (levels language : ℕ) (t : List ℕ)
+    → steps (languages_of rows) levels language t ≤ plain_steps (languages_of rows) levels language t

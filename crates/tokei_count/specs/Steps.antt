@@ -1,6 +1,5 @@
--- The steps of a text: how many choices a reading has to make that looks at a part only where it
--- must.
-use Rattle.std.specs.Prelude.{ℕ, zero, suc, ◌+◌, if◌then◌else◌, List, [], ◌∷◌, length, None, nat_le}
+-- The steps of a text: how many choices a reading has to make that looks at a part only where it must.
+use Rattle.std.specs.Prelude.{ℕ, zero, suc, ◌+◌, Bool, true, false, if◌then◌else◌, List, [], ◌∷◌, length, None, nat_le}
 use Rattle.tokei_table.specs.Openers.{openers}
 use Rattle.tokei_table.specs.Row.{Row}
 use Rattle.tokei_parts.specs.Derivation.{items_of}
@@ -17,6 +16,11 @@ abbrev pub walked_choices : List (List ℕ) → List Stretch → ℕ
 walked_choices os [] = 0
 walked_choices os (s ∷ ss) =
     (if is_walked os s.begun s.reach then choices_of s.own else 0) + walked_choices os ss
+
+-- the choices of all stretches
+abbrev pub all_choices : List Stretch → ℕ
+all_choices [] = 0
+all_choices (s ∷ ss) = choices_of s.own + all_choices ss
 
 -- the bytes of those stretches that are walked
 abbrev pub walked_bytes : List (List ℕ) → List Stretch → ℕ
@@ -57,6 +61,15 @@ with_children own ls (suc levels) language t =
 abbrev pub own_steps : Row → List ℕ → Items → ℕ
 own_steps r t is = walked_choices (openers r) (stretches None [] t (marks [] is))
 
+-- the choices in all parts of a text, its children apart
+abbrev pub own_choices : Row → List ℕ → Items → ℕ
+own_choices r t is = all_choices (stretches None [] t (marks [] is))
+
+-- what a reading makes of these: where it skips, those in the walked parts, and else all
+abbrev pub own_steps_by : Bool → Row → List ℕ → Items → ℕ
+own_steps_by true = own_steps
+own_steps_by false = own_choices
+
 -- the bytes of the walked parts of a text, its children apart
 abbrev pub own_work : Row → List ℕ → Items → ℕ
 own_work r t is = walked_bytes (openers r) (stretches None [] t (marks [] is))
@@ -66,14 +79,22 @@ own_work r t is = walked_bytes (openers r) (stretches None [] t (marks [] is))
 abbrev pub steps : Languages → ℕ → ℕ → List ℕ → ℕ
 steps = with_children own_steps
 
--- Its work: the lengths of its walked parts, and one for each child.
+-- The steps of the plain reading, which skips nothing: a step for each choice, and one for each child.
+abbrev pub plain_steps : Languages → ℕ → ℕ → List ℕ → ℕ
+plain_steps = with_children own_choices
+
+-- the steps of a reading that skips, or of one that doesn't
+abbrev pub made_steps : Bool → Languages → ℕ → ℕ → List ℕ → ℕ
+made_steps skips = with_children (own_steps_by skips)
+
+-- The work of a text: the lengths of its walked parts, and one for each child.
 abbrev pub work : Languages → ℕ → ℕ → List ℕ → ℕ
 work = with_children own_work
 
 -- the steps of a child, or of a notebook's cell, in a text with so many levels left
-abbrev pub child_steps : Languages → ℕ → Block → ℕ
-child_steps ls zero k = 0
-child_steps ls (suc levels) k = steps ls levels k.language k.contents
+abbrev pub child_steps : Bool → Languages → ℕ → Block → ℕ
+child_steps skips ls zero k = 0
+child_steps skips ls (suc levels) k = made_steps skips ls levels k.language k.contents
 
 -- the number, or the greatest `u128` where that is less
 abbrev pub capped : ℕ → ℕ

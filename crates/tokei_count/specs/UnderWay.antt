@@ -31,7 +31,7 @@ reading_inside r = child_reading (languages_of r.table.now) r.docs_are_comments 
 
 -- the steps of a child of the text
 abbrev pub steps_inside : Reading → Block → ℕ
-steps_inside r = child_steps (languages_of r.table.now) r.levels
+steps_inside r = child_steps r.skips (languages_of r.table.now) r.levels
 
 -- what is left of the text
 abbrev pub ahead : Reading → ReadSoFar → List ℕ
@@ -61,15 +61,14 @@ counts_ahead r p =
     (chain_of p.stack.items) (ahead r p))
     (shares (children_ahead r p))
 
--- the steps of the text itself, one for each child with them
+-- the steps of the text itself, one for each child with them, and of what is left of it, for the reading at hand
 abbrev pub all_steps : Reading → ℕ
-all_steps r =
-    steps_left (row_in r) (blocks_of r) (length r.text.now) [] r.text.now + length (all_children r)
+all_steps r = steps_left (row_in r) (blocks_of r) (length r.text.now) r.skips [] r.text.now + length (all_children r)
 
 -- the steps of what is left of the text, one for each child with them
 abbrev pub steps_ahead : Reading → ReadSoFar → ℕ
 steps_ahead r p =
-    steps_left (row_in r) (blocks_of r) p.behind_child (chain_of p.stack.items) (ahead r p)
+    steps_left (row_in r) (blocks_of r) p.behind_child r.skips (chain_of p.stack.items) (ahead r p)
     + length (children_ahead r p)
 
 -- the blobs so far with those of the children
@@ -89,9 +88,8 @@ pub record IsUnderWay (r : Reading) (p : ReadSoFar) : Type 0 where
   pub kids : blobs_with r (blobs_of (entries_of p.blobs.entries)) (children_ahead r p)
       ≡ blobs_with r none (all_children r)
   pub few : p.own_steps ≤ p.start
-  pub steps : r.skips ≡ true → p.own_steps + steps_ahead r p ≡ all_steps r
-  pub inner : r.skips ≡ true
-      → capped (p.inner_steps + sum_over (steps_inside r) (children_ahead r p))
+  pub steps : p.own_steps + steps_ahead r p ≡ all_steps r
+  pub inner : capped (p.inner_steps + sum_over (steps_inside r) (children_ahead r p))
       ≡ capped (sum_over (steps_inside r) (all_children r))
   pub quiet : r.skips ≡ true → first_opener (openers (row_in r)) r.text.now ≡ None
       → (chain_of p.stack.items ≡ []) × (lines_of (sums_of p.own) ≤ p.start)

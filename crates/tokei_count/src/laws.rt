@@ -2,8 +2,9 @@
 ghost use Rattle.std.specs.Prelude.{◌<◌, ◌^◌, length};
 ghost use Rattle.tokei_count.specs.PartLaw.{UnwalkedPartsStayPlain};
 ghost use Rattle.tokei_count.specs.QuietLaw.{QuietTextsTakeNoSteps};
+ghost use Rattle.tokei_count.specs.ReadingLaws.{ReadingsAreShallow, ReadingsKnowTheirLanguages};
 ghost use Rattle.tokei_count.specs.Spelling.{ItemsSpellText, TextsAreSpelled};
-ghost use Rattle.tokei_count.specs.StepLaw.{OpeningsStepsWork};
+ghost use Rattle.tokei_count.specs.StepLaw.{OpeningsStepsWork, SkippingTakesNoMoreSteps};
 ghost use Rattle.tokei_count.specs.WeightLaws.{LightReadingsFit, LinesWithinWeight, ShortReadingsFit};
 ghost use Rattle.tokei_count.specs.WeightLaws.{StepsWithinWeight, WeightIsLength};
 
@@ -25,6 +26,11 @@ pub fn unwalked_parts_stay_plain()
 /// The steps of a text are at least its openings and at most its work, through all children.
 pub fn steps_lie_between()
     ensures { OpeningsStepsWork }
+{}
+
+/// A reading that skips takes at most the steps of the plain reading, through all children.
+pub fn skipping_takes_no_more_steps()
+    ensures { SkippingTakesNoMoreSteps }
 {}
 
 /// A text that isn't a notebook and holds no opener takes no steps.
@@ -55,6 +61,16 @@ pub fn weight_is_length()
 /// Without notebooks a reading fits the code's numbers wherever the length of its text does.
 pub fn short_readings_fit()
     ensures { ShortReadingsFit }
+{}
+
+/// A reading holds no more levels of blobs than there are levels to read.
+pub fn readings_are_shallow()
+    ensures { ReadingsAreShallow }
+{}
+
+/// The blobs of a reading in a language of the table are of its languages alone, at every depth.
+pub fn readings_know_their_languages()
+    ensures { ReadingsKnowTheirLanguages }
 {}
 
 /// A text has fewer than 2^64 bytes.

@@ -17,7 +17,7 @@ mod text_reading;
 pub use counter::Counter;
 pub use file_context::{FileContext, LanguageContext};
 pub use parse::{parse_counted, parse_from_slice, parse_from_str};
-pub use plain_reading::count_plain;
+pub use plain_reading::{count_plain, count_plain_counted};
 pub use tokei_bytes::{decode_text, find_char_boundary};
 pub use tokei_embedding::{
     Capture, HtmlLike, SimpleCapture, end_lf, end_markdown, end_script, end_style, end_template,

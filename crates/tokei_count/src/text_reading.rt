@@ -121,10 +121,8 @@ fn read_notebook(
     requires known { language < length reader.table.now }
     requires indexed { reader.matchers.now ≡ map matchers_of reader.table.now }
     requires notebook { is_notebook (row_at reader.table.now language) ≡ true }
-    ensures reads { IfOk result (λ r. stats_of r.stats
-        ≡ reading_by reader.entry levels language text.now) }
-    ensures steps { reader.entry.skips ≡ true
-        → IfOk result (λ r. r.steps ≡ capped (steps_by reader.entry levels language text.now)) }
+    ensures reads { IfOk result (λ r. stats_of r.stats ≡ reading_by reader.entry levels language text.now) }
+    ensures steps { IfOk result (λ r. r.steps ≡ capped (steps_by reader.entry levels language text.now)) }
     ensures overflow { IsErrOf result CountError.Overflow
         → ¬ Fits (reading_by reader.entry levels language text.now) }
 {
@@ -204,6 +202,7 @@ fn one_more(lines: &mut Sums, class: Class)
 /// the text. Their counts and place stand in no memory meanwhile.
 #[inline(never)]
 fn count_lines(reading: &Reading, so_far: &mut ReadSoFar, next: usize) -> Result<(), CountError>
+    requires skips { reading.now.skips ≡ true }
     requires under_way { IsUnderWay reading.now so_far.old }
     requires plain { chain_of so_far.old.stack.items ≡ [] }
     requires next { next ≡ so_far.old.start + opener_place (openers_in reading.now)
@@ -219,8 +218,7 @@ fn count_lines(reading: &Reading, so_far: &mut ReadSoFar, next: usize) -> Result
     ensures more { OnOk result (so_far.new.start < length reading.now.text.now
         → next < so_far.new.start + length (line_from reading.now so_far.new.start)) }
     ensures plain { chain_of so_far.new.stack.items ≡ [] }
-    ensures quiet { reading.now.skips ≡ true
-        → first_opener (openers (row_in reading.now)) reading.now.text.now ≡ None → IsOk result }
+    ensures quiet { first_opener (openers (row_in reading.now)) reading.now.text.now ≡ None → IsOk result }
     ensures overflow { IsErrOf result CountError.Overflow → ¬ Fits (reading_of reading.now) }
 {
     let text = reading.text;
@@ -342,10 +340,8 @@ fn read_child<'a>(
     requires indexed { reader.matchers.now ≡ map matchers_of reader.table.now }
     requires deep { 0 < reading.now.levels }
     requires known { child.now.language < length reading.now.table.now }
-    ensures reads { IfOk result (λ r. stats_of r.stats
-        ≡ reading_inside reading.now (block_of child.now)) }
-    ensures steps { reading.now.skips ≡ true
-        → IfOk result (λ r. r.steps ≡ capped (steps_inside reading.now (block_of child.now))) }
+    ensures reads { IfOk result (λ r. stats_of r.stats ≡ reading_inside reading.now (block_of child.now)) }
+    ensures steps { IfOk result (λ r. r.steps ≡ capped (steps_inside reading.now (block_of child.now))) }
     ensures overflow { IsErrOf result CountError.Overflow
         → ¬ Fits (reading_inside reading.now (block_of child.now)) }
 {
@@ -420,14 +416,10 @@ pub(crate) fn read_text<'a>(
 ) -> Result<TextRead, CountError>
     requires known { language < length reader.table.now }
     requires indexed { reader.matchers.now ≡ map matchers_of reader.table.now }
-    ensures reads { IfOk result (λ r. stats_of r.stats
-        ≡ reading_by reader.entry levels language text.now) }
-    ensures steps { reader.entry.skips ≡ true
-        → IfOk result (λ r. r.steps ≡ capped (steps_by reader.entry levels language text.now)) }
-    ensures quiet { reader.entry.skips ≡ true
-        → is_notebook (row_at reader.entry.table.now language) ≡ false
-        → first_opener (openers (row_at reader.entry.table.now language)) text.now ≡ None
-        → IsOk result }
+    ensures reads { IfOk result (λ r. stats_of r.stats ≡ reading_by reader.entry levels language text.now) }
+    ensures steps { IfOk result (λ r. r.steps ≡ capped (steps_by reader.entry levels language text.now)) }
+    ensures quiet { reader.entry.skips ≡ true → is_notebook (row_at reader.entry.table.now language) ≡ false
+        → first_opener (openers (row_at reader.entry.table.now language)) text.now ≡ None → IsOk result }
     ensures overflow { IsErrOf result CountError.Overflow
         → ¬ Fits (reading_by reader.entry levels language text.now) }
 {

@@ -1,5 +1,5 @@
 -- Answers to the goals of the call that counts a text with its steps.
-use Rattle.std.proofs.Common.{◌≡◌, ℕ, ◌≤◌, List, Err, refl, sym, ap, subst, ◌∙◌, arith}
+use Rattle.std.proofs.Common.{◌≡◌, ℕ, ◌≤◌, List, Err, sym, ap, subst, ◌∙◌, arith}
 use Rattle.std.proofs.lemmas.Result.{err_from_is_err_and}
 use Rattle.tokei_table.specs.Row.{Row}
 use Rattle.tokei_count.specs.Countings.{text_steps, text_openings, text_weight, all_lines}
@@ -19,7 +19,7 @@ use Rattle.tokei_count.proofs.parse.parse_counted.Goals as goal
 
 pub returns-clause-steps : goal.returns-clause-steps
 returns-clause-steps c =
-    c.in_ok-read.ensures.steps refl
+    c.in_ok-read.ensures.steps
     ∙ ap (λ (rows : List Row). capped (text_steps rows c.args.language c.args.text.now)) c.table.ensures.table
 
 pub returns-clause-steps_at_most_weight : goal.returns-clause-steps_at_most_weight

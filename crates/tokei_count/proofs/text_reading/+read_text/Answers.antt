@@ -12,7 +12,7 @@ use Rattle.tokei_count.specs.Gathered.{gathered}
 use Rattle.tokei_count.specs.PlainReading.{child_reading}
 use Rattle.tokei_parts.specs.ReadingOf.{row_in, blocks_of}
 use Rattle.tokei_parts.specs.Seen.{chain_of, block_of}
-use Rattle.tokei_count.specs.Steps.{steps, child_steps, capped, sum_over}
+use Rattle.tokei_count.specs.Steps.{made_steps, child_steps, capped, sum_over}
 use Rattle.tokei_parts.specs.Walked.{ReadsTo}
 use Rattle.tokei_stats.specs.Overflow.{CountsFit, Fits}
 use Rattle.tokei_stats.specs.Seen.{sums_of, blobs_of, entries_of, stats_of}
@@ -34,30 +34,11 @@ read_notebook-returns-then-levels-eq0-clause-reads t c =
 
 pub read_notebook-loop-cell-init : goal.read_notebook-loop-cell-init
 read_notebook-loop-cell-init t c = record {
-  cells =
-      ap
-      (λ es. gathered
-      (child_reading (languages_of c.args.reader.table.now) c.args.reader.docs_are_comments
-      c.args.levels)
-      (blobs_of (entries_of es))
-      (map cell_block (map cell_of c.as_slice-cell-items.result.now)))
-      c.new-blobs.ensures.empty
-      ∙ begun c.args.reader.table.now c.args.reader.docs_are_comments c.args.levels c.args.language
-      c.args.text.now c.as_slice-cell-items.result.now
-      (ap (map cell_of) c.as_slice-cell-items.ensures.value ∙ c.in_ok-cells.ensures.value);
-  inner = λ skipped.
-      let all : 0 + sum_over (child_steps (languages_of c.args.reader.table.now) c.args.levels)
-      (map cell_block (map cell_of c.as_slice-cell-items.result.now)) ≡ sum_over
-      (child_steps (languages_of c.args.reader.table.now) c.args.levels)
-      (cell_blocks c.args.reader.table.now c.args.language c.args.text.now) =
-      omega (
-        arith,
-        ap (sum_over (child_steps (languages_of c.args.reader.table.now) c.args.levels))
-            (cells_begun c.args.reader.table.now c.args.reader.docs_are_comments c.args.levels
-            c.args.language c.args.text.now c.as_slice-cell-items.result.now
-            (ap (map cell_of) c.as_slice-cell-items.ensures.value
-            ∙ c.in_ok-cells.ensures.value)),
-      ) in
+  cells = ap (λ es. gathered (child_reading (languages_of c.args.reader.table.now) c.args.reader.docs_are_comments c.args.levels) (blobs_of (entries_of es)) (map cell_block (map cell_of c.as_slice-cell-items.result.now))) c.new-blobs.ensures.empty
+      ∙ begun c.args.reader.table.now c.args.reader.docs_are_comments c.args.levels c.args.language c.args.text.now c.as_slice-cell-items.result.now (ap (map cell_of) c.as_slice-cell-items.ensures.value ∙ c.in_ok-cells.ensures.value);
+  inner =
+      let all : 0 + sum_over (child_steps c.args.reader.skips (languages_of c.args.reader.table.now) c.args.levels) (map cell_block (map cell_of c.as_slice-cell-items.result.now)) ≡ sum_over (child_steps c.args.reader.skips (languages_of c.args.reader.table.now) c.args.levels) (cell_blocks c.args.reader.table.now c.args.language c.args.text.now) =
+      omega (arith, ap (sum_over (child_steps c.args.reader.skips (languages_of c.args.reader.table.now) c.args.levels)) (cells_begun c.args.reader.table.now c.args.reader.docs_are_comments c.args.levels c.args.language c.args.text.now c.as_slice-cell-items.result.now (ap (map cell_of) c.as_slice-cell-items.ensures.value ∙ c.in_ok-cells.ensures.value))) in
       ap capped all;
   small = refl;
 }
@@ -144,52 +125,18 @@ read_notebook-loop-cell-preserved t c =
     =
     c.in_ok-add_blob.ensures.ok ∙ ap (λ s'. put old k.language (joined (at old k.language) (λ s. sum s s') s')) stats_is in
     record {
-      cells =
-          ap
-          (λ bs. gathered
-          (child_reading (languages_of c.args.reader.table.now)
-          c.args.reader.docs_are_comments c.args.levels)
-          bs
-          (map cell_block (map cell_of
-          (drop (c.loop-cell.cell-index + 1) c.as_slice-cell-items.result.now))))
-          blobs_are
-          ∙ cell_read c.args.reader.table.now c.args.reader.docs_are_comments c.args.levels
-          c.args.language c.args.text.now (blobs_of (entries_of c.loop-cell.blobs.entries))
-          c.as_slice-cell-items.result.now c.loop-cell.cell-index c.cell-item.result
-          c.loop-cell-test.true c.cell-item.is c.loop-cell.invariant.cells;
-      inner = λ skipped.
+      cells = ap (λ bs. gathered (child_reading (languages_of c.args.reader.table.now) c.args.reader.docs_are_comments c.args.levels) bs (map cell_block (map cell_of (drop (c.loop-cell.cell-index + 1) c.as_slice-cell-items.result.now)))) blobs_are
+          ∙ cell_read c.args.reader.table.now c.args.reader.docs_are_comments c.args.levels c.args.language c.args.text.now (blobs_of (entries_of c.loop-cell.blobs.entries)) c.as_slice-cell-items.result.now c.loop-cell.cell-index c.cell-item.result c.loop-cell-test.true c.cell-item.is c.loop-cell.invariant.cells;
+      inner =
           let rest : List Block = map cell_block (map cell_of (drop (c.loop-cell.cell-index + 1) c.as_slice-cell-items.result.now)) in
-          let one : ℕ = child_steps (languages_of c.args.reader.table.now) c.args.levels k in
-          let source_is : steps (languages_of c.args.reader.table.now) (c.args.levels - 1)
-          c.cell-item.result.language c.deref.result.now
-          ≡ one =
-          ap
-          (steps (languages_of c.args.reader.table.now) (c.args.levels - 1)
-          c.cell-item.result.language)
-          c.deref.ensures.value
-          ∙ sym (child_steps-is c.args.reader.table.now c.args.levels k some) in
-          let steps_are : c.capped_sum-steps.result ≡ capped (c.loop-cell.steps + capped one) =
-          c.capped_sum-steps.ensures
-          ∙ ap (λ m. capped (c.loop-cell.steps + m))
-          (c.in_ok-read.ensures.steps skipped ∙ ap capped source_is) in
-          let all : c.loop-cell.steps + one
-          + sum_over (child_steps (languages_of c.args.reader.table.now) c.args.levels) rest
-          ≡ c.loop-cell.steps
-          + sum_over (child_steps (languages_of c.args.reader.table.now) c.args.levels)
-          (k ∷ rest) =
-          omega arith in
-          ap (λ m. capped (m + sum_over (child_steps (languages_of c.args.reader.table.now) c.args.levels) rest)) steps_are
-          ∙ capped-left (c.loop-cell.steps + capped one)
-          (sum_over (child_steps (languages_of c.args.reader.table.now) c.args.levels) rest)
-          ∙ capped_middle c.loop-cell.steps one
-          (sum_over (child_steps (languages_of c.args.reader.table.now) c.args.levels) rest)
-          ∙ ap capped all
-          ∙ ap
-          (λ ks. capped (c.loop-cell.steps
-          + sum_over (child_steps (languages_of c.args.reader.table.now) c.args.levels) ks))
-          (sym (cells_split c.as_slice-cell-items.result.now c.loop-cell.cell-index
-          c.cell-item.result c.loop-cell-test.true c.cell-item.is))
-          ∙ c.loop-cell.invariant.inner skipped;
+          let one : ℕ = child_steps c.args.reader.skips (languages_of c.args.reader.table.now) c.args.levels k in
+          let source_is : made_steps c.args.reader.skips (languages_of c.args.reader.table.now) (c.args.levels - 1) c.cell-item.result.language c.deref.result.now ≡ one = ap (made_steps c.args.reader.skips (languages_of c.args.reader.table.now) (c.args.levels - 1) c.cell-item.result.language) c.deref.ensures.value ∙ sym (child_steps-is c.args.reader.skips c.args.reader.table.now c.args.levels k some) in
+          let steps_are : c.capped_sum-steps.result ≡ capped (c.loop-cell.steps + capped one) = c.capped_sum-steps.ensures ∙ ap (λ m. capped (c.loop-cell.steps + m)) (c.in_ok-read.ensures.steps ∙ ap capped source_is) in
+          let all : c.loop-cell.steps + one + sum_over (child_steps c.args.reader.skips (languages_of c.args.reader.table.now) c.args.levels) rest ≡ c.loop-cell.steps + sum_over (child_steps c.args.reader.skips (languages_of c.args.reader.table.now) c.args.levels) (k ∷ rest) = omega arith in
+          ap (λ m. capped (m + sum_over (child_steps c.args.reader.skips (languages_of c.args.reader.table.now) c.args.levels) rest)) steps_are
+          ∙ capped-left (c.loop-cell.steps + capped one) (sum_over (child_steps c.args.reader.skips (languages_of c.args.reader.table.now) c.args.levels) rest) ∙ capped_middle c.loop-cell.steps one (sum_over (child_steps c.args.reader.skips (languages_of c.args.reader.table.now) c.args.levels) rest) ∙ ap capped all
+          ∙ ap (λ ks. capped (c.loop-cell.steps + sum_over (child_steps c.args.reader.skips (languages_of c.args.reader.table.now) c.args.levels) ks)) (sym (cells_split c.as_slice-cell-items.result.now c.loop-cell.cell-index c.cell-item.result c.loop-cell-test.true c.cell-item.is))
+          ∙ c.loop-cell.invariant.inner;
       small = c.capped_sum-steps.ensures ∙ capped-twice (c.loop-cell.steps + c.in_ok-read.read.steps) ∙ sym (ap capped c.capped_sum-steps.ensures);
     }
 
@@ -205,12 +152,10 @@ read_notebook-returns-clause-reads t c =
     c.loop-cell.invariant.cells
 
 pub read_notebook-returns-then-levels-eq0-clause-steps : goal.read_notebook-returns-then-levels-eq0-clause-steps
-read_notebook-returns-then-levels-eq0-clause-steps t c =
-    λ skipped. sym (ap capped (steps-no_notebook c.args.reader.table.now c.args.levels
-    c.args.language c.args.text.now c.requires.notebook c.if-levels-eq0.true))
+read_notebook-returns-then-levels-eq0-clause-steps t c = sym (ap capped (steps-no_notebook c.args.reader.skips c.args.reader.table.now c.args.levels c.args.language c.args.text.now c.requires.notebook c.if-levels-eq0.true))
 
 pub read_notebook-returns-clause-steps : goal.read_notebook-returns-clause-steps
-read_notebook-returns-clause-steps t c = λ skipped.
+read_notebook-returns-clause-steps t c =
     let some : 0 < c.args.levels = omega (arith, c.if-levels-eq0.false) in
     let at_end : c.loop-cell.cell-index ≡ length c.as_slice-cell-items.result.now = omega (arith, c.loop-cell-test.false, c.loop-cell.auto.cell-index-end) in
     let none_left : map cell_block
@@ -220,8 +165,8 @@ read_notebook-returns-clause-steps t c = λ skipped.
     c.as_slice-cell-items.result.now (omega (arith, at_end))) in
     let bare : c.loop-cell.steps ≡ c.loop-cell.steps + 0 = omega arith in
     c.loop-cell.invariant.small
-    ∙ ap capped bare ∙ ap (λ ks. capped (c.loop-cell.steps + sum_over (child_steps (languages_of c.args.reader.table.now) c.args.levels) ks)) (sym none_left) ∙ c.loop-cell.invariant.inner skipped
-    ∙ sym (ap capped (steps-notebook c.args.reader.table.now c.args.levels c.args.language c.args.text.now c.requires.notebook some))
+    ∙ ap capped bare ∙ ap (λ ks. capped (c.loop-cell.steps + sum_over (child_steps c.args.reader.skips (languages_of c.args.reader.table.now) c.args.levels) ks)) (sym none_left) ∙ c.loop-cell.invariant.inner
+    ∙ sym (ap capped (steps-notebook c.args.reader.skips c.args.reader.table.now c.args.levels c.args.language c.args.text.now c.requires.notebook some))
 
 pub read_text-invariant_of-reading-clause-matched : goal.read_text-invariant_of-reading-clause-matched
 read_text-invariant_of-reading-clause-matched t c =
@@ -287,7 +232,7 @@ pub read_text-returns-clause-reads : goal.read_text-returns-clause-reads
 read_text-returns-clause-reads t c = c.assembled-stats.ensures ∙ all_read _ _ c.loop-so_far.invariant.under_way (omega (arith, c.loop-so_far-test.false))
 
 pub read_text-returns-clause-steps : goal.read_text-returns-clause-steps
-read_text-returns-clause-steps t c = λ skipped. c.capped_sum-steps.ensures ∙ all_made _ _ c.loop-so_far.invariant.under_way skipped (omega (arith, c.loop-so_far-test.false))
+read_text-returns-clause-steps t c = c.capped_sum-steps.ensures ∙ all_made _ _ c.loop-so_far.invariant.under_way (omega (arith, c.loop-so_far-test.false))
 
 pub read_walked-returns-in_err-so_far-in-Line-clause-overflow : goal.read_walked-returns-in_err-so_far-in-Line-clause-overflow
 read_walked-returns-in_err-so_far-in-Line-clause-overflow t c =
@@ -421,5 +366,5 @@ read_walked-returns-in_ok-add_blob-in-Broken-clause-under_way t c =
     (c.in_ok-part.ensures.found c.in-Broken.at c.in-Broken.is) _
     (c.in_ok-so_far-in-Broken.ensures.ok ∙ ap (plus (sums_of c.args.so_far.now.own)) c.share_of.ensures)
     (c.in_ok-add_blob-in-Broken.ensures.ok ∙ ap (λ s'. put old k.language (joined (at old k.language) (λ s. sum s s') s')) c.in_ok-read-in-Broken.ensures.reads)
-    refl (λ skipped. c.capped_sum-so_far.ensures ∙ ap (λ m. capped (c.args.so_far.now.inner_steps + m)) (c.in_ok-read-in-Broken.ensures.steps skipped))
+    refl (c.capped_sum-so_far.ensures ∙ ap (λ m. capped (c.args.so_far.now.inner_steps + m)) c.in_ok-read-in-Broken.ensures.steps)
     refl refl refl (c.in_ok-part.ensures.same ∙ c.requires.under_way.searched) c.requires.walked

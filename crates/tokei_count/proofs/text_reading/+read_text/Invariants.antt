@@ -1,4 +1,4 @@
-use Rattle.std.proofs.Common.{◌≡◌, ◌+◌, ◌*◌, map, ◌-◌, ◌≤◌, true, length, drop}
+use Rattle.std.proofs.Common.{◌≡◌, ◌+◌, ◌*◌, map, ◌-◌, ◌≤◌, length, drop}
 use Rattle.tokei_notebook.specs.Cells.{cell_of}
 use Rattle.tokei_count.specs.NotebookCells.{cell_block, cell_blocks}
 use Rattle.tokei_parts.specs.Lines.{line_len}
@@ -43,11 +43,6 @@ invariant-read_notebook-loop-cell l = record {
       (blobs_of (entries_of l.blobs.entries))
       (map cell_block (map cell_of (drop l.cell-index l.cell-items)))
       ≡ gathered (child_reading (languages_of l.reader.table.now) l.reader.docs_are_comments l.levels) none (cell_blocks l.reader.table.now l.fn.language l.text);
-  inner : l.reader.skips ≡ true
-      → capped (l.steps
-      + sum_over (child_steps (languages_of l.reader.table.now) l.levels)
-      (map cell_block (map cell_of (drop l.cell-index l.cell-items))))
-      ≡ capped (sum_over (child_steps (languages_of l.reader.table.now) l.levels)
-      (cell_blocks l.reader.table.now l.fn.language l.text));
+  inner : capped (l.steps + sum_over (child_steps l.reader.skips (languages_of l.reader.table.now) l.levels) (map cell_block (map cell_of (drop l.cell-index l.cell-items)))) ≡ capped (sum_over (child_steps l.reader.skips (languages_of l.reader.table.now) l.levels) (cell_blocks l.reader.table.now l.fn.language l.text));
   small : l.steps ≡ capped l.steps;
 }

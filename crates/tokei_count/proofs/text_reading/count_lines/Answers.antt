@@ -31,7 +31,7 @@ loop-at-preserved c =
     let low : at ≤ c.line_stop-stop.result = omega (arith, stop_is) in
     record {
       under_way = skipped_more c.args.reading.now c.args.so_far.now c.loop-at.lines c.one_more.new.lines at c.line_stop-stop.result c.args.next c.class_of_plain.result
-          c.loop-at.invariant.under_way c.one_more.ensures some c.requires.plain stop_is c.loop-at.invariant.next c.if-next-stop.false c.class_of_plain.ensures;
+          c.requires.skips c.loop-at.invariant.under_way c.one_more.ensures some c.requires.plain stop_is c.loop-at.invariant.next c.if-next-stop.false c.class_of_plain.ensures;
       few = omega (arith, c.loop-at.invariant.few, ap lines_of c.one_more.ensures, lines_of-one (sums_of c.loop-at.lines) c.class_of_plain.result, stop_is, line_some text at some);
       high = c.if-next-stop.false;
       next = opener_later (openers_in c.args.reading.now) text at c.line_stop-stop.result c.args.next low c.if-next-stop.false c.loop-at.invariant.next;

@@ -39,10 +39,10 @@ returns-clause-under_way c =
           ≡ blobs_with r none (all_children r)) (sym c.new-2.ensures.empty)
           (subst (λ (k : Chain). blobs_with r none (kids k) ≡ blobs_with r none (all_children r)) (sym none_open) refl);
       few = omega arith;
-      steps = λ skips.
-          subst (λ (k : Chain). 0 + (steps_left (row_in r) (blocks_of r) (length r.text.now) k r.text.now + length (kids k))
+      steps =
+          subst (λ (k : Chain). 0 + (steps_left (row_in r) (blocks_of r) (length r.text.now) r.skips k r.text.now + length (kids k))
           ≡ all_steps r) (sym none_open) (omega arith);
-      inner = λ skips.
+      inner =
           subst (λ (k : Chain). capped (0 + sum_over (steps_inside r) (kids k))
           ≡ capped (sum_over (steps_inside r) (all_children r))) (sym none_open) (ap capped none_yet);
       quiet = λ skips without. (none_open, subst (λ (m : Counts). lines_of m ≤ 0) (sym c.new.ensures) (omega arith));
