@@ -94,9 +94,7 @@ none_of None h = refl
 none_of (Some a) h = cc
 
 -- in a text without opener no part that begins plain is walked
-pub not_walked : (os : List (List ℕ)) (text : List ℕ) (start : ℕ) (c : Chain) → AreInLine os
-    → first_opener os text ≡ None → c ≡ []
-    → is_walked os (innermost c) (first_line (drop start text)) ≡ true → ⊥
+pub not_walked : (os : List (List ℕ)) (text : List ℕ) (start : ℕ) (c : Chain) → AreInLine os → first_opener os text ≡ None → c ≡ [] → is_walked os (innermost c) (first_line (drop start text)) ≡ true → ⊥
 not_walked os text start c lines none plain walked =
     let u : List ℕ = drop start text in
     let none_here : first_opener os u ≡ None = none_of (first_opener os u) (none_drop os start text (ap is_some none)) in
@@ -227,9 +225,7 @@ matchers_at rows language i d e h = ap (λ n. get_or (map matchers_of rows) n d)
     there (r ∷ rs) (suc n) h = there rs n (omega (arith, h))
 
 -- where a line ends and the text doesn't, a part begins
-pub glance_part : (text : List ℕ) (l start stop : ℕ) → IsPart text l start start
-    → stop ≡ start + length (first_line (drop start text)) → start < length text
-    → stop < length text → IsPart text l stop stop
+pub glance_part : (text : List ℕ) (l start stop : ℕ) → IsPart text l start start → stop ≡ start + length (first_line (drop start text)) → start < length text → stop < length text → IsPart text l stop stop
 glance_part text l start stop p e some more =
     let u : List ℕ = drop start text in
     let len : length u ≡ length text - start = length-drop start text in

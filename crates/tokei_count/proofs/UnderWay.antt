@@ -58,46 +58,16 @@ sums_with a b = record { blanks = a.blanks + b.blanks; code = a.code + b.code; c
 -- what was read so far, with those lines more, up to that place
 abbrev pub gone_on : ReadSoFar → Sums → ℕ → ReadSoFar
 gone_on p lines at =
-    record {
-      own = sums_with p.own lines;
-      blobs = p.blobs;
-      own_steps = p.own_steps;
-      inner_steps = p.inner_steps;
-      behind_child = p.behind_child;
-      start = at;
-      stack = p.stack;
-      search = p.search;
-      child = p.child;
-    }
+    record { own = sums_with p.own lines; blobs = p.blobs; own_steps = p.own_steps; inner_steps = p.inner_steps; behind_child = p.behind_child; start = at; stack = p.stack; search = p.search; child = p.child }
 
 -- the lines are told by their counts
 pub same_sums : (a b : Sums) → sums_of a ≡ sums_of b → a ≡ b
 same_sums a b e = ap (λ (m : Counts). record { blanks = m.blanks; code = m.code; comments = m.comments }) e
 
 pub counted_on : (r : Reading) (p : ReadSoFar) (o : Sums) (at : ℕ) → (lines : Sums) → sums_of o ≡ sums_of (sums_with p.own lines) → IsUnderWay r (gone_on p lines at)
-    → IsUnderWay r (record {
-      own = o;
-      blobs = p.blobs;
-      own_steps = p.own_steps;
-      inner_steps = p.inner_steps;
-      behind_child = p.behind_child;
-      start = at;
-      stack = p.stack;
-      search = p.search;
-      child = p.child;
-    })
+    → IsUnderWay r (record { own = o; blobs = p.blobs; own_steps = p.own_steps; inner_steps = p.inner_steps; behind_child = p.behind_child; start = at; stack = p.stack; search = p.search; child = p.child })
 counted_on r p o at lines e way =
-    subst (λ (s : Sums). IsUnderWay r (record {
-      own = s;
-      blobs = p.blobs;
-      own_steps = p.own_steps;
-      inner_steps = p.inner_steps;
-      behind_child = p.behind_child;
-      start = at;
-      stack = p.stack;
-      search = p.search;
-      child = p.child;
-    }))
+    subst (λ (s : Sums). IsUnderWay r (record { own = s; blobs = p.blobs; own_steps = p.own_steps; inner_steps = p.inner_steps; behind_child = p.behind_child; start = at; stack = p.stack; search = p.search; child = p.child }))
     (same_sums (sums_with p.own lines) o (sym e)) way
 
 module _ (r : Reading) (p : ReadSoFar) (way : IsUnderWay r p) where
@@ -108,26 +78,11 @@ module _ (r : Reading) (p : ReadSoFar) (way : IsUnderWay r p) where
       let c : 0 ≡ lines.code = ap (λ (m : Counts). m.code) (sym none) in
       let d : 0 ≡ lines.comments = ap (λ (m : Counts). m.comments) (sym none) in
       let same : p.own ≡ sums_with p.own lines = same_sums p.own (sums_with p.own lines) (counts_same _ _ (omega arith) (omega arith) (omega arith)) in
-      subst
-      (λ (s : Sums). IsUnderWay r (record {
-        own = s;
-        blobs = p.blobs;
-        own_steps = p.own_steps;
-        inner_steps = p.inner_steps;
-        behind_child = p.behind_child;
-        start = p.start;
-        stack = p.stack;
-        search = p.search;
-        child = p.child;
-      }))
-      same way
+      subst (λ (s : Sums). IsUnderWay r (record { own = s; blobs = p.blobs; own_steps = p.own_steps; inner_steps = p.inner_steps; behind_child = p.behind_child; start = p.start; stack = p.stack; search = p.search; child = p.child })) same way
 
   -- the counts so far fit where the whole does
   pub counts_fit : Fits (reading_of r) → CountsFit (sums_of p.own)
-  counts_fit fits =
-      own_fits r.table.now r.docs_are_comments r.levels r.language r.text.now (sums_of p.own)
-      (blobs_of (entries_of p.blobs.entries)) p.behind_child (chain_of p.stack.items)
-      (drop p.start r.text.now)
+  counts_fit fits = own_fits r.table.now r.docs_are_comments r.levels r.language r.text.now (sums_of p.own) (blobs_of (entries_of p.blobs.entries)) p.behind_child (chain_of p.stack.items) (drop p.start r.text.now)
       (record { counts = way.counts; kids = way.kids }) way.lines fits
 
   abbrev text : List ℕ
@@ -180,20 +135,18 @@ module _ (r : Reading) (p : ReadSoFar) (way : IsUnderWay r p) where
       (ap (λ os. is_walked os (innermost c) (first_line rest)) (sym (openers_are r)) ∙ walked)
 
   -- it goes on by a line that ends before the place `behind`
-  module _ (class : Class) (behind j : ℕ) (s : Vec Enclosure) (low : p.start < behind)
-      (line : ReadsLine (row_in r) (blocks_of r) p.behind_child r.docs_are_comments c (behind - p.start) j class (chain_of s.items) rest)
-    where
-      abbrev n : ℕ
-      n = behind - p.start
+  module _ (class : Class) (behind j : ℕ) (s : Vec Enclosure) (low : p.start < behind) (line : ReadsLine (row_in r) (blocks_of r) p.behind_child r.docs_are_comments c (behind - p.start) j class (chain_of s.items) rest) where
+    abbrev n : ℕ
+    n = behind - p.start
 
-      abbrev d : Chain
-      d = chain_of s.items
+    abbrev d : Chain
+    d = chain_of s.items
 
-      there : drop n rest ≡ drop behind text
-      there = let place : p.start + n ≡ behind = omega (arith, low) in drop-drop n p.start text ∙ ap (λ m. drop m text) place
+    there : drop n rest ≡ drop behind text
+    there = let place : p.start + n ≡ behind = omega (arith, low) in drop-drop n p.start text ∙ ap (λ m. drop m text) place
 
-      line_sum_fits : Fits (reading_of r) → CountsFit (plus own (one_of class))
-      line_sum_fits fits = line_fits r.table.now r.docs_are_comments r.levels r.language text own blobs p.behind_child c rest counted n class d line way.lines fits
+    line_sum_fits : Fits (reading_of r) → CountsFit (plus own (one_of class))
+    line_sum_fits fits = line_fits r.table.now r.docs_are_comments r.levels r.language text own blobs p.behind_child c rest counted n class d line way.lines fits
 
     line_on : (o : Sums) (m : ℕ) (h : List ℕ) (k : CodeBlock.Block) → sums_of o ≡ plus own (one_of class) → h ≡ text → m ≤ behind → (behind < length text → IsPart text p.behind_child behind behind)
         → AreUnderWay r.skips r.table.now r.levels r.language text m p.inner_steps p.behind_child d (drop n rest)
@@ -236,10 +189,7 @@ module _ (r : Reading) (p : ReadSoFar) (way : IsUnderWay r p) where
     holds_none = ap (λ os. holds os (first_line rest)) (sym (openers_are r)) ∙ none
 
     line : (j : ℕ) × ReadsLine (row_in r) (blocks_of r) p.behind_child r.docs_are_comments c (stop - p.start) j class c rest
-    line =
-        glance_reads r.table.now r.docs_are_comments r.levels r.language text p.behind_child rest
-        class c (stop - p.start) plain size way.tokens
-        (omega (arith, length-drop p.start text, some)) holds_none class_is
+    line = glance_reads r.table.now r.docs_are_comments r.levels r.language text p.behind_child rest class c (stop - p.start) plain size way.tokens (omega (arith, length-drop p.start text, some)) holds_none class_is
 
     pub skipped_fits : Fits (reading_of r) → CountsFit (plus own (one_of class))
     skipped_fits fits = line_sum_fits class stop line.0 p.stack low line.1 fits
@@ -252,11 +202,9 @@ module _ (r : Reading) (p : ReadSoFar) (way : IsUnderWay r p) where
         (λ skipped quiet. (plain, omega (arith, (way.quiet skipped quiet).1, ap lines_of own_is, lines_of-one own class, low)))
 
   -- a part that is walked to the end of its line, by so many steps
-  module _ (class : Class) (behind made : ℕ) (s : Vec Enclosure)
-      (part : ReadsTo (row_in r) (blocks_of r) p.behind_child r.docs_are_comments c (chain_of s.items) p.start text made (Line class behind))
-    where
-      pub walked_fits : Fits (reading_of r) → CountsFit (plus own (one_of class))
-      walked_fits fits = line_sum_fits class behind made s part.some part.reads fits
+  module _ (class : Class) (behind made : ℕ) (s : Vec Enclosure) (part : ReadsTo (row_in r) (blocks_of r) p.behind_child r.docs_are_comments c (chain_of s.items) p.start text made (Line class behind)) where
+    pub walked_fits : Fits (reading_of r) → CountsFit (plus own (one_of class))
+    walked_fits fits = line_sum_fits class behind made s part.some part.reads fits
 
     pub walked_on : (o : Sums) (h : List ℕ) (k : CodeBlock.Block) → sums_of o ≡ plus own (one_of class) → h ≡ text → (r.skips ≡ true → is_walked (openers_in r) (innermost c) (first_line rest) ≡ true)
         → IsUnderWay r (record { own = o; blobs = p.blobs; own_steps = p.own_steps + made; inner_steps = p.inner_steps; behind_child = p.behind_child; start = behind; stack = s; search = h; child = k })
@@ -269,9 +217,7 @@ module _ (r : Reading) (p : ReadSoFar) (way : IsUnderWay r p) where
         (λ skipped none. absurd (unwalked skipped none (walked skipped)))
 
   -- a part that is walked to the place at which a child breaks it off, and the child k
-  module _ (place made : ℕ) (d : Chain) (k : Block)
-      (part : ReadsTo (row_in r) (blocks_of r) p.behind_child r.docs_are_comments c d p.start text made (Broken place))
-      (opens : blocks_of r p.behind_child (drop place text) ≡ Some k) where
+  module _ (place made : ℕ) (d : Chain) (k : Block) (part : ReadsTo (row_in r) (blocks_of r) p.behind_child r.docs_are_comments c d p.start text made (Broken place)) (opens : blocks_of r p.behind_child (drop place text) ≡ Some k) where
     abbrev before : ℕ
     before = place - p.start
 
@@ -311,9 +257,7 @@ module _ (r : Reading) (p : ReadSoFar) (way : IsUnderWay r p) where
         let plain : chain_of q.stack.items ≡ [] = chain_is ∙ breaks.reads.plain in
         let low : p.start ≤ place = breaks.part.low in
         let left' : length rest - (before + k.size) ≡ q.behind_child = omega (arith, len, low, left_is) in
-        let there : drop (before + k.size) rest ≡ drop q.start text =
-        let at_place : p.start + (before + k.size) ≡ q.start = omega (arith, low, start_is)
-        in drop-drop (before + k.size) p.start text ∙ ap (λ m. drop m text) at_place in
+        let there : drop (before + k.size) rest ≡ drop q.start text = let at_place : p.start + (before + k.size) ≡ q.start = omega (arith, low, start_is) in drop-drop (before + k.size) p.start text ∙ ap (λ m. drop m text) at_place in
         let own_steps_are : p.own_steps + (j + 1) ≡ q.own_steps = omega (arith, made_is, part.2) in
         let within : q.start ≤ length text = omega (arith, child_within, start_is) in
         let went = child_read r.table.now r.docs_are_comments r.levels r.language text own blobs p.behind_child c rest counted before j k d breaks.reads in
@@ -335,11 +279,7 @@ module _ (r : Reading) (p : ReadSoFar) (way : IsUnderWay r p) where
           tokens = way.tokens;
           closable = subst IsClosable (sym plain) tt;
           within = within;
-          part =
-              λ more. let left_there : length text - q.start ≡ q.behind_child = omega
-              (arith, left_is, start_is)
-              in subst (λ l. IsPart text l q.start q.start) left_there
-              (part_behind text q.start within);
+          part = λ more. let left_there : length text - q.start ≡ q.behind_child = omega (arith, left_is, start_is) in subst (λ l. IsPart text l q.start q.start) left_there (part_behind text q.start within);
           searched = searched;
           counts = now.counts;
           kids = now.kids;
@@ -357,10 +297,7 @@ pub skipped_more : (r : Reading) (p : ReadSoFar) (lines more : Sums) (at stop ne
 skipped_more r p lines more at stop next class skipped way more_is some plain stop_is next_is before class_is =
     let q : ReadSoFar = gone_on p lines at in
     let u : List ℕ = drop at r.text.now in
-    let none : holds (openers_in r) (first_line u) ≡ false =
-    holds-line (openers_in r) (openers_lines r q way) u
-    ∙ place-behind (openers_in r) u (length (first_line u))
-    (omega (arith, stop_is, next_is, before)) in
+    let none : holds (openers_in r) (first_line u) ≡ false = holds-line (openers_in r) (openers_lines r q way) u ∙ place-behind (openers_in r) u (length (first_line u)) (omega (arith, stop_is, next_is, before)) in
     let blanks : more.blanks ≡ lines.blanks + (one_of class).blanks = ap (λ (m : Counts). m.blanks) more_is in
     let code : more.code ≡ lines.code + (one_of class).code = ap (λ (m : Counts). m.code) more_is in
     let comments : more.comments ≡ lines.comments + (one_of class).comments = ap (λ (m : Counts). m.comments) more_is in
