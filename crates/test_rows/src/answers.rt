@@ -124,11 +124,6 @@ impl Answers {
         Ok(())
     }
 
-    /// Takes back what is answered for a member.
-    pub fn forget(&mut self, member: &str) {
-        self.list.retain(|answer| answer.member != member);
-    }
-
     /// Whether these are the answers, in their order.
     pub fn are(&self, other: &Answers) -> bool {
         self.list == other.list

@@ -6,8 +6,9 @@ use crate::row::{Row, told as told_of};
 use crate::subject::Members;
 use crate::world::{World, own_table};
 use std::alloc::Global;
-use test_texts::every_call::told;
-use tokei_table::LanguageTable;
+use test_texts::every_call::{agreed, told};
+use tokei_count::{CountConfig, Counter};
+use tokei_table::{LanguageTable, LanguageType};
 
 /// The members of these rows. `counts` are the blank, code and comment lines; `blobs` those of the texts inside it, by
 /// the key of their language, and of texts inside these by both keys, as `"Markdown/Rust"`; `summary` all together.
@@ -53,23 +54,31 @@ fn came_by(alloc: Global, table: &LanguageTable, row: &Row) -> Result<Answers, R
     answers(alloc, table, row, &text)
 }
 
-/// What the calls tell of a text's beginning by a table, its steps aside.
+/// What the calls tell of a text's beginning, its steps aside.
 fn beginning(
     alloc: Global,
-    table: &LanguageTable,
+    counter: &Counter,
     row: &Row,
     text: &[u8],
 ) -> Result<Answers, RowError> {
-    let mut answers = answers(alloc, table, row, text)?;
-    answers.forget("steps");
-    Ok(answers)
+    let config = CountConfig {
+        treat_doc_strings_as_comments: row.flag_if("doc_strings_are_comments")?,
+    };
+    let Some(language) = LanguageType::from_name(counter.table(), row.text("language")?) else {
+        return told_of(alloc, "the table hasn't the language");
+    };
+    match agreed(alloc, counter, language, text, &config) {
+        Ok(Some((stats, _))) => answers_of(alloc, counter.table(), &stats),
+        Ok(None) => told_of(alloc, "two calls count otherwise"),
+        Err(cause) => Err(refused(alloc, cause)),
+    }
 }
 
-/// Where the first beginning of a text ends of which two tables tell otherwise, if there is one.
+/// Where the first beginning of a text ends that is told otherwise by two tables, if there is one.
 fn first_unlike(
     alloc: Global,
-    one: &LanguageTable,
-    other: &LanguageTable,
+    one: &Counter,
+    other: &Counter,
     row: &Row,
     text: &[u8],
 ) -> Result<Option<usize>, RowError> {
@@ -82,7 +91,7 @@ fn first_unlike(
     Ok(None)
 }
 
-/// Tells that two tables tell otherwise of a beginning of the row's text, where they do.
+/// Tells that two tables tell otherwise of a beginning of the row's text, where they do. Each table is made ready once.
 fn compare(
     alloc: Global,
     one: &LanguageTable,
@@ -90,7 +99,9 @@ fn compare(
     row: &Row,
 ) -> Result<(), RowError> {
     let text = row.bytes(alloc, "text", "text_hex")?;
-    match first_unlike(alloc, one, other, row, &text)? {
+    let one = Counter::new(alloc, one)?;
+    let other = Counter::new(alloc, other)?;
+    match first_unlike(alloc, &one, &other, row, &text)? {
         Some(end) => Err(RowError::Told(format!(in alloc;
             "the two tables tell otherwise of the first {end} bytes"
         )?)),
