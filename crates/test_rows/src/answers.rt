@@ -5,7 +5,7 @@ use std::alloc::Global;
 use toml::Value;
 
 /// What is answered for a member.
-#[derive(Drop)]
+#[derive(PartialEq, Drop)]
 pub struct Answer {
     /// The member of the row which says what is wanted.
     pub member: &'static str,
@@ -122,6 +122,16 @@ impl Answers {
     pub fn leave(&mut self, member: &'static str) -> Result<(), RowError> {
         self.left.push(member)?;
         Ok(())
+    }
+
+    /// Takes back what is answered for a member.
+    pub fn forget(&mut self, member: &str) {
+        self.list.retain(|answer| answer.member != member);
+    }
+
+    /// Whether these are the answers, in their order.
+    pub fn are(&self, other: &Answers) -> bool {
+        self.list == other.list
     }
 
     /// Whether a member is left out of what is compared.

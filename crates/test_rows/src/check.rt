@@ -86,9 +86,16 @@ fn differences(
     Ok(told)
 }
 
-/// A line about the row as a whole.
-fn line(alloc: Global, cause: &str) -> Result<String, RowError> {
-    Ok(format!(in alloc; "  {cause}\n")?)
+/// The lines of a text, each behind two blanks.
+pub fn indented(alloc: Global, text: &str) -> Result<String, RowError> {
+    let mut lines = String::new(alloc);
+    for line in text.split('\n') {
+        if !line.is_empty() {
+            let line = format!(in alloc; "  {line}\n")?;
+            lines.push_str(line.as_str())?;
+        }
+    }
+    Ok(lines)
 }
 
 /// Asks a row, and tells what isn't as wanted.
@@ -119,7 +126,7 @@ pub fn faults(
         Err(RowError::Memory) => Err(RowError::Memory),
         Err(cause) => {
             let cause = format!(in alloc; "{cause}")?;
-            line(alloc, cause.as_str())
+            indented(alloc, cause.as_str())
         }
     }
 }

@@ -53,16 +53,67 @@ fn came_by(alloc: Global, table: &LanguageTable, row: &Row) -> Result<Answers, R
     answers(alloc, table, row, &text)
 }
 
-/// What the calls answer. By another table than the row's own the steps may be others.
+/// What the calls tell of a text's beginning by a table, its steps aside.
+fn beginning(
+    alloc: Global,
+    table: &LanguageTable,
+    row: &Row,
+    text: &[u8],
+) -> Result<Answers, RowError> {
+    let mut answers = answers(alloc, table, row, text)?;
+    answers.forget("steps");
+    Ok(answers)
+}
+
+/// Where the first beginning of a text ends of which two tables tell otherwise, if there is one.
+fn first_unlike(
+    alloc: Global,
+    one: &LanguageTable,
+    other: &LanguageTable,
+    row: &Row,
+    text: &[u8],
+) -> Result<Option<usize>, RowError> {
+    for end in 0..text.len() {
+        let told = beginning(alloc, one, row, &text[..end])?;
+        if !told.are(&beginning(alloc, other, row, &text[..end])?) {
+            return Ok(Some(end));
+        }
+    }
+    Ok(None)
+}
+
+/// Tells that two tables tell otherwise of a beginning of the row's text, where they do.
+fn compare(
+    alloc: Global,
+    one: &LanguageTable,
+    other: &LanguageTable,
+    row: &Row,
+) -> Result<(), RowError> {
+    let text = row.bytes(alloc, "text", "text_hex")?;
+    match first_unlike(alloc, one, other, row, &text)? {
+        Some(end) => Err(RowError::Told(format!(in alloc;
+            "the two tables tell otherwise of the first {end} bytes"
+        )?)),
+        None => Ok(()),
+    }
+}
+
+/// What the calls answer by the table that is named. Where that isn't the bench table, both have to tell the same of each
+/// beginning of the text too, but for the steps, which may be others.
+fn came_by_named(alloc: Global, world: &World, row: &Row) -> Result<Answers, RowError> {
+    let table = world.table()?;
+    let mut answers = came_by(alloc, table, row)?;
+    if let Some(bench) = &world.bench {
+        answers.leave("steps")?;
+        compare(alloc, bench, table, row)?;
+    }
+    Ok(answers)
+}
+
+/// What the calls answer.
 pub fn came(alloc: Global, world: &World, row: &Row) -> Result<Answers, RowError> {
     match own_table(alloc, row)? {
         Some(table) => came_by(alloc, &table, row),
-        None => {
-            let mut answers = came_by(alloc, world.table()?, row)?;
-            if world.replaced {
-                answers.leave("steps")?;
-            }
-            Ok(answers)
-        }
+        None => came_by_named(alloc, world, row),
     }
 }

@@ -1,5 +1,5 @@
 //! The rows of a file.
-use crate::check::faults;
+use crate::check::{faults, indented};
 use crate::error::RowError;
 use crate::row::Row;
 use crate::subject::Subject;
@@ -154,6 +154,15 @@ fn ask_members(
     Ok(told)
 }
 
+/// That a file isn't TOML, and why.
+fn no_toml(alloc: Global, subject: Subject, cause: &str) -> Result<Told, RowError> {
+    let mut told = Told::new(alloc);
+    let file = subject.file();
+    let head = format!(in alloc; "{file}: it isn't TOML")?;
+    told.refuse(alloc, head.as_str(), indented(alloc, cause)?.as_str())?;
+    Ok(told)
+}
+
 /// Asks the rows of a file's text.
 pub fn ask_text(
     alloc: Global,
@@ -167,11 +176,8 @@ pub fn ask_text(
         Err(cause) => if cause.is_memory() {
             Err(RowError::Memory)
         } else {
-            let mut told = Told::new(alloc);
-            let file = subject.file();
-            let head = format!(in alloc; "{file}: it isn't TOML: {cause}")?;
-            told.refuse(alloc, head.as_str(), "")?;
-            Ok(told)
+            let cause = format!(in alloc; "{cause}")?;
+            no_toml(alloc, subject, cause.as_str())
         },
     }
 }

@@ -67,17 +67,24 @@ use tokei_bench::bench_json;
 use tokei_table::LanguageTable;
 use world::World;
 
-/// The table by which a subject's rows are asked.
+/// The table at a path.
+fn table_at(rt: &HostRuntime, path: &str) -> anyhow::Result<LanguageTable> {
+    let bytes = fs::read(rt, path)?;
+    Ok(LanguageTable::from_json(rt.alloc(), &bytes)?)
+}
+
+/// The tables by which a subject's rows are asked.
 fn world_of(rt: &HostRuntime, subject: Subject, path: Option<&str>) -> anyhow::Result<World> {
     let mut world = World {
         named: None,
-        replaced: path.is_some(),
+        bench: None,
     };
     if subject.members().by_table {
-        world.named = Some(match path {
-            Some(path) => LanguageTable::from_json(rt.alloc(), &fs::read(rt, path)?)?,
-            None => LanguageTable::from_json(rt.alloc(), bench_json())?,
-        });
+        world.named = Some(LanguageTable::from_json(rt.alloc(), bench_json())?);
+    }
+    if let Some(path) = path {
+        world.bench = world.named;
+        world.named = Some(table_at(rt, path)?);
     }
     Ok(world)
 }

@@ -3,7 +3,12 @@ use crate::answers::Answers;
 use crate::error::RowError;
 use crate::row::Row;
 use crate::world::World;
-use crate::{blocks, bytes, captures, columns, command_lines, configuration_files, contexts, counting, documents, files, folders, ignore_files, languages, listings, look_ups, next_places, notes, openers, overriding, patterns, printed, program, program_faults, read_back, reports, run_sums, runs, statistics, sums, syntaxes, tables, texts, walks, words};
+use crate::{
+    blocks, bytes, captures, columns, command_lines, configuration_files, contexts, counting,
+    documents, files, folders, ignore_files, languages, listings, look_ups, next_places, notes,
+    openers, overriding, patterns, printed, program, program_faults, read_back, reports, run_sums,
+    runs, statistics, sums, syntaxes, tables, texts, walks, words,
+};
 use std::alloc::Global;
 
 /// The members of a subject's rows, beside `name`.

@@ -9,8 +9,8 @@ use tokei_table::{LanguageTable, TableError};
 pub struct World {
     /// The table of rows that name none; only rows of a subject that says `by_table` have it.
     pub named: Option<LanguageTable>,
-    /// Whether that is another one than the bench table.
-    pub replaced: bool,
+    /// The bench table, where the other one is named in its place.
+    pub bench: Option<LanguageTable>,
 }
 
 impl World {
