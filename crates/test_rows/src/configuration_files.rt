@@ -32,7 +32,7 @@ pub const MEMBERS: Members = Members {
         "new_language_adds",
     ],
     optional: &[],
-    by_table: true,
+    by_table: false,
 };
 
 /// The three folders of a user.
