@@ -43,7 +43,7 @@ fn adds_nothing(alloc: Global, table: &LanguageTable) -> Result<bool, InputError
     });
     let mut languages = Languages::new(alloc);
     add_input(alloc, table, &mut reader, &mut languages)?;
-    Ok(languages.is_empty())
+    Ok(languages.len() == 0)
 }
 
 /// The same by the table of few languages.
