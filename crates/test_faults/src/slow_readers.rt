@@ -9,6 +9,7 @@ use tokei_languages::Languages;
 use tokei_table::LanguageTable;
 
 /// A reader that gives what another one gives, a byte in each read.
+#[derive(Drop)]
 struct Slow<R> {
     inner: R,
 }
