@@ -9,6 +9,7 @@ use tokei_languages::Languages;
 use tokei_table::LanguageTable;
 
 /// A reader that gives what another one gives, a byte in each read.
+#[derive(Drop)]
 struct Slow<R> {
     inner: R,
 }
@@ -43,7 +44,7 @@ fn adds_nothing(alloc: Global, table: &LanguageTable) -> Result<bool, InputError
     });
     let mut languages = Languages::new(alloc);
     add_input(alloc, table, &mut reader, &mut languages)?;
-    Ok(languages.is_empty())
+    Ok(languages.len() == 0)
 }
 
 /// The same by the table of few languages.
