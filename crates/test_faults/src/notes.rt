@@ -4,7 +4,7 @@ use std::alloc::{AllocError, Global};
 use tokei_program::log_notes;
 use tokei_walk::{Note, NoteKind, Text};
 
-const KINDS: [NoteKind; 7] = [
+const KINDS: [NoteKind; 10] = [
     NoteKind::MissingRoot,
     NoteKind::BadLine,
     NoteKind::Unlisted,
@@ -12,6 +12,9 @@ const KINDS: [NoteKind; 7] = [
     NoteKind::UnreadIgnore,
     NoteKind::TooDeep,
     NoteKind::BadExclude,
+    NoteKind::LostEntry,
+    NoteKind::UnreadContent,
+    NoteKind::UnresolvedRoot,
 ];
 
 const ALL: &str = "[ERROR not found] a/b

@@ -8,7 +8,7 @@ use Rattle.log.specs.declared.level.LevelFilter.{LevelFilter}
 use Rattle.log.specs.declared.level.LevelFilter.TheVariants as level_filter
 use Rattle.tokei_walk.specs.declared.kept_file.Note.{Note}
 use Rattle.tokei_walk.specs.declared.kept_file.NoteKind.{NoteKind}
-use Rattle.tokei_walk.specs.declared.kept_file.NoteKind.TheVariants.{MissingRoot, Unlisted, UnreadIgnore, BadLine, BadExclude, Unnamed, TooDeep}
+use Rattle.tokei_walk.specs.declared.kept_file.NoteKind.TheVariants.{MissingRoot, Unlisted, UnreadIgnore, BadLine, BadExclude, Unnamed, TooDeep, LostEntry, UnreadContent, UnresolvedRoot}
 
 -- what keeps something from being counted that the user named is an error, the rest are warnings
 abbrev pub level_of : NoteKind → Level
@@ -19,6 +19,9 @@ level_of BadLine = Warn
 level_of BadExclude = Error
 level_of Unnamed = Warn
 level_of TooDeep = Warn
+level_of LostEntry = Error
+level_of UnreadContent = Error
+level_of UnresolvedRoot = Error
 
 -- what a note says of its place
 abbrev pub words_of : NoteKind → List ℕ
@@ -29,6 +32,9 @@ words_of BadLine = codes "bad line in ignore file"
 words_of BadExclude = codes "exclude is no pattern"
 words_of Unnamed = codes "name isn't UTF-8 in folder"
 words_of TooDeep = codes "folder too deep"
+words_of LostEntry = codes "entry can't be told"
+words_of UnreadContent = codes "file can't be read"
+words_of UnresolvedRoot = codes "folders above can't be told"
 
 -- the levels that are shown where the option for more notes was given n times
 abbrev pub filter_of : ℕ → LevelFilter

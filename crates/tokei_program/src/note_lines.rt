@@ -16,7 +16,10 @@ fn level(kind: NoteKind) -> Level
         NoteKind::MissingRoot
         | NoteKind::Unlisted
         | NoteKind::UnreadIgnore
-        | NoteKind::BadExclude => Level::Error,
+        | NoteKind::BadExclude
+        | NoteKind::LostEntry
+        | NoteKind::UnreadContent
+        | NoteKind::UnresolvedRoot => Level::Error,
         NoteKind::BadLine | NoteKind::Unnamed | NoteKind::TooDeep => Level::Warn,
     }
 }
@@ -33,6 +36,9 @@ fn words(kind: NoteKind) -> &'static str
         NoteKind::BadExclude => "exclude is no pattern",
         NoteKind::Unnamed => "name isn't UTF-8 in folder",
         NoteKind::TooDeep => "folder too deep",
+        NoteKind::LostEntry => "entry can't be told",
+        NoteKind::UnreadContent => "file can't be read",
+        NoteKind::UnresolvedRoot => "folders above can't be told",
     }
 }
 

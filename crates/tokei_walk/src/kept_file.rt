@@ -27,6 +27,12 @@ pub enum NoteKind {
     Unnamed,
     /// A folder more than 256 below its root.
     TooDeep,
+    /// An entry of a folder of which it can't be told what stands there: it is passed over.
+    LostEntry,
+    /// A file that counts in a language, and whose content can't be read.
+    UnreadContent,
+    /// A root of which it can't be told which folders are above it: none is obeyed.
+    UnresolvedRoot,
 }
 
 /// What a walk met and passed over.
