@@ -24,6 +24,9 @@ const ALL: &str = "[ERROR not found] a/b
 [ERROR ignore file can't be read] a/b
 [WARN  folder too deep] a/b
 [ERROR exclude is no pattern] a/b
+[ERROR entry can't be told] a/b
+[ERROR file can't be read] a/b
+[ERROR folders above can't be told] a/b
 ";
 
 /// A note of each kind.
@@ -50,7 +53,7 @@ fn adds_a_beginning(alloc: Global) -> bool {
         }
     }
     let added = lines.as_slice().len();
-    if logged { added == 7 } else { added < 7 }
+    if logged { added == KINDS.len() } else { added < KINDS.len() }
 }
 
 #[test]

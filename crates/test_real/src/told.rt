@@ -28,6 +28,9 @@ fn name_of(kind: NoteKind) -> &'static str {
         NoteKind::BadExclude => "BadExclude",
         NoteKind::Unnamed => "Unnamed",
         NoteKind::TooDeep => "TooDeep",
+        NoteKind::LostEntry => "LostEntry",
+        NoteKind::UnreadContent => "UnreadContent",
+        NoteKind::UnresolvedRoot => "UnresolvedRoot",
     }
 }
 
