@@ -104,11 +104,7 @@ fn add_place(groups: &mut Vec<Group>, group: usize, place: usize) -> Result<(), 
 }
 
 /// Puts the place at the end of each text's group.
-fn add_entries(
-    groups: &mut Vec<Group>,
-    place: usize,
-    texts: &[String],
-) -> Result<(), AllocError>
+fn add_entries(groups: &mut Vec<Group>, place: usize, texts: &[String]) -> Result<(), AllocError>
     requires { length groups.old.items ≡ 256 }
     ensures len { length groups.new.items ≡ 256 }
     ensures added { OnOk result (AddsEntries (entries_of place (tokens_of texts.now))
