@@ -1,10 +1,11 @@
 -- Further extensions leave a table well formed.
 use Rattle.std.proofs.Common.{◌≡◌, ℕ, ◌+◌, List, [], ◌∷◌, ◌++◌, refl, sym, ◌∙◌, ap, subst}
+use Rattle.std.proofs.lemmas.List.{append-nil}
 use Rattle.std.specs.List.Sorted.{IsStrictlySortedBy}
 use Rattle.std.specs.Ordering.{nat_cmp}
 use Rattle.std.specs.Cmp.Lexicographic.{slice_cmp}
 use Rattle.tokei_table_rules.proofs.ExtendedRows.{same_tokens, same_names, same_totals, same_fallbacks}
-use Rattle.tokei_table_rules.specs.Extended.{gained, listed_for, extended_from, extended, extensions_of}
+use Rattle.tokei_table_rules.specs.Extended.{gained, listed_for, extended_from, extended, extensions_of, with_extensions}
 use Rattle.tokei_table_json.specs.KeyOrder.{keys_of}
 use Rattle.tokei_table_row.specs.Row.{Row}
 use Rattle.tokei_table.specs.WellFormed.{IsWellFormed}
@@ -27,3 +28,16 @@ module _ (adds : List (ℕ × List (List ℕ))) where
 
 pub same_well_formed : (rs ss : List Row) → rs ≡ ss → IsWellFormed ss → IsWellFormed rs
 same_well_formed rs ss e w = subst IsWellFormed (sym e) w
+
+same_row : (r : Row) → with_extensions r [] ≡ r
+same_row r = ap (λ es. record r { extensions = es }) (append-nil r.extensions)
+
+same_rows : (rs : List Row) (n : ℕ) (known : List (List ℕ)) → extended_from n known [] rs ≡ rs
+same_rows [] n known = refl
+same_rows (r ∷ rs) n known =
+    ap (λ s. s ∷ extended_from (n + 1) (known ++ []) [] rs) (same_row r)
+    ∙ ap (λ ss. r ∷ ss) (same_rows rs (n + 1) (known ++ []))
+
+-- a table that gains nothing
+pub extended_by_none : (rs : List Row) (adds : List (ℕ × List (List ℕ))) → adds ≡ [] → extended rs adds ≡ rs
+extended_by_none rs adds e = ap (extended rs) e ∙ same_rows rs 0 (extensions_of rs)

@@ -19,16 +19,18 @@ use crate::language_type::LanguageType;
 use serde_json::Value;
 use std::alloc::{AllocError, Global};
 use std::marker::Model;
+use std::rc::Rc;
 use tokei_table_json::{has_layout, is_escaped_table, rows_at};
 use tokei_table_row::Syntax;
 use tokei_table_rules::IndexedRows;
 use tokei_table_rules::names::names_twice;
 use tokei_table_rules::well_formed::{all_have_fallbacks, all_have_tokens, names_total};
 
-/// The table of languages, which contracts see as its rows, in the byte order of their keys.
+/// The table of languages, which contracts see as its rows, in the byte order of their keys. A
+/// table that gains nothing shares its rows.
 #[derive(Drop)]
 pub struct LanguageTable {
-    rows: IndexedRows,
+    rows: Rc<IndexedRows>,
 }
 
 impl Model for LanguageTable {
@@ -38,9 +40,9 @@ impl Model for LanguageTable {
 
     ghost Value = { List Row };
 
-    ghost view = { λ t. t.rows };
+    ghost view = { λ t. t.rows.value };
 
-    ghost invariant = { λ t. IsWellFormed t.rows };
+    ghost invariant = { λ t. IsWellFormed t.rows.value };
 }
 
 #[tactic(auto, unfolding(crate::specs::Outcome::data_of))]
@@ -107,7 +109,7 @@ fn indexed(alloc: Global, rows: Vec<Syntax>) -> Result<LanguageTable, AllocError
     requires { IsWellFormed (map row_of rows.items) }
     ensures { IfOk result (λ t. t ≡ map row_of rows.items) }
 {
-    let rows = IndexedRows::new(alloc, rows)?;
+    let rows = Rc::new(alloc, IndexedRows::new(alloc, rows)?)?;
     Ok(LanguageTable { rows })
 }
 
@@ -127,14 +129,14 @@ impl LanguageTable {
     pub(crate) fn rows(&self) -> &[Syntax]
         ensures { map row_of result.now ≡ self.entry.now }
     {
-        self.rows.rows()
+        self.rows.as_ref().rows()
     }
 
     /// The rows with their index.
     pub(crate) fn indexed_rows(&self) -> &IndexedRows
         ensures { result.now ≡ self.entry.now }
     {
-        &self.rows
+        self.rows.as_ref()
     }
 
     /// How many languages there are.
@@ -142,21 +144,21 @@ impl LanguageTable {
         ensures value { result ≡ length self.now }
         ensures well_formed { IsWellFormed self.now }
     {
-        self.rows.rows().len()
+        self.rows.as_ref().rows().len()
     }
 
     /// Whether there are no languages.
     pub fn is_empty(&self) -> bool
         ensures { result ≡ (length self.now == 0) }
     {
-        self.rows.rows().is_empty()
+        self.rows.as_ref().rows().is_empty()
     }
 
     /// Whether the language is one of this table.
     pub fn has(&self, language: LanguageType) -> bool
         ensures { result ≡ nat_lt language (length self.now) }
     {
-        language.index() < self.rows.rows().len()
+        language.index() < self.rows.as_ref().rows().len()
     }
 
     /// The language's row as read. All its tokens are neither empty nor all blank, and none holds a
@@ -167,7 +169,15 @@ impl LanguageTable {
         ensures tokens { has_tokens (row_of result.now) ≡ true }
         ensures sound { IsSound (row_of result.now) }
     {
-        &self.rows.rows()[language.index()]
+        &self.rows.as_ref().rows()[language.index()]
+    }
+
+    /// The same table, over the same rows. It fails where they are shared too often.
+    fn shared(&self) -> Result<LanguageTable, AllocError>
+        ensures { IfOk result (λ t. t ≡ self.now) }
+    {
+        let rows = self.rows.clone()?;
+        Ok(LanguageTable { rows })
     }
 
     /// The table in which, in its order, each language gains those of the extensions listed for it
@@ -180,7 +190,10 @@ impl LanguageTable {
     ) -> Result<LanguageTable, AllocError>
         ensures { IfOk result (λ t. t ≡ extended self.now (map addition_of additions.now)) }
     {
-        let rows = extended_rows(alloc, self.rows.rows(), additions)?;
+        if additions.is_empty() {
+            return self.shared();
+        }
+        let rows = extended_rows(alloc, self.rows.as_ref().rows(), additions)?;
         indexed(alloc, rows)
     }
 }

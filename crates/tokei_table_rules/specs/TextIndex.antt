@@ -35,6 +35,10 @@ abbrev pub in_group : ℕ → List (ℕ × ℕ) → List ℕ
 in_group g [] = []
 in_group g (e ∷ es) = if e.0 == g then e.1 ∷ in_group g es else in_group g es
 
+-- Each group has the places that stand beside it behind its own.
+pub record AddsEntries (entries : List (ℕ × ℕ)) (before after : List (List ℕ)) : Type 0 where
+  pub each : (g : ℕ) → slice_index_or after g [] ≡ slice_index_or before g [] ++ in_group g entries
+
 -- For each group the places that stand beside it.
 pub record AreGroups (entries : List (ℕ × ℕ)) (groups : List (List ℕ)) : Type 0 where
   pub all : length groups ≡ 256

@@ -1,8 +1,8 @@
 //! Which rows of a table have a text, found without a walk over the table.
-ghost use Rattle.std.specs.Prelude.{◌≡◌, ◌<◌, ◌++◌, [], map, IfOk, OnOk, slice_index_or};
+ghost use Rattle.std.specs.Prelude.{◌≡◌, ◌<◌, ◌++◌, [], ◌∷◌, length, map, IfOk, OnOk, slice_index_or};
 ghost use Rattle.std.specs.Str.{str_to_ascii_lowercase};
 ghost use Rattle.tokei_table_row.specs.RowOf.{row_of, tokens_of};
-ghost use Rattle.tokei_table_rules.specs.TextIndex.{group_of, entries_of, entries_from, in_group, AreGroups};
+ghost use Rattle.tokei_table_rules.specs.TextIndex.{group_of, entries_of, entries_from, AddsEntries, AreGroups};
 ghost use Rattle.tokei_table_rules.specs.TextIndex.{names, lowered_name};
 
 use std::alloc::{AllocError, Global};
@@ -27,6 +27,21 @@ impl Model for Group {
 }
 
 impl Group {
+    fn new(alloc: Global) -> Group
+        ensures { result ≡ [] }
+    {
+        Group {
+            places: Vec::new(alloc),
+        }
+    }
+
+    fn push(&mut self, place: usize) -> Result<(), AllocError>
+        ensures { OnOk result (self.new ≡ self.old ++ place ∷ []) }
+    {
+        self.places.push(place)?;
+        Ok(())
+    }
+
     fn places(&self) -> &[usize]
         ensures { result.now ≡ self.entry.now }
     {
@@ -78,109 +93,96 @@ fn lowered_group_of(text: &[u8]) -> usize
     }
 }
 
-fn add_entries(
-    entries: &mut Vec<(usize, usize)>,
-    place: usize,
-    texts: &[String],
-) -> Result<(), AllocError>
-    ensures { OnOk result
-        (entries.new.items ≡ entries.old.items ++ entries_of place (tokens_of texts.now)) }
+/// Puts the place at the end of the group.
+fn add_place(groups: &mut Vec<Group>, group: usize, place: usize) -> Result<(), AllocError>
+    requires { group < length groups.old.items }
+    ensures len { length groups.new.items ≡ length groups.old.items }
+    ensures added { OnOk result
+        (AddsEntries ((group, place) ∷ []) groups.old.items groups.new.items) }
+{
+    groups[group].push(place)
+}
+
+/// Puts the place at the end of each text's group.
+fn add_entries(groups: &mut Vec<Group>, place: usize, texts: &[String]) -> Result<(), AllocError>
+    requires { length groups.old.items ≡ 256 }
+    ensures len { length groups.new.items ≡ 256 }
+    ensures added { OnOk result (AddsEntries (entries_of place (tokens_of texts.now))
+        groups.old.items groups.new.items) }
 {
     for text in texts {
-        entries.push((group_of(text.as_bytes()), place))?;
+        add_place(groups, group_of(text.as_bytes()), place)?;
     }
     Ok(())
 }
 
-/// The group of each extension of the rows, beside the row's place.
-fn extension_entries(alloc: Global, rows: &[Syntax]) -> Result<Vec<(usize, usize)>, AllocError>
-    ensures { IfOk result (λ v. v.items
-        ≡ entries_from (λ r. r.extensions) 0 (map row_of rows.now)) }
-{
-    let mut entries = Vec::new(alloc);
-    for (place, row) in rows.iter().enumerate() {
-        add_entries(&mut entries, place, &row.extensions)?;
-    }
-    Ok(entries)
-}
-
-/// The group of each whole name of a file, beside the row's place.
-fn filename_entries(alloc: Global, rows: &[Syntax]) -> Result<Vec<(usize, usize)>, AllocError>
-    ensures { IfOk result (λ v. v.items ≡ entries_from (λ r. r.filenames) 0 (map row_of rows.now)) }
-{
-    let mut entries = Vec::new(alloc);
-    for (place, row) in rows.iter().enumerate() {
-        add_entries(&mut entries, place, &row.filenames)?;
-    }
-    Ok(entries)
-}
-
-/// The group of each key and each name, beside the row's place.
-fn name_entries(alloc: Global, rows: &[Syntax]) -> Result<Vec<(usize, usize)>, AllocError>
-    ensures { IfOk result (λ v. v.items ≡ entries_from names 0 (map row_of rows.now)) }
-{
-    let mut entries = Vec::new(alloc);
-    for (place, row) in rows.iter().enumerate() {
-        entries.push((group_of(row.key.as_bytes()), place))?;
-        entries.push((group_of(row.name.as_bytes()), place))?;
-    }
-    Ok(entries)
-}
-
-/// The group of each name's ASCII lower case, beside the row's place.
-fn lowered_name_entries(alloc: Global, rows: &[Syntax]) -> Result<Vec<(usize, usize)>, AllocError>
-    ensures { IfOk result (λ v. v.items ≡ entries_from lowered_name 0 (map row_of rows.now)) }
-{
-    let mut entries = Vec::new(alloc);
-    for (place, row) in rows.iter().enumerate() {
-        entries.push((lowered_group_of(row.name.as_bytes()), place))?;
-    }
-    Ok(entries)
-}
-
-/// The places that stand beside the group.
-fn in_group(alloc: Global, group: usize, entries: &[(usize, usize)]) -> Result<Group, AllocError>
-    ensures { IfOk result (λ g. g ≡ in_group group entries.now) }
-{
-    let mut places = Vec::new(alloc);
-    for entry in entries {
-        if entry.0 == group {
-            places.push(entry.1)?;
-        }
-    }
-    Ok(Group { places })
-}
-
-/// For each group the places that stand beside it.
-fn groups_of(alloc: Global, entries: &[(usize, usize)]) -> Result<Vec<Group>, AllocError>
-    ensures { IfOk result (λ v. AreGroups entries.now v.items) }
+/// All groups, with no place in any.
+fn no_groups(alloc: Global) -> Result<Vec<Group>, AllocError>
+    ensures { IfOk result (λ v. AreGroups [] v.items) }
 {
     let mut groups = Vec::with_capacity(alloc, GROUPS)?;
     for group in 0..256usize {
-        let places = in_group(alloc, group, entries)?;
-        match groups.push(places) {
-            Ok(()) => {}
-            Err(_refused) => return Err(AllocError),
-        }
+        groups.push(Group::new(alloc))?;
+    }
+    Ok(groups)
+}
+
+/// The groups of the rows' extensions.
+fn extension_groups(alloc: Global, rows: &[Syntax]) -> Result<Vec<Group>, AllocError>
+    ensures { IfOk result (λ v. AreGroups
+        (entries_from (λ r. r.extensions) 0 (map row_of rows.now)) v.items) }
+{
+    let mut groups = no_groups(alloc)?;
+    for (place, row) in rows.iter().enumerate() {
+        add_entries(&mut groups, place, &row.extensions)?;
+    }
+    Ok(groups)
+}
+
+/// The groups of the rows' whole names of files.
+fn filename_groups(alloc: Global, rows: &[Syntax]) -> Result<Vec<Group>, AllocError>
+    ensures { IfOk result (λ v. AreGroups
+        (entries_from (λ r. r.filenames) 0 (map row_of rows.now)) v.items) }
+{
+    let mut groups = no_groups(alloc)?;
+    for (place, row) in rows.iter().enumerate() {
+        add_entries(&mut groups, place, &row.filenames)?;
+    }
+    Ok(groups)
+}
+
+/// The groups of the rows' keys and names.
+fn name_groups(alloc: Global, rows: &[Syntax]) -> Result<Vec<Group>, AllocError>
+    ensures { IfOk result (λ v. AreGroups (entries_from names 0 (map row_of rows.now)) v.items) }
+{
+    let mut groups = no_groups(alloc)?;
+    for (place, row) in rows.iter().enumerate() {
+        add_place(&mut groups, group_of(row.key.as_bytes()), place)?;
+        add_place(&mut groups, group_of(row.name.as_bytes()), place)?;
+    }
+    Ok(groups)
+}
+
+/// The groups of the names in ASCII lower case.
+fn lowered_name_groups(alloc: Global, rows: &[Syntax]) -> Result<Vec<Group>, AllocError>
+    ensures { IfOk result (λ v. AreGroups
+        (entries_from lowered_name 0 (map row_of rows.now)) v.items) }
+{
+    let mut groups = no_groups(alloc)?;
+    for (place, row) in rows.iter().enumerate() {
+        add_place(&mut groups, lowered_group_of(row.name.as_bytes()), place)?;
     }
     Ok(groups)
 }
 
 impl TextIndex {
-    fn of_entries(alloc: Global, entries: &[(usize, usize)]) -> Result<TextIndex, AllocError>
-        ensures { IfOk result (λ x. AreGroups entries.now x) }
-    {
-        let groups = groups_of(alloc, entries)?;
-        Ok(TextIndex { groups })
-    }
-
     /// The index of the rows' extensions. It fails where memory runs out.
     pub(crate) fn of_extensions(alloc: Global, rows: &[Syntax]) -> Result<TextIndex, AllocError>
         ensures { IfOk result (λ x. AreGroups
             (entries_from (λ r. r.extensions) 0 (map row_of rows.now)) x) }
     {
-        let entries = extension_entries(alloc, rows)?;
-        TextIndex::of_entries(alloc, &entries)
+        let groups = extension_groups(alloc, rows)?;
+        Ok(TextIndex { groups })
     }
 
     /// The index of the whole names of files. It fails where memory runs out.
@@ -188,16 +190,16 @@ impl TextIndex {
         ensures { IfOk result (λ x. AreGroups
             (entries_from (λ r. r.filenames) 0 (map row_of rows.now)) x) }
     {
-        let entries = filename_entries(alloc, rows)?;
-        TextIndex::of_entries(alloc, &entries)
+        let groups = filename_groups(alloc, rows)?;
+        Ok(TextIndex { groups })
     }
 
     /// The index of the rows' keys and names. It fails where memory runs out.
     pub(crate) fn of_names(alloc: Global, rows: &[Syntax]) -> Result<TextIndex, AllocError>
         ensures { IfOk result (λ x. AreGroups (entries_from names 0 (map row_of rows.now)) x) }
     {
-        let entries = name_entries(alloc, rows)?;
-        TextIndex::of_entries(alloc, &entries)
+        let groups = name_groups(alloc, rows)?;
+        Ok(TextIndex { groups })
     }
 
     /// The index of the names in ASCII lower case. It fails where memory runs out.
@@ -205,8 +207,8 @@ impl TextIndex {
         ensures { IfOk result (λ x. AreGroups (entries_from lowered_name 0 (map row_of rows.now))
             x) }
     {
-        let entries = lowered_name_entries(alloc, rows)?;
-        TextIndex::of_entries(alloc, &entries)
+        let groups = lowered_name_groups(alloc, rows)?;
+        Ok(TextIndex { groups })
     }
 
     /// The places of the rows with a text of that one's group, in the order of the table.

@@ -11,8 +11,8 @@ tokens c =
     let rows = c.rows.result.now in
     ap (λ s. has_tokens (row_of s)) c.index-rows-index.is
     ∙ all_at has_tokens row_of rows c.index.result c.index-rows-index.result
-    (subst (λ rs. list_all has_tokens rs ≡ true) (sym c.rows.ensures) c.self.invariant.tokens)
-    (omega (arith, c.requires, c.index.ensures, ap length c.self.view_is, ap length c.rows.ensures, length-map rows row_of))
+    (subst (λ rs. list_all has_tokens rs ≡ true) (sym (c.rows.ensures ∙ c.as_ref.ensures)) c.self.invariant.tokens)
+    (omega (arith, c.requires, c.index.ensures, ap length c.self.view_is, ap length c.rows.ensures, ap length c.as_ref.ensures, length-map rows row_of))
 
 pub returns-clause-tokens : goal.returns-clause-tokens
 returns-clause-tokens c = tokens c
