@@ -4,7 +4,6 @@ use Rattle.std.specs.Ordering.{is_lt}
 use Rattle.std.proofs.lemmas.Cmp.{nat_list_cmp_total}
 use Rattle.std.proofs.lemmas.Fn.{always_returns_same}
 use Rattle.std.proofs.lemmas.List.MinMax.{ranks_by}
-
 use Rattle.tokei_real.specs.Listings.{by_bytes}
 use Rattle.tokei_real.proofs.listing.put_names_in_order.Goals as goal
 
