@@ -111,6 +111,7 @@ impl Folders for MadeFolders {
         let entries = self.answered(made)?;
         Ok(Listing {
             entries,
+            lost: Vec::new(self.alloc),
             unnamed: 0,
         })
     }

@@ -37,6 +37,7 @@ impl Nested {
         }
         Ok(Listing {
             entries,
+            lost: Vec::new(self.alloc),
             unnamed: 0,
         })
     }

@@ -112,6 +112,10 @@ ListTells o p r = Told o (λ t. r ≢ Err Memory → entries_of r ≡ list_answe
 abbrev pub NamesTell : Option Tree → Result Listing Fault → Type 0
 NamesTell o r = Told o (λ t. IfOk r (λ l. l.unnamed ≡ 0))
 
+-- in a known tree it can be told of each entry what stands there
+abbrev pub LosesNone : Option Tree → Result Listing Fault → Type 0
+LosesNone o r = Told o (λ t. IfOk r (λ l. l.lost.items ≡ []))
+
 -- a count of faults that has reached the greatest `u64` falls no more
 abbrev pub StaysFull : ℕ → ℕ → Type 0
 StaysFull old new = 18446744073709551615 ≤ old → 18446744073709551615 ≤ new

@@ -49,7 +49,7 @@ impl<F: Folders> FailingFolders<F> {
 }
 
 impl<F: Folders> Folders for FailingFolders<F> {
-    ghost use Rattle.tokei_folders.specs.Answers.{Tells, BytesTell, AboveTells, NamesTell, StaysFull, ListTells, kind_answer, read_answer, head_answer};
+    ghost use Rattle.tokei_folders.specs.Answers.{Tells, BytesTell, AboveTells, ListTells, LosesNone, NamesTell, StaysFull, kind_answer, read_answer, head_answer};
     ghost use Rattle.tokei_folders.specs.Failing.{Counts, PassesOrFails, all_faults};
     ghost use Rattle.tokei_folders.specs.Tree.{node_at, names_of};
 
@@ -78,6 +78,7 @@ impl<F: Folders> Folders for FailingFolders<F> {
         ensures passes { PassesOrFails F.memory_faults self.old self.new result }
         ensures told { ListTells (F.tree (inside self.old)) (names_of place.now) result }
         ensures named { NamesTell (F.tree (inside self.old)) result }
+        ensures lost { LosesNone (F.tree (inside self.old)) result }
         ensures same { F.tree (inside self.new) ≡ F.tree (inside self.old) }
         ensures counts { Counts (all_faults F.memory_faults) self.old self.new result }
         ensures full { StaysFull (all_faults F.memory_faults self.old)

@@ -1,7 +1,7 @@
 //! The calls on folders, and what they answer.
-ghost use Rattle.std.specs.Prelude.{◌≡◌, ◌<◌, ℕ, Option};
+ghost use Rattle.std.specs.Prelude.{◌≡◌, ◌<◌, ℕ, Ok, Option};
 ghost use Rattle.tokei_folders.specs.Tree.{Tree, IsSound, node_at, names_of};
-ghost use Rattle.tokei_folders.specs.Answers.{Tells, BytesTell, AboveTells, NamesTell, StaysFull, counted, kind_answer, read_answer, head_answer, list_answer, ListTells};
+ghost use Rattle.tokei_folders.specs.Answers.{Tells, BytesTell, AboveTells, ListTells, LosesNone, NamesTell, StaysFull, counted, kind_answer, node_kind, read_answer, head_answer};
 
 use crate::texts::Text;
 use std::alloc::{AllocError, AllocFailed};
@@ -58,6 +58,8 @@ pub struct Entry {
 pub struct Listing {
     /// The entries in byte order of their names.
     pub entries: Vec<Entry>,
+    /// The names of the entries of which it can't be told what stands there, in byte order.
+    pub lost: Vec<Text>,
     /// How many names aren't UTF-8 and are passed over.
     pub unnamed: usize,
 }
@@ -88,10 +90,28 @@ pub trait Folders {
             → memory_faults self.new ≡ counted result (memory_faults self.old) }
         ensures full { StaysFull (memory_faults self.old) (memory_faults self.new) };
 
+    /// What stands at a place, links followed, where anything does. It is refused where that can't
+    /// be told. Folders whose `kind` is refused only where nothing stands take this body.
+    fn kind_if_any(&mut self, place: &str) -> Result<Option<Kind>, Fault>
+        ensures told { Tells (tree self.old)
+            (λ t. Ok (node_kind (node_at t (names_of place.now)))) result }
+        ensures same { tree self.new ≡ tree self.old }
+        ensures counts { memory_faults self.old < u64.MAX
+            → memory_faults self.new ≡ counted result (memory_faults self.old) }
+        ensures full { StaysFull (memory_faults self.old) (memory_faults self.new) }
+    {
+        match self.kind(place) {
+            Ok(kind) => Ok(Some(kind)),
+            Err(Fault::Refused) => Ok(None),
+            Err(Fault::Memory) => Err(Fault::Memory),
+        }
+    }
+
     /// What a folder holds, no links followed.
     fn list(&mut self, place: &str) -> Result<Listing, Fault>
         ensures told { ListTells (tree self.old) (names_of place.now) result }
         ensures named { NamesTell (tree self.old) result }
+        ensures lost { LosesNone (tree self.old) result }
         ensures same { tree self.new ≡ tree self.old }
         ensures counts { memory_faults self.old < u64.MAX
             → memory_faults self.new ≡ counted result (memory_faults self.old) }

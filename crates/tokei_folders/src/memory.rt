@@ -173,6 +173,7 @@ impl MemoryFolders {
         ensures told { result ≢ Err MemoryFault
             → entries_of result ≡ list_answer (tree_of self.now) (names_of place.now) }
         ensures named { IfOk result (λ l. l.unnamed ≡ 0) }
+        ensures lost { IfOk result (λ l. l.lost.items ≡ []) }
     {
         let names = names(self.alloc, place)?;
         if !self.tree.can_list(names.as_slice()) {
@@ -180,6 +181,7 @@ impl MemoryFolders {
         }
         Ok(Listing {
             entries: self.tree.entries(self.alloc, names.as_slice())?.into_vec(),
+            lost: Vec::new(self.alloc),
             unnamed: 0,
         })
     }

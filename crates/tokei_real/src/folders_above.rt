@@ -1,4 +1,5 @@
 //! The folders above a place.
+use crate::retried::retried;
 use std::alloc::{AllocError, Global};
 use std::rt::Files;
 use std::{fs, io};
@@ -26,6 +27,6 @@ fn folders_over(alloc: Global, path: &str) -> Result<Vec<Above>, AllocError> {
 
 /// The folders above a place, nearest first, by its real path: one without links.
 pub(crate) fn folders_above<R: Files + AllocGlobal>(rt: &R, place: &str) -> io::Result<Vec<Above>> {
-    let path = fs::canonicalize(rt, place)?;
+    let path = retried(|| fs::canonicalize(rt, place))?;
     Ok(folders_over(rt.alloc(), path.as_str())?)
 }

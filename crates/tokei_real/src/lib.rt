@@ -6,5 +6,7 @@ mod limited;
 mod listing;
 pub mod reading;
 mod real_folders;
+mod retried;
+mod status;
 
 pub use real_folders::RealFolders;

@@ -1,11 +1,13 @@
 //! The entries of a folder.
-ghost use Rattle.std.specs.Prelude.{◌≡◌, ◌↔◌, OnOk, IfOk};
+ghost use Rattle.std.specs.Prelude.{◌≡◌, ◌↔◌, ◌≢◌, ◌++◌, [], ◌∷◌, OnOk, IfOk, IfErr};
 ghost use Rattle.std.specs.List.Sorted.{IsPermutation, IsSorted};
 ghost use Rattle.std.specs.Fs.{file_type, IsFile, IsDir};
-ghost use Rattle.tokei_real.specs.Listings.{by_name};
+ghost use Rattle.std.specs.IoError.{error_kind};
+ghost use Rattle.tokei_real.specs.Listings.{by_name, by_bytes};
 
+use crate::retried::retried;
 use std::alloc::AllocError;
-use std::fs::Metadata;
+use std::fs::{DirEntry, Metadata};
 use std::io::ErrorKind;
 use std::rt::Files;
 use std::{fs, io};
@@ -36,28 +38,59 @@ fn put_in_order(entries: &mut Vec<Entry>) -> Result<(), AllocError>
     Ok(())
 }
 
-/// What the folder at a place holds, in no order; an entry that is removed meanwhile is left out.
-fn found<R: Files + AllocGlobal + Clone + Drop>(
-    rt: &R,
-    place: &str,
-) -> io::Result<(Vec<Entry>, usize)> {
-    let mut entries = Vec::new(rt.alloc());
-    let mut unnamed = 0usize;
+/// Puts names in their byte order; where memory is refused they stay as they were.
+fn put_names_in_order(names: &mut Vec<Text>) -> Result<(), AllocError>
+    ensures sorted { OnOk result (IsSorted by_bytes names.new.items) }
+    ensures same { IsPermutation names.old.items names.new.items }
+{
+    names.sort_by(|a, b| a.as_str().cmp(b.as_str()))?;
+    Ok(())
+}
+
+/// Adds what the system says of an entry: one that is removed meanwhile is left out, and one of
+/// which it doesn't say what stands there is lost. It is refused out of memory alone.
+fn add_entry(listing: &mut Listing, name: Text, said: io::Result<Kind>) -> io::Result<()>
+    ensures entry { IfOk said (λ k. OnOk result (listing.new.entries.items
+        ≡ listing.old.entries.items ++ record { name = name; kind = k } ∷ [])) }
+    ensures lost { IfErr said (λ e. error_kind e ≢ ErrorKind.NotFound → OnOk result
+        (listing.new.lost.items ≡ listing.old.lost.items ++ name ∷ [])) }
+    ensures named { listing.new.unnamed ≡ listing.old.unnamed }
+{
+    match said {
+        Ok(kind) => listing.entries.push(Entry { name, kind })?,
+        Err(e) if e.kind() == ErrorKind::NotFound => {}
+        Err(e) if e.kind() == ErrorKind::OutOfMemory => return Err(e),
+        Err(_) => listing.lost.push(name)?,
+    }
+    Ok(())
+}
+
+/// What stands at an entry, no link followed.
+fn kind_of_entry<R: Files + Clone + Drop>(entry: &DirEntry<R>) -> io::Result<Kind> {
+    let metadata = retried(|| entry.metadata())?;
+    Ok(kind_of(&metadata))
+}
+
+/// What the folder at a place holds, in no order.
+fn found<R: Files + AllocGlobal + Clone + Drop>(rt: &R, place: &str) -> io::Result<Listing> {
+    let mut listing = Listing {
+        entries: Vec::new(rt.alloc()),
+        lost: Vec::new(rt.alloc()),
+        unnamed: 0,
+    };
     for entry in fs::read_dir(rt, place)? {
         match entry {
-            Ok(entry) => match entry.metadata() {
-                Ok(metadata) => entries.push(Entry {
-                    name: Text::from_str(rt.alloc(), entry.file_name())?,
-                    kind: kind_of(&metadata),
-                })?,
-                Err(e) if e.kind() == ErrorKind::NotFound => {}
-                Err(e) => return Err(e),
-            },
-            Err(e) if e.kind() == ErrorKind::InvalidFilename => unnamed = unnamed.saturating_add(1),
+            Ok(entry) => {
+                let name = Text::from_str(rt.alloc(), entry.file_name())?;
+                add_entry(&mut listing, name, kind_of_entry(&entry))?;
+            }
+            Err(e) if e.kind() == ErrorKind::InvalidFilename => {
+                listing.unnamed = listing.unnamed.saturating_add(1);
+            }
             Err(e) => return Err(e),
         }
     }
-    Ok((entries, unnamed))
+    Ok(listing)
 }
 
 /// What the folder at a place holds, in the byte order of the names.
@@ -66,8 +99,10 @@ pub(crate) fn listing<R: Files + AllocGlobal + Clone + Drop>(
     place: &str,
 ) -> io::Result<Listing>
     ensures sorted { IfOk result (λ l. IsSorted by_name l.entries.items) }
+    ensures lost_sorted { IfOk result (λ l. IsSorted by_bytes l.lost.items) }
 {
-    let (mut entries, unnamed) = found(rt, place)?;
-    put_in_order(&mut entries)?;
-    Ok(Listing { entries, unnamed })
+    let mut listing = retried(|| found(rt, place))?;
+    put_in_order(&mut listing.entries)?;
+    put_names_in_order(&mut listing.lost)?;
+    Ok(listing)
 }

@@ -4,11 +4,13 @@ ghost use Rattle.std.specs.Io.{ReadsAtMost};
 ghost use Rattle.std.specs.Io.KnownBytes.{Consumes, IsAtEnd};
 
 use crate::limited::{Limited, MAX_READS};
+use crate::retried::retried;
+use crate::status::status;
 use std::alloc::{AllocError, Global};
 use std::fs::{File, OpenFile};
+use std::io;
 use std::io::{Error, ErrorKind, Read};
 use std::rt::Files;
-use std::{fs, io};
 
 /// How many bytes the head of a file has at most.
 const HEAD: u64 = 128;
@@ -87,7 +89,7 @@ pub fn all_by<R: Read + OpenFile + Drop>(
     if filled < buffer.len() {
         return Ok(Vec::from_slice(alloc, &buffer[..filled])?);
     }
-    let said = usize::try_from(reader.metadata()?.len()).unwrap_or(usize::MAX);
+    let said = usize::try_from(retried(|| reader.metadata())?.len()).unwrap_or(usize::MAX);
     all_behind(alloc, buffer, reader, said)
 }
 
@@ -103,7 +105,7 @@ pub fn head_of<R: Read + Drop>(alloc: Global, reader: R) -> io::Result<Vec<u8>>
 /// How many bytes the file at a place has, links followed. Anything else isn't read, and never
 /// opened: opening a pipe would wait for its writer.
 fn length_of_file<R: Files>(rt: &R, place: &str) -> io::Result<usize> {
-    let metadata = fs::metadata(rt, place)?;
+    let metadata = status(rt, place)?;
     if !metadata.is_file() {
         return Err(Error::from(ErrorKind::InvalidInput));
     }

@@ -5,9 +5,10 @@ ghost use Rattle.tokei_folders.specs.Answers.{counted, StaysFull};
 use crate::folders_above::folders_above;
 use crate::listing::{kind_of, listing};
 use crate::reading::{content, head, listed_content};
+use crate::status::{kind_if_any, status};
+use std::io;
 use std::io::ErrorKind;
 use std::rt::Files;
-use std::{fs, io};
 use tokei_folders::{Above, Fault, Folders, Kind, Listing};
 
 /// The folders of the system, which tell no tree. Places are paths, read from the current folder
@@ -58,9 +59,14 @@ impl<R: Files + AllocGlobal + Clone + Drop> Folders for RealFolders<R> {
     ghost sound = { λ _. tt };
 
     fn kind(&mut self, place: &str) -> Result<Kind, Fault> {
-        let metadata = fs::metadata(&self.rt, place);
+        let metadata = status(&self.rt, place);
         let metadata = self.answered(metadata)?;
         Ok(kind_of(&metadata))
+    }
+
+    fn kind_if_any(&mut self, place: &str) -> Result<Option<Kind>, Fault> {
+        let found = kind_if_any(&self.rt, place);
+        self.answered(found)
     }
 
     fn list(&mut self, place: &str) -> Result<Listing, Fault> {

@@ -1,6 +1,5 @@
 -- A name is listed where something stands there, so the ignore files that aren't listed aren't missed.
-use Rattle.std.proofs.Common.{◌≡◌, ℕ, ◌&&◌, ◌||◌, codes, List, [], ◌∷◌, ◌++◌, Bool, true, false, cond, Option, Some, None, is_some, Result, Ok, Err, refl, sym, ap, ap₂, ◌∙◌}
-use Rattle.std.specs.Cmp.Lexicographic.{slice_cmp}
+use Rattle.std.proofs.Common.{◌≡◌, ℕ, ◌&&◌, ◌||◌, codes, List, [], ◌∷◌, ◌++◌, Bool, true, false, cond, Option, Some, None, is_some, Ok, Err, refl, sym, ap, ◌∙◌}
 use Rattle.std.specs.Ordering.{is_eq, ordering_then}
 use Rattle.std.specs.declared.cmp.Ordering.{Ordering}
 use Rattle.std.specs.declared.cmp.Ordering.TheVariants.{Less, Equal, Greater}
@@ -8,11 +7,8 @@ use Rattle.tokei_folders.specs.declared.fs.Entry.{Entry}
 use Rattle.tokei_folders.specs.declared.fs.Fault.{Fault}
 use Rattle.tokei_folders.specs.declared.fs.Fault.TheVariants.{Refused}
 use Rattle.tokei_folders.specs.declared.nodes.Node.{Node}
-use Rattle.tokei_folders.specs.declared.nodes.PlacedNode.{PlacedNode}
 use Rattle.tokei_folders.specs.Answers.{entries_in, entry_named, only_name, can_list, list_answer}
 use Rattle.tokei_folders.specs.Tree.{Names, Tree, names_cmp, node_at}
-use Rattle.tokei_ignore.specs.declared.patterns.Pattern.{Pattern}
-use Rattle.tokei_walk.specs.declared.levels.Level.{Level}
 use Rattle.tokei_walk.specs.declared.levels.Rules.{Rules}
 use Rattle.tokei_walk.specs.Levels.{level_at, ignore_file_at, has_git, patterns_at}
 use Rattle.tokei_walk.specs.Sought.{lists, listed, level_of}

@@ -1,5 +1,5 @@
 -- A walk that is over.
-use Rattle.std.proofs.Common.{◌≡◌, ◌&&◌, ◌||◌, List, [], ◌∷◌, Bool, true, false, refl, sym, ap, ap₂, ◌∙◌}
+use Rattle.std.proofs.Common.{◌≡◌, ◌&&◌, ◌||◌, List, [], ◌∷◌, Bool, true, false, refl, ap, ap₂, ◌∙◌}
 use Rattle.tokei_folders.specs.Tree.{Tree}
 use Rattle.tokei_folders.proofs.NameOrder.{left_of_and, right_of_and}
 use Rattle.tokei_ignore.specs.Fits.{is_empty}

@@ -1,10 +1,11 @@
 -- What the roots of a walk give.
-use Rattle.std.proofs.Common.{◌≡◌, ℕ, List, [], ◌∷◌, ◌++◌, reverse, map, Bool, true, false, cond, Option, Some, None, Result, Ok, Err, refl, sym, ap, ap₂, ◌∙◌, append_assoc, OnOk}
+use Rattle.std.proofs.Common.{◌≡◌, ℕ, List, [], ◌∷◌, ◌++◌, reverse, map, Bool, true, false, cond, Option, Some, None, refl, sym, ap, ap₂, ◌∙◌, append_assoc}
 use Rattle.std.proofs.lemmas.List.{reverse-append, reverse-reverse}
 use Rattle.std.specs.List.{flat_map}
 use Rattle.tokei_folders.specs.declared.nodes.Node.{Node}
 use Rattle.tokei_folders.specs.declared.nodes.Node.TheVariants.{File as file, Folder as folder}
 use Rattle.tokei_folders.specs.declared.fs.Above.{Above}
+use Rattle.tokei_folders.specs.declared.fs.Kind.{Kind}
 use Rattle.tokei_folders.specs.declared.fs.Kind.TheVariants.{File, Folder, Other}
 use Rattle.tokei_walk.specs.declared.kept_file.KeptFile.{KeptFile}
 use Rattle.tokei_walk.specs.declared.levels.Context.{Context}
@@ -19,12 +20,8 @@ use Rattle.tokei_ignore.specs.Fits.{is_empty}
 use Rattle.tokei_walk.specs.Levels.{level_at}
 use Rattle.tokei_walk.specs.Stacks.{Stays}
 use Rattle.tokei_folders.specs.Tree.{Names, Tree, IsSound, is_sound, node_at, names_of, folders_above}
-use Rattle.tokei_walk.specs.Walks.{of_roots, of_all, to_come, descended, Advances, names_over, levels_over}
+use Rattle.tokei_walk.specs.Walks.{of_roots, of_all, to_come, descended, Advances, RootIs, names_over, levels_over}
 use Rattle.tokei_walk.proofs.StackSteps.{same_stack, empty_gives, top_ends, same_context}
-
-pub always_ok : {T E A : Type 0} (q : Result T E) → A → OnOk q A
-always_ok (Ok x) a = a
-always_ok (Err e) a = tt
 
 pub more : {X : Type 0} (xs ys zs rest whole : List X) (x : X) → ys ≡ xs ++ x ∷ [] → zs ≡ x ∷ rest → xs ++ zs ≡ whole → ys ++ rest ≡ whole
 more xs ys zs rest whole x is first so_far = ap (λ q. q ++ rest) is ∙ append_assoc xs (x ∷ []) rest ∙ ap (λ q. xs ++ q) (sym first) ∙ so_far
@@ -110,6 +107,29 @@ root_folder xs r t root e k = named xs r t root e ∙ node_folder xs r t root (n
 
 pub root_other : (t : Tree) (root : List ℕ) → Some Other ≡ node_kind (node_at t (names_of root)) → ⊥
 root_other t root k = node_other (node_at t (names_of root)) (sym k)
+
+missing_by : (xs : List Pattern) (r : Rules) (t : Tree) (root : List ℕ) (b : Bool)
+    → is_empty root ≡ b
+    → (is_empty root ≡ false → None ≡ node_kind (node_at t (names_of root)))
+    → of_root xs r t root ≡ []
+missing_by xs r t root true e h = root_blank xs r t root e
+missing_by xs r t root false e h = root_missing xs r t root e (h e)
+
+-- a root where nothing stands gives nothing
+pub known_missing : (xs : List Pattern) (r : Rules) (t : Tree) (root : List ℕ) (k : Option Kind) → RootIs t root k → k ≡ None → of_root xs r t root ≡ []
+known_missing xs r t root k is e = missing_by xs r t root (is_empty root) refl (λ h. sym e ∙ is.1 h)
+
+named_by : (root : List ℕ) (b : Bool) (k : Option Kind) (x : Kind) → is_empty root ≡ b → (is_empty root ≡ true → k ≡ None) → k ≡ Some x → is_empty root ≡ false
+named_by root true k x e h is = let n : None ≡ Some x = sym (h e) ∙ is in absurd (cc)
+named_by root false k x e h is = e
+
+-- a root where something stands isn't empty
+pub known_named : (t : Tree) (root : List ℕ) (k : Option Kind) (x : Kind) → RootIs t root k → k ≡ Some x → is_empty root ≡ false
+known_named t root k x is e = named_by root (is_empty root) k x refl is.0 e
+
+-- and that stands there in the tree
+pub known_kind : (t : Tree) (root : List ℕ) (k : Option Kind) (x : Kind) → RootIs t root k → k ≡ Some x → Some x ≡ node_kind (node_at t (names_of root))
+known_kind t root k x is e = sym e ∙ is.1 (known_named t root k x is e)
 
 -- a walked folder that gives nothing more
 pub explored_none : (xs : List Pattern) (r : Rules) (t : Tree) (s v : Stack) → Stays s v → v.left ≡ [] → of_top xs r t s ≡ [] → of_stack xs r t s ≡ of_stack xs r t v

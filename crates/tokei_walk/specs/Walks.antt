@@ -1,5 +1,5 @@
 -- The files that a walk still has to come.
-use Rattle.std.specs.Prelude.{◌≡◌, ℕ, List, [], ◌∷◌, ◌++◌, Bool, Option, Some, None, reverse, map, String, string_bytes, ◌&&◌, ◌||◌, if◌then◌else◌}
+use Rattle.std.specs.Prelude.{◌≡◌, ℕ, List, [], ◌∷◌, ◌++◌, Bool, true, false, Option, Some, None, reverse, map, String, string_bytes, ◌&&◌, ◌||◌, if◌then◌else◌}
 use Rattle.std.specs.Global.{Global}
 use Rattle.std.specs.List.{flat_map}
 use Rattle.std.specs.Str.{chars}
@@ -10,13 +10,15 @@ use Rattle.tokei_folders.specs.declared.fs.Above.{Above}
 use Rattle.tokei_ignore.specs.declared.patterns.Pattern.{Pattern}
 use Rattle.tokei_walk.specs.declared.stack.Stack.{Stack}
 use Rattle.tokei_walk.specs.declared.walking.Walk.{Walk}
-use Rattle.tokei_folders.specs.Answers.{above_view}
+use Rattle.tokei_folders.specs.declared.fs.Kind.{Kind}
+use Rattle.tokei_folders.specs.declared.fs.Kind.TheVariants.{File, Folder, Other}
+use Rattle.tokei_folders.specs.Answers.{above_view, node_kind}
 use Rattle.tokei_walk.specs.Descent.{of_root, of_stack}
 use Rattle.tokei_ignore.specs.Fits.{is_empty}
 use Rattle.tokei_ignore.specs.IgnoreFiles.{patterns_in}
 use Rattle.tokei_walk.specs.Levels.{level_at}
 use Rattle.tokei_ignore.specs.Patterns.{exclude_pattern}
-use Rattle.tokei_folders.specs.Tree.{Tree, Names}
+use Rattle.tokei_folders.specs.Tree.{Tree, Names, names_of, node_at}
 
 -- the files of roots, the last one first
 unfoldable pub of_roots : List Pattern → Rules → Tree → List (List ℕ) → List KeptFile
@@ -72,6 +74,19 @@ HasEnded w = (t : Tree) → to_come t w ≡ []
 abbrev pub RootGives : List KeptFile → List KeptFile → Option KeptFile → Type 0
 RootGives own left None = own ≡ left
 RootGives own left (Some k) = own ≡ k ∷ left
+
+-- a root that is a file is kept; one that is missing, a folder, or of another kind isn't one itself
+abbrev pub file_of_root : Option Kind → List ℕ → Option KeptFile
+file_of_root None root = None
+file_of_root (Some File) root = Some (record { path = root; place = root })
+file_of_root (Some Folder) root = None
+file_of_root (Some Other) root = None
+
+-- what a tree has at a root; an empty root is missing
+abbrev pub RootIs : Tree → List ℕ → Option Kind → Type 0
+RootIs t root kind =
+    (is_empty root ≡ true → kind ≡ None)
+    × (is_empty root ≡ false → kind ≡ node_kind (node_at t (names_of root)))
 
 -- the names of folders above from the top down, and their rules
 abbrev pub names_over : List Above → Names

@@ -10,6 +10,7 @@ mod excludes;
 mod kept_file;
 pub mod laws;
 mod levels;
+mod listings;
 mod parents;
 mod roots;
 mod rules_files;

@@ -7,27 +7,33 @@ ghost use Rattle.tokei_walk.specs.Descent.{root_context};
 ghost use Rattle.tokei_walk.specs.Notes.{Grows};
 ghost use Rattle.tokei_walk.specs.Walks.{names_over, levels_over};
 
-use crate::kept_file::Note;
+use crate::kept_file::{Note, NoteKind};
 use crate::levels::Context;
-use crate::rules_files::read_level;
+use crate::rules_files::{note, read_level};
 use crate::stack::Settings;
 use std::alloc::{AllocError, Global};
 use tokei_folders::names::names;
 use tokei_folders::{Above, Fault, Folders, Items};
 
-/// The folders above a place, nearest first; none where they can't be told.
+/// The folders above a root, nearest first; none, with a note, where they can't be told.
+#[tactic(auto, using(crate::proofs::Growing::grows_same, crate::proofs::Growing::grows_on))]
 fn folders_over<F: Folders>(
     alloc: Global,
     folders: &mut F,
+    notes: &mut Items<Note>,
     place: &str,
 ) -> Result<Items<Above>, AllocError>
     ensures folders { AsTheyWere F.tree F.memory_faults folders.old folders.new result }
+    ensures notes { Grows notes.old notes.new }
     ensures told { Told (F.tree folders.old) (λ t. IfOk result (λ found.
         map above_view (reverse found) ≡ folders_above [] (names_of place.now))) }
 {
     match folders.above(place) {
         Ok(found) => Ok(Items::from_vec(found)),
-        Err(Fault::Refused) => Ok(Items::new(alloc)),
+        Err(Fault::Refused) => {
+            note(alloc, notes, NoteKind::UnresolvedRoot, place)?;
+            Ok(Items::new(alloc))
+        }
         Err(Fault::Memory) => Err(AllocError),
     }
 }
@@ -80,7 +86,7 @@ pub fn context_of_root<F: Folders>(
     if !settings.rules.parents {
         return Ok(context);
     }
-    let found = folders_over(alloc, folders, root)?;
+    let found = folders_over(alloc, folders, notes, root)?;
     read_over(settings, folders, notes, found, &mut context)?;
     Ok(context)
 }

@@ -1,20 +1,21 @@
 //! The beginning of a root.
-ghost use Rattle.std.specs.Prelude.{◌≡◌, ◌<◌, ◌≤◌, ◌+◌, [], length, OnOk, IfOk};
-ghost use Rattle.tokei_folders.specs.Answers.{Told};
+ghost use Rattle.std.specs.Prelude.{◌≡◌, ◌<◌, ◌≤◌, ◌+◌, ◌++◌, [], ◌∷◌, true, false, None, length, OnOk, IfOk};
+ghost use Rattle.tokei_folders.specs.Answers.{Told, node_kind};
 ghost use Rattle.tokei_folders.specs.AsTheyWere.{AsTheyWere};
-ghost use Rattle.tokei_folders.specs.Tree.{names_of};
+ghost use Rattle.tokei_folders.specs.Tree.{names_of, node_at};
 ghost use Rattle.tokei_ignore.specs.Fits.{is_empty};
 ghost use Rattle.tokei_walk.specs.Descent.{root_context, of_root, of_stack, descend};
-ghost use Rattle.tokei_walk.specs.Notes.{Grows};
+ghost use Rattle.tokei_walk.specs.Notes.{Grows, missing_note};
 ghost use Rattle.tokei_walk.specs.Ranks.{weight, stack_rank};
-ghost use Rattle.tokei_walk.specs.Walks.{RootGives, texts_of};
+ghost use Rattle.tokei_walk.specs.Walks.{RootGives, RootIs, file_of_root, texts_of};
 
 use crate::kept_file::{KeptFile, Note, NoteKind};
+use crate::listings::listing;
 use crate::parents::context_of_root;
-use crate::rules_files::{kind_at, note, read_sought, sought_among};
-use crate::stack::{Settings, Stack, listing, note_unnamed};
+use crate::rules_files::{note, read_sought, sought_among};
+use crate::stack::{Settings, Stack};
 use std::alloc::{AllocError, Global};
-use tokei_folders::{Folders, Items, Kind, Text};
+use tokei_folders::{Fault, Folders, Items, Kind, Text};
 
 /// A copy of the roots.
 pub fn copied_roots(alloc: Global, roots: &[String]) -> Result<Items<Text>, AllocError>
@@ -47,11 +48,10 @@ fn enter_root<F: Folders>(
         ≡ of_stack settings.now.excludes settings.now.rules t stack.new)) }
 {
     let alloc = settings.alloc;
-    let listing = match listing(folders, root.as_str())? {
+    let listing = match listing(alloc, folders, notes, root.as_str())? {
         Some(listing) => listing,
-        None => return note(alloc, notes, NoteKind::Unlisted, root.as_str()),
+        None => return Ok(()),
     };
-    note_unnamed(alloc, notes, &listing, root.as_str())?;
     let mut context = context_of_root(settings, folders, notes, root.as_str())?;
     let sought = sought_among(&settings.rules, listing.entries.as_slice());
     let level = read_sought(alloc, folders, notes, sought, root.as_str())?;
@@ -74,7 +74,72 @@ fn is_empty_place(text: &Text) -> bool
     }
 }
 
-/// Begins a root: a file is answered, a folder is walked.
+/// What stands at a root, where anything does; at an empty one nothing does.
+fn kind_of_root<F: Folders>(folders: &mut F, root: &Text) -> Result<Option<Kind>, AllocError>
+    ensures folders { AsTheyWere F.tree F.memory_faults folders.old folders.new result }
+    ensures empty { IfOk result (λ k. is_empty root.now ≡ true → k ≡ None) }
+    ensures told { Told (F.tree folders.old) (λ t. IfOk result (λ k. is_empty root.now ≡ false
+        → k ≡ node_kind (node_at t (names_of root.now)))) }
+{
+    if is_empty_place(root) {
+        return Ok(None);
+    }
+    match folders.kind(root.as_str()) {
+        Ok(kind) => Ok(Some(kind)),
+        Err(Fault::Refused) => Ok(None),
+        Err(Fault::Memory) => Err(AllocError),
+    }
+}
+
+/// A root, and what stands there.
+#[derive(Drop)]
+struct Root {
+    place: Text,
+    kind: Option<Kind>,
+}
+
+/// Begins a root of which that is known: a file is answered, a folder is walked, one where nothing
+/// stands leaves a note, and one of another kind is passed over.
+#[tactic(auto, using(crate::proofs::Growing::grows_same, crate::proofs::Growing::grows_on))]
+fn begin_known<F: Folders>(
+    settings: &Settings,
+    folders: &mut F,
+    notes: &mut Items<Note>,
+    stack: &mut Stack,
+    root: Root,
+) -> Result<Option<KeptFile>, AllocError>
+    ensures folders { AsTheyWere F.tree F.memory_faults folders.old folders.new result }
+    ensures notes { Grows notes.old notes.new }
+    ensures missing { root.kind ≡ None → OnOk result
+        (notes.new ≡ notes.old ++ missing_note root.place ∷ []) }
+    ensures kept { IfOk result (λ o. o ≡ file_of_root root.kind root.place) }
+    ensures holders { OnOk result (length stack.new.holders ≤ length stack.old.holders) }
+    ensures bounded { OnOk result (stack_rank stack.new < stack_rank stack.old + weight 257) }
+    ensures told { Told (F.tree folders.old) (λ t. RootIs t root.place root.kind
+        → IfOk result (λ o. stack.old.left ≡ [] → stack.old.holders ≡ [] → RootGives
+        (of_root settings.now.excludes settings.now.rules t root.place)
+        (of_stack settings.now.excludes settings.now.rules t stack.new) o)) }
+{
+    let alloc = settings.alloc;
+    let Root { place, kind } = root;
+    match kind {
+        None => {
+            note(alloc, notes, NoteKind::MissingRoot, place.as_str())?;
+            Ok(None)
+        }
+        Some(Kind::File) => {
+            let path = Text::from_str(alloc, place.as_str())?;
+            Ok(Some(KeptFile { path, place }))
+        }
+        Some(Kind::Folder) => {
+            enter_root(settings, folders, notes, stack, place)?;
+            Ok(None)
+        }
+        Some(Kind::Other) => Ok(None),
+    }
+}
+
+/// Begins a root.
 #[tactic(auto, using(crate::proofs::Growing::grows_same, crate::proofs::Growing::grows_on))]
 pub fn begin_root<F: Folders>(
     settings: &Settings,
@@ -92,24 +157,7 @@ pub fn begin_root<F: Folders>(
         (of_root settings.now.excludes settings.now.rules t root)
         (of_stack settings.now.excludes settings.now.rules t stack.new) o)) }
 {
-    let alloc = settings.alloc;
-    if is_empty_place(&root) {
-        note(alloc, notes, NoteKind::MissingRoot, root.as_str())?;
-        return Ok(None);
-    }
-    match kind_at(folders, root.as_str())? {
-        None => {
-            note(alloc, notes, NoteKind::MissingRoot, root.as_str())?;
-            Ok(None)
-        }
-        Some(Kind::File) => {
-            let path = Text::from_str(alloc, root.as_str())?;
-            Ok(Some(KeptFile { path, place: root }))
-        }
-        Some(Kind::Folder) => {
-            enter_root(settings, folders, notes, stack, root)?;
-            Ok(None)
-        }
-        Some(Kind::Other) => Ok(None),
-    }
+    let kind = kind_of_root(folders, &root)?;
+    let root = Root { place: root, kind };
+    begin_known(settings, folders, notes, stack, root)
 }

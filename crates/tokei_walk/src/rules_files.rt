@@ -34,15 +34,25 @@ pub fn note(
     Ok(())
 }
 
-/// What stands at a place, where anything does.
-pub fn kind_at<F: Folders>(folders: &mut F, place: &str) -> Result<Option<Kind>, AllocError>
+/// What stands at a place, where anything does; nothing, with a note, where that can't be told.
+#[tactic(auto, using(crate::proofs::Growing::grows_same, crate::proofs::Growing::grows_on))]
+fn kind_at<F: Folders>(
+    alloc: Global,
+    folders: &mut F,
+    notes: &mut Items<Note>,
+    place: &str,
+) -> Result<Option<Kind>, AllocError>
     ensures folders { AsTheyWere F.tree F.memory_faults folders.old folders.new result }
+    ensures notes { Grows notes.old notes.new }
     ensures told { Told (F.tree folders.old) (λ t. IfOk result
         (λ k. k ≡ node_kind (node_at t (names_of place.now)))) }
 {
-    match folders.kind(place) {
-        Ok(kind) => Ok(Some(kind)),
-        Err(Fault::Refused) => Ok(None),
+    match folders.kind_if_any(place) {
+        Ok(kind) => Ok(kind),
+        Err(Fault::Refused) => {
+            note(alloc, notes, NoteKind::UnreadIgnore, place)?;
+            Ok(None)
+        }
         Err(Fault::Memory) => Err(AllocError),
     }
 }
@@ -73,7 +83,7 @@ fn patterns_of_file<F: Folders>(
     ensures told { Told (F.tree folders.old) (λ t. IfOk result
         (λ ps. ps ≡ patterns_at (node_at t (names_of place.now)))) }
 {
-    match kind_at(folders, place)? {
+    match kind_at(alloc, folders, notes, place)? {
         Some(Kind::File) => {}
         _ => return Ok(Items::new(alloc)),
     }
@@ -129,13 +139,16 @@ fn patterns_of_name<F: Folders>(
 }
 
 /// Whether a folder has an entry `.git`, where git's rules are on.
+#[tactic(auto, using(crate::proofs::Growing::grows_same, crate::proofs::Growing::grows_on))]
 fn is_repository<F: Folders>(
     alloc: Global,
     folders: &mut F,
+    notes: &mut Items<Note>,
     on: bool,
     place: &str,
 ) -> Result<bool, AllocError>
     ensures folders { AsTheyWere F.tree F.memory_faults folders.old folders.new result }
+    ensures notes { Grows notes.old notes.new }
     ensures told { Told (F.tree folders.old) (λ t. IfOk result
         (λ b. b ≡ (on && is_some (node_at t (names_of place.now ++ names_of (codes ".git")))))) }
 {
@@ -143,7 +156,8 @@ fn is_repository<F: Folders>(
         return Ok(false);
     }
     let whole = joined(alloc, place, ".git")?;
-    Ok(kind_at(folders, whole.as_str())?.is_some())
+    let kind = kind_at(alloc, folders, notes, whole.as_str())?;
+    Ok(kind.is_some())
 }
 
 /// Whether an entry of this name is listed, of whatever kind.
@@ -225,7 +239,7 @@ pub fn read_level<F: Folders>(
     ensures told { Told (F.tree folders.old) (λ t. IfOk result
         (λ l. l ≡ level_at t rules.now (names_of place.now))) }
 {
-    let git = is_repository(alloc, folders, rules.git, place)?;
+    let git = is_repository(alloc, folders, notes, rules.git, place)?;
     let sought = Sought {
         git,
         tokeignore: rules.dot,

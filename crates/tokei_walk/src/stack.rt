@@ -1,5 +1,5 @@
 //! The folders that are walked, and the way through them.
-ghost use Rattle.std.specs.Prelude.{◌≡◌, ◌<◌, ◌+◌, ◌-◌, ◌++◌, [], ◌∷◌, length, reverse, OnOk, OnSome, IfOk, MatchOption, Ok, Err, true, false};
+ghost use Rattle.std.specs.Prelude.{◌≡◌, ◌<◌, ◌+◌, ◌-◌, ◌++◌, [], ◌∷◌, length, reverse, OnOk, OnSome, IfOk, Err, true, false};
 ghost use Rattle.std.specs.Bool.{MatchBool};
 ghost use Rattle.tokei_walk.specs.Notes.{Grows};
 ghost use Rattle.tokei_folders.specs.Answers.{Told, list_answer};
@@ -15,11 +15,12 @@ ghost use Rattle.tokei_walk.specs.Stacks.{Pops, Leaves, Enters, EntersTold, Step
 
 use crate::kept_file::{KeptFile, Note, NoteKind};
 use crate::levels::{Context, Level, Rules, judge};
+use crate::listings::listing;
 use crate::rules_files::{note, read_sought, sought_among};
 use std::alloc::{AllocError, Global};
 use std::mem;
 use tokei_folders::places::joined;
-use tokei_folders::{Entry, Fault, Folders, Items, Kind, Listing, Text};
+use tokei_folders::{Entry, Folders, Items, Kind, Text};
 use tokei_ignore::Pattern;
 
 /// A folder that is entered and not yet left.
@@ -128,36 +129,6 @@ pub enum Step {
     Ended,
 }
 
-/// What a folder holds, where it can be listed.
-pub fn listing<F: Folders>(folders: &mut F, place: &str) -> Result<Option<Listing>, AllocError>
-    ensures folders { AsTheyWere F.tree F.memory_faults folders.old folders.new result }
-    ensures told { Told (F.tree folders.old) (λ t. IfOk result (λ o. MatchOption o
-        (list_answer t (names_of place.now) ≡ Err RefusedFault)
-        (λ l. list_answer t (names_of place.now) ≡ Ok l.entries.items))) }
-{
-    match folders.list(place) {
-        Ok(listing) => Ok(Some(listing)),
-        Err(Fault::Refused) => Ok(None),
-        Err(Fault::Memory) => Err(AllocError),
-    }
-}
-
-/// Leaves a note where a folder has names that aren't UTF-8.
-#[tactic(auto, using(crate::proofs::Growing::grows_same))]
-pub fn note_unnamed(
-    alloc: Global,
-    notes: &mut Items<Note>,
-    listing: &Listing,
-    place: &str,
-) -> Result<(), AllocError>
-    ensures { Grows notes.old notes.new }
-{
-    if listing.unnamed > 0 {
-        note(alloc, notes, NoteKind::Unnamed, place)?;
-    }
-    Ok(())
-}
-
 /// Walks another folder; whether it can be listed.
 #[tactic(auto, using(crate::proofs::Growing::grows_same, crate::proofs::Growing::grows_on))]
 pub fn enter<F: Folders>(
@@ -176,11 +147,9 @@ pub fn enter<F: Folders>(
         (list_answer t (names_of place) ≡ Err RefusedFault))) }
 {
     let alloc = settings.alloc;
-    let Some(listing) = listing(folders, place.as_str())? else {
-        note(alloc, notes, NoteKind::Unlisted, place.as_str())?;
+    let Some(listing) = listing(alloc, folders, notes, place.as_str())? else {
         return Ok(false);
     };
-    note_unnamed(alloc, notes, &listing, place.as_str())?;
     let sought = sought_among(&settings.rules, listing.entries.as_slice());
     let level = read_sought(alloc, folders, notes, sought, place.as_str())?;
     push_folder(stack, place, level, Items::from_vec(listing.entries))?;

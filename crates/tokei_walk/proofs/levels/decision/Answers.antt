@@ -1,4 +1,4 @@
-use Rattle.std.proofs.Common.{◌≡◌, List, Some, None, sym, ap, ◌∙◌}
+use Rattle.std.proofs.Common.{List, ap, ◌∙◌}
 use Rattle.tokei_ignore.specs.IgnoreFiles.{last_fitting}
 use Rattle.tokei_ignore.specs.declared.patterns.Pattern.{Pattern}
 use Rattle.tokei_walk.proofs.NearestFirst.{nearest_decides, nearest_passes}

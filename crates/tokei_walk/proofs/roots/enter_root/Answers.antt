@@ -11,12 +11,11 @@ use Rattle.tokei_walk.specs.Sought.{listed, level_of}
 use Rattle.tokei_walk.proofs.ListedFiles.{level_listed}
 use Rattle.tokei_folders.specs.Tree.{names_of}
 use Rattle.tokei_walk.proofs.Ranking.{below_root, root_rank}
-use Rattle.tokei_walk.proofs.RootSteps.{always_ok}
 use Rattle.tokei_walk.proofs.StackSteps.{root_unlisted, root_entered, same_context}
 use Rattle.tokei_walk.proofs.roots.enter_root.Goals as goal
 
 pub returns-in-None-clause-told : goal.returns-in-None-clause-told
-returns-in-None-clause-told g c = λ t e.
+returns-in-None-clause-told g c = λ t e left below.
     let x = c.args.settings.now in let root = c.args.root in
     let told =
     subst
@@ -25,7 +24,7 @@ returns-in-None-clause-told g c = λ t e.
     (λ l. list_answer t (names_of c.as_str.result.now) ≡ Ok l.entries.items))
     c.in-None.is (c.in_ok-listing.ensures.told t e) in
     let refused = ap (λ p. list_answer t (names_of p)) (sym c.as_str.ensures) ∙ told in
-    always_ok c.note.result (λ left below. root_unlisted x.excludes x.rules t c.args.stack.now (root_context t x.rules (names_of root)) root refused left below)
+    root_unlisted x.excludes x.rules t c.args.stack.now (root_context t x.rules (names_of root)) root refused left below
 
 pub returns-clause-told : goal.returns-clause-told
 returns-clause-told g c = λ t e left below.
@@ -40,12 +39,12 @@ returns-clause-told g c = λ t e left below.
     ap (λ p. list_answer t (names_of p)) (sym c.as_str.ensures) ∙ told
     ∙ ap Ok (sym (reverse-reverse c.in-Some.listing.entries.items)
     ∙ ap reverse (sym (c.reverse.ensures.turned ∙ ap reverse c.from_vec-left.ensures))) in
-    let is = c.in_ok-context.ensures.told t first ∙ ap (λ p. root_context t x.rules (names_of p)) c.as_str-3.ensures in
+    let is = c.in_ok-context.ensures.told t first ∙ ap (λ p. root_context t x.rules (names_of p)) c.as_str-2.ensures in
     let listed_in = ap (λ p. list_answer t (names_of p)) (sym c.as_str.ensures) ∙ told in
     let sought = c.sought_among-sought.ensures ∙ ap (listed x.rules) c.as_slice.ensures.value in
     let level =
     c.in_ok-level.ensures.told t second
-    ∙ ap₂ (λ (s : Sought) (p : List ℕ). level_of t s (names_of p)) sought c.as_str-4.ensures
+    ∙ ap₂ (λ (s : Sought) (p : List ℕ). level_of t s (names_of p)) sought c.as_str-3.ensures
     ∙ level_listed t x.rules (names_of root) c.in-Some.listing.entries.items listed_in in
     let cx = c.in_ok-context.context in
     let walked : Stack = record { context = record { levels = c.push.new.self; names = cx.names; shown = cx.shown }; place = root; left = c.reverse.new.self; holders = c.clear.new.self } in
@@ -54,7 +53,7 @@ returns-clause-told g c = λ t e left below.
     (same_context c.in_ok-push.ensures.ok refl refl) refl c.clear.ensures
 
 pub returns-in-None-clause-bounded : goal.returns-in-None-clause-bounded
-returns-in-None-clause-bounded g c = always_ok c.note.result (below_root c.args.stack.now)
+returns-in-None-clause-bounded g c = below_root c.args.stack.now
 
 pub returns-clause-bounded : goal.returns-clause-bounded
 returns-clause-bounded g c =

@@ -9,5 +9,5 @@ pub returns-clause-told : goal.returns-clause-told
 returns-clause-told g c = λ t e.
     let is : c.as_str.result.now ≡ joined c.args.place.now (codes ".git") = c.as_str.ensures ∙ c.in_ok-whole.ensures.place in
     let there = names_of-joined c.args.place.now (codes ".git") in
-    c.is_some.ensures ∙ ap is_some (c.in_ok-kind_at.ensures.told t e) ∙ some_kind (node_at t (names_of c.as_str.result.now)) ∙ ap (λ (p : Names). is_some (node_at t p)) (ap names_of is ∙ there)
+    c.is_some.ensures ∙ ap is_some (c.in_ok-kind.ensures.told t e) ∙ some_kind (node_at t (names_of c.as_str.result.now)) ∙ ap (λ (p : Names). is_some (node_at t p)) (ap names_of is ∙ there)
     ∙ ap (λ b. b && is_some (node_at t (names_of c.args.place.now ++ names_of (codes ".git")))) (sym c.if-not-on.false)

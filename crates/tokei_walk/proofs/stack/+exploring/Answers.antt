@@ -15,7 +15,7 @@ use Rattle.tokei_walk.specs.declared.stack.Step.{Step}
 use Rattle.tokei_walk.specs.Ranks.{weight, stack_rank}
 use Rattle.tokei_walk.specs.Stacks.{Pops, EntersTold, of_folder, VisitTells, ExploreTells, NoneIsSame, NoneStays, StepStays, StepTells}
 use Rattle.tokei_folders.specs.Tree.{names_of}
-use Rattle.tokei_walk.proofs.StackSteps.{with_context, forgotten_stack, refused_stack, top_ends, tells_other, file_told, tells_folder_some, tells_folder_none, visit_deep, visit_refused, visit_entered, stack_entered, visit_left}
+use Rattle.tokei_walk.proofs.StackSteps.{with_context, refused_stack, top_ends, tells_other, file_told, tells_folder_some, tells_folder_none, visit_deep, visit_refused, visit_entered, stack_entered, visit_left}
 use Rattle.tokei_walk.proofs.Growing.{grows_on}
 use Rattle.tokei_walk.proofs.Ranking.{popped, entered_rank, stays_rank, file_falls}
 use Rattle.tokei_walk.proofs.stack.+exploring.Goals as goal

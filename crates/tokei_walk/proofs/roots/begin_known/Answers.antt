@@ -1,0 +1,43 @@
+use Rattle.std.proofs.Common.{◌≡◌, Some, sym, ◌∙◌, rules}
+use Rattle.tokei_folders.specs.declared.fs.Kind.TheVariants.{File, Folder, Other}
+use Rattle.tokei_walk.proofs.Ranking.{below_root}
+use Rattle.tokei_walk.proofs.RootSteps.{known_missing, known_named, known_kind, root_file, root_folder, root_other, one_file}
+use Rattle.tokei_walk.proofs.StackSteps.{empty_gives}
+use Rattle.tokei_walk.proofs.roots.begin_known.Goals as goal
+
+pub returns-in_ok-note-in-None-clause-told : goal.returns-in_ok-note-in-None-clause-told
+returns-in_ok-note-in-None-clause-told g c = λ t e is left below.
+    let x = c.args.settings.now in
+    known_missing x.excludes x.rules t c.args.root.place c.args.root.kind is c.in-None.is
+    ∙ sym (empty_gives x.excludes x.rules t c.args.stack.now left below)
+
+pub returns-in_ok-path-in-Some-File-clause-told : goal.returns-in_ok-path-in-Some-File-clause-told
+returns-in_ok-path-in-Some-File-clause-told g c = λ t e is left below.
+    let x = c.args.settings.now in let root = c.args.root in
+    let kind : c.args.root.kind ≡ Some File = search rules in
+    root_file x.excludes x.rules t root.place (known_named t root.place root.kind _ is kind) (known_kind t root.place root.kind _ is kind)
+    ∙ one_file c.in_ok-path-in-Some-File.path root.place _
+    (c.in_ok-path-in-Some-File.ensures ∙ c.as_str-in-Some-File.ensures)
+    (empty_gives x.excludes x.rules t c.args.stack.now left below)
+
+pub returns-in_ok-enter_root-in-Some-Folder-clause-told : goal.returns-in_ok-enter_root-in-Some-Folder-clause-told
+returns-in_ok-enter_root-in-Some-Folder-clause-told g c = λ t e is left below.
+    let x = c.args.settings.now in let root = c.args.root in
+    let kind : c.args.root.kind ≡ Some Folder = search rules in
+    root_folder x.excludes x.rules t root.place (known_named t root.place root.kind _ is kind) (known_kind t root.place root.kind _ is kind)
+    ∙ c.in_ok-enter_root-in-Some-Folder.ensures.told t e left below
+
+pub returns-in-Some-Other-clause-told : goal.returns-in-Some-Other-clause-told
+returns-in-Some-Other-clause-told g c = λ t e is left below.
+    let root = c.args.root in
+    let kind : c.args.root.kind ≡ Some Other = search rules in
+    absurd (root_other t root.place (known_kind t root.place root.kind _ is kind))
+
+pub returns-in_ok-note-in-None-clause-bounded : goal.returns-in_ok-note-in-None-clause-bounded
+returns-in_ok-note-in-None-clause-bounded g c = below_root c.args.stack.now
+
+pub returns-in_ok-path-in-Some-File-clause-bounded : goal.returns-in_ok-path-in-Some-File-clause-bounded
+returns-in_ok-path-in-Some-File-clause-bounded g c = below_root c.args.stack.now
+
+pub returns-in-Some-Other-clause-bounded : goal.returns-in-Some-Other-clause-bounded
+returns-in-Some-Other-clause-bounded g c = below_root c.args.stack.now
