@@ -2,6 +2,8 @@
 ghost use Rattle.std.specs.Prelude.{◌≡◌, ◌≢◌, ◌<◌, Err, IfOk, OnOk};
 ghost use Rattle.tokei_folders.specs.Answers.{Told};
 ghost use Rattle.tokei_languages.specs.Seen.{languages_of};
+ghost use Rattle.tokei_statistics.specs.Unread.{EndsIn, unread_of};
+ghost use Rattle.tokei_stream.specs.Counted.{counting_of, files_of};
 ghost use Rattle.tokei_walk.specs.Notes.{Grows, notes_of_excludes};
 ghost use Rattle.tokei_walk.specs.Walks.{texts_of};
 ghost use Rattle.tokei_job.specs.declared.error.RunError.TheVariants.{Overflow as SumOverflow, Write};
@@ -21,7 +23,7 @@ use tokei_walk::Note;
 #[derive(Drop)]
 pub(crate) struct Tally {
     pub languages: Languages,
-    /// What the walk passed over.
+    /// What was passed over.
     pub notes: Vec<Note>,
 }
 
@@ -40,6 +42,8 @@ pub(crate) fn tally_of<F: Folders>(
         → Told (F.tree folders.old) (λ t. ¬ TallyFits table.now job.now t) }
     ensures notes { IfOk result (λ tally.
         Grows (notes_of_excludes (texts_of job.now.ignored.items)) tally.notes.items) }
+    ensures unread { Told (F.tree folders.old) (λ t. IfOk result (λ tally. EndsIn
+        (unread_of (counting_of table.now job.now) t (files_of job.now t)) tally.notes.items)) }
     ensures honest { NoFault F.memory_faults folders.old folders.new result }
 {
     let mut languages = earlier_languages(alloc, job)?;

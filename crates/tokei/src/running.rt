@@ -7,6 +7,8 @@ ghost use Rattle.tokei.specs.Refused.{IsUntouched};
 ghost use Rattle.tokei.specs.Sums.{DocumentFits, EarlierFits, Fits, RunReportFits};
 ghost use Rattle.tokei_folders.specs.AsTheyWere.{SameTree, NoFault};
 ghost use Rattle.tokei_io.specs.Faults.{TellsFault, PassesNoFault};
+ghost use Rattle.tokei_statistics.specs.Unread.{EndsIn, unread_of};
+ghost use Rattle.tokei_stream.specs.Counted.{counting_of, files_of};
 ghost use Rattle.tokei_walk.specs.Notes.{Grows, notes_of_excludes};
 ghost use Rattle.tokei_walk.specs.Walks.{texts_of};
 
@@ -40,6 +42,8 @@ fn write_document<F: Folders, W: Sink>(
     ensures no_fault { PassesNoFault W.faults writer.old writer.new result WriteFault }
     ensures notes { IfOk result (λ n.
         Grows (notes_of_excludes (texts_of job.now.ignored.items)) n.items) }
+    ensures unread { Told (F.tree folders.old) (λ t. IfOk result (λ n. EndsIn
+        (unread_of (counting_of table.now job.now) t (files_of job.now t)) n.items)) }
     ensures honest { NoFault F.memory_faults folders.old folders.new result }
 {
     let tally = tally_of(alloc, table, folders, job)?;
@@ -66,6 +70,8 @@ fn write_report<F: Folders, W: Sink>(
     ensures no_fault { PassesNoFault W.faults writer.old writer.new result WriteFault }
     ensures notes { IfOk result (λ n.
         Grows (notes_of_excludes (texts_of job.now.ignored.items)) n.items) }
+    ensures unread { Told (F.tree folders.old) (λ t. IfOk result (λ n. EndsIn
+        (unread_of (counting_of table.now job.now) t (files_of job.now t)) n.items)) }
     ensures honest { NoFault F.memory_faults folders.old folders.new result }
 {
     let tally = tally_of(alloc, table, folders, job)?;
@@ -74,7 +80,8 @@ fn write_report<F: Folders, W: Sink>(
 }
 
 /// Counts the files of a job, beside the results of earlier runs, and writes what is wanted of
-/// them. What the walk passed over is answered.
+/// them. What was passed over is answered: what the walk met, and then each file that counts in a
+/// language and can't be read.
 ///
 /// `Overflow` comes only where a sum passes the greatest `usize`, and `Write` only where the writer
 /// had a fault; after `Write` nothing is said of what was written. After `Memory` and `Overflow`
@@ -99,6 +106,8 @@ pub fn run<F: Folders, W: Sink>(
     ensures no_fault { PassesNoFault W.faults writer.old writer.new result WriteFault }
     ensures notes { IfOk result (λ n.
         Grows (notes_of_excludes (texts_of job.now.ignored.items)) n.items) }
+    ensures unread { Told (F.tree folders.old) (λ t. IfOk result (λ n. EndsIn
+        (unread_of (counting_of table.now job.now) t (files_of job.now t)) n.items)) }
     ensures honest { NoFault F.memory_faults folders.old folders.new result }
 {
     match &job.wanted {

@@ -4,7 +4,7 @@ use Rattle.tokei_table.specs.Row.{Row}
 use Rattle.tokei_table.specs.Extended.{gained, listed_for, extended_from, extended, extensions_of}
 
 module _ (adds : List (ℕ × List (List ℕ))) where
-  same_length : (rs : List Row) (n : ℕ) (known : List (List ℕ)) → length (extended_from n known adds rs) ≡ length rs
+  pub same_length : (rs : List Row) (n : ℕ) (known : List (List ℕ)) → length (extended_from n known adds rs) ≡ length rs
   same_length [] n known = refl
   same_length (r ∷ rs) n known = ap suc (same_length rs (n + 1) (known ++ gained known (listed_for n adds)))
 

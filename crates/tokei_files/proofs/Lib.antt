@@ -1,3 +1,4 @@
 pub mod Deciding
 pub mod ExtendedLength
 pub mod ReadFiles
+pub mod UnreadNotes

@@ -7,3 +7,4 @@ pub mod Faults
 pub mod Files
 pub mod Paths
 pub mod Seen
+pub mod Unread

@@ -9,9 +9,11 @@ mod error;
 mod language;
 mod parsing;
 mod paths;
+mod unread;
 
 pub use configs::{rules, types};
 pub use counting::Counting;
 pub use error::ParseFault;
 pub use parsing::parse_file;
 pub use paths::{from_path, from_shebang};
+pub use unread::note_unread;

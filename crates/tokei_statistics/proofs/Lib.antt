@@ -1,4 +1,6 @@
+pub mod AnyOrder
 pub mod Configured
 pub mod Merges
+pub mod Permuted
 pub mod Running
 pub mod Totals

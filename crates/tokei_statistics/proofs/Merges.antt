@@ -19,13 +19,13 @@ Ascends [] = ⊤
 Ascends (e ∷ es) = IsBefore e.0 es × Ascends es
 
 module _ {S : Type 0} where
-  put_less : (f : S → S) (s : S) (e : ℕ × S) (es : List (ℕ × S)) (k : ℕ) → k < e.0 → put_at f s (e ∷ es) k ≡ (k, s) ∷ e ∷ es
+  pub put_less : (f : S → S) (s : S) (e : ℕ × S) (es : List (ℕ × S)) (k : ℕ) → k < e.0 → put_at f s (e ∷ es) k ≡ (k, s) ∷ e ∷ es
   put_less f s e es k h = ap (λ o. match_ordering o ((k, s) ∷ e ∷ es) ((e.0, f e.1) ∷ es) (e ∷ put_at f s es k)) (sym (nat_cmp_is k e.0 Less h))
 
-  put_same : (f : S → S) (s : S) (e : ℕ × S) (es : List (ℕ × S)) (k : ℕ) → k ≡ e.0 → put_at f s (e ∷ es) k ≡ (e.0, f e.1) ∷ es
+  pub put_same : (f : S → S) (s : S) (e : ℕ × S) (es : List (ℕ × S)) (k : ℕ) → k ≡ e.0 → put_at f s (e ∷ es) k ≡ (e.0, f e.1) ∷ es
   put_same f s e es k h = ap (λ o. match_ordering o ((k, s) ∷ e ∷ es) ((e.0, f e.1) ∷ es) (e ∷ put_at f s es k)) (sym (nat_cmp_is k e.0 Equal h))
 
-  put_more : (f : S → S) (s : S) (e : ℕ × S) (es : List (ℕ × S)) (k : ℕ) → e.0 < k → put_at f s (e ∷ es) k ≡ e ∷ put_at f s es k
+  pub put_more : (f : S → S) (s : S) (e : ℕ × S) (es : List (ℕ × S)) (k : ℕ) → e.0 < k → put_at f s (e ∷ es) k ≡ e ∷ put_at f s es k
   put_more f s e es k h = ap (λ o. match_ordering o ((k, s) ∷ e ∷ es) ((e.0, f e.1) ∷ es) (e ∷ put_at f s es k)) (sym (nat_cmp_is k e.0 Greater h))
 
   put_first : (f : S → S) (s : S) (es : List (ℕ × S)) (k : ℕ) → IsBefore k es → put_at f s es k ≡ (k, s) ∷ es
@@ -48,7 +48,7 @@ module _ {S : Type 0} where
   ascends_by Equal f s e es k h first rest more = subst Ascends (sym (put_same f s e es k h)) (first, rest)
   ascends_by Greater f s e es k h first rest more = subst Ascends (sym (put_more f s e es k h)) (before_put f s es e.0 k h first, more)
 
-  before_less : (es : List (ℕ × S)) (j k : ℕ) → j < k → IsBefore k es → IsBefore j es
+  pub before_less : (es : List (ℕ × S)) (j k : ℕ) → j < k → IsBefore k es → IsBefore j es
   before_less [] j k below h = tt
   before_less (e ∷ es) j k below h = omega arith
 
@@ -154,7 +154,7 @@ module _ {S : Type 0} (join : S → S → S) (P : S → Type 0) (laws : Associat
       ih (put e.1 a e.0) ∙ ap (merged join a) (sym (put_more (λ x. join x s) s e es k h))
 
   -- what is put into a merge might have been put into its right side
-  seam : (s : S) (a b : List (ℕ × S)) (k : ℕ) → Ascends b → AllMeet P b → P s → put s (merged join a b) k ≡ merged join a (put s b k)
+  pub seam : (s : S) (a b : List (ℕ × S)) (k : ℕ) → Ascends b → AllMeet P b → P s → put s (merged join a b) k ≡ merged join a (put s b k)
   seam s a [] k up q p = refl
   seam s a (e ∷ es) k up q p =
       seam_by (nat_cmp k e.0) s a e es k (ranked k e.0 _ refl) up.0 q.0 p (λ b. seam s b es k up.1 q.1 p)

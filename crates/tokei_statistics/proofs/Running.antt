@@ -41,23 +41,23 @@ plus_none a = λ i. record { blanks = add_none a.blanks i; code = add_none a.cod
 
 -- lists of reports
 
-abbrev join_reports : List ReportValue → List ReportValue → List ReportValue
+abbrev pub join_reports : List ReportValue → List ReportValue → List ReportValue
 join_reports a b = a ++ b
 
-abbrev any : List ReportValue → Type 0
+abbrev pub any : List ReportValue → Type 0
 any rs = ⊤
 
-reports_append : Associates join_reports any
+pub reports_append : Associates join_reports any
 reports_append = record { closed = λ s t p q. tt; same = λ s t u p q. append_assoc s t u }
 
-all_any : (es : List (ℕ × List ReportValue)) → AllMeet any es
+pub all_any : (es : List (ℕ × List ReportValue)) → AllMeet any es
 all_any [] = tt
 all_any (e ∷ es) = (tt, all_any es)
 
 appended_assoc : (a b c : List (ℕ × List ReportValue)) → Ascends b → appended (appended a b) c ≡ appended a (appended b c)
 appended_assoc a b c up = merged_assoc join_reports any reports_append a b c up (all_any b) (all_any c)
 
-ascends_appended : (a b : List (ℕ × List ReportValue)) → Ascends a → Ascends (appended a b)
+pub ascends_appended : (a b : List (ℕ × List ReportValue)) → Ascends a → Ascends (appended a b)
 ascends_appended a b up = ascends_merged join_reports any reports_append a b up
 
 -- languages
@@ -74,7 +74,7 @@ merged_language_assoc s t u up = λ i. record {
   inaccurate = or_assoc s.inaccurate t.inaccurate u.inaccurate i;
 }
 
-languages_join : Associates merged_language IsLaidOut
+pub languages_join : Associates merged_language IsLaidOut
 languages_join = record {
   closed = λ s t p q. ascends_appended s.children t.children p;
   same = λ s t u p q. merged_language_assoc s t u p;
@@ -122,19 +122,19 @@ module _ (c : Counting) (t : Tree) where
   in_laid_out k None = tt
   in_laid_out k (Some l) = (from_laid_out k.path (stats_at t c.rows c.docs l k.place), tt)
 
-  file_ascends : (k : KeptFile) → Ascends (languages_of_file c t k)
+  pub file_ascends : (k : KeptFile) → Ascends (languages_of_file c t k)
   unfolding languages_of_file
   file_ascends k = in_ascends k (language_of_file c t k)
 
-  file_laid_out : (k : KeptFile) → AllMeet IsLaidOut (languages_of_file c t k)
+  pub file_laid_out : (k : KeptFile) → AllMeet IsLaidOut (languages_of_file c t k)
   unfolding languages_of_file
   file_laid_out k = in_laid_out k (language_of_file c t k)
 
-  run_ascends : (ks : List KeptFile) → Ascends (languages_of_run c t ks)
+  pub run_ascends : (ks : List KeptFile) → Ascends (languages_of_run c t ks)
   run_ascends [] = tt
   run_ascends (k ∷ ks) = ascends_merged merged_language IsLaidOut languages_join (languages_of_file c t k) (languages_of_run c t ks) (file_ascends k)
 
-  run_laid_out : (ks : List KeptFile) → AllMeet IsLaidOut (languages_of_run c t ks)
+  pub run_laid_out : (ks : List KeptFile) → AllMeet IsLaidOut (languages_of_run c t ks)
   run_laid_out [] = tt
   run_laid_out (k ∷ ks) = meet_merged merged_language IsLaidOut languages_join (languages_of_file c t k) (languages_of_run c t ks) (file_laid_out k) (run_laid_out ks)
 
@@ -231,6 +231,10 @@ module _ (c : Counting) (t : Tree) where
 pub always_err : {T E A : Type 0} (q : Result T E) → A → OnErr q A
 always_err (Ok x) a = tt
 always_err (Err e) a = a
+
+pub always_ok : {T E A : Type 0} (q : Result T E) → A → OnOk q A
+always_ok (Ok x) a = a
+always_ok (Err e) a = tt
 
 -- none of them
 pub none_added : (c : Counting) (t : Tree) (files : List KeptFile) (a : List (ℕ × LanguageValue)) → AddsFirst c t files a a

@@ -1,9 +1,10 @@
 //! The statistics of all files that a walk gives, counted one at a time as they come.
-ghost use Rattle.std.specs.Prelude.{◌≡◌, ◌≢◌, ◌<◌, Err, OnOk, OnErr, IfOk, IsErrOf};
+ghost use Rattle.std.specs.Prelude.{◌≡◌, ◌≢◌, ◌<◌, ◌++◌, Err, OnOk, OnErr, IfOk, IsErrOf};
 ghost use Rattle.tokei_languages.specs.Merging.{merged_languages};
 ghost use Rattle.tokei_languages.specs.Seen.{languages_of};
 ghost use Rattle.tokei_files.specs.Files.{FileFits, ReadingsFit};
 ghost use Rattle.tokei_files.specs.Seen.{counting_of};
+ghost use Rattle.tokei_files.specs.Unread.{EndsIn, unread_of, unread_of_file};
 ghost use Rattle.tokei_folders.specs.Answers.{Told};
 ghost use Rattle.tokei_walk.specs.Kept.{kept_in};
 ghost use Rattle.tokei_walk.specs.Notes.{Grows, notes_of, notes_of_excludes};
@@ -12,17 +13,18 @@ ghost use Rattle.tokei_statistics.specs.Runs.{AddsFiles, AddsFirst, languages_of
 ghost use Rattle.tokei_folders.specs.AsTheyWere.{SameTree, NoFault, FaultsStay};
 
 use tokei_count::{CountError, Report};
-use tokei_files::{Counting, ParseFault};
+use tokei_files::{Counting, ParseFault, note_unread};
 use tokei_languages::Languages;
 use tokei_walk::{Folders, KeptFile, Note, Rules, Walk};
 
-/// Counts one file: its report goes to its language, or a mark where it can't be read. A refusal
-/// changes nothing of the languages.
+/// Counts one file: its report goes to its language, or a mark where it can't be read, of which a
+/// note is added. A refusal changes nothing of the languages.
 pub fn add_file<F: Folders>(
     counting: &Counting,
     folders: &mut F,
     file: KeptFile,
     languages: &mut Languages,
+    unread: &mut Vec<Note>,
 ) -> Result<(), CountError>
     ensures same { SameTree F.tree folders.old folders.new }
     ensures told { Told (F.tree folders.old) (λ t. OnOk result (languages_of languages.new
@@ -31,6 +33,8 @@ pub fn add_file<F: Folders>(
     ensures stays { OnErr result (languages_of languages.new ≡ languages_of languages.old) }
     ensures overflow { IsErrOf result CountError.Overflow → Told (F.tree folders.old) (λ t.
         ¬ FileFits (counting_of counting.now) t file) }
+    ensures unread { Told (F.tree folders.old) (λ t. OnOk result (unread.new.items
+        ≡ unread.old.items ++ unread_of_file (counting_of counting.now) t file)) }
     ensures honest { result ≢ Err CountError.Memory
         → FaultsStay F.memory_faults folders.old folders.new }
 {
@@ -43,19 +47,24 @@ pub fn add_file<F: Folders>(
             let name = file.path.into_string();
             languages.add_report(language, Report { stats, name })
         }
-        Err(ParseFault::Refused) => languages.mark_inaccurate(language),
+        Err(ParseFault::Refused) => {
+            note_unread(unread, file)?;
+            languages.mark_inaccurate(language)
+        }
         Err(ParseFault::Memory) => Err(CountError::Memory),
         Err(ParseFault::Overflow) => Err(CountError::Overflow),
     }
 }
 
-/// Counts the files that a walk still gives, as it gives them. After a refusal the languages are
-/// those from before with those of the first files, so many as were counted.
+/// Counts the files that a walk still gives, as it gives them, and adds a note of each whose content
+/// can't be read. After a refusal the languages are those from before with those of the first files,
+/// so many as were counted.
 pub fn count_files<F: Folders>(
     counting: &Counting,
     folders: &mut F,
     walk: &mut Walk,
     languages: &mut Languages,
+    unread: &mut Vec<Note>,
 ) -> Result<(), CountError>
     ensures same { SameTree F.tree folders.old folders.new }
     ensures told { Told (F.tree folders.old) (λ t. OnOk result
@@ -67,17 +76,19 @@ pub fn count_files<F: Folders>(
     ensures overflow { IsErrOf result CountError.Overflow → Told (F.tree folders.old) (λ t.
         ¬ ReadingsFit (counting_of counting.now) t (to_come t walk.old)) }
     ensures notes { Grows (notes_of walk.old) (notes_of walk.new) }
+    ensures unread { Told (F.tree folders.old) (λ t. OnOk result (unread.new.items
+        ≡ unread.old.items ++ unread_of (counting_of counting.now) t (to_come t walk.old))) }
     ensures honest { NoFault F.memory_faults folders.old folders.new result }
 {
     while let Some(file) = walk.next(folders)? {
-        add_file(counting, folders, file, languages)?;
+        add_file(counting, folders, file, languages, unread)?;
     }
     Ok(())
 }
 
-/// Counts the files that the rules keep below the roots, and answers what was passed over. After a
-/// refusal the languages are those from before with those of the first files, so many as were
-/// counted.
+/// Counts the files that the rules keep below the roots, and answers what was passed over: what the
+/// walk met, and then each file that counts in a language and can't be read. After a refusal the
+/// languages are those from before with those of the first files, so many as were counted.
 pub fn count_roots<F: Folders>(
     counting: &Counting,
     folders: &mut F,
@@ -99,9 +110,16 @@ pub fn count_roots<F: Folders>(
         ¬ ReadingsFit (counting_of counting.now) t
         (kept_in (excludes_of (texts_of excludes.now)) rules.now t (texts_of roots.now))) }
     ensures notes { IfOk result (λ n. Grows (notes_of_excludes (texts_of excludes.now)) n.items) }
+    ensures unread { Told (F.tree folders.old) (λ t. IfOk result (λ n. EndsIn
+        (unread_of (counting_of counting.now) t
+        (kept_in (excludes_of (texts_of excludes.now)) rules.now t (texts_of roots.now)))
+        n.items)) }
     ensures honest { NoFault F.memory_faults folders.old folders.new result }
 {
     let mut walk = Walk::new(counting.alloc, roots, excludes, rules)?;
-    count_files(counting, folders, &mut walk, languages)?;
-    Ok(walk.into_notes())
+    let mut unread = Vec::new(counting.alloc);
+    count_files(counting, folders, &mut walk, languages, &mut unread)?;
+    let mut notes = walk.into_notes();
+    notes.append(&mut unread)?;
+    Ok(notes)
 }

@@ -3,6 +3,7 @@ ghost use Rattle.std.specs.Prelude.{◌≡◌, ◌<◌, OnOk, OnErr, IfOk, IsErr
 ghost use Rattle.tokei_config.specs.Seen.{settings_of};
 ghost use Rattle.tokei_files.specs.Configs.{counting_by, kept_by};
 ghost use Rattle.tokei_files.specs.Files.{ReadingsFit};
+ghost use Rattle.tokei_files.specs.Unread.{EndsIn, unread_of};
 ghost use Rattle.tokei_folders.specs.Answers.{Told};
 ghost use Rattle.tokei_languages.specs.Seen.{languages_of};
 ghost use Rattle.tokei_walk.specs.Notes.{Grows, notes_of_excludes};
@@ -25,7 +26,7 @@ pub trait CountFiles {
     /// language that it has by the table in which languages have gained the configuration's
     /// extensions; the counts of languages aren't renewed. Excludes are patterns, as in an ignore
     /// file. A file that can't be read marks its language and leaves no report. What was passed
-    /// over is answered.
+    /// over is answered: what the walk met, and then each file that can't be read.
     ///
     /// `Overflow` comes only where a count of a file passes the greatest `usize`. After a refusal
     /// the languages are those from before with those of the first files, so many as were counted,
@@ -77,6 +78,10 @@ impl CountFiles for Languages {
             (kept_by (settings_of config.now) t (texts_of paths.now) (texts_of ignored.now))) }
         ensures notes { IfOk result (λ n. Grows (notes_of_excludes (texts_of ignored.now))
             n.items) }
+        ensures unread { Told (F.tree folders.old) (λ t. IfOk result (λ n. EndsIn
+            (unread_of (counting_by table.now (settings_of config.now)) t
+            (kept_by (settings_of config.now) t (texts_of paths.now) (texts_of ignored.now)))
+            n.items)) }
         ensures honest { NoFault F.memory_faults folders.old folders.new result }
     {
         let alloc = self.allocator();
@@ -114,6 +119,10 @@ impl CountFiles for Languages {
             (languages_of self.old)) }
         ensures notes { IfOk result (λ n. Grows (notes_of_excludes (texts_of ignored.now))
             n.items) }
+        ensures unread { Told (F.tree folders.old) (λ t. IfOk result (λ n. EndsIn
+            (unread_of (counting_by table.now (settings_of config.now)) t
+            (kept_by (settings_of config.now) t (texts_of paths.now) (texts_of ignored.now)))
+            n.items)) }
         ensures honest { NoFault F.memory_faults folders.old folders.new result }
     {
         let notes = self.get_all_files(table, folders, paths, ignored, config)?;

@@ -1,17 +1,18 @@
 //! A row for each file, written as it is counted.
-ghost use Rattle.std.specs.Prelude.{◌≡◌, ◌≢◌, ◌<◌, Err, IfOk, IsErrOf, OnOk, option_map, true};
+ghost use Rattle.std.specs.Prelude.{◌≡◌, ◌≢◌, ◌<◌, ◌++◌, Err, IfOk, IsErrOf, OnOk, option_map, true};
 ghost use Rattle.std.specs.Io.KnownBytes.{Appends};
 ghost use Rattle.tokei_folders.specs.Answers.{Told};
 ghost use Rattle.tokei_folders.specs.Tree.{Tree, is_sound};
 ghost use Rattle.tokei_languages.specs.Renewing.{RenewalFits};
 ghost use Rattle.tokei_files.specs.Files.{FileFits, ReadingsFit};
 ghost use Rattle.tokei_files.specs.Seen.{counting_of as counting_value};
+ghost use Rattle.tokei_files.specs.Unread.{EndsIn, unread_of, unread_of_file};
 ghost use Rattle.tokei_stats.specs.Reports.{report_of as report_value};
 ghost use Rattle.tokei_walk.specs.Notes.{Grows, notes_of, notes_of_excludes};
 ghost use Rattle.tokei_walk.specs.Walks.{texts_of, to_come};
 ghost use Rattle.tokei_job.specs.declared.error.RunError.TheVariants.{Overflow as SumOverflow, Write as WriteFault};
 ghost use Rattle.tokei_job.specs.Earlier.{earlier_of};
-ghost use Rattle.tokei_stream.specs.Counted.{files_of};
+ghost use Rattle.tokei_stream.specs.Counted.{counting_of, files_of};
 ghost use Rattle.tokei_stream.specs.JobStreams.{StreamFits, WritesStream};
 ghost use Rattle.tokei_stream.specs.Streams.{file_row, report_of_file, rows_of, stream_text};
 ghost use Rattle.tokei_folders.specs.AsTheyWere.{SameTree, NoFault};
@@ -20,7 +21,7 @@ ghost use Rattle.tokei_io.specs.Faults.{TellsFault, PassesNoFault};
 use crate::rows::{Rows, write_heading, write_row};
 use std::alloc::{AllocError, Global};
 use tokei_count::Counter;
-use tokei_files::{Counting, ParseFault, rules, types};
+use tokei_files::{Counting, ParseFault, note_unread, rules, types};
 use tokei_folders::Folders;
 use tokei_io::Sink;
 use tokei_job::{Job, RunError, earlier_languages};
@@ -28,11 +29,13 @@ use tokei_stats::{CountError, Report};
 use tokei_table::LanguageType;
 use tokei_walk::{KeptFile, Note, Walk};
 
-/// The report of a file beside its language, where it counts in one and can be read.
+/// The report of a file beside its language, where it counts in one and can be read; a note is added
+/// where it can't.
 fn report_of<F: Folders>(
     counting: &Counting,
     folders: &mut F,
     file: KeptFile,
+    unread: &mut Vec<Note>,
 ) -> Result<Option<(LanguageType, Report)>, RunError>
     ensures same { SameTree F.tree folders.old folders.new }
     ensures told { Told (F.tree folders.old) (λ t. IfOk result (λ o. option_map
@@ -41,6 +44,8 @@ fn report_of<F: Folders>(
     ensures unwritten { result ≢ Err WriteFault }
     ensures overflow { result ≡ Err SumOverflow → Told (F.tree folders.old) (λ t.
         ¬ FileFits (counting_value counting.now) t file) }
+    ensures unread { Told (F.tree folders.old) (λ t. OnOk result (unread.new.items
+        ≡ unread.old.items ++ unread_of_file (counting_value counting.now) t file)) }
     ensures honest { NoFault F.memory_faults folders.old folders.new result }
 {
     let language = match counting.language(folders, &file)? {
@@ -52,19 +57,23 @@ fn report_of<F: Folders>(
             let name = file.path.into_string();
             Ok(Some((language, Report { stats, name })))
         }
-        Err(ParseFault::Refused) => Ok(None),
+        Err(ParseFault::Refused) => {
+            note_unread(unread, file)?;
+            Ok(None)
+        }
         Err(ParseFault::Memory) => Err(RunError::Memory),
         Err(ParseFault::Overflow) => Err(RunError::Overflow),
     }
 }
 
-/// Counts a file, and writes its row, where it has one.
+/// Counts a file, and writes its row, where it has one; a note is added where it can't be read.
 fn write_file<F: Folders, W: Sink>(
     rows: &Rows,
     counting: &Counting,
     folders: &mut F,
     file: KeptFile,
     writer: &mut W,
+    unread: &mut Vec<Note>,
 ) -> Result<(), RunError>
     ensures same { SameTree F.tree folders.old folders.new }
     ensures told { Told (F.tree folders.old) (λ t. OnOk result
@@ -74,15 +83,18 @@ fn write_file<F: Folders, W: Sink>(
         ¬ FileFits (counting_value counting.now) t file) }
     ensures fault { TellsFault W.faults writer.old writer.new result WriteFault }
     ensures no_fault { PassesNoFault W.faults writer.old writer.new result WriteFault }
+    ensures unread { Told (F.tree folders.old) (λ t. OnOk result (unread.new.items
+        ≡ unread.old.items ++ unread_of_file (counting_value counting.now) t file)) }
     ensures honest { NoFault F.memory_faults folders.old folders.new result }
 {
-    match report_of(counting, folders, file)? {
+    match report_of(counting, folders, file, unread)? {
         None => Ok(()),
         Some((language, report)) => write_row(rows, language, &report, writer),
     }
 }
 
-/// Writes a row for each file that a walk still gives, as it gives it.
+/// Writes a row for each file that a walk still gives, as it gives it, and adds a note of each that
+/// can't be read.
 #[tactic(auto, using(tokei_walk::proofs::Growing::grows_same, tokei_walk::proofs::Growing::grows_on))]
 fn write_rows<F: Folders, W: Sink>(
     rows: &Rows,
@@ -90,6 +102,7 @@ fn write_rows<F: Folders, W: Sink>(
     folders: &mut F,
     walk: &mut Walk,
     writer: &mut W,
+    unread: &mut Vec<Note>,
 ) -> Result<(), RunError>
     ensures same { SameTree F.tree folders.old folders.new }
     ensures told { Told (F.tree folders.old) (λ t. OnOk result
@@ -101,10 +114,12 @@ fn write_rows<F: Folders, W: Sink>(
     ensures fault { TellsFault W.faults writer.old writer.new result WriteFault }
     ensures no_fault { PassesNoFault W.faults writer.old writer.new result WriteFault }
     ensures notes { Grows (notes_of walk.old) (notes_of walk.new) }
+    ensures unread { Told (F.tree folders.old) (λ t. OnOk result (unread.new.items
+        ≡ unread.old.items ++ unread_of (counting_value counting.now) t (to_come t walk.old))) }
     ensures honest { NoFault F.memory_faults folders.old folders.new result }
 {
     while let Some(file) = walk.next(folders)? {
-        write_file(rows, counting, folders, file, writer)?;
+        write_file(rows, counting, folders, file, writer, unread)?;
     }
     Ok(())
 }
@@ -135,6 +150,7 @@ fn write_headed<F: Folders, W: Sink>(
     folders: &mut F,
     walk: &mut Walk,
     writer: &mut W,
+    unread: &mut Vec<Note>,
 ) -> Result<(), RunError>
     ensures same { SameTree F.tree folders.old folders.new }
     ensures told { Told (F.tree folders.old) (λ t. OnOk result
@@ -146,10 +162,12 @@ fn write_headed<F: Folders, W: Sink>(
     ensures fault { TellsFault W.faults writer.old writer.new result WriteFault }
     ensures no_fault { PassesNoFault W.faults writer.old writer.new result WriteFault }
     ensures notes { OnOk result (Grows (notes_of walk.old) (notes_of walk.new)) }
+    ensures unread { Told (F.tree folders.old) (λ t. OnOk result (unread.new.items
+        ≡ unread.old.items ++ unread_of (counting_value counting.now) t (to_come t walk.old))) }
     ensures honest { NoFault F.memory_faults folders.old folders.new result }
 {
     write_heading(rows.form, writer)?;
-    write_rows(rows, counting, folders, walk, writer)
+    write_rows(rows, counting, folders, walk, writer, unread)
 }
 
 /// Writes the heading of a stream, and a row for each file of a job.
@@ -171,15 +189,21 @@ fn write_stream<F: Folders, W: Sink>(
     ensures no_fault { PassesNoFault W.faults writer.old writer.new result WriteFault }
     ensures notes { IfOk result (λ n.
         Grows (notes_of_excludes (texts_of job.now.ignored.items)) n.items) }
+    ensures unread { Told (F.tree folders.old) (λ t. IfOk result (λ n. EndsIn
+        (unread_of (counting_value counting.now) t (files_of job.now t)) n.items)) }
     ensures honest { NoFault F.memory_faults folders.old folders.new result }
 {
     let mut walk = walk_of(counting.alloc, job)?;
-    write_headed(rows, counting, folders, &mut walk, writer)?;
-    Ok(walk.into_notes())
+    let mut unread = Vec::new(counting.alloc);
+    write_headed(rows, counting, folders, &mut walk, writer, &mut unread)?;
+    let mut notes = walk.into_notes();
+    notes.append(&mut unread)?;
+    Ok(notes)
 }
 
-/// Writes a row for each file of a job, as it is counted, and answers what the walk passed over. No
-/// report is kept, and no file is counted where the renewed counts of earlier results don't fit.
+/// Writes a row for each file of a job, as it is counted, and answers what was passed over: what the
+/// walk met, and then each file that counts in a language and can't be read. No report is kept, and
+/// no file is counted where the renewed counts of earlier results don't fit.
 pub fn stream<F: Folders, W: Sink>(
     rows: &Rows,
     folders: &mut F,
@@ -196,6 +220,8 @@ pub fn stream<F: Folders, W: Sink>(
     ensures no_fault { PassesNoFault W.faults writer.old writer.new result WriteFault }
     ensures notes { IfOk result (λ n.
         Grows (notes_of_excludes (texts_of job.now.ignored.items)) n.items) }
+    ensures unread { Told (F.tree folders.old) (λ t. IfOk result (λ n. EndsIn
+        (unread_of (counting_of rows.now.table.now job.now) t (files_of job.now t)) n.items)) }
     ensures honest { NoFault F.memory_faults folders.old folders.new result }
 {
     test_earlier(rows.alloc, job)?;

@@ -7,6 +7,7 @@ use Rattle.tokei_walk.specs.Walks.{to_come, Advances}
 use Rattle.tokei_walk.proofs.Growing.{grows_same, grows_on}
 use Rattle.tokei_statistics.specs.Runs.{AddsFirst}
 use Rattle.tokei_files.specs.Seen.{counting_of}
+use Rattle.tokei_files.proofs.UnreadNotes.{noted_more}
 use Rattle.tokei_statistics.proofs.Running.{none_yet, one_more, first_done, one_over, always_err}
 use Rattle.tokei_statistics.proofs.counting.count_files.Goals as goal
 
@@ -16,6 +17,7 @@ loop-file-init g c = record {
   notes = grows_same _ _ refl;
   honest = λ h. refl;
   told = λ t e. none_yet (counting_of c.args.counting.now) t (to_come t c.args.walk.now) (languages_of c.args.languages.now);
+  unread = λ t e. refl;
 }
 
 pub returns-in_err-file-clause-partly : goal.returns-in_err-file-clause-partly
@@ -31,6 +33,10 @@ loop-file-preserved g c =
           let here = inv.same ∙ e in
           let given = subst (λ (o : Option KeptFile). Advances (to_come t c.loop-file.walk) (to_come t c.next.new.self) o) c.in-Some.is (c.in_ok-file.ensures.told t here) in
           one_more (counting_of c.args.counting.now) t _ _ _ c.in-Some.file _ _ _ (inv.told t e) given (c.in_ok-add_file.ensures.told t (c.next.ensures.same ∙ here));
+      unread = λ t e.
+          let here = inv.same ∙ e in
+          let given = subst (λ (o : Option KeptFile). Advances (to_come t c.loop-file.walk) (to_come t c.next.new.self) o) c.in-Some.is (c.in_ok-file.ensures.told t here) in
+          noted_more (counting_of c.args.counting.now) t _ _ c.in-Some.file _ _ _ (inv.unread t e) given (c.in_ok-add_file.ensures.unread t (c.next.ensures.same ∙ here));
     }
 
 pub returns-in_err-add_file-clause-partly : goal.returns-in_err-add_file-clause-partly

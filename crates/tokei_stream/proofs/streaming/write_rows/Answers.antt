@@ -1,6 +1,7 @@
 use Rattle.std.proofs.Common.{◌≡◌, Option, Err, refl, ap, ◌∙◌, subst, rules, List}
 use Rattle.tokei_files.specs.Files.{ReadingsFit}
 use Rattle.tokei_files.specs.Seen.{counting_of}
+use Rattle.tokei_files.proofs.UnreadNotes.{noted_more}
 use Rattle.tokei_walk.specs.declared.kept_file.KeptFile.{KeptFile}
 use Rattle.tokei_walk.specs.Walks.{to_come, Advances}
 use Rattle.tokei_walk.proofs.Growing.{grows_same, grows_on}
@@ -15,6 +16,7 @@ loop-file-init g c = record {
   told = λ t e. no_row_yet (file_row c.args.rows.now.form c.args.rows.now.table.now (counting_of c.args.counting.now) t) (to_come t c.args.walk.now) _;
   fits = λ t e f. f;
   notes = grows_same _ _ refl;
+  unread = λ t e. refl;
   no_fault = λ h. refl;
   honest = λ h. refl;
 }
@@ -33,6 +35,10 @@ loop-file-preserved g c =
           let given = subst (λ (o : Option KeptFile). Advances (to_come t c.loop-file.walk) (to_come t c.next.new.self) o) c.in-Some.is (c.in_ok-file.ensures.told t here) in
           (subst (λ (ks : List KeptFile). ReadingsFit by t ks) given (inv.fits t e f)).1;
       notes = grows_on _ _ _ inv.notes c.next.ensures.notes;
+      unread = λ t e.
+          let here = inv.same ∙ e in
+          let given = subst (λ (o : Option KeptFile). Advances (to_come t c.loop-file.walk) (to_come t c.next.new.self) o) c.in-Some.is (c.in_ok-file.ensures.told t here) in
+          noted_more by t _ _ c.in-Some.file _ _ _ (inv.unread t e) given (c.in_ok-write_file.ensures.unread t (c.next.ensures.same ∙ here));
       no_fault = search rules;
       honest = search rules;
     }

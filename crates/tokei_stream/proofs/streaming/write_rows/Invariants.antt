@@ -1,7 +1,8 @@
-use Rattle.std.proofs.Common.{◌≡◌, ◌<◌}
+use Rattle.std.proofs.Common.{◌≡◌, ◌<◌, ◌++◌}
 use Rattle.tokei_folders.specs.Answers.{Told}
 use Rattle.tokei_files.specs.Files.{ReadingsFit}
 use Rattle.tokei_files.specs.Seen.{counting_of}
+use Rattle.tokei_files.specs.Unread.{unread_of}
 use Rattle.tokei_walk.specs.Notes.{Grows, notes_of}
 use Rattle.tokei_walk.specs.Ranks.{rank}
 use Rattle.tokei_walk.specs.Walks.{to_come}
@@ -17,6 +18,8 @@ invariant-loop-file g l = record {
   fits : Told (g.F.Folders.tree l.initial.folders) (λ t.
       ReadingsFit (counting_of l.counting) t (to_come t l.initial.walk) → ReadingsFit (counting_of l.counting) t (to_come t l.walk));
   notes : Grows (notes_of l.initial.walk) (notes_of l.walk);
+  unread : Told (g.F.Folders.tree l.initial.folders) (λ t.
+      l.unread.items ++ unread_of (counting_of l.counting) t (to_come t l.walk) ≡ l.initial.unread.items ++ unread_of (counting_of l.counting) t (to_come t l.initial.walk));
   no_fault : g.W.Sink.faults l.initial.writer < 18446744073709551615 → g.W.Sink.faults l.writer ≡ g.W.Sink.faults l.initial.writer;
   honest : g.F.Folders.memory_faults l.initial.folders < 18446744073709551615 → g.F.Folders.memory_faults l.folders ≡ g.F.Folders.memory_faults l.initial.folders;
 }

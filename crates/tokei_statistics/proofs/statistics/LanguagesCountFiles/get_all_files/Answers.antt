@@ -1,4 +1,4 @@
-use Rattle.std.proofs.Common.{◌≡◌, ℕ, false, unwrap_or, List, option_map, OnOk, OnErr, ◌∙◌}
+use Rattle.std.proofs.Common.{◌≡◌, ℕ, false, unwrap_or, List, option_map, IfOk, OnOk, OnErr, ◌∙◌}
 use Rattle.tokei_config.specs.Seen.{settings_of}
 use Rattle.tokei_count.specs.Seen.{docs_of}
 use Rattle.tokei_languages.specs.Seen.{languages_of}
@@ -7,6 +7,7 @@ use Rattle.tokei_walk.specs.Kept.{kept_in}
 use Rattle.tokei_walk.specs.Walks.{excludes_of, texts_of}
 use Rattle.tokei_files.specs.Configs.{rules_of, counting_by, kept_by}
 use Rattle.tokei_files.specs.Files.{Counting, ReadingsFit}
+use Rattle.tokei_files.specs.Unread.{EndsIn, unread_of}
 use Rattle.tokei_statistics.specs.Runs.{AddsFiles, AddsFirst}
 use Rattle.tokei_statistics.proofs.Configured.{said_again}
 use Rattle.tokei_statistics.proofs.statistics.LanguagesCountFiles.get_all_files.Goals as goal
@@ -58,3 +59,19 @@ returns-clause-overflow g c = λ q t e.
     (λ r. kept_in (excludes_of (texts_of c.args.ignored.now)) r t (texts_of c.args.paths.now)) code
     (counting_by c.args.table.now s) c.rules.result (rules_of s) same c.rules.ensures
     (c.count_roots.ensures.overflow q t e)
+
+pub returns-clause-unread : goal.returns-clause-unread
+unfolding kept_by
+returns-clause-unread g c = λ t e.
+    let s = settings_of c.args.config.now in
+    let code : Counting = record { rows = c.in_ok-counter.counter; docs = docs_of c.counting.result; types = option_map (λ types. types.now) c.types.result } in
+    let same : code ≡ counting_by c.args.table.now s =
+    λ i. record {
+      rows = (c.in_ok-counter.ensures ∙ c.in_ok-extended.ensures) i;
+      docs = unwrap_or (c.counting.ensures i) false;
+      types = c.types.ensures i;
+    } in
+    said_again (λ b ks. IfOk c.count_roots.result (λ n. EndsIn (unread_of b t ks) n.items))
+    (λ r. kept_in (excludes_of (texts_of c.args.ignored.now)) r t (texts_of c.args.paths.now)) code
+    (counting_by c.args.table.now s) c.rules.result (rules_of s) same c.rules.ensures
+    (c.count_roots.ensures.unread t e)

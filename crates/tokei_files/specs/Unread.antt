@@ -1,0 +1,36 @@
+-- The notes of files that count in a language and whose content can't be read.
+use Rattle.std.specs.Prelude.{◌≡◌, ℕ, List, [], ◌∷◌, ◌++◌, Option, Some, None}
+use Rattle.std.specs.List.{flat_map}
+use Rattle.tokei_folders.specs.Tree.{Tree}
+use Rattle.tokei_walk.specs.declared.kept_file.KeptFile.{KeptFile}
+use Rattle.tokei_walk.specs.declared.kept_file.Note.{Note}
+use Rattle.tokei_walk.specs.declared.kept_file.NoteKind.TheVariants.{UnreadContent}
+use Rattle.tokei_files.specs.Contents.{content_at}
+use Rattle.tokei_files.specs.Files.{Counting, language_of_file}
+
+-- the note of such a file, under the path that is shown
+abbrev pub unread_note : KeptFile → Note
+unread_note file = record { kind = UnreadContent; place = file.path }
+
+-- a file leaves its note where there is no content
+abbrev pub note_without : KeptFile → Option (List ℕ) → List Note
+note_without file None = unread_note file ∷ []
+note_without file (Some content) = []
+
+-- a file that counts in this language leaves a note where its content can't be read
+abbrev pub unread_in : Tree → KeptFile → Option ℕ → List Note
+unread_in t file None = []
+unread_in t file (Some language) = note_without file (content_at t file.place)
+
+-- the note of a file, if it leaves one
+unfoldable pub unread_of_file : Counting → Tree → KeptFile → List Note
+unread_of_file c t file = unread_in t file (language_of_file c t file)
+
+-- those of files, in their order
+abbrev pub unread_of : Counting → Tree → List KeptFile → List Note
+unread_of c t files = flat_map (unread_of_file c t) files
+
+-- the last notes are these
+pub record EndsIn (last all : List Note) : Type 0 where
+  pub before : List Note
+  pub is : all ≡ before ++ last
