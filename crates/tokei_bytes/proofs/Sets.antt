@@ -1,8 +1,9 @@
 -- The few bytes of a set.
-use Rattle.std.proofs.Common.{◌≡◌, ◌≢◌, ℕ, zero, suc, ◌+◌, ◌<◌, ◌≤◌, ◌⊎◌, inl, inr, ◌==◌, ◌||◌, Bool, true, false, cond, List, [], ◌∷◌, take, length, get_or, slice_index_or, refl, sym, ap, subst, ◌∙◌, arith}
+use Rattle.std.proofs.Common.{◌≡◌, ◌≢◌, ℕ, zero, suc, ◌+◌, ◌<◌, ◌≤◌, ◌⊎◌, inl, inr, ◌==◌, ◌||◌, Bool, true, false, cond, List, [], ◌∷◌, take, length, get_or, slice_index_or, set, replicate, refl, sym, ap, subst, ◌∙◌, arith, true≢false, get_or-set_same, get_or-set_other}
 use Rattle.std.proofs.lemmas.Bool.Decides.{Decides-eqb}
+use Rattle.std.proofs.lemmas.List.{get_or-replicate}
 use Rattle.tokei_bytes.specs.OneOf.{is_one_of}
-use Rattle.tokei_bytes.specs.ByteSets.{HasFew}
+use Rattle.tokei_bytes.specs.ByteSets.{HasFew, is_in, with_one}
 use Rattle.tokei_bytes.proofs.Blocks.{the_one}
 
 one_more : (y : Bool) (r : Bool) → r ≡ true → cond y true r ≡ true
@@ -39,11 +40,6 @@ three (a ∷ b ∷ c ∷ d ∷ []) (suc zero) x four small = refl
 three (a ∷ b ∷ c ∷ d ∷ []) (suc (suc zero)) x four small = refl
 three (a ∷ b ∷ c ∷ d ∷ []) (suc (suc (suc zero))) x four small = refl
 three (a ∷ b ∷ c ∷ d ∷ []) (suc (suc (suc (suc n)))) x four small = absurd (omega (arith, small))
-
--- the byte in front of n few, or that byte alone where there are none
-abbrev pub with_one : List ℕ → ℕ → ℕ → List ℕ
-with_one few zero x = x ∷ x ∷ x ∷ x ∷ []
-with_one few (suc n) x = x ∷ get_or few 0 0 ∷ get_or few 1 0 ∷ get_or few 2 0 ∷ []
 
 pub alone : (few : List ℕ) (n x : ℕ) → n ≡ 0 → x ∷ x ∷ x ∷ x ∷ [] ≡ with_one few n x
 alone few zero x h = refl
@@ -101,6 +97,91 @@ each_with_one P few (suc n) x four own rest b h = elim (first_or_other x (get_or
   | inl e ↦ subst P (sym e) own
   | inr others ↦ rest (omega arith) b (one_of_three few b four others)
 ]
+
+or_none : (a : Bool) → a ≡ (a || false)
+or_none true = refl
+or_none false = refl
+
+or_one : (a : Bool) → true ≡ (a || true)
+or_one true = refl
+or_one false = refl
+
+-- a byte that is put into a set is in it beside the others
+pub put_in : (flags : List Bool) (b x : ℕ) → b < length flags → is_in (set flags b true) x ≡ (is_in flags x || (x == b))
+put_in flags b x l = by (x == b) refl
+  where
+    by : (c : Bool) → (x == b) ≡ c → is_in (set flags b true) x ≡ (is_in flags x || (x == b))
+    by true q =
+        ap (λ k. get_or (set flags b true) k false) ((Decides-eqb x b).0 q)
+        ∙ get_or-set_same flags b true false l
+        ∙ or_one (get_or flags x false)
+        ∙ ap (λ c. get_or flags x false || c) (sym q)
+    by false q =
+        get_or-set_other flags b x true false (λ e. true≢false (sym ((Decides-eqb x b).1 e) ∙ q))
+        ∙ or_none (get_or flags x false)
+        ∙ ap (λ c. get_or flags x false || c) (sym q)
+
+-- one that is there already changes nothing
+pub there_already : (flags : List Bool) (b x : ℕ) → is_in flags b ≡ true → is_in flags x ≡ (is_in flags x || (x == b))
+there_already flags b x there = by (x == b) refl
+  where
+    by : (c : Bool) → (x == b) ≡ c → is_in flags x ≡ (is_in flags x || (x == b))
+    by true q =
+        ap (is_in flags) ((Decides-eqb x b).0 q)
+        ∙ there
+        ∙ or_one (is_in flags x)
+        ∙ ap (λ c. is_in flags x || c) (sym q)
+    by false q = or_none (is_in flags x) ∙ ap (λ c. is_in flags x || c) (sym q)
+
+either_of : (a c : Bool) → (a || c) ≡ true → (a ≡ true) ⊎ (c ≡ true)
+either_of true c h = inl refl
+either_of false c h = inr h
+
+left_of : (a c : Bool) → a ≡ true → (a || c) ≡ true
+left_of true c h = refl
+left_of false c h = cc
+
+right_of : (a c : Bool) → c ≡ true → (a || c) ≡ true
+right_of true c h = refl
+right_of false c h = h
+
+-- those in the set stay in it
+stays_in : (flags : List Bool) (b x : ℕ) → b < length flags → is_in flags x ≡ true → is_in (set flags b true) x ≡ true
+stays_in flags b x l h = put_in flags b x l ∙ left_of (is_in flags x) (x == b) h
+
+-- no byte is in the set
+pub none_in : (flags : List Bool) → flags ≡ replicate 256 false → HasFew flags (0 ∷ 0 ∷ 0 ∷ 0 ∷ []) 0
+none_in flags is = record {
+  four = refl;
+  holds = λ small b fits h. absurd (true≢false (sym h ∙ ap (λ fs. is_in fs b) is ∙ get_or-replicate 256 b false false fits));
+  held = λ some b h. absurd (omega (arith, some));
+}
+
+-- a byte more among the few
+pub few_with_one : (flags : List Bool) (few : List ℕ) (n b : ℕ) → b < length flags → HasFew flags few n → n ≤ 4
+    → HasFew (set flags b true) (with_one few n b) (n + 1)
+few_with_one flags few n b l has small = record {
+  four = length-with_one few n b;
+  holds = λ most x fits h.
+      in_front few n b x has.four (omega (arith, most))
+      (elim (either_of (is_in flags x) (x == b) (sym (put_in flags b x l) ∙ h)) [
+        | inl old ↦ inr (has.holds small x fits old)
+        | inr same ↦ inl ((Decides-eqb x b).0 same)
+      ]);
+  held = λ some x h.
+      each_with_one (λ y. is_in (set flags b true) y ≡ true) few n b has.four
+      (put_in flags b b l ∙ right_of (is_in flags b) (b == b) ((Decides-eqb b b).1 refl))
+      (λ any y k. stays_in flags b y l (has.held any y k)) x h;
+}
+
+-- or more than few
+pub many_with_one : (flags : List Bool) (few : List ℕ) (n b : ℕ) → b < length flags → HasFew flags few n → 4 < n
+    → HasFew (set flags b true) few n
+many_with_one flags few n b l has large = record {
+  four = has.four;
+  holds = λ most. absurd (omega (arith, most, large));
+  held = λ some x h. stays_in flags b x l (has.held some x h);
+}
 
 -- the flag of a byte that has one doesn't go by the default
 pub any_default : (flags : List Bool) (i : ℕ) (d e : Bool) → i < length flags → slice_index_or flags i d ≡ slice_index_or flags i e

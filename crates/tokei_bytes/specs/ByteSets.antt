@@ -1,5 +1,6 @@
 -- Sets of bytes, by a flag for each byte.
-use Rattle.std.specs.Prelude.{◌≡◌, ℕ, ◌<◌, ◌≤◌, Bool, true, false, List, length, take, slice_index_or}
+use Rattle.std.specs.Prelude.{◌≡◌, ℕ, zero, suc, ◌<◌, ◌≤◌, Bool, true, false, List, [], ◌∷◌, length, take}
+use Rattle.std.specs.Prelude.{slice_index, slice_index_or}
 use Rattle.tokei_bytes.specs.OneOf.{is_one_of}
 
 -- whether the byte is in the set
@@ -12,3 +13,8 @@ pub record HasFew (flags : List Bool) (few : List ℕ) (n : ℕ) : Type 0 where
   pub four : length few ≡ 4
   pub holds : n ≤ 4 → (b : ℕ) → b < 256 → is_in flags b ≡ true → is_one_of (take n few) b ≡ true
   pub held : 0 < n → (b : ℕ) → is_one_of few b ≡ true → is_in flags b ≡ true
+
+-- the byte in front of the first three of n few, or that byte alone where there are none
+abbrev pub with_one : List ℕ → ℕ → ℕ → List ℕ
+with_one few zero x = x ∷ x ∷ x ∷ x ∷ []
+with_one few (suc n) x = x ∷ slice_index few 0 ∷ slice_index few 1 ∷ slice_index few 2 ∷ []

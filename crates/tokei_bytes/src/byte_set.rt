@@ -1,10 +1,11 @@
 //! Sets of bytes that a text is searched for.
-ghost use Rattle.std.specs.Prelude.{◌≡◌, ℕ, ◌<◌, ◌≤◌, ◌==◌, ◌||◌, true, length, IfSome};
-ghost use Rattle.tokei_bytes.specs.ByteSets.{HasFew, is_in};
+ghost use Rattle.std.specs.Prelude.{◌≡◌, ℕ, ◌<◌, ◌≤◌, ◌==◌, ◌||◌, true, false, length, replicate, IfOk, IfSome};
+ghost use Rattle.tokei_bytes.specs.ByteSets.{HasFew, is_in, with_one};
 ghost use Rattle.tokei_bytes.specs.FirstPlace.{IsFirstPlace};
 ghost use Rattle.tokei_bytes.specs.OneOf.{is_one_of};
 
 use crate::one_of::first_of_four;
+use std::alloc::{AllocError, Global};
 use std::marker::Model;
 
 /// How many bytes are searched for at once.
@@ -31,6 +32,17 @@ impl Model for ByteSet {
     ghost invariant = { λ s. (length s.flags.items ≡ 256) × HasFew s.flags.items s.few s.count };
 }
 
+/// The byte in front of the first three of some few, or that byte alone where there are none.
+fn with_one(few: [u8; 4], count: usize, byte: u8) -> [u8; 4]
+    ensures { result ≡ with_one few count byte }
+{
+    if count == 0 {
+        [byte; 4]
+    } else {
+        [byte, few[0], few[1], few[2]]
+    }
+}
+
 impl ByteSet {
     /// The set of the bytes whose flags are set.
     pub fn new(flags: Vec<bool>) -> ByteSet
@@ -50,6 +62,42 @@ impl ByteSet {
             }
         }
         ByteSet { flags, few, count }
+    }
+
+    /// The set of no bytes. It fails where memory runs out.
+    pub fn empty(alloc: Global) -> Result<ByteSet, AllocError>
+        ensures { IfOk result (λ s. s ≡ replicate 256 false) }
+    {
+        let flags = Vec::from_array(alloc, [false; 256])?;
+        Ok(ByteSet {
+            flags,
+            few: [0; 4],
+            count: 0,
+        })
+    }
+
+    /// Puts the byte into the set.
+    pub fn insert(&mut self, byte: u8)
+        ensures long { length self.new ≡ length self.old }
+        ensures each { (x : ℕ) → is_in self.new x ≡ (is_in self.old x || (x == byte)) }
+    {
+        if self.flags[byte as usize] {
+            return;
+        }
+        self.flags[byte as usize] = true;
+        if self.count <= FEW {
+            self.few = with_one(self.few, self.count, byte);
+            self.count += 1;
+        }
+    }
+
+    /// Puts each byte into the set.
+    pub fn fill(&mut self)
+        ensures { self.new ≡ replicate 256 true }
+    {
+        self.flags.fill(true);
+        self.few = [0; 4];
+        self.count = FEW + 1;
     }
 
     /// Whether the byte is in the set.

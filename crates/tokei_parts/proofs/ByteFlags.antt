@@ -1,34 +1,11 @@
--- The flags of the bytes at which a choice can begin, which are set token by token.
-use Rattle.std.proofs.Common.{◌≡◌, ℕ, ◌<◌, ◌==◌, Bool, true, false, ◌||◌, List, length, get_or, set, refl, sym, ap, ◌∙◌, arith, true≢false, get_or-set_same, get_or-set_other}
-use Rattle.std.proofs.lemmas.Bool.Decides.{Decides-eqb}
+-- The bytes at which a choice can begin, which are put into a set token by token.
+use Rattle.std.proofs.Common.{◌≡◌, ℕ, ◌<◌, ◌==◌, Bool, true, false, ◌||◌, List, length, get_or, refl, sym, ap, ◌∙◌, arith}
 use Rattle.std.proofs.lemmas.List.{ext_get_or}
 use Rattle.std.specs.List.{list_any}
 use Rattle.tokei_table.specs.FirstOpener.{is_first_of}
 use Rattle.tokei_table.specs.Row.{Row}
 use Rattle.tokei_parts.specs.Matchers.{begins_opener, begins_choice, begins_in_comment, flags}
 use Rattle.tokei_parts.proofs.PlainBytes.{length-flags, flag_at}
-
-or_none : (a : Bool) → a ≡ (a || false)
-or_none true = refl
-or_none false = refl
-
-or_one : (a : Bool) → true ≡ (a || true)
-or_one true = refl
-or_one false = refl
-
-pub set_flag : (fs : List Bool) (b x : ℕ) → b < length fs → get_or (set fs b true) x false ≡ (get_or fs x false || (x == b))
-set_flag fs b x l = by (x == b) refl
-  where
-    by : (c : Bool) → (x == b) ≡ c → get_or (set fs b true) x false ≡ (get_or fs x false || (x == b))
-    by true q =
-        ap (λ k. get_or (set fs b true) k false) ((Decides-eqb x b).0 q)
-        ∙ get_or-set_same fs b true false l
-        ∙ or_one (get_or fs x false)
-        ∙ ap (λ c. get_or fs x false || c) (sym q)
-    by false q =
-        get_or-set_other fs b x true false (λ e. true≢false (sym ((Decides-eqb x b).1 e) ∙ q))
-        ∙ or_none (get_or fs x false)
-        ∙ ap (λ c. get_or fs x false || c) (sym q)
 
 or_more : (a b c : Bool) → ((a || b) || c) ≡ (a || (b || c))
 or_more true b c = refl

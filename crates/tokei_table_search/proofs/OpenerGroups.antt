@@ -1,11 +1,11 @@
 -- Which openers can stand at the front of a text: by its first byte those of a group, by its second one fewer.
 use Rattle.std.proofs.Common.{◌≡◌, ℕ, suc, zero, ◌+◌, ◌-◌, ◌<◌, ◌≤◌, Bool, true, false, ◌&&◌, ◌||◌, ◌==◌, cond}
 use Rattle.std.proofs.Common.{nat_eq, List, [], ◌∷◌, length, take, drop, get_or, None, Some, refl, sym, ◌∙◌, ap}
-use Rattle.std.proofs.Common.{subst, arith, inl, inr, not, IfSome, Option}
+use Rattle.std.proofs.Common.{subst, arith, inl, inr, not, replicate, IfSome, Option}
 use Rattle.std.specs.List.{list_any, list_all}
 use Rattle.std.proofs.lemmas.Bool.Decides.{Decides-eqb}
 use Rattle.std.proofs.lemmas.Bool.{cases_lt}
-use Rattle.std.proofs.lemmas.List.{get_or_default, get_or-map, drop_all}
+use Rattle.std.proofs.lemmas.List.{get_or_default, get_or-map, get_or-replicate, drop_all}
 use Rattle.memchr.specs.Find.{IsFirstByte}
 use Rattle.tokei_table_search.proofs.FirstBytes.{part_reads, part_len}
 use Rattle.tokei_table_row.specs.Bytes.{begins}
@@ -318,3 +318,35 @@ pair_apart os g firsts groups index near seconds byte same has group t k inside 
         let p = parts (is_one_of near x) (x == byte) (is_one_of seconds y) none e in
         sym (group_at g os byte group t k (omega (arith, inside)) ((Decides-eqb x byte).0 p.0))
         ∙ second_apart g t k inside (not_true (list_any (goes_on_with y) g) (λ h. contrary (sym p.1 ∙ has y fits h)))
+
+-- a set of all bytes has each that a test finds
+or_all : (a : Bool) → true ≡ (a || true)
+or_all true = refl
+or_all false = refl
+
+filled : (flags all : List Bool) (y : ℕ) (b : Bool) → all ≡ replicate 256 true → y < 256 → b ≡ true → is_in all y ≡ (is_in flags y || b)
+filled flags all y b full l h =
+    ap (λ fs. is_in fs y) full ∙ get_or-replicate 256 y true false l ∙ or_all (is_in flags y) ∙ ap (λ c. is_in flags y || c) (sym h)
+
+-- an opener of one byte goes on with each, and stands with each
+short_goes_on : (y : ℕ) (o : List ℕ) → length o < 2 → goes_on_with y o ≡ true
+short_goes_on y [] l = refl
+short_goes_on y (a ∷ []) l = refl
+short_goes_on y (a ∷ b ∷ o) l = absurd (omega (arith, l))
+
+short_is_whole : (y : ℕ) (o : List ℕ) → length o < 2 → is_whole_with y o ≡ true
+short_is_whole y [] l = refl
+short_is_whole y (a ∷ []) l = refl
+short_is_whole y (a ∷ b ∷ o) l = absurd (omega (arith, l))
+
+pub seconds_filled : (flags all : List Bool) (o : List ℕ) → all ≡ replicate 256 true → length o < 2 → (y : ℕ) → y < 256
+    → is_in all y ≡ (is_in flags y || goes_on_with y o)
+seconds_filled flags all o full l y r = filled flags all y (goes_on_with y o) full r (short_goes_on y o l)
+
+pub wholes_filled : (flags all : List Bool) (o : List ℕ) → all ≡ replicate 256 true → length o < 2 → (y : ℕ) → y < 256
+    → is_in all y ≡ (is_in flags y || is_whole_with y o)
+wholes_filled flags all o full l y r = filled flags all y (is_whole_with y o) full r (short_is_whole y o l)
+
+-- none is in an empty set
+pub none_yet : (flags : List Bool) (y : ℕ) (b : Bool) → flags ≡ replicate 256 false → y < 256 → (is_in flags y || b) ≡ b
+none_yet flags y b none l = ap (λ fs. is_in fs y || b) none ∙ ap (λ c. c || b) (get_or-replicate 256 y false false l)

@@ -1,10 +1,11 @@
 //! Openers with one first byte.
-ghost use Rattle.std.specs.Prelude.{◌≡◌, ◌+◌, ◌≤◌, ◌<◌, ℕ, true, false, length, drop, IfOk, IfSome, slice_index};
-ghost use Rattle.std.specs.Prelude.{slice_index_or};
+ghost use Rattle.std.specs.Prelude.{◌≡◌, ◌+◌, ◌≤◌, ◌<◌, ◌||◌, ℕ, true, false, length, drop, IfOk, IfSome};
+ghost use Rattle.std.specs.Prelude.{slice_index};
 ghost use Rattle.std.specs.List.{list_any, list_all};
 ghost use Rattle.tokei_table_row.specs.FirstOpener.{is_first_of};
 ghost use Rattle.tokei_table_search.specs.OpenerGroups.{goes_on_with, is_whole_with, HasFlags};
 ghost use Rattle.tokei_table_row.specs.RowOf.{tokens_of};
+ghost use Rattle.tokei_bytes.specs.ByteSets.{is_in};
 ghost use Rattle.tokei_bytes.specs.OneOf.{is_one_of};
 ghost use Rattle.tokei_table_row.specs.Bytes.{begins_with_one};
 
@@ -20,8 +21,8 @@ pub(crate) struct OpenerGroup {
     openers: Vec<String>,
     /// The bytes with which one of the openers can go on behind its first one.
     seconds: ByteSet,
-    /// For each byte whether one of the openers stands wherever that byte follows its first one.
-    wholes: Vec<bool>,
+    /// The bytes with which one of the openers stands wherever they follow its first one.
+    wholes: ByteSet,
 }
 
 impl Model for OpenerGroup {
@@ -34,70 +35,54 @@ impl Model for OpenerGroup {
     ghost view = { λ g. tokens_of g.openers.items };
 
     ghost invariant = { λ g. HasFlags goes_on_with (tokens_of g.openers.items) g.seconds
-        × HasFlags is_whole_with (tokens_of g.openers.items) g.wholes.items };
+        × HasFlags is_whole_with (tokens_of g.openers.items) g.wholes };
 }
 
-fn goes_on_with(opener: &[u8], byte: u8) -> bool
-    ensures { result ≡ goes_on_with byte opener.now }
+/// Adds the bytes with which the opener can go on behind its first one.
+fn add_seconds(seconds: &mut ByteSet, opener: &[u8])
+    requires { length seconds.old ≡ 256 }
+    ensures long { length seconds.new ≡ 256 }
+    ensures each { (y : ℕ) → y < 256
+        → is_in seconds.new y ≡ (is_in seconds.old y || goes_on_with y opener.now) }
 {
     match opener {
-        [_, second, ..] => *second == byte,
-        _ => true,
+        [_, second, ..] => seconds.insert(*second),
+        _ => seconds.fill(),
     }
 }
 
-fn is_whole_with(opener: &[u8], byte: u8) -> bool
-    ensures { result ≡ is_whole_with byte opener.now }
+/// The bytes with which one of the openers can go on behind its first one.
+fn seconds_of(alloc: Global, openers: &[String]) -> Result<ByteSet, AllocError>
+    ensures { IfOk result (λ s. HasFlags goes_on_with (tokens_of openers.now) s) }
 {
-    match opener {
-        [] | [_] => true,
-        [_, second] => *second == byte,
-        [_, _, _, ..] => false,
-    }
-}
-
-/// Whether the byte can follow the first byte of one of the openers.
-fn is_second(openers: &[String], byte: u8) -> bool
-    ensures { result ≡ list_any (goes_on_with byte) (tokens_of openers.now) }
-{
+    let mut seconds = ByteSet::empty(alloc)?;
     for opener in openers {
-        if goes_on_with(opener.as_bytes(), byte) {
-            return true;
-        }
-    }
-    false
-}
-
-/// For each byte whether it can follow the first byte of one of the openers.
-fn seconds_of(alloc: Global, openers: &[String]) -> Result<Vec<bool>, AllocError>
-    ensures { IfOk result (λ v. HasFlags goes_on_with (tokens_of openers.now) v.items) }
-{
-    let mut seconds = Vec::new(alloc);
-    for byte in 0..256usize {
-        seconds.push(is_second(openers, byte as u8))?;
+        add_seconds(&mut seconds, opener.as_bytes());
     }
     Ok(seconds)
 }
 
-/// Whether one of the openers stands wherever the byte follows its first one.
-fn is_whole(openers: &[String], byte: u8) -> bool
-    ensures { result ≡ list_any (is_whole_with byte) (tokens_of openers.now) }
+/// Adds the bytes wherever which the opener stands, if they follow its first one.
+fn add_wholes(wholes: &mut ByteSet, opener: &[u8])
+    requires { length wholes.old ≡ 256 }
+    ensures long { length wholes.new ≡ 256 }
+    ensures each { (y : ℕ) → y < 256
+        → is_in wholes.new y ≡ (is_in wholes.old y || is_whole_with y opener.now) }
 {
-    for opener in openers {
-        if is_whole_with(opener.as_bytes(), byte) {
-            return true;
-        }
+    match opener {
+        [] | [_] => wholes.fill(),
+        [_, second] => wholes.insert(*second),
+        [_, _, _, ..] => {}
     }
-    false
 }
 
-/// For each byte whether one of the openers stands wherever it follows the first one.
-fn wholes_of(alloc: Global, openers: &[String]) -> Result<Vec<bool>, AllocError>
-    ensures { IfOk result (λ v. HasFlags is_whole_with (tokens_of openers.now) v.items) }
+/// The bytes with which one of the openers stands wherever they follow its first one.
+fn wholes_of(alloc: Global, openers: &[String]) -> Result<ByteSet, AllocError>
+    ensures { IfOk result (λ s. HasFlags is_whole_with (tokens_of openers.now) s) }
 {
-    let mut wholes = Vec::new(alloc);
-    for byte in 0..256usize {
-        wholes.push(is_whole(openers, byte as u8))?;
+    let mut wholes = ByteSet::empty(alloc)?;
+    for opener in openers {
+        add_wholes(&mut wholes, opener.as_bytes());
     }
     Ok(wholes)
 }
@@ -107,7 +92,7 @@ impl OpenerGroup {
     pub(crate) fn new(alloc: Global, openers: Vec<String>) -> Result<OpenerGroup, AllocError>
         ensures { IfOk result (λ g. g ≡ tokens_of openers.items) }
     {
-        let seconds = ByteSet::new(seconds_of(alloc, &openers)?);
+        let seconds = seconds_of(alloc, &openers)?;
         let wholes = wholes_of(alloc, &openers)?;
         Ok(OpenerGroup {
             openers,
@@ -139,7 +124,7 @@ impl OpenerGroup {
     fn is_decided(&self, byte: u8) -> bool
         ensures { result ≡ list_any (is_whole_with byte) self.now }
     {
-        self.wholes[byte as usize]
+        self.wholes.has(byte)
     }
 
     /// Whether one of the openers, all with the first byte that stands at the place, stands there.

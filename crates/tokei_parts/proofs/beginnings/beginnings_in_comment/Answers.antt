@@ -1,5 +1,6 @@
-use Rattle.std.proofs.Common.{◌≡◌, ◌==◌, ◌||◌, ◌∙◌, ap, false, get_or, length, rules}
-use Rattle.std.proofs.lemmas.List.{get_or-replicate}
+use Rattle.std.proofs.Common.{◌==◌, ◌||◌, ◌∙◌, ap, false, length}
+use Rattle.std.proofs.lemmas.List.{get_or-replicate, length-replicate}
+use Rattle.tokei_bytes.specs.ByteSets.{is_in}
 use Rattle.tokei_table.specs.RowOf.{row_of, pairs_of}
 use Rattle.tokei_parts.specs.Matchers.{begins_opener, begins_in_comment}
 use Rattle.tokei_parts.proofs.ByteFlags.{are_flags, in_comment}
@@ -8,11 +9,11 @@ use Rattle.tokei_parts.proofs.beginnings.beginnings_in_comment.Goals as goal
 pub returns : goal.returns
 returns c =
     let r = row_of c.args.syntax.now in
-    let items = c.in_ok-from_array.field-0.items in
-    let len : length items ≡ 256 = search rules in
-    c.new.ensures ∙ are_flags items (begins_in_comment r) 256 len (λ x lt.
-    ap (λ fs. get_or fs x false) c.in_ok-from_array.ensures.items
-    ∙ in_comment r x _ _ _
-    (c.flag.ensures x lt ∙ ap (λ b. b || (x == 92)) (get_or-replicate 256 x false false lt))
-    (c.flag_openers.ensures x lt ∙ ap (λ ps. get_or c.flag.new.flags x false || begins_opener (pairs_of ps) x) c.deref.ensures.value)
-    (c.flag_openers-2.ensures x lt ∙ ap (λ ps. get_or c.flag_openers.new.flags x false || begins_opener (pairs_of ps) x) c.deref-2.ensures.value))
+    let none = c.in_ok-begins.ensures in
+    let long =
+    c.add_openers-2.ensures.long ∙ c.add_openers.ensures.long ∙ c.insert.ensures.long ∙ ap length none ∙ length-replicate 256 false in
+    are_flags c.add_openers-2.new.begins (begins_in_comment r) 256 long (λ x lt.
+    in_comment r x _ _ _
+    (c.insert.ensures.each x ∙ ap (λ fs. is_in fs x || (x == 92)) none ∙ ap (λ b. b || (x == 92)) (get_or-replicate 256 x false false lt))
+    (c.add_openers.ensures.each x ∙ ap (λ ps. is_in c.insert.new.self x || begins_opener (pairs_of ps) x) c.deref.ensures.value)
+    (c.add_openers-2.ensures.each x ∙ ap (λ ps. is_in c.add_openers.new.begins x || begins_opener (pairs_of ps) x) c.deref-2.ensures.value))

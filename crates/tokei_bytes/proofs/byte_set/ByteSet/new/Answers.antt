@@ -1,7 +1,8 @@
 use Rattle.std.proofs.Common.{◌≡◌, ◌+◌, inl, inr, true, false, take, length, slice_index_or, sym, ap, ◌∙◌, arith}
 use Rattle.std.proofs.lemmas.Bool.{cases_lt}
 use Rattle.tokei_bytes.specs.OneOf.{is_one_of}
-use Rattle.tokei_bytes.proofs.Sets.{with_one, alone, in_company, in_front, length-with_one, each_with_one, any_default}
+use Rattle.tokei_bytes.specs.ByteSets.{with_one}
+use Rattle.tokei_bytes.proofs.Sets.{alone, in_company, in_front, length-with_one, each_with_one, any_default}
 use Rattle.tokei_bytes.proofs.byte_set.ByteSet.new.Goals as goal
 use Rattle.tokei_bytes.proofs.byte_set.ByteSet.new.Goals.{then-index+then-count-le-FEW, then-count-eq0, else-count-eq0, else-index, else-index-via-then-index+else-count-le-FEW, else-index-via-else-index}
 
