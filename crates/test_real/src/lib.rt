@@ -5,6 +5,8 @@
 #[cfg(test)]
 mod made;
 #[cfg(test)]
+mod odd;
+#[cfg(test)]
 mod readers;
 #[cfg(test)]
 mod real;

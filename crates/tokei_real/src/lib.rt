@@ -10,3 +10,4 @@ mod retried;
 mod status;
 
 pub use real_folders::RealFolders;
+pub use retried::RetriedReader;
