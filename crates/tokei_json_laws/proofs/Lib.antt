@@ -1,8 +1,11 @@
 mod Commuting
 mod Depth
+mod FileLanguages
+mod OrderedReadings
 mod ReadBack
 mod ReadBackValues
 mod ReadDocument
+mod RunLanguages
 mod Sound
 mod SoundLayout
 mod SoundNames

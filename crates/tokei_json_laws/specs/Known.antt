@@ -1,19 +1,7 @@
 -- Values whose languages are all of a table with n languages.
 use Rattle.std.specs.Prelude.{ℕ, ◌<◌, List, [], ◌∷◌, ⊤}
 use Rattle.tokei_languages.specs.Values.{ReportValue, LanguageValue}
-use Rattle.tokei_stats.specs.Statistics.{Statistics, Blobs}
-use Rattle.tokei_stats.specs.Statistics.Statistics.{node}
-use Rattle.tokei_stats.specs.Statistics.Blobs.{none, blob}
-
--- each language of the blobs is one of the first n, at every depth
-abbrev mutual
-  pub AreKnown : ℕ → Statistics → Type 0
-  AreKnown n (node c bs) = BlobsAreKnown n bs
-
-  -- each language of the blobs is one of the first n, at every depth
-  pub BlobsAreKnown : ℕ → Blobs → Type 0
-  BlobsAreKnown n none = ⊤
-  BlobsAreKnown n (blob k t rest) = (k < n) × (AreKnown n t × BlobsAreKnown n rest)
+pub use Rattle.tokei_count.specs.ReadingLaws.{AreKnown, BlobsAreKnown}
 
 -- each language in the reports is one of the first n
 abbrev pub ReportsAreKnown : ℕ → List ReportValue → Type 0

@@ -2,3 +2,4 @@ pub mod InOrder
 pub mod Known
 pub mod Levels
 pub mod ReadingBack
+pub mod RunDocuments
