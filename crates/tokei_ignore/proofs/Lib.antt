@@ -1,6 +1,11 @@
+pub mod Chains
 pub mod Characters
+pub mod Covers
 pub mod Cuts
 pub mod Deciding
+pub mod KeysTell
+pub mod LastFitting
 pub mod LastNames
 pub mod LineEnds
+pub mod Places
 pub mod Spans

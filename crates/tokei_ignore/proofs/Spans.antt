@@ -3,19 +3,19 @@ use Rattle.std.proofs.Common.{◌≡◌, List, [], ◌∷◌, Bool, true, false,
 use Rattle.tokei_ignore.specs.Fits.{fits, at_some_end, first_and_rest, is_empty}
 use Rattle.tokei_ignore.specs.Reach.{Reach, fails, done, at_span, ended, onward, reach}
 
-either_left : (a b : Bool) → a ≡ true → (a || b) ≡ true
+pub either_left : (a b : Bool) → a ≡ true → (a || b) ≡ true
 either_left true b e = refl
 either_left false b e = cc
 
-either_right : (a b : Bool) → b ≡ true → (a || b) ≡ true
+pub either_right : (a b : Bool) → b ≡ true → (a || b) ≡ true
 either_right true b e = refl
 either_right false b e = e
 
-cases_or : (a b : Bool) {C : Type 0} → (a || b) ≡ true → (a ≡ true → C) → (b ≡ true → C) → C
+pub cases_or : (a b : Bool) {C : Type 0} → (a || b) ≡ true → (a ≡ true → C) → (b ≡ true → C) → C
 cases_or true b e f g = f refl
 cases_or false b e f g = g e
 
-cases_and : (a b : Bool) → (a && b) ≡ true → (a ≡ true) × (b ≡ true)
+pub cases_and : (a b : Bool) → (a && b) ≡ true → (a ≡ true) × (b ≡ true)
 cases_and true b e = (refl, e)
 cases_and false b e = absurd (cc)
 

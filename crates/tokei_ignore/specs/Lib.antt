@@ -1,6 +1,8 @@
 pub use Rattle.tokei_folders.specs.Ends
 pub mod Fits
 pub mod IgnoreFiles
+pub mod Index
+pub mod Keys
 pub mod Patterns
 pub mod Reach
 pub mod Reading

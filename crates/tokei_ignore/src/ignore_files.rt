@@ -4,6 +4,7 @@ ghost use Rattle.std.specs.List.{slice_split};
 ghost use Rattle.tokei_ignore.specs.IgnoreFiles.{outcome_of_line, verdict_of, without_mark as unmarked, without_return as unreturned, patterns_of, patterns_of_line, is_bad_line, bad_lines_of, last_fitting};
 ghost use Rattle.tokei_ignore.specs.declared.patterns.PatternError.TheVariants.{Memory as MemoryError};
 
+use crate::indexed_patterns::{FEW, IndexedPatterns};
 use crate::patterns::{Pattern, PatternError};
 use std::alloc::{AllocError, Global};
 use std::str;
@@ -20,7 +21,7 @@ pub enum Verdict {
 #[derive(Drop)]
 pub struct IgnoreFile {
     /// The patterns of its lines, in order.
-    pub patterns: Items<Pattern>,
+    pub patterns: IndexedPatterns,
     /// How many of its lines are bad and passed over.
     pub bad_lines: usize,
 }
@@ -109,7 +110,7 @@ impl IgnoreFile {
             }
         }
         Ok(IgnoreFile {
-            patterns,
+            patterns: IndexedPatterns::of(alloc, patterns)?,
             bad_lines,
         })
     }
@@ -121,7 +122,7 @@ impl IgnoreFile {
         requires { 0 < length names.now }
         ensures { result ≡ last_fitting self.now.patterns names.now folder }
     {
-        verdict_among(self.patterns.as_slice(), names, folder)
+        verdict_among(&self.patterns, names, folder)
     }
 }
 
@@ -136,8 +137,22 @@ fn given_by(pattern: &Pattern) -> Verdict
     }
 }
 
-/// What the patterns decide: the last one that fits.
-pub fn verdict_among(patterns: &[Pattern], names: &[Text], folder: bool) -> Option<Verdict>
+/// What the patterns decide: the last one that fits. It takes no memory.
+pub fn verdict_among(patterns: &IndexedPatterns, names: &[Text], folder: bool) -> Option<Verdict>
+    ensures { result ≡ last_fitting patterns.now names.now folder }
+{
+    let list = patterns.as_slice();
+    if list.len() < FEW {
+        return verdict_of_few(list, names, folder);
+    }
+    match patterns.latest_fitting(names, folder) {
+        0 => None,
+        place => Some(given_by(&list[place - 1])),
+    }
+}
+
+/// The same, tried from the last pattern on.
+fn verdict_of_few(patterns: &[Pattern], names: &[Text], folder: bool) -> Option<Verdict>
     ensures { result ≡ last_fitting patterns.now names.now folder }
 {
     let mut left = patterns;

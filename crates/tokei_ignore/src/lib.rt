@@ -6,10 +6,13 @@
 
 mod ends;
 mod ignore_files;
+mod indexed_patterns;
+mod keys;
 mod matching;
 mod patterns;
 mod pieces;
 mod reading;
 
 pub use ignore_files::{IgnoreFile, Verdict, verdict_among};
+pub use indexed_patterns::IndexedPatterns;
 pub use patterns::{Pattern, PatternError};

@@ -1,27 +1,18 @@
-use Rattle.std.proofs.Common.{◌≡◌, length, List, sym, ap, ◌∙◌, true, false, rules, Some}
-use Rattle.std.proofs.lemmas.List.{nil_from_length}
+use Rattle.std.proofs.Common.{◌≡◌, ◌-◌, suc, get_or, List, Some, sym, ap, ◌∙◌, arith}
 use Rattle.tokei_ignore.specs.declared.patterns.Pattern.{Pattern}
-use Rattle.tokei_ignore.specs.IgnoreFiles.{last_fitting}
-use Rattle.tokei_ignore.specs.Patterns.{fits_entry}
-use Rattle.tokei_ignore.proofs.Deciding.{decided, passed, none_decides}
+use Rattle.tokei_ignore.specs.Index.{latest_fitting}
+use Rattle.tokei_ignore.proofs.LastFitting.{none_fitting, some_fitting}
 use Rattle.tokei_ignore.proofs.ignore_files.verdict_among.Goals as goal
 
-pub returns-then-fits : goal.returns-then-fits
-returns-then-fits c =
-    let names = c.args.names.now in let folder = c.args.folder in let p = c.in-Some.pattern.now in
-    let fits : fits_entry p names folder ≡ true = sym c.fits.ensures ∙ c.if-fits.true in
-    ap Some c.given_by.ensures ∙ sym (decided c.in-Some.front.now p names folder fits)
-    ∙ ap (λ (ps : List Pattern). last_fitting ps names folder) (sym c.in-Some.ensures.cases.0)
-    ∙ c.loop-pattern.invariant
+pub returns-in-0 : goal.returns-in-0
+returns-in-0 c = sym (none_fitting c.args.patterns.now c.args.names.now c.args.folder (sym c.latest_fitting.ensures.place ∙ c.in-0.is))
 
-pub loop-pattern-preserved : goal.loop-pattern-preserved
-loop-pattern-preserved c =
-    let names = c.args.names.now in let folder = c.args.folder in let p = c.in-Some.pattern.now in
-    let fits : fits_entry p names folder ≡ false = sym c.fits.ensures ∙ c.if-fits.false in
-    sym (passed c.in-Some.front.now p names folder fits) ∙ ap (λ (ps : List Pattern). last_fitting ps names folder) (sym c.in-Some.ensures.cases.0) ∙ c.loop-pattern.invariant
-
-pub returns : goal.returns
-returns c =
-    let names = c.args.names.now in let folder = c.args.folder in
-    let none : length c.loop-pattern.left.now ≡ 0 = search rules in
-    sym (none_decides names folder) ∙ ap (λ (ps : List Pattern). last_fitting ps names folder) (sym (nil_from_length c.loop-pattern.left.now none)) ∙ c.loop-pattern.invariant
+pub returns-in_default : goal.returns-in_default
+returns-in_default c =
+    let ps = c.args.patterns.now in
+    let k = c.latest_fitting.result - 1 in
+    let p = c.index-list-place.result in
+    let place = c.latest_fitting.ensures.place in
+    let e : latest_fitting ps c.args.names.now c.args.folder ≡ suc k = omega (arith, place) in
+    let is : p ≡ get_or ps k p = c.index-list-place.is ∙ ap (λ (qs : List Pattern). get_or qs k p) c.as_slice-list.ensures in
+    ap Some c.given_by.ensures ∙ sym (some_fitting ps c.args.names.now c.args.folder k p e is)

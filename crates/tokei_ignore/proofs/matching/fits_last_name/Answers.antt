@@ -1,4 +1,4 @@
-use Rattle.std.proofs.Common.{◌≡◌, ℕ, List, Bool, sym, ap, ◌∙◌}
+use Rattle.std.proofs.Common.{ℕ, List, Bool, sym, ap, ◌∙◌}
 use Rattle.std.specs.Str.{chars}
 use Rattle.tokei_ignore.specs.Fits.{last_passes}
 use Rattle.tokei_ignore.specs.Segments.{fits_characters}

@@ -1,4 +1,4 @@
-use Rattle.std.proofs.Common.{◌≡◌, List, sym, ap, ◌∙◌}
+use Rattle.std.proofs.Common.{List, sym, ap, ◌∙◌}
 use Rattle.tokei_ignore.specs.declared.pieces.Segment.{Segment}
 use Rattle.tokei_ignore.specs.Segments.{fits_names}
 use Rattle.tokei_ignore.proofs.LastNames.{fits_last}
