@@ -56,9 +56,9 @@ pub fn add_file<F: Folders>(
     }
 }
 
-/// Counts the files that a walk still gives, as it gives them, and adds a note of each whose content
-/// can't be read. After a refusal the languages are those from before with those of the first files,
-/// so many as were counted.
+/// Counts the files that a walk still gives, as it gives them, and adds a note of each whose
+/// content can't be read. After a refusal the languages are those from before with those of the
+/// first files, so many as were counted.
 pub fn count_files<F: Folders>(
     counting: &Counting,
     folders: &mut F,

@@ -29,8 +29,15 @@ use tokei_stats::{CountError, Report};
 use tokei_table::LanguageType;
 use tokei_walk::{KeptFile, Note, Walk};
 
-/// The report of a file beside its language, where it counts in one and can be read; a note is added
-/// where it can't.
+/// By what the files of a stream are counted, and how their rows are written.
+#[derive(Drop)]
+struct Streamed<'a> {
+    counting: &'a Counting<'a>,
+    rows: &'a Rows<'a>,
+}
+
+/// The report of a file beside its language, where it counts in one and can be read; a note is
+/// added where it can't.
 fn report_of<F: Folders>(
     counting: &Counting,
     folders: &mut F,
@@ -68,8 +75,7 @@ fn report_of<F: Folders>(
 
 /// Counts a file, and writes its row, where it has one; a note is added where it can't be read.
 fn write_file<F: Folders, W: Sink>(
-    rows: &Rows,
-    counting: &Counting,
+    by: &Streamed,
     folders: &mut F,
     file: KeptFile,
     writer: &mut W,
@@ -78,18 +84,19 @@ fn write_file<F: Folders, W: Sink>(
     ensures same { SameTree F.tree folders.old folders.new }
     ensures told { Told (F.tree folders.old) (λ t. OnOk result
         (Appends (W.contents writer.old) (W.contents writer.new)
-        (file_row rows.now.form rows.now.table.now (counting_value counting.now) t file))) }
+        (file_row by.now.rows.now.form by.now.rows.now.table.now
+        (counting_value by.now.counting.now) t file))) }
     ensures overflow { result ≡ Err SumOverflow → Told (F.tree folders.old) (λ t.
-        ¬ FileFits (counting_value counting.now) t file) }
+        ¬ FileFits (counting_value by.now.counting.now) t file) }
     ensures fault { TellsFault W.faults writer.old writer.new result WriteFault }
     ensures no_fault { PassesNoFault W.faults writer.old writer.new result WriteFault }
     ensures unread { Told (F.tree folders.old) (λ t. OnOk result (unread.new.items
-        ≡ unread.old.items ++ unread_of_file (counting_value counting.now) t file)) }
+        ≡ unread.old.items ++ unread_of_file (counting_value by.now.counting.now) t file)) }
     ensures honest { NoFault F.memory_faults folders.old folders.new result }
 {
-    match report_of(counting, folders, file, unread)? {
+    match report_of(by.counting, folders, file, unread)? {
         None => Ok(()),
-        Some((language, report)) => write_row(rows, language, &report, writer),
+        Some((language, report)) => write_row(by.rows, language, &report, writer),
     }
 }
 
@@ -97,8 +104,7 @@ fn write_file<F: Folders, W: Sink>(
 /// can't be read.
 #[tactic(auto, using(tokei_walk::proofs::Growing::grows_same, tokei_walk::proofs::Growing::grows_on))]
 fn write_rows<F: Folders, W: Sink>(
-    rows: &Rows,
-    counting: &Counting,
+    by: &Streamed,
     folders: &mut F,
     walk: &mut Walk,
     writer: &mut W,
@@ -107,19 +113,20 @@ fn write_rows<F: Folders, W: Sink>(
     ensures same { SameTree F.tree folders.old folders.new }
     ensures told { Told (F.tree folders.old) (λ t. OnOk result
         (Appends (W.contents writer.old) (W.contents writer.new)
-        (rows_of rows.now.form rows.now.table.now (counting_value counting.now) t
-        (to_come t walk.old)))) }
+        (rows_of by.now.rows.now.form by.now.rows.now.table.now
+        (counting_value by.now.counting.now) t (to_come t walk.old)))) }
     ensures overflow { result ≡ Err SumOverflow → Told (F.tree folders.old) (λ t.
-        ¬ ReadingsFit (counting_value counting.now) t (to_come t walk.old)) }
+        ¬ ReadingsFit (counting_value by.now.counting.now) t (to_come t walk.old)) }
     ensures fault { TellsFault W.faults writer.old writer.new result WriteFault }
     ensures no_fault { PassesNoFault W.faults writer.old writer.new result WriteFault }
     ensures notes { Grows (notes_of walk.old) (notes_of walk.new) }
     ensures unread { Told (F.tree folders.old) (λ t. OnOk result (unread.new.items
-        ≡ unread.old.items ++ unread_of (counting_value counting.now) t (to_come t walk.old))) }
+        ≡ unread.old.items
+        ++ unread_of (counting_value by.now.counting.now) t (to_come t walk.old))) }
     ensures honest { NoFault F.memory_faults folders.old folders.new result }
 {
     while let Some(file) = walk.next(folders)? {
-        write_file(rows, counting, folders, file, writer, unread)?;
+        write_file(by, folders, file, writer, unread)?;
     }
     Ok(())
 }
@@ -145,8 +152,7 @@ fn walk_of(alloc: Global, job: &Job) -> Result<Walk, AllocError>
 
 /// Writes the heading of a stream, and a row for each file that a walk still gives.
 fn write_headed<F: Folders, W: Sink>(
-    rows: &Rows,
-    counting: &Counting,
+    by: &Streamed,
     folders: &mut F,
     walk: &mut Walk,
     writer: &mut W,
@@ -155,19 +161,20 @@ fn write_headed<F: Folders, W: Sink>(
     ensures same { SameTree F.tree folders.old folders.new }
     ensures told { Told (F.tree folders.old) (λ t. OnOk result
         (Appends (W.contents writer.old) (W.contents writer.new)
-        (stream_text rows.now.form rows.now.table.now (counting_value counting.now) t
-        (to_come t walk.old)))) }
+        (stream_text by.now.rows.now.form by.now.rows.now.table.now
+        (counting_value by.now.counting.now) t (to_come t walk.old)))) }
     ensures overflow { result ≡ Err SumOverflow → Told (F.tree folders.old) (λ t.
-        ¬ ReadingsFit (counting_value counting.now) t (to_come t walk.old)) }
+        ¬ ReadingsFit (counting_value by.now.counting.now) t (to_come t walk.old)) }
     ensures fault { TellsFault W.faults writer.old writer.new result WriteFault }
     ensures no_fault { PassesNoFault W.faults writer.old writer.new result WriteFault }
     ensures notes { OnOk result (Grows (notes_of walk.old) (notes_of walk.new)) }
     ensures unread { Told (F.tree folders.old) (λ t. OnOk result (unread.new.items
-        ≡ unread.old.items ++ unread_of (counting_value counting.now) t (to_come t walk.old))) }
+        ≡ unread.old.items
+        ++ unread_of (counting_value by.now.counting.now) t (to_come t walk.old))) }
     ensures honest { NoFault F.memory_faults folders.old folders.new result }
 {
-    write_heading(rows.form, writer)?;
-    write_rows(rows, counting, folders, walk, writer, unread)
+    write_heading(by.rows.form, writer)?;
+    write_rows(by, folders, walk, writer, unread)
 }
 
 /// Writes the heading of a stream, and a row for each file of a job.
@@ -195,15 +202,16 @@ fn write_stream<F: Folders, W: Sink>(
 {
     let mut walk = walk_of(counting.alloc, job)?;
     let mut unread = Vec::new(counting.alloc);
-    write_headed(rows, counting, folders, &mut walk, writer, &mut unread)?;
+    let by = Streamed { counting, rows };
+    write_headed(&by, folders, &mut walk, writer, &mut unread)?;
     let mut notes = walk.into_notes();
     notes.append(&mut unread)?;
     Ok(notes)
 }
 
-/// Writes a row for each file of a job, as it is counted, and answers what was passed over: what the
-/// walk met, and then each file that counts in a language and can't be read. No report is kept, and
-/// no file is counted where the renewed counts of earlier results don't fit.
+/// Writes a row for each file of a job, as it is counted, and answers what was passed over: what
+/// the walk met, and then each file that counts in a language and can't be read. No report is kept,
+/// and no file is counted where the renewed counts of earlier results don't fit.
 pub fn stream<F: Folders, W: Sink>(
     rows: &Rows,
     folders: &mut F,

@@ -13,7 +13,7 @@ use Rattle.tokei_stream.proofs.streaming.write_rows.Goals as goal
 pub loop-file-init : goal.loop-file-init
 loop-file-init g c = record {
   same = refl;
-  told = λ t e. no_row_yet (file_row c.args.rows.now.form c.args.rows.now.table.now (counting_of c.args.counting.now) t) (to_come t c.args.walk.now) _;
+  told = λ t e. no_row_yet (file_row c.args.by.now.rows.now.form c.args.by.now.rows.now.table.now (counting_of c.args.by.now.counting.now) t) (to_come t c.args.walk.now) _;
   fits = λ t e f. f;
   notes = grows_same _ _ refl;
   unread = λ t e. refl;
@@ -24,12 +24,12 @@ loop-file-init g c = record {
 pub loop-file-preserved : goal.loop-file-preserved
 loop-file-preserved g c =
     let inv = c.loop-file.invariant in
-    let by = counting_of c.args.counting.now in record {
+    let by = counting_of c.args.by.now.counting.now in record {
       same = c.write_file.ensures.same ∙ c.next.ensures.same ∙ inv.same;
       told = λ t e.
           let here = inv.same ∙ e in
           let given = subst (λ (o : Option KeptFile). Advances (to_come t c.loop-file.walk) (to_come t c.next.new.self) o) c.in-Some.is (c.in_ok-file.ensures.told t here) in
-          one_row_more (file_row c.args.rows.now.form c.args.rows.now.table.now by t) _ _ _ c.in-Some.file _ _ _ (inv.told t e) given (c.in_ok-write_file.ensures.told t (c.next.ensures.same ∙ here));
+          one_row_more (file_row c.args.by.now.rows.now.form c.args.by.now.rows.now.table.now by t) _ _ _ c.in-Some.file _ _ _ (inv.told t e) given (c.in_ok-write_file.ensures.told t (c.next.ensures.same ∙ here));
       fits = λ t e f.
           let here = inv.same ∙ e in
           let given = subst (λ (o : Option KeptFile). Advances (to_come t c.loop-file.walk) (to_come t c.next.new.self) o) c.in-Some.is (c.in_ok-file.ensures.told t here) in
@@ -49,4 +49,4 @@ returns-in_err-write_file-clause-overflow g c = λ q t e f.
     let given = subst (λ (o : Option KeptFile). Advances (to_come t c.loop-file.walk) (to_come t c.next.new.self) o) c.in-Some.is (c.in_ok-file.ensures.told t here) in
     let same : c.in_err-write_file.field-0.0 ≡ Overflow = search rules in
     c.in_err-write_file.ensures.overflow (ap (λ x. Err x) same) t (c.next.ensures.same ∙ here)
-    (subst (λ (ks : List KeptFile). ReadingsFit (counting_of c.args.counting.now) t ks) given (inv.fits t e f)).0
+    (subst (λ (ks : List KeptFile). ReadingsFit (counting_of c.args.by.now.counting.now) t ks) given (inv.fits t e f)).0

@@ -14,12 +14,12 @@ abbrev pub invariant-loop-file : goal.invariant-loop-file
 invariant-loop-file g l = record {
   same : g.F.Folders.tree l.folders ≡ g.F.Folders.tree l.initial.folders;
   told : Told (g.F.Folders.tree l.initial.folders) (λ t.
-      RowsSoFar (file_row l.rows.form l.rows.table.now (counting_of l.counting) t) (to_come t l.initial.walk) (to_come t l.walk) (g.W.Sink.contents l.initial.writer) (g.W.Sink.contents l.writer));
+      RowsSoFar (file_row l.by.rows.now.form l.by.rows.now.table.now (counting_of l.by.counting.now) t) (to_come t l.initial.walk) (to_come t l.walk) (g.W.Sink.contents l.initial.writer) (g.W.Sink.contents l.writer));
   fits : Told (g.F.Folders.tree l.initial.folders) (λ t.
-      ReadingsFit (counting_of l.counting) t (to_come t l.initial.walk) → ReadingsFit (counting_of l.counting) t (to_come t l.walk));
+      ReadingsFit (counting_of l.by.counting.now) t (to_come t l.initial.walk) → ReadingsFit (counting_of l.by.counting.now) t (to_come t l.walk));
   notes : Grows (notes_of l.initial.walk) (notes_of l.walk);
   unread : Told (g.F.Folders.tree l.initial.folders) (λ t.
-      l.unread.items ++ unread_of (counting_of l.counting) t (to_come t l.walk) ≡ l.initial.unread.items ++ unread_of (counting_of l.counting) t (to_come t l.initial.walk));
+      l.unread.items ++ unread_of (counting_of l.by.counting.now) t (to_come t l.walk) ≡ l.initial.unread.items ++ unread_of (counting_of l.by.counting.now) t (to_come t l.initial.walk));
   no_fault : g.W.Sink.faults l.initial.writer < 18446744073709551615 → g.W.Sink.faults l.writer ≡ g.W.Sink.faults l.initial.writer;
   honest : g.F.Folders.memory_faults l.initial.folders < 18446744073709551615 → g.F.Folders.memory_faults l.folders ≡ g.F.Folders.memory_faults l.initial.folders;
 }
