@@ -3,7 +3,8 @@ use Rattle.std.proofs.Common.{◌≡◌, ◌≢◌, ℕ, zero, suc, ◌+◌, ◌
 use Rattle.std.proofs.lemmas.Bool.Decides.{Decides-eqb}
 use Rattle.std.proofs.lemmas.List.{get_or-replicate}
 use Rattle.tokei_bytes.specs.OneOf.{is_one_of}
-use Rattle.tokei_bytes.specs.ByteSets.{HasFew, is_in, with_one}
+use Rattle.tokei_bytes.specs.ByteSets.{AreSlotted, HasFew, is_in, with_one}
+use Rattle.tokei_bytes.specs.Slots.{in_slots}
 use Rattle.tokei_bytes.proofs.Blocks.{the_one}
 
 one_more : (y : Bool) (r : Bool) → r ≡ true → cond y true r ≡ true
@@ -121,18 +122,6 @@ put_in flags b x l = by (x == b) refl
         ∙ or_none (get_or flags x false)
         ∙ ap (λ c. get_or flags x false || c) (sym q)
 
--- one that is there already changes nothing
-pub there_already : (flags : List Bool) (b x : ℕ) → is_in flags b ≡ true → is_in flags x ≡ (is_in flags x || (x == b))
-there_already flags b x there = by (x == b) refl
-  where
-    by : (c : Bool) → (x == b) ≡ c → is_in flags x ≡ (is_in flags x || (x == b))
-    by true q =
-        ap (is_in flags) ((Decides-eqb x b).0 q)
-        ∙ there
-        ∙ or_one (is_in flags x)
-        ∙ ap (λ c. is_in flags x || c) (sym q)
-    by false q = or_none (is_in flags x) ∙ ap (λ c. is_in flags x || c) (sym q)
-
 either_of : (a c : Bool) → (a || c) ≡ true → (a ≡ true) ⊎ (c ≡ true)
 either_of true c h = inl refl
 either_of false c h = inr h
@@ -174,14 +163,29 @@ few_with_one flags few n b l has small = record {
       (λ any y k. stays_in flags b y l (has.held any y k)) x h;
 }
 
--- or more than few
-pub many_with_one : (flags : List Bool) (few : List ℕ) (n b : ℕ) → b < length flags → HasFew flags few n → 4 < n
-    → HasFew (set flags b true) few n
-many_with_one flags few n b l has large = record {
-  four = has.four;
-  holds = λ most. absurd (omega (arith, most, large));
-  held = λ some x h. stays_in flags b x l (has.held some x h);
-}
+-- none of no bytes is without a slot
+pub none_slotted : (flags : List Bool) (slots others : List ℕ) (have : Bool) → flags ≡ replicate 256 false → AreSlotted flags slots others have
+none_slotted flags slots others have is = λ all b fits h. absurd (true≢false (sym h ∙ ap (λ fs. is_in fs b) is ∙ get_or-replicate 256 b false false fits))
+
+-- a byte more, and its slot
+pub stay_slotted : (flags : List Bool) (slots others new new_others : List ℕ) (have all : Bool) (b : ℕ) → b < length flags
+    → AreSlotted flags slots others have
+    → (all ≡ true → have ≡ true)
+    → (all ≡ true → (x : ℕ) → in_slots slots others x ≡ true → in_slots new new_others x ≡ true)
+    → (all ≡ true → in_slots new new_others b ≡ true) → AreSlotted (set flags b true) new new_others all
+stay_slotted flags slots others new new_others have all b l are before stays put = λ so x fits h. elim (either_of (is_in flags x) (x == b) (sym (put_in flags b x l) ∙ h)) [
+  | inl old ↦ stays so x (are (before so) x fits old)
+  | inr same ↦ subst (λ y. in_slots new new_others y ≡ true) (sym ((Decides-eqb x b).0 same)) (put so)
+]
+
+-- a byte that is in no slot isn't in the set
+pub outside_slots : (flags : List Bool) (slots others : List ℕ) (have : Bool) (b : ℕ) → AreSlotted flags slots others have → have ≡ true → b < 256
+    → in_slots slots others b ≡ false → is_in flags b ≡ false
+outside_slots flags slots others have b are so fits none = by_flag (is_in flags b) (are so b fits)
+  where
+    by_flag : (y : Bool) → (y ≡ true → in_slots slots others b ≡ true) → y ≡ false
+    by_flag false h = refl
+    by_flag true h = absurd (true≢false (sym (h refl) ∙ none))
 
 -- the flag of a byte that has one doesn't go by the default
 pub any_default : (flags : List Bool) (i : ℕ) (d e : Bool) → i < length flags → slice_index_or flags i d ≡ slice_index_or flags i e

@@ -2,6 +2,7 @@
 use Rattle.std.specs.Prelude.{◌≡◌, ℕ, zero, suc, ◌<◌, ◌≤◌, Bool, true, false, List, [], ◌∷◌, length, take}
 use Rattle.std.specs.Prelude.{slice_index, slice_index_or}
 use Rattle.tokei_bytes.specs.OneOf.{is_one_of}
+use Rattle.tokei_bytes.specs.Slots.{in_slots}
 
 -- whether the byte is in the set
 abbrev pub is_in : List Bool → ℕ → Bool
@@ -18,3 +19,8 @@ pub record HasFew (flags : List Bool) (few : List ℕ) (n : ℕ) : Type 0 where
 abbrev pub with_one : List ℕ → ℕ → ℕ → List ℕ
 with_one few zero x = x ∷ x ∷ x ∷ x ∷ []
 with_one few (suc n) x = x ∷ slice_index few 0 ∷ slice_index few 1 ∷ slice_index few 2 ∷ []
+
+-- where all have one, each byte of the set is in its slot, one of two
+abbrev pub AreSlotted : List Bool → List ℕ → List ℕ → Bool → Type 0
+AreSlotted flags slots others have =
+    have ≡ true → (b : ℕ) → b < 256 → is_in flags b ≡ true → in_slots slots others b ≡ true

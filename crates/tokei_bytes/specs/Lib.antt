@@ -6,3 +6,4 @@ pub mod Decoding
 pub mod FirstPlace
 pub mod OneOf
 pub mod Pairs
+pub mod Slots

@@ -1,10 +1,13 @@
 //! Sets of bytes that a text is searched for.
 ghost use Rattle.std.specs.Prelude.{◌≡◌, ℕ, ◌<◌, ◌≤◌, ◌==◌, ◌||◌, true, false, length, replicate, IfOk, IfSome};
-ghost use Rattle.tokei_bytes.specs.ByteSets.{HasFew, is_in, with_one};
+ghost use Rattle.std.specs.Prelude.{slice_index};
+ghost use Rattle.tokei_bytes.specs.ByteSets.{AreSlotted, HasFew, is_in, with_one};
 ghost use Rattle.tokei_bytes.specs.FirstPlace.{IsFirstPlace};
 ghost use Rattle.tokei_bytes.specs.OneOf.{is_one_of};
+ghost use Rattle.tokei_bytes.specs.Slots.{in_slots};
 
 use crate::one_of::first_of_four;
+use crate::slots::{NO_SLOTS, put_slot, slotted_end};
 use std::alloc::{AllocError, Global};
 use std::marker::Model;
 
@@ -19,17 +22,22 @@ pub struct ByteSet {
     /// is one where there are any.
     few: [u8; 4],
     count: usize,
+    /// Each byte of the set in the slot of its low half, where `has_slots`, here or in `others`.
+    slots: [u8; 16],
+    others: [u8; 16],
+    has_slots: bool,
 }
 
 impl Model for ByteSet {
     ghost use Rattle.std.specs.Prelude.{◌≡◌, Bool, List, length};
-    ghost use Rattle.tokei_bytes.specs.ByteSets.{HasFew};
+    ghost use Rattle.tokei_bytes.specs.ByteSets.{AreSlotted, HasFew};
 
     ghost Value = { List Bool };
 
     ghost view = { λ s. s.flags.items };
 
-    ghost invariant = { λ s. (length s.flags.items ≡ 256) × HasFew s.flags.items s.few s.count };
+    ghost invariant = { λ s. (length s.flags.items ≡ 256) × (HasFew s.flags.items s.few s.count
+        × AreSlotted s.flags.items s.slots s.others s.has_slots) };
 }
 
 /// The byte in front of the first three of some few, or that byte alone where there are none.
@@ -41,6 +49,22 @@ fn with_one(few: [u8; 4], count: usize, byte: u8) -> [u8; 4]
     } else {
         [byte, few[0], few[1], few[2]]
     }
+}
+
+/// Puts the byte into its slot, one of two, where the others have theirs; whether all have.
+fn put_beside(slots: &mut [u8; 16], others: &mut [u8; 16], have_slots: bool, byte: u8) -> bool
+    ensures before { result ≡ true → have_slots ≡ true }
+    ensures stays { result ≡ true → (x : ℕ) → in_slots slots.old others.old x ≡ true
+        → in_slots slots.new others.new x ≡ true }
+    ensures put { result ≡ true → in_slots slots.new others.new byte ≡ true }
+{
+    if !have_slots {
+        return false;
+    }
+    if put_slot(slots, byte) {
+        return true;
+    }
+    put_slot(others, byte)
 }
 
 impl ByteSet {
@@ -61,7 +85,14 @@ impl ByteSet {
                 count += 1;
             }
         }
-        ByteSet { flags, few, count }
+        ByteSet {
+            flags,
+            few,
+            count,
+            slots: NO_SLOTS,
+            others: NO_SLOTS,
+            has_slots: false,
+        }
     }
 
     /// The set of no bytes. It fails where memory runs out.
@@ -73,6 +104,9 @@ impl ByteSet {
             flags,
             few: [0; 4],
             count: 0,
+            slots: NO_SLOTS,
+            others: NO_SLOTS,
+            has_slots: true,
         })
     }
 
@@ -85,6 +119,7 @@ impl ByteSet {
             return;
         }
         self.flags[byte as usize] = true;
+        self.has_slots = put_beside(&mut self.slots, &mut self.others, self.has_slots, byte);
         if self.count <= FEW {
             self.few = with_one(self.few, self.count, byte);
             self.count += 1;
@@ -98,6 +133,7 @@ impl ByteSet {
         self.flags.fill(true);
         self.few = [0; 4];
         self.count = FEW + 1;
+        self.has_slots = false;
     }
 
     /// Whether the byte is in the set.
@@ -136,11 +172,38 @@ impl ByteSet {
         if self.count <= FEW {
             return first_of_four(self.few, text, from, to);
         }
-        let mut at = from;
+        self.clear_end_of_many(text, from, to)
+    }
+
+    /// The same where the set has more bytes. It stands in no caller's code, which mostly has few.
+    #[inline(never)]
+    fn clear_end_of_many(&self, text: &[u8], from: usize, to: usize) -> usize
+        requires order { from ≤ to }
+        requires within { to ≤ length text.now }
+        ensures { IsFirstPlace (is_in self.now) text.now from to result }
+    {
+        let mut at = self.clear_blocks(text, from, to);
         while at < to && !self.has(text[at]) {
             at += 1;
         }
         at
+    }
+
+    /// Up to which place, from `from` on and no further than `to`, blocks of the text have no byte
+    /// of the set: `from` itself, where the bytes have no slots.
+    #[inline(always)]
+    fn clear_blocks(&self, text: &[u8], from: usize, to: usize) -> usize
+        requires order { from ≤ to }
+        requires within { to ≤ length text.now }
+        ensures low { from ≤ result }
+        ensures high { result ≤ to }
+        ensures passed { (p : ℕ) → from ≤ p → p < result
+            → is_in self.now (slice_index text.now p) ≡ false }
+    {
+        if !self.has_slots {
+            return from;
+        }
+        to.min(slotted_end(self.slots, self.others, text, from, to))
     }
 
     /// The same for the bytes of the set and another one.

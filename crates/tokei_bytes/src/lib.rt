@@ -12,6 +12,7 @@ mod decoding;
 mod near;
 mod one_of;
 mod pairs;
+mod slots;
 
 pub use boundaries::find_char_boundary;
 pub use byte_set::ByteSet;
@@ -21,3 +22,4 @@ pub use one_of::{
     BLOCK, SHORT_BLOCK, first_in_block, first_not_of_four, first_of_four, first_other_in_block,
 };
 pub use pairs::next_pair;
+pub use slots::{NO_SLOTS, is_slotted, put_slot, told_end};

@@ -2,3 +2,4 @@
 pub mod FirstBytes
 pub mod FirstPlaces
 pub mod OpenerGroups
+pub mod ToldOpeners

@@ -5,6 +5,7 @@
 pub mod blanks;
 mod opener_group;
 pub mod opener_index;
+mod told;
 
 pub use blanks::blanks_end;
 pub use opener_index::OpenerIndex;

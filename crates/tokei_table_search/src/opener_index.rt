@@ -8,14 +8,16 @@ ghost use Rattle.tokei_bytes.specs.OneOf.{is_one_of};
 ghost use Rattle.tokei_table_search.specs.OpenerGroups.{with_first, IsIndexOf};
 ghost use Rattle.tokei_table_row.specs.Bytes.{begins_with_one};
 ghost use Rattle.tokei_table_search.specs.NearBytes.{SameBytes, AreNear};
+ghost use Rattle.tokei_table_search.specs.Told.{AllTold};
 ghost use Rattle.memchr.specs.Find.{IsFirstByte};
 ghost use Rattle.tokei_table_row.specs.RowOf.{tokens_of};
 
 use crate::opener_group::OpenerGroup;
+use crate::told::{Told, told_of};
 use memchr::{memchr, memchr2, memchr3};
 use std::alloc::{AllocError, Global};
 use std::marker::Model;
-use tokei_bytes::{first_of_four, next_pair};
+use tokei_bytes::{BLOCK, first_of_four, next_pair, told_end};
 
 /// How many bytes are searched at first for more than three bytes.
 const FIRST_BLOCK: usize = 64;
@@ -46,6 +48,8 @@ pub struct OpenerIndex {
     near: Option<[u8; 4]>,
     /// For each of the first bytes the openers that begin with it.
     groups: Vec<OpenerGroup>,
+    /// The bytes that tell its openers, where it is searched by those.
+    told: Option<Told>,
 }
 
 impl Model for OpenerIndex {
@@ -55,12 +59,13 @@ impl Model for OpenerIndex {
 
     ghost use Rattle.tokei_table_search.specs.NearBytes.{AreNear};
     ghost use Rattle.tokei_table_search.specs.OpenerGroups.{IsIndexOf};
+    ghost use Rattle.tokei_table_search.specs.Told.{AreTold};
     ghost use Rattle.tokei_table_row.specs.RowOf.{tokens_of};
 
     ghost view = { λ x. tokens_of x.openers.items };
 
     ghost invariant = { λ x. IsIndexOf (tokens_of x.openers.items) x.firsts.items x.groups.items
-        × AreNear x.near x.firsts.items };
+        × (AreNear x.near x.firsts.items × AreTold x.told (tokens_of x.openers.items)) };
 }
 
 #[inline(always)]
@@ -263,6 +268,20 @@ fn first_near(near: [u8; 4], bytes: &[u8], text: &[u8], from: usize) -> usize
     first_among(bytes, text, end)
 }
 
+/// Whether openers are searched by two bytes: where more than four first bytes, or a letter or a
+/// digit, can begin one. Such stand often where no opener does.
+fn goes_by_two(firsts: &[u8]) -> bool {
+    if firsts.len() > 4 {
+        return true;
+    }
+    for first in firsts {
+        if first.is_ascii_alphanumeric() {
+            return true;
+        }
+    }
+    false
+}
+
 impl OpenerIndex {
     /// Whether none of the texts is empty.
     pub fn are_nonempty(texts: &[&str]) -> bool
@@ -296,11 +315,17 @@ impl OpenerIndex {
         let firsts = first_bytes(alloc, &openers)?;
         let near = near_of(&firsts);
         let groups = groups_of(alloc, &firsts, &openers)?;
+        let told = if goes_by_two(&firsts) {
+            told_of(&openers)
+        } else {
+            None
+        };
         Ok(OpenerIndex {
             openers,
             firsts,
             near,
             groups,
+            told,
         })
     }
 
@@ -324,7 +349,7 @@ impl OpenerIndex {
     /// The first place, from a place on, at which an opener can stand by its first byte; the text's
     /// length where there is none.
     #[inline(always)]
-    fn next_first(&self, text: &[u8], from: usize) -> usize
+    fn next_near(&self, text: &[u8], from: usize) -> usize
         requires { from ≤ length text.now }
         ensures low { from ≤ result }
         ensures within { result ≤ length text.now }
@@ -334,6 +359,47 @@ impl OpenerIndex {
         match self.near {
             Some(near) => first_near(near, &self.firsts, text, from),
             None => first_among(&self.firsts, text, from),
+        }
+    }
+
+    /// The same by the bytes that tell an opener; in the text's last block by first bytes. It stands
+    /// in no caller's code, since few languages are searched so.
+    #[inline(never)]
+    fn next_told(&self, told: &Told, text: &[u8], from: usize) -> usize
+        requires order { from ≤ length text.now }
+        requires told { AllTold told.now self.now }
+        ensures low { from ≤ result }
+        ensures within { result ≤ length text.now }
+        ensures none { (k : ℕ) → from ≤ k → k < result
+            → begins_with_one self.now (drop k text.now) ≡ false }
+    {
+        let at = told_end(
+            told.alone,
+            told.firsts,
+            told.seconds,
+            text,
+            from,
+            text.len(),
+        );
+        if BLOCK < text.len() - at {
+            return at;
+        }
+        first_among(&self.firsts, text, at)
+    }
+
+    /// The first place, from a place on, at which an opener can stand by its first bytes; the
+    /// text's length where there is none.
+    #[inline(always)]
+    fn next_first(&self, text: &[u8], from: usize) -> usize
+        requires { from ≤ length text.now }
+        ensures low { from ≤ result }
+        ensures within { result ≤ length text.now }
+        ensures none { (k : ℕ) → from ≤ k → k < result
+            → begins_with_one self.now (drop k text.now) ≡ false }
+    {
+        match &self.told {
+            Some(told) => self.next_told(told, text, from),
+            None => self.next_near(text, from),
         }
     }
 

@@ -5,7 +5,7 @@ use Rattle.tokei_bytes.proofs.byte_set.ByteSet.clear_end.Goals as goal
 
 pub returns-then-self-le-FEW : goal.returns-then-self-le-FEW
 returns-then-self-le-FEW c =
-    let has : HasFew c.args.self.now c.self.inside.few c.self.inside.count = subst (λ flags. HasFew flags c.self.inside.few c.self.inside.count) c.self.view_is c.self.invariant.1 in
+    let has : HasFew c.args.self.now c.self.inside.few c.self.inside.count = subst (λ flags. HasFew flags c.self.inside.few c.self.inside.count) c.self.view_is c.self.invariant.1.0 in
     record {
       low = c.first_of_four.ensures.low;
       high = c.first_of_four.ensures.high;

@@ -6,7 +6,7 @@ use Rattle.tokei_bytes.proofs.byte_set.ByteSet.clear_end_with.Goals as goal
 pub returns-then-self-lt-FEW : goal.returns-then-self-lt-FEW
 returns-then-self-lt-FEW c =
     let few = c.self.inside.few in
-    let has : HasFew c.args.self.now few c.self.inside.count = subst (λ flags. HasFew flags few c.self.inside.count) c.self.view_is c.self.invariant.1 in
+    let has : HasFew c.args.self.now few c.self.inside.count = subst (λ flags. HasFew flags few c.self.inside.count) c.self.view_is c.self.invariant.1.0 in
     let there = c.first_of_four-then-self-lt-FEW in
     record {
       low = there.ensures.low;

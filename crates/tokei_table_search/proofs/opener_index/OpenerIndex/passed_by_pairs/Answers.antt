@@ -9,7 +9,7 @@ returns-then-to-at-clause-none c =
     let firsts = c.self.inside.firsts.items in
     let groups = c.self.inside.groups.items in
     let index = subst (λ os. IsIndexOf os firsts groups) c.self.view_is c.self.invariant.0 in
-    let near = subst (λ n. AreNear n firsts) c.in-Some-Some.is-0 c.self.invariant.1 in
+    let near = subst (λ n. AreNear n firsts) c.in-Some-Some.is-0 c.self.invariant.1.0 in
     none_on c.args.self.now c.args.text.now c.args.from c.loop-at.at c.next_pair-at.result c.loop-at.invariant.none
     (λ k a h. pair_apart c.args.self.now c.args.group.now firsts groups index c.in-Some-Some.near c.in-Some-Some.seconds c.args.byte
     near c.in-Some-Some.ensures c.requires.group
@@ -20,7 +20,7 @@ loop-at-preserved c =
     let firsts = c.self.inside.firsts.items in
     let groups = c.self.inside.groups.items in
     let index = subst (λ os. IsIndexOf os firsts groups) c.self.view_is c.self.invariant.0 in
-    let near = subst (λ n. AreNear n firsts) c.in-Some-Some.is-0 c.self.invariant.1 in
+    let near = subst (λ n. AreNear n firsts) c.in-Some-Some.is-0 c.self.invariant.1.0 in
     let before = none_on c.args.self.now c.args.text.now c.args.from c.loop-at.at c.next_pair-at.result c.loop-at.invariant.none
     (λ k a h. pair_apart c.args.self.now c.args.group.now firsts groups index c.in-Some-Some.near c.in-Some-Some.seconds c.args.byte
     near c.in-Some-Some.ensures c.requires.group

@@ -1,0 +1,185 @@
+-- What a look-up in slots gives, lane by lane.
+use Rattle.std.proofs.Common.{◌≡◌, ℕ, ◌+◌, ◌*◌, ◌/◌, ◌%◌, ◌^◌, ◌<◌, ◌≤◌, List, [], ◌∷◌, Bool, cond, eqb, length, get_or, map, replicate, bit_and, bit_or, min, max, set, ap₂, ◌&&◌, ◌||◌, false, ◌==◌, true, ◌⊎◌, inl, inr, refl, sym, ap, ◌∙◌, arith, w8, get_or-set_same, get_or-set_other}
+use Rattle.std.proofs.lemmas.Bool.{cases_eq}
+use Rattle.std.proofs.lemmas.Bool.Decides.{Decides-eqb}
+use lib.Lanes.{chunk, zip2, mask_l, top}
+use Rattle.std.specs.Int.{bit_at}
+use Rattle.std.proofs.lemmas.Nat.Bits.{bit_at_and, bit_at_or}
+use Rattle.std.proofs.Math.Nat.{zero-min}
+use Rattle.std.proofs.lemmas.Nat.{and_mask}
+use Rattle.std.proofs.lemmas.Simd.{length-zip2, get_or-zip2, get_or-replicate, tops_compared, mask_l-mod, length-swz_l, get_or-swz_l_below, swz_l, SwzOk, SwzOk-from_below, Each1-from_get_or}
+use Rattle.std.proofs.lemmas.List.{ext_get_or, length-map, get_or-map}
+use Rattle.tokei_bytes.specs.Slots.{HasSlots, in_slots, is_slotted, is_told}
+use Rattle.tokei_bytes.proofs.Bits.{bit_in, bit_past, none_told, low_told}
+
+-- the low halves of 32 bytes
+module _ (v : List ℕ) (long : length v ≡ 32) where
+  length-halves : length (zip2 bit_and v (replicate 32 15)) ≡ 32
+  length-halves = length-zip2 bit_and v (replicate 32 15) (long ∙ refl) ∙ long
+
+  half_at : (k : ℕ) → k < 32 → get_or (zip2 bit_and v (replicate 32 15)) k 0 ≡ get_or v k 0 % 16
+  half_at k l =
+      get_or-zip2 bit_and v (replicate 32 15) k 0 0 0 (omega arith) l
+      ∙ ap (bit_and (get_or v k 0)) (get_or-replicate 32 k 15 0 l) ∙ and_mask (get_or v k 0) 4
+
+  pub may_be_looked_up : SwzOk w8 16 32 0 (zip2 bit_and v (replicate 32 15))
+  may_be_looked_up =
+      SwzOk-from_below w8 16 2 32 0 (zip2 bit_and v (replicate 32 15)) refl (omega (arith, length-halves))
+      (Each1-from_get_or (λ j. j < 16) (zip2 bit_and v (replicate 32 15)) 0 (λ k l. omega (arith, half_at k (omega (arith, l, length-halves)))))
+
+  look_up_at : (slots wide : List ℕ) → HasSlots slots wide → (k : ℕ) → k < 32
+      → get_or (swz_l w8 16 wide 0 (zip2 bit_and v (replicate 32 15))) k 0 ≡ get_or slots (get_or v k 0 % 16) 0
+  look_up_at slots wide twice k l =
+      let half = half_at k l in
+      let place : ℕ = 16 * (k / 16) + get_or v k 0 % 16 in
+      let same : 0 + k ≡ k = omega arith in
+      let back : place % 16 ≡ get_or v k 0 % 16 = omega arith in
+      get_or-swz_l_below w8 16 wide 0 (zip2 bit_and v (replicate 32 15)) k (omega (arith, l, length-halves)) (omega (arith, half))
+      ∙ ap (λ j. get_or wide (16 * ((0 + k) / 16) + j) 0) half
+      ∙ ap (λ n. get_or wide (16 * (n / 16) + get_or v k 0 % 16) 0) same
+      ∙ twice.each place (omega (arith, l)) ∙ ap (λ j. get_or slots j 0) back
+
+  pub looked_up : (slots wide : List ℕ) → HasSlots slots wide
+      → swz_l w8 16 wide 0 (zip2 bit_and v (replicate 32 15)) ≡ map (λ x. get_or slots (x % 16) 0) v
+  looked_up slots wide twice =
+      let same = length-swz_l w8 16 wide 0 (zip2 bit_and v (replicate 32 15)) ∙ length-halves in
+      ext_get_or 0 (swz_l w8 16 wide 0 (zip2 bit_and v (replicate 32 15))) (map (λ x. get_or slots (x % 16) 0) v)
+      (same ∙ sym (length-map v (λ x. get_or slots (x % 16) 0) ∙ long))
+      (λ k l.
+      look_up_at slots wide twice k (omega (arith, l, same))
+      ∙ sym (get_or-map (λ x. get_or slots (x % 16) 0) v k 0 0 (omega (arith, l, same, long))))
+
+compared : (slots v : List ℕ) → zip2 eqb (map (λ x. get_or slots (x % 16) 0) v) v ≡ map (is_slotted slots) v
+compared slots [] = refl
+compared slots (x ∷ v) = ap (λ r. eqb (get_or slots (x % 16) 0) x ∷ r) (compared slots v)
+
+-- `to_bitmask` of the comparison of 32 bytes with what stands in their slots
+pub mask_of_slotted : (slots v found : List ℕ) → length v ≡ 32 → found ≡ map (λ x. get_or slots (x % 16) 0) v
+    → mask_l (map (top 7) (zip2 (λ a b. cond (eqb a b) 255 0) found v)) % 2 ^ 64 ≡ mask_l (map (is_slotted slots) v)
+mask_of_slotted slots v found long is =
+    ap (λ ms. mask_l ms % 2 ^ 64)
+    (tops_compared w8 eqb found v ∙ ap (λ f. zip2 eqb f v) is ∙ compared slots v)
+    ∙ mask_l-mod (map (is_slotted slots) v) 64 (omega (arith, length-map v (is_slotted slots), long))
+
+-- a byte that is put into a slot that no byte has leaves the others in theirs
+pub put_stays : (slots : List ℕ) (byte x : ℕ) → (get_or slots (byte % 16) 0 % 16 ≡ byte % 16 → ⊥)
+    → is_slotted slots x ≡ true → is_slotted (set slots (byte % 16) byte) x ≡ true
+put_stays slots byte x free h = elim (cases_eq (x % 16) (byte % 16)) [
+  | inl same ↦
+      let there : get_or slots (x % 16) 0 ≡ x = (Decides-eqb (get_or slots (x % 16) 0) x).0 h in
+      absurd (free (ap (λ k. get_or slots k 0 % 16) (sym same) ∙ ap (λ y. y % 16) there ∙ same))
+  | inr other ↦ ap (λ y. y == x) (get_or-set_other slots (byte % 16) (x % 16) byte 0 other) ∙ h
+]
+
+-- and stands there itself
+pub put_there : (slots : List ℕ) (byte : ℕ) → byte % 16 < length slots → is_slotted (set slots (byte % 16) byte) byte ≡ true
+put_there slots byte l = (Decides-eqb (get_or (set slots (byte % 16) byte) (byte % 16) 0) byte).1 (get_or-set_same slots (byte % 16) byte 0 l)
+
+told_by_tests : (x y z : Bool) → max (cond x 1 0) (min (cond y 1 0) (cond z 1 0)) ≡ cond (x || (y && z)) 1 0
+told_by_tests true true true = refl
+told_by_tests true true false = refl
+told_by_tests true false true = refl
+told_by_tests true false false = refl
+told_by_tests false true true = refl
+told_by_tests false true false = refl
+told_by_tests false false true = refl
+told_by_tests false false false = refl
+
+-- of the 32 bytes of the text from place i on a is the mask of those that tell alone, f of the firsts, and b of the seconds behind
+module _ (alone firsts seconds text : List ℕ) (i a f b m : ℕ) (room : i + 32 < length text)
+    (alones : a ≡ mask_l (map (is_slotted alone) (chunk i 32 text)))
+    (here : f ≡ mask_l (map (is_slotted firsts) (chunk i 32 text)))
+    (behind : b ≡ mask_l (map (is_slotted seconds) (chunk (i + 1) 32 text)))
+    (marked : m ≡ bit_or a (bit_and f b)) where
+  told_here : (k : ℕ) → k < 32 → bit_at m k ≡ cond (is_told alone firsts seconds (get_or text (i + k) 0) (get_or text (i + k + 1) 0)) 1 0
+  told_here k l =
+      let next : i + 1 + k ≡ i + k + 1 = omega arith in
+      ap (λ n. bit_at n k) marked
+      ∙ bit_at_or a (bit_and f b) k
+      ∙ ap₂ (λ x y. max x y) (bit_in (is_slotted alone) 32 text i a (omega (arith, room)) alones k l)
+      (bit_at_and f b k
+      ∙ ap₂ (λ x y. min x y) (bit_in (is_slotted firsts) 32 text i f (omega (arith, room)) here k l)
+      (bit_in (is_slotted seconds) 32 text (i + 1) b (omega (arith, room)) behind k l
+      ∙ ap (λ j. cond (is_slotted seconds (get_or text j 0)) 1 0) next))
+      ∙ told_by_tests (is_slotted alone (get_or text (i + k) 0)) (is_slotted firsts (get_or text (i + k) 0)) (is_slotted seconds (get_or text (i + k + 1) 0))
+
+  told_past : (k : ℕ) → 32 ≤ k → bit_at m k ≡ 0
+  told_past k past =
+      let no_alone : bit_at a k ≡ 0 = bit_past (is_slotted alone) 32 text i a (omega (arith, room)) alones k past in
+      let no_first : bit_at f k ≡ 0 = bit_past (is_slotted firsts) 32 text i f (omega (arith, room)) here k past in
+      ap (λ n. bit_at n k) marked
+      ∙ bit_at_or a (bit_and f b) k
+      ∙ ap₂ (λ x y. max x y) no_alone (bit_at_and f b k ∙ ap (λ n. min n (bit_at b k)) no_first ∙ zero-min (bit_at b k))
+
+  pub none_of_told : (n : ℕ) → n ≤ 32 → ((k : ℕ) → k < n → bit_at m k ≡ 0) → (p : ℕ) → i ≤ p → p < i + n
+      → is_told alone firsts seconds (get_or text p 0) (get_or text (p + 1) 0) ≡ false
+  none_of_told = none_told (λ q. is_told alone firsts seconds (get_or text q 0) (get_or text (q + 1) 0)) i m told_here told_past
+
+  pub low_of_told : (k : ℕ) → bit_at m k ≡ 1 → k < 32
+  low_of_told = low_told (λ q. is_told alone firsts seconds (get_or text q 0) (get_or text (q + 1) 0)) i m told_here told_past
+
+either_by_tests : (x y : Bool) → max (cond x 1 0) (cond y 1 0) ≡ cond (x || y) 1 0
+either_by_tests true true = refl
+either_by_tests true false = refl
+either_by_tests false true = refl
+either_by_tests false false = refl
+
+-- a and b are the masks of those of the 32 bytes of the text from place i on that stand in one of two slots
+module _ (slots others text : List ℕ) (i a b m : ℕ) (room : i + 32 ≤ length text)
+    (ones : a ≡ mask_l (map (is_slotted slots) (chunk i 32 text)))
+    (twos : b ≡ mask_l (map (is_slotted others) (chunk i 32 text)))
+    (marked : m ≡ bit_or a b) where
+  either_here : (k : ℕ) → k < 32 → bit_at m k ≡ cond (in_slots slots others (get_or text (i + k) 0)) 1 0
+  either_here k l =
+      ap (λ n. bit_at n k) marked
+      ∙ bit_at_or a b k
+      ∙ ap₂ (λ x y. max x y) (bit_in (is_slotted slots) 32 text i a room ones k l) (bit_in (is_slotted others) 32 text i b room twos k l)
+      ∙ either_by_tests (is_slotted slots (get_or text (i + k) 0)) (is_slotted others (get_or text (i + k) 0))
+
+  either_past : (k : ℕ) → 32 ≤ k → bit_at m k ≡ 0
+  either_past k past =
+      ap (λ n. bit_at n k) marked
+      ∙ bit_at_or a b k
+      ∙ ap₂ (λ x y. max x y) (bit_past (is_slotted slots) 32 text i a room ones k past) (bit_past (is_slotted others) 32 text i b room twos k past)
+
+  pub none_slotted_here : (n : ℕ) → n ≤ 32 → ((k : ℕ) → k < n → bit_at m k ≡ 0) → (p : ℕ) → i ≤ p → p < i + n
+      → in_slots slots others (get_or text p 0) ≡ false
+  none_slotted_here = none_told (λ q. in_slots slots others (get_or text q 0)) i m either_here either_past
+
+  pub low_of_slotted : (k : ℕ) → bit_at m k ≡ 1 → k < 32
+  low_of_slotted = low_told (λ q. in_slots slots others (get_or text q 0)) i m either_here either_past
+
+-- one of two slots keeps a byte where either does
+either : (a b : Bool) → (a || b) ≡ true → (a ≡ true) ⊎ (b ≡ true)
+either true b h = inl refl
+either false b h = inr h
+
+in_first : (a b : Bool) → a ≡ true → (a || b) ≡ true
+in_first true b h = refl
+in_first false b h = cc
+
+in_second : (a b : Bool) → b ≡ true → (a || b) ≡ true
+in_second true b h = refl
+in_second false b h = h
+
+pub first_stays : (slots new others : List ℕ) → ((x : ℕ) → is_slotted slots x ≡ true → is_slotted new x ≡ true)
+    → (x : ℕ) → in_slots slots others x ≡ true → in_slots new others x ≡ true
+first_stays slots new others stays x h = elim (either (is_slotted slots x) (is_slotted others x) h) [
+  | inl one ↦ in_first (is_slotted new x) (is_slotted others x) (stays x one)
+  | inr two ↦ in_second (is_slotted new x) (is_slotted others x) two
+]
+
+pub first_put : (new others : List ℕ) (x : ℕ) → is_slotted new x ≡ true → in_slots new others x ≡ true
+first_put new others x h = in_first (is_slotted new x) (is_slotted others x) h
+
+pub second_stays : (slots same others new : List ℕ) → same ≡ slots
+    → ((x : ℕ) → is_slotted others x ≡ true → is_slotted new x ≡ true)
+    → (x : ℕ) → in_slots slots others x ≡ true → in_slots same new x ≡ true
+second_stays slots same others new is stays x h =
+    ap (λ s. in_slots s new x) is ∙ (elim (either (is_slotted slots x) (is_slotted others x) h) [
+      | inl one ↦ in_first (is_slotted slots x) (is_slotted new x) one
+      | inr two ↦ in_second (is_slotted slots x) (is_slotted new x) (stays x two)
+    ])
+
+pub second_put : (slots new : List ℕ) (x : ℕ) → is_slotted new x ≡ true → in_slots slots new x ≡ true
+second_put slots new x h = in_second (is_slotted slots x) (is_slotted new x) h

@@ -1,0 +1,20 @@
+-- Bytes in slots: at each low half of a byte the one that has it, or a byte with another.
+use Rattle.std.specs.Prelude.{◌≡◌, ℕ, ◌%◌, ◌<◌, ◌==◌, ◌&&◌, ◌||◌, Bool, List, length, slice_index}
+
+-- Whether the byte stands in the slot of its low half.
+abbrev pub is_slotted : List ℕ → ℕ → Bool
+is_slotted slots x = slice_index slots (x % 16) == x
+
+-- Whether it stands in one of two.
+abbrev pub in_slots : List ℕ → List ℕ → ℕ → Bool
+in_slots slots others x = is_slotted slots x || is_slotted others x
+
+-- Whether a token can begin with the two bytes: the first of them tells alone, or with the other.
+abbrev pub is_told : List ℕ → List ℕ → List ℕ → ℕ → ℕ → Bool
+is_told alone firsts seconds x y =
+    is_slotted alone x || (is_slotted firsts x && is_slotted seconds y)
+
+-- A vector of 32 bytes holds the slots twice.
+pub record HasSlots (slots lanes : List ℕ) : Type 0 where
+  pub long : length lanes ≡ 32
+  pub each : (k : ℕ) → k < 32 → slice_index lanes k ≡ slice_index slots (k % 16)

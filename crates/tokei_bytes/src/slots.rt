@@ -1,0 +1,171 @@
+//! Sets of bytes that one look-up tests, 32 at a time: no two bytes of one have the same low half.
+ghost use Rattle.std.specs.Prelude.{◌≡◌, ℕ, ◌+◌, ◌%◌, ◌<◌, ◌≤◌, true, false, length, map, slice_index};
+ghost use Rattle.std.specs.Simd.Lanes.{mask_l};
+ghost use Rattle.tokei_bytes.specs.Slots.{HasSlots, in_slots, is_slotted, is_told};
+
+use crate::one_of::BLOCK;
+use std::simd::prelude::*;
+
+/// Slots of no bytes: each has a byte with another low half.
+pub const NO_SLOTS: [u8; 16] = [1, 0, 0, 0, 0, 0, 0, 0, 0, 0, 0, 0, 0, 0, 0, 0];
+
+/// Puts the byte into its slot; whether none that had it was put there before.
+pub fn put_slot(slots: &mut [u8; 16], byte: u8) -> bool
+    ensures stays { result ≡ true → (x : ℕ) → is_slotted slots.old x ≡ true
+        → is_slotted slots.new x ≡ true }
+    ensures put { result ≡ true → is_slotted slots.new byte ≡ true }
+    ensures kept { result ≡ false → slots.new ≡ slots.old }
+{
+    let half = (byte % 16) as usize;
+    if slots[half] == byte {
+        return true;
+    }
+    if slots[half] % 16 == byte % 16 {
+        return false;
+    }
+    slots[half] = byte;
+    true
+}
+
+/// The slots twice, one after the other.
+#[inline(always)]
+fn twice(slots: [u8; 16]) -> u8x32
+    ensures { HasSlots slots result }
+{
+    u8x16::from_slice(&slots).swizzle([
+        0, 1, 2, 3, 4, 5, 6, 7, 8, 9, 10, 11, 12, 13, 14, 15, 0, 1, 2, 3, 4, 5, 6, 7, 8, 9, 10, 11,
+        12, 13, 14, 15,
+    ])
+}
+
+/// What stands in the slot of each lane's low half.
+#[inline(always)]
+fn looked_up(slots: [u8; 16], lanes: u8x32) -> u8x32
+    ensures { result ≡ map (λ x. slice_index slots (x % 16)) lanes }
+{
+    twice(slots).swizzle_dyn_within::<16>(lanes & u8x32::splat(15))
+}
+
+/// Bit k is set where lane k stands in the slot of its low half.
+#[inline(always)]
+fn slotted_marks(slots: [u8; 16], lanes: u8x32) -> u64
+    ensures { result ≡ mask_l (map (is_slotted slots) lanes) }
+{
+    looked_up(slots, lanes).simd_eq(lanes).to_bitmask()
+}
+
+/// Whether the byte stands in the slot of its low half.
+#[inline(always)]
+pub fn is_slotted(slots: [u8; 16], byte: u8) -> bool
+    ensures { result ≡ is_slotted slots byte }
+{
+    slots[(byte % 16) as usize] == byte
+}
+
+/// The first place of the `BLOCK` places of the text from `from` on whose byte stands in one of two
+/// slots, or the place behind them where none does.
+#[inline(always)]
+fn first_slotted_in_block(slots: [u8; 16], others: [u8; 16], text: &[u8], from: usize) -> usize
+    requires { from + BLOCK ≤ length text.now }
+    ensures low { from ≤ result }
+    ensures high { result ≤ from + BLOCK }
+    ensures passed { (p : ℕ) → from ≤ p → p < result
+        → in_slots slots others (slice_index text.now p) ≡ false }
+{
+    let lanes = u8x32::from_slice(&text[from..]);
+    let ones = slotted_marks(slots, lanes);
+    let twos = slotted_marks(others, lanes);
+    let marked = ones | twos;
+    if marked == 0 {
+        return from + BLOCK;
+    }
+    from + marked.trailing_zeros() as usize
+}
+
+/// The first place of the text from `from` on whose byte stands in one of two slots; or a place
+/// from which on it isn't sought: `to` or up to a block behind, or one from which the text has no
+/// block.
+#[inline(always)]
+pub(crate) fn slotted_end(
+    slots: [u8; 16],
+    others: [u8; 16],
+    text: &[u8],
+    from: usize,
+    to: usize,
+) -> usize
+    requires order { from ≤ to }
+    requires within { to ≤ length text.now }
+    ensures low { from ≤ result }
+    ensures high { result ≤ length text.now }
+    ensures passed { (p : ℕ) → from ≤ p → p < result
+        → in_slots slots others (slice_index text.now p) ≡ false }
+{
+    let mut at = from;
+    while at < to && BLOCK <= text.len() - at {
+        let place = first_slotted_in_block(slots, others, text, at);
+        if place < at + BLOCK {
+            return place;
+        }
+        at += BLOCK;
+    }
+    at
+}
+
+/// The first place of the `BLOCK` places of the text from `from` on at which a byte tells that a
+/// token can begin, alone or with the one behind it; or the place behind them where none does.
+#[inline(always)]
+fn first_told_in_block(
+    alone: [u8; 16],
+    firsts: [u8; 16],
+    seconds: [u8; 16],
+    text: &[u8],
+    from: usize,
+) -> usize
+    requires { from + BLOCK < length text.now }
+    ensures low { from ≤ result }
+    ensures high { result ≤ from + BLOCK }
+    ensures passed { (p : ℕ) → from ≤ p → p < result
+        → is_told alone firsts seconds (slice_index text.now p) (slice_index text.now (p + 1))
+        ≡ false }
+{
+    let here = u8x32::from_slice(&text[from..]);
+    let behind = u8x32::from_slice(&text[from + 1..]);
+    let alones = slotted_marks(alone, here);
+    let leads = slotted_marks(firsts, here);
+    let follows = slotted_marks(seconds, behind);
+    let marked = alones | (leads & follows);
+    if marked == 0 {
+        return from + BLOCK;
+    }
+    from + marked.trailing_zeros() as usize
+}
+
+/// The first place of the text from `from` on at which a token can begin, as its byte tells alone
+/// or with the one behind it; or a place from which on it isn't sought: `to` or up to a block
+/// behind, or one from which the text has no block and a byte more.
+#[inline(always)]
+pub fn told_end(
+    alone: [u8; 16],
+    firsts: [u8; 16],
+    seconds: [u8; 16],
+    text: &[u8],
+    from: usize,
+    to: usize,
+) -> usize
+    requires within { to ≤ length text.now }
+    ensures low { from ≤ result }
+    ensures inside { from < result → result < length text.now }
+    ensures passed { (p : ℕ) → from ≤ p → p < result
+        → is_told alone firsts seconds (slice_index text.now p) (slice_index text.now (p + 1))
+        ≡ false }
+{
+    let mut at = from;
+    while at < to && BLOCK < text.len() - at {
+        let place = first_told_in_block(alone, firsts, seconds, text, at);
+        if place < at + BLOCK {
+            return place;
+        }
+        at += BLOCK;
+    }
+    at
+}
