@@ -7,7 +7,6 @@ use Rattle.clap.specs.Walk.{is_free_arg}
 use Rattle.std.specs.Prelude.{IsSomeAnd}
 use Rattle.clap.specs.declared.builder.action.ArgAction.{ArgAction}
 use Rattle.clap.specs.declared.builder.range.ValueRange.{ValueRange}
-use Rattle.clap.specs.declared.builder.texts.Texts.TheVariants.{One}
 use Rattle.clap.specs.declared.builder.value_parser.ValueParser.{ValueParser}
 use Rattle.clap.specs.declared.builder.arg.Arg.{Arg}
 use Rattle.clap.specs.declared.builder.command.Command.{Command}
@@ -34,11 +33,6 @@ named_is name r a b is option =
 
 pub helped_is : (text : Option (Bor (List ℕ))) (r : Rule) (a b : Arg) → b ≡ record a { help = text } → IsOption r a → IsOption r b
 helped_is text r a b is option = (ap rule_of is ∙ option.0, ap (λ (x : Arg). x.global) is ∙ option.1)
-
-pub defaulted_is : (text : Bor (List ℕ)) (r : Rule) (a b : Arg) → b ≡ record a { default_vals = One text } → IsOption r a
-    → IsOption (record r { defaults = text.now ∷ [] }) b
-defaulted_is text r a b is option =
-    (ap rule_of is ∙ ap (λ (r : Rule). record r { defaults = text.now ∷ [] }) option.0, ap (λ (x : Arg). x.global) is ∙ option.1)
 
 pub parsed_is : (q : ValueParser) (r : Rule) (a b : Arg) → b ≡ record a { value_parser = b.value_parser }
     → b.value_parser ≡ Some q → IsOption r a

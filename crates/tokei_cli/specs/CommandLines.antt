@@ -22,6 +22,6 @@ excludes_of c = map string_bytes c.exclude.items
 abbrev pub file_input_of : Cli → Option (List ℕ)
 file_input_of c = option_map string_bytes c.file_input
 
--- the file of the table of languages
-abbrev pub table_of : Cli → List ℕ
-table_of c = string_bytes c.table
+-- the file of the table of languages, where one is named
+abbrev pub table_of : Cli → Option (List ℕ)
+table_of c = option_map string_bytes c.table

@@ -7,7 +7,7 @@ use Rattle.std.specs.Str.{bytes_eq}
 use Rattle.std.specs.Str.Parse.{ParsesUnsigned}
 use Rattle.clap.specs.Words.{Row, all_of, count_of, first_of, matches_of, one_of}
 use Rattle.tokei_cli.specs.CommandLines.{inputs_of, excludes_of, file_input_of, table_of}
-use Rattle.tokei_cli.specs.Options.{default_table, line_app}
+use Rattle.tokei_cli.specs.Options.{line_app}
 use Rattle.tokei_cli.specs.declared.cli.Cli.{Cli}
 
 -- an option without a value is on where its text is true
@@ -47,7 +47,7 @@ pub record IsLine (rows : List Row) (c : Cli) : Type 0 where
   pub excludes : excludes_of c ≡ unwrap_or (all_of (codes "exclude") rows) []
   pub file_input : file_input_of c ≡ first_of (codes "file_input") rows
   pub inputs : inputs_of c ≡ inputs_given (all_of (codes "input") rows)
-  pub table : table_of c ≡ unwrap_or (first_of (codes "table") rows) default_table
+  pub table : table_of c ≡ first_of (codes "table") rows
 
 -- the command line of these words, of which the first is the program's name
 abbrev pub IsLineOf : List (List ℕ) → Cli → Type 0

@@ -6,10 +6,6 @@ use Rattle.clap.specs.Words.{App, Rule, new_app, new_rule, with_rule}
 use Rattle.clap.specs.declared.builder.action.ArgAction.TheVariants.{Append, Count, Set, SetTrue}
 use Rattle.clap.specs.declared.builder.value_parser.ValueParser.TheVariants.{Unsigned}
 
--- the table of languages, where no option names another
-abbrev pub default_table : List ℕ
-default_table = codes "languages.json"
-
 -- an option without a value
 abbrev pub switch : List ℕ → Rule
 switch name = record (new_rule name) { long = Some name; action = Some SetTrue }
@@ -72,7 +68,7 @@ file_options =
     repeated (lettered (codes "e") (valued (codes "exclude")))
     ∷ switch (codes "hidden")
     ∷ record (lettered (codes "i") (valued (codes "file_input"))) { long = Some (codes "input") }
-    ∷ record (valued (codes "table")) { defaults = default_table ∷ [] }
+    ∷ valued (codes "table")
     ∷ []
 
 -- the option on notes, and the files and folders to be counted

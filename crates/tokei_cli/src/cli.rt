@@ -5,11 +5,10 @@ ghost use Rattle.std.specs.Option.{option_or};
 ghost use Rattle.clap.specs.Words.{all_of, first_of, found_of, one_of, rows_of};
 ghost use Rattle.tokei_cli.specs.CommandLines.{inputs_of, excludes_of, file_input_of, table_of};
 ghost use Rattle.tokei_cli.specs.Lines.{IsLine, IsLineOf, IsNumber, inputs_given, is_on};
-ghost use Rattle.tokei_cli.specs.Options.{default_table};
 ghost use Rattle.tokei_cli.specs.Texts.{IsShown};
 
 use crate::cli_error::{CliError, answer};
-use crate::options::{DEFAULT_TABLE, command};
+use crate::options::command;
 use clap::ArgMatches;
 use std::alloc::{AllocError, Global};
 
@@ -51,7 +50,7 @@ pub struct Cli {
     exclude: Vec<String>,
     file_input: Option<String>,
     input: Vec<String>,
-    table: String,
+    table: Option<String>,
 }
 
 /// The text as an owned one, where there is one.
@@ -165,14 +164,6 @@ fn order(alloc: Global, matches: &ArgMatches<'_>) -> Result<(Option<String>, boo
     }
 }
 
-/// The file of the table of languages.
-fn table(alloc: Global, matches: &ArgMatches<'_>) -> Result<String, AllocError>
-    ensures { IfOk result (λ t. string_bytes t
-        ≡ unwrap_or (first_of (codes "table") (rows_of (found_of matches.now))) default_table) }
-{
-    String::from_str(alloc, text(matches, "table").unwrap_or(DEFAULT_TABLE))
-}
-
 impl Cli {
     /// Reads the words of a command line, of which the first is the program's name. A refused
     /// command line, and one that asks for help or the version, are errors with the text to be
@@ -216,7 +207,7 @@ impl Cli {
             exclude: values(alloc, matches, "exclude")?,
             file_input: value(alloc, matches, "file_input")?,
             input: inputs(alloc, matches)?,
-            table: table(alloc, matches)?,
+            table: value(alloc, matches, "table")?,
         })
     }
 
@@ -244,10 +235,13 @@ impl Cli {
         }
     }
 
-    /// The file of the table of languages.
-    pub fn table(&self) -> &str
-        ensures { result.now ≡ table_of self.now }
+    /// The file of the table of languages, where one is named.
+    pub fn table(&self) -> Option<&str>
+        ensures { option_map (λ t. t.now) result ≡ table_of self.now }
     {
-        self.table.as_str()
+        match &self.table {
+            Some(text) => Some(text.as_str()),
+            None => None,
+        }
     }
 }

@@ -32,7 +32,7 @@ Options:
   -e, --exclude <exclude>        Leaves out all files and folders that match the pattern; may be given several times.
       --hidden                   Counts hidden files too.
   -i, --input <file_input>       Adds the statistics of an earlier run, written by -o json: a file, or stdin.
-      --table <table>            The file of the table of languages. [default: languages.json]
+      --table <table>            The file of the table of languages; without it the one installed with the program, else languages.json in the current folder.
   -v, --verbose...               Shows more notes: -v warnings, -vv and -vvv everything; without it errors alone.
   -h, --help                     Print help
   -V, --version                  Print version

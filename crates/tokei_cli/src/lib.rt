@@ -9,6 +9,7 @@ mod options;
 mod output_error;
 mod overriding;
 mod printing;
+mod refusing;
 mod version;
 
 pub use cli::Cli;
@@ -18,4 +19,5 @@ pub use options::command;
 pub use output_error::OutputError;
 pub use overriding::OverrideConfig;
 pub use printing::{print_input_parse_failure, print_supported_languages};
+pub use refusing::{refused_because, refused_word};
 pub use version::crate_version;

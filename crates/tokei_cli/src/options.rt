@@ -8,9 +8,6 @@ use crate::version::VERSION;
 use clap::{Arg, ArgAction, Command, value_parser};
 use std::alloc::{AllocError, Global};
 
-/// The table of languages, where no option names another.
-pub(crate) const DEFAULT_TABLE: &str = "languages.json";
-
 /// An option without a value.
 fn flag<'a>(alloc: Global, name: &'a str, help: &'a str) -> Arg<'a>
     ensures rule { rule_of result ≡ switch name.entry.now }
@@ -158,8 +155,10 @@ fn with_files<'a>(alloc: Global, command: Command<'a>) -> Result<Command<'a>, Al
         .short('i')
         .action(ArgAction::Set)
         .help("Adds the statistics of an earlier run, written by -o json: a file, or stdin.");
-    let table = value(alloc, "table", "The file of the table of languages.").default_value(
-        DEFAULT_TABLE,
+    let table = value(
+        alloc,
+        "table",
+        "The file of the table of languages; without it the one installed with the program, else languages.json in the current folder.",
     );
     command.arg(exclude)?.arg(hidden)?.arg(earlier)?.arg(table)
 }

@@ -1,53 +1,34 @@
 //! Counts the blank, code and comment lines of files and folders, by language, and prints them.
 #![tactic(auto)]
 
-use std::alloc::AllocError;
-use std::env::VarError;
+mod command_line;
+mod surroundings;
+mod unstarted;
+
+use command_line::words;
+use std::io;
 use std::io::{BufWriter, Write};
 use std::process::ExitCode;
-use std::{env, io};
+use surroundings::env_of;
 use tokei_io::Counted;
 use tokei_program::{Env, program};
 use tokei_real::RealFolders;
-
-/// The words of the command line, of which the first is the program's name.
-fn words(rt: &HostRuntime) -> io::Result<Vec<String>> {
-    Ok(env::args(rt)?.collect(rt.alloc())?)
-}
-
-/// The text of an environment variable; none where it isn't set or is no text. It fails where
-/// memory runs out.
-fn variable(rt: &HostRuntime, name: &str) -> io::Result<Option<String>> {
-    match env::var(rt, name) {
-        Ok(text) => Ok(Some(text)),
-        Err(VarError::OutOfMemory) => Err(io::Error::from(AllocError)),
-        Err(_) => Ok(None),
-    }
-}
-
-/// The variables that the program asks for.
-fn variables(rt: &HostRuntime) -> io::Result<Env> {
-    let xdg_config_home = variable(rt, "XDG_CONFIG_HOME")?;
-    Ok(Env {
-        xdg_config_home,
-        home: variable(rt, "HOME")?,
-    })
-}
+use unstarted::Unstarted;
 
 /// Writes out what is left of the output, and answers the program's status; where that fails, it
 /// says so, and answers that of a failure.
-fn flushed<W: Write, E: Write>(status: u8, out: &mut W, err: &mut E) -> ExitCode {
+fn flushed<W: Write>(rt: &HostRuntime, status: u8, out: &mut W) -> ExitCode {
     match out.flush() {
         Ok(()) => ExitCode::from(status),
-        Err(_) => {
-            let _ = err.write_all(b"Error: the output can't be written\n");
+        Err(error) => {
+            let _ = eprintln!(rt; "Error: the output can't be written: {error}");
             ExitCode::FAILURE
         }
     }
 }
 
 /// Runs the program with these words over real folders, and with the real ends.
-fn ended(rt: &HostRuntime, words: &[&str], variables: &Env) -> io::Result<ExitCode> {
+fn ended(rt: &HostRuntime, words: &[&str], env: &Env) -> io::Result<ExitCode> {
     let mut folders = RealFolders::new(rt.clone()?);
     let mut out = Counted::new(BufWriter::new(rt.alloc(), io::writer(rt))?);
     let mut input = Counted::new(rt.reader());
@@ -56,23 +37,40 @@ fn ended(rt: &HostRuntime, words: &[&str], variables: &Env) -> io::Result<ExitCo
     let status = program(
         rt.alloc(),
         words,
-        variables,
+        env,
         &mut folders,
         &mut input,
         &mut out,
         &mut err,
     );
-    Ok(flushed(status, &mut out.inner, &mut err.inner))
+    Ok(flushed(rt, status, &mut out.inner))
 }
 
-/// The same with the variables that are set.
-fn run_program(rt: &HostRuntime, words: &[String]) -> io::Result<ExitCode> {
-    let words: Vec<&str> = words.iter().map(|word| word.as_str()).collect(rt.alloc())?;
-    let variables = variables(rt)?;
-    ended(rt, &words, &variables)
+/// Runs the program with the words that it was started with, in its surroundings.
+fn run_program(rt: &HostRuntime) -> Result<ExitCode, Unstarted> {
+    let all = words(rt)?;
+    let words: Vec<&str> = all.iter().map(|word| word.as_str()).collect(rt.alloc())?;
+    let env = env_of(rt)?;
+    Ok(ended(rt, &words, &env)?)
 }
 
-fn main(rt: HostRuntime) -> io::Result<ExitCode> {
-    let words = words(&rt)?;
-    run_program(&rt, &words)
+/// Says why the program isn't run, and answers the status of that.
+fn told(rt: &HostRuntime, why: &Unstarted) -> ExitCode {
+    match why {
+        Unstarted::Refused(text) => {
+            let _ = eprint!(rt; "{text}");
+            ExitCode::from(2)
+        }
+        Unstarted::Failed(error) => {
+            let _ = eprintln!(rt; "Error: {error}");
+            ExitCode::FAILURE
+        }
+    }
+}
+
+fn main(rt: HostRuntime) -> ExitCode {
+    match run_program(&rt) {
+        Ok(status) => status,
+        Err(why) => told(&rt, &why),
+    }
 }

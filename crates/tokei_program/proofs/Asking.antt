@@ -1,16 +1,20 @@
 -- What a command line asks for is written, where the list or the counts are.
 use Rattle.std.proofs.Common.{◌≡◌, ◌≢◌, ℕ, List, [], true, false, Option, Result, Ok, Err, IfOk, OnOk, String, inr, string_bytes, sym, subst}
 use Rattle.std.specs.Global.{Global}
-use Rattle.tokei_cli.specs.CommandLines.{inputs_of}
+use Rattle.tokei_cli.specs.CommandLines.{excludes_of, inputs_of}
 use Rattle.tokei_cli.specs.Lines.{IsLineOf}
 use Rattle.tokei_cli.specs.declared.cli.Cli.{Cli}
 use Rattle.tokei_folders.specs.Tree.{Tree}
-use Rattle.tokei_program.specs.Beside.{IsBeside, ShowsNotes}
+use Rattle.tokei_program.specs.Beside.{IsBeside, ShowsAsked, ShowsBy, ShowsNotes, Tables}
 use Rattle.tokei_program.specs.declared.environment.Env.{Env}
+use Rattle.tokei_program.specs.NotesText.{passed_text}
 use Rattle.tokei_program.specs.Writing.{Writes, WritesAsked, WritesBy, WritesCounts, WritesList}
+use Rattle.tokei_table.specs.Row.{Row}
+use Rattle.tokei_walk.specs.declared.kept_file.Note.{Note}
+use Rattle.tokei_walk.specs.Notes.{Grows, notes_of_excludes}
 
 module _ {A E : Type 0} (env : Env) (t : Tree) (c : Cli) (input old new : Option (List ℕ)) where
-  pub asked_by_list : (r : Result A E) → inputs_of c ≢ [] → c.print_languages ≡ true → OnOk r (WritesList c t old new) → OnOk r (WritesAsked c env t input old new)
+  pub asked_by_list : (r : Result A E) → inputs_of c ≢ [] → c.print_languages ≡ true → OnOk r (WritesList c env t old new) → OnOk r (WritesAsked c env t input old new)
   asked_by_list (Err e) named lists written = tt
   asked_by_list (Ok a) named lists written = record {
     inputs = named;
@@ -34,8 +38,33 @@ either_is words c env t input old new (Ok a) spelled written = inr (record {
   asked = written;
 })
 
--- notes are shown as the command line of the words wants them
-pub beside_is : {E : Type 0} (words : List (List ℕ)) (c : Cli) (r : Result (String Global) E) → IsLineOf words c
-    → IfOk r (λ text. ShowsNotes c (string_bytes text)) → IfOk r (λ text. IsBeside words (string_bytes text))
-beside_is words c (Err e) spelled shows = tt
-beside_is words c (Ok text) spelled shows = inr (record { line = c; spelled = spelled; shows = shows })
+module _ {E : Type 0} (tables : Tables) (c : Cli) where
+  -- nothing is said beside the list
+  pub beside_list : (r : Result (String Global) E) → c.print_languages ≡ true → IfOk r (λ text. string_bytes text ≡ [])
+      → IfOk r (λ text. ShowsAsked tables c (string_bytes text))
+  beside_list (Err e) lists silent = tt
+  beside_list (Ok text) lists silent = subst (λ b. ShowsBy tables b c (string_bytes text)) (sym lists) silent
+
+  -- notes are said beside the counts
+  pub beside_counts : (r : Result (String Global) E) → c.print_languages ≡ false
+      → IfOk r (λ text. ShowsNotes tables c (string_bytes text)) → IfOk r (λ text. ShowsAsked tables c (string_bytes text))
+  beside_counts (Err e) counts shows = tt
+  beside_counts (Ok text) counts shows = subst (λ b. ShowsBy tables b c (string_bytes text)) (sym counts) shows
+
+  -- notes are shown as the command line of the words wants them
+  pub beside_is : (words : List (List ℕ)) (old new : Option (List ℕ)) (r : Result (String Global) E) → IsLineOf words c
+      → IfOk r (λ text. ShowsAsked tables c (string_bytes text)) → IfOk r (λ text. IsBeside tables words old new (string_bytes text))
+  beside_is words old new (Err e) spelled shows = tt
+  beside_is words old new (Ok text) spelled shows = inr (record { line = c; spelled = spelled; shows = shows })
+
+-- the notes of a run over the command line's excludes are shown
+pub notes_shown : (tables : Tables) (c : Cli) (rows : List Row) (excludes : List (List ℕ)) (notes : List Note) (text : List ℕ)
+    → tables c rows → excludes ≡ excludes_of c → Grows (notes_of_excludes excludes) notes → text ≡ passed_text rows c notes
+    → ShowsNotes tables c text
+notes_shown tables c rows excludes notes text of_table are grows shown = record {
+  rows = rows;
+  are = of_table;
+  notes = notes;
+  first = subst (λ e. Grows (notes_of_excludes e) notes) are grows;
+  shown = shown;
+}

@@ -1,28 +1,67 @@
--- What the program says beside what was asked for: notes of what a run passed over.
-use Rattle.std.specs.Prelude.{◌≡◌, ℕ, List, [], Option, ◌⊎◌}
+-- What the program says beside what was asked for: notes of what was passed over.
+use Rattle.std.specs.Prelude.{◌≡◌, ℕ, List, [], Bool, true, false, Option, Some, Ok, ◌⊎◌, ⊤}
 use Rattle.std.specs.Io.KnownBytes.{Appends}
+use Rattle.tokei_cli.specs.CommandLines.{excludes_of}
 use Rattle.tokei_cli.specs.declared.cli.Cli.{Cli}
 use Rattle.tokei_cli.specs.Lines.{IsLineOf}
-use Rattle.tokei_program.specs.NotesText.{notes_text}
+use Rattle.tokei_folders.specs.Tree.{Tree}
+use Rattle.tokei_program.specs.declared.environment.Env.{Env}
+use Rattle.tokei_program.specs.NotesText.{passed_text}
+use Rattle.tokei_program.specs.Tables.{place_of_table, table_at}
+use Rattle.tokei_program.specs.Writing.{WritesText}
+use Rattle.tokei_table.specs.Row.{Row}
 use Rattle.tokei_walk.specs.declared.kept_file.Note.{Note}
+use Rattle.tokei_walk.specs.Notes.{Grows, notes_of_excludes}
 
--- a text shows notes as the command line wants them
-pub record ShowsNotes (c : Cli) (text : List ℕ) : Type 0 where
+-- which rows are those of a command line's table
+abbrev pub Tables : Type 1
+Tables = Cli → List Row → Type 0
+
+-- any, where the folders tell no tree
+abbrev pub AnyTable : Tables
+AnyTable c rows = ⊤
+
+-- those of the file, in a known tree
+abbrev pub TableIn : Env → Tree → Tables
+TableIn env t c rows = table_at t (place_of_table env c) ≡ Some (Ok rows)
+
+-- a text shows what a command line passes over: the notes of a run, of which those of the excludes
+-- come first, and the words that name no language of the table
+pub record ShowsNotes (tables : Tables) (c : Cli) (text : List ℕ) : Type 0 where
+  pub rows : List Row
+  pub are : tables c rows
   pub notes : List Note
-  pub shown : text ≡ notes_text c.verbose notes
+  pub first : Grows (notes_of_excludes (excludes_of c)) notes
+  pub shown : text ≡ passed_text rows c notes
 
--- a text shows notes as the command line of these words wants them
-pub record ShowsNotesOf (words : List (List ℕ)) (text : List ℕ) : Type 0 where
+-- beside the list of languages, where it is asked for, nothing is said, and else notes
+abbrev pub ShowsBy : Tables → Bool → Cli → List ℕ → Type 0
+ShowsBy tables true c text = text ≡ []
+ShowsBy tables false c text = ShowsNotes tables c text
+
+-- a text is what is said beside what a command line asks for
+abbrev pub ShowsAsked : Tables → Cli → List ℕ → Type 0
+ShowsAsked tables c text = ShowsBy tables c.print_languages c text
+
+-- a text is what is said beside what the command line of these words asks for
+pub record ShowsLine (tables : Tables) (words : List (List ℕ)) (text : List ℕ) : Type 0 where
   pub line : Cli
   pub spelled : IsLineOf words line
-  pub shows : ShowsNotes line text
+  pub shows : ShowsAsked tables line text
 
--- a text is what is said beside the answer to these words: nothing, or notes
-abbrev pub IsBeside : List (List ℕ) → List ℕ → Type 0
-IsBeside words text = (text ≡ []) ⊎ ShowsNotesOf words text
+-- nothing is said, where a writer has gained the text of help or of the version
+pub record IsSilent (old new : Option (List ℕ)) (text : List ℕ) : Type 0 where
+  pub asked : WritesText old new
+  pub empty : text ≡ []
 
--- behind what stood there a writer has such a text, and nothing else
-pub record SaysBeside (words : List (List ℕ)) (old new : Option (List ℕ)) : Type 0 where
+-- a text is what is said beside the answer to these words, which a writer has gained
+abbrev pub IsBeside : Tables → List (List ℕ) → Option (List ℕ) → Option (List ℕ) → List ℕ → Type 0
+IsBeside tables words old new text = IsSilent old new text ⊎ ShowsLine tables words text
+
+-- behind what stood there the second writer has what is said beside the answer, which the first one
+-- has gained, and nothing else
+pub record SaysBeside (tables : Tables) (words : List (List ℕ))
+    (old_out new_out old_err new_err : Option (List ℕ)) : Type 0 where
   pub text : List ℕ
-  pub beside : IsBeside words text
-  pub appended : Appends old new text
+  pub beside : IsBeside tables words old_out new_out text
+  pub appended : Appends old_err new_err text

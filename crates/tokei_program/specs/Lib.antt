@@ -10,7 +10,9 @@ pub mod Messages
 pub mod NoteLines
 pub mod NotesText
 pub mod Roots
+pub mod Shown
 pub mod Statuses
 pub mod Tables
+pub mod Types
 pub mod Words
 pub mod Writing

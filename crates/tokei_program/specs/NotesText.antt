@@ -1,13 +1,22 @@
--- The lines of what a run passed over.
-use Rattle.std.specs.Prelude.{ℕ, List, [], ◌∷◌, ◌++◌, flat_map}
+-- The lines of what was passed over.
+use Rattle.std.specs.Prelude.{ℕ, List, [], ◌∷◌, ◌++◌, flat_map, map}
+use Rattle.tokei_cli.specs.declared.cli.Cli.{Cli}
 use Rattle.tokei_program.specs.NoteLines.{filter_of, lines_of}
+use Rattle.tokei_program.specs.Shown.{shown_note}
+use Rattle.tokei_program.specs.Types.{type_lines}
 use Rattle.tokei_table.specs.Bytes.{newline}
+use Rattle.tokei_table.specs.Row.{Row}
 use Rattle.tokei_walk.specs.declared.kept_file.Note.{Note}
 
 -- a line and its newline
 abbrev pub ended : List ℕ → List ℕ
 ended line = line ++ newline ∷ []
 
--- the lines of the notes that are shown where `--verbose` was given so often
-abbrev pub notes_text : ℕ → List Note → List ℕ
-notes_text verbose notes = flat_map ended (lines_of (filter_of verbose) notes)
+-- the lines that a command line shows: of a run's notes, and of its own words that name no language
+abbrev pub passed_lines : List Row → Cli → List Note → List (List ℕ)
+passed_lines rows c notes =
+    lines_of (filter_of c.verbose) (map shown_note notes) ++ type_lines rows c
+
+-- these lines as a text
+abbrev pub passed_text : List Row → Cli → List Note → List ℕ
+passed_text rows c notes = flat_map ended (passed_lines rows c notes)

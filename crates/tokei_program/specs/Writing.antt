@@ -3,7 +3,7 @@ use Rattle.std.specs.Prelude.{◌≡◌, ◌≢◌, ℕ, List, [], Bool, true, f
 use Rattle.std.specs.Io.KnownBytes.{Appends}
 use Rattle.tokei_job.specs.declared.job.Job.{Job}
 use Rattle.tokei.specs.Output.{Outputs}
-use Rattle.tokei_cli.specs.CommandLines.{inputs_of, table_of}
+use Rattle.tokei_cli.specs.CommandLines.{inputs_of}
 use Rattle.tokei_cli.specs.declared.cli.Cli.{Cli}
 use Rattle.tokei_cli.specs.Lines.{IsLineOf}
 use Rattle.tokei_cli.specs.Printing.{languages_text}
@@ -11,28 +11,29 @@ use Rattle.tokei_cli.specs.Texts.{IsAskedFor}
 use Rattle.tokei_folders.specs.Tree.{Tree}
 use Rattle.tokei_program.specs.declared.environment.Env.{Env}
 use Rattle.tokei_program.specs.Jobs.{IsJobOf}
-use Rattle.tokei_program.specs.Tables.{table_at}
+use Rattle.tokei_program.specs.Tables.{place_of_table, table_at}
 use Rattle.tokei_table.specs.Row.{Row}
 
 -- behind what stood there a writer has what the run of a command line outputs
 pub record WritesCounts (c : Cli) (env : Env) (t : Tree)
     (input old new : Option (List ℕ)) : Type 0 where
   pub rows : List Row
-  pub table : table_at t (table_of c) ≡ Some (Ok rows)
+  pub table : table_at t (place_of_table env c) ≡ Some (Ok rows)
   pub job : Job
   pub is : IsJobOf rows c env t input job
   pub outputs : Outputs job.wanted rows job t old new
 
 -- behind what stood there a writer has the list of the table's languages
-pub record WritesList (c : Cli) (t : Tree) (old new : Option (List ℕ)) : Type 0 where
+pub record WritesList (c : Cli) (env : Env) (t : Tree)
+    (old new : Option (List ℕ)) : Type 0 where
   pub rows : List Row
-  pub table : table_at t (table_of c) ≡ Some (Ok rows)
+  pub table : table_at t (place_of_table env c) ≡ Some (Ok rows)
   pub appended : Appends old new (languages_text rows)
 
 -- the list, where it is asked for, and else the counts
 abbrev pub WritesBy : Bool → Cli → Env → Tree → Option (List ℕ) → Option (List ℕ) → Option (List ℕ)
     → Type 0
-WritesBy true c env t input old new = WritesList c t old new
+WritesBy true c env t input old new = WritesList c env t old new
 WritesBy false c env t input old new = WritesCounts c env t input old new
 
 -- what a command line asks for is written

@@ -1,15 +1,24 @@
 //! The words of a command line that are read by the types that they name.
 ghost use Rattle.std.specs.Prelude.{◌≡◌, IfOk};
-ghost use Rattle.tokei_program.specs.Choices.{Chooses, wanted_of};
+ghost use Rattle.tokei_program.specs.Choices.{Chooses, GivesFormat, wanted_of};
 ghost use Rattle.tokei_program.specs.Words.{ReadsAs};
 
 use crate::ending::Ending;
-use std::alloc::Global;
+use std::alloc::{AllocError, Global};
 use std::str::FromStr;
-use tokei_cli::Cli;
-use tokei_earlier::Format;
+use tokei_cli::{Cli, refused_because, refused_word};
+use tokei_earlier::{Format, FormatError};
 use tokei_job::Wanted;
 use tokei_options::{NumberFormatStyle, Sort, Streaming};
+
+/// The words that choose a column.
+const COLUMNS: [&str; 5] = ["files", "lines", "blanks", "code", "comments"];
+
+/// The words that choose the form of a stream.
+const STREAMING: [&str; 2] = ["simple", "json"];
+
+/// The words that choose how numbers are shown.
+const STYLES: [&str; 4] = ["plain", "commas", "dots", "underscores"];
 
 /// What the words of a command line choose.
 #[derive(Drop)]
@@ -21,7 +30,12 @@ pub struct Choices {
 
 /// What a word is read as, where there is a word; refused with a text that names the word and its
 /// option.
-fn read<T: FromStr>(alloc: Global, option: &str, word: &Option<String>) -> Result<Option<T>, Ending>
+fn read<T: FromStr>(
+    alloc: Global,
+    option: &str,
+    possible: &[&str],
+    word: &Option<String>,
+) -> Result<Option<T>, Ending>
 where
     T::Err: Drop,
     ensures { IfOk result (ReadsAs T.from_str_gives word.now) }
@@ -31,13 +45,27 @@ where
     };
     match T::from_str(word.as_str()) {
         Ok(value) => Ok(Some(value)),
-        Err(_) => {
-            let text = format!(in alloc;
-                "error: invalid value '{word}' for '--{option}'\n\nFor more information, try '--help'.\n"
-            )?;
-            Err(Ending::Refused(text))
+        Err(_) => Err(Ending::Refused(refused_word(alloc, option, word.as_str(), possible)?)),
+    }
+}
+
+/// That the format of this name isn't built in.
+fn not_built(alloc: Global, word: &str) -> Result<String, AllocError> {
+    let cause = "this format isn't built in";
+    refused_because(alloc, "output", word, cause, Format::supported())
+}
+
+/// The format that a word names, where there is a word; refused with a text that says so where it
+/// names one that isn't built in.
+fn output(alloc: Global, word: &Option<String>) -> Result<Option<Format>, Ending>
+    ensures { IfOk result (ReadsAs GivesFormat word.now) }
+{
+    if let Some(text) = word {
+        if matches!(Format::from_str(text.as_str()), Err(FormatError::NotBuilt)) {
+            return Err(Ending::Refused(not_built(alloc, text.as_str())?));
         }
     }
+    read::<Format>(alloc, "output", Format::supported(), word)
 }
 
 /// What is written: a stream before a document, and a document before the report.
@@ -57,11 +85,11 @@ impl Choices {
     pub fn of(alloc: Global, cli: &Cli) -> Result<Choices, Ending>
         ensures { IfOk result (λ c. Chooses cli.now c.wanted c.sort c.numbers) }
     {
-        let output = read::<Format>(alloc, "output", &cli.output)?;
-        let streaming = read::<Streaming>(alloc, "streaming", &cli.streaming)?;
+        let output = output(alloc, &cli.output)?;
+        let streaming = read::<Streaming>(alloc, "streaming", &STREAMING, &cli.streaming)?;
         let option = if cli.sort_reverse { "rsort" } else { "sort" };
-        let sort = read::<Sort>(alloc, option, &cli.sort)?;
-        let numbers = read::<NumberFormatStyle>(alloc, "num-format", &cli.number_format)?;
+        let sort = read::<Sort>(alloc, option, &COLUMNS, &cli.sort)?;
+        let numbers = read::<NumberFormatStyle>(alloc, "num-format", &STYLES, &cli.number_format)?;
         Ok(Choices {
             wanted: wanted(streaming, output),
             sort,

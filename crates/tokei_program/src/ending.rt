@@ -14,7 +14,7 @@ pub enum Ending {
     /// The command line is refused. The text is for standard error.
     #[error("{0}")]
     Refused(String),
-    /// The file of the table can't be read.
+    /// The file of the table can't be read: its place, and why.
     #[error("the table of languages can't be read: {0}")]
     NoTable(String),
     /// The table is refused.

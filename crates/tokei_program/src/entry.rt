@@ -3,7 +3,7 @@ ghost use Rattle.std.specs.Prelude.{◌≡◌, ◌≢◌, ◌<◌, ◌≤◌, []
 ghost use Rattle.tokei_cli.specs.CommandLines.{inputs_of};
 ghost use Rattle.tokei_folders.specs.Answers.{Told};
 ghost use Rattle.tokei_program.specs.Choices.{Chooses};
-ghost use Rattle.tokei_program.specs.Beside.{IsBeside, SaysBeside, ShowsNotes};
+ghost use Rattle.tokei_program.specs.Beside.{AnyTable, IsBeside, SaysBeside, ShowsAsked, ShowsNotes, TableIn};
 ghost use Rattle.tokei_program.specs.Messages.{Says};
 ghost use Rattle.tokei_program.specs.Statuses.{status_of};
 ghost use Rattle.tokei_program.specs.Writing.{Writes, WritesAsked, WritesCounts, WritesList};
@@ -12,7 +12,7 @@ ghost use Rattle.tokei_folders.specs.AsTheyWere.{SameTree};
 use crate::choices::Choices;
 use crate::ending::Ending;
 use crate::environment::Env;
-use crate::notes::notes_text;
+use crate::notes::passed_text;
 use crate::preparing::{prepared, table_of};
 use crate::saying::{put, say};
 use std::alloc::Global;
@@ -34,14 +34,16 @@ fn counted<F: Folders, S: Source, W: Sink>(
     ensures same { SameTree F.tree folders.old folders.new }
     ensures told { Told (F.tree folders.old) (λ t. OnOk result (WritesCounts
         cli.now env.now t (S.remaining input.old) (W.contents out.old) (W.contents out.new))) }
-    ensures beside { IfOk result (λ text. ShowsNotes cli.now (string_bytes text)) }
+    ensures beside { IfOk result (λ text. ShowsNotes AnyTable cli.now (string_bytes text)) }
+    ensures noted { Told (F.tree folders.old) (λ t. IfOk result (λ text.
+        ShowsNotes (TableIn env.now t) cli.now (string_bytes text))) }
     ensures fault { W.faults out.old < u64.MAX → OnOk result (W.faults out.new ≡ W.faults out.old) }
     ensures failed { IfErr result (λ e. status_of e ≡ 1) }
 {
-    let table = table_of(alloc, cli, folders)?;
+    let table = table_of(alloc, cli, env, folders)?;
     let job = prepared(alloc, cli, choices, env, &table, folders, input)?;
     let notes = run(alloc, &table, folders, &job, out)?;
-    let text = notes_text(alloc, &notes, cli.verbose)?;
+    let text = passed_text(alloc, &table, cli, &notes)?;
     Ok(text)
 }
 
@@ -49,17 +51,18 @@ fn counted<F: Folders, S: Source, W: Sink>(
 fn listed<F: Folders, W: Sink>(
     alloc: Global,
     cli: &Cli,
+    env: &Env,
     folders: &mut F,
     out: &mut W,
 ) -> Result<String, Ending>
     ensures same { SameTree F.tree folders.old folders.new }
     ensures told { Told (F.tree folders.old) (λ t. OnOk result (WritesList
-        cli.now t (W.contents out.old) (W.contents out.new))) }
-    ensures beside { IfOk result (λ text. ShowsNotes cli.now (string_bytes text)) }
+        cli.now env.now t (W.contents out.old) (W.contents out.new))) }
+    ensures beside { IfOk result (λ text. string_bytes text ≡ []) }
     ensures fault { W.faults out.old < u64.MAX → OnOk result (W.faults out.new ≡ W.faults out.old) }
     ensures failed { IfErr result (λ e. status_of e ≡ 1) }
 {
-    let table = table_of(alloc, cli, folders)?;
+    let table = table_of(alloc, cli, env, folders)?;
     print_supported_languages(alloc, &table, out)?;
     Ok(String::new(alloc))
 }
@@ -78,7 +81,9 @@ fn carry_out<F: Folders, S: Source, W: Sink>(
     ensures same { SameTree F.tree folders.old folders.new }
     ensures told { Told (F.tree folders.old) (λ t. OnOk result (WritesAsked
         cli.now env.now t (S.remaining input.old) (W.contents out.old) (W.contents out.new))) }
-    ensures beside { IfOk result (λ text. ShowsNotes cli.now (string_bytes text)) }
+    ensures beside { IfOk result (λ text. ShowsAsked AnyTable cli.now (string_bytes text)) }
+    ensures noted { Told (F.tree folders.old) (λ t. IfOk result (λ text.
+        ShowsAsked (TableIn env.now t) cli.now (string_bytes text))) }
     ensures fault { W.faults out.old < u64.MAX → OnOk result (W.faults out.new ≡ W.faults out.old) }
     ensures unwritten { IfErr result (λ e. status_of e ≡ 2 → out.new ≡ out.old) }
     ensures unread { IfErr result (λ e. status_of e ≡ 2
@@ -86,7 +91,7 @@ fn carry_out<F: Folders, S: Source, W: Sink>(
 {
     let choices = Choices::of(alloc, cli)?;
     if cli.print_languages {
-        listed(alloc, cli, folders, out)
+        listed(alloc, cli, env, folders, out)
     } else {
         counted(alloc, cli, choices, env, folders, input, out)
     }
@@ -105,8 +110,11 @@ fn answer_words<F: Folders, S: Source, W: Sink>(
     ensures told { Told (F.tree folders.old) (λ t. OnOk result
         (Writes (map (λ w. w.now) words.now) env.now t (S.remaining input.old) (W.contents out.old)
         (W.contents out.new))) }
-    ensures beside { IfOk result (λ text. IsBeside (map (λ w. w.now) words.now)
-        (string_bytes text)) }
+    ensures beside { IfOk result (λ text. IsBeside AnyTable (map (λ w. w.now) words.now)
+        (W.contents out.old) (W.contents out.new) (string_bytes text)) }
+    ensures noted { Told (F.tree folders.old) (λ t. IfOk result (λ text.
+        IsBeside (TableIn env.now t) (map (λ w. w.now) words.now)
+        (W.contents out.old) (W.contents out.new) (string_bytes text))) }
     ensures fault { W.faults out.old < u64.MAX → OnOk result (W.faults out.new ≡ W.faults out.old) }
     ensures unwritten { IfErr result (λ e. status_of e ≡ 2 → out.new ≡ out.old) }
     ensures unread { IfErr result (λ e. status_of e ≡ 2
@@ -147,7 +155,11 @@ pub fn program<F: Folders, S: Source, W: Sink, E: Sink>(
         → Writes (map (λ w. w.now) words.now) env.now t (S.remaining input.old) (W.contents out.old)
         (W.contents out.new)) }
     ensures beside { result ≡ 0
-        → SaysBeside (map (λ w. w.now) words.now) (E.contents err.old) (E.contents err.new) }
+        → SaysBeside AnyTable (map (λ w. w.now) words.now) (W.contents out.old) (W.contents out.new)
+        (E.contents err.old) (E.contents err.new) }
+    ensures noted { Told (F.tree folders.old) (λ t. result ≡ 0
+        → SaysBeside (TableIn env.now t) (map (λ w. w.now) words.now)
+        (W.contents out.old) (W.contents out.new) (E.contents err.old) (E.contents err.new)) }
     ensures status { result ≤ 2 }
     ensures refused { result ≡ 2 → out.new ≡ out.old }
     ensures unread { result ≡ 2 → (folders.new ≡ folders.old) × (input.new ≡ input.old) }

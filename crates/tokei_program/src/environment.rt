@@ -1,17 +1,21 @@
-//! The variables that the program asks for, and the folders of configuration files that they name.
+//! What the program is told of its surroundings, and the folders of configuration files that they
+//! name.
 ghost use Rattle.std.specs.Prelude.{◌≡◌, IfOk};
 ghost use Rattle.tokei_program.specs.Directories.{AreDirs, config_folder_of, is_absolute, text_of};
 
 use std::alloc::{AllocError, Global};
 use tokei_config::ConfigDirs;
 
-/// The variables that the program asks for, where they are set.
+/// What the program is told of its surroundings: the variables that it asks for, where they are
+/// set, and a table of its own, where it has one.
 #[derive(Drop)]
 pub struct Env {
     /// `XDG_CONFIG_HOME`
     pub xdg_config_home: Option<String>,
     /// `HOME`
     pub home: Option<String>,
+    /// The place of the table of languages that stands where no option names one.
+    pub table: Option<String>,
 }
 
 /// The text as an owned one, where there is one.

@@ -13,6 +13,8 @@ mod note_lines;
 mod notes;
 pub mod preparing;
 mod saying;
+mod shown;
+mod types;
 
 pub use entry::program;
 pub use environment::Env;

@@ -43,7 +43,7 @@ fn words(kind: NoteKind) -> &'static str
 }
 
 /// The levels that are shown where `--verbose` was given so often.
-fn filter(verbose: u8) -> LevelFilter
+pub(crate) fn filter(verbose: u8) -> LevelFilter
     ensures { result ≡ filter_of verbose }
 {
     match verbose {

@@ -1,10 +1,14 @@
-//! The lines of what a run passed over.
-ghost use Rattle.std.specs.Prelude.{◌≡◌, ◌++◌, IfOk, OnOk, string_bytes};
-ghost use Rattle.tokei_program.specs.NotesText.{ended, notes_text};
+//! The lines of what was passed over.
+ghost use Rattle.std.specs.Prelude.{◌≡◌, ◌++◌, IfOk, OnOk, flat_map, map, string_bytes};
+ghost use Rattle.tokei_program.specs.NotesText.{ended, passed_text};
 
 use crate::note_lines::log_notes;
+use crate::shown::shown_notes;
+use crate::types::log_types;
 use log::sink::Lines;
 use std::alloc::{AllocError, Global};
+use tokei_cli::Cli;
+use tokei_table::LanguageTable;
 use tokei_walk::Note;
 
 /// Puts a line and its newline behind the text.
@@ -16,17 +20,33 @@ fn push_line(text: &mut String, line: &str) -> Result<(), AllocError>
     Ok(())
 }
 
-/// The lines of what a run passed over, of those that are shown where `--verbose` was given so
-/// often. It fails where memory runs out.
-pub fn notes_text(alloc: Global, notes: &[Note], verbose: u8) -> Result<String, AllocError>
-    ensures { IfOk result (λ text. string_bytes text ≡ notes_text verbose notes.now) }
+/// The lines, each with its newline.
+fn text_of(alloc: Global, lines: &[String]) -> Result<String, AllocError>
+    ensures { IfOk result (λ text. string_bytes text
+        ≡ flat_map ended (map string_bytes lines.now)) }
 {
-    let mut lines = Lines::new(alloc);
-    log_notes(notes, verbose, &mut lines)?;
     let mut text = String::new(alloc);
-    let shown = lines.as_slice();
-    for line in shown {
+    for line in lines {
         push_line(&mut text, line.as_str())?;
     }
     Ok(text)
+}
+
+/// The lines of what a run passed over, and of the words of its command line that name no language
+/// of the table; of those that are shown where `--verbose` was given so often. It fails where
+/// memory runs out.
+pub fn passed_text(
+    alloc: Global,
+    table: &LanguageTable,
+    cli: &Cli,
+    notes: &[Note],
+) -> Result<String, AllocError>
+    ensures { IfOk result (λ text. string_bytes text
+        ≡ passed_text table.now cli.now notes.now) }
+{
+    let notes = shown_notes(alloc, notes)?;
+    let mut lines = Lines::new(alloc);
+    log_notes(&notes, cli.verbose, &mut lines)?;
+    log_types(alloc, table, cli, &mut lines)?;
+    text_of(alloc, lines.as_slice())
 }

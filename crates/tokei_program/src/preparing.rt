@@ -1,6 +1,6 @@
 //! What a run counts, made of the command line, the environment and the files that they name.
 ghost use Rattle.std.specs.Prelude.{◌≡◌, true, IfErr, IfOk, OnOk, Some, Ok, map, option_map, string_bytes};
-ghost use Rattle.tokei_cli.specs.CommandLines.{file_input_of, inputs_of, table_of as table_named};
+ghost use Rattle.tokei_cli.specs.CommandLines.{excludes_of, file_input_of, inputs_of};
 ghost use Rattle.tokei_folders.specs.Answers.{Told};
 ghost use Rattle.tokei_program.specs.Choices.{Chooses};
 ghost use Rattle.tokei_program.specs.Columns.{columns_of};
@@ -8,7 +8,7 @@ ghost use Rattle.tokei_program.specs.Earlier.{AreEarlier, AreRead, bytes_named};
 ghost use Rattle.tokei_program.specs.Jobs.{IsConfig, IsJob, IsJobOf};
 ghost use Rattle.tokei_program.specs.Roots.{AllStand, stands};
 ghost use Rattle.tokei_program.specs.Statuses.{status_of};
-ghost use Rattle.tokei_program.specs.Tables.{table_at};
+ghost use Rattle.tokei_program.specs.Tables.{place_of_table, table_at};
 ghost use Rattle.tokei_walk.specs.Walks.{texts_of};
 ghost use Rattle.tokei_folders.specs.AsTheyWere.{SameTree};
 
@@ -19,28 +19,69 @@ use std::alloc::{AllocError, Global};
 use tokei_cli::{Cli, OverrideConfig};
 use tokei_config::Config;
 use tokei_earlier::{InputError, add_input};
-use tokei_folders::{Fault, Folders};
+use tokei_folders::{Fault, Folders, Kind};
 use tokei_io::{Counted, Source};
 use tokei_job::Job;
 use tokei_languages::Languages;
 use tokei_options::columns::FALLBACK_ROW_LEN;
 use tokei_table::LanguageTable;
 
-/// The table that the command line names.
+/// The table in the current folder, for where neither the command line nor the environment names
+/// one.
+const DEFAULT_TABLE: &str = "languages.json";
+
+/// The place of the table: that of the option, else that of the environment.
+fn place_of_table<'a>(cli: &'a Cli, env: &'a Env) -> &'a str
+    ensures { result.now ≡ place_of_table env.now cli.now }
+{
+    match (cli.table(), &env.table) {
+        (Some(place), _) => place,
+        (None, Some(place)) => place.as_str(),
+        (None, None) => DEFAULT_TABLE,
+    }
+}
+
+/// Why no table can be read at a place, by what stands there.
+fn cause_at<F: Folders>(folders: &mut F, place: &str) -> Result<&'static str, Ending>
+    ensures same { SameTree F.tree folders.old folders.new }
+    ensures failed { IfErr result (λ e. status_of e ≡ 1) }
+{
+    match folders.kind(place) {
+        Ok(Kind::File) => Ok("the file can't be read"),
+        Ok(Kind::Folder) => Ok("it is a folder"),
+        Ok(Kind::Other) => Ok("it is no file"),
+        Err(Fault::Refused) => Ok("nothing can be found there"),
+        Err(Fault::Memory) => Err(Ending::Memory),
+    }
+}
+
+/// That no table can be read at a place, and why.
+fn no_table<F: Folders>(alloc: Global, folders: &mut F, place: &str) -> Result<Ending, Ending>
+    ensures same { SameTree F.tree folders.old folders.new }
+    ensures ends { IfOk result (λ e. status_of e ≡ 1) }
+    ensures failed { IfErr result (λ e. status_of e ≡ 1) }
+{
+    let cause = cause_at(folders, place)?;
+    Ok(Ending::NoTable(format!(in alloc; "{place}: {cause}")?))
+}
+
+/// The table that the command line names, else the one of the environment.
 pub fn table_of<F: Folders>(
     alloc: Global,
     cli: &Cli,
+    env: &Env,
     folders: &mut F,
 ) -> Result<LanguageTable, Ending>
     ensures same { SameTree F.tree folders.old folders.new }
     ensures told { Told (F.tree folders.old) (λ t. IfOk result
-        (λ rows. table_at t (table_named cli.now) ≡ Some (Ok rows))) }
+        (λ rows. table_at t (place_of_table env.now cli.now) ≡ Some (Ok rows))) }
     ensures failed { IfErr result (λ e. status_of e ≡ 1) }
 {
-    match folders.read(cli.table()) {
+    let place = place_of_table(cli, env);
+    match folders.read(place) {
         Ok(bytes) => Ok(LanguageTable::from_json(alloc, &bytes)?),
         Err(Fault::Memory) => Err(Ending::Memory),
-        Err(Fault::Refused) => Err(Ending::NoTable(String::from_str(alloc, cli.table())?)),
+        Err(Fault::Refused) => Err(no_table(alloc, folders, place)?),
     }
 }
 
@@ -212,6 +253,7 @@ pub fn prepared<F: Folders, S: Source>(
 ) -> Result<Job, Ending>
     requires chosen { Chooses cli.now choices.wanted choices.sort choices.numbers }
     ensures same { SameTree F.tree folders.old folders.new }
+    ensures excludes { IfOk result (λ j. texts_of j.ignored.items ≡ excludes_of cli.now) }
     ensures told { Told (F.tree folders.old) (λ t. IfOk result (IsJobOf
         table.now cli.now env.now t (S.remaining input.old))) }
     ensures failed { IfErr result (λ e. status_of e ≡ 1) }

@@ -2,8 +2,8 @@
 use Rattle.std.proofs.Common.{◌∷◌, [], Some, refl, codes}
 use Rattle.std.proofs.lemmas.Result.{IfOk-weaker}
 use Rattle.clap.specs.Words.{app_of, new_rule}
-use Rattle.tokei_cli.specs.Options.{default_table, file_options, lettered, repeated, switch, valued}
-use Rattle.tokei_cli.proofs.Building.{IsOption, acting_is, defaulted_is, helped_is, lettered_is, named_is, option_added}
+use Rattle.tokei_cli.specs.Options.{file_options, lettered, repeated, switch, valued}
+use Rattle.tokei_cli.proofs.Building.{IsOption, acting_is, helped_is, lettered_is, named_is, option_added}
 use Rattle.tokei_cli.proofs.options.with_files.Goals as goal
 
 pub returns : goal.returns
@@ -19,8 +19,7 @@ returns c =
     let earlier : IsOption (record (lettered (codes "i") (valued (codes "file_input"))) { long = Some (codes "input") })
     c.help-earlier.result =
     helped_is _ _ c.action.result _ c.help-earlier.ensures (acting_is _ _ c.short-2.result _ c.action.ensures short) in
-    let table : IsOption (record (valued (codes "table")) { defaults = default_table ∷ [] }) c.default_value-table.result =
-    defaulted_is _ _ c.value-2.result _ c.default_value-table.ensures (c.value-2.ensures.rule, c.value-2.ensures.local) in
+    let table : IsOption (valued (codes "table")) c.value-table.result = (c.value-table.ensures.rule, c.value-table.ensures.local) in
     let with_exclude =
     option_added _ c.action-exclude.result c.args.command c.in_ok-arg.field-0 (app_of c.args.command) exclude c.in_ok-arg.ensures refl in
     let with_hidden =
@@ -28,4 +27,4 @@ returns c =
     let with_earlier =
     option_added _ c.help-earlier.result c.in_ok-arg-2.field-0 c.in_ok-arg-3.field-0 _ earlier c.in_ok-arg-3.ensures with_hidden in
     IfOk-weaker c.arg-4.result _ _
-    (λ r added. option_added _ c.default_value-table.result c.in_ok-arg-3.field-0 r _ table added with_earlier) c.arg-4.ensures
+    (λ r added. option_added _ c.value-table.result c.in_ok-arg-3.field-0 r _ table added with_earlier) c.arg-4.ensures
