@@ -1,7 +1,7 @@
 -- The way along a slot's patterns, from its last one on, and how an index is made.
-use Rattle.std.proofs.Common.{◌≡◌, ◌≢◌, ℕ, suc, ◌+◌, ◌-◌, ◌≤◌, ◌<◌, max, List, [], ◌∷◌, ◌++◌, length, take, set, replicate, get_or, Bool, true, false, true≢false, ◌&&◌, cond, refl, sym, ap, ◌∙◌, arith, eqb-true, eq-eqb, subst, ⊎_elim, get_or-set_same, get_or-set_other}
+use Rattle.std.proofs.Common.{◌≡◌, ◌≢◌, ℕ, suc, ◌+◌, ◌-◌, ◌≤◌, ◌<◌, max, List, [], ◌∷◌, ◌++◌, length, take, set, get_or, Bool, true, false, true≢false, ◌&&◌, cond, refl, sym, ap, ◌∙◌, arith, eqb-true, eq-eqb, subst, ⊎_elim, get_or-set_same, get_or-set_other}
 use Rattle.std.proofs.lemmas.Bool.{cases_lt}
-use Rattle.std.proofs.lemmas.List.{take-take, take_more, get_or-take, length-take, length-take-le, get_or_append_left, get_or_push, get_or_default, length_push, length-set, length-replicate, get_or-replicate, take_all}
+use Rattle.std.proofs.lemmas.List.{take-take, take_more, get_or-take, length-take, length-take-le, get_or_append_left, get_or_push, get_or_default, length_push, length-set}
 use Rattle.tokei_ignore.specs.declared.patterns.Pattern.{Pattern}
 use Rattle.tokei_ignore.specs.Keys.{pattern_key}
 use Rattle.tokei_ignore.specs.Patterns.{fits_entry}
@@ -109,29 +109,6 @@ new_head count ps n heads earlier p own s x h is e l m false t =
     get_or-set_other heads own s (n + 1) 0 other ∙ x.head s m
     ∙ sym (last_head count ps n s p h is false t)
 
-pub index_none : (count : ℕ) (ps : List Pattern) (heads earlier : List ℕ) → heads ≡ replicate (count + 1) 0 → earlier ≡ []
-    → IsIndexOf count ps 0 heads earlier
-index_none count ps heads earlier e none =
-    let long : length heads ≡ count + 1 = ap length e ∙ length-replicate (count + 1) 0 in record {
-      slots = long;
-      each = ap length none;
-      head = λ s h. let m : s < count + 1 = omega (arith, h, long) in ap (λ (hs : List ℕ). get_or hs s 0) e ∙ get_or-replicate (count + 1) s 0 0 m;
-      link = λ i d h. absurd (omega (arith, h));
-    }
-
--- the index of all of them
-pub index_whole : (count : ℕ) (ps : List Pattern) (n : ℕ) (heads earlier : List ℕ) → IsIndexOf count ps n heads earlier
-    → length ps ≤ n → n ≤ length ps → 0 < count → IsIndex ps heads earlier
-index_whole count ps n heads earlier x h l more =
-    let slots = x.slots in
-    let same : length heads - 1 ≡ count = omega (arith, slots) in record {
-      some = omega (arith, slots, more);
-      each = let k = x.each in omega (arith, k, h, l);
-      head = λ s m. x.head s m ∙ ap (last_place (has_slot count s)) (take_all n ps h) ∙ ap (λ (k : ℕ). last_place (has_slot k s) ps) (sym same);
-      link = λ i d m. x.link i d (omega (arith, m, h))
-          ∙ ap (λ (k : ℕ). last_place (has_slot k (slot_of k (pattern_key (get_or ps i d)))) (take i ps)) (sym same);
-    }
-
 pub index_more : (count : ℕ) (ps : List Pattern) (n : ℕ) (heads earlier new_heads more : List ℕ) (p : Pattern) (own led : ℕ)
     → IsIndexOf count ps n heads earlier → n < length ps → p ≡ get_or ps n p → own ≡ slot_of count (pattern_key p)
     → own < length heads → led ≡ get_or heads own 0
@@ -167,11 +144,6 @@ index_more count ps n heads earlier new_heads more p own led x h is e l at eh em
     linked : (i : ℕ) (d : Pattern) → i < n + 1
         → get_or (earlier ++ led ∷ []) i 0 ≡ last_place (has_slot count (slot_of count (pattern_key (get_or ps i d)))) (take i ps)
     linked i d m = ⊎_elim (λ less. old i d less) (λ more. fresh i d (let j : i ≡ n = omega (arith, m, more) in j)) (cases_lt i n)
-
-pub same_index : (ps qs : List Pattern) (heads others earlier before : List ℕ) → ps ≡ qs → heads ≡ others → earlier ≡ before
-    → IsIndex ps heads earlier → IsIndex qs others before
-same_index ps qs heads others earlier before ep eh ee x =
-    subst (λ (b : List ℕ). IsIndex qs others b) ee (subst (λ (h : List ℕ). IsIndex qs h earlier) eh (subst (λ (p : List Pattern). IsIndex p heads earlier) ep x))
 
 pub read_first : (xs : List ℕ) (i x : ℕ) → i < length xs → x ≡ get_or xs i x → x ≡ get_or xs i 0
 read_first xs i x h e = e ∙ get_or_default xs i x 0 h

@@ -1,6 +1,6 @@
 -- What the pieces of a segment tell of a key, the name that they fit tells too, and so for the
 -- segments of a pattern and the names of a path.
-use Rattle.std.proofs.Common.{◌≡◌, ℕ, ◌==◌, ◌&&◌, ◌++◌, List, [], ◌∷◌, Bool, true, false, true≢false, cond, Option, Some, None, option_map, refl, sym, ap, ◌∙◌, subst, eqb-true}
+use Rattle.std.proofs.Common.{◌≡◌, ℕ, ◌==◌, ◌&&◌, ◌++◌, List, [], ◌∷◌, Bool, true, false, true≢false, cond, Option, Some, None, option_map, refl, sym, ap, ◌∙◌, subst, eqb-true, suc, ◌<◌, ◌≤◌, ◌⊎◌, inl, inr, length, arith, lt-ltb, le-ltb}
 use Rattle.std.specs.Str.{chars, IsUtf8}
 use Rattle.std.proofs.lemmas.Str.{encodes-chars}
 use lib.Utf8.{encode, encodes}
@@ -10,7 +10,8 @@ use Rattle.tokei_ignore.specs.declared.pieces.Segment.{Segment}
 use Rattle.tokei_ignore.specs.declared.pieces.Segment.TheVariants.{AnyNames, Name}
 use Rattle.tokei_ignore.specs.Fits.{fits, at_some_end, first_and_rest}
 use Rattle.tokei_ignore.specs.Segments.{spans_characters, fits_character, fits_characters, spans_names, fits_name, fits_names}
-use Rattle.tokei_ignore.specs.Keys.{folded, mixed, onto_byte, onto_bytes, onto_character, onto_name, onto_piece, onto_pieces, onto_slash, onto_path, onto_whole, onto_extension, path_key, whole_key, extension_key, key_of_path, key_of_name, key_of_extension}
+use Rattle.std.proofs.lemmas.Bool.{cases_lt}
+use Rattle.tokei_ignore.specs.Keys.{folded, most_names, onto_names, mixed, onto_byte, onto_bytes, onto_character, onto_name, onto_piece, onto_pieces, onto_slash, onto_path, onto_whole, onto_extension, path_key, whole_key, extension_key, key_of_path, key_of_name, key_of_extension}
 use Rattle.tokei_ignore.proofs.Spans.{cases_or, cases_and}
 
 -- a key that is told by the first is told by the second
@@ -118,11 +119,61 @@ extension_tells : (p : Segment) (name : List ℕ) (s t : Option ℕ) → fits_na
 extension_tells AnyNames name s t e h = absurd (true≢false (sym e))
 extension_tells (Name ps) name s t e h = pieces_tell true ps name None None e (λ k j. j)
 
+bytes_of_none : (bs : List ℕ) → onto_bytes false None bs ≡ None
+bytes_of_none [] = refl
+bytes_of_none (b ∷ bs) = bytes_of_none bs
+
+pieces_of_none : (ps : List Piece) → onto_pieces false None ps ≡ None
+pieces_of_none [] = refl
+pieces_of_none (AnyRun ∷ ps) = pieces_of_none ps
+pieces_of_none (AnyOne ∷ ps) = pieces_of_none ps
+pieces_of_none (Exactly c ∷ ps) = ap (λ (key : Option ℕ). onto_pieces false key ps) (bytes_of_none (encode c)) ∙ pieces_of_none ps
+pieces_of_none (Class turned ranges ∷ ps) = pieces_of_none ps
+
+path_of_none : (ss : List Segment) → folded onto_path None ss ≡ None
+path_of_none [] = refl
+path_of_none (AnyNames ∷ ss) = path_of_none ss
+path_of_none (Name ps ∷ ss) = ap (λ (key : Option ℕ). folded onto_path key ss) (pieces_of_none ps) ∙ path_of_none ss
+
+-- segments that have a path's key fit just as many names
+same_length : (ss : List Segment) (names : List (List ℕ)) (s : Option ℕ) (k : ℕ) → fits_names ss names ≡ true
+    → folded onto_path s ss ≡ Some k → length names ≡ length ss
+same_length [] [] s k e h = refl
+same_length [] (n ∷ ns) s k e h = absurd (true≢false (sym e))
+same_length (AnyNames ∷ ss) names s k e h = absurd (let c : None ≡ Some k = sym (path_of_none ss) ∙ h in cc c)
+same_length (Name ps ∷ ss) [] s k e h = absurd (true≢false (sym e))
+same_length (Name ps ∷ ss) (n ∷ ns) s k e h =
+    ap suc (same_length ss ns (onto_path s (Name ps)) k (cases_and (fits_name (Name ps) n) (fits_names ss ns) e).1 h)
+
+pub long_path : (ss : List Segment) → most_names < length ss → path_key ss ≡ None
+unfolding path_key
+long_path ss h = ap (λ b. cond b None (folded onto_path (Some 3) ss)) (lt-ltb most_names (length ss) h)
+
+pub short_path : (ss : List Segment) → length ss ≤ most_names → path_key ss ≡ folded onto_path (Some 3) ss
+unfolding path_key
+short_path ss h = ap (λ b. cond b None (folded onto_path (Some 3) ss)) (le-ltb most_names (length ss) h)
+
+pub many_names : (names : List (List ℕ)) → most_names < length names → key_of_path names ≡ None
+unfolding key_of_path
+many_names names h = ap (λ b. cond b None (folded onto_names (Some 3) names)) (lt-ltb most_names (length names) h)
+
+pub few_names : (names : List (List ℕ)) → length names ≤ most_names → key_of_path names ≡ folded onto_names (Some 3) names
+unfolding key_of_path
+few_names names h = ap (λ b. cond b None (folded onto_names (Some 3) names)) (le-ltb most_names (length names) h)
+
+path_by_length : (ss : List Segment) (names : List (List ℕ)) → fits_names ss names ≡ true
+    → (most_names < length ss) ⊎ (length ss ≤ most_names) → Tells (path_key ss) (key_of_path names)
+path_by_length ss names e (inl long) k h = absurd (let c : None ≡ Some k = sym (long_path ss long) ∙ h in cc c)
+path_by_length ss names e (inr short) k h =
+    let is : folded onto_path (Some 3) ss ≡ Some k = sym (short_path ss short) ∙ h in
+    let same = same_length ss names (Some 3) k e is in
+    let few : length names ≤ most_names = omega (arith, same, short) in
+    few_names names few
+    ∙ told spans_names fits_name onto_path onto_names path_none path_tells ss names (Some 3) (Some 3) e (λ i j. j) k is
+
 -- a path's key is that of the names which the segments fit
 pub path_told : (ss : List Segment) (names : List (List ℕ)) → fits_names ss names ≡ true → Tells (path_key ss) (key_of_path names)
-unfolding path_key key_of_path
-path_told ss names e =
-    told spans_names fits_name onto_path (λ key name. onto_name false (onto_slash key) name) path_none path_tells ss names (Some 3) (Some 3) e (λ k j. j)
+path_told ss names e = path_by_length ss names e (cases_lt most_names (length ss))
 
 -- and so for the last name
 pub whole_told : (ss : List Segment) (names : List (List ℕ)) → fits_names ss names ≡ true → Tells (whole_key ss) (key_of_name names)

@@ -7,7 +7,7 @@ use Rattle.tokei_ignore.specs.Keys.{pattern_key}
 
 -- so many patterns have an index; fewer are tried one by one
 abbrev pub indexed_from : ℕ
-indexed_from = 4
+indexed_from = 16
 
 -- a place behind one more first item; zero is none
 abbrev pub behind : Bool → ℕ → ℕ

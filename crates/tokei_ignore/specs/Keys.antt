@@ -1,6 +1,6 @@
 -- The keys by which patterns are found: a pattern that fits an entry has no key, or one of the
 -- entry's.
-use Rattle.std.specs.Prelude.{ℕ, ◌+◌, ◌*◌, ◌%◌, ◌^◌, ◌==◌, ◌&&◌, List, [], ◌∷◌, Bool, true, false, Option, Some, None, option_map, encode_utf8, if◌then◌else◌}
+use Rattle.std.specs.Prelude.{ℕ, ◌+◌, ◌*◌, ◌%◌, ◌^◌, ◌==◌, ◌&&◌, List, [], ◌∷◌, Bool, true, false, Option, Some, None, option_map, encode_utf8, length, nat_lt, if◌then◌else◌}
 use Rattle.std.specs.Str.{chars}
 use Rattle.tokei_ignore.specs.declared.pieces.Piece.{Piece}
 use Rattle.tokei_ignore.specs.declared.pieces.Piece.TheVariants.{AnyRun, AnyOne, Exactly, Class}
@@ -64,9 +64,13 @@ abbrev pub onto_extension : Option ℕ → Segment → Option ℕ
 onto_extension key AnyNames = None
 onto_extension key (Name pieces) = onto_pieces true None pieces
 
+-- a path of more names has no key of its own
+abbrev pub most_names : ℕ
+most_names = 4
+
 -- the key of segments that name each name of a path
 unfoldable pub path_key : List Segment → Option ℕ
-path_key = folded onto_path (Some 3)
+path_key ss = if nat_lt most_names (length ss) then None else folded onto_path (Some 3) ss
 
 -- the key of segments that name the last name
 unfoldable pub whole_key : List Segment → Option ℕ
@@ -81,9 +85,13 @@ abbrev pub pattern_key : Pattern → Option ℕ
 pattern_key p =
     or_else (path_key p.segments) (or_else (whole_key p.segments) (extension_key p.segments))
 
+-- a path's key with one more name
+abbrev pub onto_names : Option ℕ → List ℕ → Option ℕ
+onto_names key name = onto_name false (onto_slash key) name
+
 -- the key of an entry's names
 unfoldable pub key_of_path : List (List ℕ) → Option ℕ
-key_of_path = folded (λ key name. onto_name false (onto_slash key) name) (Some 3)
+key_of_path names = if nat_lt most_names (length names) then None else folded onto_names (Some 3) names
 
 -- the key of an entry's last name
 unfoldable pub key_of_name : List (List ℕ) → Option ℕ

@@ -9,7 +9,10 @@ use std::marker::Model;
 use tokei_folders::{Items, Text};
 
 /// So many patterns are indexed; fewer are tried one by one.
-pub const FEW: usize = 4;
+pub const FEW: usize = 16;
+
+/// So many patterns have slots of their own.
+const MOST_SLOTTED: usize = 1_000_000;
 
 /// Where the slots of keys lead, and the patterns: places counted from one, zero for none.
 #[derive(Drop)]
@@ -60,6 +63,14 @@ fn slot_of(count: usize, key: Option<usize>) -> usize
     }
 }
 
+/// How many slots the keys of so many patterns have: more than patterns, so that few share one.
+fn slots_for(patterns: usize) -> usize
+    ensures some { 0 < result }
+    ensures fits { result < usize.MAX }
+{
+    patterns.max(1).min(MOST_SLOTTED) * 8
+}
+
 /// So many slots that lead nowhere.
 fn empty_heads(alloc: Global, count: usize) -> Result<Vec<usize>, AllocError>
     ensures { IfOk result (λ v. v.items ≡ replicate count 0) }
@@ -73,7 +84,7 @@ fn empty_heads(alloc: Global, count: usize) -> Result<Vec<usize>, AllocError>
 fn linked(alloc: Global, list: &[Pattern]) -> Result<Links, AllocError>
     ensures { IfOk result (λ l. IsIndex list.now l.heads.items l.earlier.items) }
 {
-    let count = list.len().max(1);
+    let count = slots_for(list.len());
     let mut heads = empty_heads(alloc, count + 1)?;
     let mut earlier = Vec::new(alloc);
     for (place, pattern) in list.iter().enumerate() {

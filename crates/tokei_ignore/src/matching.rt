@@ -202,6 +202,7 @@ fn name_after_any(segments: &[Segment]) -> Option<&[Piece]>
 
 /// The same; any names and then one, as of a pattern that no slash anchors, are tried at the last
 /// name alone.
+#[inline(always)]
 pub fn fits_names(segments: &[Segment], names: &[Text]) -> bool
     ensures { result ≡ path_fits segments.now names.now }
 {

@@ -245,6 +245,7 @@ impl Pattern {
     }
 
     /// The same, also where there is no name.
+    #[inline(always)]
     pub fn fits(&self, names: &[Text], folder: bool) -> bool
         ensures { result ≡ fits_entry self.now names.now folder }
     {

@@ -5,7 +5,7 @@ use Rattle.tokei_ignore.proofs.indexed_patterns.linked.Goals as goal
 
 pub loop-place-preserved : goal.loop-place-preserved
 loop-place-preserved c =
-    let count = c.max-count.result in
+    let count = c.slots_for-count.result in
     let own = c.slot_of-slot.result in
     let heads = c.loop-place.heads.items in
     let slots = c.loop-place.invariant.slots in
