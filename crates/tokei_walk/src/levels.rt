@@ -5,7 +5,7 @@ ghost use Rattle.tokei_walk.specs.Levels.{patterns_from as level_patterns, decis
 
 use std::alloc::AllocError;
 use tokei_folders::{Items, Text};
-use tokei_ignore::{Pattern, Verdict, verdict_among};
+use tokei_ignore::{IndexedPatterns, Pattern, Verdict, verdict_among};
 
 /// Which rules of the walk apply.
 #[derive(Clone, Copy, Debug, PartialEq, Eq)]
@@ -32,10 +32,10 @@ pub enum Source {
 /// The rules of a folder: the patterns of its ignore files.
 #[derive(Drop)]
 pub struct Level {
-    pub tokeignore: Items<Pattern>,
-    pub ignore: Items<Pattern>,
-    pub gitignore: Items<Pattern>,
-    pub git_exclude: Items<Pattern>,
+    pub tokeignore: IndexedPatterns,
+    pub ignore: IndexedPatterns,
+    pub gitignore: IndexedPatterns,
+    pub git_exclude: IndexedPatterns,
     /// Whether the folder has an entry `.git`.
     pub git: bool,
 }
@@ -51,14 +51,14 @@ pub struct Context {
     pub shown: Items<Text>,
 }
 
-fn patterns(level: &Level, source: Source) -> &[Pattern]
+fn patterns(level: &Level, source: Source) -> &IndexedPatterns
     ensures { result.now ≡ level_patterns source level.entry.now }
 {
     match source {
-        Source::Tokeignore => level.tokeignore.as_slice(),
-        Source::Plain => level.ignore.as_slice(),
-        Source::Gitignore => level.gitignore.as_slice(),
-        Source::GitExclude => level.git_exclude.as_slice(),
+        Source::Tokeignore => &level.tokeignore,
+        Source::Plain => &level.ignore,
+        Source::Gitignore => &level.gitignore,
+        Source::GitExclude => &level.git_exclude,
     }
 }
 

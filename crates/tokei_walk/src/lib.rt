@@ -24,5 +24,5 @@ pub use tokei_folders::{
     Above, Call, Entry, FailingFolders, Fault, Folders, Items, Kind, Listing, MemoryFolders, Text,
     names, places,
 };
-pub use tokei_ignore::{IgnoreFile, Pattern, PatternError, Verdict};
+pub use tokei_ignore::{IgnoreFile, IndexedPatterns, Pattern, PatternError, Verdict};
 pub use walking::Walk;

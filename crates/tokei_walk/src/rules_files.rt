@@ -14,7 +14,7 @@ use std::alloc::{AllocError, Global};
 use std::cmp::Ordering;
 use tokei_folders::places::joined;
 use tokei_folders::{Entry, Fault, Folders, Items, Kind, Text};
-use tokei_ignore::{IgnoreFile, Pattern};
+use tokei_ignore::{IgnoreFile, IndexedPatterns};
 
 /// Adds a note.
 #[tactic(auto, using(crate::proofs::Growing::grows_same, crate::proofs::Growing::grows_on))]
@@ -77,7 +77,7 @@ fn patterns_of_file<F: Folders>(
     folders: &mut F,
     notes: &mut Items<Note>,
     place: &str,
-) -> Result<Items<Pattern>, AllocError>
+) -> Result<IndexedPatterns, AllocError>
     ensures folders { AsTheyWere F.tree F.memory_faults folders.old folders.new result }
     ensures notes { Grows notes.old notes.new }
     ensures told { Told (F.tree folders.old) (λ t. IfOk result
@@ -85,11 +85,11 @@ fn patterns_of_file<F: Folders>(
 {
     match kind_at(alloc, folders, notes, place)? {
         Some(Kind::File) => {}
-        _ => return Ok(Items::new(alloc)),
+        _ => return Ok(IndexedPatterns::new(alloc)),
     }
     let Some(bytes) = content(folders, place)? else {
         note(alloc, notes, NoteKind::UnreadIgnore, place)?;
-        return Ok(Items::new(alloc));
+        return Ok(IndexedPatterns::new(alloc));
     };
     let file = IgnoreFile::parse(alloc, bytes.as_slice())?;
     for _ in 0..file.bad_lines {
@@ -124,7 +124,7 @@ fn patterns_of_name<F: Folders>(
     folders: &mut F,
     notes: &mut Items<Note>,
     file: &IgnoreName,
-) -> Result<Items<Pattern>, AllocError>
+) -> Result<IndexedPatterns, AllocError>
     ensures folders { AsTheyWere F.tree F.memory_faults folders.old folders.new result }
     ensures notes { Grows notes.old notes.new }
     ensures told { Told (F.tree folders.old) (λ t. IfOk result (λ ps. ps
@@ -132,7 +132,7 @@ fn patterns_of_name<F: Folders>(
         (names_of file.now.place.now ++ names_of file.now.name.now))) [])) }
 {
     if !file.on {
-        return Ok(Items::new(alloc));
+        return Ok(IndexedPatterns::new(alloc));
     }
     let whole = joined(alloc, file.place, file.name)?;
     patterns_of_file(alloc, folders, notes, whole.as_str())
