@@ -1,5 +1,5 @@
 -- The options are added one after another.
-use Rattle.std.proofs.Common.{◌∷◌, [], Some, refl, codes}
+use Rattle.std.proofs.Common.{Some, refl, codes}
 use Rattle.std.proofs.lemmas.Result.{IfOk-weaker}
 use Rattle.clap.specs.Words.{app_of, new_rule}
 use Rattle.tokei_cli.specs.Options.{file_options, lettered, repeated, switch, valued}
