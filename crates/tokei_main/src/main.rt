@@ -12,7 +12,7 @@ use std::process::ExitCode;
 use surroundings::env_of;
 use tokei_io::Counted;
 use tokei_program::{Env, program};
-use tokei_real::RealFolders;
+use tokei_real::{RealFolders, RetriedReader};
 use unstarted::Unstarted;
 
 /// Writes out what is left of the output, and answers the program's status; where that fails, it
@@ -31,7 +31,7 @@ fn flushed<W: Write>(rt: &HostRuntime, status: u8, out: &mut W) -> ExitCode {
 fn ended(rt: &HostRuntime, words: &[&str], env: &Env) -> io::Result<ExitCode> {
     let mut folders = RealFolders::new(rt.clone()?);
     let mut out = Counted::new(BufWriter::new(rt.alloc(), io::writer(rt))?);
-    let mut input = Counted::new(rt.reader());
+    let mut input = Counted::new(RetriedReader::new(rt.reader()));
     let stderr = rt.stderr();
     let mut err = Counted::new(io::writer(&stderr));
     let status = program(
