@@ -20,7 +20,7 @@ use serde_json::Value;
 use std::alloc::{AllocError, Global};
 use std::marker::Model;
 use std::rc::Rc;
-use tokei_table_json::{has_layout, is_escaped_table, rows_at};
+use tokei_table_json::{has_layout, is_escaped_table, rows_of};
 use tokei_table_row::Syntax;
 use tokei_table_rules::IndexedRows;
 use tokei_table_rules::names::names_twice;
@@ -65,19 +65,19 @@ fn data(alloc: Global, bytes: &[u8]) -> Result<Value, TableError>
 
 /// The rows of a table's JSON value, in the order of their keys.
 #[tactic(auto, unfolding(crate::specs::Outcome::outcome_of_value))]
-fn rows_of(alloc: Global, value: &Value) -> Result<Vec<Syntax>, TableError>
+fn rows_in(alloc: Global, value: Value) -> Result<Vec<Syntax>, TableError>
     ensures value { result ≢ Err MemoryFault
-        → MatchResult result (λ v. outcome_of_value (view value.now) ≡ tested (map row_of v.items))
-        (λ e. outcome_of_value (view value.now) ≡ Err e) }
+        → MatchResult result (λ v. outcome_of_value (view value) ≡ tested (map row_of v.items))
+        (λ e. outcome_of_value (view value) ≡ Err e) }
     ensures ordered { IfOk result (λ v. IsInKeyOrder (map row_of v.items)) }
 {
-    if !has_layout(value) {
+    if !has_layout(&value) {
         return Err(TableError::Layout);
     }
     if !is_escaped_table(value.get("languages")) {
         return Err(TableError::Escape);
     }
-    Ok(rows_at(alloc, value.get("languages"))?)
+    Ok(rows_of(alloc, value)?)
 }
 
 /// Tests whether rows in the order of their keys can be counted with.
@@ -120,7 +120,7 @@ impl LanguageTable {
         ensures { result ≢ Err MemoryFault → result ≡ outcome bytes.now }
     {
         let value = data(alloc, bytes)?;
-        let rows = rows_of(alloc, &value)?;
+        let rows = rows_in(alloc, value)?;
         test(alloc, &rows)?;
         Ok(indexed(alloc, rows)?)
     }

@@ -11,10 +11,7 @@ use Rattle.serde_json.specs.View.{members_view}
 use Rattle.serde_json.specs.declared.value.Value.{Value}
 use Rattle.tokei_table_row.specs.Row.{Row}
 use Rattle.tokei_table_json.specs.Rows.{rows_in, row_in}
-use Rattle.tokei_table_json.specs.KeyOrder.{IsInKeyOrder, keys_of}
-
-abbrev pub text_cmp : String Global → String Global → Ordering
-text_cmp a b = slice_cmp nat_cmp (string_bytes a) (string_bytes b)
+use Rattle.tokei_table_json.specs.KeyOrder.{IsInKeyOrder, keys_of, text_cmp}
 
 above : (k : String Global) (es : List (String Global × Value))
     → AllByRecursion (λ y. text_cmp k y ≡ Less) (map (λ e. e.0) es)

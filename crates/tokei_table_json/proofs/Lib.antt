@@ -1,5 +1,9 @@
+pub mod Backslashes
 pub mod Characters
+pub mod FilledRows
 pub mod KeyOrder
+pub mod MemberTests
+pub mod MembersOnce
 pub mod NoPairs
 pub mod Pairs
 pub mod RowKinds

@@ -4,5 +4,7 @@ pub mod Escapes
 pub mod Filled
 pub mod KeyOrder
 pub mod Layout
+pub mod MemberEscapes
+pub mod MemberLayout
 pub mod RowLaws
 pub mod Rows

@@ -3,9 +3,11 @@ ghost use Rattle.std.specs.Prelude.{◌≡◌, option_map};
 ghost use Rattle.serde_json.specs.View.{view, items_view, members_view};
 ghost use Rattle.tokei_table_json.specs.Layout.{absent_or, all_items};
 ghost use Rattle.tokei_table_json.specs.Escaped.{is_escaped_value, is_escaped_list, are_escaped_pairs, is_escaped_context};
-ghost use Rattle.tokei_table_json.specs.Escaped.{are_escaped_contexts, has_escaped_tokens, has_escaped_finders};
-ghost use Rattle.tokei_table_json.specs.Escaped.{has_escaped_traits, is_escaped_language, are_escaped_languages};
+ghost use Rattle.tokei_table_json.specs.Escaped.{are_escaped_contexts, is_escaped_language, are_escaped_languages};
 ghost use Rattle.tokei_table_json.specs.Escaped.{is_escaped_table};
+ghost use Rattle.tokei_table_json.specs.KeyOrder.{AreInOrder};
+ghost use Rattle.tokei_table_json.specs.MemberEscapes.{keeps_tokens, keeps_finders, keeps_traits, keeps_escapes};
+ghost use Rattle.tokei_table_json.specs.MemberLayout.{all_members};
 
 use crate::escapes::is_escaped;
 use crate::layout::is_html_kind;
@@ -49,15 +51,6 @@ fn is_escaped_list(value: &Value) -> bool
     }
 }
 
-fn are_escaped_texts(member: Option<&Value>) -> bool
-    ensures { result ≡ absent_or is_escaped_list (option_map (λ v. view v.now) member.entry) }
-{
-    match member {
-        None => true,
-        Some(value) => is_escaped_list(value),
-    }
-}
-
 fn all_escaped_lists(items: &Vec<Value>) -> bool
     ensures { result ≡ all_items is_escaped_list (items_view items.now.items) }
 {
@@ -69,11 +62,11 @@ fn all_escaped_lists(items: &Vec<Value>) -> bool
     true
 }
 
-fn are_escaped_pairs(member: Option<&Value>) -> bool
-    ensures { result ≡ absent_or are_escaped_pairs (option_map (λ v. view v.now) member.entry) }
+fn are_escaped_pairs(value: &Value) -> bool
+    ensures { result ≡ are_escaped_pairs (view value.now) }
 {
-    match member {
-        Some(Value::Array(items)) => all_escaped_lists(items),
+    match value {
+        Value::Array(items) => all_escaped_lists(items),
         _ => true,
     }
 }
@@ -89,52 +82,98 @@ fn all_escaped_contexts(items: &Vec<Value>) -> bool
     true
 }
 
-fn are_escaped_contexts(member: Option<&Value>) -> bool
-    ensures { result ≡ absent_or are_escaped_contexts (option_map (λ v. view v.now) member.entry) }
+fn are_escaped_contexts(value: &Value) -> bool
+    ensures { result ≡ are_escaped_contexts (view value.now) }
 {
-    match member {
-        Some(Value::Array(items)) => all_escaped_contexts(items),
+    match value {
+        Value::Array(items) => all_escaped_contexts(items),
         _ => true,
     }
 }
 
-#[tactic(auto, unfolding(crate::specs::Escaped::has_escaped_tokens))]
-fn has_escaped_tokens(value: &Value) -> bool
-    ensures { result ≡ has_escaped_tokens (view value.now) }
+/// Whether a member that holds comments or string literals has but the known escapes.
+fn keeps_tokens(key: &str, value: &Value) -> bool
+    ensures { result ≡ keeps_tokens key.now (view value.now) }
 {
-    are_escaped_texts(value.get("line_comment"))
-        && are_escaped_pairs(value.get("multi_line_comments"))
-        && are_escaped_pairs(value.get("nested_comments"))
-        && are_escaped_pairs(value.get("quotes"))
-        && are_escaped_pairs(value.get("verbatim_quotes"))
-        && are_escaped_pairs(value.get("doc_quotes"))
+    if key == "line_comment" {
+        is_escaped_list(value)
+    } else if key == "multi_line_comments" {
+        are_escaped_pairs(value)
+    } else if key == "nested_comments" {
+        are_escaped_pairs(value)
+    } else if key == "quotes" {
+        are_escaped_pairs(value)
+    } else if key == "verbatim_quotes" {
+        are_escaped_pairs(value)
+    } else if key == "doc_quotes" {
+        are_escaped_pairs(value)
+    } else {
+        true
+    }
 }
 
-#[tactic(auto, unfolding(crate::specs::Escaped::has_escaped_finders))]
-fn has_escaped_finders(value: &Value) -> bool
-    ensures { result ≡ has_escaped_finders (view value.now) }
+/// Whether a member by which a language is found has but the known escapes.
+fn keeps_finders(key: &str, value: &Value) -> bool
+    ensures { result ≡ keeps_finders key.now (view value.now) }
 {
-    are_escaped_texts(value.get("extensions"))
-        && are_escaped_texts(value.get("filenames"))
-        && are_escaped_texts(value.get("path_suffixes"))
-        && are_escaped_texts(value.get("mime"))
-        && are_escaped_texts(value.get("shebangs"))
-        && are_escaped_texts(value.get("env"))
+    if key == "extensions" {
+        is_escaped_list(value)
+    } else if key == "filenames" {
+        is_escaped_list(value)
+    } else if key == "path_suffixes" {
+        is_escaped_list(value)
+    } else if key == "mime" {
+        is_escaped_list(value)
+    } else if key == "shebangs" {
+        is_escaped_list(value)
+    } else if key == "env" {
+        is_escaped_list(value)
+    } else {
+        true
+    }
 }
 
-#[tactic(auto, unfolding(crate::specs::Escaped::has_escaped_traits))]
-fn has_escaped_traits(value: &Value) -> bool
-    ensures { result ≡ has_escaped_traits (view value.now) }
+/// Whether another member has but the known escapes.
+fn keeps_traits(html: bool, key: &str, value: &Value) -> bool
+    ensures { result ≡ keeps_traits html key.now (view value.now) }
 {
-    is_escaped_text(value.get("name"))
-        && are_escaped_texts(value.get("important_syntax"))
-        && (!is_html_kind(value.get("kind")) || are_escaped_contexts(value.get("contexts")))
+    if key == "name" {
+        is_escaped_value(value)
+    } else if key == "important_syntax" {
+        is_escaped_list(value)
+    } else if key == "contexts" {
+        !html || are_escaped_contexts(value)
+    } else {
+        true
+    }
 }
 
+fn keeps_escapes(html: bool, key: &str, value: &Value) -> bool
+    ensures { result ≡ keeps_escapes html key.now (view value.now) }
+{
+    keeps_tokens(key, value) && keeps_finders(key, value) && keeps_traits(html, key, value)
+}
+
+fn all_keep_escapes(html: bool, members: &Map<String, Value>) -> bool
+    ensures value { result ≡ all_members (keeps_escapes html) (members_view members.now.entries) }
+    ensures ordered { AreInOrder members.now.entries }
+{
+    for (key, member) in members.iter() {
+        if !keeps_escapes(html, key.as_str(), member) {
+            return false;
+        }
+    }
+    true
+}
+
+#[tactic(auto, unfolding(crate::specs::Escaped::has_escaped_tokens, crate::specs::Escaped::has_escaped_finders, crate::specs::Escaped::has_escaped_traits))]
 fn is_escaped_language(value: &Value) -> bool
     ensures { result ≡ is_escaped_language (view value.now) }
 {
-    has_escaped_tokens(value) && has_escaped_finders(value) && has_escaped_traits(value)
+    match value {
+        Value::Object(members) => all_keep_escapes(is_html_kind(value.get("kind")), members),
+        _ => true,
+    }
 }
 
 fn are_escaped_languages(members: &Map<String, Value>) -> bool

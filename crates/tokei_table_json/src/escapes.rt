@@ -1,7 +1,8 @@
 //! Escapes in the texts of a table: those of a string literal in Rust source.
-ghost use Rattle.std.specs.Prelude.{◌≡◌, ◌<◌, ◌∷◌, [], length, MatchOption, IfOk, string_bytes};
+ghost use Rattle.std.specs.Prelude.{◌≡◌, ◌<◌, ◌==◌, ◌∷◌, [], length, MatchOption, IfOk, string_bytes};
+ghost use Rattle.std.specs.List.{list_any};
 ghost use Rattle.std.specs.Str.{chars, IsUtf8};
-ghost use Rattle.tokei_table_json.specs.Escapes.{escape_value, is_escaped_text, unescaped_text};
+ghost use Rattle.tokei_table_json.specs.Escapes.{backslash, escape_value, is_escaped_text, unescaped_text};
 
 use std::alloc::{AllocError, Global};
 
@@ -31,8 +32,20 @@ fn escape_value(c: char) -> Option<char>
     }
 }
 
-/// Whether each backslash of the text begins an escape.
-pub(crate) fn is_escaped(text: &str) -> bool
+/// Whether the text holds a backslash.
+pub(crate) fn has_backslash(text: &str) -> bool
+    ensures { result ≡ list_any (λ b. b == backslash) text.now }
+{
+    for byte in text.as_bytes() {
+        if *byte == b'\\' {
+            return true;
+        }
+    }
+    false
+}
+
+/// Whether each backslash of the text, of which it holds some, begins an escape.
+fn are_escapes(text: &str) -> bool
     ensures { result ≡ is_escaped_text text.now }
 {
     let mut rest = text;
@@ -51,11 +64,18 @@ pub(crate) fn is_escaped(text: &str) -> bool
     true
 }
 
+/// Whether each backslash of the text begins an escape.
+pub(crate) fn is_escaped(text: &str) -> bool
+    ensures { result ≡ is_escaped_text text.now }
+{
+    !has_backslash(text) || are_escapes(text)
+}
+
 /// The text after escapes; where memory runs out it fails.
 pub fn unescaped(alloc: Global, text: &str) -> Result<String, AllocError>
     ensures { IfOk result (λ s. string_bytes s ≡ unescaped_text text.now) }
 {
-    let mut out = String::new(alloc);
+    let mut out = String::with_capacity(alloc, text.len())?;
     let mut rest = text;
     while let Some((c, later)) = first_char(rest) {
         if c == '\\' {

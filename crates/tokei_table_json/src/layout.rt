@@ -3,9 +3,10 @@ ghost use Rattle.std.specs.Prelude.{◌≡◌, option_map, codes};
 ghost use Rattle.serde_json.specs.View.{view, items_view, members_view};
 ghost use Rattle.serde_json.specs.Written.{has_float as data_has_float, items_have_float as data_items_have_float};
 ghost use Rattle.serde_json.specs.Written.{members_have_float as data_members_have_float};
-ghost use Rattle.tokei_table_json.specs.Layout.{absent_or, is_text, is_truth_value, all_items, is_list, are_two_texts};
-ghost use Rattle.tokei_table_json.specs.Layout.{is_text_pair, is_html_kind, is_context, has_comments, has_literals};
-ghost use Rattle.tokei_table_json.specs.Layout.{has_finders, has_traits, is_language, are_languages, has_layout};
+ghost use Rattle.tokei_table_json.specs.Layout.{is_text, is_truth_value, all_items, is_list, are_two_texts};
+ghost use Rattle.tokei_table_json.specs.Layout.{is_text_pair, is_html_kind, is_context, is_language, are_languages, has_layout};
+ghost use Rattle.tokei_table_json.specs.MemberLayout.{all_members, fits_comments, fits_literals, fits_finders, fits_traits, fits};
+ghost use Rattle.tokei_table_json.specs.KeyOrder.{AreInOrder};
 
 use serde_json::{Map, Value};
 
@@ -54,22 +55,10 @@ fn is_text(value: &Value) -> bool
     value.as_str().is_some()
 }
 
-fn may_be_text(member: Option<&Value>) -> bool
-    ensures { result ≡ absent_or is_text (option_map (λ v. view v.now) member.entry) }
+fn is_truth_value(value: &Value) -> bool
+    ensures { result ≡ is_truth_value (view value.now) }
 {
-    match member {
-        None => true,
-        Some(value) => is_text(value),
-    }
-}
-
-fn may_be_truth_value(member: Option<&Value>) -> bool
-    ensures { result ≡ absent_or is_truth_value (option_map (λ v. view v.now) member.entry) }
-{
-    match member {
-        None => true,
-        Some(value) => value.as_bool().is_some(),
-    }
+    value.as_bool().is_some()
 }
 
 fn all_texts(items: &Vec<Value>) -> bool
@@ -83,13 +72,12 @@ fn all_texts(items: &Vec<Value>) -> bool
     true
 }
 
-fn may_be_texts(member: Option<&Value>) -> bool
-    ensures { result ≡ absent_or (is_list is_text) (option_map (λ v. view v.now) member.entry) }
+fn is_text_list(value: &Value) -> bool
+    ensures { result ≡ is_list is_text (view value.now) }
 {
-    match member {
-        None => true,
-        Some(Value::Array(items)) => all_texts(items),
-        Some(_) => false,
+    match value {
+        Value::Array(items) => all_texts(items),
+        _ => false,
     }
 }
 
@@ -122,14 +110,12 @@ fn all_pairs(items: &Vec<Value>) -> bool
     true
 }
 
-fn may_be_pairs(member: Option<&Value>) -> bool
-    ensures { result
-        ≡ absent_or (is_list is_text_pair) (option_map (λ v. view v.now) member.entry) }
+fn is_pair_list(value: &Value) -> bool
+    ensures { result ≡ is_list is_text_pair (view value.now) }
 {
-    match member {
-        None => true,
-        Some(Value::Array(items)) => all_pairs(items),
-        Some(_) => false,
+    match value {
+        Value::Array(items) => all_pairs(items),
+        _ => false,
     }
 }
 
@@ -169,68 +155,117 @@ fn all_contexts(html: bool, items: &Vec<Value>) -> bool
     true
 }
 
-fn may_be_contexts(html: bool, member: Option<&Value>) -> bool
-    ensures { result
-        ≡ absent_or (is_list (is_context html)) (option_map (λ v. view v.now) member.entry) }
+fn is_context_list(html: bool, value: &Value) -> bool
+    ensures { result ≡ is_list (is_context html) (view value.now) }
 {
-    match member {
-        None => true,
-        Some(Value::Array(items)) => all_contexts(html, items),
-        Some(_) => false,
+    match value {
+        Value::Array(items) => all_contexts(html, items),
+        _ => false,
     }
 }
 
-#[tactic(auto, unfolding(crate::specs::Layout::has_comments))]
-fn has_comments(value: &Value) -> bool
-    ensures { result ≡ has_comments (view value.now) }
+/// Whether a member that holds comments may have the value.
+fn fits_comments(key: &str, value: &Value) -> bool
+    ensures { result ≡ fits_comments key.now (view value.now) }
 {
-    may_be_texts(value.get("line_comment"))
-        && may_be_pairs(value.get("multi_line_comments"))
-        && may_be_truth_value(value.get("nested"))
-        && may_be_pairs(value.get("nested_comments"))
+    if key == "line_comment" {
+        is_text_list(value)
+    } else if key == "multi_line_comments" {
+        is_pair_list(value)
+    } else if key == "nested" {
+        is_truth_value(value)
+    } else if key == "nested_comments" {
+        is_pair_list(value)
+    } else {
+        true
+    }
 }
 
-#[tactic(auto, unfolding(crate::specs::Layout::has_literals))]
-fn has_literals(value: &Value) -> bool
-    ensures { result ≡ has_literals (view value.now) }
+/// Whether a member that holds string literals may have the value.
+fn fits_literals(key: &str, value: &Value) -> bool
+    ensures { result ≡ fits_literals key.now (view value.now) }
 {
-    may_be_pairs(value.get("quotes"))
-        && may_be_pairs(value.get("verbatim_quotes"))
-        && may_be_pairs(value.get("doc_quotes"))
+    if key == "quotes" {
+        is_pair_list(value)
+    } else if key == "verbatim_quotes" {
+        is_pair_list(value)
+    } else if key == "doc_quotes" {
+        is_pair_list(value)
+    } else {
+        true
+    }
 }
 
-#[tactic(auto, unfolding(crate::specs::Layout::has_finders))]
-fn has_finders(value: &Value) -> bool
-    ensures { result ≡ has_finders (view value.now) }
+/// Whether a member by which a language is found may have the value.
+fn fits_finders(key: &str, value: &Value) -> bool
+    ensures { result ≡ fits_finders key.now (view value.now) }
 {
-    may_be_texts(value.get("extensions"))
-        && may_be_texts(value.get("filenames"))
-        && may_be_texts(value.get("path_suffixes"))
-        && may_be_texts(value.get("mime"))
-        && may_be_texts(value.get("shebangs"))
-        && may_be_texts(value.get("env"))
+    if key == "extensions" {
+        is_text_list(value)
+    } else if key == "filenames" {
+        is_text_list(value)
+    } else if key == "path_suffixes" {
+        is_text_list(value)
+    } else if key == "mime" {
+        is_text_list(value)
+    } else if key == "shebangs" {
+        is_text_list(value)
+    } else if key == "env" {
+        is_text_list(value)
+    } else {
+        true
+    }
 }
 
-#[tactic(auto, unfolding(crate::specs::Layout::has_traits))]
-fn has_traits(value: &Value) -> bool
-    ensures { result ≡ has_traits (view value.now) }
+/// Whether another member may have the value in a language, which is of kind `html` or not.
+fn fits_traits(html: bool, key: &str, value: &Value) -> bool
+    ensures { result ≡ fits_traits html key.now (view value.now) }
 {
-    may_be_text(value.get("name"))
-        && may_be_text(value.get("kind"))
-        && may_be_truth_value(value.get("literate"))
-        && may_be_truth_value(value.get("blank"))
-        && may_be_texts(value.get("important_syntax"))
-        && may_be_contexts(is_html_kind(value.get("kind")), value.get("contexts"))
+    if key == "name" {
+        is_text(value)
+    } else if key == "kind" {
+        is_text(value)
+    } else if key == "literate" {
+        is_truth_value(value)
+    } else if key == "blank" {
+        is_truth_value(value)
+    } else if key == "important_syntax" {
+        is_text_list(value)
+    } else if key == "contexts" {
+        is_context_list(html, value)
+    } else {
+        true
+    }
+}
+
+fn fits(html: bool, key: &str, value: &Value) -> bool
+    ensures { result ≡ fits html key.now (view value.now) }
+{
+    fits_comments(key, value)
+        && fits_literals(key, value)
+        && fits_finders(key, value)
+        && fits_traits(html, key, value)
+}
+
+fn all_fit(html: bool, members: &Map<String, Value>) -> bool
+    ensures value { result ≡ all_members (fits html) (members_view members.now.entries) }
+    ensures ordered { AreInOrder members.now.entries }
+{
+    for (key, member) in members.iter() {
+        if !fits(html, key.as_str(), member) {
+            return false;
+        }
+    }
+    true
 }
 
 fn is_language(value: &Value) -> bool
     ensures { result ≡ is_language (view value.now) }
 {
-    value.is_object()
-        && has_comments(value)
-        && has_literals(value)
-        && has_finders(value)
-        && has_traits(value)
+    match value {
+        Value::Object(members) => all_fit(is_html_kind(value.get("kind")), members),
+        _ => false,
+    }
 }
 
 fn are_languages(members: &Map<String, Value>) -> bool

@@ -10,4 +10,4 @@ pub mod rows;
 
 pub use escaped::is_escaped_table;
 pub use layout::has_layout;
-pub use rows::rows_at;
+pub use rows::rows_of;

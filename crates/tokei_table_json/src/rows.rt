@@ -1,80 +1,67 @@
 //! The rows of a table that has its layout and but the known escapes.
-ghost use Rattle.std.specs.Prelude.{◌≡◌, option_map, map, IfOk, OnOk, string_bytes};
+ghost use Rattle.std.specs.Prelude.{◌≡◌, Some, codes, map, IfOk, OnOk, string_bytes};
+ghost use Rattle.serde_json.specs.Data.{string, boolean, array};
+ghost use Rattle.serde_json.specs.Find.{get, get_member};
 ghost use Rattle.serde_json.specs.View.{view, items_view, members_view};
+ghost use Rattle.tokei_table_row.specs.NewRow.{new_row};
 ghost use Rattle.tokei_table_row.specs.RowOf.{pair_of, pairs_of, tokens_of, row_of};
-ghost use Rattle.tokei_table_json.specs.Filled.{with_name, with_comments, with_quotes, with_finds};
-ghost use Rattle.tokei_table_json.specs.KeyOrder.{IsInKeyOrder};
-ghost use Rattle.tokei_table_json.specs.Rows.{text_of, text_at, kind_at, texts_of, texts_at, name_or};
-ghost use Rattle.tokei_table_json.specs.Rows.{two_texts, pair_in, pairs_in, pairs_at, truth_at, tags_in, tags_at};
+ghost use Rattle.tokei_table_json.specs.Escapes.{unescaped_text};
+ghost use Rattle.tokei_table_json.specs.Filled.{with_member, filled};
+ghost use Rattle.tokei_table_json.specs.KeyOrder.{AreInOrder, IsInKeyOrder};
+ghost use Rattle.tokei_table_json.specs.Layout.{is_html_kind};
+ghost use Rattle.tokei_table_json.specs.Rows.{text_of, text_at, texts_of, name_or};
+ghost use Rattle.tokei_table_json.specs.Rows.{two_texts, pair_in, pairs_in, tags_in, tags_at};
 ghost use Rattle.tokei_table_json.specs.Rows.{row_in, rows_in, rows_at};
 
-use crate::escapes::unescaped;
+use crate::escapes::{has_backslash, unescaped};
 use crate::layout::is_html_kind;
 use serde_json::{Map, Value};
 use std::alloc::{AllocError, Global};
 use tokei_table_row::Syntax;
 
-fn text(alloc: Global, value: &Value) -> Result<String, AllocError>
-    ensures { IfOk result (λ s. string_bytes s ≡ text_of (view value.now)) }
+/// The text after escapes; without a backslash it is the text itself.
+fn read_text(alloc: Global, text: String) -> Result<String, AllocError>
+    ensures { IfOk result (λ s. string_bytes s ≡ unescaped_text (string_bytes text)) }
+{
+    if has_backslash(text.as_str()) {
+        unescaped(alloc, text.as_str())
+    } else {
+        Ok(text)
+    }
+}
+
+fn text(alloc: Global, value: Value) -> Result<String, AllocError>
+    ensures { IfOk result (λ s. string_bytes s ≡ text_of (view value)) }
 {
     match value {
-        Value::String(text) => unescaped(alloc, text.as_str()),
+        Value::String(text) => read_text(alloc, text),
         _ => Ok(String::new(alloc)),
     }
 }
 
-fn text_at(alloc: Global, member: Option<&Value>) -> Result<String, AllocError>
-    ensures { IfOk result (λ s. string_bytes s
-        ≡ text_at (option_map (λ v. view v.now) member.entry)) }
+fn texts(alloc: Global, items: Vec<Value>) -> Result<Vec<String>, AllocError>
+    ensures { IfOk result (λ v. tokens_of v.items ≡ texts_of (items_view items.items)) }
 {
-    match member {
-        None => Ok(String::new(alloc)),
-        Some(value) => text(alloc, value),
-    }
-}
-
-fn kind_at(alloc: Global, member: Option<&Value>) -> Result<String, AllocError>
-    ensures { IfOk result (λ s. string_bytes s
-        ≡ kind_at (option_map (λ v. view v.now) member.entry)) }
-{
-    match member {
-        Some(Value::String(kind)) => String::from_str(alloc, kind.as_str()),
-        _ => Ok(String::new(alloc)),
-    }
-}
-
-fn texts(alloc: Global, items: &Vec<Value>) -> Result<Vec<String>, AllocError>
-    ensures { IfOk result (λ v. tokens_of v.items ≡ texts_of (items_view items.now.items)) }
-{
-    let mut out = Vec::new(alloc);
+    let mut out = Vec::with_capacity(alloc, items.len())?;
     for item in items {
         out.push(text(alloc, item)?)?;
     }
     Ok(out)
 }
 
-fn texts_at(alloc: Global, member: Option<&Value>) -> Result<Vec<String>, AllocError>
-    ensures { IfOk result (λ v. tokens_of v.items
-        ≡ texts_at (option_map (λ w. view w.now) member.entry)) }
+fn two_texts(alloc: Global, mut items: Vec<Value>) -> Result<(String, String), AllocError>
+    ensures { IfOk result (λ p. pair_of p ≡ two_texts (items_view items.items)) }
 {
-    match member {
-        Some(Value::Array(items)) => texts(alloc, items),
-        _ => Ok(Vec::new(alloc)),
-    }
-}
-
-fn two_texts(alloc: Global, items: &Vec<Value>) -> Result<(String, String), AllocError>
-    ensures { IfOk result (λ p. pair_of p ≡ two_texts (items_view items.now.items)) }
-{
-    let items = items.as_slice();
-    if items.len() != 2 {
+    if items.as_slice().len() != 2 {
         return Ok((String::new(alloc), String::new(alloc)));
     }
-    Ok((text(alloc, &items[0])?, text(alloc, &items[1])?))
+    let closer = items.remove(1);
+    let opener = items.remove(0);
+    Ok((text(alloc, opener)?, text(alloc, closer)?))
 }
 
-fn pair(alloc: Global, value: &Value) -> Result<(String, String), AllocError>
-    ensures { IfOk result (λ p. pair_of p ≡ pair_in (view value.now)) }
+fn pair(alloc: Global, value: Value) -> Result<(String, String), AllocError>
+    ensures { IfOk result (λ p. pair_of p ≡ pair_in (view value)) }
 {
     match value {
         Value::Array(items) => two_texts(alloc, items),
@@ -82,32 +69,22 @@ fn pair(alloc: Global, value: &Value) -> Result<(String, String), AllocError>
     }
 }
 
-fn pairs(alloc: Global, items: &Vec<Value>) -> Result<Vec<(String, String)>, AllocError>
-    ensures { IfOk result (λ v. pairs_of v.items ≡ pairs_in (items_view items.now.items)) }
+fn pairs(alloc: Global, items: Vec<Value>) -> Result<Vec<(String, String)>, AllocError>
+    ensures { IfOk result (λ v. pairs_of v.items ≡ pairs_in (items_view items.items)) }
 {
-    let mut out = Vec::new(alloc);
+    let mut out = Vec::with_capacity(alloc, items.len())?;
     for item in items {
         out.push(pair(alloc, item)?)?;
     }
     Ok(out)
 }
 
-fn pairs_at(alloc: Global, member: Option<&Value>) -> Result<Vec<(String, String)>, AllocError>
-    ensures { IfOk result (λ v. pairs_of v.items
-        ≡ pairs_at (option_map (λ w. view w.now) member.entry)) }
+fn tag(alloc: Global, context: &Value) -> Result<String, AllocError>
+    ensures { IfOk result (λ s. string_bytes s ≡ text_at (get (codes "tag") (view context.now))) }
 {
-    match member {
-        Some(Value::Array(items)) => pairs(alloc, items),
-        _ => Ok(Vec::new(alloc)),
-    }
-}
-
-fn truth_at(member: Option<&Value>) -> bool
-    ensures { result ≡ truth_at (option_map (λ v. view v.now) member.entry) }
-{
-    match member {
-        Some(Value::Bool(truth)) => *truth,
-        _ => false,
+    match context.get("tag") {
+        Some(Value::String(text)) => unescaped(alloc, text.as_str()),
+        _ => Ok(String::new(alloc)),
     }
 }
 
@@ -116,114 +93,251 @@ fn tags(alloc: Global, items: &Vec<Value>) -> Result<Vec<String>, AllocError>
 {
     let mut out = Vec::new(alloc);
     for item in items {
-        out.push(text_at(alloc, item.get("tag"))?)?;
+        out.push(tag(alloc, item)?)?;
     }
     Ok(out)
 }
 
-fn tags_at(alloc: Global, html: bool, member: Option<&Value>) -> Result<Vec<String>, AllocError>
-    ensures { IfOk result (λ v. tokens_of v.items
-        ≡ tags_at html (option_map (λ w. view w.now) member.entry)) }
+/// Puts the texts in place of those that are there.
+fn put_texts(alloc: Global, list: &mut Vec<String>, items: Vec<Value>) -> Result<(), AllocError>
+    ensures { OnOk result (tokens_of list.new.items ≡ texts_of (items_view items.items)) }
 {
-    if !html {
-        return Ok(Vec::new(alloc));
+    *list = texts(alloc, items)?;
+    Ok(())
+}
+
+/// Puts the pairs in place of those that are there.
+fn put_pairs(
+    alloc: Global,
+    list: &mut Vec<(String, String)>,
+    items: Vec<Value>,
+) -> Result<(), AllocError>
+    ensures { OnOk result (pairs_of list.new.items ≡ pairs_in (items_view items.items)) }
+{
+    *list = pairs(alloc, items)?;
+    Ok(())
+}
+
+/// Puts the tags, which only a language of kind `html` has, in place of those that are there.
+fn put_tags(
+    alloc: Global,
+    list: &mut Vec<String>,
+    html: bool,
+    items: &Vec<Value>,
+) -> Result<(), AllocError>
+    ensures { OnOk result
+        (tokens_of list.new.items ≡ tags_at html (Some (array (items_view items.now.items)))) }
+{
+    *list = if html {
+        tags(alloc, items)?
+    } else {
+        Vec::new(alloc)
+    };
+    Ok(())
+}
+
+/// Puts the name in place of the one that is there, where it isn't empty.
+fn put_name(alloc: Global, name: &mut String, text: String) -> Result<(), AllocError>
+    ensures { OnOk result (string_bytes name.new
+        ≡ name_or (string_bytes name.old) (unescaped_text (string_bytes text))) }
+{
+    let text = read_text(alloc, text)?;
+    if !text.is_empty() {
+        *name = text;
     }
-    match member {
-        Some(Value::Array(items)) => tags(alloc, items),
-        _ => Ok(Vec::new(alloc)),
+    Ok(())
+}
+
+/// Reads a member whose value is a list.
+fn read_list(
+    alloc: Global,
+    row: &mut Syntax,
+    html: bool,
+    key: &str,
+    items: Vec<Value>,
+) -> Result<(), AllocError>
+    ensures { OnOk result (row_of row.new
+        ≡ with_member html key.now (array (items_view items.items)) (row_of row.old)) }
+{
+    if key == "extensions" {
+        put_texts(alloc, &mut row.extensions, items)
+    } else if key == "line_comment" {
+        put_texts(alloc, &mut row.line_comment, items)
+    } else if key == "multi_line_comments" {
+        put_pairs(alloc, &mut row.multi_line_comments, items)
+    } else if key == "quotes" {
+        put_pairs(alloc, &mut row.quotes, items)
+    } else if key == "verbatim_quotes" {
+        put_pairs(alloc, &mut row.verbatim_quotes, items)
+    } else if key == "env" {
+        put_texts(alloc, &mut row.env, items)
+    } else if key == "filenames" {
+        put_texts(alloc, &mut row.filenames, items)
+    } else if key == "shebangs" {
+        put_texts(alloc, &mut row.shebangs, items)
+    } else if key == "doc_quotes" {
+        put_pairs(alloc, &mut row.doc_quotes, items)
+    } else if key == "path_suffixes" {
+        put_texts(alloc, &mut row.path_suffixes, items)
+    } else if key == "mime" {
+        put_texts(alloc, &mut row.mime, items)
+    } else if key == "contexts" {
+        put_tags(alloc, &mut row.contexts, html, &items)
+    } else if key == "important_syntax" {
+        put_texts(alloc, &mut row.important_syntax, items)
+    } else if key == "nested_comments" {
+        put_pairs(alloc, &mut row.nested_comments, items)
+    } else {
+        Ok(())
     }
 }
 
-fn name_or(alloc: Global, key: &str, name: String) -> Result<String, AllocError>
-    ensures { IfOk result (λ s. string_bytes s ≡ name_or key.now (string_bytes name)) }
+/// Reads a member whose value is a text.
+fn read_text_member(
+    alloc: Global,
+    row: &mut Syntax,
+    html: bool,
+    key: &str,
+    text: String,
+) -> Result<(), AllocError>
+    ensures { OnOk result (row_of row.new
+        ≡ with_member html key.now (string (string_bytes text)) (row_of row.old)) }
 {
-    match name.as_bytes() {
-        [] => String::from_str(alloc, key),
-        _ => Ok(name),
+    if key == "name" {
+        put_name(alloc, &mut row.name, text)
+    } else if key == "kind" {
+        row.kind = text;
+        Ok(())
+    } else {
+        Ok(())
     }
 }
 
-/// Gives the row the name, the kind and the truth values that stand in the member.
-fn read_name(alloc: Global, row: &mut Syntax, value: &Value) -> Result<(), AllocError>
-    ensures { OnOk result (row_of row.new ≡ with_name (row_of row.old) (view value.now)) }
+/// Reads a member whose value is a truth value.
+fn read_truth(row: &mut Syntax, html: bool, key: &str, truth: bool)
+    ensures { row_of row.new ≡ with_member html key.now (boolean truth) (row_of row.old) }
 {
-    let name = text_at(alloc, value.get("name"))?;
-    row.name = name_or(alloc, row.key.as_str(), name)?;
-    row.kind = kind_at(alloc, value.get("kind"))?;
-    row.nested = truth_at(value.get("nested"));
-    row.literate = truth_at(value.get("literate"));
-    row.blank = truth_at(value.get("blank"));
+    if key == "nested" {
+        row.nested = truth;
+    } else if key == "literate" {
+        row.literate = truth;
+    } else if key == "blank" {
+        row.blank = truth;
+    }
+}
+
+/// Reads a member of a language, which is of kind `html` or not.
+fn read_member(
+    alloc: Global,
+    row: &mut Syntax,
+    html: bool,
+    key: &str,
+    value: Value,
+) -> Result<(), AllocError>
+    ensures { OnOk result (row_of row.new
+        ≡ with_member html key.now (view value) (row_of row.old)) }
+{
+    match value {
+        Value::Array(items) => read_list(alloc, row, html, key, items),
+        Value::String(text) => read_text_member(alloc, row, html, key, text),
+        Value::Bool(truth) => {
+            read_truth(row, html, key, truth);
+            Ok(())
+        }
+        _ => Ok(()),
+    }
+}
+
+fn read_members(
+    alloc: Global,
+    row: &mut Syntax,
+    html: bool,
+    members: Map<String, Value>,
+) -> Result<(), AllocError>
+    ensures value { OnOk result (row_of row.new
+        ≡ filled html (members_view members.entries) (row_of row.old)) }
+    ensures ordered { AreInOrder members.entries }
+{
+    for (key, member) in members {
+        read_member(alloc, row, html, key.as_str(), member)?;
+    }
     Ok(())
 }
 
-/// Gives the row the comments, the further texts and the tags that stand in the member.
-fn read_comments(alloc: Global, row: &mut Syntax, value: &Value) -> Result<(), AllocError>
-    ensures { OnOk result (row_of row.new ≡ with_comments (row_of row.old) (view value.now)) }
-{
-    let html = is_html_kind(value.get("kind"));
-    row.line_comment = texts_at(alloc, value.get("line_comment"))?;
-    row.multi_line_comments = pairs_at(alloc, value.get("multi_line_comments"))?;
-    row.nested_comments = pairs_at(alloc, value.get("nested_comments"))?;
-    row.important_syntax = texts_at(alloc, value.get("important_syntax"))?;
-    row.contexts = tags_at(alloc, html, value.get("contexts"))?;
-    Ok(())
-}
-
-/// Gives the row the string literals that stand in the member.
-fn read_quotes(alloc: Global, row: &mut Syntax, value: &Value) -> Result<(), AllocError>
-    ensures { OnOk result (row_of row.new ≡ with_quotes (row_of row.old) (view value.now)) }
-{
-    row.quotes = pairs_at(alloc, value.get("quotes"))?;
-    row.verbatim_quotes = pairs_at(alloc, value.get("verbatim_quotes"))?;
-    row.doc_quotes = pairs_at(alloc, value.get("doc_quotes"))?;
-    Ok(())
-}
-
-/// Gives the row what it is found by as it stands in the member.
-fn read_finds(alloc: Global, row: &mut Syntax, value: &Value) -> Result<(), AllocError>
-    ensures { OnOk result (row_of row.new ≡ with_finds (row_of row.old) (view value.now)) }
-{
-    row.extensions = texts_at(alloc, value.get("extensions"))?;
-    row.filenames = texts_at(alloc, value.get("filenames"))?;
-    row.path_suffixes = texts_at(alloc, value.get("path_suffixes"))?;
-    row.mime = texts_at(alloc, value.get("mime"))?;
-    row.shebangs = texts_at(alloc, value.get("shebangs"))?;
-    row.env = texts_at(alloc, value.get("env"))?;
-    Ok(())
-}
-
+/// Reads a member of `languages` into a new row of its key.
 #[tactic(auto, unfolding(crate::specs::Rows::row_in))]
-fn row(alloc: Global, key: &str, value: &Value) -> Result<Syntax, AllocError>
-    ensures { IfOk result (λ s. row_of s ≡ row_in key.now (view value.now)) }
+fn read_language(
+    alloc: Global,
+    row: &mut Syntax,
+    html: bool,
+    key: &str,
+    value: Value,
+) -> Result<(), AllocError>
+    requires new { row_of row.old ≡ new_row key.now }
+    requires kind { html ≡ is_html_kind (get (codes "kind") (view value)) }
+    ensures { OnOk result (row_of row.new ≡ row_in key.now (view value)) }
+{
+    match value {
+        Value::Object(members) => read_members(alloc, row, html, members),
+        _ => Ok(()),
+    }
+}
+
+fn is_html(value: &Value) -> bool
+    ensures { result ≡ is_html_kind (get (codes "kind") (view value.now)) }
+{
+    is_html_kind(value.get("kind"))
+}
+
+fn row(alloc: Global, key: &str, value: Value) -> Result<Syntax, AllocError>
+    ensures { IfOk result (λ s. row_of s ≡ row_in key.now (view value)) }
 {
     let mut row = Syntax::new(alloc, key)?;
-    read_name(alloc, &mut row, value)?;
-    read_comments(alloc, &mut row, value)?;
-    read_quotes(alloc, &mut row, value)?;
-    read_finds(alloc, &mut row, value)?;
+    let html = is_html(&value);
+    read_language(alloc, &mut row, html, key, value)?;
     Ok(row)
 }
 
-fn rows(alloc: Global, members: &Map<String, Value>) -> Result<Vec<Syntax>, AllocError>
-    ensures value { IfOk result (λ v. map row_of v.items
-        ≡ rows_in (members_view members.now.entries)) }
+fn rows(alloc: Global, members: Map<String, Value>) -> Result<Vec<Syntax>, AllocError>
+    ensures value { IfOk result (λ v. map row_of v.items ≡ rows_in (members_view members.entries)) }
     ensures ordered { IfOk result (λ v. IsInKeyOrder (map row_of v.items)) }
 {
-    let mut out = Vec::new(alloc);
-    for (key, member) in members.iter() {
+    let mut out = Vec::with_capacity(alloc, members.len())?;
+    for (key, member) in members {
         out.push(row(alloc, key.as_str(), member)?)?;
     }
     Ok(out)
 }
 
-/// The rows of the object `languages`.
-pub fn rows_at(alloc: Global, languages: Option<&Value>) -> Result<Vec<Syntax>, AllocError>
-    ensures value { IfOk result (λ v. map row_of v.items
-        ≡ rows_at (option_map (λ w. view w.now) languages.entry)) }
+fn language_rows(alloc: Global, languages: Value) -> Result<Vec<Syntax>, AllocError>
+    ensures value { IfOk result (λ v. map row_of v.items ≡ rows_at (Some (view languages))) }
     ensures ordered { IfOk result (λ v. IsInKeyOrder (map row_of v.items)) }
 {
     match languages {
-        Some(Value::Object(members)) => rows(alloc, members),
+        Value::Object(members) => rows(alloc, members),
+        _ => Ok(Vec::new(alloc)),
+    }
+}
+
+fn languages(alloc: Global, mut members: Map<String, Value>) -> Result<Vec<Syntax>, AllocError>
+    ensures value { IfOk result (λ v. map row_of v.items
+        ≡ rows_at (get_member (codes "languages") (members_view members.entries))) }
+    ensures ordered { IfOk result (λ v. IsInKeyOrder (map row_of v.items)) }
+{
+    match members.remove("languages") {
+        Some(languages) => language_rows(alloc, languages),
+        None => Ok(Vec::new(alloc)),
+    }
+}
+
+/// The rows of the object `languages` of a table. It fails where memory runs out.
+pub fn rows_of(alloc: Global, table: Value) -> Result<Vec<Syntax>, AllocError>
+    ensures value { IfOk result (λ v. map row_of v.items
+        ≡ rows_at (get (codes "languages") (view table))) }
+    ensures ordered { IfOk result (λ v. IsInKeyOrder (map row_of v.items)) }
+{
+    match table {
+        Value::Object(members) => languages(alloc, members),
         _ => Ok(Vec::new(alloc)),
     }
 }

@@ -9,36 +9,32 @@ use std::alloc::{AllocError, Global};
 use std::collections::BTreeMap;
 use tokei_table_row::Syntax;
 
-fn is_met(names: &BTreeMap<&str, ()>, name: &str) -> bool
-    ensures { result ≡ is_met names.now name.now }
-{
-    names.contains_key(name)
-}
-
-/// Whether the row's key or its name was met.
-fn was_met(names: &BTreeMap<&str, ()>, row: &Syntax) -> bool
-    ensures { result ≡ was_met (is_met names.now) (row_of row.now) }
-{
-    is_met(names, row.key.as_str()) || is_met(names, row.name.as_str())
-}
-
-fn add_name<'a>(names: &mut BTreeMap<&'a str, ()>, name: &'a str) -> Result<(), AllocError>
-    ensures { OnOk result
+/// Adds the name to those that were met, and tells whether it was met before.
+fn add_name<'a>(names: &mut BTreeMap<&'a str, ()>, name: &'a str) -> Result<bool, AllocError>
+    ensures met { IfOk result (λ met. met ≡ is_met names.old name.now) }
+    ensures added { OnOk result
         ((q : List ℕ) → is_met names.new q ≡ (is_met names.old q || bytes_eq name.now q)) }
 {
     match names.insert(name, ()) {
-        Ok(_old) => Ok(()),
+        Ok(old) => Ok(old.is_some()),
         Err(_refused) => Err(AllocError),
     }
 }
 
-/// Adds the row's key and its name to those that were met.
-fn add_names<'a>(names: &mut BTreeMap<&'a str, ()>, row: &'a Syntax) -> Result<(), AllocError>
-    ensures { OnOk result
+/// Adds the row's key and its name to those that were met, and tells whether one was met before.
+fn add_names<'a>(names: &mut BTreeMap<&'a str, ()>, row: &'a Syntax) -> Result<bool, AllocError>
+    ensures met { IfOk result (λ met. met ≡ was_met (is_met names.old) (row_of row.now)) }
+    ensures added { OnOk result
         ((q : List ℕ) → is_met names.new q ≡ (is_met names.old q || has_name q (row_of row.now))) }
 {
-    add_name(names, row.key.as_str())?;
-    add_name(names, row.name.as_str())
+    let key = row.key.as_str();
+    let name = row.name.as_str();
+    let key_met = add_name(names, key)?;
+    if name == key {
+        return Ok(key_met);
+    }
+    let name_met = add_name(names, name)?;
+    Ok(key_met || name_met)
 }
 
 /// Whether a text is key or name of two rows. It fails where memory runs out.
@@ -47,10 +43,9 @@ pub fn names_twice(alloc: Global, rows: &[Syntax]) -> Result<bool, AllocError>
 {
     let mut names = BTreeMap::new(alloc);
     for row in rows {
-        if was_met(&names, row) {
+        if add_names(&mut names, row)? {
             return Ok(true);
         }
-        add_names(&mut names, row)?;
     }
     Ok(false)
 }

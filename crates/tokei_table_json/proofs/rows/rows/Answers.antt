@@ -5,5 +5,5 @@ use Rattle.tokei_table_json.proofs.rows.rows.Goals as goal
 
 pub returns-clause-ordered : goal.returns-clause-ordered
 returns-clause-ordered c =
-    order_of_members (map row_of c.loop-key.out.items) c.args.members.now.entries c.loop-key.key-iterator
-    c.loop-key.invariant c.in-None.ensures.steps.0 c.iter-key-items.ensures.ordered
+    order_of_members (map row_of c.loop-key.out.items) c.args.members.entries c.loop-key.key-iterator
+    c.loop-key.invariant c.in-None.ensures.steps.0 c.len.ensures.ordered

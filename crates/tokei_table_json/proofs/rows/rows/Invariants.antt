@@ -6,4 +6,4 @@ use Rattle.tokei_table_json.proofs.rows.rows.Given as goal
 
 abbrev pub invariant-loop-key : goal.invariant-loop-key
 invariant-loop-key l =
-    rows_in (members_view l.members.entries) ≡ map row_of l.out.items ++ rows_in (members_view l.key-iterator)
+    rows_in (members_view l.fn.members.entries) ≡ map row_of l.out.items ++ rows_in (members_view l.key-iterator)

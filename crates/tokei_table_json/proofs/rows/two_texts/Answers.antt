@@ -4,8 +4,8 @@ use Rattle.tokei_table_json.specs.Rows.{two_texts}
 use Rattle.tokei_table_json.proofs.Pairs.{not_two, same_pair}
 use Rattle.tokei_table_json.proofs.rows.two_texts.Goals as goal
 
-pub returns-then-items-ne2 : goal.returns-then-items-ne2
-returns-then-items-ne2 c =
-    same_pair _ _ c.new.ensures.bytes c.new-then-items-ne2.ensures.bytes
-    ∙ sym (ap (λ xs. two_texts (items_view xs)) (sym c.as_slice-items.ensures.value)
-    ∙ not_two c.as_slice-items.result.now (λ e. grind arith))
+pub returns-then-as_slice-ne2 : goal.returns-then-as_slice-ne2
+returns-then-as_slice-ne2 c =
+    same_pair _ _ c.new.ensures.bytes c.new-then-as_slice-ne2.ensures.bytes
+    ∙ sym (ap (λ xs. two_texts (items_view xs)) (sym c.as_slice.ensures.value)
+    ∙ not_two c.as_slice.result.now (λ e. grind arith))

@@ -20,8 +20,8 @@ loop-row-preserved c =
     let rows = c.args.rows.now in
     let i = c.loop-row.row-index in
     let met = is_met c.loop-row.names in
-    clash_later met (is_met c.add_names.new.names) (row_of c.row-item.result) c.in_ok-add_names.ensures
-    (map row_of (drop (i + 1) rows)) (sym c.was_met.ensures ∙ c.if-was_met.false)
+    clash_later met (is_met c.add_names.new.names) (row_of c.row-item.result) c.in_ok-add_names.ensures.added
+    (map row_of (drop (i + 1) rows)) (sym c.in_ok-add_names.ensures.met ∙ c.if-branch.false)
     ∙ ap (λ row. clashes met (row_of row ∷ map row_of (drop (i + 1) rows))) c.row-item.is
     ∙ sym (at_drop_more (λ rest. clashes met (map row_of rest)) rows i c.row-item.result c.loop-row-test.true)
     ∙ c.loop-row.invariant

@@ -1,8 +1,8 @@
 use Rattle.std.proofs.Common.{ap, map}
 use Rattle.tokei_table_row.specs.RowOf.{row_of}
 use Rattle.tokei_table_json.proofs.KeyOrder.{order_of_none}
-use Rattle.tokei_table_json.proofs.rows.rows_at.Goals as goal
+use Rattle.tokei_table_json.proofs.rows.language_rows.Goals as goal
 
-pub returns-in_default-clause-ordered : goal.returns-in_default-clause-ordered
-returns-in_default-clause-ordered c =
+pub returns-clause-ordered : goal.returns-clause-ordered
+returns-clause-ordered c =
     order_of_none (map row_of c.new.result.items) (ap (map row_of) c.new.ensures.items)

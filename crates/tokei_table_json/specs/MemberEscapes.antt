@@ -1,0 +1,39 @@
+-- The escapes of a language, asked of one member after the other.
+use Rattle.std.specs.Prelude.{ℕ, Bool, true, ◌&&◌, if◌then◌else◌, not, ◌||◌, List, bytes_eq, codes}
+use Rattle.serde_json.specs.Data.{Data}
+use Rattle.tokei_table_json.specs.Escaped.{is_escaped_value, is_escaped_list, are_escaped_pairs, are_escaped_contexts}
+
+-- A member that holds comments or string literals; others pass.
+abbrev pub keeps_tokens : List ℕ → Data → Bool
+keeps_tokens k d =
+    if bytes_eq k (codes "line_comment") then is_escaped_list d
+    else (if bytes_eq k (codes "multi_line_comments") then are_escaped_pairs d
+    else (if bytes_eq k (codes "nested_comments") then are_escaped_pairs d
+    else (if bytes_eq k (codes "quotes") then are_escaped_pairs d
+    else (if bytes_eq k (codes "verbatim_quotes") then are_escaped_pairs d
+    else (if bytes_eq k (codes "doc_quotes") then are_escaped_pairs d
+    else true)))))
+
+-- A member by which a language is found; others pass.
+abbrev pub keeps_finders : List ℕ → Data → Bool
+keeps_finders k d =
+    if bytes_eq k (codes "extensions") then is_escaped_list d
+    else (if bytes_eq k (codes "filenames") then is_escaped_list d
+    else (if bytes_eq k (codes "path_suffixes") then is_escaped_list d
+    else (if bytes_eq k (codes "mime") then is_escaped_list d
+    else (if bytes_eq k (codes "shebangs") then is_escaped_list d
+    else (if bytes_eq k (codes "env") then is_escaped_list d
+    else true)))))
+
+-- One of the other members; the tags are looked at in a language of kind `html` alone.
+abbrev pub keeps_traits : Bool → List ℕ → Data → Bool
+keeps_traits html k d =
+    if bytes_eq k (codes "name") then is_escaped_value d
+    else (if bytes_eq k (codes "important_syntax") then is_escaped_list d
+    else (if bytes_eq k (codes "contexts") then not html || are_escaped_contexts d
+    else true))
+
+-- Whether the value has but the known escapes at its key in a language, which is of kind `html` or
+-- not.
+abbrev pub keeps_escapes : Bool → List ℕ → Data → Bool
+keeps_escapes html k d = keeps_tokens k d && (keeps_finders k d && keeps_traits html k d)
