@@ -14,6 +14,6 @@ use denote.Param.Weighed.{most}
 abbrev pub invariant-write_blobs-loop-name : goal.invariant-write_blobs-loop-name
 invariant-write_blobs-loop-name l = record {
   written : LacksMembers (members_by (λ s. statistics_data l.table (stats_of s)) (seen_by now_of l.initial.name-iterator))
-  (members_by (λ s. statistics_data l.table (stats_of s)) (seen_by now_of l.name-iterator)) l.initial.out l.out;
+      (members_by (λ s. statistics_data l.table (stats_of s)) (seen_by now_of l.name-iterator)) l.initial.out l.out;
   within : AllByRecursion (λ e. the_size e.1.now ≤ most the_size (values_of l.blobs.entries)) l.name-iterator;
 }
