@@ -2,4 +2,6 @@
 pub mod Document
 pub mod LanguageMaps
 pub mod Layout
+pub mod Members
 pub mod ReportData
+pub mod Tokens

@@ -7,6 +7,7 @@ pub mod layout;
 pub mod named_table;
 pub mod reports;
 pub mod text;
+mod tokens;
 pub mod write;
 
 pub use language_maps::{all_known, all_once};

@@ -1,0 +1,37 @@
+-- What is written of values, token by token, and values by the names of their languages. For the
+-- clauses of private calls.
+use Rattle.std.specs.Prelude.{◌≡◌, ℕ, List, [], ◌∷◌, ◌++◌, Some}
+use Rattle.std.specs.BTreeMap.{insert_entry}
+use Rattle.std.specs.Cmp.Lexicographic.{slice_cmp}
+use Rattle.std.specs.Ordering.{nat_cmp}
+use Rattle.json.specs.Token.{key}
+use Rattle.json.specs.Tree.{json_tokens}
+use Rattle.json.specs.Written as json
+use Rattle.serde_json.specs.Data.{Data, Members, no_members, member}
+use Rattle.serde_json.specs.Read.{of_json}
+use Rattle.serde_json.specs.Written.{outline}
+use Rattle.tokei_json.specs.ReportData.{name_of}
+use Rattle.tokei_table.specs.Row.{Row}
+
+-- the value's tokens stand behind the old ones, and read as the value
+pub record IsWritten (d : Data) (old new : json.Written) : Type 0 where
+  pub tokens : new.tokens ≡ old.tokens ++ json_tokens (outline d)
+  pub reads : of_json (outline d) ≡ Some d
+  pub before : new.before ≡ old.before
+
+-- the same of a member: a name, and its value
+pub record IsMember (name : List ℕ) (d : Data) (old new : json.Written) : Type 0 where
+  pub tokens : new.tokens ≡ old.tokens ++ key name ∷ json_tokens (outline d)
+  pub reads : of_json (outline d) ≡ Some d
+  pub before : new.before ≡ old.before
+
+-- the values that are there, and then each entry's, under the name of its language
+abbrev pub named : {T : Type 0} → List Row → List (ℕ × T) → List (List ℕ × T) → List (List ℕ × T)
+named rows [] found = found
+named rows (e ∷ es) found =
+    named rows es (insert_entry (slice_cmp nat_cmp) found (name_of rows e.0) e.1)
+
+-- values under their names as members
+abbrev pub members_by : {T : Type 0} → (T → Data) → List (List ℕ × T) → Members
+members_by value_of [] = no_members
+members_by value_of (e ∷ es) = member e.0 (value_of e.1) (members_by value_of es)
