@@ -1,0 +1,28 @@
+//! Rows of data, and whether they hold: a row is read from TOML, public calls are asked, and what they answer is compared
+//! with what the row wants. What is asked is told by a `Subject`.
+#![tactic(auto)]
+
+mod answers;
+mod compared;
+mod error;
+mod file;
+mod folders;
+mod notes;
+mod page;
+mod request;
+mod row;
+mod said;
+mod subject;
+mod tables;
+mod told;
+
+pub use answers::Answers;
+pub use error::RowError;
+pub use file::ended;
+pub use folders::{add_files, folders_of, known_words, owned, roots, says};
+pub use notes::KINDS;
+pub use page::Page;
+pub use row::{Row, has_word, number_of, size_of, text_of, three_of};
+pub use said::Said;
+pub use subject::{Members, Subject};
+pub use tables::Asked;

@@ -1,0 +1,44 @@
+//! What is told of the rows of a file.
+use crate::error::RowError;
+use std::alloc::Global;
+
+/// What is told of the rows of a file.
+#[derive(Drop)]
+pub struct Told {
+    /// How many rows hold.
+    pub hold: usize,
+    /// How many don't.
+    pub fail: usize,
+    /// The lines on those that don't.
+    pub lines: String,
+}
+
+impl Told {
+    /// Nothing yet.
+    pub fn new(alloc: Global) -> Told {
+        Told {
+            hold: 0,
+            fail: 0,
+            lines: String::new(alloc),
+        }
+    }
+
+    /// Adds a row that holds.
+    pub fn pass(&mut self) {
+        self.hold = self.hold.saturating_add(1);
+    }
+
+    /// Adds a row, or a file, of which something is told.
+    pub fn refuse(&mut self, file: &str, what: &str) -> Result<(), RowError> {
+        self.fail = self.fail.saturating_add(1);
+        writeln!(self.lines, "{file}: {what}")?;
+        Ok(())
+    }
+
+    /// Adds a row with a name, and the lines that tell why it doesn't hold.
+    pub fn refuse_row(&mut self, file: &str, name: &str, faults: &str) -> Result<(), RowError> {
+        self.fail = self.fail.saturating_add(1);
+        write!(self.lines, "{file}: \"{name}\" doesn't hold\n{faults}")?;
+        Ok(())
+    }
+}

@@ -1,0 +1,85 @@
+//! Rows of texts that are tables of languages, or aren't, for each cause.
+use crate::gains::gained;
+use test_rows::{Answers, Asked, Members, Row, RowError, Said};
+use tokei_table::{LanguageTable, TableError};
+
+/// The members of these rows. The text is `json`, or that of one language `X` with these `members`; without both it is
+/// the bench table. Wanted is how many languages it has, or why it is refused; `words` are those of the cause, which a
+/// row may name alone as `cause`.
+pub const MEMBERS: Members = Members {
+    given: &["json", "json_hex", "members", "gains", "cause"],
+    wanted: &["languages", "error"],
+    optional: &["words"],
+    by_table: true,
+};
+
+/// Answers by why a text is refused.
+fn refused(cause: TableError, answers: &mut Answers) {
+    if cause == TableError::Memory {
+        answers.fail(RowError::Memory);
+    } else {
+        answers.say_debug("error", &cause);
+        answers.say_shown("words", &cause);
+    }
+}
+
+/// The answers that a text gives.
+fn read(text: &[u8], answers: &mut Answers) {
+    match LanguageTable::from_json(answers.alloc, text) {
+        Ok(table) => answers.say("languages", Said::Number(table.len() as u128)),
+        Err(cause) => refused(cause, answers),
+    }
+}
+
+/// The answers that the bench table gives, in which languages may gain extensions.
+fn bench(asked: &Asked, row: &Row, answers: &mut Answers) -> Result<(), RowError> {
+    let table = gained(answers.alloc, asked.table()?, row)?;
+    if !table.is_empty() {
+        answers.say("languages", Said::Number(table.len() as u128));
+    }
+    Ok(())
+}
+
+/// The cause of that name.
+fn cause_of(name: &str) -> Option<TableError> {
+    match name {
+        "NotJson" => Some(TableError::NotJson),
+        "Layout" => Some(TableError::Layout),
+        "Escape" => Some(TableError::Escape),
+        "Token" => Some(TableError::Token),
+        "NamedTwice" => Some(TableError::NamedTwice),
+        "NamedTotal" => Some(TableError::NamedTotal),
+        "Fallback" => Some(TableError::Fallback),
+        "Memory" => Some(TableError::Memory),
+        _ => None,
+    }
+}
+
+/// The answers that a cause alone gives: its words.
+fn words(name: &str, answers: &mut Answers) {
+    match cause_of(name) {
+        Some(cause) => answers.say_shown("words", &cause),
+        None => answers.fail(RowError::Words("there is no such cause")),
+    }
+}
+
+/// The answers that a table of one language with these members gives.
+fn read_members(members: &str, answers: &mut Answers) -> Result<(), RowError> {
+    let text = format!(in answers.alloc; "{{\"languages\":{{\"X\":{{{members}}}}}}}")?;
+    read(text.as_bytes(), answers);
+    Ok(())
+}
+
+/// What the calls answer.
+pub fn came(asked: &Asked, row: &Row, answers: &mut Answers) -> Result<(), RowError> {
+    if let Some(name) = row.text_if("cause")? {
+        words(name, answers);
+    } else if let Some(members) = row.text_if("members")? {
+        read_members(members, answers)?;
+    } else if row.has("json") || row.has("json_hex") {
+        read(&row.bytes(answers.alloc, "json", "json_hex")?, answers);
+    } else {
+        bench(asked, row, answers)?;
+    }
+    Ok(())
+}

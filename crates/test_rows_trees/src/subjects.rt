@@ -1,0 +1,87 @@
+//! What the rows of this program are about.
+use crate::{
+    documents, files, folders, ignore_files, languages, patterns, printed, read_back, statistics,
+    walks, words,
+};
+use test_rows::{Answers, Asked, Members, Row, RowError, Subject};
+
+/// What rows are about: each has a file of this name, and a module that asks.
+#[derive(Clone, Copy)]
+pub enum Rows {
+    Documents,
+    Files,
+    Folders,
+    IgnoreFiles,
+    Languages,
+    Patterns,
+    Printed,
+    ReadBack,
+    Statistics,
+    Walks,
+    Words,
+}
+
+/// All of them, in the order of their files' names.
+pub const SUBJECTS: [Rows; 11] = [
+    Rows::Documents,
+    Rows::Files,
+    Rows::Folders,
+    Rows::IgnoreFiles,
+    Rows::Languages,
+    Rows::Patterns,
+    Rows::Printed,
+    Rows::ReadBack,
+    Rows::Statistics,
+    Rows::Walks,
+    Rows::Words,
+];
+
+impl Subject for Rows {
+    fn file(&self) -> &'static str {
+        match *self {
+            Rows::Documents => "documents.toml",
+            Rows::Files => "files.toml",
+            Rows::Folders => "folders.toml",
+            Rows::IgnoreFiles => "ignore_files.toml",
+            Rows::Languages => "languages.toml",
+            Rows::Patterns => "patterns.toml",
+            Rows::Printed => "printed.toml",
+            Rows::ReadBack => "read_back.toml",
+            Rows::Statistics => "statistics.toml",
+            Rows::Walks => "walks.toml",
+            Rows::Words => "words.toml",
+        }
+    }
+
+    fn members(&self) -> Members {
+        match *self {
+            Rows::Documents => documents::MEMBERS,
+            Rows::Files => files::MEMBERS,
+            Rows::Folders => folders::MEMBERS,
+            Rows::IgnoreFiles => ignore_files::MEMBERS,
+            Rows::Languages => languages::MEMBERS,
+            Rows::Patterns => patterns::MEMBERS,
+            Rows::Printed => printed::MEMBERS,
+            Rows::ReadBack => read_back::MEMBERS,
+            Rows::Statistics => statistics::MEMBERS,
+            Rows::Walks => walks::MEMBERS,
+            Rows::Words => words::MEMBERS,
+        }
+    }
+
+    fn ask(&self, asked: &Asked, row: &Row, answers: &mut Answers) -> Result<(), RowError> {
+        match *self {
+            Rows::Documents => documents::came(asked, row, answers),
+            Rows::Files => files::came(asked, row, answers),
+            Rows::Folders => folders::came(asked, row, answers),
+            Rows::IgnoreFiles => ignore_files::came(asked, row, answers),
+            Rows::Languages => languages::came(asked, row, answers),
+            Rows::Patterns => patterns::came(asked, row, answers),
+            Rows::Printed => printed::came(asked, row, answers),
+            Rows::ReadBack => read_back::came(asked, row, answers),
+            Rows::Statistics => statistics::came(asked, row, answers),
+            Rows::Walks => walks::came(asked, row, answers),
+            Rows::Words => words::came(asked, row, answers),
+        }
+    }
+}
