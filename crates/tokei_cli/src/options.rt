@@ -42,13 +42,16 @@ fn with_report<'a>(alloc: Global, command: Command<'a>) -> Result<Command<'a>, A
     .short('c')
     .value_parser(value_parser!(usize))
     .conflicts_with("output")?;
+    let command = command.arg(columns)?;
     let files = flag(alloc, "files", "Also lists every file.").short('f');
+    let command = command.arg(files)?;
     let compact = flag(
         alloc,
         "compact",
         "Prints no statistics of embedded languages.",
     )
     .short('C');
+    let command = command.arg(compact)?;
     let numbers = value(
         alloc,
         "num-format",
@@ -56,7 +59,7 @@ fn with_report<'a>(alloc: Global, command: Command<'a>) -> Result<Command<'a>, A
     )
     .short('n')
     .conflicts_with("output")?;
-    command.arg(columns)?.arg(files)?.arg(compact)?.arg(numbers)
+    command.arg(numbers)
 }
 
 /// The options on formats for other programs, and on the list of languages.
@@ -69,11 +72,13 @@ fn with_formats<'a>(alloc: Global, command: Command<'a>) -> Result<Command<'a>, 
         "Writes the results in a format for other programs, in place of the report: json.",
     )
     .short('o');
+    let command = command.arg(output)?;
     let streaming = value(
         alloc,
         "streaming",
         "Writes a record of each file as it is counted (language, path, lines, blanks, code, comments): simple or json.",
     );
+    let command = command.arg(streaming)?;
     let languages = flag(
         alloc,
         "languages",
@@ -81,7 +86,7 @@ fn with_formats<'a>(alloc: Global, command: Command<'a>) -> Result<Command<'a>, 
     )
     .short('l')
     .conflicts_with("input")?;
-    command.arg(output)?.arg(streaming)?.arg(languages)
+    command.arg(languages)
 }
 
 /// The options on the order of the report, and on which languages it has.
@@ -95,12 +100,14 @@ fn with_order<'a>(alloc: Global, command: Command<'a>) -> Result<Command<'a>, Al
     )
     .short('s')
     .conflicts_with("rsort")?;
+    let command = command.arg(sort)?;
     let rsort = value(
         alloc,
         "rsort",
         "Sorts the languages by a column, and reverses the order.",
     )
     .short('r');
+    let command = command.arg(rsort)?;
     let types = value(
         alloc,
         "types",
@@ -108,7 +115,7 @@ fn with_order<'a>(alloc: Global, command: Command<'a>) -> Result<Command<'a>, Al
     )
     .short('t')
     .action(ArgAction::Append);
-    command.arg(sort)?.arg(rsort)?.arg(types)
+    command.arg(types)
 }
 
 /// The options on which ignore files are obeyed.
@@ -120,22 +127,25 @@ fn with_ignore_files<'a>(alloc: Global, command: Command<'a>) -> Result<Command<
         "no-ignore",
         "Obeys no ignore file; implies --no-ignore-parent, --no-ignore-dot and --no-ignore-vcs.",
     );
+    let command = command.arg(all)?;
     let parent = flag(
         alloc,
         "no-ignore-parent",
         "Obeys no ignore file of the folders above.",
     );
+    let command = command.arg(parent)?;
     let dot = flag(
         alloc,
         "no-ignore-dot",
         "Obeys neither .ignore nor .tokeignore.",
     );
+    let command = command.arg(dot)?;
     let vcs = flag(
         alloc,
         "no-ignore-vcs",
         "Obeys none of git's ignore files, those of the folders above included.",
     );
-    command.arg(all)?.arg(parent)?.arg(dot)?.arg(vcs)
+    command.arg(vcs)
 }
 
 /// The options on what else is left out, and on files that the program reads.
@@ -149,18 +159,21 @@ fn with_files<'a>(alloc: Global, command: Command<'a>) -> Result<Command<'a>, Al
     )
     .short('e')
     .action(ArgAction::Append);
+    let command = command.arg(exclude)?;
     let hidden = flag(alloc, "hidden", "Counts hidden files too.");
+    let command = command.arg(hidden)?;
     let earlier = Arg::new(alloc, "file_input")
         .long("input")
         .short('i')
         .action(ArgAction::Set)
         .help("Adds the statistics of an earlier run, written by -o json: a file, or stdin.");
+    let command = command.arg(earlier)?;
     let table = value(
         alloc,
         "table",
         "The file of the table of languages; without it the one installed with the program, else languages.json in the current folder.",
     );
-    command.arg(exclude)?.arg(hidden)?.arg(earlier)?.arg(table)
+    command.arg(table)
 }
 
 /// The whole command line, as its parser takes it.

@@ -20,11 +20,7 @@ returns c =
     c.help-earlier.result =
     helped_is _ _ c.action.result _ c.help-earlier.ensures (acting_is _ _ c.short-2.result _ c.action.ensures short) in
     let table : IsOption (valued (codes "table")) c.value-table.result = (c.value-table.ensures.rule, c.value-table.ensures.local) in
-    let with_exclude =
-    option_added _ c.action-exclude.result c.args.command c.in_ok-arg.field-0 (app_of c.args.command) exclude c.in_ok-arg.ensures refl in
-    let with_hidden =
-    option_added _ c.flag-hidden.result c.in_ok-arg.field-0 c.in_ok-arg-2.field-0 _ hidden c.in_ok-arg-2.ensures with_exclude in
-    let with_earlier =
-    option_added _ c.help-earlier.result c.in_ok-arg-2.field-0 c.in_ok-arg-3.field-0 _ earlier c.in_ok-arg-3.ensures with_hidden in
-    IfOk-weaker c.arg-4.result _ _
-    (λ r added. option_added _ c.value-table.result c.in_ok-arg-3.field-0 r _ table added with_earlier) c.arg-4.ensures
+    let with_exclude = option_added _ _ _ _ (app_of c.args.command) exclude c.in_ok-command.ensures refl in
+    let with_hidden = option_added _ _ _ _ _ hidden c.in_ok-command-2.ensures with_exclude in
+    let with_earlier = option_added _ _ _ _ _ earlier c.in_ok-command-3.ensures with_hidden in
+    IfOk-weaker c.arg-4.result _ _ (λ r added. option_added _ _ _ _ _ table added with_earlier) c.arg-4.ensures

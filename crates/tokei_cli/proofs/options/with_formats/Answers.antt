@@ -12,7 +12,7 @@ returns c =
     let output = lettered_is (codes "o") _ _ _ c.short-output.ensures (c.value.ensures.rule, c.value.ensures.local) in
     let listing = lettered_is (codes "l") _ _ _ c.short.ensures (c.flag.ensures.rule, c.flag.ensures.local) in
     let languages = excluding_is _ c.short.result c.in_ok-languages.languages _ c.in_ok-languages.ensures listing in
-    let with_output = option_added _ _ _ _ (app_of c.args.command) output c.in_ok-arg.ensures refl in
+    let with_output = option_added _ _ _ _ (app_of c.args.command) output c.in_ok-command.ensures refl in
     let with_streaming =
-    option_added _ _ _ _ _ (c.value-streaming.ensures.rule, c.value-streaming.ensures.local) c.in_ok-arg-2.ensures with_output in
+    option_added _ _ _ _ _ (c.value-streaming.ensures.rule, c.value-streaming.ensures.local) c.in_ok-command-2.ensures with_output in
     IfOk-weaker c.arg-3.result _ _ (λ r added. option_added _ _ _ _ _ languages added with_streaming) c.arg-3.ensures

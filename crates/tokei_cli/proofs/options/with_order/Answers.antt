@@ -14,6 +14,6 @@ returns c =
     let rsort = lettered_is (codes "r") _ _ _ c.short-rsort.ensures (c.value-2.ensures.rule, c.value-2.ensures.local) in
     let types = acting_is _ _ c.short-2.result _ c.action-types.ensures
     (lettered_is (codes "t") _ _ _ c.short-2.ensures (c.value-3.ensures.rule, c.value-3.ensures.local)) in
-    let with_sort = option_added _ _ _ _ (app_of c.args.command) sort c.in_ok-arg.ensures refl in
-    let with_rsort = option_added _ _ _ _ _ rsort c.in_ok-arg-2.ensures with_sort in
+    let with_sort = option_added _ _ _ _ (app_of c.args.command) sort c.in_ok-command.ensures refl in
+    let with_rsort = option_added _ _ _ _ _ rsort c.in_ok-command-2.ensures with_sort in
     IfOk-weaker c.arg-3.result _ _ (λ r added. option_added _ _ _ _ _ types added with_rsort) c.arg-3.ensures

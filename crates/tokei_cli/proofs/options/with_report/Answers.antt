@@ -17,7 +17,7 @@ returns c =
     let compact = lettered_is (codes "C") _ _ _ c.short-compact.ensures (c.flag-2.ensures.rule, c.flag-2.ensures.local) in
     let styled = lettered_is (codes "n") _ _ _ c.short-2.ensures (c.value-2.ensures.rule, c.value-2.ensures.local) in
     let numbers = excluding_is _ c.short-2.result c.in_ok-numbers.numbers _ c.in_ok-numbers.ensures styled in
-    let with_columns = option_added _ _ _ _ (app_of c.args.command) columns c.in_ok-arg.ensures refl in
-    let with_files = option_added _ _ _ _ _ files c.in_ok-arg-2.ensures with_columns in
-    let with_compact = option_added _ _ _ _ _ compact c.in_ok-arg-3.ensures with_files in
+    let with_columns = option_added _ _ _ _ (app_of c.args.command) columns c.in_ok-command.ensures refl in
+    let with_files = option_added _ _ _ _ _ files c.in_ok-command-2.ensures with_columns in
+    let with_compact = option_added _ _ _ _ _ compact c.in_ok-command-3.ensures with_files in
     IfOk-weaker c.arg-4.result _ _ (λ r added. option_added _ _ _ _ _ numbers added with_compact) c.arg-4.ensures
