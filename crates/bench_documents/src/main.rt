@@ -2,8 +2,9 @@
 //! prints a line for each of these ways: its name and how many bytes the text has.
 //!
 //! The first two arguments are how many languages there are, and how many reports each of them has; each report holds
-//! statistics of one more language. Behind them may stand `times`, with which each line ends in the nanoseconds of the
-//! quickest run. Where what is parsed differs from what was printed, it refuses.
+//! statistics of one more language. Behind them may stand a word: with `times` each line ends in the nanoseconds of the
+//! quickest run; with `make` the languages are only made, with `print` they are printed too, with `parse` the text is parsed
+//! too. Where what is parsed differs from what was printed, it refuses.
 #![tactic(auto)]
 
 mod making;
@@ -13,11 +14,13 @@ mod ways;
 
 use making::{made_languages, made_table};
 use measure::{Measured, time};
-use request::requested;
+use request::{Task, requested};
 use serde_json::Value;
 use std::alloc::Global;
 use std::time::Clock;
 use tokei_earlier::Format;
+use tokei_languages::Languages;
+use tokei_table::LanguageTable;
 use ways::{Input, Way};
 
 /// Prints the line of a way.
@@ -59,18 +62,49 @@ fn compare(
     Ok(())
 }
 
+/// Goes each way with the languages, where that is asked for timed.
+fn compare_all(
+    rt: &(impl Print + Clock),
+    alloc: Global,
+    table: &LanguageTable,
+    languages: &Languages,
+    timed: bool,
+) -> anyhow::Result<()> {
+    let text = Format::Json.print(alloc, table, languages)?;
+    let value = Value::from_str(alloc, text.as_str())?;
+    let input = Input {
+        table,
+        languages,
+        text: text.as_str(),
+        value: &value,
+    };
+    compare(rt, alloc, &input, timed)
+}
+
+/// Prints the languages, and parses the text where that is asked for.
+fn print_once(
+    alloc: Global,
+    table: &LanguageTable,
+    languages: &Languages,
+    parses: bool,
+) -> anyhow::Result<()> {
+    let text = Format::Json.print(alloc, table, languages)?;
+    if parses {
+        drop(Format::parse(alloc, table, text.as_str())?);
+    }
+    Ok(())
+}
+
 fn main(rt: HostRuntime) -> anyhow::Result<()> {
     let alloc = rt.alloc();
     let request = requested(&rt)?;
     let table = made_table(alloc, request.languages)?;
     let languages = made_languages(alloc, &table, request.reports)?;
-    let text = Format::Json.print(alloc, &table, &languages)?;
-    let value = Value::from_str(alloc, text.as_str())?;
-    let input = Input {
-        table: &table,
-        languages: &languages,
-        text: text.as_str(),
-        value: &value,
-    };
-    compare(&rt, alloc, &input, request.timed)
+    match request.task {
+        Task::Make => Ok(()),
+        Task::Print => print_once(alloc, &table, &languages, false),
+        Task::Parse => print_once(alloc, &table, &languages, true),
+        Task::Compare => compare_all(&rt, alloc, &table, &languages, false),
+        Task::Time => compare_all(&rt, alloc, &table, &languages, true),
+    }
 }
