@@ -53,7 +53,11 @@ fn adds_a_beginning(alloc: Global) -> bool {
         }
     }
     let added = lines.as_slice().len();
-    if logged { added == KINDS.len() } else { added < KINDS.len() }
+    if logged {
+        added == KINDS.len()
+    } else {
+        added < KINDS.len()
+    }
 }
 
 #[test]
