@@ -16,10 +16,11 @@ use tokei_real::{RealFolders, RetriedReader};
 use unstarted::Unstarted;
 
 /// Writes out what is left of the output, and answers the program's status; where that fails, it
-/// says so, and answers that of a failure.
+/// answers that of a failure, and says so unless the program has failed and has said why.
 fn flushed<W: Write>(rt: &HostRuntime, status: u8, out: &mut W) -> ExitCode {
     match out.flush() {
         Ok(()) => ExitCode::from(status),
+        Err(_) if status != 0 => ExitCode::from(status),
         Err(error) => {
             let _ = eprintln!(rt; "Error: the output can't be written: {error}");
             ExitCode::FAILURE
