@@ -1,7 +1,7 @@
 //! A whole run: what is counted is written.
 ghost use Rattle.std.specs.Prelude.{◌≡◌, ◌≢◌, ◌<◌, Err, IfErr, IfOk, OnOk};
 ghost use Rattle.tokei_folders.specs.Answers.{Told};
-ghost use Rattle.tokei.specs.declared.error.RunError.TheVariants.{Overflow as SumOverflow, Write as WriteFault};
+ghost use Rattle.tokei_io.specs.declared.error.OutputError.TheVariants.{Overflow as SumOverflow, Write as WriteFault};
 ghost use Rattle.tokei.specs.Output.{Outputs, WritesDocument, WritesReport};
 ghost use Rattle.tokei.specs.Refused.{IsUntouched};
 ghost use Rattle.tokei.specs.Sums.{DocumentFits, EarlierFits, Fits, RunReportFits};
@@ -13,7 +13,6 @@ ghost use Rattle.tokei_walk.specs.Notes.{Grows, notes_of_excludes};
 ghost use Rattle.tokei_walk.specs.Walks.{texts_of};
 
 use crate::counting::tally_of;
-use crate::error::RunError;
 use crate::job::{Job, Wanted};
 use crate::rows::Rows;
 use crate::streaming::stream;
@@ -21,7 +20,7 @@ use crate::writing::{put_document, put_report};
 use std::alloc::Global;
 use tokei_earlier::Format;
 use tokei_folders::Folders;
-use tokei_io::Sink;
+use tokei_io::{OutputError, Sink};
 use tokei_table::LanguageTable;
 use tokei_walk::Note;
 
@@ -32,7 +31,7 @@ fn write_document<F: Folders, W: Sink>(
     folders: &mut F,
     job: &Job,
     writer: &mut W,
-) -> Result<Vec<Note>, RunError>
+) -> Result<Vec<Note>, OutputError>
     ensures same { SameTree F.tree folders.old folders.new }
     ensures told { Told (F.tree folders.old) (λ t. OnOk result (WritesDocument
         table.now job.now t (W.contents writer.old) (W.contents writer.new))) }
@@ -60,7 +59,7 @@ fn write_report<F: Folders, W: Sink>(
     folders: &mut F,
     job: &Job,
     writer: &mut W,
-) -> Result<Vec<Note>, RunError>
+) -> Result<Vec<Note>, OutputError>
     ensures same { SameTree F.tree folders.old folders.new }
     ensures told { Told (F.tree folders.old) (λ t. OnOk result (WritesReport
         table.now job.now t (W.contents writer.old) (W.contents writer.new))) }
@@ -95,7 +94,7 @@ pub fn run<F: Folders, W: Sink>(
     folders: &mut F,
     job: &Job,
     writer: &mut W,
-) -> Result<Vec<Note>, RunError>
+) -> Result<Vec<Note>, OutputError>
     ensures same { SameTree F.tree folders.old folders.new }
     ensures told { Told (F.tree folders.old) (λ t. OnOk result (Outputs job.now.wanted
         table.now job.now t (W.contents writer.old) (W.contents writer.new))) }

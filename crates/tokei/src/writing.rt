@@ -6,17 +6,15 @@ ghost use Rattle.tokei_json.specs.Document.{document};
 ghost use Rattle.tokei_languages.specs.Seen.{languages_of};
 ghost use Rattle.tokei_languages.specs.Summaries.{languages_summary};
 ghost use Rattle.tokei_stats.specs.Overflow.{CountsFit};
-ghost use Rattle.tokei.specs.declared.error.RunError.TheVariants.{Overflow as SumOverflow, Write as WriteFault};
+ghost use Rattle.tokei_io.specs.declared.error.OutputError.TheVariants.{Overflow as SumOverflow, Write as WriteFault};
 ghost use Rattle.tokei.specs.Written.{sort_of, style_of, AppendsReport};
 ghost use Rattle.tokei_print.specs.ReportSums.{PrintedReportFits};
 ghost use Rattle.tokei_io.specs.Faults.{TellsFault, PassesNoFault};
 
-use crate::error::RunError;
 use crate::job::Job;
-use crate::putting::put;
 use std::alloc::Global;
 use tokei_earlier::Format;
-use tokei_io::Sink;
+use tokei_io::{OutputError, Sink, put};
 use tokei_languages::Languages;
 use tokei_print::{ReportStyle, text_of_report};
 use tokei_table::LanguageTable;
@@ -28,7 +26,7 @@ pub fn put_document<W: Sink>(
     table: &LanguageTable,
     languages: &Languages,
     writer: &mut W,
-) -> Result<(), RunError>
+) -> Result<(), OutputError>
     ensures bytes { OnOk result (Appends (W.contents writer.old) (W.contents writer.new)
         (compact_text (document table.now (languages_of languages.now)))) }
     ensures overflow { result ≡ Err SumOverflow
@@ -65,7 +63,7 @@ pub fn put_report<W: Sink>(
     job: &Job,
     languages: Languages,
     writer: &mut W,
-) -> Result<(), RunError>
+) -> Result<(), OutputError>
     ensures bytes { OnOk result (AppendsReport table.now job.now (languages_of languages)
         (W.contents writer.old) (W.contents writer.new)) }
     ensures overflow { result ≡ Err SumOverflow
