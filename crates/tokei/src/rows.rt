@@ -25,6 +25,7 @@ pub struct Rows<'a> {
 }
 
 /// Writes the columns of a report.
+#[tactic(auto, using(tokei_io::proofs::Printing::printing_tells, tokei_io::proofs::Printing::printing_passes))]
 fn write_columns<W: Sink>(
     rows: &Rows,
     language: LanguageType,
@@ -79,6 +80,7 @@ pub fn write_row<W: Sink>(
 }
 
 /// Writes the heading of a stream, where it has one.
+#[tactic(auto, using(tokei_io::proofs::Printing::printing_tells, tokei_io::proofs::Printing::printing_passes))]
 pub fn write_heading<W: Sink>(form: Streaming, writer: &mut W) -> Result<(), OutputError>
     ensures bytes { OnOk result
         (Appends (W.contents writer.old) (W.contents writer.new) (heading_of form)) }

@@ -1,6 +1,6 @@
 -- A call that prints tells its writer's fault, and passes over none.
 use Rattle.std.proofs.Common.{◌≡◌, ◌≢◌, ◌<◌, ◌+◌, ℕ, Result, Ok, Err, ap, ◌∙◌, refl, rules}
-use Rattle.tokei_io.specs.Faults.{TellsFault, PassesNoFault}
+use Rattle.tokei_io.specs.Faults.{TellsFault, PassesNoFault, faults_after}
 use Rattle.tokei_io.specs.Printing.{faults_after_printing}
 use Rattle.tokei_io.specs.declared.error.OutputError.{OutputError}
 use Rattle.tokei_io.specs.declared.error.OutputError.TheVariants.{Memory, Overflow, Write}
@@ -22,3 +22,12 @@ module _ {W A : Type 0} (faults : W → ℕ) (old new : W) where
   printing_passes (Err Memory) counts below other = counts below
   printing_passes (Err Overflow) counts below other = counts below
   printing_passes (Err Write) counts below other = absurd (other refl)
+
+  -- where it is refused for a fault alone, each refusal has counted one
+  pub printing_counts : (q : Result A OutputError) → q ≢ Err Memory → q ≢ Err Overflow
+      → (faults old < 18446744073709551615 → faults new ≡ faults_after_printing q (faults old))
+      → faults old < 18446744073709551615 → faults new ≡ faults_after q (faults old)
+  printing_counts (Ok a) memory overflow counts below = counts below
+  printing_counts (Err Memory) memory overflow counts below = absurd (memory refl)
+  printing_counts (Err Overflow) memory overflow counts below = absurd (overflow refl)
+  printing_counts (Err Write) memory overflow counts below = counts below

@@ -4,8 +4,7 @@ ghost use Rattle.tokei_program.specs.Messages.{IsMessage};
 
 use std::alloc::{AllocError, AllocFailed, Global};
 use thiserror::Error;
-use tokei::OutputError;
-use tokei_table::TableError;
+use tokei::{OutputError, TableError};
 
 /// Why nothing is counted, or why the count isn't shown.
 #[derive(Debug, Drop, Error)]
