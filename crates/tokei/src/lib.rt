@@ -5,10 +5,20 @@
 
 pub mod columns;
 mod counting;
-pub mod running;
+mod earlier;
+mod job;
+mod rows;
+mod running;
+mod streaming;
 mod writing;
 
+pub use earlier::earlier_languages;
+pub use job::{Job, Wanted};
+pub use rows::{Rows, write_heading, write_row};
 pub use running::run;
+pub use streaming::stream;
+
+// What is handed on from below.
 pub use tokei_config::{Config, ConfigDirs, LanguageConfig};
 pub use tokei_count::{
     Capture, CountConfig, Counter, FileContext, HtmlLike, LanguageContext, SharedMatchers,
@@ -17,20 +27,19 @@ pub use tokei_count::{
     start_lf, start_markdown, start_script, start_style, start_template,
 };
 pub use tokei_earlier::{Format, FormatError, InputError, add_input, from_value};
+pub use tokei_files::{ParseFault, from_path, from_shebang, parse_file};
 pub use tokei_folders::{
     Above, Call, Entry, FailingFolders, Fault, Folders, Items, Kind, Listing, MemoryFolders, Text,
 };
 pub use tokei_ignore::{IgnoreFile, Pattern, PatternError, Verdict};
-pub use tokei_io::{Counted, FailOnce, Sink, Source};
-pub use tokei_job::{Job, RunError, Wanted};
+pub use tokei_io::{Counted, FailOnce, OutputError, Sink, Source, put};
 pub use tokei_json::{report_line, to_value};
 pub use tokei_languages::{Language, Languages};
-pub use tokei_options::{Sort, SortError};
-pub use tokei_print::{
-    NumberFormat, NumberFormatStyle, PrintError, Printer, Streaming, StreamingError, StyleError,
-    print_stream_heading, print_stream_row,
+pub use tokei_options::{
+    NumberFormat, NumberFormatStyle, Sort, SortError, Streaming, StreamingError, StyleError,
 };
-pub use tokei_statistics::{CountFiles, ParseFault, from_path, from_shebang, parse_file};
+pub use tokei_print::{Printer, print_stream_heading, print_stream_row};
+pub use tokei_statistics::CountFiles;
 pub use tokei_stats::{CodeStats, CountError, Report, ReportRow};
 pub use tokei_table::{
     LanguageTable, LanguageType, OpenerIndex, Syntax, TableError, contains_slice, has_extension,
