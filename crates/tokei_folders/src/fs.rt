@@ -140,6 +140,20 @@ pub trait Folders {
         self.read(place)
     }
 
+    /// The content of a file that a user names as a single input, as a table or earlier results.
+    /// Folders that ask the system also read what a pipe or a device there gives, to its end, and
+    /// wait for it as any reader would.
+    fn read_named(&mut self, named: &str) -> Result<Vec<u8>, Fault>
+        ensures told { BytesTell (tree self.old)
+            (λ t. read_answer (node_at t (names_of named.now))) result }
+        ensures same { tree self.new ≡ tree self.old }
+        ensures counts { memory_faults self.old < u64.MAX
+            → memory_faults self.new ≡ counted result (memory_faults self.old) }
+        ensures full { StaysFull (memory_faults self.old) (memory_faults self.new) }
+    {
+        self.read(named)
+    }
+
     /// The first 128 bytes of a file, or all where there are fewer.
     fn head(&mut self, place: &str) -> Result<Vec<u8>, Fault>
         ensures told { BytesTell (tree self.old)

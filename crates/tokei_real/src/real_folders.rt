@@ -4,7 +4,7 @@ ghost use Rattle.tokei_folders.specs.Answers.{counted, StaysFull};
 
 use crate::folders_above::folders_above;
 use crate::listing::{kind_of, listing};
-use crate::reading::{content, head, listed_content};
+use crate::reading::{content, head, listed_content, named_content};
 use crate::status::{kind_if_any, status};
 use std::io;
 use std::io::ErrorKind;
@@ -81,6 +81,11 @@ impl<R: Files + AllocGlobal + Clone + Drop> Folders for RealFolders<R> {
 
     fn read_listed(&mut self, place: &str) -> Result<Vec<u8>, Fault> {
         let bytes = listed_content(&self.rt, place, &mut self.buffer);
+        self.answered(bytes)
+    }
+
+    fn read_named(&mut self, named: &str) -> Result<Vec<u8>, Fault> {
+        let bytes = named_content(&self.rt, named);
         self.answered(bytes)
     }
 
