@@ -1,6 +1,7 @@
 //! Folders that are watched, and folders with a name that is no text.
 ghost use Rattle.std.specs.Prelude.{◌≡◌};
 
+use std::alloc::{AllocError, Global};
 use tokei_folders::{Above, Fault, Folders, Kind, Listing};
 
 /// Folders whose calls are counted.
@@ -60,6 +61,14 @@ impl<F: Folders> Folders for Watched<F> {
         self.count();
         self.inner.above(place)
     }
+
+    fn cause(&self, alloc: Global) -> Result<String, AllocError> {
+        self.inner.cause(alloc)
+    }
+
+    fn unheld(&self) -> &str {
+        self.inner.unheld()
+    }
 }
 
 /// Folders of which each has a name that isn't UTF-8. They tell no tree.
@@ -102,5 +111,13 @@ impl<F: Folders> Folders for Unnamed<F> {
 
     fn above(&mut self, place: &str) -> Result<Vec<Above>, Fault> {
         self.inner.above(place)
+    }
+
+    fn cause(&self, alloc: Global) -> Result<String, AllocError> {
+        self.inner.cause(alloc)
+    }
+
+    fn unheld(&self) -> &str {
+        self.inner.unheld()
     }
 }

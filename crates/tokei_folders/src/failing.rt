@@ -3,6 +3,7 @@ ghost use Rattle.std.specs.Prelude.{◌≡◌, ◌≤◌, ◌+◌, ◌-◌, ◌<
 ghost use Rattle.tokei_folders.specs.Failing.{calls_left, inside};
 
 use crate::fs::{Above, Fault, Folders, Kind, Listing};
+use std::alloc::{AllocError, Global};
 
 /// Folders whose calls all fail out of memory once a number of calls has passed. They tell
 /// the tree of the folders inside.
@@ -132,5 +133,13 @@ impl<F: Folders> Folders for FailingFolders<F> {
             return Err(Fault::Memory);
         }
         self.inner.above(place)
+    }
+
+    fn cause(&self, alloc: Global) -> Result<String, AllocError> {
+        self.inner.cause(alloc)
+    }
+
+    fn unheld(&self) -> &str {
+        self.inner.unheld()
     }
 }

@@ -4,7 +4,7 @@ ghost use Rattle.tokei_folders.specs.Tree.{Tree, IsSound, node_at, names_of};
 ghost use Rattle.tokei_folders.specs.Answers.{Tells, BytesTell, AboveTells, ListTells, LosesNone, NamesTell, StaysFull, counted, kind_answer, node_kind, read_answer, head_answer};
 
 use crate::texts::Text;
-use std::alloc::{AllocError, AllocFailed};
+use std::alloc::{AllocError, AllocFailed, Global};
 
 /// What stands at a place.
 #[derive(Clone, Copy, Debug, PartialEq, Eq)]
@@ -140,6 +140,20 @@ pub trait Folders {
         self.read(place)
     }
 
+    /// The content of a file that a user names as a single input, as a table or earlier results.
+    /// Folders that ask the system also read what a pipe or a device there gives, to its end, and
+    /// wait for it as any reader would.
+    fn read_named(&mut self, named: &str) -> Result<Vec<u8>, Fault>
+        ensures told { BytesTell (tree self.old)
+            (λ t. read_answer (node_at t (names_of named.now))) result }
+        ensures same { tree self.new ≡ tree self.old }
+        ensures counts { memory_faults self.old < u64.MAX
+            → memory_faults self.new ≡ counted result (memory_faults self.old) }
+        ensures full { StaysFull (memory_faults self.old) (memory_faults self.new) }
+    {
+        self.read(named)
+    }
+
     /// The first 128 bytes of a file, or all where there are fewer.
     fn head(&mut self, place: &str) -> Result<Vec<u8>, Fault>
         ensures told { BytesTell (tree self.old)
@@ -156,6 +170,18 @@ pub trait Folders {
         ensures counts { memory_faults self.old < u64.MAX
             → memory_faults self.new ≡ counted result (memory_faults self.old) }
         ensures full { StaysFull (memory_faults self.old) (memory_faults self.new) };
+
+    /// Why the last call without an answer had none, in the system's words; empty where the folders
+    /// have no words for it. It is for messages alone: nothing is promised of it.
+    fn cause(&self, alloc: Global) -> Result<String, AllocError> {
+        Ok(String::new(alloc))
+    }
+
+    /// The place whose content memory last didn't suffice for; empty where there is none, or where
+    /// not even the place could be kept. It is for messages alone: nothing is promised of it.
+    fn unheld(&self) -> &str {
+        ""
+    }
 
     /// A known tree has each place once, in order.
     ghost sound: { (s : Self) → IsSound (tree s) };

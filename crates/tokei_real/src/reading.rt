@@ -1,5 +1,5 @@
 //! Reading a file, or its head.
-ghost use Rattle.std.specs.Prelude.{◌≡◌, ◌<◌, ◌++◌, IfOk, IfSome, length, take};
+ghost use Rattle.std.specs.Prelude.{◌≡◌, ◌<◌, ◌≤◌, ◌++◌, IfOk, IfSome, length, take};
 ghost use Rattle.std.specs.Io.{ReadsAtMost};
 ghost use Rattle.std.specs.Io.KnownBytes.{Consumes, IsAtEnd};
 
@@ -24,6 +24,15 @@ fn kept(buffer: &mut Vec<u8>) -> Result<&mut [u8], AllocError> {
         buffer.resize(KEPT, 0)?;
     }
     Ok(buffer)
+}
+
+/// The most bytes that are read at a place that a user names.
+pub const MAX_NAMED_BYTES: u64 = 4_294_967_296;
+
+/// That there are more bytes than these.
+fn too_many(alloc: Global, most: u64) -> io::Result<Error> {
+    let words = format!(in alloc; "more than {most} bytes")?;
+    Ok(Error::new(ErrorKind::FileTooLarge, words.as_str()))
 }
 
 /// The first bytes of a file, and behind them all that its reader has left. Room is made once for
@@ -73,6 +82,25 @@ fn fill<R: Read>(reader: &mut R, buffer: &mut [u8]) -> io::Result<usize>
         }
     }
     Err(Error::from(ErrorKind::Other))
+}
+
+/// All that a reader has left, where that is `most` bytes at most; a reader that has more is
+/// refused. Room is made once for the number of bytes that it is said to have.
+pub fn all_within<R: Read + Drop>(
+    alloc: Global,
+    reader: R,
+    said: usize,
+    most: u64,
+) -> io::Result<Vec<u8>>
+    ensures bytes { IfOk result (λ v. IfSome (R.remaining reader) (λ text. v.items ≡ text)) }
+    ensures bound { IfOk result (λ v. length v.items ≤ most) }
+{
+    let limit = most.saturating_add(1);
+    let bytes = all_of(alloc, reader.take(limit), said)?;
+    if bytes.len() as u64 >= limit {
+        return Err(too_many(alloc, most)?);
+    }
+    Ok(bytes)
 }
 
 /// All that an open file has left, read by a buffer that is kept between files. Only where that is
@@ -127,6 +155,18 @@ pub(crate) fn listed_content<R: Files + AllocGlobal>(
     buffer: &mut Vec<u8>,
 ) -> io::Result<Vec<u8>> {
     all_by(rt.alloc(), File::open(rt, place)?, kept(buffer)?)
+}
+
+/// All that is read at a place that a user names, a pipe or a device too, which are waited for; a
+/// folder and more than `MAX_NAMED_BYTES` bytes are refused.
+pub(crate) fn named_content<R: Files + AllocGlobal>(rt: &R, place: &str) -> io::Result<Vec<u8>> {
+    let file = File::open(rt, place)?;
+    let said = retried(|| file.metadata())?.len();
+    if said > MAX_NAMED_BYTES {
+        return Err(too_many(rt.alloc(), MAX_NAMED_BYTES)?);
+    }
+    let said = usize::try_from(said).unwrap_or(usize::MAX);
+    all_within(rt.alloc(), file, said, MAX_NAMED_BYTES)
 }
 
 /// The first 128 bytes of the file at a place, or all where there are fewer.

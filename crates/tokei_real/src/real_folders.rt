@@ -4,8 +4,9 @@ ghost use Rattle.tokei_folders.specs.Answers.{counted, StaysFull};
 
 use crate::folders_above::folders_above;
 use crate::listing::{kind_of, listing};
-use crate::reading::{content, head, listed_content};
+use crate::reading::{content, head, listed_content, named_content};
 use crate::status::{kind_if_any, status};
+use std::alloc::{AllocError, Global};
 use std::io;
 use std::io::ErrorKind;
 use std::rt::Files;
@@ -19,6 +20,10 @@ pub struct RealFolders<R> {
     memory_faults: u64,
     /// By which listed files are read, one after another; made for the first of them.
     buffer: Vec<u8>,
+    /// Why the last call without an answer had none.
+    refusal: Option<io::Error>,
+    /// The place whose content memory last didn't suffice for.
+    unheld: String,
 }
 
 impl<R: Files + AllocGlobal + Clone + Drop> RealFolders<R> {
@@ -27,14 +32,17 @@ impl<R: Files + AllocGlobal + Clone + Drop> RealFolders<R> {
         ensures none { result.memory_faults ≡ 0 }
     {
         let buffer = Vec::new(rt.alloc());
+        let unheld = String::new(rt.alloc());
         RealFolders {
             rt,
             memory_faults: 0,
             buffer,
+            refusal: None,
+            unheld,
         }
     }
 
-    /// The answer, or why there is none; out of memory is counted.
+    /// The answer, or why there is none, which is kept; out of memory is counted.
     fn answered<T>(&mut self, given: io::Result<T>) -> Result<T, Fault>
         ensures counts { self.old.memory_faults < u64.MAX
             → self.new.memory_faults ≡ counted result (self.old.memory_faults) }
@@ -42,12 +50,35 @@ impl<R: Files + AllocGlobal + Clone + Drop> RealFolders<R> {
     {
         match given {
             Ok(answer) => Ok(answer),
-            Err(e) if e.kind() == ErrorKind::OutOfMemory => {
+            Err(e) => {
+                self.refusal = Some(e);
+                if e.kind() != ErrorKind::OutOfMemory {
+                    return Err(Fault::Refused);
+                }
                 self.memory_faults = self.memory_faults.saturating_add(1);
                 Err(Fault::Memory)
             }
-            Err(_) => Err(Fault::Refused),
         }
+    }
+
+    /// The content of a place, or why there is none; the place is kept where memory didn't suffice.
+    fn answered_content(
+        &mut self,
+        place: &str,
+        given: io::Result<Vec<u8>>,
+    ) -> Result<Vec<u8>, Fault>
+        ensures counts { self.old.memory_faults < u64.MAX
+            → self.new.memory_faults ≡ counted result (self.old.memory_faults) }
+        ensures full { StaysFull self.old.memory_faults self.new.memory_faults }
+    {
+        let answer = self.answered(given);
+        if matches!(answer, Err(Fault::Memory)) {
+            // Memory for so little may be left where there was none for the content.
+            self.unheld = String::from_str(self.rt.alloc(), place).unwrap_or(String::new(
+                self.rt.alloc(),
+            ));
+        }
+        answer
     }
 }
 
@@ -76,12 +107,17 @@ impl<R: Files + AllocGlobal + Clone + Drop> Folders for RealFolders<R> {
 
     fn read(&mut self, place: &str) -> Result<Vec<u8>, Fault> {
         let bytes = content(&self.rt, place);
-        self.answered(bytes)
+        self.answered_content(place, bytes)
     }
 
     fn read_listed(&mut self, place: &str) -> Result<Vec<u8>, Fault> {
         let bytes = listed_content(&self.rt, place, &mut self.buffer);
-        self.answered(bytes)
+        self.answered_content(place, bytes)
+    }
+
+    fn read_named(&mut self, named: &str) -> Result<Vec<u8>, Fault> {
+        let bytes = named_content(&self.rt, named);
+        self.answered_content(named, bytes)
     }
 
     fn head(&mut self, place: &str) -> Result<Vec<u8>, Fault> {
@@ -92,5 +128,16 @@ impl<R: Files + AllocGlobal + Clone + Drop> Folders for RealFolders<R> {
     fn above(&mut self, place: &str) -> Result<Vec<Above>, Fault> {
         let found = folders_above(&self.rt, place);
         self.answered(found)
+    }
+
+    fn cause(&self, alloc: Global) -> Result<String, AllocError> {
+        match &self.refusal {
+            Some(refusal) => format!(in alloc; "{refusal}"),
+            None => Ok(String::new(alloc)),
+        }
+    }
+
+    fn unheld(&self) -> &str {
+        self.unheld.as_str()
     }
 }
