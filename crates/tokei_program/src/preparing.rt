@@ -12,10 +12,10 @@ ghost use Rattle.tokei_program.specs.Tables.{place_of_table, table_at};
 ghost use Rattle.tokei_walk.specs.Walks.{texts_of};
 ghost use Rattle.tokei_folders.specs.AsTheyWere.{SameTree};
 
-use crate::causes::{no_memory, unreadable};
 use crate::choices::Choices;
 use crate::ending::Ending;
 use crate::environment::{Env, config_dirs};
+use crate::reasons::{no_memory, unreadable};
 use std::alloc::{AllocError, Global};
 use tokei::columns::FALLBACK_ROW_LEN;
 use tokei::{
