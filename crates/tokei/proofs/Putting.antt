@@ -3,7 +3,7 @@ use Rattle.std.proofs.Common.{◌≡◌, ℕ, List, Option, Result, Ok, Err, OnO
 use Rattle.std.specs.Io.KnownBytes.{Appends}
 use Rattle.tokei_languages.specs.Values.{LanguageValue}
 use Rattle.tokei_table.specs.Row.{Row}
-use Rattle.tokei_job.specs.declared.job.Job.{Job}
+use Rattle.tokei.specs.declared.job.Job.{Job}
 use Rattle.tokei.specs.Written.{sort_of, style_of, AppendsReport}
 use Rattle.tokei_print.specs.PrintedReports.{IsPrintedReport}
 

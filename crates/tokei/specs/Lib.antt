@@ -1,6 +1,13 @@
--- What contracts say of a run: its output, and the sums that have to fit.
+-- What contracts say of a run: what it counts, its output, the sums that have to fit, and why it
+-- ended.
+pub mod Counted
+pub mod Earlier
+pub mod Errors
+pub mod JobStreams
 pub mod Output
 pub mod Refused
+pub mod Rows
 pub mod Runs
+pub mod Streams
 pub mod Sums
 pub mod Written

@@ -5,11 +5,11 @@ use Rattle.serde_json.specs.Written.{compact_text}
 use Rattle.tokei_folders.specs.Tree.{Tree}
 use Rattle.tokei_json.specs.Document.{document}
 use Rattle.tokei_table.specs.Row.{Row}
-use Rattle.tokei_job.specs.declared.job.Job.{Job}
-use Rattle.tokei_job.specs.declared.job.Wanted.{Wanted}
-use Rattle.tokei_job.specs.declared.job.Wanted.TheVariants.{Stream, Document, Report}
+use Rattle.tokei.specs.declared.job.Job.{Job}
+use Rattle.tokei.specs.declared.job.Wanted.{Wanted}
+use Rattle.tokei.specs.declared.job.Wanted.TheVariants.{Stream, Document, Report}
 use Rattle.tokei.specs.Written.{AppendsReport}
-use Rattle.tokei_stream.specs.JobStreams.{WritesStream}
+use Rattle.tokei.specs.JobStreams.{WritesStream}
 use Rattle.tokei.specs.Runs.{languages_after}
 
 -- behind what stood there a writer has the document of a job's languages, and nothing else

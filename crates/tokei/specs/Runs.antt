@@ -7,9 +7,9 @@ use Rattle.tokei_languages.specs.Renewing.{renewed_languages}
 use Rattle.tokei_languages.specs.Values.{LanguageValue}
 use Rattle.tokei_statistics.specs.Runs.{languages_of_run}
 use Rattle.tokei_table.specs.Row.{Row}
-use Rattle.tokei_job.specs.declared.job.Job.{Job}
-use Rattle.tokei_job.specs.Earlier.{earlier_of}
-use Rattle.tokei_stream.specs.Counted.{counting_of, files_of}
+use Rattle.tokei.specs.declared.job.Job.{Job}
+use Rattle.tokei.specs.Earlier.{earlier_of}
+use Rattle.tokei.specs.Counted.{counting_of, files_of}
 
 -- the languages that a run shows
 unfoldable pub languages_after : List Row → Job → Tree → List (ℕ × LanguageValue)

@@ -7,14 +7,14 @@ use Rattle.tokei_languages.specs.Summaries.{languages_summary}
 use Rattle.tokei_statistics.specs.Runs.{RunFits}
 use Rattle.tokei_stats.specs.Overflow.{CountsFit}
 use Rattle.tokei_table.specs.Row.{Row}
-use Rattle.tokei_job.specs.declared.job.Job.{Job}
-use Rattle.tokei_job.specs.declared.job.Wanted.{Wanted}
-use Rattle.tokei_job.specs.declared.job.Wanted.TheVariants.{Stream, Document, Report}
-use Rattle.tokei_job.specs.Earlier.{earlier_of}
+use Rattle.tokei.specs.declared.job.Job.{Job}
+use Rattle.tokei.specs.declared.job.Wanted.{Wanted}
+use Rattle.tokei.specs.declared.job.Wanted.TheVariants.{Stream, Document, Report}
+use Rattle.tokei.specs.Earlier.{earlier_of}
 use Rattle.tokei.specs.Written.{sort_of, style_of}
 use Rattle.tokei_print.specs.ReportSums.{PrintedReportFits}
-use Rattle.tokei_stream.specs.Counted.{counting_of, files_of}
-use Rattle.tokei_stream.specs.JobStreams.{StreamFits}
+use Rattle.tokei.specs.Counted.{counting_of, files_of}
+use Rattle.tokei.specs.JobStreams.{StreamFits}
 use Rattle.tokei.specs.Runs.{languages_after}
 
 -- the readings of a job's files fit, and the renewed counts of all languages

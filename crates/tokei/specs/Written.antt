@@ -3,7 +3,7 @@ use Rattle.std.specs.Prelude.{ℕ, List, Option}
 use Rattle.std.specs.Option.{option_or}
 use Rattle.std.specs.Io.KnownBytes.{Appends}
 use Rattle.tokei_config.specs.Seen.{settings_of}
-use Rattle.tokei_job.specs.declared.job.Job.{Job}
+use Rattle.tokei.specs.declared.job.Job.{Job}
 use Rattle.tokei_languages.specs.Values.{LanguageValue}
 use Rattle.tokei_options.specs.declared.sort.Sort.{Sort}
 use Rattle.tokei_print.specs.PrintedReports.{IsPrintedReport}

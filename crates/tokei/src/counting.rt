@@ -3,17 +3,19 @@ ghost use Rattle.std.specs.Prelude.{◌≡◌, ◌≢◌, ◌<◌, Err, IfOk, On
 ghost use Rattle.tokei_folders.specs.Answers.{Told};
 ghost use Rattle.tokei_languages.specs.Seen.{languages_of};
 ghost use Rattle.tokei_statistics.specs.Unread.{EndsIn, unread_of};
-ghost use Rattle.tokei_stream.specs.Counted.{counting_of, files_of};
+ghost use Rattle.tokei.specs.Counted.{counting_of, files_of};
 ghost use Rattle.tokei_walk.specs.Notes.{Grows, notes_of_excludes};
 ghost use Rattle.tokei_walk.specs.Walks.{texts_of};
-ghost use Rattle.tokei_job.specs.declared.error.RunError.TheVariants.{Overflow as SumOverflow, Write};
+ghost use Rattle.tokei.specs.declared.error.RunError.TheVariants.{Overflow as SumOverflow, Write};
 ghost use Rattle.tokei.specs.Runs.{languages_after};
 ghost use Rattle.tokei.specs.Sums.{TallyFits};
 ghost use Rattle.tokei_folders.specs.AsTheyWere.{SameTree, NoFault};
 
+use crate::earlier::earlier_languages;
+use crate::error::RunError;
+use crate::job::Job;
 use std::alloc::Global;
 use tokei_folders::Folders;
-use tokei_job::{Job, RunError, earlier_languages};
 use tokei_languages::Languages;
 use tokei_statistics::CountFiles;
 use tokei_table::LanguageTable;

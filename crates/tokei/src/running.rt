@@ -1,25 +1,27 @@
 //! A whole run: what is counted is written.
 ghost use Rattle.std.specs.Prelude.{◌≡◌, ◌≢◌, ◌<◌, Err, IfErr, IfOk, OnOk};
 ghost use Rattle.tokei_folders.specs.Answers.{Told};
-ghost use Rattle.tokei_job.specs.declared.error.RunError.TheVariants.{Overflow as SumOverflow, Write as WriteFault};
+ghost use Rattle.tokei.specs.declared.error.RunError.TheVariants.{Overflow as SumOverflow, Write as WriteFault};
 ghost use Rattle.tokei.specs.Output.{Outputs, WritesDocument, WritesReport};
 ghost use Rattle.tokei.specs.Refused.{IsUntouched};
 ghost use Rattle.tokei.specs.Sums.{DocumentFits, EarlierFits, Fits, RunReportFits};
 ghost use Rattle.tokei_folders.specs.AsTheyWere.{SameTree, NoFault};
 ghost use Rattle.tokei_io.specs.Faults.{TellsFault, PassesNoFault};
 ghost use Rattle.tokei_statistics.specs.Unread.{EndsIn, unread_of};
-ghost use Rattle.tokei_stream.specs.Counted.{counting_of, files_of};
+ghost use Rattle.tokei.specs.Counted.{counting_of, files_of};
 ghost use Rattle.tokei_walk.specs.Notes.{Grows, notes_of_excludes};
 ghost use Rattle.tokei_walk.specs.Walks.{texts_of};
 
 use crate::counting::tally_of;
+use crate::error::RunError;
+use crate::job::{Job, Wanted};
+use crate::rows::Rows;
+use crate::streaming::stream;
 use crate::writing::{put_document, put_report};
 use std::alloc::Global;
 use tokei_earlier::Format;
 use tokei_folders::Folders;
 use tokei_io::Sink;
-use tokei_job::{Job, RunError, Wanted};
-use tokei_stream::{Rows, stream};
 use tokei_table::LanguageTable;
 use tokei_walk::Note;
 

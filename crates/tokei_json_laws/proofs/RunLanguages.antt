@@ -25,8 +25,8 @@ use Rattle.tokei_files.specs.ContentStatistics.{stats_in}
 use Rattle.tokei_files.specs.Files.{Counting, language_of_file}
 use Rattle.tokei_files.proofs.ExtendedLength.{same_length}
 use Rattle.tokei_folders.specs.Tree.{Tree}
-use Rattle.tokei_job.specs.declared.job.Job.{Job}
-use Rattle.tokei_job.specs.Earlier.{earlier_of}
+use Rattle.tokei.specs.declared.job.Job.{Job}
+use Rattle.tokei.specs.Earlier.{earlier_of}
 use Rattle.tokei_json.specs.Document.{document}
 use Rattle.tokei_languages.specs.Maps.{put_at, merged}
 use Rattle.tokei_languages.specs.Merging.{appended, blob_reports, merged_language, merged_languages}
@@ -39,7 +39,7 @@ use Rattle.tokei_stats.specs.Ordered.{IsOrdered, AreOrdered}
 use Rattle.tokei_stats.specs.Statistics.{Statistics, Blobs}
 use Rattle.tokei_stats.specs.Statistics.Statistics.{node}
 use Rattle.tokei_stats.specs.Statistics.Blobs.{none, blob}
-use Rattle.tokei_stream.specs.Counted.{counting_of, files_of}
+use Rattle.tokei.specs.Counted.{counting_of, files_of}
 use Rattle.tokei_table.proofs.ExtendedTables.{extended_well_formed}
 use Rattle.tokei_table.specs.Extended.{extensions_of}
 use Rattle.tokei_table.specs.Row.{Row}

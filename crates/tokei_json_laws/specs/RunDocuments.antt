@@ -9,8 +9,8 @@ use Rattle.tokei_count.specs.PlainReading.{outermost_levels}
 use Rattle.tokei_earlier.specs.Outcome.{outcome_of_text}
 use Rattle.tokei_files.specs.Configs.{counting_by}
 use Rattle.tokei_folders.specs.Tree.{Tree}
-use Rattle.tokei_job.specs.declared.job.Job.{Job}
-use Rattle.tokei_job.specs.Earlier.{earlier_of}
+use Rattle.tokei.specs.declared.job.Job.{Job}
+use Rattle.tokei.specs.Earlier.{earlier_of}
 use Rattle.tokei_json.specs.Document.{document}
 use Rattle.tokei_languages.specs.Merging.{merged_languages}
 use Rattle.tokei_languages.specs.Renewing.{renewed_languages}

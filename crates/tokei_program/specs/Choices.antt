@@ -2,8 +2,8 @@
 -- numbers are shown.
 use Rattle.std.specs.Prelude.{◌≡◌, ℕ, List, Option, None, Some, Result, unwrap_or}
 use Rattle.std.specs.Result.{result_ok}
-use Rattle.tokei_job.specs.declared.job.Wanted.{Wanted}
-use Rattle.tokei_job.specs.declared.job.Wanted.TheVariants.{Stream, Document, Report}
+use Rattle.tokei.specs.declared.job.Wanted.{Wanted}
+use Rattle.tokei.specs.declared.job.Wanted.TheVariants.{Stream, Document, Report}
 use Rattle.tokei_cli.specs.declared.cli.Cli.{Cli}
 use Rattle.tokei_earlier.specs.declared.format.Format.{Format}
 use Rattle.tokei_earlier.specs.declared.format.FormatError.{FormatError}

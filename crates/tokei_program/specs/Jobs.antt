@@ -1,6 +1,6 @@
 -- The run that a command line asks for.
 use Rattle.std.specs.Prelude.{◌≡◌, ℕ, List, Option}
-use Rattle.tokei_job.specs.declared.job.Job.{Job}
+use Rattle.tokei.specs.declared.job.Job.{Job}
 use Rattle.tokei_cli.specs.CommandLines.{inputs_of, excludes_of, file_input_of}
 use Rattle.tokei_cli.specs.declared.cli.Cli.{Cli}
 use Rattle.tokei_cli.specs.Overriding.{overridden}

@@ -1,7 +1,7 @@
 -- What the program writes where it did what was asked.
 use Rattle.std.specs.Prelude.{◌≡◌, ◌≢◌, ℕ, List, [], Bool, true, false, Option, Some, Ok, ◌⊎◌}
 use Rattle.std.specs.Io.KnownBytes.{Appends}
-use Rattle.tokei_job.specs.declared.job.Job.{Job}
+use Rattle.tokei.specs.declared.job.Job.{Job}
 use Rattle.tokei.specs.Output.{Outputs}
 use Rattle.tokei_cli.specs.CommandLines.{inputs_of}
 use Rattle.tokei_cli.specs.declared.cli.Cli.{Cli}

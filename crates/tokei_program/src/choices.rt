@@ -8,7 +8,7 @@ use std::alloc::{AllocError, Global};
 use std::str::FromStr;
 use tokei_cli::{Cli, refused_because, refused_word};
 use tokei_earlier::{Format, FormatError};
-use tokei_job::Wanted;
+use tokei::Wanted;
 use tokei_options::{NumberFormatStyle, Sort, Streaming};
 
 /// The words that choose a column.

@@ -5,7 +5,7 @@ ghost use Rattle.tokei_program.specs.Messages.{IsMessage};
 use std::alloc::{AllocError, AllocFailed, Global};
 use thiserror::Error;
 use tokei_cli::OutputError;
-use tokei_job::RunError;
+use tokei::RunError;
 use tokei_table::TableError;
 
 /// Why nothing is counted, or why the count isn't shown.

@@ -21,7 +21,7 @@ use tokei_config::Config;
 use tokei_earlier::{InputError, add_input};
 use tokei_folders::{Fault, Folders, Kind};
 use tokei_io::{Counted, Source};
-use tokei_job::Job;
+use tokei::Job;
 use tokei_languages::Languages;
 use tokei_options::columns::FALLBACK_ROW_LEN;
 use tokei_table::LanguageTable;

@@ -1,0 +1,52 @@
+use Rattle.std.proofs.Common.{◌≡◌, Option, Err, refl, ap, ◌∙◌, subst, rules, List}
+use Rattle.tokei_files.specs.Files.{ReadingsFit}
+use Rattle.tokei_files.specs.Seen.{counting_of}
+use Rattle.tokei_files.proofs.UnreadNotes.{noted_more}
+use Rattle.tokei_walk.specs.declared.kept_file.KeptFile.{KeptFile}
+use Rattle.tokei_walk.specs.Walks.{to_come, Advances}
+use Rattle.tokei_walk.proofs.Growing.{grows_same, grows_on}
+use Rattle.tokei.proofs.WrittenRows.{no_row_yet, one_row_more, all_rows}
+use Rattle.tokei.specs.Streams.{file_row}
+use Rattle.tokei.specs.declared.error.RunError.TheVariants.{Overflow}
+use Rattle.tokei.proofs.streaming.write_rows.Goals as goal
+
+pub loop-file-init : goal.loop-file-init
+loop-file-init g c = record {
+  same = refl;
+  told = λ t e. no_row_yet (file_row c.args.by.now.rows.now.form c.args.by.now.rows.now.table.now (counting_of c.args.by.now.counting.now) t) (to_come t c.args.walk.now) _;
+  fits = λ t e f. f;
+  notes = grows_same _ _ refl;
+  unread = λ t e. refl;
+  no_fault = λ h. refl;
+  honest = λ h. refl;
+}
+
+pub loop-file-preserved : goal.loop-file-preserved
+loop-file-preserved g c =
+    let inv = c.loop-file.invariant in
+    let by = counting_of c.args.by.now.counting.now in record {
+      same = c.write_file.ensures.same ∙ c.next.ensures.same ∙ inv.same;
+      told = λ t e.
+          let here = inv.same ∙ e in
+          let given = subst (λ (o : Option KeptFile). Advances (to_come t c.loop-file.walk) (to_come t c.next.new.self) o) c.in-Some.is (c.in_ok-file.ensures.told t here) in
+          one_row_more (file_row c.args.by.now.rows.now.form c.args.by.now.rows.now.table.now by t) _ _ _ c.in-Some.file _ _ _ (inv.told t e) given (c.in_ok-write_file.ensures.told t (c.next.ensures.same ∙ here));
+      fits = λ t e f.
+          let here = inv.same ∙ e in
+          let given = subst (λ (o : Option KeptFile). Advances (to_come t c.loop-file.walk) (to_come t c.next.new.self) o) c.in-Some.is (c.in_ok-file.ensures.told t here) in
+          (subst (λ (ks : List KeptFile). ReadingsFit by t ks) given (inv.fits t e f)).1;
+      notes = grows_on _ _ _ inv.notes c.next.ensures.notes;
+      unread = λ t e.
+          let here = inv.same ∙ e in
+          let given = subst (λ (o : Option KeptFile). Advances (to_come t c.loop-file.walk) (to_come t c.next.new.self) o) c.in-Some.is (c.in_ok-file.ensures.told t here) in
+          noted_more by t _ _ c.in-Some.file _ _ _ (inv.unread t e) given (c.in_ok-write_file.ensures.unread t (c.next.ensures.same ∙ here));
+      no_fault = search rules;
+      honest = search rules;
+    }
+
+pub returns-in_err-write_file-clause-overflow : goal.returns-in_err-write_file-clause-overflow
+returns-in_err-write_file-clause-overflow g c = λ q t e f.
+    let inv = c.loop-file.invariant in let here = inv.same ∙ e in
+    let given = subst (λ (o : Option KeptFile). Advances (to_come t c.loop-file.walk) (to_come t c.next.new.self) o) c.in-Some.is (c.in_ok-file.ensures.told t here) in
+    let same : c.in_err-write_file.field-0.0 ≡ Overflow = search rules in
+    c.in_err-write_file.ensures.overflow (ap (λ x. Err x) same) t (c.next.ensures.same ∙ here)
+    (subst (λ (ks : List KeptFile). ReadingsFit (counting_of c.args.by.now.counting.now) t ks) given (inv.fits t e f)).0

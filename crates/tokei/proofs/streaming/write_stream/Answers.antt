@@ -1,0 +1,38 @@
+use Rattle.std.proofs.Common.{◌≡◌, ◌++◌, Err, List, ap, subst, rules, ◌∙◌}
+use Rattle.std.specs.Io.KnownBytes.{Appends}
+use Rattle.tokei_folders.proofs.Contents.{sound_of}
+use Rattle.tokei_files.specs.Files.{ReadingsFit}
+use Rattle.tokei_files.specs.Seen.{counting_of}
+use Rattle.tokei_files.specs.Unread.{unread_of}
+use Rattle.tokei_files.proofs.UnreadNotes.{ends_in}
+use Rattle.tokei_walk.specs.declared.kept_file.Note.{Note}
+use Rattle.tokei_walk.specs.Walks.{to_come}
+use Rattle.tokei_walk.specs.declared.kept_file.KeptFile.{KeptFile}
+use Rattle.tokei.specs.declared.error.RunError.TheVariants.{Overflow}
+use Rattle.tokei.specs.Streams.{stream_text}
+use Rattle.tokei.proofs.streaming.write_stream.Goals as goal
+
+pub returns-clause-told : goal.returns-clause-told
+returns-clause-told g c = λ t e.
+    let rows = c.args.rows.now in
+    let sound = sound_of _ t (g.met.F.Folders.sound c.args.folders.now) e in
+    subst (λ (files : List KeptFile). Appends (g.W.Sink.contents c.args.writer.now)
+    (g.W.Sink.contents c.write_headed.new.writer)
+    (stream_text rows.form rows.table.now (counting_of c.args.counting.now) t files))
+    (c.in_ok-walk.ensures.comes t sound) (c.in_ok-write_headed.ensures.told t e)
+
+pub returns-in_err-write_headed-clause-overflow : goal.returns-in_err-write_headed-clause-overflow
+returns-in_err-write_headed-clause-overflow g c = λ q t e.
+    let same : c.in_err-write_headed.field-0.0 ≡ Overflow = search rules in
+    let sound = sound_of _ t (g.met.F.Folders.sound c.args.folders.now) e in
+    subst (λ (files : List KeptFile). ReadingsFit (counting_of c.args.counting.now) t files → ⊥)
+    (c.in_ok-walk.ensures.comes t sound) (c.in_err-write_headed.ensures.overflow (ap (λ x. Err x) same) t e)
+
+pub returns-clause-unread : goal.returns-clause-unread
+returns-clause-unread g c = λ t e.
+    let by = counting_of c.args.counting.now in
+    let sound = sound_of _ t (g.met.F.Folders.sound c.args.folders.now) e in
+    let comes = c.in_ok-walk.ensures.comes t sound in
+    ends_in c.into_notes-notes.result.items _ _
+    (c.in_ok-append.ensures.items ∙ ap (λ (q : List Note). c.into_notes-notes.result.items ++ q)
+    (c.in_ok-write_headed.ensures.unread t e ∙ ap (λ (q : List Note). q ++ unread_of by t (to_come t c.in_ok-walk.walk)) c.new-unread.ensures.items ∙ ap (unread_of by t) comes))

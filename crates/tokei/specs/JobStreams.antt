@@ -1,0 +1,24 @@
+-- The stream of a job: that it is written, and when its sums fit.
+use Rattle.std.specs.Prelude.{ℕ, List, Option}
+use Rattle.std.specs.Io.KnownBytes.{Appends}
+use Rattle.tokei_folders.specs.Tree.{Tree}
+use Rattle.tokei.specs.declared.job.Job.{Job}
+use Rattle.tokei.specs.Earlier.{earlier_of}
+use Rattle.tokei_languages.specs.Renewing.{RenewalFits}
+use Rattle.tokei_files.specs.Files.{ReadingsFit}
+use Rattle.tokei.specs.Counted.{counting_of, files_of}
+use Rattle.tokei.specs.Streams.{stream_text}
+use Rattle.tokei_options.specs.declared.streaming.Streaming.{Streaming}
+use Rattle.tokei_table.specs.Row.{Row}
+
+-- behind what stood there a writer has the stream of a job's files, and nothing else
+abbrev pub WritesStream : Streaming → List Row → Job → Tree → Option (List ℕ) → Option (List ℕ)
+    → Type 0
+WritesStream form rows job t old new =
+    Appends old new (stream_text form rows (counting_of rows job) t (files_of job t))
+
+-- the sums of a stream fit: the readings, and the renewed counts of earlier results. Its rows show
+-- exact sums
+pub record StreamFits (rows : List Row) (job : Job) (t : Tree) : Type 0 where
+  pub earlier : RenewalFits (earlier_of job.earlier)
+  pub readings : ReadingsFit (counting_of rows job) t (files_of job t)

@@ -1,0 +1,105 @@
+//! The rows of a stream, and its heading.
+ghost use Rattle.std.specs.Prelude.{◌≡◌, ◌≢◌, ◌<◌, Err, OnOk};
+ghost use Rattle.std.specs.Io.KnownBytes.{Appends};
+ghost use Rattle.tokei_stats.specs.Reports.{report_of as report_value};
+ghost use Rattle.tokei_options.specs.declared.streaming.Streaming.TheVariants.{Simple, Json};
+ghost use Rattle.tokei.specs.declared.error.RunError.TheVariants.{Overflow as SumOverflow, Write as WriteFault};
+ghost use Rattle.tokei.specs.Rows.{heading_of, report_row};
+ghost use Rattle.tokei_io.specs.Faults.{TellsFault, PassesNoFault};
+
+use crate::error::RunError;
+use crate::putting::put;
+use std::alloc::Global;
+use tokei_io::Sink;
+use tokei_json::report_line;
+use tokei_options::Streaming;
+use tokei_print::{PrintError, name_of, print_stream_heading, print_stream_row};
+use tokei_stats::Report;
+use tokei_table::{LanguageTable, LanguageType};
+
+/// How the rows of a stream are written.
+#[derive(Drop)]
+pub struct Rows<'a> {
+    pub alloc: Global,
+    /// The table that names the languages.
+    pub table: &'a LanguageTable,
+    pub form: Streaming,
+}
+
+/// Writes the columns of a report.
+fn write_columns<W: Sink>(
+    rows: &Rows,
+    language: LanguageType,
+    report: &Report,
+    writer: &mut W,
+) -> Result<(), RunError>
+    ensures bytes { OnOk result (Appends (W.contents writer.old) (W.contents writer.new)
+        (report_row Simple rows.now.table.now language (report_value report.now))) }
+    ensures fault { TellsFault W.faults writer.old writer.new result WriteFault }
+    ensures no_fault { PassesNoFault W.faults writer.old writer.new result WriteFault }
+    ensures overflow { result ≢ Err SumOverflow }
+{
+    let name = name_of(rows.table, language);
+    match print_stream_row(rows.alloc, writer, name, report) {
+        Ok(()) => Ok(()),
+        Err(PrintError::Memory) => Err(RunError::Memory),
+        Err(PrintError::Overflow) => Err(RunError::Overflow),
+        Err(PrintError::Write) => Err(RunError::Write),
+    }
+}
+
+/// Writes a report as one line of JSON.
+fn write_line<W: Sink>(
+    rows: &Rows,
+    language: LanguageType,
+    report: &Report,
+    writer: &mut W,
+) -> Result<(), RunError>
+    ensures bytes { OnOk result (Appends (W.contents writer.old) (W.contents writer.new)
+        (report_row Json rows.now.table.now language (report_value report.now))) }
+    ensures fault { TellsFault W.faults writer.old writer.new result WriteFault }
+    ensures no_fault { PassesNoFault W.faults writer.old writer.new result WriteFault }
+    ensures overflow { result ≢ Err SumOverflow }
+{
+    let mut line = report_line(rows.alloc, rows.table, language, report)?;
+    line.push('\n')?;
+    put(writer, line.as_bytes())
+}
+
+/// Writes the row of a report.
+pub fn write_row<W: Sink>(
+    rows: &Rows,
+    language: LanguageType,
+    report: &Report,
+    writer: &mut W,
+) -> Result<(), RunError>
+    ensures bytes { OnOk result (Appends (W.contents writer.old) (W.contents writer.new)
+        (report_row rows.now.form rows.now.table.now language (report_value report.now))) }
+    ensures fault { TellsFault W.faults writer.old writer.new result WriteFault }
+    ensures no_fault { PassesNoFault W.faults writer.old writer.new result WriteFault }
+    ensures overflow { result ≢ Err SumOverflow }
+{
+    match rows.form {
+        Streaming::Simple => write_columns(rows, language, report, writer),
+        Streaming::Json => write_line(rows, language, report, writer),
+    }
+}
+
+/// Writes the heading of a stream, where it has one.
+pub fn write_heading<W: Sink>(form: Streaming, writer: &mut W) -> Result<(), RunError>
+    ensures bytes { OnOk result
+        (Appends (W.contents writer.old) (W.contents writer.new) (heading_of form)) }
+    ensures fault { TellsFault W.faults writer.old writer.new result WriteFault }
+    ensures no_fault { PassesNoFault W.faults writer.old writer.new result WriteFault }
+    ensures overflow { result ≢ Err SumOverflow }
+{
+    match form {
+        Streaming::Json => Ok(()),
+        Streaming::Simple => match print_stream_heading(writer) {
+            Ok(()) => Ok(()),
+            Err(PrintError::Memory) => Err(RunError::Memory),
+            Err(PrintError::Overflow) => Err(RunError::Overflow),
+            Err(PrintError::Write) => Err(RunError::Write),
+        },
+    }
+}

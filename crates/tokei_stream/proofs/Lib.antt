@@ -1,2 +1,0 @@
-pub mod FileReports
-pub mod WrittenRows
