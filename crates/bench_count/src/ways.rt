@@ -8,7 +8,9 @@ ghost use Rattle.tokei_stats.specs.Seen.{stats_of};
 
 use memchr::memchr_iter;
 use std::alloc::Global;
-use tokei_count::{CodeStats, CountConfig, CountError, Counter, count_plain, parse_from_slice};
+use tokei_count::{Counter, count_plain, parse_from_slice};
+use tokei_options::CountConfig;
+use tokei_stats::{CodeStats, CountError};
 use tokei_table::LanguageType;
 
 /// A text, and in which language of the counter's table it is counted.

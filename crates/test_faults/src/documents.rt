@@ -3,8 +3,8 @@ use std::alloc::Global;
 use std::test::Fail;
 use tokei_earlier::{Format, InputError, add_input};
 use tokei_io::{Counted, FailOnce};
-use tokei_languages::{CountError, Languages};
-use tokei_stats::Report;
+use tokei_languages::Languages;
+use tokei_stats::{CountError, Report};
 use tokei_table::{LanguageTable, LanguageType};
 
 const TABLE: &str =

@@ -1,9 +1,8 @@
 //! A table of few languages, and a tree of files in them, small enough that each allocation can be made to fail in turn.
 use std::alloc::{AllocError, Global};
-use tokei_count::CountError;
-use tokei_stats::{CodeStats, Report};
+use tokei_folders::{Call, Fault, MemoryFolders};
+use tokei_stats::{CodeStats, CountError, Report};
 use tokei_table::{LanguageTable, LanguageType, TableError};
-use tokei_walk::{Call, Fault, MemoryFolders};
 
 /// Files of these places and contents.
 pub fn files(alloc: Global, contents: &[(&str, &[u8])]) -> Result<MemoryFolders, Fault> {

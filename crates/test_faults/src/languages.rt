@@ -1,8 +1,8 @@
 //! Calls of languages whose allocations fail: what stood before stays.
 use std::alloc::{AllocError, Global};
-use tokei_languages::{CountError, Language, Languages};
+use tokei_languages::{Language, Languages};
 use tokei_options::Sort;
-use tokei_stats::{CodeStats, Report};
+use tokei_stats::{CodeStats, CountError, Report};
 use tokei_table::{LanguageTable, LanguageType, TableError};
 
 /// Three languages of a table, in its order.

@@ -1,8 +1,9 @@
 //! The lines of notes where memory runs out.
 use log::sink::Lines;
 use std::alloc::{AllocError, Global};
+use tokei_folders::Text;
 use tokei_program::log_notes;
-use tokei_walk::{Note, NoteKind, Text};
+use tokei_walk::{Note, NoteKind};
 
 const KINDS: [NoteKind; 10] = [
     NoteKind::MissingRoot,

@@ -4,10 +4,10 @@ use std::alloc::{AllocError, Global};
 use std::test::Fail;
 use tokei_config::Config;
 use tokei_count::Counter;
-use tokei_statistics::{ParseFault, from_shebang, parse_file};
+use tokei_files::{ParseFault, from_shebang, parse_file};
+use tokei_folders::{FailingFolders, Fault, Folders, MemoryFolders};
 use tokei_stats::Report;
 use tokei_table::{LanguageTable, LanguageType, TableError};
-use tokei_walk::{FailingFolders, Fault, Folders, MemoryFolders};
 
 /// What `a.c` is counted as in folders that fail behind so many calls: its path comes back where it isn't.
 fn parsed_behind(alloc: Global, table: &LanguageTable, passes: u64) -> Result<Parsed, Fail> {

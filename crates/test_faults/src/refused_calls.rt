@@ -5,10 +5,9 @@ ghost use Rattle.std.specs.Prelude.{◌<◌, length};
 use std::alloc::Global;
 use test_texts::bench::bench_or_memory;
 use test_texts::lines::{Blob, Lines, are};
-use tokei_count::{
-    CodeStats, CountConfig, CountError, Counter, count_plain, parse_counted, parse_from_slice,
-    parse_from_str,
-};
+use tokei_count::{Counter, count_plain, parse_counted, parse_from_slice, parse_from_str};
+use tokei_options::CountConfig;
+use tokei_stats::{CodeStats, CountError};
 use tokei_table::LanguageType;
 
 /// A call that counts a text.

@@ -4,11 +4,11 @@ use crate::few_languages::{Few, few_languages, few_of, owned, report, report_of_
 use std::alloc::Global;
 use std::test::Fail;
 use tokei_config::Config;
-use tokei_count::CountError;
+use tokei_folders::{FailingFolders, Fault, Folders};
 use tokei_languages::{Language, Languages};
 use tokei_statistics::CountFiles;
+use tokei_stats::CountError;
 use tokei_table::{LanguageTable, TableError};
-use tokei_walk::{FailingFolders, Fault, Folders};
 
 /// A call that counts what stands below roots.
 #[derive(Clone, Copy, Debug)]

@@ -4,7 +4,7 @@ use std::alloc::Global;
 use test_texts::bench::bench_or_memory;
 use test_texts::every_call::counted;
 use test_texts::lines::{Blob, are};
-use tokei_count::{CodeStats, CountError};
+use tokei_stats::{CodeStats, CountError};
 use tokei_table::LanguageTable;
 
 /// The statistics of a Markdown text with a fence of Rust and one of Python, or why they can't be had.

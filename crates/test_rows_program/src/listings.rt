@@ -1,8 +1,8 @@
 //! Rows of what is printed beside reports: the list of languages, and earlier results that are refused.
 use std::alloc::Global;
 use test_rows::{Answers, Asked, Members, Row, RowError};
-use tokei::{Counted, FailOnce, LanguageTable};
-use tokei_cli::{OutputError, print_input_parse_failure, print_supported_languages};
+use tokei::{Counted, FailOnce, LanguageTable, OutputError};
+use tokei_cli::{print_input_parse_failure, print_supported_languages};
 
 /// The members of these rows. A row has a table, whose languages are listed; or `refused_input`, the name of earlier results
 /// that are refused, of whose writes the one with the number `failing_write` may fail.

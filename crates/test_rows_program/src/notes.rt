@@ -2,9 +2,8 @@
 use log::sink::Lines;
 use std::alloc::Global;
 use test_rows::{Answers, Asked, KINDS, Members, Page, Row, RowError, text_of};
-use tokei_folders::Text;
+use tokei::{Note, NoteKind, Text};
 use tokei_program::log_notes;
-use tokei_walk::{Note, NoteKind};
 
 /// The members of these rows: the notes, each by its kind and place, and how often `--verbose` was given.
 pub const MEMBERS: Members = Members {

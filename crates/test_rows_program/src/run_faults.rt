@@ -2,7 +2,9 @@
 use crate::jobs::job_of;
 use std::alloc::Global;
 use test_rows::{Answers, Row, RowError, Said, folders_of};
-use tokei::{Counted, FailOnce, FailingFolders, Job, LanguageTable, MemoryFolders, RunError, run};
+use tokei::{
+    Counted, FailOnce, FailingFolders, Job, LanguageTable, MemoryFolders, OutputError, run,
+};
 
 /// What fails.
 #[derive(Clone, Copy)]
@@ -41,7 +43,7 @@ fn end_of_writing(of: &Of, mut folders: MemoryFolders, call: u64, right: &[u8]) 
     let text = out.inner.inner.as_slice();
     match refused {
         None if !failed && text == right => End::Unfailed,
-        Some(RunError::Write) if failed && right.starts_with(text) => End::Refused,
+        Some(OutputError::Write) if failed && right.starts_with(text) => End::Refused,
         _ => End::Wrong,
     }
 }
@@ -54,7 +56,7 @@ fn end_of_reading(of: &Of, folders: MemoryFolders, call: u64, right: &[u8]) -> E
     let text = out.inner.as_slice();
     match refused {
         None if text == right => End::Unfailed,
-        Some(RunError::Memory) if right.starts_with(text) => End::Refused,
+        Some(OutputError::Memory) if right.starts_with(text) => End::Refused,
         _ => End::Wrong,
     }
 }

@@ -3,7 +3,7 @@ use crate::jobs::{Form, Options, earlier_of, job};
 use crate::runs::ended;
 use std::alloc::Global;
 use test_rows::{Answers, Asked, Members, Row, RowError, Said};
-use tokei::{LanguageTable, MemoryFolders, RunError};
+use tokei::{LanguageTable, MemoryFolders, OutputError};
 
 /// The members of these rows. Each output is `"written"`, or the text of the error for which it is refused.
 pub const MEMBERS: Members = Members {
@@ -52,7 +52,7 @@ fn fault_of(
     table: &LanguageTable,
     row: &Row,
     output: Output,
-) -> Result<Option<RunError>, RowError> {
+) -> Result<Option<OutputError>, RowError> {
     let earlier = earlier_of(alloc, table, row)?;
     let job = job(alloc, &options(output), earlier)?;
     let mut folders = MemoryFolders::new(alloc);
@@ -60,10 +60,10 @@ fn fault_of(
 }
 
 /// Answers how such a run ends.
-fn say_end(answers: &mut Answers, member: &'static str, fault: Option<RunError>) {
+fn say_end(answers: &mut Answers, member: &'static str, fault: Option<OutputError>) {
     match fault {
         None => answers.say(member, Said::Text("written")),
-        Some(RunError::Overflow) => answers.say_shown(member, &RunError::Overflow),
+        Some(OutputError::Overflow) => answers.say_shown(member, &OutputError::Overflow),
         Some(_) => answers.fail(RowError::Memory),
     }
 }

@@ -4,7 +4,7 @@ use crate::run_faults::say_faults;
 use std::alloc::Global;
 use std::str::from_utf8;
 use test_rows::{Answers, Asked, Members, Page, Row, RowError, Said, folders_of};
-use tokei::{Counted, Job, LanguageTable, MemoryFolders, RunError, run};
+use tokei::{Counted, Job, LanguageTable, MemoryFolders, OutputError, run};
 
 /// The members of these rows. A row has one of `output`, `first_words` and `lines`, or `error`; where it has
 /// `each_failing_write` and `each_failing_call`, its writes and the calls of its folders are made to fail too.
@@ -39,7 +39,7 @@ pub const MEMBERS: Members = Members {
 /// How a run ended, and what it wrote.
 #[derive(Drop)]
 pub struct Outcome {
-    pub fault: Option<RunError>,
+    pub fault: Option<OutputError>,
     pub text: Vec<u8>,
 }
 
@@ -180,8 +180,8 @@ fn without_memory(row: &Row, bytes: &[u8]) -> Result<(), RowError> {
 fn say(row: &Row, outcome: &Outcome, answers: &mut Answers) -> Result<(), RowError> {
     match outcome.fault {
         None => say_bytes(row, &outcome.text, answers),
-        Some(RunError::Overflow) => {
-            answers.say_shown("error", &RunError::Overflow);
+        Some(OutputError::Overflow) => {
+            answers.say_shown("error", &OutputError::Overflow);
             Ok(())
         }
         Some(_) => without_memory(row, &outcome.text),

@@ -3,7 +3,9 @@ use crate::made::{answers_of, inside, refused};
 use std::alloc::Global;
 use test_rows::{Answers, Asked, Members, Row, RowError, Said};
 use test_texts::every_call::{agreed, told};
-use tokei_count::{CodeStats, CountConfig, Counter};
+use tokei_count::Counter;
+use tokei_options::CountConfig;
+use tokei_stats::CodeStats;
 use tokei_table::{LanguageTable, LanguageType};
 
 /// The members of these rows. `counts` are the blank, code and comment lines; `blobs` those of the texts inside it, by

@@ -1,7 +1,7 @@
 //! Statistics that rows say, and answers that statistics are.
 use std::alloc::Global;
 use test_rows::{Answers, Row, RowError, Said, three_of};
-use tokei_count::{CodeStats, CountError};
+use tokei_stats::{CodeStats, CountError};
 use tokei_table::{LanguageTable, LanguageType};
 
 /// Statistics of these lines, without texts inside.

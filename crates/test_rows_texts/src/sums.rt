@@ -4,8 +4,7 @@ use std::alloc::Global;
 use std::mem;
 use test_rows::{Answers, Asked, Members, Row, RowError, Said};
 use test_texts::every_call::counted;
-use tokei_count::{CodeStats, CountError};
-use tokei_stats::{Report, add_blob};
+use tokei_stats::{CodeStats, CountError, Report, add_blob};
 use tokei_table::LanguageTable;
 
 /// The members of these rows. `sum` is a list of statistics, each of which has `counts` and may have `blobs`, or is that

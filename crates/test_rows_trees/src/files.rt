@@ -5,9 +5,9 @@ use crate::shown_languages::put_report;
 use std::alloc::{AllocError, Global};
 use test_rows::{Answers, Asked, Members, Page, Row, RowError, Said, folders_of};
 use tokei_count::Counter;
+use tokei_files::{ParseFault, from_path, from_shebang, parse_file};
 use tokei_folders::MemoryFolders;
 use tokei_print::name_of;
-use tokei_statistics::{ParseFault, from_path, from_shebang, parse_file};
 use tokei_stats::Report;
 use tokei_table::{LanguageTable, LanguageType};
 

@@ -4,8 +4,9 @@ use crate::shown_languages::{put_language, say_languages};
 use std::alloc::Global;
 use std::mem;
 use test_rows::{Answers, Asked, Members, Page, Row, RowError, text_of};
-use tokei_languages::{CountError, Language, Languages};
+use tokei_languages::{Language, Languages};
 use tokei_options::Sort;
+use tokei_stats::CountError;
 use tokei_table::{LanguageTable, LanguageType};
 
 /// The members of these rows: languages, others that are added, and calls. Where `of` names a language, these are calls of

@@ -2,9 +2,10 @@
 use crate::given_languages::{NO_LANGUAGE, given, report};
 use std::alloc::Global;
 use test_rows::{Answers, Asked, Members, Row, RowError, text_of};
-use tokei_io::Counted;
+use tokei_io::{Counted, OutputError};
 use tokei_languages::{Language, Languages};
-use tokei_print::{NumberFormatStyle, PrintError, Printer, print_stream_heading, print_stream_row};
+use tokei_options::NumberFormatStyle;
+use tokei_print::{Printer, print_stream_heading, print_stream_row};
 use tokei_table::{LanguageTable, LanguageType};
 
 /// The members of these rows. `calls` print languages in turn; a `language_name` is printed alone, behind a `prefix`; the
@@ -32,7 +33,7 @@ pub const MEMBERS: Members = Members {
 type Page = Printer<Counted<Vec<u8>>>;
 
 /// How a call that prints ended.
-type Printed = Result<(), PrintError>;
+type Printed = Result<(), OutputError>;
 
 /// The style of that word.
 fn style(row: &Row) -> Result<NumberFormatStyle, RowError> {
@@ -135,7 +136,7 @@ fn say(page: &[u8], printed: Printed, answers: &mut Answers) {
     answers.say_written("rows", page);
     match printed {
         Ok(()) => {}
-        Err(PrintError::Memory) => answers.fail(RowError::Memory),
+        Err(OutputError::Memory) => answers.fail(RowError::Memory),
         Err(cause) => answers.say_shown("error", &cause),
     }
 }

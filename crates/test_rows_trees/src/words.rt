@@ -1,7 +1,7 @@
 //! Rows of words: of formats, of styles of numbers and of streams.
 use test_rows::{Answers, Asked, Members, Page, Row, RowError, Said};
 use tokei_earlier::Format;
-use tokei_print::{NumberFormatStyle, Streaming};
+use tokei_options::{NumberFormatStyle, Streaming};
 
 /// The members of these rows: the word of a `format`, of a `style` or of a `stream`; a `number` that is written in the
 /// style; the name of a list of formats; or whether the style without a word is asked for.

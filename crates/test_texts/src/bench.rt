@@ -1,7 +1,7 @@
 //! The bench table, read.
 use std::alloc::Global;
 use test_table::bench_json;
-use tokei_count::CountError;
+use tokei_stats::CountError;
 use tokei_table::{LanguageTable, TableError};
 
 /// The bench table.

@@ -4,7 +4,7 @@ use crate::bench::bench_or_memory;
 use crate::every_call::told;
 use crate::verdict::all_right;
 use std::alloc::Global;
-use tokei_count::{CodeStats, CountError};
+use tokei_stats::{CodeStats, CountError};
 use tokei_table::LanguageTable;
 
 /// A language, whether its doc strings are comments, and a text.

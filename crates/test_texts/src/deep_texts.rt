@@ -4,7 +4,7 @@ use crate::every_call::told;
 use crate::lines::{Lines, own_of};
 use crate::verdict::all_right;
 use std::alloc::{AllocError, Global};
-use tokei_count::{CodeStats, CountError};
+use tokei_stats::{CodeStats, CountError};
 use tokei_table::{LanguageTable, LanguageType};
 
 /// The lines of the blob of the language that lies 50 deep and holds no blobs, where each text above it has no lines

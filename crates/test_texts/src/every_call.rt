@@ -4,10 +4,9 @@ ghost use Rattle.std.specs.Prelude.{◌<◌, length};
 use crate::lines::{Lines, own_of};
 use std::alloc::Global;
 use std::str::from_utf8;
-use tokei_count::{
-    CodeStats, CountConfig, CountError, Counter, count_plain, parse_counted, parse_from_slice,
-    parse_from_str,
-};
+use tokei_count::{Counter, count_plain, parse_counted, parse_from_slice, parse_from_str};
+use tokei_options::CountConfig;
+use tokei_stats::{CodeStats, CountError};
 use tokei_table::{LanguageTable, LanguageType};
 
 /// Whether what a call answers are these statistics.

@@ -3,7 +3,7 @@ use crate::bench::bench_or_memory;
 use crate::every_call::{read_alone, told};
 use crate::lines::{Lines, are};
 use std::alloc::{AllocError, Global};
-use tokei_count::CountError;
+use tokei_stats::CountError;
 use tokei_table::LanguageTable;
 
 /// How often a piece of ten bytes fills two mebibytes.

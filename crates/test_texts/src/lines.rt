@@ -1,5 +1,5 @@
 //! The lines of a text and of its blobs.
-use tokei_count::CodeStats;
+use tokei_stats::CodeStats;
 use tokei_table::{LanguageTable, LanguageType};
 
 /// Blank, code and comment lines.

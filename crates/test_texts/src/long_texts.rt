@@ -3,7 +3,9 @@ use crate::bench::bench_or_memory;
 use crate::every_call::read_alone;
 use crate::lines::Lines;
 use std::alloc::{AllocError, Global};
-use tokei_count::{CountConfig, CountError, Counter, count_plain_counted};
+use tokei_count::{Counter, count_plain_counted};
+use tokei_options::CountConfig;
+use tokei_stats::CountError;
 use tokei_table::{LanguageTable, LanguageType};
 
 /// So many lines of two bytes, and then three lines of which two are in a comment.

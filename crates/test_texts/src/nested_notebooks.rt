@@ -4,7 +4,7 @@ use crate::every_call::counted;
 use crate::lines::{Blob, are};
 use crate::verdict::all_right;
 use std::alloc::{AllocError, Global};
-use tokei_count::CountError;
+use tokei_stats::CountError;
 use tokei_table::LanguageTable;
 
 /// Whether the notebook has no lines, and blobs of these languages alone, each with these lines and no blobs.

@@ -6,7 +6,9 @@ use crate::every_call::agreed;
 use crate::verdict::all_right;
 use std::alloc::{AllocError, Global};
 use std::test::Fail;
-use tokei_count::{CountConfig, CountError, Counter};
+use tokei_count::Counter;
+use tokei_options::CountConfig;
+use tokei_stats::CountError;
 use tokei_table::{LanguageTable, LanguageType};
 
 /// The text with this number: the empty one is 0, then come those of one piece, those of two, and so on.

@@ -2,7 +2,6 @@
 -- ended.
 pub mod Counted
 pub mod Earlier
-pub mod Errors
 pub mod JobStreams
 pub mod Output
 pub mod Refused

@@ -1,9 +1,9 @@
 -- What a run writes: a document, the printed report, or a stream.
 use Rattle.std.specs.Prelude.{ℕ, List, Option}
 use Rattle.std.specs.Io.KnownBytes.{Appends}
-use Rattle.serde_json.specs.Written.{compact_text}
+use Rattle.tokei_earlier.specs.declared.format.Format.{Format}
+use Rattle.tokei_earlier.specs.DocumentTexts.{document_text}
 use Rattle.tokei_folders.specs.Tree.{Tree}
-use Rattle.tokei_json.specs.Document.{document}
 use Rattle.tokei_table.specs.Row.{Row}
 use Rattle.tokei.specs.declared.job.Job.{Job}
 use Rattle.tokei.specs.declared.job.Wanted.{Wanted}
@@ -12,10 +12,12 @@ use Rattle.tokei.specs.Written.{AppendsReport}
 use Rattle.tokei.specs.JobStreams.{WritesStream}
 use Rattle.tokei.specs.Runs.{languages_after}
 
--- behind what stood there a writer has the document of a job's languages, and nothing else
-abbrev pub WritesDocument : List Row → Job → Tree → Option (List ℕ) → Option (List ℕ) → Type 0
-WritesDocument rows job t old new =
-    Appends old new (compact_text (document rows (languages_after rows job t)))
+-- behind what stood there a writer has the document of a job's languages in this format, and
+-- nothing else
+abbrev pub WritesDocument : Format → List Row → Job → Tree → Option (List ℕ) → Option (List ℕ)
+    → Type 0
+WritesDocument format rows job t old new =
+    Appends old new (document_text format rows (languages_after rows job t))
 
 -- the report of a job's languages is written
 abbrev pub WritesReport : List Row → Job → Tree → Option (List ℕ) → Option (List ℕ) → Type 0
@@ -23,6 +25,6 @@ WritesReport rows job t old new = AppendsReport rows job (languages_after rows j
 
 -- what a run writes
 abbrev pub Outputs : Wanted → List Row → Job → Tree → Option (List ℕ) → Option (List ℕ) → Type 0
-Outputs (Document format) rows job t old new = WritesDocument rows job t old new
+Outputs (Document format) rows job t old new = WritesDocument format rows job t old new
 Outputs Report rows job t old new = WritesReport rows job t old new
 Outputs (Stream form) rows job t old new = WritesStream form rows job t old new

@@ -1,11 +1,11 @@
 -- When the sums of a run are at most the greatest `usize`: those of its readings and renewed
 -- counts, and those that its output shows.
 use Rattle.std.specs.Prelude.{List, ⊤}
+use Rattle.tokei_earlier.specs.declared.format.Format.{Format}
+use Rattle.tokei_earlier.specs.DocumentTexts.{DocumentSumsFit}
 use Rattle.tokei_folders.specs.Tree.{Tree}
 use Rattle.tokei_languages.specs.Renewing.{RenewalFits}
-use Rattle.tokei_languages.specs.Summaries.{languages_summary}
 use Rattle.tokei_statistics.specs.Runs.{RunFits}
-use Rattle.tokei_stats.specs.Overflow.{CountsFit}
 use Rattle.tokei_table.specs.Row.{Row}
 use Rattle.tokei.specs.declared.job.Job.{Job}
 use Rattle.tokei.specs.declared.job.Wanted.{Wanted}
@@ -21,10 +21,10 @@ use Rattle.tokei.specs.Runs.{languages_after}
 abbrev pub TallyFits : List Row → Job → Tree → Type 0
 TallyFits rows job t = RunFits (counting_of rows job) t (files_of job t) (earlier_of job.earlier)
 
--- so do the counts of a document's total
-pub record DocumentFits (rows : List Row) (job : Job) (t : Tree) : Type 0 where
+-- so do the sums that a document of this format shows
+pub record DocumentFits (format : Format) (rows : List Row) (job : Job) (t : Tree) : Type 0 where
   pub tally : TallyFits rows job t
-  pub total : CountsFit (languages_summary (languages_after rows job t))
+  pub shown : DocumentSumsFit format (languages_after rows job t)
 
 -- those of a run that writes a report
 pub record RunReportFits (rows : List Row) (job : Job) (t : Tree) : Type 0 where
@@ -33,7 +33,7 @@ pub record RunReportFits (rows : List Row) (job : Job) (t : Tree) : Type 0 where
 
 -- those of a run
 abbrev pub Fits : Wanted → List Row → Job → Tree → Type 0
-Fits (Document format) rows job t = DocumentFits rows job t
+Fits (Document format) rows job t = DocumentFits format rows job t
 Fits Report rows job t = RunReportFits rows job t
 Fits (Stream form) rows job t = StreamFits rows job t
 

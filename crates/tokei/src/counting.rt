@@ -6,16 +6,16 @@ ghost use Rattle.tokei_statistics.specs.Unread.{EndsIn, unread_of};
 ghost use Rattle.tokei.specs.Counted.{counting_of, files_of};
 ghost use Rattle.tokei_walk.specs.Notes.{Grows, notes_of_excludes};
 ghost use Rattle.tokei_walk.specs.Walks.{texts_of};
-ghost use Rattle.tokei.specs.declared.error.RunError.TheVariants.{Overflow as SumOverflow, Write};
+ghost use Rattle.tokei_io.specs.declared.error.OutputError.TheVariants.{Overflow as SumOverflow, Write};
 ghost use Rattle.tokei.specs.Runs.{languages_after};
 ghost use Rattle.tokei.specs.Sums.{TallyFits};
 ghost use Rattle.tokei_folders.specs.AsTheyWere.{SameTree, NoFault};
 
 use crate::earlier::earlier_languages;
-use crate::error::RunError;
 use crate::job::Job;
 use std::alloc::Global;
 use tokei_folders::Folders;
+use tokei_io::OutputError;
 use tokei_languages::Languages;
 use tokei_statistics::CountFiles;
 use tokei_table::LanguageTable;
@@ -35,7 +35,7 @@ pub(crate) fn tally_of<F: Folders>(
     table: &LanguageTable,
     folders: &mut F,
     job: &Job,
-) -> Result<Tally, RunError>
+) -> Result<Tally, OutputError>
     ensures same { SameTree F.tree folders.old folders.new }
     ensures told { Told (F.tree folders.old) (λ t. IfOk result (λ tally.
         languages_of tally.languages ≡ languages_after table.now job.now t)) }

@@ -6,116 +6,44 @@
 pub mod columns;
 mod counting;
 mod earlier;
-mod error;
 mod job;
-mod putting;
 mod rows;
 mod running;
 mod streaming;
 mod writing;
 
 pub use earlier::earlier_languages;
-pub use error::RunError;
-pub use job::Job;
-pub use job::Wanted;
-pub use rows::Rows;
-pub use rows::write_heading;
-pub use rows::write_row;
+pub use job::{Job, Wanted};
+pub use rows::{Rows, write_heading, write_row};
 pub use running::run;
 pub use streaming::stream;
-pub use tokei_config::Config;
-pub use tokei_config::ConfigDirs;
-pub use tokei_config::LanguageConfig;
-pub use tokei_count::Capture;
-pub use tokei_count::CountConfig;
-pub use tokei_count::Counter;
-pub use tokei_count::FileContext;
-pub use tokei_count::HtmlLike;
-pub use tokei_count::LanguageContext;
-pub use tokei_count::SharedMatchers;
-pub use tokei_count::SimpleCapture;
-pub use tokei_count::count_plain;
-pub use tokei_count::count_plain_counted;
-pub use tokei_count::decode_text;
-pub use tokei_count::end_lf;
-pub use tokei_count::end_markdown;
-pub use tokei_count::end_script;
-pub use tokei_count::end_style;
-pub use tokei_count::end_template;
-pub use tokei_count::find_char_boundary;
-pub use tokei_count::parse_counted;
-pub use tokei_count::parse_from_slice;
-pub use tokei_count::parse_from_str;
-pub use tokei_count::start_lf;
-pub use tokei_count::start_markdown;
-pub use tokei_count::start_script;
-pub use tokei_count::start_style;
-pub use tokei_count::start_template;
-pub use tokei_earlier::Format;
-pub use tokei_earlier::FormatError;
-pub use tokei_earlier::InputError;
-pub use tokei_earlier::add_input;
-pub use tokei_earlier::from_value;
-pub use tokei_folders::Above;
-pub use tokei_folders::Call;
-pub use tokei_folders::Entry;
-pub use tokei_folders::FailingFolders;
-pub use tokei_folders::Fault;
-pub use tokei_folders::Folders;
-pub use tokei_folders::Items;
-pub use tokei_folders::Kind;
-pub use tokei_folders::Listing;
-pub use tokei_folders::MemoryFolders;
-pub use tokei_folders::Text;
-pub use tokei_ignore::IgnoreFile;
-pub use tokei_ignore::Pattern;
-pub use tokei_ignore::PatternError;
-pub use tokei_ignore::Verdict;
-pub use tokei_io::Counted;
-pub use tokei_io::FailOnce;
-pub use tokei_io::Sink;
-pub use tokei_io::Source;
-pub use tokei_json::report_line;
-pub use tokei_json::to_value;
-pub use tokei_languages::Language;
-pub use tokei_languages::Languages;
-pub use tokei_options::Sort;
-pub use tokei_options::SortError;
-pub use tokei_print::NumberFormat;
-pub use tokei_print::NumberFormatStyle;
-pub use tokei_print::PrintError;
-pub use tokei_print::Printer;
-pub use tokei_print::Streaming;
-pub use tokei_print::StreamingError;
-pub use tokei_print::StyleError;
-pub use tokei_print::print_stream_heading;
-pub use tokei_print::print_stream_row;
+
+// What is handed on from below.
+pub use tokei_config::{Config, ConfigDirs, LanguageConfig};
+pub use tokei_count::{
+    Capture, CountConfig, Counter, FileContext, HtmlLike, LanguageContext, SharedMatchers,
+    SimpleCapture, count_plain, count_plain_counted, decode_text, end_lf, end_markdown, end_script,
+    end_style, end_template, find_char_boundary, parse_counted, parse_from_slice, parse_from_str,
+    start_lf, start_markdown, start_script, start_style, start_template,
+};
+pub use tokei_earlier::{Format, FormatError, InputError, add_input, from_value};
+pub use tokei_files::{ParseFault, from_path, from_shebang, parse_file};
+pub use tokei_folders::{
+    Above, Call, Entry, FailingFolders, Fault, Folders, Items, Kind, Listing, MemoryFolders, Text,
+};
+pub use tokei_ignore::{IgnoreFile, Pattern, PatternError, Verdict};
+pub use tokei_io::{Counted, FailOnce, OutputError, Sink, Source, put};
+pub use tokei_json::{report_line, to_value};
+pub use tokei_languages::{Language, Languages};
+pub use tokei_options::{
+    NumberFormat, NumberFormatStyle, Sort, SortError, Streaming, StreamingError, StyleError,
+};
+pub use tokei_print::{Printer, print_stream_heading, print_stream_row};
 pub use tokei_statistics::CountFiles;
-pub use tokei_statistics::ParseFault;
-pub use tokei_statistics::from_path;
-pub use tokei_statistics::from_shebang;
-pub use tokei_statistics::parse_file;
-pub use tokei_stats::CodeStats;
-pub use tokei_stats::CountError;
-pub use tokei_stats::Report;
-pub use tokei_stats::ReportRow;
-pub use tokei_table::LanguageTable;
-pub use tokei_table::LanguageType;
-pub use tokei_table::OpenerIndex;
-pub use tokei_table::Syntax;
-pub use tokei_table::TableError;
-pub use tokei_table::contains_slice;
-pub use tokei_table::has_extension;
-pub use tokei_table::is_blank_text;
-pub use tokei_table::is_line_ending_whitespace;
-pub use tokei_table::is_whitespace;
-pub use tokei_table::trim;
-pub use tokei_table::trim_first_and_last_line_of_whitespace;
-pub use tokei_table::trim_start;
-pub use tokei_walk::Kept;
-pub use tokei_walk::KeptFile;
-pub use tokei_walk::Note;
-pub use tokei_walk::NoteKind;
-pub use tokei_walk::Rules;
-pub use tokei_walk::Walk;
-pub use tokei_walk::kept_files;
+pub use tokei_stats::{CodeStats, CountError, Report, ReportRow};
+pub use tokei_table::{
+    LanguageTable, LanguageType, OpenerIndex, Syntax, TableError, contains_slice, has_extension,
+    is_blank_text, is_line_ending_whitespace, is_whitespace, trim,
+    trim_first_and_last_line_of_whitespace, trim_start,
+};
+pub use tokei_walk::{Kept, KeptFile, Note, NoteKind, Rules, Walk, kept_files};

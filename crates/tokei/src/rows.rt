@@ -3,17 +3,15 @@ ghost use Rattle.std.specs.Prelude.{◌≡◌, ◌≢◌, ◌<◌, Err, OnOk};
 ghost use Rattle.std.specs.Io.KnownBytes.{Appends};
 ghost use Rattle.tokei_stats.specs.Reports.{report_of as report_value};
 ghost use Rattle.tokei_options.specs.declared.streaming.Streaming.TheVariants.{Simple, Json};
-ghost use Rattle.tokei.specs.declared.error.RunError.TheVariants.{Overflow as SumOverflow, Write as WriteFault};
+ghost use Rattle.tokei_io.specs.declared.error.OutputError.TheVariants.{Overflow as SumOverflow, Write as WriteFault};
 ghost use Rattle.tokei.specs.Rows.{heading_of, report_row};
 ghost use Rattle.tokei_io.specs.Faults.{TellsFault, PassesNoFault};
 
-use crate::error::RunError;
-use crate::putting::put;
 use std::alloc::Global;
-use tokei_io::Sink;
+use tokei_io::{OutputError, Sink, put};
 use tokei_json::report_line;
 use tokei_options::Streaming;
-use tokei_print::{PrintError, name_of, print_stream_heading, print_stream_row};
+use tokei_print::{name_of, print_stream_heading, print_stream_row};
 use tokei_stats::Report;
 use tokei_table::{LanguageTable, LanguageType};
 
@@ -27,12 +25,13 @@ pub struct Rows<'a> {
 }
 
 /// Writes the columns of a report.
+#[tactic(auto, using(tokei_io::proofs::Printing::printing_tells, tokei_io::proofs::Printing::printing_passes))]
 fn write_columns<W: Sink>(
     rows: &Rows,
     language: LanguageType,
     report: &Report,
     writer: &mut W,
-) -> Result<(), RunError>
+) -> Result<(), OutputError>
     ensures bytes { OnOk result (Appends (W.contents writer.old) (W.contents writer.new)
         (report_row Simple rows.now.table.now language (report_value report.now))) }
     ensures fault { TellsFault W.faults writer.old writer.new result WriteFault }
@@ -40,12 +39,7 @@ fn write_columns<W: Sink>(
     ensures overflow { result ≢ Err SumOverflow }
 {
     let name = name_of(rows.table, language);
-    match print_stream_row(rows.alloc, writer, name, report) {
-        Ok(()) => Ok(()),
-        Err(PrintError::Memory) => Err(RunError::Memory),
-        Err(PrintError::Overflow) => Err(RunError::Overflow),
-        Err(PrintError::Write) => Err(RunError::Write),
-    }
+    print_stream_row(rows.alloc, writer, name, report)
 }
 
 /// Writes a report as one line of JSON.
@@ -54,7 +48,7 @@ fn write_line<W: Sink>(
     language: LanguageType,
     report: &Report,
     writer: &mut W,
-) -> Result<(), RunError>
+) -> Result<(), OutputError>
     ensures bytes { OnOk result (Appends (W.contents writer.old) (W.contents writer.new)
         (report_row Json rows.now.table.now language (report_value report.now))) }
     ensures fault { TellsFault W.faults writer.old writer.new result WriteFault }
@@ -72,7 +66,7 @@ pub fn write_row<W: Sink>(
     language: LanguageType,
     report: &Report,
     writer: &mut W,
-) -> Result<(), RunError>
+) -> Result<(), OutputError>
     ensures bytes { OnOk result (Appends (W.contents writer.old) (W.contents writer.new)
         (report_row rows.now.form rows.now.table.now language (report_value report.now))) }
     ensures fault { TellsFault W.faults writer.old writer.new result WriteFault }
@@ -86,7 +80,8 @@ pub fn write_row<W: Sink>(
 }
 
 /// Writes the heading of a stream, where it has one.
-pub fn write_heading<W: Sink>(form: Streaming, writer: &mut W) -> Result<(), RunError>
+#[tactic(auto, using(tokei_io::proofs::Printing::printing_tells, tokei_io::proofs::Printing::printing_passes))]
+pub fn write_heading<W: Sink>(form: Streaming, writer: &mut W) -> Result<(), OutputError>
     ensures bytes { OnOk result
         (Appends (W.contents writer.old) (W.contents writer.new) (heading_of form)) }
     ensures fault { TellsFault W.faults writer.old writer.new result WriteFault }
@@ -95,11 +90,6 @@ pub fn write_heading<W: Sink>(form: Streaming, writer: &mut W) -> Result<(), Run
 {
     match form {
         Streaming::Json => Ok(()),
-        Streaming::Simple => match print_stream_heading(writer) {
-            Ok(()) => Ok(()),
-            Err(PrintError::Memory) => Err(RunError::Memory),
-            Err(PrintError::Overflow) => Err(RunError::Overflow),
-            Err(PrintError::Write) => Err(RunError::Write),
-        },
+        Streaming::Simple => print_stream_heading(writer),
     }
 }

@@ -1,7 +1,7 @@
 //! A whole run: what is counted is written.
 ghost use Rattle.std.specs.Prelude.{◌≡◌, ◌≢◌, ◌<◌, Err, IfErr, IfOk, OnOk};
 ghost use Rattle.tokei_folders.specs.Answers.{Told};
-ghost use Rattle.tokei.specs.declared.error.RunError.TheVariants.{Overflow as SumOverflow, Write as WriteFault};
+ghost use Rattle.tokei_io.specs.declared.error.OutputError.TheVariants.{Overflow as SumOverflow, Write as WriteFault};
 ghost use Rattle.tokei.specs.Output.{Outputs, WritesDocument, WritesReport};
 ghost use Rattle.tokei.specs.Refused.{IsUntouched};
 ghost use Rattle.tokei.specs.Sums.{DocumentFits, EarlierFits, Fits, RunReportFits};
@@ -13,31 +13,28 @@ ghost use Rattle.tokei_walk.specs.Notes.{Grows, notes_of_excludes};
 ghost use Rattle.tokei_walk.specs.Walks.{texts_of};
 
 use crate::counting::tally_of;
-use crate::error::RunError;
 use crate::job::{Job, Wanted};
 use crate::rows::Rows;
 use crate::streaming::stream;
-use crate::writing::{put_document, put_report};
+use crate::writing::{Documents, put_document, put_report};
 use std::alloc::Global;
-use tokei_earlier::Format;
 use tokei_folders::Folders;
-use tokei_io::Sink;
+use tokei_io::{OutputError, Sink};
 use tokei_table::LanguageTable;
 use tokei_walk::Note;
 
 /// Counts the files of a job, and writes the document of what was counted.
 fn write_document<F: Folders, W: Sink>(
-    alloc: Global,
-    table: &LanguageTable,
+    by: &Documents,
     folders: &mut F,
     job: &Job,
     writer: &mut W,
-) -> Result<Vec<Note>, RunError>
+) -> Result<Vec<Note>, OutputError>
     ensures same { SameTree F.tree folders.old folders.new }
-    ensures told { Told (F.tree folders.old) (λ t. OnOk result (WritesDocument
-        table.now job.now t (W.contents writer.old) (W.contents writer.new))) }
+    ensures told { Told (F.tree folders.old) (λ t. OnOk result (WritesDocument by.now.format
+        by.now.table.now job.now t (W.contents writer.old) (W.contents writer.new))) }
     ensures overflow { result ≡ Err SumOverflow → Told (F.tree folders.old) (λ t.
-        ¬ DocumentFits table.now job.now t) }
+        ¬ DocumentFits by.now.format by.now.table.now job.now t) }
     ensures untouched { IfErr result (λ e. e ≢ WriteFault
         → W.contents writer.new ≡ W.contents writer.old) }
     ensures fault { TellsFault W.faults writer.old writer.new result WriteFault }
@@ -45,11 +42,11 @@ fn write_document<F: Folders, W: Sink>(
     ensures notes { IfOk result (λ n.
         Grows (notes_of_excludes (texts_of job.now.ignored.items)) n.items) }
     ensures unread { Told (F.tree folders.old) (λ t. IfOk result (λ n. EndsIn
-        (unread_of (counting_of table.now job.now) t (files_of job.now t)) n.items)) }
+        (unread_of (counting_of by.now.table.now job.now) t (files_of job.now t)) n.items)) }
     ensures honest { NoFault F.memory_faults folders.old folders.new result }
 {
-    let tally = tally_of(alloc, table, folders, job)?;
-    put_document(alloc, table, &tally.languages, writer)?;
+    let tally = tally_of(by.alloc, by.table, folders, job)?;
+    put_document(by, &tally.languages, writer)?;
     Ok(tally.notes)
 }
 
@@ -60,7 +57,7 @@ fn write_report<F: Folders, W: Sink>(
     folders: &mut F,
     job: &Job,
     writer: &mut W,
-) -> Result<Vec<Note>, RunError>
+) -> Result<Vec<Note>, OutputError>
     ensures same { SameTree F.tree folders.old folders.new }
     ensures told { Told (F.tree folders.old) (λ t. OnOk result (WritesReport
         table.now job.now t (W.contents writer.old) (W.contents writer.new))) }
@@ -95,7 +92,7 @@ pub fn run<F: Folders, W: Sink>(
     folders: &mut F,
     job: &Job,
     writer: &mut W,
-) -> Result<Vec<Note>, RunError>
+) -> Result<Vec<Note>, OutputError>
     ensures same { SameTree F.tree folders.old folders.new }
     ensures told { Told (F.tree folders.old) (λ t. OnOk result (Outputs job.now.wanted
         table.now job.now t (W.contents writer.old) (W.contents writer.new))) }
@@ -121,7 +118,14 @@ pub fn run<F: Folders, W: Sink>(
             };
             stream(&rows, folders, job, writer)
         }
-        Wanted::Document(Format::Json) => write_document(alloc, table, folders, job, writer),
+        Wanted::Document(format) => {
+            let by = Documents {
+                alloc,
+                table,
+                format: *format,
+            };
+            write_document(&by, folders, job, writer)
+        }
         Wanted::Report => write_report(alloc, table, folders, job, writer),
     }
 }

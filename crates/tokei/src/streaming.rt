@@ -10,7 +10,7 @@ ghost use Rattle.tokei_files.specs.Unread.{EndsIn, unread_of, unread_of_file};
 ghost use Rattle.tokei_stats.specs.Reports.{report_of as report_value};
 ghost use Rattle.tokei_walk.specs.Notes.{Grows, notes_of, notes_of_excludes};
 ghost use Rattle.tokei_walk.specs.Walks.{texts_of, to_come};
-ghost use Rattle.tokei.specs.declared.error.RunError.TheVariants.{Overflow as SumOverflow, Write as WriteFault};
+ghost use Rattle.tokei_io.specs.declared.error.OutputError.TheVariants.{Overflow as SumOverflow, Write as WriteFault};
 ghost use Rattle.tokei.specs.Earlier.{earlier_of};
 ghost use Rattle.tokei.specs.Counted.{counting_of, files_of};
 ghost use Rattle.tokei.specs.JobStreams.{StreamFits, WritesStream};
@@ -19,14 +19,13 @@ ghost use Rattle.tokei_folders.specs.AsTheyWere.{SameTree, NoFault};
 ghost use Rattle.tokei_io.specs.Faults.{TellsFault, PassesNoFault};
 
 use crate::earlier::earlier_languages;
-use crate::error::RunError;
 use crate::job::Job;
 use crate::rows::{Rows, write_heading, write_row};
 use std::alloc::{AllocError, Global};
 use tokei_count::Counter;
 use tokei_files::{Counting, ParseFault, note_unread, rules, types};
 use tokei_folders::Folders;
-use tokei_io::Sink;
+use tokei_io::{OutputError, Sink};
 use tokei_stats::{CountError, Report};
 use tokei_table::LanguageType;
 use tokei_walk::{KeptFile, Note, Walk};
@@ -45,7 +44,7 @@ fn report_of<F: Folders>(
     folders: &mut F,
     file: KeptFile,
     unread: &mut Vec<Note>,
-) -> Result<Option<(LanguageType, Report)>, RunError>
+) -> Result<Option<(LanguageType, Report)>, OutputError>
     ensures same { SameTree F.tree folders.old folders.new }
     ensures told { Told (F.tree folders.old) (λ t. IfOk result (λ o. option_map
         (λ r. (r.0, report_value r.1)) o
@@ -70,8 +69,8 @@ fn report_of<F: Folders>(
             note_unread(unread, file)?;
             Ok(None)
         }
-        Err(ParseFault::Memory) => Err(RunError::Memory),
-        Err(ParseFault::Overflow) => Err(RunError::Overflow),
+        Err(ParseFault::Memory) => Err(OutputError::Memory),
+        Err(ParseFault::Overflow) => Err(OutputError::Overflow),
     }
 }
 
@@ -82,7 +81,7 @@ fn write_file<F: Folders, W: Sink>(
     file: KeptFile,
     writer: &mut W,
     unread: &mut Vec<Note>,
-) -> Result<(), RunError>
+) -> Result<(), OutputError>
     ensures same { SameTree F.tree folders.old folders.new }
     ensures told { Told (F.tree folders.old) (λ t. OnOk result
         (Appends (W.contents writer.old) (W.contents writer.new)
@@ -111,7 +110,7 @@ fn write_rows<F: Folders, W: Sink>(
     walk: &mut Walk,
     writer: &mut W,
     unread: &mut Vec<Note>,
-) -> Result<(), RunError>
+) -> Result<(), OutputError>
     ensures same { SameTree F.tree folders.old folders.new }
     ensures told { Told (F.tree folders.old) (λ t. OnOk result
         (Appends (W.contents writer.old) (W.contents writer.new)
@@ -159,7 +158,7 @@ fn write_headed<F: Folders, W: Sink>(
     walk: &mut Walk,
     writer: &mut W,
     unread: &mut Vec<Note>,
-) -> Result<(), RunError>
+) -> Result<(), OutputError>
     ensures same { SameTree F.tree folders.old folders.new }
     ensures told { Told (F.tree folders.old) (λ t. OnOk result
         (Appends (W.contents writer.old) (W.contents writer.new)
@@ -186,7 +185,7 @@ fn write_stream<F: Folders, W: Sink>(
     folders: &mut F,
     job: &Job,
     writer: &mut W,
-) -> Result<Vec<Note>, RunError>
+) -> Result<Vec<Note>, OutputError>
     ensures same { SameTree F.tree folders.old folders.new }
     ensures told { Told (F.tree folders.old) (λ t. OnOk result
         (Appends (W.contents writer.old) (W.contents writer.new)
@@ -219,7 +218,7 @@ pub fn stream<F: Folders, W: Sink>(
     folders: &mut F,
     job: &Job,
     writer: &mut W,
-) -> Result<Vec<Note>, RunError>
+) -> Result<Vec<Note>, OutputError>
     ensures same { SameTree F.tree folders.old folders.new }
     ensures told { Told (F.tree folders.old) (λ t. OnOk result (WritesStream rows.now.form
         rows.now.table.now job.now t (W.contents writer.old) (W.contents writer.new))) }

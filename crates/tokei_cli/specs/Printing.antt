@@ -1,17 +1,9 @@
 -- What the program prints beside reports.
-use Rattle.std.specs.Prelude.{ℕ, ◌+◌, List, [], ◌∷◌, ◌++◌, Result, Ok, Err, codes, flat_map}
+use Rattle.std.specs.Prelude.{ℕ, List, [], ◌∷◌, ◌++◌, codes, flat_map}
 use Rattle.std.specs.List.{join_by}
 use Rattle.tokei_stats.specs.Places.{left_in}
 use Rattle.tokei_table_row.specs.Bytes.{newline, space}
 use Rattle.tokei_table_row.specs.Row.{Row}
-use Rattle.tokei_cli.specs.declared.output_error.OutputError.{OutputError}
-use Rattle.tokei_cli.specs.declared.output_error.OutputError.TheVariants.{Memory, Write}
-
--- one fault more where the writer failed, and none else
-abbrev pub faults_after_printing : {A : Type 0} → Result A OutputError → ℕ → ℕ
-faults_after_printing (Ok a) n = n
-faults_after_printing (Err Memory) n = n
-faults_after_printing (Err Write) n = n + 1
 
 -- how many places a line has for the name
 abbrev pub list_places : ℕ

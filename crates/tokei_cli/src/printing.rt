@@ -4,25 +4,11 @@ ghost use Rattle.std.specs.Prelude.{◌≡◌, ◌≢◌, ◌<◌, Err, IfOk, On
 ghost use Rattle.std.specs.Io.KnownBytes.{Appends};
 ghost use Rattle.tokei_table_row.specs.RowOf.{tokens_of};
 ghost use Rattle.tokei_cli.specs.Printing.{list_line, extensions_text, languages_text, failure_text};
-ghost use Rattle.tokei_cli.specs.Printing.{faults_after_printing};
+ghost use Rattle.tokei_io.specs.Printing.{faults_after_printing};
 
-use crate::output_error::OutputError;
 use std::alloc::{AllocError, Global};
-use tokei_io::Sink;
+use tokei_io::{OutputError, Sink, put};
 use tokei_table::{LanguageTable, LanguageType};
-
-/// The text behind what stands in the writer.
-fn put<S: Sink>(writer: &mut S, text: &str) -> Result<(), OutputError>
-    ensures bytes { OnOk result (Appends (S.contents writer.old) (S.contents writer.new) text.now) }
-    ensures faults { S.faults writer.old < u64.MAX
-        → S.faults writer.new ≡ faults_after_printing result (S.faults writer.old) }
-    ensures memory { result ≢ Err OutputError.Memory }
-{
-    match writer.put(text.as_bytes()) {
-        Ok(()) => Ok(()),
-        Err(_) => Err(OutputError::Write),
-    }
-}
 
 /// A line of the list: a name left in 40 places, a space, and what stands beside it.
 #[tactic(auto, using(tokei_stats::proofs::Padding::styled_left))]
@@ -69,9 +55,10 @@ pub fn print_supported_languages<S: Sink>(
     ensures faults { S.faults writer.old < u64.MAX
         → S.faults writer.new ≡ faults_after_printing result (S.faults writer.old) }
     ensures memory { result ≡ Err OutputError.Memory → writer.new ≡ writer.old }
+    ensures overflow { result ≢ Err OutputError.Overflow }
 {
     let text = languages_text(alloc, table)?;
-    put(writer, text.as_str())
+    put(writer, text.as_bytes())
 }
 
 /// Prints that the earlier results of this name were refused. After a fault of the writer nothing
@@ -86,7 +73,8 @@ pub fn print_input_parse_failure<S: Sink>(
     ensures faults { S.faults writer.old < u64.MAX
         → S.faults writer.new ≡ faults_after_printing result (S.faults writer.old) }
     ensures memory { result ≡ Err OutputError.Memory → writer.new ≡ writer.old }
+    ensures overflow { result ≢ Err OutputError.Overflow }
 {
     let text = format!(in alloc; "Error:\n Failed to parse input file: {name}\n")?;
-    put(writer, text.as_str())
+    put(writer, text.as_bytes())
 }

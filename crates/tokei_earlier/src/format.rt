@@ -2,13 +2,11 @@
 ghost use Rattle.std.specs.Prelude.{◌≡◌, ◌≢◌, ◌≤◌, IfErr, IfOk, IsErrOf, Some, Ok, Err, map, string_bytes};
 ghost use Rattle.serde_json.specs.Data.{depth};
 ghost use Rattle.serde_json.specs.Read.{max_depth, read};
-ghost use Rattle.serde_json.specs.Written.{compact_text};
 ghost use Rattle.tokei_earlier.specs.Outcome.{outcome_of_text};
 ghost use Rattle.tokei_json.specs.Document.{document};
+ghost use Rattle.tokei_earlier.specs.DocumentTexts.{document_text, DocumentSumsFit};
 ghost use Rattle.tokei_earlier.specs.Formats.{all_words, format_of_word, supported_words, unsupported_words};
 ghost use Rattle.tokei_languages.specs.Seen.{languages_of};
-ghost use Rattle.tokei_languages.specs.Summaries.{languages_summary};
-ghost use Rattle.tokei_stats.specs.Overflow.{CountsFit};
 
 use crate::document::from_text;
 use crate::error::InputError;
@@ -37,8 +35,8 @@ pub enum FormatError {
 }
 
 impl Format {
-    /// The compact text of `to_value`. `Overflow` only where a count of the total passes the
-    /// greatest `usize`, or `Memory`.
+    /// The text of languages in this format; in JSON the compact text of `to_value`. `Overflow` only
+    /// where a sum that it shows passes the greatest `usize`, or `Memory`.
     pub fn print(
         self,
         alloc: Global,
@@ -46,12 +44,12 @@ impl Format {
         languages: &Languages,
     ) -> Result<String, CountError>
         ensures text { IfOk result (λ s. string_bytes s
-            ≡ compact_text (document table.now (languages_of languages.now))) }
+            ≡ document_text self table.now (languages_of languages.now)) }
         ensures reads_back { IfOk result
             (λ s. depth (document table.now (languages_of languages.now)) ≤ max_depth
             → read (string_bytes s) ≡ Some (document table.now (languages_of languages.now))) }
         ensures overflow { IsErrOf result CountError.Overflow
-            → ¬ CountsFit (languages_summary (languages_of languages.now)) }
+            → ¬ DocumentSumsFit self (languages_of languages.now) }
     {
         let Format::Json = self;
         to_text(alloc, table, languages)

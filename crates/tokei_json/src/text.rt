@@ -16,8 +16,8 @@ use crate::tokens::{by_name, write_children, write_count, write_reports};
 use json::Writer;
 use std::alloc::{AllocError, Global};
 use std::collections::BTreeMap;
-use tokei_languages::{CountError, Language, Languages};
-use tokei_stats::Sums;
+use tokei_languages::{Language, Languages};
+use tokei_stats::{CountError, Sums};
 use tokei_table::LanguageTable;
 
 /// Languages, the table that names them, and the counts of their total.

@@ -11,8 +11,8 @@ ghost use Rattle.tokei_stats.specs.Seen.{sums_of};
 use crate::reports::{children_value, name_of, reports_value};
 use serde_json::{Map, Value, json};
 use std::alloc::{AllocError, Global};
-use tokei_languages::{CountError, Language, Languages};
-use tokei_stats::Sums;
+use tokei_languages::{Language, Languages};
+use tokei_stats::{CountError, Sums};
 use tokei_table::LanguageTable;
 
 fn language_value(

@@ -14,9 +14,9 @@ use std::alloc::Global;
 use std::collections::BTreeMap;
 use tokei_earlier::{Format, InputError, from_value};
 use tokei_json::to_value;
-use tokei_languages::{CountError, Language, Languages};
-use tokei_stats::Report;
+use tokei_languages::{Language, Languages};
 use tokei_stats::sum_laws::statistics_are_ordered;
+use tokei_stats::{CountError, Report};
 use tokei_table::{LanguageTable, LanguageType};
 
 /// How many levels of blobs a text can hold that is read.

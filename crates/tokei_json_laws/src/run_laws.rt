@@ -13,8 +13,9 @@ use std::alloc::Global;
 use tokei_config::Config;
 use tokei_earlier::{Format, InputError};
 use tokei_folders::Folders;
-use tokei_languages::{CountError, Languages};
+use tokei_languages::Languages;
 use tokei_statistics::CountFiles;
+use tokei_stats::CountError;
 use tokei_table::LanguageTable;
 
 /// The languages of files, counted by any configuration and beside no earlier results, are of the

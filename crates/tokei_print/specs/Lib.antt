@@ -19,8 +19,6 @@ pub mod NameOrder
 pub mod NameSection
 pub mod Names
 pub mod PrintedReports
-pub mod Printing
-pub mod Refusals
 pub mod ReportSums
 pub mod Results
 pub mod ResultsFit

@@ -1,6 +1,6 @@
 //! How rows are laid out, and the rows that part others.
-use crate::error::PrintError;
 use std::alloc::Global;
+use tokei_io::OutputError;
 use tokei_options::NumberFormat;
 
 /// How rows are laid out.
@@ -31,13 +31,13 @@ impl Layout {
         columns: usize,
         list_files: bool,
         format: NumberFormat,
-    ) -> Result<Layout, PrintError>
+    ) -> Result<Layout, OutputError>
         requires wide { 81 ≤ columns }
         requires narrow { columns ≤ 65535 }
         ensures columns { IfOk result (λ layout. layout.columns ≡ columns) }
         ensures files { IfOk result (λ layout. layout.list_files ≡ list_files) }
         ensures format { IfOk result (λ layout. layout.format ≡ format) }
-        ensures memory { IfErr result (λ e. e ≡ PrintError.Memory) }
+        ensures memory { IfErr result (λ e. e ≡ OutputError.Memory) }
     {
         let heavy = "━".repeat(alloc, columns)?;
         let light = "─".repeat(alloc, columns)?;

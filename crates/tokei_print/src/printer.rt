@@ -1,11 +1,10 @@
 //! Writes the rows of a report.
-use crate::error::PrintError;
 use crate::language_row::language_row;
 use crate::layout::Layout;
 use crate::results::{Showing, results};
 use crate::total::total;
 use std::alloc::Global;
-use tokei_io::Sink;
+use tokei_io::{OutputError, Sink, put};
 use tokei_languages::{Language, Languages};
 use tokei_options::NumberFormat;
 use tokei_table::{LanguageTable, LanguageType};
@@ -27,7 +26,7 @@ impl<W: Sink + Drop> Printer<W> {
     ghost use Rattle.tokei_print.specs.Heading.{header, warning};
     ghost use Rattle.tokei_print.specs.LanguageRow.{language_row};
     ghost use Rattle.tokei_print.specs.NameSection.{name_section, prefix_of};
-    ghost use Rattle.tokei_print.specs.Printing.{faults_after_printing};
+    ghost use Rattle.tokei_io.specs.Printing.{faults_after_printing};
     ghost use Rattle.tokei_print.specs.ListedLanguages.{languages_in};
     ghost use Rattle.tokei_print.specs.Names.{name_in};
     ghost use Rattle.tokei_print.specs.Results.{results_text};
@@ -42,14 +41,14 @@ impl<W: Sink + Drop> Printer<W> {
         list_files: bool,
         writer: W,
         format: NumberFormat,
-    ) -> Result<Printer<W>, PrintError>
+    ) -> Result<Printer<W>, OutputError>
         requires wide { 81 ≤ columns }
         requires narrow { columns ≤ 65535 }
         ensures writer { IfOk result (λ printer. printer.writer ≡ writer) }
         ensures columns { IfOk result (λ printer. printer.layout.columns ≡ columns) }
         ensures files { IfOk result (λ printer. printer.layout.list_files ≡ list_files) }
         ensures format { IfOk result (λ printer. printer.layout.format ≡ format) }
-        ensures memory { IfErr result (λ e. e ≡ PrintError.Memory) }
+        ensures memory { IfErr result (λ e. e ≡ OutputError.Memory) }
     {
         let layout = Layout::new(alloc, columns, list_files, format)?;
         Ok(Printer {
@@ -60,27 +59,24 @@ impl<W: Sink + Drop> Printer<W> {
     }
 
     /// Puts the text behind what stands in the writer.
-    fn put(&mut self, text: &str) -> Result<(), PrintError>
+    fn put(&mut self, text: &str) -> Result<(), OutputError>
         ensures bytes { OnOk result
             (Appends (W.contents self.old.writer) (W.contents self.new.writer) text.now) }
         ensures faults { W.faults self.old.writer < u64.MAX
             → W.faults self.new.writer ≡ faults_after_printing result (W.faults self.old.writer) }
-        ensures overflow { result ≢ Err PrintError.Overflow }
+        ensures overflow { result ≢ Err OutputError.Overflow }
         ensures layout { self.new.layout ≡ self.old.layout }
     {
-        match self.writer.put(text.as_bytes()) {
-            Ok(()) => Ok(()),
-            Err(_) => Err(PrintError::Write),
-        }
+        put(&mut self.writer, text.as_bytes())
     }
 
     /// The names of the columns, between two rows.
-    pub fn print_header(&mut self) -> Result<(), PrintError>
+    pub fn print_header(&mut self) -> Result<(), OutputError>
         ensures bytes { OnOk result (Appends (W.contents self.old.writer)
             (W.contents self.new.writer) (header self.old.layout.columns)) }
         ensures faults { W.faults self.old.writer < u64.MAX
             → W.faults self.new.writer ≡ faults_after_printing result (W.faults self.old.writer) }
-        ensures overflow { result ≢ Err PrintError.Overflow }
+        ensures overflow { result ≢ Err OutputError.Overflow }
         ensures layout { self.new.layout ≡ self.old.layout }
     {
         let text = self.layout.header(self.alloc)?;
@@ -88,12 +84,12 @@ impl<W: Sink + Drop> Printer<W> {
     }
 
     /// The note that counts can be inaccurate.
-    pub fn print_inaccuracy_warning(&mut self) -> Result<(), PrintError>
+    pub fn print_inaccuracy_warning(&mut self) -> Result<(), OutputError>
         ensures bytes { OnOk result
             (Appends (W.contents self.old.writer) (W.contents self.new.writer) warning) }
         ensures faults { W.faults self.old.writer < u64.MAX
             → W.faults self.new.writer ≡ faults_after_printing result (W.faults self.old.writer) }
-        ensures overflow { result ≢ Err PrintError.Overflow }
+        ensures overflow { result ≢ Err OutputError.Overflow }
         ensures layout { self.new.layout ≡ self.old.layout }
     {
         self.put("Note: results can be inaccurate for languages marked with '(!)'\n")
@@ -105,14 +101,14 @@ impl<W: Sink + Drop> Printer<W> {
         inaccurate: bool,
         name: &str,
         prefix: Option<&str>,
-    ) -> Result<(), PrintError>
+    ) -> Result<(), OutputError>
         ensures bytes { OnOk result (Appends (W.contents self.old.writer)
             (W.contents self.new.writer)
             (name_section self.old.layout.columns inaccurate name.now
             (prefix_of (option_map (λ p. p.now) prefix.entry)))) }
         ensures faults { W.faults self.old.writer < u64.MAX
             → W.faults self.new.writer ≡ faults_after_printing result (W.faults self.old.writer) }
-        ensures overflow { result ≢ Err PrintError.Overflow }
+        ensures overflow { result ≢ Err OutputError.Overflow }
         ensures layout { self.new.layout ≡ self.old.layout }
     {
         let prefix = prefix.unwrap_or("");
@@ -123,14 +119,14 @@ impl<W: Sink + Drop> Printer<W> {
     }
 
     /// A language's row under this name. `Overflow` only where its lines pass the greatest `usize`.
-    pub fn print_language(&mut self, language: &Language, name: &str) -> Result<(), PrintError>
+    pub fn print_language(&mut self, language: &Language, name: &str) -> Result<(), OutputError>
         ensures bytes { OnOk result (Appends (W.contents self.old.writer)
             (W.contents self.new.writer)
             (language_row self.old.layout (language_of language.now) name.now)) }
         ensures faults { W.faults self.old.writer < u64.MAX
             → W.faults self.new.writer ≡ faults_after_printing result (W.faults self.old.writer) }
         ensures fits { OnOk result (LinesFit (language_of language.now).counts) }
-        ensures overflow { IsErrOf result PrintError.Overflow
+        ensures overflow { IsErrOf result OutputError.Overflow
             → ¬ LinesFit (language_of language.now).counts }
         ensures layout { self.new.layout ≡ self.old.layout }
     {
@@ -148,14 +144,14 @@ impl<W: Sink + Drop> Printer<W> {
         languages: &[(LanguageType, &Language)],
         compact: bool,
         sorted: bool,
-    ) -> Result<(), PrintError>
+    ) -> Result<(), OutputError>
         ensures bytes { OnOk result (Appends (W.contents self.old.writer)
             (W.contents self.new.writer)
             (results_text self.old.layout (name_in table.now) compact sorted
             (languages_in languages.now))) }
         ensures faults { W.faults self.old.writer < u64.MAX
             → W.faults self.new.writer ≡ faults_after_printing result (W.faults self.old.writer) }
-        ensures overflow { IsErrOf result PrintError.Overflow
+        ensures overflow { IsErrOf result OutputError.Overflow
             → ¬ ResultsFit self.old.layout.list_files compact sorted (languages_in languages.now) }
         ensures layout { self.new.layout ≡ self.old.layout }
     {
@@ -170,13 +166,13 @@ impl<W: Sink + Drop> Printer<W> {
 
     /// The row of all languages together, between two rows. `Overflow` only where a sum that it
     /// shows passes the greatest `usize`.
-    pub fn print_total(&mut self, languages: &Languages) -> Result<(), PrintError>
+    pub fn print_total(&mut self, languages: &Languages) -> Result<(), OutputError>
         ensures bytes { OnOk result (Appends (W.contents self.old.writer)
             (W.contents self.new.writer)
             (total_text self.old.layout (languages_of languages.now))) }
         ensures faults { W.faults self.old.writer < u64.MAX
             → W.faults self.new.writer ≡ faults_after_printing result (W.faults self.old.writer) }
-        ensures overflow { IsErrOf result PrintError.Overflow
+        ensures overflow { IsErrOf result OutputError.Overflow
             → ¬ TotalFits (languages_of languages.now) }
         ensures layout { self.new.layout ≡ self.old.layout }
     {

@@ -8,12 +8,11 @@ ghost use Rattle.tokei_print.specs.Sorted.{listed_by};
 ghost use Rattle.tokei_print.specs.ReportSums.{ReportFits, PrintedReportFits};
 ghost use Rattle.tokei_stats.specs.declared.error.CountError.TheVariants.{Overflow};
 
-use crate::error::PrintError;
 use crate::order::{in_list_order, listed};
 use crate::printer::Printer;
 use crate::style::ReportStyle;
 use std::alloc::Global;
-use tokei_io::Counted;
+use tokei_io::{Counted, OutputError};
 use tokei_languages::{Language, Languages};
 use tokei_options::Sort;
 use tokei_options::columns::FALLBACK_ROW_LEN;
@@ -30,11 +29,11 @@ fn columns(asked: usize) -> usize
 }
 
 /// Writes the note above a report some of whose languages couldn't be counted whole.
-fn warn(printer: &mut Printer<Counted<Vec<u8>>>, languages: &Languages) -> Result<(), PrintError>
+fn warn(printer: &mut Printer<Counted<Vec<u8>>>, languages: &Languages) -> Result<(), OutputError>
     ensures bytes { OnOk result (printer.new.writer.inner.items
         ≡ printer.old.writer.inner.items ++ warning_of (languages_of languages.now)) }
     ensures layout { printer.new.layout ≡ printer.old.layout }
-    ensures overflow { result ≢ Err PrintError.Overflow }
+    ensures overflow { result ≢ Err OutputError.Overflow }
 {
     if languages.is_inaccurate() {
         return printer.print_inaccuracy_warning();
@@ -49,10 +48,10 @@ fn printed(
     style: ReportStyle,
     listed: &[(LanguageType, &Language)],
     languages: &Languages,
-) -> Result<Vec<u8>, PrintError>
+) -> Result<Vec<u8>, OutputError>
     ensures text { IfOk result (λ v.
         IsReport table.now style (languages_in listed.now) (languages_of languages.now) v.items) }
-    ensures overflow { result ≡ Err PrintError.Overflow
+    ensures overflow { result ≡ Err OutputError.Overflow
         → ¬ ReportFits style (languages_in listed.now) (languages_of languages.now) }
 {
     let buffer = Counted::new(Vec::new(alloc));
@@ -81,8 +80,8 @@ fn text_in_memory(
 {
     match printed(alloc, table, style, listed, languages) {
         Ok(text) => Ok(text),
-        Err(PrintError::Overflow) => Err(CountError::Overflow),
-        Err(PrintError::Memory | PrintError::Write) => Err(CountError::Memory),
+        Err(OutputError::Overflow) => Err(CountError::Overflow),
+        Err(OutputError::Memory | OutputError::Write) => Err(CountError::Memory),
     }
 }
 

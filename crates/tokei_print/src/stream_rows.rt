@@ -3,41 +3,27 @@ ghost use Rattle.std.specs.Prelude.{◌≡◌, ◌≢◌, ◌<◌, Err, IfOk, On
 ghost use Rattle.std.specs.Io.KnownBytes.{Appends};
 ghost use Rattle.tokei_stats.specs.ReportRow.{counts_cells};
 ghost use Rattle.tokei_stats.specs.Seen.{counts_of, sums_of};
-ghost use Rattle.tokei_print.specs.Printing.{faults_after_printing};
+ghost use Rattle.tokei_io.specs.Printing.{faults_after_printing};
 ghost use Rattle.tokei_print.specs.StreamRows.{stream_heading, stream_row};
 
-use crate::error::PrintError;
 use std::alloc::{AllocError, Global};
-use tokei_io::Sink;
+use tokei_io::{OutputError, Sink, put};
 use tokei_stats::{Report, Sums};
 
 /// The two rows above a stream of columns.
 const HEADING: &str =
     "# language                                        path                                          lines         code       comments      blanks   \n########## ################################################################################ ############ ############ ############ ############\n";
 
-/// Puts the text behind what stands in the writer.
-fn put_text<W: Sink>(writer: &mut W, text: &str) -> Result<(), PrintError>
-    ensures bytes { OnOk result (Appends (W.contents writer.old) (W.contents writer.new) text.now) }
-    ensures faults { W.faults writer.old < u64.MAX
-        → W.faults writer.new ≡ faults_after_printing result (W.faults writer.old) }
-    ensures overflow { result ≢ Err PrintError.Overflow }
-{
-    match writer.put(text.as_bytes()) {
-        Ok(()) => Ok(()),
-        Err(_) => Err(PrintError::Write),
-    }
-}
-
 /// The two rows above a stream of columns.
 #[tactic(auto, using(crate::proofs::Headings::heading_text))]
-pub fn print_stream_heading<W: Sink>(writer: &mut W) -> Result<(), PrintError>
+pub fn print_stream_heading<W: Sink>(writer: &mut W) -> Result<(), OutputError>
     ensures bytes { OnOk result
         (Appends (W.contents writer.old) (W.contents writer.new) stream_heading) }
     ensures faults { W.faults writer.old < u64.MAX
         → W.faults writer.new ≡ faults_after_printing result (W.faults writer.old) }
-    ensures overflow { result ≢ Err PrintError.Overflow }
+    ensures overflow { result ≢ Err OutputError.Overflow }
 {
-    put_text(writer, HEADING)
+    put(writer, HEADING.as_bytes())
 }
 
 /// Lines, code, comments and blanks, each behind a space and right in 12 places; the lines are
@@ -68,13 +54,13 @@ pub fn print_stream_row<W: Sink>(
     writer: &mut W,
     language: &str,
     report: &Report,
-) -> Result<(), PrintError>
+) -> Result<(), OutputError>
     ensures bytes { OnOk result (Appends (W.contents writer.old) (W.contents writer.new)
         (stream_row language.now (string_bytes report.now.name) (counts_of report.now.stats))) }
     ensures faults { W.faults writer.old < u64.MAX
         → W.faults writer.new ≡ faults_after_printing result (W.faults writer.old) }
-    ensures overflow { result ≢ Err PrintError.Overflow }
+    ensures overflow { result ≢ Err OutputError.Overflow }
 {
     let text = stream_row(alloc, language, report)?;
-    put_text(writer, text.as_str())
+    put(writer, text.as_bytes())
 }

@@ -6,10 +6,8 @@ ghost use Rattle.tokei_program.specs.Words.{ReadsAs};
 use crate::ending::Ending;
 use std::alloc::{AllocError, Global};
 use std::str::FromStr;
+use tokei::{Format, FormatError, NumberFormatStyle, Sort, Streaming, Wanted};
 use tokei_cli::{Cli, refused_because, refused_word};
-use tokei_earlier::{Format, FormatError};
-use tokei::Wanted;
-use tokei_options::{NumberFormatStyle, Sort, Streaming};
 
 /// The words that choose a column.
 const COLUMNS: [&str; 5] = ["files", "lines", "blanks", "code", "comments"];

@@ -4,9 +4,7 @@ ghost use Rattle.tokei_program.specs.Messages.{IsMessage};
 
 use std::alloc::{AllocError, AllocFailed, Global};
 use thiserror::Error;
-use tokei_cli::OutputError;
-use tokei::RunError;
-use tokei_table::TableError;
+use tokei::{OutputError, TableError};
 
 /// Why nothing is counted, or why the count isn't shown.
 #[derive(Debug, Drop, Error)]
@@ -96,6 +94,7 @@ impl From<OutputError> for Ending {
     fn from(error: OutputError) -> Ending {
         match error {
             OutputError::Memory => Ending::Memory,
+            OutputError::Overflow => Ending::Overflow,
             OutputError::Write => Ending::Write,
         }
     }
@@ -111,21 +110,6 @@ impl From<TableError> for Ending {
         match error {
             TableError::Memory => Ending::Memory,
             error => Ending::Table(error),
-        }
-    }
-}
-
-impl From<RunError> for Ending {
-    ghost use Rattle.std.specs.Prelude.{◌≡◌};
-    ghost use Rattle.tokei_program.specs.Statuses.{status_of};
-
-    ghost from_gives = { λ _ e. status_of e ≡ 1 };
-
-    fn from(error: RunError) -> Ending {
-        match error {
-            RunError::Memory => Ending::Memory,
-            RunError::Overflow => Ending::Overflow,
-            RunError::Write => Ending::Write,
         }
     }
 }

@@ -14,9 +14,9 @@ use crate::ending::Ending;
 use crate::environment::Env;
 use crate::notes::passed_text;
 use crate::preparing::{prepared, table_of};
-use crate::saying::{put, say};
+use crate::saying::say;
 use std::alloc::Global;
-use tokei::{Folders, Sink, Source, run};
+use tokei::{Folders, Sink, Source, put, run};
 use tokei_cli::{Cli, CliError, print_supported_languages};
 
 /// Counts what a command line names, and writes what it wants of that. What is to be said beside it
@@ -123,7 +123,7 @@ fn answer_words<F: Folders, S: Source, W: Sink>(
     match Cli::from_words(alloc, words) {
         Ok(cli) => carry_out(alloc, &cli, env, folders, input, out),
         Err(CliError::Asked(text)) => {
-            put(out, text.as_str())?;
+            put(out, text.as_bytes())?;
             Ok(String::new(alloc))
         }
         Err(CliError::Refused(text)) => Err(Ending::Refused(text)),
@@ -171,7 +171,7 @@ pub fn program<F: Folders, S: Source, W: Sink, E: Sink>(
         → result ≡ 1 → Says (E.contents err.old) (E.contents err.new) }
 {
     match answer_words(alloc, words, env, folders, input, out) {
-        Ok(text) => match put(err, text.as_str()) {
+        Ok(text) => match put(err, text.as_bytes()) {
             Ok(()) => 0,
             Err(_) => 1,
         },

@@ -4,7 +4,7 @@ ghost use Rattle.std.specs.Prelude.{◌≡◌, IfOk};
 ghost use Rattle.tokei_program.specs.Directories.{AreDirs, config_folder_of, is_absolute, text_of};
 
 use std::alloc::{AllocError, Global};
-use tokei_config::ConfigDirs;
+use tokei::ConfigDirs;
 
 /// What the program is told of its surroundings: the variables that it asks for, where they are
 /// set, and a table of its own, where it has one.

@@ -6,7 +6,7 @@ ghost use Rattle.tokei_program.specs.NoteLines.{level_of, words_of, filter_of, n
 use log::sink::Lines;
 use log::{Level, LevelFilter, Record};
 use std::alloc::AllocError;
-use tokei_walk::{Note, NoteKind};
+use tokei::{Note, NoteKind};
 
 /// How severe a note is.
 fn level(kind: NoteKind) -> Level

@@ -7,9 +7,8 @@ use crate::shown::shown_notes;
 use crate::types::log_types;
 use log::sink::Lines;
 use std::alloc::{AllocError, Global};
+use tokei::{LanguageTable, Note};
 use tokei_cli::Cli;
-use tokei_table::LanguageTable;
-use tokei_walk::Note;
 
 /// Puts a line and its newline behind the text.
 fn push_line(text: &mut String, line: &str) -> Result<(), AllocError>

@@ -16,15 +16,12 @@ use crate::choices::Choices;
 use crate::ending::Ending;
 use crate::environment::{Env, config_dirs};
 use std::alloc::{AllocError, Global};
+use tokei::columns::FALLBACK_ROW_LEN;
+use tokei::{
+    Config, Counted, Fault, Folders, InputError, Job, Kind, LanguageTable, Languages, Source,
+    add_input,
+};
 use tokei_cli::{Cli, OverrideConfig};
-use tokei_config::Config;
-use tokei_earlier::{InputError, add_input};
-use tokei_folders::{Fault, Folders, Kind};
-use tokei_io::{Counted, Source};
-use tokei::Job;
-use tokei_languages::Languages;
-use tokei_options::columns::FALLBACK_ROW_LEN;
-use tokei_table::LanguageTable;
 
 /// The table in the current folder, for where neither the command line nor the environment names
 /// one.

@@ -7,54 +7,41 @@ ghost use Rattle.tokei_program.specs.Statuses.{status_of};
 
 use crate::ending::Ending;
 use std::alloc::Global;
-use tokei_cli::{OutputError, print_input_parse_failure};
-use tokei_io::Sink;
+use tokei::{OutputError, Sink, put};
+use tokei_cli::print_input_parse_failure;
 
 /// What is said where there is no memory for other words.
 const NO_MEMORY: &str = "Error: out of memory\n";
 
-/// Puts a text behind what stands in the writer. After a fault nothing is said of what was written.
-pub fn put<W: Sink>(writer: &mut W, text: &str) -> Result<(), Ending>
-    ensures bytes { OnOk result (Appends (W.contents writer.old) (W.contents writer.new) text.now) }
-    ensures faults { W.faults writer.old < u64.MAX
-        → W.faults writer.new ≡ faults_after result (W.faults writer.old) }
-    ensures failed { IfErr result (λ e. status_of e ≡ 1) }
-{
-    match writer.put(text.as_bytes()) {
-        Ok(()) => Ok(()),
-        Err(_) => Err(Ending::Write),
-    }
-}
-
 /// Says that the earlier results of this name are refused.
 #[tactic(auto, using(crate::proofs::Messages::no_memory_said, crate::proofs::Messages::refused_input_said))]
-fn say_refused_input<E: Sink>(alloc: Global, name: &str, err: &mut E) -> Result<(), Ending>
+fn say_refused_input<E: Sink>(alloc: Global, name: &str, err: &mut E) -> Result<(), OutputError>
     ensures said { OnOk result (Says (E.contents err.old) (E.contents err.new)) }
     ensures faults { E.faults err.old < u64.MAX
         → E.faults err.new ≡ faults_after result (E.faults err.old) }
 {
     match print_input_parse_failure(alloc, name, err) {
         Ok(()) => Ok(()),
-        Err(OutputError::Write) => Err(Ending::Write),
-        Err(OutputError::Memory) => put(err, NO_MEMORY),
+        Err(OutputError::Memory) => put(err, NO_MEMORY.as_bytes()),
+        refused => refused,
     }
 }
 
 /// Says how a run ended; where there is no memory for its words, that memory ran out. After a fault
 /// of the writer nothing is said of what was written.
 #[tactic(auto, using(crate::proofs::Messages::no_memory_said, crate::proofs::Messages::said))]
-pub fn say<E: Sink>(alloc: Global, ending: &Ending, err: &mut E) -> Result<(), Ending>
+pub fn say<E: Sink>(alloc: Global, ending: &Ending, err: &mut E) -> Result<(), OutputError>
     ensures said { status_of ending.now ≡ 1
         → OnOk result (Says (E.contents err.old) (E.contents err.new)) }
     ensures faults { E.faults err.old < u64.MAX
         → E.faults err.new ≡ faults_after result (E.faults err.old) }
 {
     match ending {
-        Ending::Refused(text) => put(err, text.as_str()),
+        Ending::Refused(text) => put(err, text.as_bytes()),
         Ending::Input(name) => say_refused_input(alloc, name.as_str(), err),
         other => match other.line(alloc) {
-            Ok(line) => put(err, line.as_str()),
-            Err(_) => put(err, NO_MEMORY),
+            Ok(line) => put(err, line.as_bytes()),
+            Err(_) => put(err, NO_MEMORY.as_bytes()),
         },
     }
 }

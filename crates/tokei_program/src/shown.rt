@@ -3,8 +3,7 @@ ghost use Rattle.std.specs.Prelude.{◌≡◌, ◌++◌, IfOk, OnOk, map, string
 ghost use Rattle.tokei_program.specs.Shown.{escaped, shown, shown_char, shown_note};
 
 use std::alloc::{AllocError, Global};
-use tokei_folders::Text;
-use tokei_walk::Note;
+use tokei::{Note, Text};
 
 /// Adds a control character by its number.
 fn push_escaped(text: &mut String, control: char) -> Result<(), AllocError>

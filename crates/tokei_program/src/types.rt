@@ -7,8 +7,8 @@ use crate::shown::shown;
 use log::sink::Lines;
 use log::{Level, Record};
 use std::alloc::{AllocError, Global};
+use tokei::{LanguageTable, LanguageType, trim};
 use tokei_cli::Cli;
-use tokei_table::{LanguageTable, LanguageType, trim};
 
 /// Whether blanks stand at an end of a text.
 fn has_outer_blanks(text: &str) -> bool

@@ -8,7 +8,7 @@ use Rattle.tokei_files.proofs.UnreadNotes.{ends_in}
 use Rattle.tokei_walk.specs.declared.kept_file.Note.{Note}
 use Rattle.tokei_walk.specs.Walks.{to_come}
 use Rattle.tokei_walk.specs.declared.kept_file.KeptFile.{KeptFile}
-use Rattle.tokei.specs.declared.error.RunError.TheVariants.{Overflow}
+use Rattle.tokei_io.specs.declared.error.OutputError.TheVariants.{Overflow}
 use Rattle.tokei.specs.Streams.{stream_text}
 use Rattle.tokei.proofs.streaming.write_stream.Goals as goal
 
