@@ -1,5 +1,7 @@
 pub mod Document
 pub mod Files
+pub mod Flaws
+pub mod Found
 pub mod Languages
 pub mod Members
 pub mod Reading

@@ -1,5 +1,6 @@
 //! The configuration of a run.
 use crate::files::{ConfigDirs, config_in};
+use crate::flaws::Flaw;
 use crate::language_config::LanguageConfig;
 use std::alloc::{AllocError, Global};
 use std::collections::BTreeMap;
@@ -32,9 +33,18 @@ pub struct Config {
     pub languages: Option<BTreeMap<LanguageType, LanguageConfig>>,
 }
 
+/// What the configuration files of a user say.
+#[derive(Drop)]
+pub struct ConfigRead {
+    pub config: Config,
+    /// The files that count as empty, in the order in which they are read.
+    pub flaws: Vec<Flaw>,
+}
+
 impl Config {
     ghost use Rattle.std.specs.Prelude.{◌≡◌, ◌<◌, IfOk, OnOk, map};
     ghost use Rattle.tokei_config.specs.Files.{configuration};
+    ghost use Rattle.tokei_config.specs.Flaws.{flaws_of, placed_causes};
     ghost use Rattle.tokei_folders.specs.Answers.{Told};
     ghost use Rattle.tokei_config.specs.Settings.{additions_in, empty, first_of_each};
     ghost use Rattle.tokei_config.specs.Seen.{settings_of};
@@ -74,10 +84,35 @@ impl Config {
             ≡ configuration table.now t dirs.now)) }
         ensures honest { NoFault F.memory_faults folders.old folders.new result }
     {
-        let current = config_in(alloc, table, folders, &dirs.current)?;
-        let home = config_in(alloc, table, folders, &dirs.home)?;
-        let config = config_in(alloc, table, folders, &dirs.config)?;
-        Ok(current.or(home.or(config)))
+        let read = Config::read_config_files(alloc, table, folders, dirs)?;
+        Ok(read.config)
+    }
+
+    /// The configuration of a user's files, as `from_config_files` returns it, and each of these
+    /// files that is read and counts as empty though it is there: it can't be read, isn't UTF-8 or
+    /// TOML, or has a member that can't be read. It fails where memory runs out, and the folders
+    /// keep their tree.
+    pub fn read_config_files<F: Folders>(
+        alloc: Global,
+        table: &LanguageTable,
+        folders: &mut F,
+        dirs: &ConfigDirs,
+    ) -> Result<ConfigRead, AllocError>
+        ensures same { SameTree F.tree folders.old folders.new }
+        ensures told { Told (F.tree folders.old) (λ t. IfOk result (λ r. settings_of r.config
+            ≡ configuration table.now t dirs.now)) }
+        ensures flawed { Told (F.tree folders.old) (λ t. IfOk result (λ r.
+            placed_causes r.flaws.items ≡ flaws_of table.now t dirs.now)) }
+        ensures honest { NoFault F.memory_faults folders.old folders.new result }
+    {
+        let mut flaws = Vec::new(alloc);
+        let current = config_in(alloc, table, folders, &dirs.current, &mut flaws)?;
+        let home = config_in(alloc, table, folders, &dirs.home, &mut flaws)?;
+        let config = config_in(alloc, table, folders, &dirs.config, &mut flaws)?;
+        Ok(ConfigRead {
+            config: current.or(home.or(config)),
+            flaws,
+        })
     }
 
     /// How texts are counted.

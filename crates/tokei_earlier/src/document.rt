@@ -27,6 +27,7 @@ pub fn from_value(
     ensures refused { IfErr result (λ e. e ≢ InputError.Memory
         → outcome_of_value table.now (view value.now) ≡ Err e) }
     ensures not_unreadable { result ≢ Err InputError.Unreadable }
+    ensures not_too_long { result ≢ Err InputError.TooLong }
     ensures not_overflow { result ≢ Err InputError.Overflow }
 {
     if !has_layout(value) {
@@ -69,6 +70,7 @@ pub fn from_text(alloc: Global, table: &LanguageTable, text: &str) -> Result<Lan
     ensures refused { IfErr result (λ e. e ≢ InputError.Memory
         → outcome_of_text table.now text.now ≡ Err e) }
     ensures not_unreadable { result ≢ Err InputError.Unreadable }
+    ensures not_too_long { result ≢ Err InputError.TooLong }
     ensures not_overflow { result ≢ Err InputError.Overflow }
 {
     match text.as_bytes() {
@@ -92,6 +94,7 @@ pub(crate) fn parse_bytes(
     ensures refused { IfErr result (λ e. e ≢ InputError.Memory
         → outcome_of_bytes table.now bytes.now ≡ Err e) }
     ensures not_unreadable { result ≢ Err InputError.Unreadable }
+    ensures not_too_long { result ≢ Err InputError.TooLong }
     ensures not_overflow { result ≢ Err InputError.Overflow }
 {
     match std::str::from_utf8(bytes) {

@@ -2,8 +2,8 @@
 use std::alloc::{AllocError, AllocFailed};
 use thiserror::Error;
 
-/// Why earlier results were refused. Of the causes that apply the first one here is answered;
-/// `Memory` comes beside them.
+/// Why earlier results were refused. Of the causes up to `NamedTwice` that apply the first one is
+/// answered; `Memory` comes beside them.
 #[derive(Clone, Copy, Debug, PartialEq, Eq, Error)]
 pub enum InputError {
     /// The text is empty.
@@ -28,6 +28,9 @@ pub enum InputError {
     /// The reader had a fault, or didn't end within 4,294,967,296 reads.
     #[error("earlier results can't be read")]
     Unreadable,
+    /// The reader has more than 4,294,967,296 bytes.
+    #[error("the input has more than 4,294,967,296 bytes")]
+    TooLong,
     /// A sum passes the greatest `usize`.
     #[error("a sum passes the greatest usize")]
     Overflow,

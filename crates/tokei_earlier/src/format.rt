@@ -64,6 +64,7 @@ impl Format {
         ensures refused { IfErr result (λ e. e ≢ InputError.Memory
             → outcome_of_text table.now text.now ≡ Err e) }
         ensures not_unreadable { result ≢ Err InputError.Unreadable }
+        ensures not_too_long { result ≢ Err InputError.TooLong }
         ensures not_overflow { result ≢ Err InputError.Overflow }
     {
         from_text(alloc, table, text)

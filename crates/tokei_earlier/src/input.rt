@@ -3,6 +3,7 @@ ghost use Rattle.std.specs.Prelude.{◌≡◌, ◌≢◌, ◌<◌, ◌≤◌, le
 ghost use Rattle.std.specs.Io.KnownBytes.{IsAtEnd};
 ghost use Rattle.tokei_earlier.specs.Adding.{IsAdded, PassesUsize};
 ghost use Rattle.tokei_earlier.specs.Outcome.{outcome_of_bytes};
+ghost use Rattle.tokei_earlier.specs.Bounds.{most_bytes};
 ghost use Rattle.tokei_io.specs.Reads.{most_reads};
 ghost use Rattle.tokei_languages.specs.Seen.{languages_of};
 
@@ -16,16 +17,23 @@ use tokei_table::LanguageTable;
 /// The most reads of one input.
 const MAX_READS: u64 = 4_294_967_296;
 
-/// All bytes of a source, in at most `MAX_READS` reads.
+/// The most bytes of one input.
+const MAX_BYTES: usize = 4_294_967_296;
+
+/// All bytes of a source, of which there are at most `MAX_BYTES`, in at most `MAX_READS` reads.
 fn read_all<S: Source>(alloc: Global, source: &mut S) -> Result<Vec<u8>, InputError>
     ensures bytes { IfOk result (λ v. IfSome (S.remaining source.old) (λ text. v.items ≡ text)) }
     ensures end { OnOk result (IsAtEnd (S.remaining source.new)) }
+    ensures bound { IfOk result (λ v. length v.items ≤ most_bytes) }
+    ensures too_long { result ≡ Err InputError.TooLong
+        → IfSome (S.remaining source.old) (λ text. most_bytes < length text) }
     ensures fault { S.faults source.old < u64.MAX → result ≢ Err InputError.Unreadable
         → S.faults source.new ≡ S.faults source.old }
     ensures reads_ran_out { S.faults source.old < u64.MAX → result ≡ Err InputError.Unreadable
         → S.faults source.new ≡ S.faults source.old
         → IfSome (S.remaining source.old) (λ text. most_reads ≤ length text) }
-    ensures refused { IfErr result (λ e. e ≢ InputError.Unreadable → e ≡ InputError.Memory) }
+    ensures refused { IfErr result (λ e. e ≢ InputError.Unreadable → e ≢ InputError.TooLong
+        → e ≡ InputError.Memory) }
 {
     let mut bytes = Vec::new(alloc);
     let mut buffer = [0u8; 65536];
@@ -33,6 +41,7 @@ fn read_all<S: Source>(alloc: Global, source: &mut S) -> Result<Vec<u8>, InputEr
         match source.pull(&mut buffer) {
             Err(_) => return Err(InputError::Unreadable),
             Ok(0) => return Ok(bytes),
+            Ok(n) if n > MAX_BYTES - bytes.len() => return Err(InputError::TooLong),
             Ok(n) => bytes.extend_from_slice(&buffer[..n])?,
         }
     }
@@ -53,6 +62,7 @@ fn add_bytes(
     ensures refused { IfErr result (λ e. e ≢ InputError.Memory → e ≢ InputError.Overflow
         → outcome_of_bytes table.now bytes.now ≡ Err e) }
     ensures unreadable { result ≢ Err InputError.Unreadable }
+    ensures too_long { result ≢ Err InputError.TooLong }
     ensures err { OnErr result (languages_of languages.new ≡ languages_of languages.old) }
 {
     let read = parse_bytes(alloc, table, bytes)?;
@@ -65,7 +75,8 @@ fn add_bytes(
 
 /// Reads all of the reader as earlier results, and adds their languages. Refused as `Format::parse`
 /// refuses a text, bytes that aren't UTF-8 as `NotJson`; `Unreadable` where the reader had a fault
-/// or didn't end within 4,294,967,296 reads; `Overflow` only where a sum of two counts passes the
+/// or didn't end within 4,294,967,296 reads; `TooLong` where it has more bytes than that, of which
+/// no more is then kept in memory; `Overflow` only where a sum of two counts passes the
 /// greatest `usize`; `Memory` where an allocation failed. A refusal leaves the languages as they
 /// were, and of the reader's place nothing is said.
 pub fn add_input<S: Source>(
@@ -82,7 +93,7 @@ pub fn add_input<S: Source>(
 
     // The other causes but `Memory` are those of the bytes.
     ensures refused { IfErr result (λ e. e ≢ InputError.Memory → e ≢ InputError.Overflow
-        → e ≢ InputError.Unreadable
+        → e ≢ InputError.Unreadable → e ≢ InputError.TooLong
         → IfSome (S.remaining reader.old) (λ bytes. outcome_of_bytes table.now bytes ≡ Err e)) }
 
     // A fault of the reader gives `Unreadable`, and without one `Unreadable` says that the reads
@@ -92,6 +103,12 @@ pub fn add_input<S: Source>(
     ensures reads_ran_out { S.faults reader.old < u64.MAX → result ≡ Err InputError.Unreadable
         → S.faults reader.new ≡ S.faults reader.old
         → IfSome (S.remaining reader.old) (λ bytes. most_reads ≤ length bytes) }
+
+    // More bytes than there may be are refused as that, and no others are.
+    ensures bound { OnOk result
+        (IfSome (S.remaining reader.old) (λ bytes. length bytes ≤ most_bytes)) }
+    ensures too_long { result ≡ Err InputError.TooLong
+        → IfSome (S.remaining reader.old) (λ bytes. most_bytes < length bytes) }
 
     ensures err { OnErr result (languages_of languages.new ≡ languages_of languages.old) }
 {
