@@ -1,5 +1,5 @@
 //! The choice at one place.
-ghost use Rattle.std.specs.Prelude.{◌≡◌, ◌≢◌, true, Option, option_map, is_some};
+ghost use Rattle.std.specs.Prelude.{◌≡◌, ◌≢◌, true, false, Option, option_map, is_some};
 ghost use Rattle.std.specs.Option.{option_copied};
 ghost use Rattle.tokei_table_row.specs.Bytes.{begins};
 ghost use Rattle.tokei_table_row.specs.RowOf.{pair_of, pairs_of, tokens_of, row_of};
@@ -66,12 +66,27 @@ fn opened<'a>(pairs: &'a [(String, String)], text: &[u8]) -> Option<&'a (String,
     None
 }
 
+/// Whether the text has another byte than the token where the token ends, so that the token can't
+/// stand at its front. Of tokens that begin alike, as a mark behind some blanks, it tells most.
+#[inline(always)]
+fn ends_otherwise(token: &[u8], text: &[u8]) -> bool
+    ensures { result ≡ true → begins token.now text.now ≡ false }
+{
+    match token {
+        [front @ .., last] => match text.get(front.len()) {
+            Some(byte) => *byte != *last,
+            None => true,
+        },
+        [] => false,
+    }
+}
+
 /// Whether some token stands at the front of the text.
 pub fn any_begins(tokens: &[String], text: &[u8]) -> bool
     ensures { result ≡ any_begins (tokens_of tokens.now) text.now }
 {
     for token in tokens {
-        if begins(token, text) {
+        if !ends_otherwise(token.as_bytes(), text) && begins(token, text) {
             return true;
         }
     }
