@@ -3,8 +3,8 @@ use Rattle.std.proofs.Common.{flat_map, ap, sym, ◌∙◌}
 use Rattle.std.proofs.lemmas.Iterator.{YieldsList-from_chars}
 use Rattle.std.proofs.lemmas.Iterator.Consumers.{YieldsList-end}
 use Rattle.std.proofs.lemmas.List.{map-id}
-use Rattle.tokei_program.specs.Shown.{shown_char}
-use Rattle.tokei_program.proofs.shown.shown.Goals as goal
+use Rattle.tokei_stats.specs.Shown.{shown_char}
+use Rattle.tokei_stats.proofs.shown.shown.Goals as goal
 
 pub returns : goal.returns
 returns c =
