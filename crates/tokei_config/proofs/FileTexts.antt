@@ -1,12 +1,16 @@
 -- The texts of configuration files, and the settings that they make.
-use Rattle.std.proofs.Common.{◌≡◌, ℕ, List, false, Option, Some, None, option_map, ap, ◌∙◌, inl, inr}
+use Rattle.std.proofs.Common.{◌≡◌, ℕ, List, ◌++◌, false, Option, Some, None, is_some, option_map, append_assoc, append-nil, ap, refl, sym, ◌∙◌, inl, inr, codes}
 use Rattle.std.proofs.lemmas.Bool.{cases_Bool}
 use Rattle.std.proofs.lemmas.Str.{IsUtf8-from_is_utf8, is_utf8-from_IsUtf8}
 use Rattle.std.specs.Option.{option_or}
 use Rattle.std.specs.Str.{IsUtf8, is_utf8}
 use Rattle.tokei_config.specs.Document.{settings_of_text}
 use Rattle.tokei_config.specs.Files.{as_text, settings_of_file}
+use Rattle.tokei_config.specs.Flaws.{PlacedCause, cause_of_bytes, cause_of_text, flaw_at, listed, second_flaw}
+use Rattle.tokei_config.specs.declared.flaws.Cause.{Cause}
+use Rattle.tokei_config.specs.declared.flaws.Cause.TheVariants.{NotUtf8}
 use Rattle.tokei_config.specs.Settings.{Settings, empty}
+use Rattle.tokei_folders.specs.Tree.{Tree}
 use Rattle.tokei_table.specs.Row.{Row}
 
 -- the settings of a text that may be missing
@@ -21,6 +25,14 @@ of_text-read rows bytes text s same utf8 e = rw (is_utf8-from_IsUtf8 bytes utf8)
 
 pub of_text-unread : (rows : List Row) (bytes : List ℕ) → (IsUtf8 bytes → ⊥) → None ≡ of_text rows (as_text bytes)
 of_text-unread rows bytes other = rw (not_utf8 bytes other)
+
+-- why bytes count as empty
+pub cause-read : (rows : List Row) (bytes text : List ℕ) (cause : Option Cause) → text ≡ bytes → IsUtf8 bytes → cause ≡ cause_of_text rows text
+    → cause ≡ cause_of_bytes rows bytes
+cause-read rows bytes text cause same utf8 e = rw (is_utf8-from_IsUtf8 bytes utf8) (e ∙ ap (cause_of_text rows) same)
+
+pub cause-unread : (rows : List Row) (bytes : List ℕ) → (IsUtf8 bytes → ⊥) → Some NotUtf8 ≡ cause_of_bytes rows bytes
+cause-unread rows bytes other = rw (not_utf8 bytes other) refl
 
 -- where the first file has a text
 pub first_file : (rows : List Row) (a b : Option (List ℕ)) (s : Settings) → Some s ≡ of_text rows a → s ≡ settings_of_file rows (option_or a b)
@@ -38,3 +50,16 @@ pub no_file : (rows : List Row) (a b : Option (List ℕ)) (s : Settings) → Non
 no_file rows (Some text) b s none neither e = absurd (let h = none in cc)
 no_file rows None (Some text) s none neither e = absurd (let h = neither in cc)
 no_file rows None None s none neither e = e
+
+module _ (rows : List Row) (t : Tree) (place : List ℕ) (old : List PlacedCause) (fs : List PlacedCause) where
+  -- the flaws of a folder whose first file has a text
+  pub first_flaws : (new : List PlacedCause) (text : Option (List ℕ)) (s : Settings) → Some s ≡ of_text rows text → new ≡ old ++ fs
+      → new ≡ old ++ (fs ++ second_flaw rows t place (is_some text))
+  first_flaws new None s read is = absurd (let h = read in cc)
+  first_flaws new (Some text) s read is = is ∙ ap (λ l. old ++ l) (sym (append-nil fs))
+
+  -- those of one whose first file has none
+  pub second_flaws : (new last : List PlacedCause) (text : Option (List ℕ)) → None ≡ of_text rows text → new ≡ old ++ fs
+      → last ≡ new ++ listed (flaw_at rows t place (codes ".tokeirc")) → last ≡ old ++ (fs ++ second_flaw rows t place (is_some text))
+  second_flaws new last (Some text) read is more = absurd (let h = read in cc)
+  second_flaws new last None read is more = more ∙ ap (λ l. l ++ listed (flaw_at rows t place (codes ".tokeirc"))) is ∙ append_assoc old fs (listed (flaw_at rows t place (codes ".tokeirc")))

@@ -41,6 +41,7 @@ module _ (rows : List Row) (ms : Members) {a : Option ℕ} {b1 b2 b3 b4 b5 b6 : 
     (docs : flag (codes "treat_doc_strings_as_comments") ms ≡ Some b6) (sort : sort_in ms ≡ Some o) (types : types_in rows ms ≡ Some ts) where
   pub last_refused : (e : SettingError) → StopsAt setting.Languages (languages_in rows ms) e → ReadsSettings rows ms (Err e)
   last_refused refused.Memory stops = tt
-  last_refused (refused.Bad s) stops =
-      (rw (columns, hidden, no_ignore, parent, dot, vcs, docs, sort, types, stops.0) refl,
-      rw (columns, hidden, no_ignore, parent, dot, vcs, docs, sort, types, stops.0) (ap (λ x. Some x) stops.1))
+  last_refused (refused.Bad s) stops = (
+    rw (columns, hidden, no_ignore, parent, dot, vcs, docs, sort, types, stops.0) refl,
+    rw (columns, hidden, no_ignore, parent, dot, vcs, docs, sort, types, stops.0) (ap (λ x. Some x) stops.1),
+  )

@@ -14,11 +14,11 @@ file_found (Some (file r h c)) = Some (if r then None else Some c)
 -- The same of what the code found.
 abbrev pub found_of : Found → Option (Option (List ℕ))
 found_of Nothing = None
-found_of Unreadable = Some None
+found_of (Unreadable words) = Some None
 found_of (Content bytes) = Some (Some bytes.items)
 
 -- The content alone.
 abbrev pub content_of : Found → Option (List ℕ)
 content_of Nothing = None
-content_of Unreadable = None
+content_of (Unreadable words) = None
 content_of (Content bytes) = Some bytes.items

@@ -1,12 +1,11 @@
 //! The configuration files of a user.
-ghost use Rattle.std.specs.Prelude.{◌≡◌, ◌≢◌, ◌<◌, ◌++◌, IfOk, OnOk, option_map, option_and_then, string_bytes, Some};
+ghost use Rattle.std.specs.Prelude.{◌≡◌, ◌≢◌, ◌<◌, ◌++◌, IfOk, OnOk, option_map, option_and_then, string_bytes, None, Some};
 ghost use Rattle.tokei_config.specs.Document.{settings_of_text};
 ghost use Rattle.tokei_config.specs.Files.{as_text, text_at, settings_of_folder};
 ghost use Rattle.tokei_config.specs.Flaws.{cause_of_bytes, cause_of_found, flaw_at, flaws_in, listed, placed_cause, placed_causes};
 ghost use Rattle.tokei_config.specs.Found.{content_of, found_of, file_found};
 ghost use Rattle.tokei_folders.specs.Answers.{node_content};
 ghost use Rattle.tokei_config.specs.Seen.{settings_of};
-ghost use Rattle.tokei_config.specs.declared.files.Found.TheVariants.{Nothing};
 ghost use Rattle.tokei_folders.specs.Answers.{Told};
 ghost use Rattle.tokei_folders.specs.Places.{joined as joined_places};
 ghost use Rattle.tokei_folders.specs.Tree.{names_of, node_at};
@@ -40,43 +39,43 @@ struct BytesRead {
     reason: Option<Reason>,
 }
 
-/// What a file says.
-#[derive(Drop)]
-struct FileRead {
-    /// The configuration, where it can be read as UTF-8.
-    config: Option<Config>,
-    /// That it counts as empty, where it is there and does.
-    flaw: Option<Flaw>,
-}
-
 /// What there is of a file.
 #[derive(Drop)]
 pub(crate) enum Found {
     /// No file.
     Nothing,
-    /// A file that can't be read.
-    Unreadable,
+    /// A file that can't be read, and why in the system's words, where it has some.
+    Unreadable(Text),
     Content(Vec<u8>),
 }
 
+/// A file that can't be read.
+fn unreadable<F: Folders>(alloc: Global, folders: &F) -> Result<Found, AllocError>
+    ensures content { IfOk result (λ f. content_of f ≡ None) }
+    ensures found { IfOk result (λ f. found_of f ≡ Some None) }
+{
+    let words = folders.cause(alloc)?;
+    Ok(Found::Unreadable(Text::from_string(words)))
+}
+
 /// The content of a file.
-fn content_at<F: Folders>(folders: &mut F, place: &str) -> Result<Found, AllocError>
+fn content_at<F: Folders>(alloc: Global, folders: &mut F, place: &str) -> Result<Found, AllocError>
     ensures same { SameTree F.tree folders.old folders.new }
     ensures told { Told (F.tree folders.old) (λ t. IfOk result (λ f.
         node_content (node_at t (names_of place.now)) ≡ content_of f)) }
-    ensures file { IfOk result (λ f. f ≢ Nothing) }
+    ensures file { IfOk result (λ f. found_of f ≢ None) }
     ensures honest { NoFault F.memory_faults folders.old folders.new result }
 {
     match folders.read(place) {
         Ok(bytes) => Ok(Found::Content(bytes)),
-        Err(Fault::Refused) => Ok(Found::Unreadable),
+        Err(Fault::Refused) => unreadable(alloc, folders),
         Err(Fault::Memory) => Err(AllocError),
     }
 }
 
 /// What there is of a file. A place of which it can't be told what stands there has one that can't
 /// be read.
-fn found_at<F: Folders>(folders: &mut F, place: &str) -> Result<Found, AllocError>
+fn found_at<F: Folders>(alloc: Global, folders: &mut F, place: &str) -> Result<Found, AllocError>
     ensures same { SameTree F.tree folders.old folders.new }
     ensures told { Told (F.tree folders.old) (λ t. IfOk result (λ f.
         node_content (node_at t (names_of place.now)) ≡ content_of f)) }
@@ -85,21 +84,11 @@ fn found_at<F: Folders>(folders: &mut F, place: &str) -> Result<Found, AllocErro
     ensures honest { NoFault F.memory_faults folders.old folders.new result }
 {
     match folders.kind_if_any(place) {
-        Ok(Some(Kind::File)) => content_at(folders, place),
+        Ok(Some(Kind::File)) => content_at(alloc, folders, place),
         Ok(_) => Ok(Found::Nothing),
-        Err(Fault::Refused) => Ok(Found::Unreadable),
+        Err(Fault::Refused) => unreadable(alloc, folders),
         Err(Fault::Memory) => Err(AllocError),
     }
-}
-
-/// A reason without more to say.
-fn reason(alloc: Global, cause: Cause) -> Option<Reason>
-    ensures { option_map (λ r. r.cause) result ≡ Some cause }
-{
-    Some(Reason {
-        cause,
-        detail: Text::from_string(String::new(alloc)),
-    })
 }
 
 /// What some bytes say, where they are UTF-8.
@@ -123,7 +112,10 @@ fn config_of_bytes(
         }
         Err(_) => Ok(BytesRead {
             config: None,
-            reason: reason(alloc, Cause::NotUtf8),
+            reason: Some(Reason {
+                cause: Cause::NotUtf8,
+                detail: Text::from_string(String::new(alloc)),
+            }),
         }),
     }
 }
@@ -132,22 +124,25 @@ fn config_of_bytes(
 fn config_of_found(
     alloc: Global,
     table: &LanguageTable,
-    found: &Found,
+    found: Found,
 ) -> Result<BytesRead, AllocError>
     ensures config { IfOk result (λ r. option_map settings_of r.config
         ≡ option_map (settings_of_text table.now)
-        (option_and_then as_text (content_of found.now))) }
+        (option_and_then as_text (content_of found))) }
     ensures cause { IfOk result (λ r. option_map (λ w. w.cause) r.reason
-        ≡ cause_of_found table.now (found_of found.now)) }
+        ≡ cause_of_found table.now (found_of found)) }
 {
     match found {
         Found::Nothing => Ok(BytesRead {
             config: None,
             reason: None,
         }),
-        Found::Unreadable => Ok(BytesRead {
+        Found::Unreadable(words) => Ok(BytesRead {
             config: None,
-            reason: reason(alloc, Cause::Unreadable),
+            reason: Some(Reason {
+                cause: Cause::Unreadable,
+                detail: words,
+            }),
         }),
         Found::Content(bytes) => config_of_bytes(alloc, table, bytes.as_slice()),
     }
@@ -167,30 +162,6 @@ fn flaw_of(place: Text, reason: Option<Reason>) -> Option<Flaw>
     }
 }
 
-/// What the file of that name in a folder says.
-fn config_at<F: Folders>(
-    alloc: Global,
-    table: &LanguageTable,
-    folders: &mut F,
-    folder: &str,
-    name: &str,
-) -> Result<FileRead, AllocError>
-    ensures same { SameTree F.tree folders.old folders.new }
-    ensures told { Told (F.tree folders.old) (λ t. IfOk result (λ r. option_map settings_of r.config
-        ≡ option_map (settings_of_text table.now) (text_at t (names_of folder.now) name.now))) }
-    ensures flawed { Told (F.tree folders.old) (λ t. IfOk result (λ r.
-        option_map placed_cause r.flaw ≡ flaw_at table.now t folder.now name.now)) }
-    ensures honest { NoFault F.memory_faults folders.old folders.new result }
-{
-    let place = joined(alloc, folder, name)?;
-    let found = found_at(folders, place.as_str())?;
-    let read = config_of_found(alloc, table, &found)?;
-    Ok(FileRead {
-        config: read.config,
-        flaw: flaw_of(place, read.reason),
-    })
-}
-
 /// Adds a flaw, where there is one.
 fn push(flaws: &mut Vec<Flaw>, flaw: Option<Flaw>) -> Result<(), AllocError>
     ensures { OnOk result (placed_causes flaws.new.items
@@ -203,6 +174,32 @@ fn push(flaws: &mut Vec<Flaw>, flaw: Option<Flaw>) -> Result<(), AllocError>
             Err(_) => Err(AllocError),
         },
     }
+}
+
+/// The configuration of a file by its folder and its name, where it can be read as UTF-8. Adds its
+/// flaw.
+fn config_at<F: Folders>(
+    alloc: Global,
+    table: &LanguageTable,
+    folders: &mut F,
+    file: (&str, &str),
+    flaws: &mut Vec<Flaw>,
+) -> Result<Option<Config>, AllocError>
+    ensures same { SameTree F.tree folders.old folders.new }
+    ensures told { Told (F.tree folders.old) (λ t. IfOk result (λ c. option_map settings_of c
+        ≡ option_map (settings_of_text table.now)
+        (text_at t (names_of file.entry.0.now) file.entry.1.now))) }
+    ensures flawed { Told (F.tree folders.old) (λ t. OnOk result (placed_causes flaws.new.items
+        ≡ placed_causes flaws.old.items
+        ++ listed (flaw_at table.now t file.entry.0.now file.entry.1.now))) }
+    ensures honest { NoFault F.memory_faults folders.old folders.new result }
+{
+    let (folder, name) = file;
+    let place = joined(alloc, folder, name)?;
+    let found = found_at(alloc, folders, place.as_str())?;
+    let read = config_of_found(alloc, table, found)?;
+    push(flaws, flaw_of(place, read.reason))?;
+    Ok(read.config)
 }
 
 /// The configuration of a folder's file; an empty one where there is no folder or no file that can
@@ -224,14 +221,11 @@ pub(crate) fn config_in<F: Folders>(
     let Some(folder) = folder else {
         return Ok(Config::new());
     };
-    let first = config_at(alloc, table, folders, folder.as_str(), "tokei.toml")?;
-    push(flaws, first.flaw)?;
-    if let Some(config) = first.config {
+    let place = folder.as_str();
+    if let Some(config) = config_at(alloc, table, folders, (place, "tokei.toml"), flaws)? {
         return Ok(config);
     }
-    let second = config_at(alloc, table, folders, folder.as_str(), ".tokeirc")?;
-    push(flaws, second.flaw)?;
-    match second.config {
+    match config_at(alloc, table, folders, (place, ".tokeirc"), flaws)? {
         Some(config) => Ok(config),
         None => Ok(Config::new()),
     }

@@ -35,6 +35,7 @@ pub struct Flaw {
     /// The file's place.
     pub place: Text,
     pub cause: Cause,
-    /// Of `NotToml` the line, counted from 1, and the parser's words; else nothing.
+    /// Of `NotToml` the line, counted from 1, and the parser's words; of `Unreadable` the system's
+    /// words, where it has some; else nothing.
     pub detail: Text,
 }

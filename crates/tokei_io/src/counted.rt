@@ -3,6 +3,7 @@ ghost use Rattle.std.specs.Prelude.{◌≡◌, ◌+◌, ◌<◌};
 
 use crate::sink::Sink;
 use crate::source::Source;
+use std::alloc::{AllocError, Global};
 use std::io;
 use std::io::{Read, Write};
 
@@ -13,6 +14,8 @@ pub struct Counted<T> {
     pub inner: T,
     /// How many calls were faults.
     pub faults: u64,
+    /// The last fault.
+    last: Option<io::Error>,
 }
 
 impl<T> Counted<T> {
@@ -21,7 +24,19 @@ impl<T> Counted<T> {
         ensures inner { result.inner ≡ inner }
         ensures none { result.faults ≡ 0 }
     {
-        Counted { inner, faults: 0 }
+        Counted {
+            inner,
+            faults: 0,
+            last: None,
+        }
+    }
+}
+
+/// The words of a fault, where there was one.
+fn words(alloc: Global, last: &Option<io::Error>) -> Result<String, AllocError> {
+    match last {
+        Some(error) => format!(in alloc; "{error}"),
+        None => Ok(String::new(alloc)),
     }
 }
 
@@ -31,11 +46,18 @@ impl<W: Write> Sink for Counted<W> {
     ghost faults = { λ c. c.faults };
 
     fn put(&mut self, bytes: &[u8]) -> io::Result<()> {
-        let result = self.inner.write_all(bytes);
-        if result.is_err() {
-            self.faults = self.faults.saturating_add(1);
+        match self.inner.write_all(bytes) {
+            Ok(()) => Ok(()),
+            Err(error) => {
+                self.faults = self.faults.saturating_add(1);
+                self.last = Some(error);
+                Err(error)
+            }
         }
-        result
+    }
+
+    fn cause(&self, alloc: Global) -> Result<String, AllocError> {
+        words(alloc, &self.last)
     }
 }
 
@@ -45,10 +67,17 @@ impl<R: Read> Source for Counted<R> {
     ghost faults = { λ c. c.faults };
 
     fn pull(&mut self, buffer: &mut [u8]) -> io::Result<usize> {
-        let result = self.inner.read(buffer);
-        if result.is_err() {
-            self.faults = self.faults.saturating_add(1);
+        match self.inner.read(buffer) {
+            Ok(length) => Ok(length),
+            Err(error) => {
+                self.faults = self.faults.saturating_add(1);
+                self.last = Some(error);
+                Err(error)
+            }
         }
-        result
+    }
+
+    fn cause(&self, alloc: Global) -> Result<String, AllocError> {
+        words(alloc, &self.last)
     }
 }

@@ -4,6 +4,7 @@ ghost use Rattle.std.specs.Io.{ReadsAtMost};
 ghost use Rattle.std.specs.Io.KnownBytes.{ReadConsumes};
 ghost use Rattle.tokei_io.specs.Faults.{faults_after};
 
+use std::alloc::{AllocError, Global};
 use std::io;
 
 /// Gives bytes, in pieces, and counts its faults.
@@ -21,6 +22,12 @@ pub trait Source {
         ensures bytes { ReadConsumes (remaining self.old) (remaining self.new) result buffer.new }
         ensures counts { faults self.old < u64.MAX
             → faults self.new ≡ faults_after result (faults self.old) };
+
+    /// Why the last fault came, in the system's words; empty where the source has no words for it.
+    /// It is for messages alone: nothing is promised of it.
+    fn cause(&self, alloc: Global) -> Result<String, AllocError> {
+        Ok(String::new(alloc))
+    }
 }
 
 impl<S: Source> Source for &mut S {
@@ -30,5 +37,9 @@ impl<S: Source> Source for &mut S {
 
     fn pull(&mut self, buffer: &mut [u8]) -> io::Result<usize> {
         Source::pull(&mut **self, buffer)
+    }
+
+    fn cause(&self, alloc: Global) -> Result<String, AllocError> {
+        Source::cause(&**self, alloc)
     }
 }

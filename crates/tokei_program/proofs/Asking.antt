@@ -4,8 +4,9 @@ use Rattle.std.specs.Global.{Global}
 use Rattle.tokei_cli.specs.CommandLines.{excludes_of, inputs_of}
 use Rattle.tokei_cli.specs.Lines.{IsLineOf}
 use Rattle.tokei_cli.specs.declared.cli.Cli.{Cli}
+use Rattle.tokei_config.specs.declared.flaws.Flaw.{Flaw}
 use Rattle.tokei_folders.specs.Tree.{Tree}
-use Rattle.tokei_program.specs.Beside.{IsBeside, ShowsAsked, ShowsBy, ShowsNotes, Tables}
+use Rattle.tokei_program.specs.Beside.{IsBeside, ShowsAsked, ShowsBy, ShowsNotes, Met}
 use Rattle.tokei_program.specs.declared.environment.Env.{Env}
 use Rattle.tokei_program.specs.NotesText.{passed_text}
 use Rattle.tokei_program.specs.Writing.{Writes, WritesAsked, WritesBy, WritesCounts, WritesList}
@@ -38,32 +39,33 @@ either_is words c env t input old new (Ok a) spelled written = inr (record {
   asked = written;
 })
 
-module _ {E : Type 0} (tables : Tables) (c : Cli) where
+module _ {E : Type 0} (met : Met) (c : Cli) where
   -- nothing is said beside the list
   pub beside_list : (r : Result (String Global) E) → c.print_languages ≡ true → IfOk r (λ text. string_bytes text ≡ [])
-      → IfOk r (λ text. ShowsAsked tables c (string_bytes text))
+      → IfOk r (λ text. ShowsAsked met c (string_bytes text))
   beside_list (Err e) lists silent = tt
-  beside_list (Ok text) lists silent = subst (λ b. ShowsBy tables b c (string_bytes text)) (sym lists) silent
+  beside_list (Ok text) lists silent = subst (λ b. ShowsBy met b c (string_bytes text)) (sym lists) silent
 
   -- notes are said beside the counts
   pub beside_counts : (r : Result (String Global) E) → c.print_languages ≡ false
-      → IfOk r (λ text. ShowsNotes tables c (string_bytes text)) → IfOk r (λ text. ShowsAsked tables c (string_bytes text))
+      → IfOk r (λ text. ShowsNotes met c (string_bytes text)) → IfOk r (λ text. ShowsAsked met c (string_bytes text))
   beside_counts (Err e) counts shows = tt
-  beside_counts (Ok text) counts shows = subst (λ b. ShowsBy tables b c (string_bytes text)) (sym counts) shows
+  beside_counts (Ok text) counts shows = subst (λ b. ShowsBy met b c (string_bytes text)) (sym counts) shows
 
   -- notes are shown as the command line of the words wants them
   pub beside_is : (words : List (List ℕ)) (old new : Option (List ℕ)) (r : Result (String Global) E) → IsLineOf words c
-      → IfOk r (λ text. ShowsAsked tables c (string_bytes text)) → IfOk r (λ text. IsBeside tables words old new (string_bytes text))
+      → IfOk r (λ text. ShowsAsked met c (string_bytes text)) → IfOk r (λ text. IsBeside met words old new (string_bytes text))
   beside_is words old new (Err e) spelled shows = tt
   beside_is words old new (Ok text) spelled shows = inr (record { line = c; spelled = spelled; shows = shows })
 
 -- the notes of a run over the command line's excludes are shown
-pub notes_shown : (tables : Tables) (c : Cli) (rows : List Row) (excludes : List (List ℕ)) (notes : List Note) (text : List ℕ)
-    → tables c rows → excludes ≡ excludes_of c → Grows (notes_of_excludes excludes) notes → text ≡ passed_text rows c notes
-    → ShowsNotes tables c text
-notes_shown tables c rows excludes notes text of_table are grows shown = record {
+pub notes_shown : (met : Met) (c : Cli) (rows : List Row) (flaws : List Flaw) (excludes : List (List ℕ)) (notes : List Note) (text : List ℕ)
+    → met c rows flaws → excludes ≡ excludes_of c → Grows (notes_of_excludes excludes) notes → text ≡ passed_text rows c notes flaws
+    → ShowsNotes met c text
+notes_shown met c rows flaws excludes notes text is_met are grows shown = record {
   rows = rows;
-  are = of_table;
+  flaws = flaws;
+  are = is_met;
   notes = notes;
   first = subst (λ e. Grows (notes_of_excludes e) notes) are grows;
   shown = shown;

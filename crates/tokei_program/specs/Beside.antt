@@ -6,6 +6,8 @@ use Rattle.tokei_cli.specs.declared.cli.Cli.{Cli}
 use Rattle.tokei_cli.specs.Lines.{IsLineOf}
 use Rattle.tokei_folders.specs.Tree.{Tree}
 use Rattle.tokei_program.specs.declared.environment.Env.{Env}
+use Rattle.tokei_config.specs.declared.flaws.Flaw.{Flaw}
+use Rattle.tokei_program.specs.Jobs.{AreFlaws}
 use Rattle.tokei_program.specs.NotesText.{passed_text}
 use Rattle.tokei_program.specs.Tables.{place_of_table, table_at}
 use Rattle.tokei_program.specs.Writing.{WritesText}
@@ -13,41 +15,49 @@ use Rattle.tokei_table.specs.Row.{Row}
 use Rattle.tokei_walk.specs.declared.kept_file.Note.{Note}
 use Rattle.tokei_walk.specs.Notes.{Grows, notes_of_excludes}
 
--- which rows are those of a command line's table
-abbrev pub Tables : Type 1
-Tables = Cli → List Row → Type 0
+-- which rows are those of a command line's table, and which configuration files count as empty
+abbrev pub Met : Type 1
+Met = Cli → List Row → List Flaw → Type 0
 
 -- any, where the folders tell no tree
-abbrev pub AnyTable : Tables
-AnyTable c rows = ⊤
+abbrev pub AnyMet : Met
+AnyMet c rows flaws = ⊤
 
--- those of the file, in a known tree
-abbrev pub TableIn : Env → Tree → Tables
-TableIn env t c rows = table_at t (place_of_table env c) ≡ Some (Ok rows)
+-- the rows of the table's file, and the configuration files that are there and count as empty
+pub record AreMet (env : Env) (t : Tree) (c : Cli) (rows : List Row)
+    (flaws : List Flaw) : Type 0 where
+  pub table : table_at t (place_of_table env c) ≡ Some (Ok rows)
+  pub empty : AreFlaws rows env t flaws
+
+-- those of a known tree
+abbrev pub MetIn : Env → Tree → Met
+MetIn env t c rows flaws = AreMet env t c rows flaws
 
 -- a text shows what a command line passes over: the notes of a run, of which those of the excludes
--- come first, and the words that name no language of the table
-pub record ShowsNotes (tables : Tables) (c : Cli) (text : List ℕ) : Type 0 where
+-- come first, the configuration files that count as empty, and the words that name no language of
+-- the table
+pub record ShowsNotes (met : Met) (c : Cli) (text : List ℕ) : Type 0 where
   pub rows : List Row
-  pub are : tables c rows
+  pub flaws : List Flaw
+  pub are : met c rows flaws
   pub notes : List Note
   pub first : Grows (notes_of_excludes (excludes_of c)) notes
-  pub shown : text ≡ passed_text rows c notes
+  pub shown : text ≡ passed_text rows c notes flaws
 
 -- beside the list of languages, where it is asked for, nothing is said, and else notes
-abbrev pub ShowsBy : Tables → Bool → Cli → List ℕ → Type 0
-ShowsBy tables true c text = text ≡ []
-ShowsBy tables false c text = ShowsNotes tables c text
+abbrev pub ShowsBy : Met → Bool → Cli → List ℕ → Type 0
+ShowsBy met true c text = text ≡ []
+ShowsBy met false c text = ShowsNotes met c text
 
 -- a text is what is said beside what a command line asks for
-abbrev pub ShowsAsked : Tables → Cli → List ℕ → Type 0
-ShowsAsked tables c text = ShowsBy tables c.print_languages c text
+abbrev pub ShowsAsked : Met → Cli → List ℕ → Type 0
+ShowsAsked met c text = ShowsBy met c.print_languages c text
 
 -- a text is what is said beside what the command line of these words asks for
-pub record ShowsLine (tables : Tables) (words : List (List ℕ)) (text : List ℕ) : Type 0 where
+pub record ShowsLine (met : Met) (words : List (List ℕ)) (text : List ℕ) : Type 0 where
   pub line : Cli
   pub spelled : IsLineOf words line
-  pub shows : ShowsAsked tables line text
+  pub shows : ShowsAsked met line text
 
 -- nothing is said, where a writer has gained the text of help or of the version
 pub record IsSilent (old new : Option (List ℕ)) (text : List ℕ) : Type 0 where
@@ -55,13 +65,13 @@ pub record IsSilent (old new : Option (List ℕ)) (text : List ℕ) : Type 0 whe
   pub empty : text ≡ []
 
 -- a text is what is said beside the answer to these words, which a writer has gained
-abbrev pub IsBeside : Tables → List (List ℕ) → Option (List ℕ) → Option (List ℕ) → List ℕ → Type 0
-IsBeside tables words old new text = IsSilent old new text ⊎ ShowsLine tables words text
+abbrev pub IsBeside : Met → List (List ℕ) → Option (List ℕ) → Option (List ℕ) → List ℕ → Type 0
+IsBeside met words old new text = IsSilent old new text ⊎ ShowsLine met words text
 
 -- behind what stood there the second writer has what is said beside the answer, which the first one
 -- has gained, and nothing else
-pub record SaysBeside (tables : Tables) (words : List (List ℕ))
+pub record SaysBeside (met : Met) (words : List (List ℕ))
     (old_out new_out old_err new_err : Option (List ℕ)) : Type 0 where
   pub text : List ℕ
-  pub beside : IsBeside tables words old_out new_out text
+  pub beside : IsBeside met words old_out new_out text
   pub appended : Appends old_err new_err text

@@ -6,7 +6,9 @@ use Rattle.tokei_cli.specs.declared.cli.Cli.{Cli}
 use Rattle.tokei_cli.specs.Overriding.{overridden}
 use Rattle.tokei_config.specs.declared.config.Config.{Config}
 use Rattle.tokei_config.specs.declared.files.ConfigDirs.{ConfigDirs}
+use Rattle.tokei_config.specs.declared.flaws.Flaw.{Flaw}
 use Rattle.tokei_config.specs.Files.{configuration}
+use Rattle.tokei_config.specs.Flaws.{flaws_of, placed_causes}
 use Rattle.tokei_config.specs.Seen.{settings_of}
 use Rattle.tokei_folders.specs.Tree.{Tree}
 use Rattle.tokei_program.specs.Choices.{Chooses}
@@ -24,6 +26,12 @@ pub record IsConfig (rows : List Row) (c : Cli) (env : Env) (t : Tree)
   pub dirs : ConfigDirs
   pub found : AreDirs env dirs
   pub settings : settings_of config ≡ overridden rows c (configuration rows t dirs)
+
+-- the configuration files that count as empty though they are there
+pub record AreFlaws (rows : List Row) (env : Env) (t : Tree) (flaws : List Flaw) : Type 0 where
+  pub dirs : ConfigDirs
+  pub found : AreDirs env dirs
+  pub are : placed_causes flaws ≡ flaws_of rows t dirs
 
 -- the members of a run that the command line gives
 pub record IsJob (c : Cli) (job : Job) : Type 0 where

@@ -5,6 +5,7 @@ pub mod Choices
 pub mod Columns
 pub mod Directories
 pub mod Earlier
+pub mod FlawLines
 pub mod Jobs
 pub mod Messages
 pub mod NoteLines

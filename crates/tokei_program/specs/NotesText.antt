@@ -1,6 +1,8 @@
 -- The lines of what was passed over.
 use Rattle.std.specs.Prelude.{ℕ, List, [], ◌∷◌, ◌++◌, flat_map, map}
 use Rattle.tokei_cli.specs.declared.cli.Cli.{Cli}
+use Rattle.tokei_config.specs.declared.flaws.Flaw.{Flaw}
+use Rattle.tokei_program.specs.FlawLines.{flaw_lines}
 use Rattle.tokei_program.specs.NoteLines.{filter_of, lines_of}
 use Rattle.tokei_program.specs.Shown.{shown_note}
 use Rattle.tokei_program.specs.Types.{type_lines}
@@ -12,11 +14,13 @@ use Rattle.tokei_walk.specs.declared.kept_file.Note.{Note}
 abbrev pub ended : List ℕ → List ℕ
 ended line = line ++ newline ∷ []
 
--- the lines that a command line shows: of a run's notes, and of its own words that name no language
-abbrev pub passed_lines : List Row → Cli → List Note → List (List ℕ)
-passed_lines rows c notes =
-    lines_of (filter_of c.verbose) (map shown_note notes) ++ type_lines rows c
+-- the lines that a command line shows: of a run's notes, of configuration files that count as empty,
+-- and of its own words that name no language
+abbrev pub passed_lines : List Row → Cli → List Note → List Flaw → List (List ℕ)
+passed_lines rows c notes flaws =
+    (lines_of (filter_of c.verbose) (map shown_note notes) ++ flaw_lines c flaws)
+    ++ type_lines rows c
 
 -- these lines as a text
-abbrev pub passed_text : List Row → Cli → List Note → List ℕ
-passed_text rows c notes = flat_map ended (passed_lines rows c notes)
+abbrev pub passed_text : List Row → Cli → List Note → List Flaw → List ℕ
+passed_text rows c notes flaws = flat_map ended (passed_lines rows c notes flaws)

@@ -4,7 +4,7 @@ ghost use Rattle.tokei_program.specs.Messages.{IsMessage};
 
 use std::alloc::{AllocError, AllocFailed, Global};
 use thiserror::Error;
-use tokei::{OutputError, TableError};
+use tokei::TableError;
 
 /// Why nothing is counted, or why the count isn't shown.
 #[derive(Debug, Drop, Error)]
@@ -24,18 +24,30 @@ pub enum Ending {
     /// Standard input had a fault.
     #[error("earlier results can't be read")]
     Unreadable,
+    /// Standard input had a fault, in the system's words.
+    #[error("earlier results can't be read: {0}")]
+    UnreadableBy(String),
+    /// Standard input has more bytes than may be read.
+    #[error("the input has more than 4,294,967,296 bytes")]
+    TooLong,
     /// Nothing stands at this root.
     #[error("'{0}' not found.")]
     Missing(String),
     /// An allocation failed.
     #[error("out of memory")]
     Memory,
+    /// Memory didn't suffice for the content of this place.
+    #[error("out of memory: {0}")]
+    NoRoom(String),
     /// A sum passes the greatest `usize`.
     #[error("a sum passes the greatest usize")]
     Overflow,
     /// A writer had a fault.
     #[error("the output can't be written")]
     Write,
+    /// A writer had a fault, in the system's words.
+    #[error("the output can't be written: {0}")]
+    Unwritten(String),
 }
 
 impl Ending {
@@ -82,21 +94,6 @@ impl<T: Drop> From<AllocFailed<T>> for Ending {
 
     fn from(_refused: AllocFailed<T>) -> Ending {
         Ending::Memory
-    }
-}
-
-impl From<OutputError> for Ending {
-    ghost use Rattle.std.specs.Prelude.{◌≡◌};
-    ghost use Rattle.tokei_program.specs.Statuses.{status_of};
-
-    ghost from_gives = { λ _ e. status_of e ≡ 1 };
-
-    fn from(error: OutputError) -> Ending {
-        match error {
-            OutputError::Memory => Ending::Memory,
-            OutputError::Overflow => Ending::Overflow,
-            OutputError::Write => Ending::Write,
-        }
     }
 }
 

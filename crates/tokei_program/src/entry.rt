@@ -3,12 +3,13 @@ ghost use Rattle.std.specs.Prelude.{◌≡◌, ◌≢◌, ◌<◌, ◌≤◌, []
 ghost use Rattle.tokei_cli.specs.CommandLines.{inputs_of};
 ghost use Rattle.tokei_folders.specs.Answers.{Told};
 ghost use Rattle.tokei_program.specs.Choices.{Chooses};
-ghost use Rattle.tokei_program.specs.Beside.{AnyTable, IsBeside, SaysBeside, ShowsAsked, ShowsNotes, TableIn};
+ghost use Rattle.tokei_program.specs.Beside.{AnyMet, IsBeside, SaysBeside, ShowsAsked, ShowsNotes, MetIn};
 ghost use Rattle.tokei_program.specs.Messages.{Says};
 ghost use Rattle.tokei_program.specs.Statuses.{status_of};
 ghost use Rattle.tokei_program.specs.Writing.{Writes, WritesAsked, WritesCounts, WritesList};
 ghost use Rattle.tokei_folders.specs.AsTheyWere.{SameTree};
 
+use crate::causes::{ended, run_ended};
 use crate::choices::Choices;
 use crate::ending::Ending;
 use crate::environment::Env;
@@ -34,17 +35,21 @@ fn counted<F: Folders, S: Source, W: Sink>(
     ensures same { SameTree F.tree folders.old folders.new }
     ensures told { Told (F.tree folders.old) (λ t. OnOk result (WritesCounts
         cli.now env.now t (S.remaining input.old) (W.contents out.old) (W.contents out.new))) }
-    ensures beside { IfOk result (λ text. ShowsNotes AnyTable cli.now (string_bytes text)) }
+    ensures beside { IfOk result (λ text. ShowsNotes AnyMet cli.now (string_bytes text)) }
     ensures noted { Told (F.tree folders.old) (λ t. IfOk result (λ text.
-        ShowsNotes (TableIn env.now t) cli.now (string_bytes text))) }
+        ShowsNotes (MetIn env.now t) cli.now (string_bytes text))) }
     ensures fault { W.faults out.old < u64.MAX → OnOk result (W.faults out.new ≡ W.faults out.old) }
     ensures failed { IfErr result (λ e. status_of e ≡ 1) }
 {
     let table = table_of(alloc, cli, env, folders)?;
-    let job = prepared(alloc, cli, choices, env, &table, folders, input)?;
-    let notes = run(alloc, &table, folders, &job, out)?;
-    let text = passed_text(alloc, &table, cli, &notes)?;
-    Ok(text)
+    let prepared = prepared(alloc, cli, choices, env, &table, folders, input)?;
+    match run(alloc, &table, folders, &prepared.job, out) {
+        Ok(notes) => {
+            let text = passed_text(alloc, &table, cli, &notes, &prepared.flaws)?;
+            Ok(text)
+        }
+        Err(error) => Err(run_ended(alloc, error, folders, out)),
+    }
 }
 
 /// Lists the languages of the table that a command line names.
@@ -63,8 +68,10 @@ fn listed<F: Folders, W: Sink>(
     ensures failed { IfErr result (λ e. status_of e ≡ 1) }
 {
     let table = table_of(alloc, cli, env, folders)?;
-    print_supported_languages(alloc, &table, out)?;
-    Ok(String::new(alloc))
+    match print_supported_languages(alloc, &table, out) {
+        Ok(()) => Ok(String::new(alloc)),
+        Err(error) => Err(ended(alloc, error, out)),
+    }
 }
 
 /// Does what a command line asks for, and answers what is to be said on standard error beside it. A
@@ -81,9 +88,9 @@ fn carry_out<F: Folders, S: Source, W: Sink>(
     ensures same { SameTree F.tree folders.old folders.new }
     ensures told { Told (F.tree folders.old) (λ t. OnOk result (WritesAsked
         cli.now env.now t (S.remaining input.old) (W.contents out.old) (W.contents out.new))) }
-    ensures beside { IfOk result (λ text. ShowsAsked AnyTable cli.now (string_bytes text)) }
+    ensures beside { IfOk result (λ text. ShowsAsked AnyMet cli.now (string_bytes text)) }
     ensures noted { Told (F.tree folders.old) (λ t. IfOk result (λ text.
-        ShowsAsked (TableIn env.now t) cli.now (string_bytes text))) }
+        ShowsAsked (MetIn env.now t) cli.now (string_bytes text))) }
     ensures fault { W.faults out.old < u64.MAX → OnOk result (W.faults out.new ≡ W.faults out.old) }
     ensures unwritten { IfErr result (λ e. status_of e ≡ 2 → out.new ≡ out.old) }
     ensures unread { IfErr result (λ e. status_of e ≡ 2
@@ -110,10 +117,10 @@ fn answer_words<F: Folders, S: Source, W: Sink>(
     ensures told { Told (F.tree folders.old) (λ t. OnOk result
         (Writes (map (λ w. w.now) words.now) env.now t (S.remaining input.old) (W.contents out.old)
         (W.contents out.new))) }
-    ensures beside { IfOk result (λ text. IsBeside AnyTable (map (λ w. w.now) words.now)
+    ensures beside { IfOk result (λ text. IsBeside AnyMet (map (λ w. w.now) words.now)
         (W.contents out.old) (W.contents out.new) (string_bytes text)) }
     ensures noted { Told (F.tree folders.old) (λ t. IfOk result (λ text.
-        IsBeside (TableIn env.now t) (map (λ w. w.now) words.now)
+        IsBeside (MetIn env.now t) (map (λ w. w.now) words.now)
         (W.contents out.old) (W.contents out.new) (string_bytes text))) }
     ensures fault { W.faults out.old < u64.MAX → OnOk result (W.faults out.new ≡ W.faults out.old) }
     ensures unwritten { IfErr result (λ e. status_of e ≡ 2 → out.new ≡ out.old) }
@@ -122,10 +129,10 @@ fn answer_words<F: Folders, S: Source, W: Sink>(
 {
     match Cli::from_words(alloc, words) {
         Ok(cli) => carry_out(alloc, &cli, env, folders, input, out),
-        Err(CliError::Asked(text)) => {
-            put(out, text.as_bytes())?;
-            Ok(String::new(alloc))
-        }
+        Err(CliError::Asked(text)) => match put(out, text.as_bytes()) {
+            Ok(()) => Ok(String::new(alloc)),
+            Err(error) => Err(ended(alloc, error, out)),
+        },
         Err(CliError::Refused(text)) => Err(Ending::Refused(text)),
         Err(CliError::Memory) => Err(Ending::Memory),
     }
@@ -137,7 +144,8 @@ fn answer_words<F: Folders, S: Source, W: Sink>(
 ///
 /// With status 0 `out` has gained, over a known tree, help, the version, or what the command line
 /// of the words asks for: the list of languages, or what `run` writes for its job; and `err` has
-/// gained nothing, or notes of what was passed over, as many as the command line shows. A refused
+/// gained nothing, or notes of what was passed over and of configuration files that count as empty,
+/// as many as the command line shows. A refused
 /// command line is seen before anything is read or written. Any other status than 1 says that
 /// neither writer had a fault. Where the status is 1 and `err` had no fault, one message stands in
 /// it.
@@ -155,10 +163,10 @@ pub fn program<F: Folders, S: Source, W: Sink, E: Sink>(
         → Writes (map (λ w. w.now) words.now) env.now t (S.remaining input.old) (W.contents out.old)
         (W.contents out.new)) }
     ensures beside { result ≡ 0
-        → SaysBeside AnyTable (map (λ w. w.now) words.now) (W.contents out.old) (W.contents out.new)
+        → SaysBeside AnyMet (map (λ w. w.now) words.now) (W.contents out.old) (W.contents out.new)
         (E.contents err.old) (E.contents err.new) }
     ensures noted { Told (F.tree folders.old) (λ t. result ≡ 0
-        → SaysBeside (TableIn env.now t) (map (λ w. w.now) words.now)
+        → SaysBeside (MetIn env.now t) (map (λ w. w.now) words.now)
         (W.contents out.old) (W.contents out.new) (E.contents err.old) (E.contents err.new)) }
     ensures status { result ≤ 2 }
     ensures refused { result ≡ 2 → out.new ≡ out.old }

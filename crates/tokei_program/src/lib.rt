@@ -5,10 +5,12 @@
 //! the exit statuses, the messages, and the notes of a walk as lines of a log.
 #![tactic(auto)]
 
+mod causes;
 pub mod choices;
 pub mod ending;
 mod entry;
 pub mod environment;
+mod flaw_lines;
 mod note_lines;
 mod notes;
 pub mod preparing;

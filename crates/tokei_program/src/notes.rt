@@ -2,6 +2,7 @@
 ghost use Rattle.std.specs.Prelude.{◌≡◌, ◌++◌, IfOk, OnOk, flat_map, map, string_bytes};
 ghost use Rattle.tokei_program.specs.NotesText.{ended, passed_text};
 
+use crate::flaw_lines::log_flaws;
 use crate::note_lines::log_notes;
 use crate::shown::shown_notes;
 use crate::types::log_types;
@@ -9,6 +10,7 @@ use log::sink::Lines;
 use std::alloc::{AllocError, Global};
 use tokei::{LanguageTable, Note};
 use tokei_cli::Cli;
+use tokei_config::Flaw;
 
 /// Puts a line and its newline behind the text.
 fn push_line(text: &mut String, line: &str) -> Result<(), AllocError>
@@ -31,21 +33,23 @@ fn text_of(alloc: Global, lines: &[String]) -> Result<String, AllocError>
     Ok(text)
 }
 
-/// The lines of what a run passed over, and of the words of its command line that name no language
-/// of the table; of those that are shown where `--verbose` was given so often. It fails where
+/// The lines of what a run passed over, of the configuration files that count as empty, and of the
+/// words of its command line that name no language of the table; of those that are shown where `--verbose` was given so often. It fails where
 /// memory runs out.
 pub fn passed_text(
     alloc: Global,
     table: &LanguageTable,
     cli: &Cli,
     notes: &[Note],
+    flaws: &[Flaw],
 ) -> Result<String, AllocError>
     ensures { IfOk result (λ text. string_bytes text
-        ≡ passed_text table.now cli.now notes.now) }
+        ≡ passed_text table.now cli.now notes.now flaws.now) }
 {
     let notes = shown_notes(alloc, notes)?;
     let mut lines = Lines::new(alloc);
     log_notes(&notes, cli.verbose, &mut lines)?;
+    log_flaws(alloc, cli, flaws, &mut lines)?;
     log_types(alloc, table, cli, &mut lines)?;
     text_of(alloc, lines.as_slice())
 }

@@ -5,13 +5,14 @@ ghost use Rattle.tokei_folders.specs.Answers.{Told};
 ghost use Rattle.tokei_program.specs.Choices.{Chooses};
 ghost use Rattle.tokei_program.specs.Columns.{columns_of};
 ghost use Rattle.tokei_program.specs.Earlier.{AreEarlier, AreRead, bytes_named};
-ghost use Rattle.tokei_program.specs.Jobs.{IsConfig, IsJob, IsJobOf};
+ghost use Rattle.tokei_program.specs.Jobs.{AreFlaws, IsConfig, IsJob, IsJobOf};
 ghost use Rattle.tokei_program.specs.Roots.{AllStand, stands};
 ghost use Rattle.tokei_program.specs.Statuses.{status_of};
 ghost use Rattle.tokei_program.specs.Tables.{place_of_table, table_at};
 ghost use Rattle.tokei_walk.specs.Walks.{texts_of};
 ghost use Rattle.tokei_folders.specs.AsTheyWere.{SameTree};
 
+use crate::causes::{no_memory, unreadable};
 use crate::choices::Choices;
 use crate::ending::Ending;
 use crate::environment::{Env, config_dirs};
@@ -22,6 +23,7 @@ use tokei::{
     add_input,
 };
 use tokei_cli::{Cli, OverrideConfig};
+use tokei_config::{ConfigRead, Flaw};
 
 /// The table in the current folder, for where neither the command line nor the environment names
 /// one.
@@ -52,12 +54,16 @@ fn cause_at<F: Folders>(folders: &mut F, place: &str) -> Result<&'static str, En
     }
 }
 
-/// That no table can be read at a place, and why.
+/// That no table can be read at a place, and why: in the system's words, or by what stands there.
 fn no_table<F: Folders>(alloc: Global, folders: &mut F, place: &str) -> Result<Ending, Ending>
     ensures same { SameTree F.tree folders.old folders.new }
     ensures ends { IfOk result (λ e. status_of e ≡ 1) }
     ensures failed { IfErr result (λ e. status_of e ≡ 1) }
 {
+    let words = folders.cause(alloc)?;
+    if !words.as_bytes().is_empty() {
+        return Ok(Ending::NoTable(format!(in alloc; "{place}: {words}")?));
+    }
     let cause = cause_at(folders, place)?;
     Ok(Ending::NoTable(format!(in alloc; "{place}: {cause}")?))
 }
@@ -75,30 +81,33 @@ pub fn table_of<F: Folders>(
     ensures failed { IfErr result (λ e. status_of e ≡ 1) }
 {
     let place = place_of_table(cli, env);
-    match folders.read(place) {
+    match folders.read_named(place) {
         Ok(bytes) => Ok(LanguageTable::from_json(alloc, &bytes)?),
-        Err(Fault::Memory) => Err(Ending::Memory),
+        Err(Fault::Memory) => Err(no_memory(alloc, folders)),
         Err(Fault::Refused) => Err(no_table(alloc, folders, place)?),
     }
 }
 
-/// The configuration of the user's files, below the options of the command line.
+/// The configuration of the user's files, below the options of the command line, and the files that
+/// count as empty.
 fn configuration<F: Folders>(
     alloc: Global,
     cli: &Cli,
     env: &Env,
     table: &LanguageTable,
     folders: &mut F,
-) -> Result<Config, Ending>
+) -> Result<ConfigRead, Ending>
     ensures same { SameTree F.tree folders.old folders.new }
-    ensures told { Told (F.tree folders.old) (λ t. IfOk result
-        (IsConfig table.now cli.now env.now t)) }
+    ensures told { Told (F.tree folders.old) (λ t. IfOk result (λ r.
+        IsConfig table.now cli.now env.now t r.config)) }
+    ensures flawed { Told (F.tree folders.old) (λ t. IfOk result (λ r.
+        AreFlaws table.now env.now t r.flaws.items)) }
     ensures failed { IfErr result (λ e. status_of e ≡ 1) }
 {
     let dirs = config_dirs(alloc, env)?;
-    let mut config = Config::from_config_files(alloc, table, folders, &dirs)?;
-    cli.override_config(alloc, table, &mut config)?;
-    Ok(config)
+    let mut read = Config::read_config_files(alloc, table, folders, &dirs)?;
+    cli.override_config(alloc, table, &mut read.config)?;
+    Ok(read)
 }
 
 /// The languages of earlier results that are read from a source.
@@ -116,9 +125,39 @@ fn languages_of<S: Source>(
         Ok(()) => Ok(languages),
         Err(InputError::Memory) => Err(Ending::Memory),
         Err(InputError::Overflow) => Err(Ending::Overflow),
-        Err(InputError::Unreadable) => Err(Ending::Unreadable),
+        Err(InputError::Unreadable) => Err(unreadable(alloc, source)),
+        Err(InputError::TooLong) => Err(Ending::TooLong),
         Err(_) => Err(Ending::Input(String::from_str(alloc, name)?)),
     }
+}
+
+/// A name, and why nothing could be read by it, where the folders have words for that and the name
+/// doesn't begin as a document does.
+fn with_cause<F: Folders>(alloc: Global, name: &str, folders: &F) -> Result<String, AllocError> {
+    let words = folders.cause(alloc)?;
+    if words.as_bytes().is_empty() || name.as_bytes().first() == Some(&b'{') {
+        return String::from_str(alloc, name);
+    }
+    format!(in alloc; "{name}: {words}")
+}
+
+/// The earlier results that are a text, which is no file's name.
+fn earlier_in<F: Folders>(
+    alloc: Global,
+    table: &LanguageTable,
+    text: &str,
+    folders: &F,
+) -> Result<Languages, Ending>
+    ensures read { IfOk result (AreRead table.now (Some text.now)) }
+    ensures failed { IfErr result (λ e. status_of e ≡ 1) }
+{
+    let name = with_cause(alloc, text, folders)?;
+    languages_of(
+        alloc,
+        table,
+        name.as_str(),
+        &mut Counted::new(text.as_bytes()),
+    )
 }
 
 /// The earlier results of that name: the file's; where it can't be read those on standard input, if
@@ -135,13 +174,11 @@ fn earlier_of<F: Folders, S: Source>(
         table.now (bytes_named t (S.remaining input.old) name.now))) }
     ensures failed { IfErr result (λ e. status_of e ≡ 1) }
 {
-    match folders.read(name) {
+    match folders.read_named(name) {
         Ok(bytes) => languages_of(alloc, table, name, &mut Counted::new(bytes.as_slice())),
-        Err(Fault::Memory) => Err(Ending::Memory),
+        Err(Fault::Memory) => Err(no_memory(alloc, folders)),
         Err(Fault::Refused) if name == "stdin" => languages_of(alloc, table, name, input),
-        Err(Fault::Refused) => {
-            languages_of(alloc, table, name, &mut Counted::new(name.as_bytes()))
-        }
+        Err(Fault::Refused) => earlier_in(alloc, table, name, folders),
     }
 }
 
@@ -238,6 +275,14 @@ fn job_of(
     })
 }
 
+/// What is counted, and what is said beside it.
+#[derive(Drop)]
+pub struct Preparation {
+    pub job: Job,
+    /// The configuration files that count as empty though they are there.
+    pub flaws: Vec<Flaw>,
+}
+
 /// What is counted, where all that the command line names is there.
 pub fn prepared<F: Folders, S: Source>(
     alloc: Global,
@@ -247,17 +292,22 @@ pub fn prepared<F: Folders, S: Source>(
     table: &LanguageTable,
     folders: &mut F,
     input: &mut S,
-) -> Result<Job, Ending>
+) -> Result<Preparation, Ending>
     requires chosen { Chooses cli.now choices.wanted choices.sort choices.numbers }
     ensures same { SameTree F.tree folders.old folders.new }
-    ensures excludes { IfOk result (λ j. texts_of j.ignored.items ≡ excludes_of cli.now) }
-    ensures told { Told (F.tree folders.old) (λ t. IfOk result (IsJobOf
-        table.now cli.now env.now t (S.remaining input.old))) }
+    ensures excludes { IfOk result (λ p. texts_of p.job.ignored.items ≡ excludes_of cli.now) }
+    ensures told { Told (F.tree folders.old) (λ t. IfOk result (λ p. IsJobOf
+        table.now cli.now env.now t (S.remaining input.old) p.job)) }
+    ensures flawed { Told (F.tree folders.old) (λ t. IfOk result (λ p.
+        AreFlaws table.now env.now t p.flaws.items)) }
     ensures failed { IfErr result (λ e. status_of e ≡ 1) }
 {
-    let config = configuration(alloc, cli, env, table, folders)?;
+    let read = configuration(alloc, cli, env, table, folders)?;
     let earlier = earlier(alloc, table, cli, folders, input)?;
     check_roots(alloc, folders, cli.input())?;
-    let job = job_of(alloc, cli, choices, config, earlier)?;
-    Ok(job)
+    let job = job_of(alloc, cli, choices, read.config, earlier)?;
+    Ok(Preparation {
+        job,
+        flaws: read.flaws,
+    })
 }

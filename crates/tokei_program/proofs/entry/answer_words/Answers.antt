@@ -1,7 +1,7 @@
 -- What was asked for is what the program writes.
 use Rattle.std.proofs.Common.{map}
 use Rattle.tokei_program.proofs.Asking.{beside_is, either_is}
-use Rattle.tokei_program.specs.Beside.{AnyTable, TableIn}
+use Rattle.tokei_program.specs.Beside.{AnyMet, MetIn}
 use Rattle.tokei_program.proofs.entry.answer_words.Goals as goal
 
 pub returns-in-Ok-clause-told : goal.returns-in-Ok-clause-told
@@ -13,10 +13,10 @@ returns-in-Ok-clause-told g c t told =
 
 pub returns-in-Ok-clause-beside : goal.returns-in-Ok-clause-beside
 returns-in-Ok-clause-beside g c =
-    beside_is AnyTable c.in-Ok.cli (map (λ w. w.now) c.args.words.now) (g.W.Sink.contents c.args.out.now)
+    beside_is AnyMet c.in-Ok.cli (map (λ w. w.now) c.args.words.now) (g.W.Sink.contents c.args.out.now)
     (g.W.Sink.contents c.carry_out.new.out) c.carry_out.result c.in-Ok.ensures.of_words c.carry_out.ensures.beside
 
 pub returns-in-Ok-clause-noted : goal.returns-in-Ok-clause-noted
 returns-in-Ok-clause-noted g c t told =
-    beside_is (TableIn c.args.env.now t) c.in-Ok.cli (map (λ w. w.now) c.args.words.now) (g.W.Sink.contents c.args.out.now)
+    beside_is (MetIn c.args.env.now t) c.in-Ok.cli (map (λ w. w.now) c.args.words.now) (g.W.Sink.contents c.args.out.now)
     (g.W.Sink.contents c.carry_out.new.out) c.carry_out.result c.in-Ok.ensures.of_words (c.carry_out.ensures.noted t told)

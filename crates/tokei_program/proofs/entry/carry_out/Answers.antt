@@ -1,6 +1,6 @@
 -- The list or the counts are what was asked for.
 use Rattle.tokei_program.proofs.Asking.{asked_by_list, asked_by_counts, beside_counts, beside_list}
-use Rattle.tokei_program.specs.Beside.{AnyTable, TableIn}
+use Rattle.tokei_program.specs.Beside.{AnyMet, MetIn}
 use Rattle.tokei_program.proofs.entry.carry_out.Goals as goal
 
 pub returns-then-cli-clause-told : goal.returns-then-cli-clause-told
@@ -16,15 +16,15 @@ returns-else-cli-clause-told g c t told =
     c.requires.named c.if-cli.false (c.counted.ensures.told t told)
 
 pub returns-then-cli-clause-beside : goal.returns-then-cli-clause-beside
-returns-then-cli-clause-beside g c = beside_list AnyTable c.args.cli.now c.listed.result c.if-cli.true c.listed.ensures.beside
+returns-then-cli-clause-beside g c = beside_list AnyMet c.args.cli.now c.listed.result c.if-cli.true c.listed.ensures.beside
 
 pub returns-else-cli-clause-beside : goal.returns-else-cli-clause-beside
-returns-else-cli-clause-beside g c = beside_counts AnyTable c.args.cli.now c.counted.result c.if-cli.false c.counted.ensures.beside
+returns-else-cli-clause-beside g c = beside_counts AnyMet c.args.cli.now c.counted.result c.if-cli.false c.counted.ensures.beside
 
 pub returns-then-cli-clause-noted : goal.returns-then-cli-clause-noted
 returns-then-cli-clause-noted g c t told =
-    beside_list (TableIn c.args.env.now t) c.args.cli.now c.listed.result c.if-cli.true c.listed.ensures.beside
+    beside_list (MetIn c.args.env.now t) c.args.cli.now c.listed.result c.if-cli.true c.listed.ensures.beside
 
 pub returns-else-cli-clause-noted : goal.returns-else-cli-clause-noted
 returns-else-cli-clause-noted g c t told =
-    beside_counts (TableIn c.args.env.now t) c.args.cli.now c.counted.result c.if-cli.false (c.counted.ensures.noted t told)
+    beside_counts (MetIn c.args.env.now t) c.args.cli.now c.counted.result c.if-cli.false (c.counted.ensures.noted t told)

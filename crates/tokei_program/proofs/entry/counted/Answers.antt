@@ -2,28 +2,33 @@
 use Rattle.std.proofs.Common.{◌≡◌, ◌∙◌, rules, string_bytes}
 use Rattle.tokei_walk.specs.Walks.{texts_of}
 use Rattle.tokei_program.proofs.Asking.{notes_shown}
-use Rattle.tokei_program.specs.Beside.{AnyTable, TableIn}
+use Rattle.tokei_program.specs.Beside.{AnyMet, MetIn}
 use Rattle.tokei_program.specs.NotesText.{passed_text}
 use Rattle.tokei_program.proofs.entry.counted.Goals as goal
 
-pub returns-clause-told : goal.returns-clause-told
-returns-clause-told g c t told = record {
+pub returns-in_ok-text-in-Ok-clause-told : goal.returns-in_ok-text-in-Ok-clause-told
+returns-in_ok-text-in-Ok-clause-told g c t told = record {
   rows = c.in_ok-table.table;
   table = c.in_ok-table.ensures.told t told;
-  job = c.in_ok-job.job;
-  is = c.in_ok-job.ensures.told t (c.table_of.ensures.same ∙ told);
-  outputs = c.in_ok-notes.ensures.told t (c.prepared.ensures.same ∙ (c.table_of.ensures.same ∙ told));
+  job = c.in_ok-prepared.prepared.job;
+  is = c.in_ok-prepared.ensures.told t (c.table_of.ensures.same ∙ told);
+  outputs = c.in-Ok.ensures.told t (c.prepared.ensures.same ∙ (c.table_of.ensures.same ∙ told));
 }
 
-pub returns-clause-beside : goal.returns-clause-beside
-returns-clause-beside g c =
-    let shown : string_bytes c.in_ok-text.text ≡ passed_text c.in_ok-table.table c.args.cli.now c.in_ok-notes.notes.items = search rules in
-    notes_shown AnyTable c.args.cli.now c.in_ok-table.table (texts_of c.in_ok-job.job.ignored.items) c.in_ok-notes.notes.items
-    (string_bytes c.in_ok-text.text) tt c.in_ok-job.ensures.excludes c.in_ok-notes.ensures.notes shown
+pub returns-in_ok-text-in-Ok-clause-beside : goal.returns-in_ok-text-in-Ok-clause-beside
+returns-in_ok-text-in-Ok-clause-beside g c =
+    let flaws = c.in_ok-prepared.prepared.flaws.items in
+    let notes = c.in-Ok.notes.items in
+    let shown : string_bytes c.in_ok-text-in-Ok.text ≡ passed_text c.in_ok-table.table c.args.cli.now notes flaws = search rules in
+    notes_shown AnyMet c.args.cli.now c.in_ok-table.table flaws (texts_of c.in_ok-prepared.prepared.job.ignored.items) notes
+    (string_bytes c.in_ok-text-in-Ok.text) tt c.in_ok-prepared.ensures.excludes c.in-Ok.ensures.notes shown
 
-pub returns-clause-noted : goal.returns-clause-noted
-returns-clause-noted g c t told =
-    let shown : string_bytes c.in_ok-text.text ≡ passed_text c.in_ok-table.table c.args.cli.now c.in_ok-notes.notes.items = search rules in
-    notes_shown (TableIn c.args.env.now t) c.args.cli.now c.in_ok-table.table (texts_of c.in_ok-job.job.ignored.items)
-    c.in_ok-notes.notes.items (string_bytes c.in_ok-text.text) (c.in_ok-table.ensures.told t told) c.in_ok-job.ensures.excludes
-    c.in_ok-notes.ensures.notes shown
+pub returns-in_ok-text-in-Ok-clause-noted : goal.returns-in_ok-text-in-Ok-clause-noted
+returns-in_ok-text-in-Ok-clause-noted g c t told =
+    let flaws = c.in_ok-prepared.prepared.flaws.items in
+    let notes = c.in-Ok.notes.items in
+    let shown : string_bytes c.in_ok-text-in-Ok.text ≡ passed_text c.in_ok-table.table c.args.cli.now notes flaws = search rules in
+    notes_shown (MetIn c.args.env.now t) c.args.cli.now c.in_ok-table.table flaws
+    (texts_of c.in_ok-prepared.prepared.job.ignored.items) notes (string_bytes c.in_ok-text-in-Ok.text)
+    (record { table = c.in_ok-table.ensures.told t told; empty = c.in_ok-prepared.ensures.flawed t (c.table_of.ensures.same ∙ told) })
+    c.in_ok-prepared.ensures.excludes c.in-Ok.ensures.notes shown
