@@ -1,7 +1,7 @@
 use Rattle.std.proofs.Common.{◌≡◌, drop}
 use Rattle.serde_json.specs.View.{items_view}
 use Rattle.tokei_table_json.specs.Layout.{all_items, is_text}
-use Rattle.tokei_table_json.proofs.layout.all_texts.Given as goal
+use Rattle.tokei_table_json.proofs.values.all_texts.Given as goal
 
 abbrev pub invariant-loop-item : goal.invariant-loop-item
 invariant-loop-item l =

@@ -1,7 +1,7 @@
 use Rattle.std.proofs.Common.{◌≡◌, drop}
 use Rattle.serde_json.specs.View.{items_view, members_view}
 use Rattle.serde_json.specs.Written.{items_have_float, members_have_float}
-use Rattle.tokei_table_json.proofs.layout.+has_float.Given as goal
+use Rattle.tokei_table_json.proofs.values.+has_float.Given as goal
 
 abbrev pub invariant-items_have_float-loop-item : goal.invariant-items_have_float-loop-item
 invariant-items_have_float-loop-item l =
