@@ -9,12 +9,12 @@ ghost use Rattle.tokei_program.specs.Statuses.{status_of};
 ghost use Rattle.tokei_program.specs.Writing.{Writes, WritesAsked, WritesCounts, WritesList};
 ghost use Rattle.tokei_folders.specs.AsTheyWere.{SameTree};
 
-use crate::causes::{ended, run_ended};
 use crate::choices::Choices;
 use crate::ending::Ending;
 use crate::environment::Env;
 use crate::notes::passed_text;
 use crate::preparing::{prepared, table_of};
+use crate::reasons::{ended, run_ended};
 use crate::saying::say;
 use std::alloc::Global;
 use tokei::{Folders, Sink, Source, put, run};

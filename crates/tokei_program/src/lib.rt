@@ -5,7 +5,6 @@
 //! the exit statuses, the messages, and the notes of a walk as lines of a log.
 #![tactic(auto)]
 
-mod causes;
 pub mod choices;
 pub mod ending;
 mod entry;
@@ -14,6 +13,7 @@ mod flaw_lines;
 mod note_lines;
 mod notes;
 pub mod preparing;
+mod reasons;
 mod saying;
 mod shown;
 mod types;
