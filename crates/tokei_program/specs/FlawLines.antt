@@ -40,11 +40,17 @@ explained f =
     if length f.detail == 0 then words_of_cause f.cause
     else words_of_cause f.cause ++ (codes ": " ++ shown f.detail)
 
+-- what has happened
+unfoldable pub happened : List ℕ
+happened = codes "configuration counts as empty"
+
+-- the file, and why
+abbrev pub told_of : Flaw → List ℕ
+told_of f = shown f.place ++ (codes ": " ++ explained f)
+
 -- `[WARN  configuration counts as empty] ./tokei.toml: 'sort' is no column`
 abbrev pub flaw_line : Flaw → List ℕ
-flaw_line f =
-    header_text Warn (codes "configuration counts as empty")
-    ++ (shown f.place ++ (codes ": " ++ explained f))
+flaw_line f = header_text Warn happened ++ told_of f
 
 -- a line of each, where warnings are shown
 abbrev pub flaw_lines : Cli → List Flaw → List (List ℕ)

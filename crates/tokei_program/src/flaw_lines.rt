@@ -1,6 +1,6 @@
 //! The configuration files that count as empty though they are there, as lines of a log.
 ghost use Rattle.std.specs.Prelude.{◌≡◌, ◌++◌, ◌∷◌, [], IfOk, OnOk, map, string_bytes};
-ghost use Rattle.tokei_program.specs.FlawLines.{explained, flaw_line, flaw_lines, words_of_cause, words_of_setting};
+ghost use Rattle.tokei_program.specs.FlawLines.{explained, flaw_line, flaw_lines, happened, told_of, words_of_cause, words_of_setting};
 
 use crate::note_lines::filter;
 use log::sink::Lines;
@@ -54,16 +54,31 @@ fn explained(alloc: Global, flaw: &Flaw) -> Result<String, AllocError>
     format!(in alloc; "{words}: {detail}")
 }
 
+/// The file, and why it counts as empty.
+fn told(alloc: Global, flaw: &Flaw) -> Result<String, AllocError>
+    ensures { IfOk result (λ text. string_bytes text ≡ told_of flaw.now) }
+{
+    let place = shown(alloc, flaw.place.as_str())?;
+    let why = explained(alloc, flaw)?;
+    format!(in alloc; "{place}: {why}")
+}
+
+/// What has happened.
+#[tactic(auto, unfolding(crate::specs::FlawLines::happened))]
+fn happened() -> &'static str
+    ensures { result.now ≡ happened }
+{
+    "configuration counts as empty"
+}
+
 /// Adds the line of a file that counts as empty.
 fn push_flaw(alloc: Global, flaw: &Flaw, lines: &mut Lines) -> Result<(), AllocError>
     ensures { OnOk result (lines.new ≡ lines.old ++ flaw_line flaw.now ∷ []) }
 {
-    let place = shown(alloc, flaw.place.as_str())?;
-    let why = explained(alloc, flaw)?;
-    let text = format!(in alloc; "{place}: {why}")?;
+    let text = told(alloc, flaw)?;
     let record = Record::builder()
         .level(Level::Warn)
-        .target("configuration counts as empty")
+        .target(happened())
         .args(text.as_str())
         .build();
     lines.push(&record)

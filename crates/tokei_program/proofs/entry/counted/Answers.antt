@@ -6,8 +6,8 @@ use Rattle.tokei_program.specs.Beside.{AnyMet, MetIn}
 use Rattle.tokei_program.specs.NotesText.{passed_text}
 use Rattle.tokei_program.proofs.entry.counted.Goals as goal
 
-pub returns-in_ok-text-in-Ok-clause-told : goal.returns-in_ok-text-in-Ok-clause-told
-returns-in_ok-text-in-Ok-clause-told g c t told = record {
+pub returns-in-Ok-clause-told : goal.returns-in-Ok-clause-told
+returns-in-Ok-clause-told g c t told = record {
   rows = c.in_ok-table.table;
   table = c.in_ok-table.ensures.told t told;
   job = c.in_ok-prepared.prepared.job;
@@ -15,16 +15,8 @@ returns-in_ok-text-in-Ok-clause-told g c t told = record {
   outputs = c.in-Ok.ensures.told t (c.prepared.ensures.same ∙ (c.table_of.ensures.same ∙ told));
 }
 
-pub returns-in_ok-text-in-Ok-clause-beside : goal.returns-in_ok-text-in-Ok-clause-beside
-returns-in_ok-text-in-Ok-clause-beside g c =
-    let flaws = c.in_ok-prepared.prepared.flaws.items in
-    let notes = c.in-Ok.notes.items in
-    let shown : string_bytes c.in_ok-text-in-Ok.text ≡ passed_text c.in_ok-table.table c.args.cli.now notes flaws = search rules in
-    notes_shown AnyMet c.args.cli.now c.in_ok-table.table flaws (texts_of c.in_ok-prepared.prepared.job.ignored.items) notes
-    (string_bytes c.in_ok-text-in-Ok.text) tt c.in_ok-prepared.ensures.excludes c.in-Ok.ensures.notes shown
-
-pub returns-in_ok-text-in-Ok-clause-noted : goal.returns-in_ok-text-in-Ok-clause-noted
-returns-in_ok-text-in-Ok-clause-noted g c t told =
+pub returns-in-Ok-clause-noted : goal.returns-in-Ok-clause-noted
+returns-in-Ok-clause-noted g c t told =
     let flaws = c.in_ok-prepared.prepared.flaws.items in
     let notes = c.in-Ok.notes.items in
     let shown : string_bytes c.in_ok-text-in-Ok.text ≡ passed_text c.in_ok-table.table c.args.cli.now notes flaws = search rules in
