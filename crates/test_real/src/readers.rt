@@ -3,7 +3,7 @@ use std::alloc::{AllocError, Global};
 use std::fs::{Metadata, OpenFile};
 use std::io;
 use std::io::{Error, ErrorKind, Read};
-use tokei_real::reading::{all_by, all_of, head_of};
+use tokei_real::reading::{all_by, all_of, all_within, head_of};
 
 /// A reader that gives a text, two bytes a read at most, and has then ended or fails.
 #[derive(Clone, Copy)]
@@ -63,6 +63,33 @@ fn fails_whole_and_head(alloc: Global) -> (bool, bool) {
 fn files_of_another_length(rt: HostRuntime) {
     assert_eq!(rt; first_wrong_length(rt.alloc()), None);
     assert_eq!(rt; fails_whole_and_head(rt.alloc()), (true, true));
+}
+
+/// Whether a file of five bytes is read where that many are the most, or else is refused.
+fn is_kept_within(alloc: Global, most: u64) -> bool {
+    let reader = Slow {
+        left: b"abcde",
+        fails: false,
+    };
+    match all_within(alloc, reader, 5, most) {
+        Ok(bytes) => most >= 5 && bytes.as_slice() == b"abcde".as_slice(),
+        Err(e) => most < 5 && e.kind() == ErrorKind::FileTooLarge,
+    }
+}
+
+/// The first bound at which it is otherwise, if there is one.
+fn first_wrong_bound(alloc: Global) -> Option<u64> {
+    for most in [0, 4, 5, 6, u64::MAX] {
+        if !is_kept_within(alloc, most) {
+            return Some(most);
+        }
+    }
+    None
+}
+
+#[test]
+fn more_bytes_than_the_bound(rt: HostRuntime) {
+    assert_eq!(rt; first_wrong_bound(rt.alloc()), None);
 }
 
 /// An open file that is said to have so many bytes, of which each read that gives some is interrupted before it.

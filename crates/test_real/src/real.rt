@@ -196,6 +196,37 @@ fn wrong_refusal(rt: &HostRuntime, top: &str) -> Wrong {
     Ok(None)
 }
 
+/// Places that a user names, and why they can't be read; nothing where they can.
+const CAUSES: [(&str, &str); 4] = [
+    ("~/none", "No such file or directory (os error 2)"),
+    ("~", "Is a directory (os error 21)"),
+    ("~/link", ""),
+    ("/dev/null", ""),
+];
+
+/// Why a place that the user names can't be read.
+fn cause_at(rt: &HostRuntime, place: &str) -> Result<String, Fail> {
+    let mut folders = RealFolders::new(rt.clone()?);
+    let _bytes = folders.read_named(place);
+    Ok(folders.cause(rt.alloc())?)
+}
+
+/// Whether a place of the test's folder can't be read for that cause.
+fn has_cause(rt: &HostRuntime, top: &str, text: &str, want: &str) -> Result<bool, Fail> {
+    let place = place_in(rt, top, text)?;
+    let cause = cause_at(rt, place.as_str())?;
+    Ok(cause.as_str() == want)
+}
+
+fn wrong_cause(rt: &HostRuntime, top: &str) -> Wrong {
+    for (text, want) in CAUSES {
+        if !has_cause(rt, top, text, want)? {
+            return Ok(Some(text));
+        }
+    }
+    Ok(None)
+}
+
 /// Files, whether the whole or the head is read, and the bytes.
 const CONTENTS: [(&str, bool, &[u8]); 2] = [("~/link", true, b"ab"), ("~/short", false, b"ab")];
 
@@ -251,12 +282,13 @@ const SHORT: [(&str, Made); 3] = [
     ("loop", Made::Link("loop")),
 ];
 
-/// What is wrong of kinds, of calls that are refused, or of contents.
+/// What is wrong of kinds, of calls that are refused, of causes, or of contents.
 fn wrong_of_short(rt: &HostRuntime, top: &str) -> Wrong {
     let kind = wrong_kind(rt, top)?;
     let refusal = wrong_refusal(rt, top)?;
+    let cause = wrong_cause(rt, top)?;
     let content = wrong_content(rt, top)?;
-    Ok(kind.or(refusal).or(content))
+    Ok(kind.or(refusal).or(cause).or(content))
 }
 
 fn wrong_of_its_own(rt: &HostRuntime) -> Wrong {

@@ -1,25 +1,35 @@
 //! Rows of texts that are tables of languages, or aren't, for each cause.
 use crate::gains::gained;
 use test_rows::{Answers, Asked, Members, Row, RowError, Said};
-use tokei_table::{LanguageTable, TableError};
+use tokei_table::{LanguageTable, TableError, TableFlaw};
 
 /// The members of these rows. The text is `json`, or that of one language `X` with these `members`; without both it is
 /// the bench table. Wanted is how many languages it has, or why it is refused; `words` are those of the cause, which a
-/// row may name alone as `cause`.
+/// row may name alone as `cause`, and `flaw` says where it goes wrong, or is `none`.
 pub const MEMBERS: Members = Members {
     given: &["json", "json_hex", "members", "gains", "cause"],
     wanted: &["languages", "error"],
-    optional: &["words"],
+    optional: &["words", "flaw"],
     by_table: true,
 };
 
+/// Answers by where a refused text goes wrong.
+fn say_flaw(text: &[u8], answers: &mut Answers) {
+    match TableFlaw::find(answers.alloc, text) {
+        Ok(Some(flaw)) => answers.say_shown("flaw", &flaw),
+        Ok(None) => answers.say_shown("flaw", &"none"),
+        Err(_) => answers.fail(RowError::Memory),
+    }
+}
+
 /// Answers by why a text is refused.
-fn refused(cause: TableError, answers: &mut Answers) {
+fn refused(cause: TableError, text: &[u8], answers: &mut Answers) {
     if cause == TableError::Memory {
         answers.fail(RowError::Memory);
     } else {
         answers.say_debug("error", &cause);
         answers.say_shown("words", &cause);
+        say_flaw(text, answers);
     }
 }
 
@@ -27,7 +37,7 @@ fn refused(cause: TableError, answers: &mut Answers) {
 fn read(text: &[u8], answers: &mut Answers) {
     match LanguageTable::from_json(answers.alloc, text) {
         Ok(table) => answers.say("languages", Said::Number(table.len() as u128)),
-        Err(cause) => refused(cause, answers),
+        Err(cause) => refused(cause, text, answers),
     }
 }
 

@@ -1,6 +1,8 @@
 pub mod Bits
 pub mod Blocks
+pub mod Carries
 pub mod LeastBoundary
+pub mod LineSums
 pub mod LowHalves
 pub mod Parts
 pub mod Rests

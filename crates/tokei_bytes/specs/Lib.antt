@@ -4,6 +4,7 @@ pub mod Boundaries
 pub mod ByteSets
 pub mod Decoding
 pub mod FirstPlace
+pub mod Lines
 pub mod OneOf
 pub mod Pairs
 pub mod Slots

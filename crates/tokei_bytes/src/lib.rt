@@ -9,6 +9,7 @@
 mod boundaries;
 mod byte_set;
 mod decoding;
+mod lines;
 mod near;
 mod one_of;
 mod pairs;
@@ -17,6 +18,7 @@ mod slots;
 pub use boundaries::find_char_boundary;
 pub use byte_set::ByteSet;
 pub use decoding::decode_text;
+pub use lines::{LineCounts, LineMasks, count_lines, line_masks};
 pub use near::first_of_one;
 pub use one_of::{
     BLOCK, SHORT_BLOCK, first_in_block, first_not_of_four, first_of_four, first_other_in_block,

@@ -48,7 +48,7 @@ fn looked_up(slots: [u8; 16], lanes: u8x32) -> u8x32
 
 /// Bit k is set where lane k stands in the slot of its low half.
 #[inline(always)]
-fn slotted_marks(slots: [u8; 16], lanes: u8x32) -> u64
+pub(crate) fn slotted_marks(slots: [u8; 16], lanes: u8x32) -> u64
     ensures { result ≡ mask_l (map (is_slotted slots) lanes) }
 {
     looked_up(slots, lanes).simd_eq(lanes).to_bitmask()

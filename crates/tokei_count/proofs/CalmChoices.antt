@@ -10,7 +10,7 @@ use Rattle.tokei_parts.specs.Choice.Choice.{escapes, opens, passes_over, begins_
 use Rattle.tokei_parts.specs.Glance.{holds}
 use Rattle.tokei_parts.specs.Items.{Block}
 use Rattle.tokei_parts.specs.Lines.{first_line}
-use Rattle.tokei_parts.specs.declared.items.Kind.{Kind}
+use Rattle.tokei_parts.specs.declared.items.ItemKind.{ItemKind}
 use Rattle.tokei_parts.proofs.OpenersInLines.{one-line, none_here, none_next, none_front, none_back}
 use Rattle.tokei_count.proofs.TokenOpeners.{openers_in_line}
 
@@ -61,7 +61,7 @@ module _ (g : Row) (o : Option Block) (u : List ℕ) (none : o ≡ None) (h : be
         opened-none g.nested_comments u (none_front n more u h3),
       ) refl
 
-  not_opens : (x y : Bool) (k : Kind) (p : Pair) → cond x escapes (cond y begins_line_comment takes_byte) ≡ opens k p → ⊥
+  not_opens : (x y : Bool) (k : ItemKind) (p : Pair) → cond x escapes (cond y begins_line_comment takes_byte) ≡ opens k p → ⊥
   not_opens true y k p e = cc
   not_opens false true k p e = cc
   not_opens false false k p e = cc
@@ -71,7 +71,7 @@ module _ (g : Row) (o : Option Block) (u : List ℕ) (none : o ≡ None) (h : be
   not_passes false true p e = cc
   not_passes false false p e = cc
 
-  pub none_opens : (k : Kind) (p : Pair) → choice g None o u ≡ opens k p → ⊥
+  pub none_opens : (k : ItemKind) (p : Pair) → choice g None o u ≡ opens k p → ⊥
   none_opens k p e = not_opens (is_escape g u) (any_begins g.line_comment u) k p (sym calm_choice ∙ e)
 
   pub none_passed : (p : Pair) → choice g None o u ≡ passes_over p → ⊥

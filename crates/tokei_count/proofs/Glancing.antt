@@ -14,7 +14,7 @@ use Rattle.tokei_parts.specs.Glance.{holds}
 use Rattle.tokei_parts.specs.Items.{Block}
 use Rattle.tokei_parts.specs.Lines.{first_line, line_len}
 use Rattle.tokei_parts.specs.Progress.{Leads, OpensInLine, newlines}
-use Rattle.tokei_parts.specs.declared.items.Kind.TheVariants.{DocString, VerbatimString, OrdinaryString, MultiLineComment}
+use Rattle.tokei_parts.specs.declared.items.ItemKind.TheVariants.{DocString, VerbatimString, OrdinaryString, MultiLineComment}
 use Rattle.tokei_parts.proofs.Fits.{FitsIn, choice_fits}
 use Rattle.tokei_parts.proofs.Leading.{lead_none, lead_on, lead_byte, lead_escape, lead_rest, line_len-drop}
 use Rattle.tokei_parts.proofs.OpenersInLines.{one-line, none_here, none_later, none_front, none_back}

@@ -11,12 +11,12 @@ use Rattle.tokei_parts.specs.Lines.{first_line}
 use Rattle.tokei_parts.specs.Modes.{Chain, innermost}
 use Rattle.tokei_count.specs.OpeningItems.{openings_in, openings_by}
 use Rattle.tokei_parts.specs.Progress.{body as body_of}
-use Rattle.tokei_parts.specs.declared.items.Kind.{Kind}
-use Rattle.tokei_parts.specs.declared.items.Kind.TheVariants.{DocString, VerbatimString, OrdinaryString, MultiLineComment}
+use Rattle.tokei_parts.specs.declared.items.ItemKind.{ItemKind}
+use Rattle.tokei_parts.specs.declared.items.ItemKind.TheVariants.{DocString, VerbatimString, OrdinaryString, MultiLineComment}
 use Rattle.tokei_table.specs.Row.{Row, Pair}
 
 -- an item with a body is one opening beside those of its body
-openings_by-enclosing_item : (k : Kind) (p : Pair) (is : Items) (closed : Bool) → openings_by (enclosing_item k p is closed) ≡ 1 + openings_in is
+openings_by-enclosing_item : (k : ItemKind) (p : Pair) (is : Items) (closed : Bool) → openings_by (enclosing_item k p is closed) ≡ 1 + openings_in is
 unfolding openings_in
 openings_by-enclosing_item DocString p is closed = refl
 openings_by-enclosing_item VerbatimString p is closed = refl
@@ -90,7 +90,7 @@ module _ (g : Row) (block : ℕ → List ℕ → Option Block) where
         openings_ahead-item l c (b ∷ t) (line_comment line) (length line)
         (by_choice begins_line_comment e ∙ ap (before (line_comment line) (length line)) (derive_less_by g block b t (length line) l (innermost c) h))
 
-    opened_by_end : (k : Kind) (p : Pair) → 0 < length p.opener → (is : Items) (n : ℕ) (closed : Bool)
+    opened_by_end : (k : ItemKind) (p : Pair) → 0 < length p.opener → (is : Items) (n : ℕ) (closed : Bool)
         → derive g block (drop (length p.opener) (b ∷ t)) 0 l (Some (enclosure k p)) ≡ record { items = is; taken = n; closed = closed }
         → body l c (b ∷ t) ≡ before (enclosing_item k p is closed) (length p.opener + n) (behind closed (derive g block t (length p.opener - 1 + n) l (innermost c)))
         → openings_ahead l c (b ∷ t) ≡ 1 + openings_ahead l (enclosure k p ∷ c) (drop (length p.opener) (b ∷ t))
@@ -128,7 +128,7 @@ module _ (g : Row) (block : ℕ → List ℕ → Option Block) where
             e in
             omega (arith, here, inner, nothing_beyond l c (drop (length p.opener + n + 0) (b ∷ t)), openings_by-enclosing_item k p is false)
 
-    pub openings_ahead-opener : (k : Kind) (p : Pair) → 0 < length p.opener → chosen (opens k p)
+    pub openings_ahead-opener : (k : ItemKind) (p : Pair) → 0 < length p.opener → chosen (opens k p)
         → openings_ahead l c (b ∷ t)
         ≡ 1 + openings_ahead l (enclosure k p ∷ c) (drop (length p.opener) (b ∷ t))
     openings_ahead-opener k p h e =

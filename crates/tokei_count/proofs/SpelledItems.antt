@@ -10,8 +10,8 @@ use Rattle.tokei_parts.specs.Choice.{Choice, choice}
 use Rattle.tokei_parts.specs.Choice.Choice.{closes, escapes, child_opens, opens, passes_over, begins_line_comment, takes_byte}
 use Rattle.tokei_parts.specs.Derivation.{Body, ended, before, behind, closer_of, second, follow, derive, items_of}
 use Rattle.tokei_count.specs.Spelling.{spelled, spelled_by, TakesBytes}
-use Rattle.tokei_parts.specs.declared.items.Kind.{Kind}
-use Rattle.tokei_parts.specs.declared.items.Kind.TheVariants.{DocString, VerbatimString, OrdinaryString, MultiLineComment}
+use Rattle.tokei_parts.specs.declared.items.ItemKind.{ItemKind}
+use Rattle.tokei_parts.specs.declared.items.ItemKind.TheVariants.{DocString, VerbatimString, OrdinaryString, MultiLineComment}
 use Rattle.tokei_parts.proofs.Fits.{IsLocal, FitsIn, IsClosed, choice_fits}
 use Rattle.tokei_parts.proofs.Lines.{take-first, first_some}
 
@@ -37,7 +37,7 @@ spells_item closer i n b t o some h k =
     ∙ ap (λ w. spelled_by i ++ w) left
     ∙ h
 
-spelled_by-enclosing_item : (k : Kind) (p : Pair) (is : Items) (closed : Bool) → spelled_by (enclosing_item k p is closed) ≡ p.opener ++ (spelled is ++ cond closed p.closer [])
+spelled_by-enclosing_item : (k : ItemKind) (p : Pair) (is : Items) (closed : Bool) → spelled_by (enclosing_item k p is closed) ≡ p.opener ++ (spelled is ++ cond closed p.closer [])
 unfolding spelled
 spelled_by-enclosing_item DocString p is closed = refl
 spelled_by-enclosing_item VerbatimString p is closed = refl
@@ -45,7 +45,7 @@ spelled_by-enclosing_item OrdinaryString p is closed = refl
 spelled_by-enclosing_item MultiLineComment p is closed = refl
 
 -- an opener, the body that it opens, and where that is closed what is left behind it
-module _ (closer : List ℕ) (k : Kind) (p : Pair) (b : ℕ) (t : List ℕ) where
+module _ (closer : List ℕ) (k : ItemKind) (p : Pair) (b : ℕ) (t : List ℕ) where
   spells_closed : (is : Items) (n : ℕ) (o : Body) → IsLocal p.opener (b ∷ t) → Spells p.closer (drop (length p.opener - 1) t) (record { items = is; taken = n; closed = true })
       → Spells closer (drop (length p.opener - 1 + n) t) o → Spells closer (b ∷ t) (before (enclosing_item k p is true) (length p.opener + n) o)
   spells_closed is n o h inner rest =

@@ -32,10 +32,14 @@ abbrev pub is_in_order : Tree → Bool
 is_in_order [] = true
 is_in_order (e ∷ t) = is_first e.names t && is_in_order t
 
+-- the byte of a dot
+abbrev pub dot : ℕ
+dot = 46
+
 -- an empty piece of a place, and `.`, is no name
 abbrev pub is_name : List ℕ → Bool
 is_name [] = false
-is_name (c ∷ []) = not (c == 46)
+is_name (c ∷ []) = not (c == dot)
 is_name (c ∷ d ∷ cs) = true
 
 -- the character is a slash

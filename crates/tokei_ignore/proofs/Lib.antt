@@ -1,3 +1,4 @@
+pub mod BadLines
 pub mod Chains
 pub mod Characters
 pub mod Covers

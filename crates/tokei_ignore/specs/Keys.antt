@@ -8,6 +8,7 @@ use Rattle.tokei_ignore.specs.declared.pieces.Segment.{Segment}
 use Rattle.tokei_ignore.specs.declared.pieces.Segment.TheVariants.{AnyNames, Name}
 use Rattle.tokei_ignore.specs.declared.patterns.Pattern.{Pattern}
 use Rattle.tokei_ignore.specs.IgnoreFiles.{or_else}
+use Rattle.tokei_folders.specs.Tree.{dot}
 
 -- what a list makes of a key, item after item
 abbrev pub folded : {X : Type 0} → (Option ℕ → X → Option ℕ) → Option ℕ → List X → Option ℕ
@@ -20,7 +21,7 @@ mixed number b = (number * 1000003 % 2 ^ 64 + b) % 2 ^ 64
 
 -- a key with one more byte; where dots count, one begins the key
 abbrev pub onto_byte : Bool → Option ℕ → ℕ → Option ℕ
-onto_byte dots key b = if dots && (b == 46) then Some 1 else option_map (λ k. mixed k b) key
+onto_byte dots key b = if dots && (b == dot) then Some 1 else option_map (λ k. mixed k b) key
 
 -- a key with more bytes
 abbrev pub onto_bytes : Bool → Option ℕ → List ℕ → Option ℕ

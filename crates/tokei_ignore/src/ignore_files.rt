@@ -87,15 +87,22 @@ fn push_line(alloc: Global, line: &[u8], patterns: &mut Items<Pattern>) -> Resul
     }
 }
 
+/// That the bad lines of bytes can be counted: there is one for each newline at most, and one more.
+fn bad_lines_fit(bytes: &[u8])
+    ensures { bad_lines_of bytes.now ≤ usize.MAX }
+{
+    prove!(bytes.len() < usize::MAX);
+}
+
 impl IgnoreFile {
     /// Reads the bytes of an ignore file: a mark EF BB BF at their front is dropped, and each line
     /// is read as a pattern. A line that isn't UTF-8 is bad.
     #[tactic(auto, unfolding(crate::specs::IgnoreFiles::patterns_of, crate::specs::IgnoreFiles::bad_lines_of))]
     pub fn parse(alloc: Global, bytes: &[u8]) -> Result<IgnoreFile, AllocError>
         ensures patterns { IfOk result (λ f. f.patterns ≡ patterns_of bytes.now) }
-        ensures bad_lines { IfOk result (λ f. bad_lines_of bytes.now ≤ usize.MAX
-            → f.bad_lines ≡ bad_lines_of bytes.now) }
+        ensures bad_lines { IfOk result (λ f. f.bad_lines ≡ bad_lines_of bytes.now) }
     {
+        bad_lines_fit(bytes);
         let mut patterns = Items::new(alloc);
         let mut bad_lines = 0usize;
         let mut left = without_mark(bytes);

@@ -10,12 +10,12 @@ use Rattle.tokei_parts.specs.Lines.{first_line}
 use Rattle.tokei_parts.specs.Modes.{Mark, Chain, innermost, marks, marks_of, of_choice, closing}
 use Rattle.tokei_parts.specs.Modes.Mark.{byte_at, child_at}
 use Rattle.tokei_parts.specs.Progress.{body as body_of, marks_ahead as marks_ahead_of}
-use Rattle.tokei_parts.specs.declared.items.Kind.{Kind}
-use Rattle.tokei_parts.specs.declared.items.Kind.TheVariants.{DocString, VerbatimString, OrdinaryString, MultiLineComment}
+use Rattle.tokei_parts.specs.declared.items.ItemKind.{ItemKind}
+use Rattle.tokei_parts.specs.declared.items.ItemKind.TheVariants.{DocString, VerbatimString, OrdinaryString, MultiLineComment}
 use Rattle.tokei_table.specs.Row.{Row, Pair}
 
 -- an item with a body has the marks of its opener, its body and, where that is closed, its closer
-pub marks-enclosing_item : (c : Chain) (k : Kind) (p : Pair) (is : Items) (closed : Bool)
+pub marks-enclosing_item : (c : Chain) (k : ItemKind) (p : Pair) (is : Items) (closed : Bool)
     → marks_of c (enclosing_item k p is closed)
     ≡ of_choice (enclosure k p ∷ c) p.opener
     ++ (marks (enclosure k p ∷ c) is
@@ -125,7 +125,7 @@ module _ (g : Row) (block : ℕ → List ℕ → Option Block) where
             ∙ (ap (before (line_comment (first_line (b ∷ t))) (length (first_line (b ∷ t))))
             (derive_less_by b t (length (first_line (b ∷ t))) l (innermost c) h))
 
-    opened_by_end : (k : Kind) (p : Pair) → 0 < length p.opener → (is : Items) (n : ℕ) (closed : Bool)
+    opened_by_end : (k : ItemKind) (p : Pair) → 0 < length p.opener → (is : Items) (n : ℕ) (closed : Bool)
         → derive g block (drop (length p.opener) (b ∷ t)) 0 l (Some (enclosure k p)) ≡ record { items = is; taken = n; closed = closed }
         → body l c (b ∷ t) ≡ before (enclosing_item k p is closed) (length p.opener + n) (behind closed (derive g block t (length p.opener - 1 + n) l (innermost c)))
         → marks_ahead l c (b ∷ t) ≡ of_choice (enclosure k p ∷ c) p.opener ++ marks_ahead l (enclosure k p ∷ c) (drop (length p.opener) (b ∷ t))
@@ -149,7 +149,7 @@ module _ (g : Row) (block : ℕ → List ℕ → Option Block) where
         ∙ ap (λ (w : Body). of_choice hs p.opener ++ (marks hs w.items ++ cond w.closed (closing hs c p.closer ++ marks_ahead l c (drop w.taken (drop (length p.opener) (b ∷ t)))) [])) (sym d)
 
     -- behind an opener the item that it opens holds the place
-    pub marks_ahead-opener : (k : Kind) (p : Pair) → 0 < length p.opener → chosen (opens k p)
+    pub marks_ahead-opener : (k : ItemKind) (p : Pair) → 0 < length p.opener → chosen (opens k p)
         → marks_ahead l c (b ∷ t)
         ≡ of_choice (enclosure k p ∷ c) p.opener
         ++ marks_ahead l (enclosure k p ∷ c) (drop (length p.opener) (b ∷ t))

@@ -6,8 +6,8 @@ use Rattle.tokei_table.specs.Row.{Pair, Row}
 use Rattle.tokei_parts.specs.Items.{Block, Enclosure}
 use Rattle.tokei_parts.specs.Choice.{Choice, choice, opened, or_else, is_escape, has_pair, met_in_comment, choice_in_string, choice_in_comment, choice_within}
 use Rattle.tokei_parts.specs.Choice.Choice.{closes, escapes, child_opens, opens, passes_over, begins_line_comment, takes_byte}
-use Rattle.tokei_parts.specs.declared.items.Kind.{Kind}
-use Rattle.tokei_parts.specs.declared.items.Kind.TheVariants.{DocString, VerbatimString, OrdinaryString, MultiLineComment}
+use Rattle.tokei_parts.specs.declared.items.ItemKind.{ItemKind}
+use Rattle.tokei_parts.specs.declared.items.ItemKind.TheVariants.{DocString, VerbatimString, OrdinaryString, MultiLineComment}
 
 -- the choice can be made in an item
 abbrev IsWithin : Choice → Type 0
@@ -37,7 +37,7 @@ comment_within g closer u =
     (else_within (opened g.multi_line_comments u) (met_in_comment g) _ (λ p. cond_within (g.nested || has_pair g.nested_comments p) (opens MultiLineComment p) (passes_over p) tt tt)
     (else_within (opened g.nested_comments u) (opens MultiLineComment) takes_byte (λ p. tt) tt)))
 
-by_kind : (g : Row) (q : Kind) (closer u : List ℕ) → IsWithin (choice_within g q closer u)
+by_kind : (g : Row) (q : ItemKind) (closer u : List ℕ) → IsWithin (choice_within g q closer u)
 by_kind g DocString closer u = string_within g false closer u
 by_kind g VerbatimString closer u = string_within g true closer u
 by_kind g OrdinaryString closer u = string_within g false closer u

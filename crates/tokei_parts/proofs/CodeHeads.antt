@@ -16,8 +16,8 @@ use Rattle.tokei_parts.specs.Derivation.{closer_of}
 use Rattle.tokei_parts.specs.Items.{Mode}
 use Rattle.tokei_parts.specs.Matchers.{Matchers, matchers_of, begins_opener, begins_choice}
 use Rattle.tokei_parts.specs.declared.class.Class.TheVariants.{Blank, Code, Comment}
-use Rattle.tokei_parts.specs.declared.items.Kind.{Kind}
-use Rattle.tokei_parts.specs.declared.items.Kind.TheVariants.{DocString, VerbatimString, OrdinaryString, MultiLineComment}
+use Rattle.tokei_parts.specs.declared.items.ItemKind.{ItemKind}
+use Rattle.tokei_parts.specs.declared.items.ItemKind.TheVariants.{DocString, VerbatimString, OrdinaryString, MultiLineComment}
 use Rattle.tokei_parts.proofs.Fits.{and_left, and_right}
 use Rattle.tokei_parts.proofs.PlainBytes.{flag_at, not_begun, token_some, none_begins, or_left, or_right}
 
@@ -237,7 +237,7 @@ not_doc : (ended : Mode) → in_string ended ≡ false → in_doc_string ended �
 not_doc None h = refl
 not_doc (Some e) h = by_kind e.kind h
   where
-    by_kind : (k : Kind) → not (is_comment k) ≡ false → is_doc_string k ≡ false
+    by_kind : (k : ItemKind) → not (is_comment k) ≡ false → is_doc_string k ≡ false
     by_kind DocString h = cc
     by_kind VerbatimString h = cc
     by_kind OrdinaryString h = cc

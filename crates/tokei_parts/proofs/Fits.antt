@@ -10,8 +10,8 @@ use Rattle.tokei_parts.specs.Choice.Choice.{closes, escapes, child_opens, opens,
 use Rattle.tokei_parts.specs.Derivation.{closer_of}
 use Rattle.tokei_parts.specs.Items.{Block, Enclosure, Mode}
 use Rattle.tokei_parts.specs.Lines.{line_len}
-use Rattle.tokei_parts.specs.declared.items.Kind.{Kind}
-use Rattle.tokei_parts.specs.declared.items.Kind.TheVariants.{DocString, VerbatimString, OrdinaryString, MultiLineComment}
+use Rattle.tokei_parts.specs.declared.items.ItemKind.{ItemKind}
+use Rattle.tokei_parts.specs.declared.items.ItemKind.TheVariants.{DocString, VerbatimString, OrdinaryString, MultiLineComment}
 use Rattle.tokei_table.specs.Bytes.{begins, all_blank}
 use Rattle.tokei_table.specs.Row.{Row, Pair}
 use Rattle.tokei_table.specs.Sound.{no_newline, is_token, is_pair, IsSound}
@@ -162,7 +162,7 @@ unfolding choice
 choice_fits g o None u s t = plain_fits g o u s
 choice_fits g o (Some h) u s t = by_kind h.kind refl
   where
-    by_kind : (k : Kind) → h.kind ≡ k → FitsIn o (Some h) u (choice_within g k h.closer u)
+    by_kind : (k : ItemKind) → h.kind ≡ k → FitsIn o (Some h) u (choice_within g k h.closer u)
     by_kind DocString e = string_fits g o h false u s t
     by_kind VerbatimString e = string_fits g o h true u s t
     by_kind OrdinaryString e = string_fits g o h false u s t

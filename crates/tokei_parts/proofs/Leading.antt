@@ -17,7 +17,7 @@ use Rattle.tokei_parts.specs.Parts.{cut}
 use Rattle.tokei_parts.specs.Tally.{children}
 use Rattle.tokei_parts.specs.Progress.{marks_ahead, Leads, OpensInLine, newlines}
 use Rattle.tokei_parts.specs.Running.{running}
-use Rattle.tokei_parts.specs.declared.items.Kind.{Kind}
+use Rattle.tokei_parts.specs.declared.items.ItemKind.{ItemKind}
 use Rattle.tokei_table.specs.Row.{Row, Pair}
 use Rattle.tokei_table.specs.Sound.{no_newline, IsSound}
 
@@ -192,7 +192,7 @@ module _ (g : Row) (block : ℕ → List ℕ → Option Block) (l : ℕ) where
           ∙ ap (λ w. running m (s ++ w) (a + 1) (drop (length p) (b ∷ t)) (marks_ahead g block l d (drop (length p) (b ∷ t)))) h.reads;
     }
 
-    pub lead_opener : (k : Kind) (p : Pair) → IsLocal p.opener (b ∷ t) → Here (opens k p) → Goes c (length p.opener) 1 (enclosure k p ∷ c) (b ∷ t)
+    pub lead_opener : (k : ItemKind) (p : Pair) → IsLocal p.opener (b ∷ t) → Here (opens k p) → Goes c (length p.opener) 1 (enclosure k p ∷ c) (b ∷ t)
     lead_opener k p h e = lead_local (enclosure k p ∷ c) p.opener (of_choice (enclosure k p ∷ c) p.opener) h (children-of_choice (enclosure k p ∷ c) p.opener)
         (λ m s w. cut_choice m s (innermost c) (enclosure k p ∷ c) p.opener w h.some h.one_line)
         (λ m s a w. running_choice m s a (b ∷ t) (enclosure k p ∷ c) p.opener w h.some h.one_line)

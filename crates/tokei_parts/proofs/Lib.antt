@@ -21,5 +21,6 @@ pub mod Pieces
 pub mod PlainBytes
 pub mod Stack
 pub mod Stepping
+pub mod TokenEnds
 pub mod Utf8
 pub mod Walking

@@ -16,8 +16,8 @@ use Rattle.tokei_parts.specs.PlainBytes.{BeginsNone, BeginsNoneWithin, IsOutside
 use Rattle.tokei_parts.specs.SeenChoices.{choice_of}
 use Rattle.tokei_parts.specs.declared.choice.Choice as CodeChoice
 use Rattle.tokei_parts.specs.declared.choice.Choice.TheVariants.{Closes, Escapes, ChildOpens, Opens, PassesOver, BeginsLineComment, TakesByte}
-use Rattle.tokei_parts.specs.declared.items.Kind.{Kind}
-use Rattle.tokei_parts.specs.declared.items.Kind.TheVariants.{DocString, VerbatimString, OrdinaryString, MultiLineComment}
+use Rattle.tokei_parts.specs.declared.items.ItemKind.{ItemKind}
+use Rattle.tokei_parts.specs.declared.items.ItemKind.TheVariants.{DocString, VerbatimString, OrdinaryString, MultiLineComment}
 use Rattle.tokei_parts.proofs.Fits.{and_left, and_right}
 
 -- the flag of a byte below n
@@ -185,7 +185,7 @@ pub byte_within : (r : Row) (s : IsSound r) (i : Enclosure) (o : Option Block) (
 unfolding choice
 byte_within r s i o b u m is known h none = ap (choice r (Some i) o) is ∙ by_kind i.kind i.closer h (ap (begins i.closer) (sym is) ∙ none)
   where
-    by_kind : (k : Kind) (closer : List ℕ) → BeginsNoneWithin m k b → begins closer (b ∷ drop 1 u) ≡ false → choice_within r k closer (b ∷ drop 1 u) ≡ takes_byte
+    by_kind : (k : ItemKind) (closer : List ℕ) → BeginsNoneWithin m k b → begins closer (b ∷ drop 1 u) ≡ false → choice_within r k closer (b ∷ drop 1 u) ≡ takes_byte
     by_kind DocString closer h e = in_string r b (drop 1 u) h false closer e
     by_kind VerbatimString closer h e = in_string r b (drop 1 u) h true closer e
     by_kind OrdinaryString closer h e = in_string r b (drop 1 u) h false closer e

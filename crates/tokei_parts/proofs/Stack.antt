@@ -12,7 +12,7 @@ use Rattle.tokei_parts.specs.Modes.{Chain, innermost}
 use Rattle.tokei_parts.specs.Progress.{Goes, OpensChild, OpensInLine, IsClosable}
 use Rattle.tokei_parts.specs.SeenChoices.{enclosure_of}
 use Rattle.tokei_parts.specs.Seen.{chain_of}
-use Rattle.tokei_parts.specs.declared.items.Kind.{Kind}
+use Rattle.tokei_parts.specs.declared.items.ItemKind.{ItemKind}
 use Rattle.tokei_table.specs.Row.{Row, Pair}
 use Rattle.tokei_table.specs.Sound.{IsSound}
 
@@ -32,7 +32,7 @@ module _ (g : Row) (block : ℕ → List ℕ → Option Block) (l : ℕ) (s : Is
       (goes_closer g block l s o (enclosure_of x) (chain_of new) u (subst IsClosable chain_is k) some (subst (λ (c : Chain). choice g (innermost c) (block l u) u ≡ closes) chain_is e))
 
   -- what a push leaves
-  pub opener_pushes : (xs new : List Code.Enclosure) (x : Code.Enclosure) (q : Kind) (p : Pair)
+  pub opener_pushes : (xs new : List Code.Enclosure) (x : Code.Enclosure) (q : ItemKind) (p : Pair)
       (u : List ℕ)
       → new ≡ xs ++ x ∷ [] → enclosure_of x ≡ enclosure q p → IsClosable (chain_of xs)
       → 0 < line_len u

@@ -8,7 +8,7 @@ use Rattle.tokei_parts.specs.Items.{Block, Enclosure, enclosure}
 use Rattle.tokei_parts.specs.Lines.{line_len}
 use Rattle.tokei_parts.specs.Modes.{Chain, innermost}
 use Rattle.tokei_parts.specs.Progress.{Leads, Goes, OpensInLine, IsClosable, newlines}
-use Rattle.tokei_parts.specs.declared.items.Kind.{Kind}
+use Rattle.tokei_parts.specs.declared.items.ItemKind.{ItemKind}
 use Rattle.tokei_table.specs.Row.{Row, Pair}
 use Rattle.tokei_table.specs.Sound.{is_token, IsSound}
 
@@ -46,7 +46,7 @@ module _ (g : Row) (block : ℕ → List ℕ → Option Block) (l : ℕ) (s : Is
         by_text [] h e = absurd (omega (arith, h.some, h.fits))
         by_text (b ∷ t) h e = lead_pass g block l c b t p h e
 
-    pub goes_opener : (q : Kind) (p : Pair) → chosen c u ≡ opens q p → Goes g block l c (length p.opener) 1 (enclosure q p ∷ c) u
+    pub goes_opener : (q : ItemKind) (p : Pair) → chosen c u ≡ opens q p → Goes g block l c (length p.opener) 1 (enclosure q p ∷ c) u
     goes_opener q p e = let h : IsLocal p.opener u × (is_token p.closer ≡ true) = fits (opens q p) e in record { leads = by_text u h.0 e; some = h.0.some; within = h.0.fits; closable = (h.1, k) }
       where
         by_text : (u : List ℕ) → IsLocal p.opener u → chosen c u ≡ opens q p → Leads g block l c (length p.opener) 1 (enclosure q p ∷ c) u

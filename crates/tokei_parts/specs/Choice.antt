@@ -6,16 +6,16 @@ use Rattle.std.specs.Str.{bytes_eq}
 use Rattle.tokei_table_row.specs.Bytes.{backslash, begins}
 use Rattle.tokei_table_row.specs.Row.{Pair, Row}
 use Rattle.tokei_parts.specs.Items.{Block, Mode}
-use Rattle.tokei_parts.specs.declared.items.Kind.{Kind}
-use Rattle.tokei_parts.specs.declared.items.Kind.TheVariants.{DocString, VerbatimString, OrdinaryString}
-use Rattle.tokei_parts.specs.declared.items.Kind.TheVariants.{MultiLineComment}
+use Rattle.tokei_parts.specs.declared.items.ItemKind.{ItemKind}
+use Rattle.tokei_parts.specs.declared.items.ItemKind.TheVariants.{DocString, VerbatimString, OrdinaryString}
+use Rattle.tokei_parts.specs.declared.items.ItemKind.TheVariants.{MultiLineComment}
 
 -- what is read at a place; where nothing else fits, the byte that stands there
 pub data Choice : Type 0 where
   closes : Choice
   escapes : Choice
   child_opens : Block → Choice
-  opens : Kind → Pair → Choice
+  opens : ItemKind → Pair → Choice
   passes_over : Pair → Choice
   begins_line_comment : Choice
   takes_byte : Choice
@@ -87,7 +87,7 @@ choice_in_plain r block t =
     if is_escape r t then escapes else or_else block child_opens (opening_in_plain r t)
 
 -- by the kind of the item that encloses the place
-abbrev pub choice_within : Row → Kind → List ℕ → List ℕ → Choice
+abbrev pub choice_within : Row → ItemKind → List ℕ → List ℕ → Choice
 choice_within r DocString closer t = choice_in_string r false closer t
 choice_within r VerbatimString closer t = choice_in_string r true closer t
 choice_within r OrdinaryString closer t = choice_in_string r false closer t

@@ -10,19 +10,19 @@ use Rattle.tokei_parts.specs.Derivation.{closer_of}
 use Rattle.tokei_parts.specs.Parts.{Part}
 use Rattle.tokei_parts.specs.declared.class.Class.{Class}
 use Rattle.tokei_parts.specs.declared.class.Class.TheVariants.{Blank, Code, Comment}
-use Rattle.tokei_parts.specs.declared.items.Kind.{Kind}
-use Rattle.tokei_parts.specs.declared.items.Kind.TheVariants.{DocString, VerbatimString, OrdinaryString}
-use Rattle.tokei_parts.specs.declared.items.Kind.TheVariants.{MultiLineComment}
+use Rattle.tokei_parts.specs.declared.items.ItemKind.{ItemKind}
+use Rattle.tokei_parts.specs.declared.items.ItemKind.TheVariants.{DocString, VerbatimString, OrdinaryString}
+use Rattle.tokei_parts.specs.declared.items.ItemKind.TheVariants.{MultiLineComment}
 
 -- the kind is that of comments that may span lines
-abbrev pub is_comment : Kind → Bool
+abbrev pub is_comment : ItemKind → Bool
 is_comment DocString = false
 is_comment VerbatimString = false
 is_comment OrdinaryString = false
 is_comment MultiLineComment = true
 
 -- the kind is that of doc strings
-abbrev pub is_doc_string : Kind → Bool
+abbrev pub is_doc_string : ItemKind → Bool
 is_doc_string DocString = true
 is_doc_string VerbatimString = false
 is_doc_string OrdinaryString = false

@@ -2,9 +2,9 @@
 use Rattle.std.specs.Prelude.{ℕ, Bool, List, Option, option_map}
 use Rattle.tokei_table_row.specs.Row.{Pair}
 use Rattle.tokei_table_row.specs.Counts.{Counts}
-use Rattle.tokei_parts.specs.declared.items.Kind.{Kind}
-use Rattle.tokei_parts.specs.declared.items.Kind.TheVariants.{DocString, VerbatimString, OrdinaryString}
-use Rattle.tokei_parts.specs.declared.items.Kind.TheVariants.{MultiLineComment}
+use Rattle.tokei_parts.specs.declared.items.ItemKind.{ItemKind}
+use Rattle.tokei_parts.specs.declared.items.ItemKind.TheVariants.{DocString, VerbatimString, OrdinaryString}
+use Rattle.tokei_parts.specs.declared.items.ItemKind.TheVariants.{MultiLineComment}
 
 -- what opens as a child: its language, its text, how many bytes of the parent it takes, and what it
 -- adds to the parent's counts
@@ -22,7 +22,7 @@ mutual
     one : ℕ → Item
     escaped : ℕ → ℕ → Item
     passed_over : Pair → Item
-    string_literal : Kind → Pair → Items → Bool → Item
+    string_literal : ItemKind → Pair → Items → Bool → Item
     comment : Pair → Items → Bool → Item
     line_comment : List ℕ → Item
     child : Block → List ℕ → Item
@@ -33,7 +33,7 @@ mutual
     more : Item → Items → Items
 
 -- an item with a body, by its kind
-abbrev pub enclosing_item : Kind → Pair → Items → Bool → Item
+abbrev pub enclosing_item : ItemKind → Pair → Items → Bool → Item
 enclosing_item DocString p is closed = string_literal DocString p is closed
 enclosing_item VerbatimString p is closed = string_literal VerbatimString p is closed
 enclosing_item OrdinaryString p is closed = string_literal OrdinaryString p is closed
@@ -41,11 +41,11 @@ enclosing_item MultiLineComment p is closed = comment p is closed
 
 -- an item that encloses a place: what it is, and its closer
 pub record Enclosure : Type 0 where
-  pub kind : Kind
+  pub kind : ItemKind
   pub closer : List ℕ
 
 -- the item that the pair opens
-abbrev pub enclosure : Kind → Pair → Enclosure
+abbrev pub enclosure : ItemKind → Pair → Enclosure
 enclosure k p = record { kind = k; closer = p.closer }
 
 -- where a place stands: in the innermost item that encloses it, or plain
@@ -53,5 +53,5 @@ abbrev pub Mode : Type 0
 Mode = Option Enclosure
 
 -- the kind of the item, in plain text none
-abbrev pub kind_in : Mode → Option Kind
+abbrev pub kind_in : Mode → Option ItemKind
 kind_in m = option_map (λ e. e.kind) m

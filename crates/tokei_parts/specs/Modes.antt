@@ -4,7 +4,7 @@ use Rattle.std.specs.Prelude.{ℕ, Bool, true, false, if◌then◌else◌, List,
 use Rattle.tokei_parts.specs.Items.{Block, Item, Items, Enclosure, Mode, enclosure}
 use Rattle.tokei_parts.specs.Items.Item.{one, escaped, passed_over, string_literal, comment, line_comment, child}
 use Rattle.tokei_parts.specs.Items.Items.{none, more}
-use Rattle.tokei_parts.specs.declared.items.Kind.TheVariants.{MultiLineComment}
+use Rattle.tokei_parts.specs.declared.items.ItemKind.TheVariants.{MultiLineComment}
 
 -- the items that enclose a place, the innermost first; none of them is plain text
 abbrev pub Chain : Type 0

@@ -5,9 +5,9 @@ use Rattle.tokei_table.specs.Bytes.{backslash}
 use Rattle.tokei_table.specs.FirstOpener.{is_first_of}
 use Rattle.tokei_parts.specs.Items.{Mode}
 use Rattle.tokei_parts.specs.Matchers.{Matchers}
-use Rattle.tokei_parts.specs.declared.items.Kind.{Kind}
-use Rattle.tokei_parts.specs.declared.items.Kind.TheVariants.{DocString, VerbatimString, OrdinaryString}
-use Rattle.tokei_parts.specs.declared.items.Kind.TheVariants.{MultiLineComment}
+use Rattle.tokei_parts.specs.declared.items.ItemKind.{ItemKind}
+use Rattle.tokei_parts.specs.declared.items.ItemKind.TheVariants.{DocString, VerbatimString, OrdinaryString}
+use Rattle.tokei_parts.specs.declared.items.ItemKind.TheVariants.{MultiLineComment}
 
 -- a byte that isn't in the set of those whose flags are set
 pub record IsOutside (flags : List Bool) (b : ℕ) : Type 0 where
@@ -19,7 +19,7 @@ abbrev pub BeginsNone : Matchers → ℕ → Type 0
 BeginsNone m b = IsOutside m.begins b
 
 -- in a string nothing but an escape begins, by its backslash, and the closer
-abbrev pub BeginsNoneWithin : Matchers → Kind → ℕ → Type 0
+abbrev pub BeginsNoneWithin : Matchers → ItemKind → ℕ → Type 0
 BeginsNoneWithin m DocString b = (b == backslash) ≡ false
 BeginsNoneWithin m VerbatimString b = (b == backslash) ≡ false
 BeginsNoneWithin m OrdinaryString b = (b == backslash) ≡ false

@@ -1,5 +1,5 @@
 //! The choice at one place.
-ghost use Rattle.std.specs.Prelude.{◌≡◌, ◌≢◌, true, Option, option_map, is_some};
+ghost use Rattle.std.specs.Prelude.{◌≡◌, ◌≢◌, true, false, Option, option_map, is_some};
 ghost use Rattle.std.specs.Option.{option_copied};
 ghost use Rattle.tokei_table_row.specs.Bytes.{begins};
 ghost use Rattle.tokei_table_row.specs.RowOf.{pair_of, pairs_of, tokens_of, row_of};
@@ -9,7 +9,7 @@ ghost use Rattle.tokei_parts.specs.Choice.{choice_in_string, choice_in_comment, 
 ghost use Rattle.tokei_parts.specs.Choice.{comment_in_plain, opening_in_plain};
 ghost use Rattle.tokei_parts.specs.SeenChoices.{choice_of, mode_of};
 
-use crate::items::{Enclosure, Kind};
+use crate::items::{Enclosure, ItemKind};
 use tokei_table_row::Syntax;
 
 /// The choice at a place.
@@ -22,7 +22,7 @@ pub enum Choice<'a> {
     /// The opening of a child.
     ChildOpens,
     /// The opener of a string literal or a comment.
-    Opens(Kind, &'a (String, String)),
+    Opens(ItemKind, &'a (String, String)),
     /// An opener that stands for nothing inside a comment.
     PassesOver(&'a (String, String)),
     /// A line comment, which covers the rest of its line.
@@ -66,12 +66,27 @@ fn opened<'a>(pairs: &'a [(String, String)], text: &[u8]) -> Option<&'a (String,
     None
 }
 
+/// Whether the text has another byte than the token where the token ends, so that the token can't
+/// stand at its front. Of tokens that begin alike, as a mark behind some blanks, it tells most.
+#[inline(always)]
+fn ends_otherwise(token: &[u8], text: &[u8]) -> bool
+    ensures { result ≡ true → begins token.now text.now ≡ false }
+{
+    match token {
+        [front @ .., last] => match text.get(front.len()) {
+            Some(byte) => *byte != *last,
+            None => true,
+        },
+        [] => false,
+    }
+}
+
 /// Whether some token stands at the front of the text.
 pub fn any_begins(tokens: &[String], text: &[u8]) -> bool
     ensures { result ≡ any_begins (tokens_of tokens.now) text.now }
 {
     for token in tokens {
-        if begins(token, text) {
+        if !ends_otherwise(token.as_bytes(), text) && begins(token, text) {
             return true;
         }
     }
@@ -108,7 +123,7 @@ fn met_in_comment<'a>(syntax: &Syntax, pair: &'a (String, String)) -> Choice<'a>
     ensures no_child { result ≢ Choice.ChildOpens }
 {
     if syntax.nested || has_pair(&syntax.nested_comments, pair) {
-        Choice::Opens(Kind::MultiLineComment, pair)
+        Choice::Opens(ItemKind::MultiLineComment, pair)
     } else {
         Choice::PassesOver(pair)
     }
@@ -143,7 +158,7 @@ fn in_comment<'a>(syntax: &'a Syntax, closer: &[u8], text: &[u8]) -> Choice<'a>
     } else if let Some(pair) = opened(&syntax.multi_line_comments, text) {
         met_in_comment(syntax, pair)
     } else if let Some(pair) = opened(&syntax.nested_comments, text) {
-        Choice::Opens(Kind::MultiLineComment, pair)
+        Choice::Opens(ItemKind::MultiLineComment, pair)
     } else {
         Choice::TakesByte
     }
@@ -157,9 +172,9 @@ fn comment_in_plain<'a>(syntax: &'a Syntax, text: &[u8]) -> Choice<'a>
     ensures no_child { result ≢ Choice.ChildOpens }
 {
     if let Some(pair) = opened(&syntax.multi_line_comments, text) {
-        Choice::Opens(Kind::MultiLineComment, pair)
+        Choice::Opens(ItemKind::MultiLineComment, pair)
     } else if let Some(pair) = opened(&syntax.nested_comments, text) {
-        Choice::Opens(Kind::MultiLineComment, pair)
+        Choice::Opens(ItemKind::MultiLineComment, pair)
     } else if any_begins(&syntax.line_comment, text) {
         Choice::BeginsLineComment
     } else {
@@ -175,11 +190,11 @@ fn opening_in_plain<'a>(syntax: &'a Syntax, text: &[u8]) -> Choice<'a>
     ensures no_child { result ≢ Choice.ChildOpens }
 {
     if let Some(pair) = opened(&syntax.doc_quotes, text) {
-        Choice::Opens(Kind::DocString, pair)
+        Choice::Opens(ItemKind::DocString, pair)
     } else if let Some(pair) = opened(&syntax.verbatim_quotes, text) {
-        Choice::Opens(Kind::VerbatimString, pair)
+        Choice::Opens(ItemKind::VerbatimString, pair)
     } else if let Some(pair) = opened(&syntax.quotes, text) {
-        Choice::Opens(Kind::OrdinaryString, pair)
+        Choice::Opens(ItemKind::OrdinaryString, pair)
     } else {
         comment_in_plain(syntax, text)
     }
@@ -217,9 +232,14 @@ pub fn choose<'a>(
     match mode {
         None => in_plain(syntax, opens, text),
         Some(inner) => match inner.kind {
-            Kind::DocString | Kind::OrdinaryString => in_string(syntax, false, inner.closer, text),
-            Kind::VerbatimString => in_string(syntax, true, inner.closer, text),
-            Kind::MultiLineComment => in_comment(syntax, inner.closer, text),
+            ItemKind::DocString | ItemKind::OrdinaryString => in_string(
+                syntax,
+                false,
+                inner.closer,
+                text,
+            ),
+            ItemKind::VerbatimString => in_string(syntax, true, inner.closer, text),
+            ItemKind::MultiLineComment => in_comment(syntax, inner.closer, text),
         },
     }
 }

@@ -11,7 +11,7 @@ ghost use Rattle.tokei_parts.specs.ReadingOf.{row_in};
 ghost use Rattle.tokei_parts.specs.SeenChoices.{mode_of};
 
 use crate::choice::{any_begins, begins};
-use crate::items::{Enclosure, Kind};
+use crate::items::{Enclosure, ItemKind};
 use crate::matchers::LanguageMatchers;
 use crate::reading::Reading;
 use tokei_table::Syntax;
@@ -54,7 +54,7 @@ fn in_comment(mode: Option<Enclosure>) -> bool
     ensures { result ≡ in_comment (mode_of mode.entry) }
 {
     match mode {
-        Some(enclosure) => enclosure.kind == Kind::MultiLineComment,
+        Some(enclosure) => enclosure.kind == ItemKind::MultiLineComment,
         None => false,
     }
 }
@@ -63,7 +63,7 @@ fn in_string(mode: Option<Enclosure>) -> bool
     ensures { result ≡ in_string (mode_of mode.entry) }
 {
     match mode {
-        Some(enclosure) => enclosure.kind != Kind::MultiLineComment,
+        Some(enclosure) => enclosure.kind != ItemKind::MultiLineComment,
         None => false,
     }
 }
@@ -72,7 +72,7 @@ fn in_doc_string(mode: Option<Enclosure>) -> bool
     ensures { result ≡ in_doc_string (mode_of mode.entry) }
 {
     match mode {
-        Some(enclosure) => enclosure.kind == Kind::DocString,
+        Some(enclosure) => enclosure.kind == ItemKind::DocString,
         None => false,
     }
 }
@@ -95,7 +95,7 @@ fn ends_opened(syntax: &Syntax, head: &[u8], ended: Option<Enclosure>) -> bool
 {
     match ended {
         Some(enclosure) => {
-            enclosure.kind == Kind::MultiLineComment
+            enclosure.kind == ItemKind::MultiLineComment
                 && (opens_with(&syntax.multi_line_comments, head, enclosure.closer)
                     || opens_with(&syntax.nested_comments, head, enclosure.closer))
         }
@@ -179,11 +179,11 @@ fn class_by_front(
 }
 
 /// Whether an item of that kind is a comment.
-fn is_comment(kind: Option<Kind>) -> bool
+fn is_comment(kind: Option<ItemKind>) -> bool
     ensures { (m : Mode) → kind_in m ≡ kind → result ≡ in_comment m }
 {
     match kind {
-        Some(kind) => kind == Kind::MultiLineComment,
+        Some(kind) => kind == ItemKind::MultiLineComment,
         None => false,
     }
 }
@@ -194,7 +194,7 @@ fn is_comment(kind: Option<Kind>) -> bool
 #[inline(always)]
 pub fn class_by(
     reading: &Reading,
-    begun: Option<Kind>,
+    begun: Option<ItemKind>,
     start: usize,
     stop: usize,
     ended: Option<Enclosure>,

@@ -5,7 +5,7 @@ ghost use Rattle.tokei_parts.specs.SeenChoices.{mode_of};
 
 /// What an item with a body is.
 #[derive(Clone, Copy, Debug, PartialEq, Eq)]
-pub enum Kind {
+pub enum ItemKind {
     DocString,
     VerbatimString,
     OrdinaryString,
@@ -15,13 +15,13 @@ pub enum Kind {
 /// An item that encloses a place: it began before it, and hasn't ended.
 #[derive(Clone, Copy)]
 pub struct Enclosure<'a> {
-    pub kind: Kind,
+    pub kind: ItemKind,
     pub closer: &'a [u8],
 }
 
 /// The kind of the item, where there is one.
 #[inline(always)]
-pub fn kind_of(mode: Option<Enclosure>) -> Option<Kind>
+pub fn kind_of(mode: Option<Enclosure>) -> Option<ItemKind>
     ensures { result ≡ kind_in (mode_of mode.entry) }
 {
     match mode {

@@ -3,18 +3,18 @@ ghost use Rattle.std.specs.Prelude.{◌≡◌, ℕ, ◌<◌, ◌≤◌, ◌==◌
 ghost use Rattle.tokei_parts.specs.PlainBytes.{BeginsNoneWithin, IsPlainByte};
 ghost use Rattle.tokei_parts.specs.SeenChoices.{mode_of};
 
-use crate::items::{Enclosure, Kind};
+use crate::items::{Enclosure, ItemKind};
 use crate::matchers::LanguageMatchers;
 use tokei_bytes::first_of_four;
 
 /// Whether no escape, opener or line comment can begin at the byte in an item of that kind.
 #[inline(always)]
-pub fn begins_none_within(matchers: &LanguageMatchers, kind: Kind, byte: u8) -> bool
+pub fn begins_none_within(matchers: &LanguageMatchers, kind: ItemKind, byte: u8) -> bool
     ensures { result ≡ true → BeginsNoneWithin matchers.now kind byte }
 {
     match kind {
-        Kind::DocString | Kind::VerbatimString | Kind::OrdinaryString => byte != b'\\',
-        Kind::MultiLineComment => !matchers.begins_in_comment(byte),
+        ItemKind::DocString | ItemKind::VerbatimString | ItemKind::OrdinaryString => byte != b'\\',
+        ItemKind::MultiLineComment => !matchers.begins_in_comment(byte),
     }
 }
 
@@ -70,10 +70,10 @@ pub fn item_end(
     match inner.closer {
         [] => at,
         [first, ..] => match inner.kind {
-            Kind::DocString | Kind::VerbatimString | Kind::OrdinaryString => {
+            ItemKind::DocString | ItemKind::VerbatimString | ItemKind::OrdinaryString => {
                 first_of_four([*first, b'\\', *first, b'\\'], text, at, to)
             }
-            Kind::MultiLineComment => matchers.comment_end(*first, text, at, to),
+            ItemKind::MultiLineComment => matchers.comment_end(*first, text, at, to),
         },
     }
 }

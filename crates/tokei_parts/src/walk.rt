@@ -15,7 +15,7 @@ ghost use Rattle.tokei_parts.specs.Walked.{Moves, Reads};
 
 use crate::choice::{Choice, choose};
 use crate::class::{Class, class_by};
-use crate::items::{Enclosure, Kind, kind_of};
+use crate::items::{Enclosure, ItemKind, kind_of};
 use crate::line_ends::line_stop;
 use crate::openings::{Block, block_at, next_child};
 use crate::place::Place;

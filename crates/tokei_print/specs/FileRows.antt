@@ -7,13 +7,14 @@ use Rattle.tokei_print.specs.declared.layout.Layout.{Layout}
 use Rattle.tokei_print.specs.Rules.{newline}
 use Rattle.tokei_print.specs.Subtotal.{path_places, subtotal}
 use Rattle.tokei_stats.specs.ReportRow.{report_row}
+use Rattle.tokei_stats.specs.Shown.{shown}
 use Rattle.tokei_stats.specs.Statistics.{Blobs, own, blobs, summary}
 use Rattle.tokei_stats.specs.Statistics.Blobs.{none, blob}
 
--- a report's row of its own counts
+-- a report's row of its own counts, under its name as it is shown
 abbrev pub file_row : Layout → ReportValue → List ℕ
 file_row layout report =
-    report_row (path_places layout.columns) report.name (own report.stats) ++ newline
+    report_row (path_places layout.columns) (shown report.name) (own report.stats) ++ newline
 
 -- the rows of the reports' own counts, in their order
 abbrev pub file_rows : Layout → List ReportValue → List ℕ
@@ -23,7 +24,7 @@ file_rows layout (report ∷ reports) = file_row layout report ++ file_rows layo
 -- the rows of a file that holds other languages, of a language of this name and mark
 abbrev pub file_block : Layout → (ℕ → List ℕ) → Bool → List ℕ → Bool → ReportValue → List ℕ
 file_block layout names inaccurate language first report =
-    name_line layout first report.name
+    name_line layout first (shown report.name)
     ++ (own_row layout language report.stats
     ++ (blob_rows layout names inaccurate (blobs report.stats)
     ++ subtotal layout (codes "|- (Total)") (summary report.stats)))

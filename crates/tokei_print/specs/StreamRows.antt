@@ -2,6 +2,7 @@
 use Rattle.std.specs.Prelude.{ℕ, List, ◌∷◌, ◌++◌, codes, replicate}
 use Rattle.tokei_stats.specs.Places.{left_in}
 use Rattle.tokei_stats.specs.ReportRow.{count_places, counts_cells}
+use Rattle.tokei_stats.specs.Shown.{shown}
 use Rattle.tokei_stats.specs.Statistics.{Counts}
 use Rattle.tokei_table.specs.Bytes.{space}
 use Rattle.tokei_print.specs.Cells.{centred_in, right_in}
@@ -47,8 +48,9 @@ stream_strokes =
 abbrev pub stream_heading : List ℕ
 stream_heading = stream_names ++ (newline ++ (stream_strokes ++ newline))
 
--- a file's own counts behind the name of its language and its path; the lines are their exact sum
+-- a file's own counts behind the name of its language and its path as it is shown; the lines are
+-- their exact sum
 abbrev pub stream_row : List ℕ → List ℕ → Counts → List ℕ
 stream_row language path n =
     right_in language_places language
-    ++ (space ∷ (left_in stream_path_places path ++ (counts_cells n ++ newline)))
+    ++ (space ∷ (left_in stream_path_places (shown path) ++ (counts_cells n ++ newline)))

@@ -11,7 +11,8 @@ ghost use Rattle.tokei_stats.specs.Seen.{blobs_of, entries_of};
 use crate::layout::Layout;
 use std::alloc::{AllocError, Global};
 use std::collections::BTreeMap;
-use tokei_stats::{CodeStats, CountError, Report};
+use tokei_stats::shown::shown;
+use tokei_stats::{CodeStats, CountError, CountsCells, Report, ReportRow};
 use tokei_table::{LanguageTable, LanguageType};
 
 /// The language whose files are listed.
@@ -37,11 +38,17 @@ fn has_row_alone(report: &Report, compact: bool) -> bool
     compact || is_empty(&report.stats.blobs)
 }
 
-/// A report's row of its own counts.
+/// A report's row of its own counts, under its name as it is shown.
 fn file_row(layout: &Layout, alloc: Global, report: &Report) -> Result<String, AllocError>
     ensures { IfOk result (λ s. string_bytes s ≡ file_row layout.now (report_of report.now)) }
 {
-    let row = report.display_in(layout.columns - 56);
+    let name = shown(alloc, &report.name)?;
+    let counts = CountsCells {
+        blanks: report.stats.blanks,
+        code: report.stats.code,
+        comments: report.stats.comments,
+    };
+    let row = ReportRow::new(&name, counts, layout.columns - 56);
     format!(in alloc; "{row}\n")
 }
 
@@ -77,7 +84,8 @@ fn file_block(
         (report_of report.now)) }
     ensures overflow { IsErrOf result CountError.Overflow → ¬ FileBlockFits (report_of report.now) }
 {
-    let line = layout.name_line(alloc, &report.name, first)?;
+    let name = shown(alloc, &report.name)?;
+    let line = layout.name_line(alloc, &name, first)?;
     let own = layout.own_row(alloc, language.name, &report.stats)?;
     let blobs = layout.blob_rows(
         alloc,

@@ -8,6 +8,7 @@ ghost use Rattle.tokei_print.specs.StreamRows.{stream_heading, stream_row};
 
 use std::alloc::{AllocError, Global};
 use tokei_io::{OutputError, Sink, put};
+use tokei_stats::shown::shown;
 use tokei_stats::{Report, Sums};
 
 /// The two rows above a stream of columns.
@@ -44,7 +45,8 @@ fn stream_row(alloc: Global, language: &str, report: &Report) -> Result<String, 
         ≡ stream_row language.now (string_bytes report.now.name) (counts_of report.now.stats)) }
 {
     let cells = plain_cells(alloc, report.stats.own_counts())?;
-    let (path, cells) = (report.name.as_str(), cells.as_str());
+    let path = shown(alloc, &report.name)?;
+    let (path, cells) = (path.as_str(), cells.as_str());
     format!(in alloc; "{language:>10} {path:<80}{cells}\n")
 }
 

@@ -10,7 +10,7 @@ use Rattle.tokei_config.specs.declared.flaws.Flaw.{Flaw}
 use Rattle.tokei_config.specs.declared.flaws.Setting.{Setting}
 use Rattle.tokei_config.specs.declared.flaws.Setting.TheVariants as setting
 use Rattle.tokei_program.specs.NoteLines.{filter_of}
-use Rattle.tokei_program.specs.Shown.{shown}
+use Rattle.tokei_stats.specs.Shown.{shown}
 
 -- what is wrong with a member
 abbrev pub words_of_setting : Setting → List ℕ

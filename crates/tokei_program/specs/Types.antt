@@ -9,7 +9,7 @@ use Rattle.log.specs.declared.level.Level.TheVariants.{Warn}
 use Rattle.tokei_cli.specs.Overriding.{comma, language_named}
 use Rattle.tokei_cli.specs.declared.cli.Cli.{Cli}
 use Rattle.tokei_program.specs.NoteLines.{filter_of}
-use Rattle.tokei_program.specs.Shown.{shown}
+use Rattle.tokei_stats.specs.Shown.{shown}
 use Rattle.tokei_table.specs.Bytes.{trim}
 use Rattle.tokei_table.specs.Row.{Row}
 

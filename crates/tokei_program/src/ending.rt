@@ -18,6 +18,9 @@ pub enum Ending {
     /// The table is refused.
     #[error("{0}")]
     Table(TableError),
+    /// The table is refused, with the language and the member that go wrong.
+    #[error("the table of languages is refused: {0}")]
+    TableFlaw(String),
     /// The earlier results of this name are refused.
     #[error("failed to parse input file: {0}")]
     Input(String),
@@ -94,19 +97,5 @@ impl<T: Drop> From<AllocFailed<T>> for Ending {
 
     fn from(_refused: AllocFailed<T>) -> Ending {
         Ending::Memory
-    }
-}
-
-impl From<TableError> for Ending {
-    ghost use Rattle.std.specs.Prelude.{◌≡◌};
-    ghost use Rattle.tokei_program.specs.Statuses.{status_of};
-
-    ghost from_gives = { λ _ e. status_of e ≡ 1 };
-
-    fn from(error: TableError) -> Ending {
-        match error {
-            TableError::Memory => Ending::Memory,
-            error => Ending::Table(error),
-        }
     }
 }

@@ -149,6 +149,7 @@ fn answer_words<F: Folders, S: Source, W: Sink>(
 /// command line is seen before anything is read or written. Any other status than 1 says that
 /// neither writer had a fault. Where the status is 1 and `err` had no fault, one message stands in
 /// it.
+#[tactic(auto, using(tokei_io::proofs::Printing::printing_counts))]
 pub fn program<F: Folders, S: Source, W: Sink, E: Sink>(
     alloc: Global,
     words: &[&str],

@@ -3,12 +3,12 @@ ghost use Rattle.std.specs.Prelude.{◌≡◌, ◌++◌, ◌∷◌, [], IfOk, On
 ghost use Rattle.tokei_program.specs.FlawLines.{explained, flaw_line, flaw_lines, happened, told_of, words_of_cause, words_of_setting};
 
 use crate::note_lines::filter;
-use crate::shown::shown;
 use log::sink::Lines;
 use log::{Level, Record};
 use std::alloc::{AllocError, Global};
 use tokei_cli::Cli;
 use tokei_config::{Cause, Flaw, Setting};
+use tokei_stats::shown::shown;
 
 /// What is wrong with a member.
 fn words_of_setting(setting: Setting) -> &'static str

@@ -15,12 +15,12 @@ ghost use Rattle.tokei_folders.specs.AsTheyWere.{SameTree};
 use crate::choices::Choices;
 use crate::ending::Ending;
 use crate::environment::{Env, config_dirs};
-use crate::reasons::{no_memory, unreadable};
+use crate::reasons::{no_memory, refused_table, unreadable};
 use std::alloc::{AllocError, Global};
 use tokei::columns::FALLBACK_ROW_LEN;
 use tokei::{
     Config, Counted, Fault, Folders, InputError, Job, Kind, LanguageTable, Languages, Source,
-    add_input,
+    TableError, add_input,
 };
 use tokei_cli::{Cli, OverrideConfig};
 use tokei_config::{ConfigRead, Flaw};
@@ -82,7 +82,11 @@ pub fn table_of<F: Folders>(
 {
     let place = place_of_table(cli, env);
     match folders.read_named(place) {
-        Ok(bytes) => Ok(LanguageTable::from_json(alloc, &bytes)?),
+        Ok(bytes) => match LanguageTable::from_json(alloc, &bytes) {
+            Ok(table) => Ok(table),
+            Err(TableError::Memory) => Err(Ending::Memory),
+            Err(error) => Err(refused_table(alloc, error, &bytes)?),
+        },
         Err(Fault::Memory) => Err(no_memory(alloc, folders)),
         Err(Fault::Refused) => Err(no_table(alloc, folders, place)?),
     }

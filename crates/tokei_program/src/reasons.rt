@@ -1,11 +1,12 @@
 //! How a run ends, in the words that folders, readers and writers have for it.
-ghost use Rattle.std.specs.Prelude.{◌≡◌};
+ghost use Rattle.std.specs.Prelude.{◌≡◌, IfErr, IfOk};
 ghost use Rattle.tokei_program.specs.Statuses.{status_of};
 
 use crate::ending::Ending;
-use crate::shown::shown;
 use std::alloc::{AllocError, Global};
-use tokei::{Folders, OutputError, Sink, Source};
+use tokei::{Folders, OutputError, Sink, Source, TableError};
+use tokei_stats::shown::shown;
+use tokei_table::TableFlaw;
 
 /// The words, where there are some.
 fn some_words(words: Result<String, AllocError>) -> Option<String> {
@@ -26,6 +27,17 @@ pub fn no_memory<F: Folders>(alloc: Global, folders: &F) -> Ending
     match some_words(shown(alloc, folders.unheld())) {
         Some(place) => Ending::NoRoom(place),
         None => Ending::Memory,
+    }
+}
+
+/// A table is refused: with the language and the member that go wrong, where those can be told.
+pub fn refused_table(alloc: Global, error: TableError, bytes: &[u8]) -> Result<Ending, Ending>
+    ensures ends { IfOk result (λ e. status_of e ≡ 1) }
+    ensures failed { IfErr result (λ e. status_of e ≡ 1) }
+{
+    match TableFlaw::find(alloc, bytes)? {
+        Some(flaw) => Ok(Ending::TableFlaw(format!(in alloc; "{flaw}")?)),
+        None => Ok(Ending::Table(error)),
     }
 }
 

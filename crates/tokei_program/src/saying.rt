@@ -14,7 +14,7 @@ use tokei_cli::print_input_parse_failure;
 const NO_MEMORY: &str = "Error: out of memory\n";
 
 /// Says that the earlier results of this name are refused.
-#[tactic(auto, using(crate::proofs::Messages::no_memory_said, crate::proofs::Messages::refused_input_said))]
+#[tactic(auto, using(tokei_io::proofs::Printing::printing_counts, crate::proofs::Messages::no_memory_said, crate::proofs::Messages::refused_input_said))]
 fn say_refused_input<E: Sink>(alloc: Global, name: &str, err: &mut E) -> Result<(), OutputError>
     ensures said { OnOk result (Says (E.contents err.old) (E.contents err.new)) }
     ensures faults { E.faults err.old < u64.MAX
@@ -22,14 +22,15 @@ fn say_refused_input<E: Sink>(alloc: Global, name: &str, err: &mut E) -> Result<
 {
     match print_input_parse_failure(alloc, name, err) {
         Ok(()) => Ok(()),
+        Err(OutputError::Write) => Err(OutputError::Write),
+        Err(OutputError::Overflow) => Err(OutputError::Overflow),
         Err(OutputError::Memory) => put(err, NO_MEMORY.as_bytes()),
-        refused => refused,
     }
 }
 
 /// Says how a run ended; where there is no memory for its words, that memory ran out. After a fault
 /// of the writer nothing is said of what was written.
-#[tactic(auto, using(crate::proofs::Messages::no_memory_said, crate::proofs::Messages::said))]
+#[tactic(auto, using(tokei_io::proofs::Printing::printing_counts, crate::proofs::Messages::no_memory_said, crate::proofs::Messages::said))]
 pub fn say<E: Sink>(alloc: Global, ending: &Ending, err: &mut E) -> Result<(), OutputError>
     ensures said { status_of ending.now ≡ 1
         → OnOk result (Says (E.contents err.old) (E.contents err.new)) }

@@ -1,39 +1,10 @@
-//! How a text is shown in a note: what controls a terminal is escaped.
-ghost use Rattle.std.specs.Prelude.{◌≡◌, ◌++◌, IfOk, OnOk, map, string_bytes};
-ghost use Rattle.tokei_program.specs.Shown.{escaped, shown, shown_char, shown_note};
+//! How a note is shown: what controls a terminal is escaped.
+ghost use Rattle.std.specs.Prelude.{◌≡◌, IfOk, map};
+ghost use Rattle.tokei_program.specs.Shown.{shown_note};
 
 use std::alloc::{AllocError, Global};
 use tokei::{Note, Text};
-
-/// Adds a control character by its number.
-fn push_escaped(text: &mut String, control: char) -> Result<(), AllocError>
-    ensures { OnOk result (string_bytes text.new ≡ string_bytes text.old ++ escaped control) }
-{
-    let code = control as u32;
-    write!(text, "\\u{{{code:x}}}")
-}
-
-/// Adds a character as it is shown.
-fn push_shown(text: &mut String, character: char) -> Result<(), AllocError>
-    ensures { OnOk result (string_bytes text.new ≡ string_bytes text.old ++ shown_char character) }
-{
-    if character.is_control() {
-        push_escaped(text, character)
-    } else {
-        text.push(character)
-    }
-}
-
-/// The text as it is shown.
-pub fn shown(alloc: Global, text: &str) -> Result<String, AllocError>
-    ensures { IfOk result (λ s. string_bytes s ≡ shown text.now) }
-{
-    let mut all = String::new(alloc);
-    for character in text.chars() {
-        push_shown(&mut all, character)?;
-    }
-    Ok(all)
-}
+use tokei_stats::shown::shown;
 
 /// The note of a place that is shown so.
 fn shown_note(alloc: Global, note: &Note) -> Result<Note, AllocError>

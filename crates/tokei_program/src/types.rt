@@ -3,12 +3,12 @@ ghost use Rattle.std.specs.Prelude.{◌≡◌, ◌++◌, ◌∷◌, [], OnOk, ma
 ghost use Rattle.tokei_program.specs.Types.{has_outer_blanks, is_unnamed, piece_line, type_lines, unnamed_in, unnamed_of, words_of_piece};
 
 use crate::note_lines::filter;
-use crate::shown::shown;
 use log::sink::Lines;
 use log::{Level, Record};
 use std::alloc::{AllocError, Global};
 use tokei::{LanguageTable, LanguageType, trim};
 use tokei_cli::Cli;
+use tokei_stats::shown::shown;
 
 /// Whether blanks stand at an end of a text.
 fn has_outer_blanks(text: &str) -> bool

@@ -5,7 +5,9 @@ pub mod Cloning
 pub mod Equality
 pub mod Fitting
 pub mod MapsOrdered
+pub mod NoBlobs
 pub mod Padding
+pub mod Plain
 pub mod SameMembers
 pub mod SumLaws
 pub mod SumsOrdered

@@ -7,5 +7,6 @@ pub mod Places
 pub mod ReportRow
 pub mod Reports
 pub mod Seen
+pub mod Shown
 pub mod Statistics
 pub mod SumLaws

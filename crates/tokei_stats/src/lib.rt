@@ -9,10 +9,12 @@ pub mod laws;
 mod name_cell;
 pub mod report;
 mod report_row;
+pub mod shown;
 pub mod stats;
 pub mod sum_laws;
 pub mod sums;
 
+pub use counts_cells::CountsCells;
 pub use error::CountError;
 pub use report::Report;
 pub use report_row::ReportRow;

@@ -32,7 +32,7 @@ impl fmt::Debug for CodeStats {
 }
 
 impl CodeStats {
-    ghost use Rattle.std.specs.Prelude.{◌≡◌, ◌<◌, IfOk, OnOk, OnErr, IfErr, IsErrOf, IsTrue};
+    ghost use Rattle.std.specs.Prelude.{◌≡◌, ◌≢◌, ◌<◌, Err, IfOk, IsOk, OnOk, OnErr, IfErr, IsErrOf, IsTrue};
     ghost use Rattle.tokei_stats.specs.Statistics.{blobs, empty, sum, summary, lines_of, plus};
     ghost use Rattle.tokei_stats.specs.Statistics.Statistics.{node};
     ghost use Rattle.tokei_stats.specs.Statistics.Blobs.{none};
@@ -74,12 +74,13 @@ impl CodeStats {
     }
 
     /// A copy, equal by `==`, which differs from a clone in that it may be refused when out of
-    /// memory.
+    /// memory; without blobs it takes none.
     pub fn try_clone(&self) -> Result<CodeStats, CountError>
         ensures ok { IfOk result (λ s. stats_of s ≡ stats_of self.now) }
         ensures equal { IfOk result (λ s. IsTrue (⟦<CodeStats as PartialEq>⟧.eq s self.now)) }
         ensures fits { IfOk result (λ s. Fits (stats_of s)) }
         ensures memory { IfErr result (λ e. e ≡ CountError.Memory) }
+        ensures free { blobs (stats_of self.now) ≡ none → IsOk result }
     {
         let mut blobs = BTreeMap::new(self.alloc);
         for (language, stats) in self.blobs.iter() {
@@ -119,6 +120,8 @@ impl CodeStats {
         ensures fits { OnOk result (Fits (sum (stats_of other.now) (stats_of self.now))) }
         ensures overflow { IsErrOf result CountError.Overflow
             → ¬ Fits (sum (stats_of other.now) (stats_of self.now)) }
+        ensures free { blobs (stats_of self.now) ≡ none → blobs (stats_of other.now) ≡ none
+            → result ≢ Err CountError.Memory }
     {
         let own = other.own_counts().plus(self.own_counts())?;
         let CodeStats {
@@ -139,8 +142,8 @@ impl CodeStats {
     }
 
     /// Adds the other statistics, by number and by language, at every depth. `Overflow` exactly
-    /// where a sum of two numbers passes the greatest `usize`, or `Memory`; a refusal changes
-    /// nothing.
+    /// where a sum of two numbers passes the greatest `usize`, or `Memory`, which comes only where
+    /// one of both has blobs; a refusal changes nothing.
     pub fn add(&mut self, other: &CodeStats) -> Result<(), CountError>
         ensures ok { OnOk result
             (stats_of self.new ≡ sum (stats_of self.old) (stats_of other.now)) }
@@ -148,6 +151,8 @@ impl CodeStats {
         ensures overflow { IsErrOf result CountError.Overflow
             → ¬ Fits (sum (stats_of self.old) (stats_of other.now)) }
         ensures err { OnErr result (self.new ≡ self.old) }
+        ensures free { blobs (stats_of self.old) ≡ none → blobs (stats_of other.now) ≡ none
+            → result ≢ Err CountError.Memory }
     {
         *self = other.added_to(self)?;
         Ok(())

@@ -22,6 +22,7 @@ pub use Rattle.tokei_table_rules.specs.RowNames
 pub use Rattle.tokei_table_rules.specs.Shebangs
 pub use Rattle.tokei_table_rules.specs.Tokens
 pub use Rattle.tokei_table_rules.specs.declared.family.Family
+pub mod Flaws
 pub mod Listed
 pub mod Outcome
 pub mod TableLaws

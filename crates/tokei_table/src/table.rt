@@ -46,7 +46,7 @@ impl Model for LanguageTable {
 }
 
 #[tactic(auto, unfolding(crate::specs::Outcome::data_of))]
-fn data(alloc: Global, bytes: &[u8]) -> Result<Value, TableError>
+pub(crate) fn data(alloc: Global, bytes: &[u8]) -> Result<Value, TableError>
     ensures { result ≢ Err MemoryFault → MatchResult result (λ v. data_of bytes.now ≡ Some (view v))
         (λ e. (e ≡ NotJsonFault) × (data_of bytes.now ≡ None)) }
 {

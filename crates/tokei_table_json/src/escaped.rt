@@ -148,7 +148,7 @@ fn keeps_traits(html: bool, key: &str, value: &Value) -> bool
     }
 }
 
-fn keeps_escapes(html: bool, key: &str, value: &Value) -> bool
+pub(crate) fn keeps_escapes(html: bool, key: &str, value: &Value) -> bool
     ensures { result ≡ keeps_escapes html key.now (view value.now) }
 {
     keeps_tokens(key, value) && keeps_finders(key, value) && keeps_traits(html, key, value)
@@ -167,7 +167,7 @@ fn all_keep_escapes(html: bool, members: &Map<String, Value>) -> bool
 }
 
 #[tactic(auto, unfolding(crate::specs::Escaped::has_escaped_tokens, crate::specs::Escaped::has_escaped_finders, crate::specs::Escaped::has_escaped_traits))]
-fn is_escaped_language(value: &Value) -> bool
+pub(crate) fn is_escaped_language(value: &Value) -> bool
     ensures { result ≡ is_escaped_language (view value.now) }
 {
     match value {

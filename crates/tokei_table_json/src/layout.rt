@@ -1,76 +1,13 @@
 //! The layout of a table: which JSON values stand where.
 ghost use Rattle.std.specs.Prelude.{◌≡◌, option_map, codes};
 ghost use Rattle.serde_json.specs.View.{view, items_view, members_view};
-ghost use Rattle.serde_json.specs.Written.{has_float as data_has_float, items_have_float as data_items_have_float};
-ghost use Rattle.serde_json.specs.Written.{members_have_float as data_members_have_float};
-ghost use Rattle.tokei_table_json.specs.Layout.{is_text, is_truth_value, all_items, is_list, are_two_texts};
+ghost use Rattle.tokei_table_json.specs.Layout.{all_items, is_list, is_text, are_two_texts};
 ghost use Rattle.tokei_table_json.specs.Layout.{is_text_pair, is_html_kind, is_context, is_language, are_languages, has_layout};
 ghost use Rattle.tokei_table_json.specs.MemberLayout.{all_members, fits_comments, fits_literals, fits_finders, fits_traits, fits};
 ghost use Rattle.tokei_table_json.specs.KeyOrder.{AreInOrder};
 
+use crate::values::{all_texts, has_float, is_text, is_truth_value};
 use serde_json::{Map, Value};
-
-/// Whether a number, wherever it stands, is no whole one of 64 bits.
-#[cycle(has_float)]
-fn has_float(value: &Value) -> bool
-    ensures { result ≡ data_has_float (view value.now) }
-{
-    match value {
-        Value::Null => false,
-        Value::Bool(_) => false,
-        Value::Number(n) => n.is_f64(),
-        Value::String(_) => false,
-        Value::Array(items) => items_have_float(items),
-        Value::Object(members) => members_have_float(members),
-    }
-}
-
-#[cycle(has_float)]
-fn items_have_float(items: &Vec<Value>) -> bool
-    ensures { result ≡ data_items_have_float (items_view items.now.items) }
-{
-    for item in items {
-        if has_float(item) {
-            return true;
-        }
-    }
-    false
-}
-
-#[cycle(has_float)]
-fn members_have_float(members: &Map<String, Value>) -> bool
-    ensures { result ≡ data_members_have_float (members_view members.now.entries) }
-{
-    for (_key, member) in members.iter() {
-        if has_float(member) {
-            return true;
-        }
-    }
-    false
-}
-
-fn is_text(value: &Value) -> bool
-    ensures { result ≡ is_text (view value.now) }
-{
-    value.as_str().is_some()
-}
-
-fn is_truth_value(value: &Value) -> bool
-    ensures { result ≡ is_truth_value (view value.now) }
-{
-    value.as_bool().is_some()
-}
-
-fn all_texts(items: &Vec<Value>) -> bool
-    ensures { result ≡ all_items is_text (items_view items.now.items) }
-{
-    for item in items {
-        if !is_text(item) {
-            return false;
-        }
-    }
-    true
-}
 
 fn is_text_list(value: &Value) -> bool
     ensures { result ≡ is_list is_text (view value.now) }
@@ -238,7 +175,7 @@ fn fits_traits(html: bool, key: &str, value: &Value) -> bool
     }
 }
 
-fn fits(html: bool, key: &str, value: &Value) -> bool
+pub(crate) fn fits(html: bool, key: &str, value: &Value) -> bool
     ensures { result ≡ fits html key.now (view value.now) }
 {
     fits_comments(key, value)
@@ -259,7 +196,7 @@ fn all_fit(html: bool, members: &Map<String, Value>) -> bool
     true
 }
 
-fn is_language(value: &Value) -> bool
+pub(crate) fn is_language(value: &Value) -> bool
     ensures { result ≡ is_language (view value.now) }
 {
     match value {

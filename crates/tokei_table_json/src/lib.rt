@@ -6,8 +6,11 @@ pub mod escaped;
 pub mod escapes;
 pub mod laws;
 pub mod layout;
+pub mod misfits;
 pub mod rows;
+pub mod values;
 
 pub use escaped::is_escaped_table;
 pub use layout::has_layout;
+pub use misfits::{misescaped_language, unfit_language};
 pub use rows::rows_of;

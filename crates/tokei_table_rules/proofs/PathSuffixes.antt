@@ -1,73 +1,67 @@
--- Among the rows that have path suffixes the first with a suffix of the name is the first of all.
-use Rattle.std.proofs.Common.{◌≡◌, ℕ, suc, ◌+◌, ◌≤◌, Bool, true, false, cond, List, [], ◌∷◌, length, Some, option_map}
-use Rattle.std.proofs.Common.{refl, sym, ap, ◌∙◌, arith, true≢false}
+-- A row with a path suffix of a name has one with the name's last two bytes, where none is short.
+use Rattle.std.proofs.Common.{◌≡◌, ℕ, ◌+◌, ◌-◌, Bool, true, false, ◌||◌, List, [], ◌∷◌, length, drop, map}
+use Rattle.std.proofs.Common.{refl, ap, ◌∙◌, arith, true≢false}
+use Rattle.std.proofs.lemmas.List.{drop-drop, length-drop}
+use Rattle.std.proofs.lemmas.Slice.Eq.{bytes_eq-Decides}
+use Rattle.std.specs.List.{list_any}
+use Rattle.std.specs.Prelude.{bytes_eq}
+use Rattle.tokei_table_row.specs.Bytes.{ends, holds}
 use Rattle.tokei_table_row.specs.Row.{Row}
-use Rattle.tokei_table_rules.proofs.TextIndex.{Below, below_chosen, shift, unmoved}
-use Rattle.tokei_table_rules.specs.Lookups.{first_where, row_at, ends_with_one, has_path_suffix}
-use Rattle.tokei_table_rules.specs.PathSuffixes.{is_filled, suffixed_from}
-use Rattle.tokei_table_rules.specs.TextIndex.{first_among}
+use Rattle.tokei_table_rules.proofs.TextIndex.{Leads, first_that_has}
+use Rattle.tokei_table_rules.specs.Lookups.{first_where, ends_with_one, has_path_suffix}
+use Rattle.tokei_table_rules.specs.PathSuffixes.{tail_of, suffix_tails, is_short, has_short_suffix}
+use Rattle.tokei_table_rules.specs.TextIndex.{first_among, group_of, in_group, entries_from}
 
--- a name ends with none of no suffixes
-none_of_none : (suffixes : List (List ℕ)) (name : List ℕ) → is_filled suffixes ≡ false
-    → ends_with_one suffixes name ≡ false
+-- a text that ends with a longer one has its last two bytes
+same_tail : (s t : List ℕ) → is_short s ≡ false → ends s t ≡ true → tail_of s ≡ tail_of t
+same_tail [] t long e = absurd (true≢false long)
+same_tail (a ∷ []) t long e = absurd (true≢false long)
+same_tail (a ∷ b ∷ s) t long e =
+    let n = length t - length (a ∷ b ∷ s) in
+    let is : (a ∷ b ∷ s) ≡ drop n t = (bytes_eq-Decides (a ∷ b ∷ s) (drop n t)).0 e in
+    let m = length (drop n t) - 2 in
+    let f : n + m ≡ length t - 2 = omega (arith, ap length is, length-drop n t) in
+    ap tail_of is ∙ drop-drop m n t ∙ ap (λ k. drop k t) f
+
+left_of : (a b : Bool) → (a || b) ≡ false → a ≡ false
+left_of true b h = absurd (true≢false h)
+left_of false b h = refl
+
+right_of : (a b : Bool) → (a || b) ≡ false → b ≡ false
+right_of true b h = absurd (true≢false h)
+right_of false b h = h
+
+tail_met : (s : List ℕ) (ss : List (List ℕ)) (t : List ℕ) → is_short s ≡ false
+    → (list_any (λ s. ends s t) ss ≡ true → holds (map tail_of ss) (tail_of t) ≡ true)
+    → (b : Bool) → ends s t ≡ b → (b || list_any (λ s. ends s t) ss) ≡ true
+    → holds (map tail_of (s ∷ ss)) (tail_of t) ≡ true
+tail_met s ss t long later true q e =
+    ap (λ b. b || holds (map tail_of ss) (tail_of t))
+    ((bytes_eq-Decides (tail_of s) (tail_of t)).1 (same_tail s t long q))
+tail_met s ss t long later false q e = either (bytes_eq (tail_of s) (tail_of t)) (later e)
+  where
+    either : (c : Bool) → holds (map tail_of ss) (tail_of t) ≡ true → (c || holds (map tail_of ss) (tail_of t)) ≡ true
+    either true h = refl
+    either false h = h
+
+has_tail : (ss : List (List ℕ)) (t : List ℕ) → list_any is_short ss ≡ false
+    → list_any (λ s. ends s t) ss ≡ true → holds (map tail_of ss) (tail_of t) ≡ true
+has_tail [] t long e = e
+has_tail (s ∷ ss) t long e =
+    tail_met s ss t (left_of (is_short s) (list_any is_short ss) long)
+    (has_tail ss t (right_of (is_short s) (list_any is_short ss) long)) (ends s t) refl e
+
+have_tails : (name : List ℕ) (rs : List Row) → list_any has_short_suffix rs ≡ false
+    → Leads (has_path_suffix name) suffix_tails (tail_of name) rs
 unfolding ends_with_one
-none_of_none [] name e = refl
-none_of_none (s ∷ ss) name e = absurd (true≢false e)
+have_tails name [] long = tt
+have_tails name (r ∷ rs) long = (
+  has_tail r.path_suffixes name (left_of (has_short_suffix r) (list_any has_short_suffix rs) long),
+  have_tails name rs (right_of (has_short_suffix r) (list_any has_short_suffix rs) long),
+)
 
-module _ (name : List ℕ) (all : List Row) where
-  asked : (p : ℕ) (ps : List ℕ) (b : Bool) → has_path_suffix name (row_at all p) ≡ b
-      → first_among (has_path_suffix name) all (p ∷ ps) ≡ cond b (Some p) (first_among (has_path_suffix name) all ps)
-  asked p ps b q = ap (λ c. cond c (Some p) (first_among (has_path_suffix name) all ps)) q
-
-  chosen : (r : Row) (rs : List Row) (n : ℕ) → row_at all n ≡ r
-      → first_among (has_path_suffix name) all (suffixed_from (n + 1) rs)
-      ≡ option_map (λ k. n + 1 + k) (first_where (has_path_suffix name) rs)
-      → (filled has : Bool) → is_filled r.path_suffixes ≡ filled → has_path_suffix name r ≡ has
-      → first_among (has_path_suffix name) all (suffixed_from n (r ∷ rs))
-      ≡ option_map (λ k. n + k) (first_where (has_path_suffix name) (r ∷ rs))
-  chosen r rs n here later true true f q =
-      let e : n ≡ n + 0 = omega arith in
-      ap (λ c. first_among (has_path_suffix name) all
-      (cond c (n ∷ suffixed_from (n + 1) rs) (suffixed_from (n + 1) rs))) f
-      ∙ asked n (suffixed_from (n + 1) rs) true (ap (has_path_suffix name) here ∙ q)
-      ∙ ap Some e
-      ∙ ap (λ b. option_map (λ k. n + k) (cond b (Some 0) (option_map suc (first_where (has_path_suffix name) rs))))
-      (sym q)
-  chosen r rs n here later true false f q =
-      ap (λ c. first_among (has_path_suffix name) all
-      (cond c (n ∷ suffixed_from (n + 1) rs) (suffixed_from (n + 1) rs))) f
-      ∙ asked n (suffixed_from (n + 1) rs) false (ap (has_path_suffix name) here ∙ q)
-      ∙ later
-      ∙ shift n (first_where (has_path_suffix name) rs)
-      ∙ ap (λ b. option_map (λ k. n + k) (cond b (Some 0) (option_map suc (first_where (has_path_suffix name) rs))))
-      (sym q)
-  chosen r rs n here later false has f q =
-      ap (λ c. first_among (has_path_suffix name) all
-      (cond c (n ∷ suffixed_from (n + 1) rs) (suffixed_from (n + 1) rs))) f
-      ∙ later
-      ∙ shift n (first_where (has_path_suffix name) rs)
-      ∙ ap (λ b. option_map (λ k. n + k) (cond b (Some 0) (option_map suc (first_where (has_path_suffix name) rs))))
-      (sym (none_of_none r.path_suffixes name f))
-
-  leads : (rs : List Row) (n : ℕ) → ((k : ℕ) → row_at all (n + k) ≡ row_at rs k)
-      → first_among (has_path_suffix name) all (suffixed_from n rs)
-      ≡ option_map (λ k. n + k) (first_where (has_path_suffix name) rs)
-  leads [] n at = refl
-  leads (r ∷ rs) n at =
-      let e : n ≡ n + 0 = omega arith in
-      chosen r rs n (ap (row_at all) e ∙ at 0)
-      (leads rs (n + 1) (λ k. let f : n + 1 + k ≡ n + suc k = omega arith in ap (row_at all) f ∙ at (suc k)))
-      (is_filled r.path_suffixes) (has_path_suffix name r) refl refl
-
-pub first_of_suffixed : (name : List ℕ) (rows : List Row)
-    → first_among (has_path_suffix name) rows (suffixed_from 0 rows) ≡ first_where (has_path_suffix name) rows
-first_of_suffixed name rows =
-    leads name rows rows 0 (λ k. let e : 0 + k ≡ k = omega arith in ap (row_at rows) e)
-    ∙ unmoved (first_where (has_path_suffix name) rows)
-
--- each of the places is one of the table
-pub suffixed_below : (m : ℕ) (rs : List Row) (n : ℕ) → n + length rs ≤ m → Below m (suffixed_from n rs)
-suffixed_below m [] n l = λ k h. absurd (omega (arith, h))
-suffixed_below m (r ∷ rs) n l =
-    below_chosen m n (suffixed_from (n + 1) rs) (omega (arith, l)) (suffixed_below m rs (n + 1) (omega (arith, l)))
-    (is_filled r.path_suffixes)
+pub first_of_suffixed : (name : List ℕ) (rows : List Row) → list_any has_short_suffix rows ≡ false
+    → first_among (has_path_suffix name) rows (in_group (group_of (tail_of name)) (entries_from suffix_tails 0 rows))
+    ≡ first_where (has_path_suffix name) rows
+first_of_suffixed name rows long =
+    first_that_has (has_path_suffix name) suffix_tails (tail_of name) rows (have_tails name rows long)

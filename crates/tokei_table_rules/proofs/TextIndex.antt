@@ -85,47 +85,61 @@ module _ (test : Row → Bool) (t : List ℕ) (all : List Row) where
   miss [] n rest e = refl
   miss (u ∷ ts) n rest e = miss_step u ts n rest e (miss ts n rest e) (group_of u == group_of t) refl
 
-pub shift : (n : ℕ) (o : Option ℕ) → option_map (λ k. n + 1 + k) o ≡ option_map (λ k. n + k) (option_map suc o)
+shift : (n : ℕ) (o : Option ℕ) → option_map (λ k. n + 1 + k) o ≡ option_map (λ k. n + k) (option_map suc o)
 shift n None = refl
 shift n (Some k) = let e : n + 1 + k ≡ n + suc k = omega arith in ap Some e
 
-pub unmoved : (o : Option ℕ) → option_map (λ k. 0 + k) o ≡ o
+unmoved : (o : Option ℕ) → option_map (λ k. 0 + k) o ≡ o
 unmoved None = refl
 unmoved (Some k) = let e : 0 + k ≡ k = omega arith in ap Some e
 
-module _ (test : Row → Bool) (texts : Row → List (List ℕ)) (t : List ℕ) (same : (r : Row) → test r ≡ holds (texts r) t)
-    (all : List Row) where
-  step : (r : Row) (rs : List Row) (n : ℕ) → row_at all n ≡ r
+-- each row that passes the test has the text
+abbrev pub Leads : (Row → Bool) → (Row → List (List ℕ)) → List ℕ → List Row → Type 0
+Leads test texts t [] = Unit {0}
+Leads test texts t (r ∷ rs) = (test r ≡ true → holds (texts r) t ≡ true) × Leads test texts t rs
+
+module _ (test : Row → Bool) (texts : Row → List (List ℕ)) (t : List ℕ) (all : List Row) where
+  step : (r : Row) (rs : List Row) (n : ℕ) → row_at all n ≡ r → (test r ≡ true → holds (texts r) t ≡ true)
       → first_among test all (in_group (group_of t) (entries_from texts (n + 1) rs))
       ≡ option_map (λ k. n + 1 + k) (first_where test rs)
       → (b : Bool) → test r ≡ b → first_among test all (in_group (group_of t) (entries_from texts n (r ∷ rs)))
       ≡ option_map (λ k. n + k) (first_where test (r ∷ rs))
-  step r rs n here later true q =
+  step r rs n here has later true q =
       let e : n ≡ n + 0 = omega arith in
-      hit test t all (texts r) n (entries_from texts (n + 1) rs) (ap test here ∙ q) (sym (same r) ∙ q)
+      hit test t all (texts r) n (entries_from texts (n + 1) rs) (ap test here ∙ q) (has q)
       ∙ ap Some e
       ∙ ap (λ b. option_map (λ k. n + k) (cond b (Some 0) (option_map suc (first_where test rs)))) (sym q)
-  step r rs n here later false q =
+  step r rs n here has later false q =
       miss test t all (texts r) n (entries_from texts (n + 1) rs) (ap test here ∙ q)
       ∙ later
       ∙ shift n (first_where test rs)
       ∙ ap (λ b. option_map (λ k. n + k) (cond b (Some 0) (option_map suc (first_where test rs)))) (sym q)
 
-  leads : (rs : List Row) (n : ℕ) → ((k : ℕ) → row_at all (n + k) ≡ row_at rs k)
+  leads : (rs : List Row) → Leads test texts t rs → (n : ℕ) → ((k : ℕ) → row_at all (n + k) ≡ row_at rs k)
       → first_among test all (in_group (group_of t) (entries_from texts n rs))
       ≡ option_map (λ k. n + k) (first_where test rs)
-  leads [] n at = refl
-  leads (r ∷ rs) n at =
+  leads [] have n at = refl
+  leads (r ∷ rs) have n at =
       let e : n ≡ n + 0 = omega arith in
-      step r rs n (ap (row_at all) e ∙ at 0) (leads rs (n + 1)
+      step r rs n (ap (row_at all) e ∙ at 0) have.0 (leads rs have.1 (n + 1)
       (λ k. let f : n + 1 + k ≡ n + suc k = omega arith in ap (row_at all) f ∙ at (suc k))) (test r) refl
+
+-- the rows that pass the test have the text, though others may have it too
+pub first_that_has : (test : Row → Bool) (texts : Row → List (List ℕ)) (t : List ℕ) (rows : List Row)
+    → Leads test texts t rows
+    → first_among test rows (in_group (group_of t) (entries_from texts 0 rows)) ≡ first_where test rows
+first_that_has test texts t rows have =
+    leads test texts t rows rows have 0 (λ k. let e : 0 + k ≡ k = omega arith in ap (row_at rows) e)
+    ∙ unmoved (first_where test rows)
 
 pub first_of_group : (test : Row → Bool) (texts : Row → List (List ℕ)) (t : List ℕ)
     → ((r : Row) → test r ≡ holds (texts r) t) → (rows : List Row)
     → first_among test rows (in_group (group_of t) (entries_from texts 0 rows)) ≡ first_where test rows
-first_of_group test texts t same rows =
-    leads test texts t same rows rows 0 (λ k. let e : 0 + k ≡ k = omega arith in ap (row_at rows) e)
-    ∙ unmoved (first_where test rows)
+first_of_group test texts t same rows = first_that_has test texts t rows (all_lead rows)
+  where
+    all_lead : (rs : List Row) → Leads test texts t rs
+    all_lead [] = tt
+    all_lead (r ∷ rs) = (λ q. sym (same r) ∙ q, all_lead rs)
 
 or_none : (b : Bool) → b ≡ (b || false)
 or_none true = refl
@@ -147,7 +161,7 @@ below_more : (m p : ℕ) (ps : List ℕ) → p < m → Below m ps → Below m (p
 below_more m p ps l b zero h = l
 below_more m p ps l b (suc k) h = b k (omega (arith, h))
 
-pub below_chosen : (m n : ℕ) (ps : List ℕ) → n < m → Below m ps → (c : Bool) → Below m (cond c (n ∷ ps) ps)
+below_chosen : (m n : ℕ) (ps : List ℕ) → n < m → Below m ps → (c : Bool) → Below m (cond c (n ∷ ps) ps)
 below_chosen m n ps l b true = below_more m n ps l b
 below_chosen m n ps l b false = b
 

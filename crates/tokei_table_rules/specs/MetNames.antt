@@ -1,10 +1,11 @@
 -- Names that were met in the rows so far, by which a name of two rows is found.
-use Rattle.std.specs.Prelude.{ℕ, Bool, ◌||◌, List, is_some}
+use Rattle.std.specs.Prelude.{◌≡◌, ℕ, Bool, ◌||◌, List, map, is_some}
 use Rattle.std.specs.Borrow.{Bor}
 use Rattle.std.specs.BTreeMap.{BTreeMap, get_by}
 use Rattle.std.specs.Cmp.Lexicographic.{slice_cmp}
 use Rattle.std.specs.List.{list_any}
 use Rattle.std.specs.Ordering.{nat_cmp}
+use Rattle.tokei_table_row.specs.Bytes.{holds}
 use Rattle.tokei_table_row.specs.Row.{Row}
 use Rattle.tokei_table_rules.specs.RowNames.{names_twice}
 
@@ -19,3 +20,11 @@ was_met met r = met r.key || met r.name
 -- Whether a name of the rows was met, or names two of them.
 abbrev pub clashes : (List ℕ → Bool) → List Row → Bool
 clashes met rs = list_any (was_met met) rs || names_twice rs
+
+-- The bytes of borrowed texts.
+abbrev pub words_of : List (Bor (List ℕ)) → List (List ℕ)
+words_of texts = map (λ t. t.now) texts
+
+-- The names that were met are the texts of the list.
+abbrev pub AreMet : {X : Type 0} → BTreeMap (Bor (List ℕ)) X → List (List ℕ) → Type 0
+AreMet names texts = (q : List ℕ) → is_met names q ≡ holds texts q

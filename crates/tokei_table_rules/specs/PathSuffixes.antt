@@ -1,16 +1,23 @@
--- Which rows have path suffixes: no other row is asked for a suffix of a name.
-use Rattle.std.specs.Prelude.{ℕ, ◌+◌, Bool, true, false, List, [], ◌∷◌, if◌then◌else◌}
+-- By which two bytes the rows are found that have a path suffix of a name: its last two.
+use Rattle.std.specs.Prelude.{ℕ, ◌-◌, Bool, true, false, List, [], ◌∷◌, length, drop, map}
+use Rattle.std.specs.List.{list_any}
 use Rattle.tokei_table_row.specs.Row.{Row}
 
--- Whether there is a text in the list.
-abbrev pub is_filled : List (List ℕ) → Bool
-is_filled [] = false
-is_filled (t ∷ ts) = true
+-- The last two bytes of a text, or the whole of a shorter one.
+abbrev pub tail_of : List ℕ → List ℕ
+tail_of text = drop (length text - 2) text
 
--- In their order the places of the rows that have a path suffix, where the first row has that
--- place.
-abbrev pub suffixed_from : ℕ → List Row → List ℕ
-suffixed_from place [] = []
-suffixed_from place (r ∷ rs) =
-    if is_filled r.path_suffixes then place ∷ suffixed_from (place + 1) rs
-    else suffixed_from (place + 1) rs
+-- Those of each path suffix of the row.
+abbrev pub suffix_tails : Row → List (List ℕ)
+suffix_tails r = map tail_of r.path_suffixes
+
+-- Whether the text has fewer than two bytes: the last two bytes of a name don't tell then whether
+-- it ends with the text.
+abbrev pub is_short : List ℕ → Bool
+is_short [] = true
+is_short (a ∷ []) = true
+is_short (a ∷ b ∷ t) = false
+
+-- Whether a path suffix of the row is short.
+abbrev pub has_short_suffix : Row → Bool
+has_short_suffix r = list_any is_short r.path_suffixes

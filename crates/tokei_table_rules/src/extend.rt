@@ -1,14 +1,14 @@
 //! Copies of rows, with further extensions.
-ghost use Rattle.std.specs.Prelude.{◌≡◌, ◌++◌, map, not, IfOk, OnOk};
+ghost use Rattle.std.specs.Prelude.{◌≡◌, ◌++◌, map, IfOk, OnOk};
 ghost use Rattle.tokei_table_rules.specs.Copies.{with_name, with_comments, with_quotes, with_finds, filled};
 ghost use Rattle.tokei_table_rules.specs.Extended.{gained, with_extensions, extensions_of};
-ghost use Rattle.tokei_table_row.specs.Bytes.{holds};
+ghost use Rattle.tokei_table_rules.specs.MetNames.{words_of};
 ghost use Rattle.tokei_table_row.specs.RowOf.{pair_of, pairs_of, tokens_of, row_of};
 
+use crate::known_texts::KnownTexts;
 use crate::openers::{add_texts, add_word};
 use std::alloc::{AllocError, Global};
 use tokei_table_row::Syntax;
-use tokei_table_row::ext::holds;
 
 fn copy_of_pair(alloc: Global, pair: &(String, String)) -> Result<(String, String), AllocError>
     ensures { IfOk result (λ p. pair_of p ≡ pair_of pair.now) }
@@ -96,33 +96,42 @@ fn fill(
     add_texts(alloc, &mut copy.extensions, extensions)
 }
 
-/// The extensions of all rows, in their order. It fails where memory runs out.
-pub fn all_extensions(alloc: Global, rows: &[Syntax]) -> Result<Vec<String>, AllocError>
-    ensures { IfOk result (λ v. tokens_of v.items ≡ extensions_of (map row_of rows.now)) }
+/// Adds the texts to the known ones. It fails where memory runs out.
+fn add_known<'a>(known: &mut KnownTexts<'a>, texts: &'a [String]) -> Result<(), AllocError>
+    ensures { OnOk result (known.new ≡ known.old ++ tokens_of texts.now) }
 {
-    let mut out = Vec::new(alloc);
-    for row in rows {
-        add_texts(alloc, &mut out, &row.extensions)?;
+    for text in texts {
+        known.add(text.as_str())?;
     }
-    Ok(out)
+    Ok(())
 }
 
-/// Whether neither list holds the extension.
-fn is_new(known: &[String], more: &[String], extension: &[u8]) -> bool
-    ensures { result ≡ not (holds (tokens_of known.now ++ tokens_of more.now) extension.now) }
+/// The extensions of all rows, in their order. It fails where memory runs out.
+pub fn all_extensions<'a>(alloc: Global, rows: &'a [Syntax]) -> Result<KnownTexts<'a>, AllocError>
+    ensures { IfOk result (λ known. known ≡ extensions_of (map row_of rows.now)) }
 {
-    !holds(known, extension) && !holds(more, extension)
+    let mut known = KnownTexts::new(alloc);
+    for row in rows {
+        add_known(&mut known, &row.extensions)?;
+    }
+    Ok(known)
 }
 
-/// Those of the listed extensions that aren't known yet, each once. It fails where memory runs out.
-pub fn gained(alloc: Global, known: &[String], listed: &[String]) -> Result<Vec<String>, AllocError>
-    ensures { IfOk result (λ v. tokens_of v.items
-        ≡ gained (tokens_of known.now) (tokens_of listed.now)) }
+/// Those of the listed extensions that aren't known yet, each once, which are known from then on.
+/// It fails where memory runs out.
+pub fn gained<'a>(
+    alloc: Global,
+    known: &mut KnownTexts<'a>,
+    listed: &[&'a str],
+) -> Result<Vec<String>, AllocError>
+    ensures gained { IfOk result (λ v. tokens_of v.items ≡ gained known.old (words_of listed.now)) }
+    ensures known { OnOk result
+        (known.new ≡ known.old ++ gained known.old (words_of listed.now)) }
 {
     let mut out = Vec::new(alloc);
     for extension in listed {
-        if is_new(known, &out, extension.as_bytes()) {
-            add_word(alloc, &mut out, extension.as_str())?;
+        if known.add_new(*extension)? {
+            add_word(alloc, &mut out, *extension)?;
         }
     }
     Ok(out)

@@ -2,11 +2,12 @@
 //! suffixes.
 ghost use Rattle.std.specs.Prelude.{◌≡◌, map, IfOk};
 ghost use Rattle.std.specs.Str.{str_to_ascii_lowercase};
-ghost use Rattle.tokei_table_rules.specs.PathSuffixes.{suffixed_from};
+ghost use Rattle.std.specs.List.{list_any};
+ghost use Rattle.tokei_table_rules.specs.PathSuffixes.{tail_of, suffix_tails, has_short_suffix};
 ghost use Rattle.tokei_table_rules.specs.TextIndex.{entries_from, group_of, in_group, names, lowered_name};
 ghost use Rattle.tokei_table_row.specs.RowOf.{row_of};
 
-use crate::path_suffixes::suffixed_places;
+use crate::path_suffixes::{has_short_suffix, tail};
 use crate::text_index::TextIndex;
 use std::alloc::{AllocError, Global};
 use std::marker::Model;
@@ -21,7 +22,8 @@ pub struct IndexedRows {
     by_lowered_name: TextIndex,
     by_extension: TextIndex,
     by_filename: TextIndex,
-    suffixed: Vec<usize>,
+    by_suffix_tail: TextIndex,
+    short_suffix: bool,
 }
 
 impl Model for IndexedRows {
@@ -35,13 +37,13 @@ impl Model for IndexedRows {
     ghost view = { λ t. map row_of t.rows.items };
 
     ghost invariant = { λ t. IsIndexed (map row_of t.rows.items) t.by_name t.by_lowered_name
-        t.by_extension t.by_filename t.suffixed.items };
+        t.by_extension t.by_filename t.by_suffix_tail t.short_suffix };
 }
 
 impl IndexedRows {
     /// These rows with an index of their keys and names, one of their names in lower case, one of
-    /// their extensions and one of whole names of files, and with the places of those that have
-    /// path suffixes. It fails where memory runs out.
+    /// their extensions, one of whole names of files and one of what path suffixes end with. It
+    /// fails where memory runs out.
     pub fn new(alloc: Global, rows: Vec<Syntax>) -> Result<IndexedRows, AllocError>
         ensures { IfOk result (λ t. t ≡ map row_of rows.items) }
     {
@@ -49,14 +51,16 @@ impl IndexedRows {
         let by_lowered_name = TextIndex::of_lowered_names(alloc, &rows)?;
         let by_extension = TextIndex::of_extensions(alloc, &rows)?;
         let by_filename = TextIndex::of_filenames(alloc, &rows)?;
-        let suffixed = suffixed_places(alloc, &rows)?;
+        let by_suffix_tail = TextIndex::of_suffix_tails(alloc, &rows)?;
+        let short_suffix = has_short_suffix(&rows);
         Ok(IndexedRows {
             rows,
             by_name,
             by_lowered_name,
             by_extension,
             by_filename,
-            suffixed,
+            by_suffix_tail,
+            short_suffix,
         })
     }
 
@@ -99,10 +103,19 @@ impl IndexedRows {
         self.by_filename.places(name)
     }
 
-    /// The places of the rows that have a path suffix, in their order.
-    pub(crate) fn suffixed(&self) -> &[usize]
-        ensures { result.now ≡ suffixed_from 0 self.entry.now }
+    /// Places of rows, in their order, among which are those of the rows with a path suffix of the
+    /// name, unless one is short.
+    pub(crate) fn suffix_places(&self, name: &[u8]) -> &[usize]
+        ensures { result.now
+            ≡ in_group (group_of (tail_of name.now)) (entries_from suffix_tails 0 self.entry.now) }
     {
-        self.suffixed.as_slice()
+        self.by_suffix_tail.places(tail(name))
+    }
+
+    /// Whether a row has a path suffix of fewer than two bytes.
+    pub(crate) fn has_short_suffix(&self) -> bool
+        ensures { result ≡ list_any has_short_suffix self.now }
+    {
+        self.short_suffix
     }
 }

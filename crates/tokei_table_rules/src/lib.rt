@@ -6,6 +6,7 @@
 pub mod extend;
 pub mod family;
 pub mod indexed_rows;
+pub mod known_texts;
 pub mod lookups;
 pub mod names;
 pub mod openers;
@@ -16,3 +17,4 @@ pub mod well_formed;
 
 pub use family::Family;
 pub use indexed_rows::IndexedRows;
+pub use known_texts::KnownTexts;

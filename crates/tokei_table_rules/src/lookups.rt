@@ -145,10 +145,26 @@ fn first_with_path_suffix(rows: &[Syntax], places: &[usize], name: &[u8]) -> Opt
     None
 }
 
+/// The same among all rows.
+fn any_with_path_suffix(rows: &[Syntax], name: &[u8]) -> Option<usize>
+    ensures { result ≡ first_where (has_path_suffix name.now) (map row_of rows.now) }
+{
+    for (i, row) in rows.iter().enumerate() {
+        if ends_with_one(&row.path_suffixes, name) {
+            return Some(i);
+        }
+    }
+    None
+}
+
 fn with_path_suffix(rows: &IndexedRows, name: &[u8]) -> Option<usize>
     ensures { result ≡ first_where (has_path_suffix name.now) rows.now }
 {
-    first_with_path_suffix(rows.rows(), rows.suffixed(), name)
+    if rows.has_short_suffix() {
+        any_with_path_suffix(rows.rows(), name)
+    } else {
+        first_with_path_suffix(rows.rows(), rows.suffix_places(name), name)
+    }
 }
 
 fn with_shebang(rows: &[Syntax], word: &[u8]) -> Option<usize>

@@ -1,5 +1,5 @@
 //! Whether a text names two rows.
-ghost use Rattle.std.specs.Prelude.{◌≡◌, ◌||◌, ℕ, List, map, bytes_eq, IfOk, OnOk};
+ghost use Rattle.std.specs.Prelude.{◌≡◌, ◌||◌, ◌<◌, ℕ, List, length, true, map, bytes_eq, IfOk, IfSome, OnOk, OnErr};
 ghost use Rattle.tokei_table_row.specs.RowOf.{row_of};
 ghost use Rattle.tokei_table_row.specs.FirstRows.{has_name};
 ghost use Rattle.tokei_table_rules.specs.MetNames.{is_met, was_met};
@@ -9,11 +9,22 @@ use std::alloc::{AllocError, Global};
 use std::collections::BTreeMap;
 use tokei_table_row::Syntax;
 
+/// Whether the name was met.
+pub(crate) fn is_met<'a>(names: &BTreeMap<&'a str, ()>, name: &str) -> bool
+    ensures { result ≡ is_met names.now name.now }
+{
+    names.get(name).is_some()
+}
+
 /// Adds the name to those that were met, and tells whether it was met before.
-fn add_name<'a>(names: &mut BTreeMap<&'a str, ()>, name: &'a str) -> Result<bool, AllocError>
+pub(crate) fn add_name<'a>(
+    names: &mut BTreeMap<&'a str, ()>,
+    name: &'a str,
+) -> Result<bool, AllocError>
     ensures met { IfOk result (λ met. met ≡ is_met names.old name.now) }
     ensures added { OnOk result
         ((q : List ℕ) → is_met names.new q ≡ (is_met names.old q || bytes_eq name.now q)) }
+    ensures kept { OnErr result ((q : List ℕ) → is_met names.new q ≡ is_met names.old q) }
 {
     match names.insert(name, ()) {
         Ok(old) => Ok(old.is_some()),
@@ -35,6 +46,35 @@ fn add_names<'a>(names: &mut BTreeMap<&'a str, ()>, row: &'a Syntax) -> Result<b
     }
     let name_met = add_name(names, name)?;
     Ok(key_met || name_met)
+}
+
+/// The first row of which a name was met in the rows before it. It fails where memory runs out.
+pub fn second_of_name(alloc: Global, rows: &[Syntax]) -> Result<Option<usize>, AllocError>
+    ensures { IfOk result (λ o. IfSome o (λ place. place < length rows.now)) }
+{
+    let mut names = BTreeMap::new(alloc);
+    for (place, row) in rows.iter().enumerate() {
+        if add_names(&mut names, row)? {
+            return Ok(Some(place));
+        }
+    }
+    Ok(None)
+}
+
+/// The name of one row that is a name of the other one too.
+pub fn shared_name<'a>(row: &'a Syntax, other: &Syntax) -> Option<&'a str>
+    ensures shared { IfSome result (λ name. (has_name name.now (row_of row.now) ≡ true)
+        × (has_name name.now (row_of other.now) ≡ true)) }
+{
+    let key = row.key.as_str();
+    let name = row.name.as_str();
+    if key == other.key.as_str() || key == other.name.as_str() {
+        Some(key)
+    } else if name == other.key.as_str() || name == other.name.as_str() {
+        Some(name)
+    } else {
+        None
+    }
 }
 
 /// Whether a text is key or name of two rows. It fails where memory runs out.

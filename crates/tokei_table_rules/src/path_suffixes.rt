@@ -1,26 +1,46 @@
-//! Which rows of a table have path suffixes, so that no other is asked for a suffix of a name.
-ghost use Rattle.std.specs.Prelude.{◌≡◌, map, IfOk};
+//! The last two bytes of path suffixes, by which the rows that have a suffix of a name are found.
+ghost use Rattle.std.specs.Prelude.{◌≡◌, map};
+ghost use Rattle.std.specs.List.{list_any};
 ghost use Rattle.tokei_table_row.specs.RowOf.{row_of, tokens_of};
-ghost use Rattle.tokei_table_rules.specs.PathSuffixes.{is_filled, suffixed_from};
+ghost use Rattle.tokei_table_rules.specs.PathSuffixes.{tail_of, is_short, has_short_suffix};
 
-use std::alloc::{AllocError, Global};
 use tokei_table_row::Syntax;
 
-fn is_filled(texts: &[String]) -> bool
-    ensures { result ≡ is_filled (tokens_of texts.now) }
+/// The last two bytes of the text, or the whole of a shorter one.
+pub(crate) fn tail(text: &[u8]) -> &[u8]
+    ensures { result.now ≡ tail_of text.entry.now }
 {
-    !texts.is_empty()
+    &text[text.len().saturating_sub(2)..]
 }
 
-/// In their order the places of the rows that have a path suffix. It fails where memory runs out.
-pub(crate) fn suffixed_places(alloc: Global, rows: &[Syntax]) -> Result<Vec<usize>, AllocError>
-    ensures { IfOk result (λ v. v.items ≡ suffixed_from 0 (map row_of rows.now)) }
+fn is_short(text: &[u8]) -> bool
+    ensures { result ≡ is_short text.now }
 {
-    let mut places = Vec::new(alloc);
-    for (place, row) in rows.iter().enumerate() {
-        if is_filled(&row.path_suffixes) {
-            places.push(place)?;
+    match text {
+        [_, _, ..] => false,
+        _ => true,
+    }
+}
+
+fn has_short(texts: &[String]) -> bool
+    ensures { result ≡ list_any is_short (tokens_of texts.now) }
+{
+    for text in texts {
+        if is_short(text.as_bytes()) {
+            return true;
         }
     }
-    Ok(places)
+    false
+}
+
+/// Whether a row has a path suffix of fewer than two bytes.
+pub(crate) fn has_short_suffix(rows: &[Syntax]) -> bool
+    ensures { result ≡ list_any has_short_suffix (map row_of rows.now) }
+{
+    for row in rows {
+        if has_short(&row.path_suffixes) {
+            return true;
+        }
+    }
+    false
 }

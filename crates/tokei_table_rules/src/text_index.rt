@@ -4,7 +4,9 @@ ghost use Rattle.std.specs.Str.{str_to_ascii_lowercase};
 ghost use Rattle.tokei_table_row.specs.RowOf.{row_of, tokens_of};
 ghost use Rattle.tokei_table_rules.specs.TextIndex.{group_of, entries_of, entries_from, AddsEntries, AreGroups};
 ghost use Rattle.tokei_table_rules.specs.TextIndex.{names, lowered_name};
+ghost use Rattle.tokei_table_rules.specs.PathSuffixes.{tail_of, suffix_tails};
 
+use crate::path_suffixes::tail;
 use std::alloc::{AllocError, Global};
 use std::marker::Model;
 use tokei_table_row::Syntax;
@@ -116,6 +118,19 @@ fn add_entries(groups: &mut Vec<Group>, place: usize, texts: &[String]) -> Resul
     Ok(())
 }
 
+/// Puts the place at the end of the group of each text's last two bytes.
+fn add_tails(groups: &mut Vec<Group>, place: usize, texts: &[String]) -> Result<(), AllocError>
+    requires { length groups.old.items ≡ 256 }
+    ensures len { length groups.new.items ≡ 256 }
+    ensures added { OnOk result (AddsEntries (entries_of place (map tail_of (tokens_of texts.now)))
+        groups.old.items groups.new.items) }
+{
+    for text in texts {
+        add_place(groups, group_of(tail(text.as_bytes())), place)?;
+    }
+    Ok(())
+}
+
 /// All groups, with no place in any.
 fn no_groups(alloc: Global) -> Result<Vec<Group>, AllocError>
     ensures { IfOk result (λ v. AreGroups [] v.items) }
@@ -147,6 +162,18 @@ fn filename_groups(alloc: Global, rows: &[Syntax]) -> Result<Vec<Group>, AllocEr
     let mut groups = no_groups(alloc)?;
     for (place, row) in rows.iter().enumerate() {
         add_entries(&mut groups, place, &row.filenames)?;
+    }
+    Ok(groups)
+}
+
+/// The groups of the last two bytes of the rows' path suffixes.
+fn suffix_groups(alloc: Global, rows: &[Syntax]) -> Result<Vec<Group>, AllocError>
+    ensures { IfOk result (λ v. AreGroups
+        (entries_from suffix_tails 0 (map row_of rows.now)) v.items) }
+{
+    let mut groups = no_groups(alloc)?;
+    for (place, row) in rows.iter().enumerate() {
+        add_tails(&mut groups, place, &row.path_suffixes)?;
     }
     Ok(groups)
 }
@@ -194,6 +221,15 @@ impl TextIndex {
         Ok(TextIndex { groups })
     }
 
+    /// The index of the last two bytes of path suffixes. It fails where memory runs out.
+    pub(crate) fn of_suffix_tails(alloc: Global, rows: &[Syntax]) -> Result<TextIndex, AllocError>
+        ensures { IfOk result (λ x. AreGroups (entries_from suffix_tails 0 (map row_of rows.now))
+            x) }
+    {
+        let groups = suffix_groups(alloc, rows)?;
+        Ok(TextIndex { groups })
+    }
+
     /// The index of the rows' keys and names. It fails where memory runs out.
     pub(crate) fn of_names(alloc: Global, rows: &[Syntax]) -> Result<TextIndex, AllocError>
         ensures { IfOk result (λ x. AreGroups (entries_from names 0 (map row_of rows.now)) x) }
@@ -218,6 +254,7 @@ impl TextIndex {
     {
         self.groups[group_of(text)].places()
     }
+
     /// The same of the group of the text's ASCII lower case.
     pub(crate) fn lowered_places(&self, text: &[u8]) -> &[usize]
         ensures places { result.now

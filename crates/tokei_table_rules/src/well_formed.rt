@@ -1,10 +1,10 @@
 //! Whether the rows of a table can be counted with.
-ghost use Rattle.std.specs.Prelude.{◌≡◌, map};
+ghost use Rattle.std.specs.Prelude.{◌≡◌, false, map, IfSome};
 ghost use Rattle.std.specs.List.{list_all, list_any};
 ghost use Rattle.tokei_table_row.specs.RowOf.{row_of};
 ghost use Rattle.tokei_table_rules.specs.Fallbacks.{has_key, has_fallbacks};
 ghost use Rattle.tokei_table_rules.specs.RowNames.{is_total};
-ghost use Rattle.tokei_table_rules.specs.Tokens.{has_tokens};
+ghost use Rattle.tokei_table_rules.specs.Tokens.{has_tokens, member_has_tokens};
 
 use crate::family::Family;
 use crate::tokens::{are_pairs, are_tokens};
@@ -24,6 +24,31 @@ fn has_tokens(row: &Syntax) -> bool
         && are_tokens(&row.contexts)
 }
 
+/// The member of the row that has a text which a count looks for and which is no token.
+pub fn bad_member(row: &Syntax) -> Option<&str>
+    ensures { IfSome result (λ m. member_has_tokens (row_of row.entry.now) m.now ≡ false) }
+{
+    if !are_tokens(&row.line_comment) {
+        Some("line_comment")
+    } else if !are_pairs(&row.multi_line_comments) {
+        Some("multi_line_comments")
+    } else if !are_pairs(&row.nested_comments) {
+        Some("nested_comments")
+    } else if !are_pairs(&row.quotes) {
+        Some("quotes")
+    } else if !are_pairs(&row.verbatim_quotes) {
+        Some("verbatim_quotes")
+    } else if !are_pairs(&row.doc_quotes) {
+        Some("doc_quotes")
+    } else if !are_tokens(&row.important_syntax) {
+        Some("important_syntax")
+    } else if !are_tokens(&row.contexts) {
+        Some("contexts")
+    } else {
+        None
+    }
+}
+
 /// Whether all texts that a count looks for are tokens.
 pub fn all_have_tokens(rows: &[Syntax]) -> bool
     ensures { result ≡ list_all has_tokens (map row_of rows.now) }
@@ -36,7 +61,8 @@ pub fn all_have_tokens(rows: &[Syntax]) -> bool
     true
 }
 
-fn is_total(row: &Syntax) -> bool
+/// Whether the key or the name is `Total`.
+pub fn is_total(row: &Syntax) -> bool
     ensures { result ≡ is_total (row_of row.now) }
 {
     row.key.as_str() == "Total" || row.name.as_str() == "Total"
@@ -76,6 +102,39 @@ fn has_fallbacks(rows: &[Syntax], row: &Syntax) -> bool
         Family::Rust => has_key(rows, "Markdown"),
         Family::LinguaFranca => has_key(rows, "C"),
         Family::Jupyter => has_key(rows, "Markdown") && has_key(rows, "Python"),
+    }
+}
+
+/// The key, unless a row has it.
+fn absent<'a>(rows: &[Syntax], key: &'a str) -> Option<&'a str>
+    ensures { IfSome result (λ k. has_key (map row_of rows.now) k.now ≡ false) }
+{
+    if has_key(rows, key) { None } else { Some(key) }
+}
+
+/// The key of a language that is missing, on which children of the row's language fall back.
+pub fn missing_key(rows: &[Syntax], row: &Syntax) -> Option<&'static str>
+    ensures { IfSome result (λ k. has_key (map row_of rows.now) k.now ≡ false) }
+{
+    match Family::of_key(row.key.as_str()) {
+        Family::Plain | Family::Markdown => None,
+        Family::HtmlLike => {
+            if let Some(key) = absent(rows, "JavaScript") {
+                return Some(key);
+            }
+            if let Some(key) = absent(rows, "Css") {
+                return Some(key);
+            }
+            absent(rows, "Html")
+        }
+        Family::Rust => absent(rows, "Markdown"),
+        Family::LinguaFranca => absent(rows, "C"),
+        Family::Jupyter => {
+            if let Some(key) = absent(rows, "Markdown") {
+                return Some(key);
+            }
+            absent(rows, "Python")
+        }
     }
 }
 

@@ -6,6 +6,7 @@ pub mod Inside
 pub mod KeptPlaces
 pub mod ListedFiles
 pub mod NearestFirst
+pub mod NeverRefused
 pub mod Over
 pub mod Ranking
 pub mod RootSteps

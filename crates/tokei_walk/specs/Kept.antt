@@ -38,8 +38,8 @@ last_name (n ∷ m ∷ ns) = last_name (m ∷ ns)
 
 -- an entry below a root is dropped, whether it is a folder or not
 unfoldable pub is_dropped : List Pattern → Rules → Tree → Names → Names → Bool → Bool
-is_dropped excludes rules t root inner entered =
-    drops_last excludes rules (context_at t rules root inner) (last_name inner) entered
+is_dropped excludes rules t root inner is_folder =
+    drops_last excludes rules (context_at t rules root inner) (last_name inner) is_folder
 
 -- the folders between a root and a place below it, by the names from the root down
 abbrev pub between : Names → Names → List Names
@@ -52,11 +52,15 @@ abbrev pub is_entered : List Pattern → Rules → Tree → Names → Names → 
 is_entered excludes rules t root inner =
     can_list (node_at t (root ++ inner)) && not (is_dropped excludes rules t root inner true)
 
--- a file below a root is kept where the root can be listed, each folder between them is entered and
--- lies at most 256 below the root, and the file isn't dropped
+-- the most names that lead from a root down to a file below it
+abbrev pub most_names : ℕ
+most_names = 257
+
+-- a file below a root is kept where no more names lead down to it, the root can be listed, each
+-- folder between them is entered, and the file isn't dropped
 unfoldable pub is_kept_below : List Pattern → Rules → Tree → Names → Names → Bool
 is_kept_below excludes rules t root inner =
-    nat_le (length inner) 257
+    nat_le (length inner) most_names
     && (can_list (node_at t root)
     && (list_all (is_entered excludes rules t root) (between [] inner)
     && not (is_dropped excludes rules t root inner false)))

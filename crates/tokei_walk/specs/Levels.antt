@@ -6,8 +6,8 @@ use Rattle.tokei_folders.specs.declared.nodes.Node.{Node}
 use Rattle.tokei_folders.specs.declared.nodes.Node.TheVariants.{File as file, Folder as folder}
 use Rattle.tokei_walk.specs.declared.levels.Rules.{Rules}
 use Rattle.tokei_walk.specs.declared.levels.Level.{Level}
-use Rattle.tokei_walk.specs.declared.levels.Source.{Source}
-use Rattle.tokei_walk.specs.declared.levels.Source.TheVariants.{Tokeignore, Plain, Gitignore, GitExclude}
+use Rattle.tokei_walk.specs.declared.levels.IgnoreKind.{IgnoreKind}
+use Rattle.tokei_walk.specs.declared.levels.IgnoreKind.TheVariants.{Tokeignore, Plain, Gitignore, GitExclude}
 use Rattle.tokei_walk.specs.declared.levels.Context.{Context}
 use Rattle.tokei_ignore.specs.declared.patterns.Pattern.{Pattern}
 use Rattle.tokei_ignore.specs.declared.ignore_files.Verdict.{Verdict}
@@ -15,7 +15,7 @@ use Rattle.tokei_ignore.specs.declared.ignore_files.Verdict.TheVariants.{Ignore,
 use Rattle.tokei_folders.specs.Ends.{without_first, begins_with}
 use Rattle.tokei_ignore.specs.IgnoreFiles.{patterns_of, last_fitting, or_else}
 use Rattle.tokei_ignore.specs.Patterns.{fits_entry}
-use Rattle.tokei_folders.specs.Tree.{Names, Tree, node_at}
+use Rattle.tokei_folders.specs.Tree.{Names, Tree, node_at, dot}
 
 -- an ignore file that is missing, is no file or can't be read gives no pattern
 abbrev pub patterns_at : Option Node → List Pattern
@@ -45,7 +45,7 @@ level_at t rules p = record {
 }
 
 -- the patterns of a level that come from one kind of ignore file
-abbrev pub patterns_from : Source → Level → List Pattern
+abbrev pub patterns_from : IgnoreKind → Level → List Pattern
 patterns_from Tokeignore l = l.tokeignore
 patterns_from Plain l = l.ignore
 patterns_from Gitignore l = l.gitignore
@@ -53,11 +53,11 @@ patterns_from GitExclude l = l.git_exclude
 
 -- from the top down: what a nearer folder decides takes the place of what those above decided; the
 -- names are those from the first folder down to the entry
-abbrev pub decision : Source → List Level → Names → Bool → Option Verdict → Option Verdict
-decision source [] names entered found = found
-decision source (l ∷ ls) names entered found =
-    decision source ls (without_first names) entered
-    (or_else (last_fitting (patterns_from source l) names entered) found)
+abbrev pub decision : IgnoreKind → List Level → Names → Bool → Option Verdict → Option Verdict
+decision source [] names is_folder found = found
+decision source (l ∷ ls) names is_folder found =
+    decision source ls (without_first names) is_folder
+    (or_else (last_fitting (patterns_from source l) names is_folder) found)
 
 -- the folders from the nearest one with an entry `.git` on, with the names from there; none without
 -- one
@@ -72,11 +72,11 @@ repository ls names = in_repository ls names ([], [])
 
 -- the kinds of ignore files, in their order; git's two hold in the repository alone
 unfoldable pub decided : List Level → Names → Bool → Option Verdict
-decided ls names entered =
-    or_else (decision Tokeignore ls names entered None)
-    (or_else (decision Plain ls names entered None)
-    (or_else (decision Gitignore (repository ls names).0 (repository ls names).1 entered None)
-    (decision GitExclude (repository ls names).0 (repository ls names).1 entered None)))
+decided ls names is_folder =
+    or_else (decision Tokeignore ls names is_folder None)
+    (or_else (decision Plain ls names is_folder None)
+    (or_else (decision Gitignore (repository ls names).0 (repository ls names).1 is_folder None)
+    (decision GitExclude (repository ls names).0 (repository ls names).1 is_folder None)))
 
 -- where no ignore file decides, a name that begins with a dot is dropped
 abbrev pub is_dropped_by : Option Verdict → Bool → Bool
@@ -86,7 +86,7 @@ is_dropped_by None dotted = dotted
 
 -- an exclude drops what it fits
 unfoldable pub is_excluded : List Pattern → Names → Bool → Bool
-is_excluded excludes shown entered = list_any (λ p. fits_entry p shown entered) excludes
+is_excluded excludes shown is_folder = list_any (λ p. fits_entry p shown is_folder) excludes
 
 -- the context with an entry's name
 abbrev pub under : Context → List ℕ → Context
@@ -94,10 +94,10 @@ under c name = record c { names = c.names ++ name ∷ []; shown = c.shown ++ nam
 
 -- whether the entry that the context's names lead to is dropped, and its own name
 unfoldable pub drops_last : List Pattern → Rules → Context → List ℕ → Bool → Bool
-drops_last excludes rules c name entered =
-    if is_excluded excludes c.shown entered then true
-    else is_dropped_by (decided c.levels c.names entered) (rules.hidden && begins_with 46 name)
+drops_last excludes rules c name is_folder =
+    if is_excluded excludes c.shown is_folder then true
+    else is_dropped_by (decided c.levels c.names is_folder) (rules.hidden && begins_with dot name)
 
 -- whether an entry of a folder is dropped, by its name and whether it is a folder
 abbrev pub drops : List Pattern → Rules → Context → List ℕ → Bool → Bool
-drops excludes rules c name entered = drops_last excludes rules (under c name) name entered
+drops excludes rules c name is_folder = drops_last excludes rules (under c name) name is_folder

@@ -1,14 +1,17 @@
 -- The notes of a walk: what it met and passed over.
-use Rattle.std.specs.Prelude.{◌≡◌, ◌==◌, ℕ, List, [], ◌∷◌, ◌++◌, if◌then◌else◌, map, Option, Some, None, Result, Ok, Err}
+use Rattle.std.specs.Prelude.{◌≡◌, ◌==◌, ℕ, List, [], ◌∷◌, ◌++◌, cond, if◌then◌else◌, map, replicate, Option, Some, None, Result, Ok, Err}
 use Rattle.std.specs.List.{flat_map}
 use Rattle.std.specs.Str.{chars}
 use Rattle.tokei_folders.specs.declared.fs.Listing.{Listing}
+use Rattle.tokei_folders.specs.declared.nodes.Node.{Node}
+use Rattle.tokei_folders.specs.declared.nodes.Node.TheVariants.{File as file, Folder as folder}
 use Rattle.tokei_folders.specs.Places.{joined}
 use Rattle.tokei_walk.specs.declared.kept_file.Note.{Note}
-use Rattle.tokei_walk.specs.declared.kept_file.NoteKind.TheVariants.{BadExclude, LostEntry, MissingRoot, Unlisted, Unnamed}
+use Rattle.tokei_walk.specs.declared.kept_file.NoteKind.TheVariants.{BadExclude, BadLine, LostEntry, MissingRoot, Unlisted, Unnamed, UnreadIgnore}
 use Rattle.tokei_ignore.specs.declared.patterns.Pattern.{Pattern}
 use Rattle.tokei_ignore.specs.declared.patterns.PatternError.{PatternError}
 use Rattle.tokei_walk.specs.declared.walking.Walk.{Walk}
+use Rattle.tokei_ignore.specs.IgnoreFiles.{bad_lines_of}
 use Rattle.tokei_ignore.specs.Patterns.{exclude_pattern}
 
 -- what a walk met so far
@@ -50,6 +53,18 @@ lost_notes place names = map (lost_note place) names
 abbrev pub listing_notes : List ℕ → Option Listing → List Note
 listing_notes place None = record { kind = Unlisted; place = place } ∷ []
 listing_notes place (Some l) = unnamed_notes place l.unnamed ++ lost_notes place l.lost.items
+
+-- a note of each bad line of an ignore file
+abbrev pub bad_line_notes : List ℕ → ℕ → List Note
+bad_line_notes place count = replicate count (record { kind = BadLine; place = place })
+
+-- the notes of an ignore file: that it can't be read, or one of each of its bad lines
+abbrev pub ignore_notes : List ℕ → Option Node → List Note
+ignore_notes place None = []
+ignore_notes place (Some (folder r)) = []
+ignore_notes place (Some (file r h content)) =
+    cond r (record { kind = UnreadIgnore; place = place } ∷ [])
+    (bad_line_notes place (bad_lines_of content))
 
 -- notes are added at the end, and none is taken off
 pub record Grows (old new : List Note) : Type 0 where

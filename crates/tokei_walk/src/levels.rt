@@ -1,6 +1,7 @@
 //! What the rules of folders inside one another decide.
 ghost use Rattle.std.specs.Prelude.{◌≡◌, ◌++◌, [], ◌∷◌, None, OnOk, IfOk, drop};
 ghost use Rattle.tokei_folders.specs.Ends.{without_first as rest_of, begins_with};
+ghost use Rattle.tokei_folders.specs.Tree.{dot};
 ghost use Rattle.tokei_walk.specs.Levels.{patterns_from as level_patterns, decision as level_decision, repository as repository_of, decided as level_decided, is_excluded as excluded_by, is_dropped_by as dropped_by, drops};
 
 use std::alloc::AllocError;
@@ -22,7 +23,7 @@ pub struct Rules {
 
 /// The kinds of ignore files, in the order in which they decide.
 #[derive(Clone, Copy)]
-pub enum Source {
+pub enum IgnoreKind {
     Tokeignore,
     Plain,
     Gitignore,
@@ -51,14 +52,14 @@ pub struct Context {
     pub shown: Items<Text>,
 }
 
-fn patterns(level: &Level, source: Source) -> &IndexedPatterns
+fn patterns(level: &Level, source: IgnoreKind) -> &IndexedPatterns
     ensures { result.now ≡ level_patterns source level.entry.now }
 {
     match source {
-        Source::Tokeignore => &level.tokeignore,
-        Source::Plain => &level.ignore,
-        Source::Gitignore => &level.gitignore,
-        Source::GitExclude => &level.git_exclude,
+        IgnoreKind::Tokeignore => &level.tokeignore,
+        IgnoreKind::Plain => &level.ignore,
+        IgnoreKind::Gitignore => &level.gitignore,
+        IgnoreKind::GitExclude => &level.git_exclude,
     }
 }
 
@@ -84,13 +85,18 @@ fn names_behind(names: &[Text], count: usize) -> &[Text]
 
 /// What the ignore files of one kind decide: the nearest folder's that decides. Farther ones aren't
 /// asked then.
-fn decision(source: Source, levels: &[Level], names: &[Text], entered: bool) -> Option<Verdict>
-    ensures { result ≡ level_decision source levels.now names.now entered None }
+fn decision(
+    source: IgnoreKind,
+    levels: &[Level],
+    names: &[Text],
+    is_folder: bool,
+) -> Option<Verdict>
+    ensures { result ≡ level_decision source levels.now names.now is_folder None }
 {
     let mut left = levels;
     while let Some((level, farther)) = left.split_last() {
         let below = names_behind(names, farther.len());
-        if let Some(verdict) = verdict_among(patterns(level, source), below, entered) {
+        if let Some(verdict) = verdict_among(patterns(level, source), below, is_folder) {
             return Some(verdict);
         }
         left = farther;
@@ -120,31 +126,33 @@ fn repository<'a>(levels: &'a [Level], names: &'a [Text]) -> (&'a [Level], &'a [
 
 /// What the ignore files decide about an entry.
 #[tactic(auto, unfolding(crate::specs::Levels::decided))]
-fn decided(levels: &[Level], names: &[Text], entered: bool) -> Option<Verdict>
-    ensures { result ≡ level_decided levels.now names.now entered }
+fn decided(levels: &[Level], names: &[Text], is_folder: bool) -> Option<Verdict>
+    ensures { result ≡ level_decided levels.now names.now is_folder }
 {
-    if let Some(verdict) = decision(Source::Tokeignore, levels, names, entered) {
+    if let Some(verdict) = decision(IgnoreKind::Tokeignore, levels, names, is_folder) {
         return Some(verdict);
     }
-    if let Some(verdict) = decision(Source::Plain, levels, names, entered) {
+    if let Some(verdict) = decision(IgnoreKind::Plain, levels, names, is_folder) {
         return Some(verdict);
     }
     let (levels, names) = repository(levels, names);
-    if let Some(verdict) = decision(Source::Gitignore, levels, names, entered) {
+    if let Some(verdict) = decision(IgnoreKind::Gitignore, levels, names, is_folder) {
         return Some(verdict);
     }
-    decision(Source::GitExclude, levels, names, entered)
+    decision(IgnoreKind::GitExclude, levels, names, is_folder)
 }
 
 #[tactic(auto, unfolding(crate::specs::Levels::is_excluded))]
-fn is_excluded(excludes: &[Pattern], shown: &[Text], entered: bool) -> bool
-    ensures { result ≡ excluded_by excludes.now shown.now entered }
+fn is_excluded(excludes: &[Pattern], shown: &[Text], is_folder: bool) -> bool
+    ensures { result ≡ excluded_by excludes.now shown.now is_folder }
 {
-    excludes.iter().any(|pattern| pattern.fits(shown, entered))
+    excludes
+        .iter()
+        .any(|pattern| pattern.fits(shown, is_folder))
 }
 
 fn begins_dotted(name: &str) -> bool
-    ensures { result ≡ begins_with 46 name.now }
+    ensures { result ≡ begins_with dot name.now }
 {
     match name.as_bytes() {
         [] => false,
@@ -158,15 +166,15 @@ fn is_excluded_under(
     excludes: &[Pattern],
     shown: &mut Items<Text>,
     name: Text,
-    entered: bool,
+    is_folder: bool,
 ) -> Result<(bool, Text), AllocError>
     ensures shown { OnOk result (shown.new ≡ shown.old) }
     ensures excluded { IfOk result (λ p. p.0
-        ≡ excluded_by excludes.now (shown.old ++ name ∷ []) entered) }
+        ≡ excluded_by excludes.now (shown.old ++ name ∷ []) is_folder) }
     ensures name { IfOk result (λ p. p.1 ≡ name) }
 {
     shown.push(name)?;
-    let excluded = is_excluded(excludes, shown.as_slice(), entered);
+    let excluded = is_excluded(excludes, shown.as_slice(), is_folder);
     Ok((excluded, shown.pop().unwrap()))
 }
 
@@ -176,15 +184,15 @@ fn decided_under(
     levels: &[Level],
     names: &mut Items<Text>,
     name: Text,
-    entered: bool,
+    is_folder: bool,
 ) -> Result<(Option<Verdict>, Text), AllocError>
     ensures names { OnOk result (names.new ≡ names.old) }
     ensures verdict { IfOk result (λ p. p.0
-        ≡ level_decided levels.now (names.old ++ name ∷ []) entered) }
+        ≡ level_decided levels.now (names.old ++ name ∷ []) is_folder) }
     ensures name { IfOk result (λ p. p.1 ≡ name) }
 {
     names.push(name)?;
-    let verdict = decided(levels, names.as_slice(), entered);
+    let verdict = decided(levels, names.as_slice(), is_folder);
     Ok((verdict, names.pop().unwrap()))
 }
 
@@ -206,19 +214,19 @@ pub fn judge(
     rules: &Rules,
     context: &mut Context,
     name: Text,
-    entered: bool,
+    is_folder: bool,
 ) -> Result<(bool, Text), AllocError>
     ensures context { OnOk result (context.new ≡ context.old) }
     ensures dropped { IfOk result (λ p. p.0
-        ≡ drops excludes.now rules.now context.old name entered) }
+        ≡ drops excludes.now rules.now context.old name is_folder) }
     ensures name { IfOk result (λ p. p.1 ≡ name) }
 {
-    let (excluded, name) = is_excluded_under(excludes, &mut context.shown, name, entered)?;
+    let (excluded, name) = is_excluded_under(excludes, &mut context.shown, name, is_folder)?;
     if excluded {
         return Ok((true, name));
     }
     let levels = context.levels.as_slice();
-    let (verdict, name) = decided_under(levels, &mut context.names, name, entered)?;
+    let (verdict, name) = decided_under(levels, &mut context.names, name, is_folder)?;
     let dotted = rules.hidden && begins_dotted(name.as_str());
     Ok((is_dropped_by(verdict, dotted), name))
 }

@@ -1,6 +1,6 @@
 //! The rules of a folder, read from its ignore files.
 ghost use Rattle.std.specs.Prelude.{◌≡◌, ◌++◌, ◌&&◌, [], ◌∷◌, OnOk, OnErr, IfOk, option_map, cond, is_some, codes};
-ghost use Rattle.tokei_walk.specs.Notes.{Grows};
+ghost use Rattle.tokei_walk.specs.Notes.{Grows, bad_line_notes, ignore_notes};
 ghost use Rattle.tokei_folders.specs.Answers.{Told, node_kind, node_content};
 ghost use Rattle.tokei_folders.specs.AsTheyWere.{AsTheyWere};
 ghost use Rattle.tokei_folders.specs.Tree.{names_of, node_at};
@@ -46,6 +46,7 @@ fn kind_at<F: Folders>(
     ensures notes { Grows notes.old notes.new }
     ensures told { Told (F.tree folders.old) (λ t. IfOk result
         (λ k. k ≡ node_kind (node_at t (names_of place.now)))) }
+    ensures quiet { Told (F.tree folders.old) (λ t. OnOk result (notes.new ≡ notes.old)) }
 {
     match folders.kind_if_any(place) {
         Ok(kind) => Ok(kind),
@@ -70,6 +71,23 @@ fn content<F: Folders>(folders: &mut F, place: &str) -> Result<Option<Vec<u8>>, 
     }
 }
 
+/// Leaves a note of each bad line of an ignore file.
+#[tactic(auto, using(crate::proofs::Growing::grows_same, crate::proofs::Growing::grows_on))]
+fn note_bad_lines(
+    alloc: Global,
+    notes: &mut Items<Note>,
+    bad_lines: usize,
+    place: &str,
+) -> Result<(), AllocError>
+    ensures bad { OnOk result (notes.new ≡ notes.old ++ bad_line_notes place.now bad_lines) }
+    ensures notes { Grows notes.old notes.new }
+{
+    for _ in 0..bad_lines {
+        note(alloc, notes, NoteKind::BadLine, place)?;
+    }
+    Ok(())
+}
+
 /// The patterns of an ignore file, where it is there and can be read.
 #[tactic(auto, using(crate::proofs::Growing::grows_same, crate::proofs::Growing::grows_on))]
 fn patterns_of_file<F: Folders>(
@@ -82,6 +100,8 @@ fn patterns_of_file<F: Folders>(
     ensures notes { Grows notes.old notes.new }
     ensures told { Told (F.tree folders.old) (λ t. IfOk result
         (λ ps. ps ≡ patterns_at (node_at t (names_of place.now)))) }
+    ensures noted { Told (F.tree folders.old) (λ t. OnOk result
+        (notes.new ≡ notes.old ++ ignore_notes place.now (node_at t (names_of place.now)))) }
 {
     match kind_at(alloc, folders, notes, place)? {
         Some(Kind::File) => {}
@@ -92,14 +112,12 @@ fn patterns_of_file<F: Folders>(
         return Ok(IndexedPatterns::new(alloc));
     };
     let file = IgnoreFile::parse(alloc, bytes.as_slice())?;
-    for _ in 0..file.bad_lines {
-        note(alloc, notes, NoteKind::BadLine, place)?;
-    }
+    note_bad_lines(alloc, notes, file.bad_lines, place)?;
     Ok(file.patterns)
 }
 
 /// An ignore file, by its folder's place and the path that leads to it from there.
-#[derive(Drop)]
+#[derive(Clone, Copy)]
 struct IgnoreName<'a> {
     /// Whether it is read; one that isn't has no patterns.
     on: bool,
@@ -123,13 +141,13 @@ fn patterns_of_name<F: Folders>(
     alloc: Global,
     folders: &mut F,
     notes: &mut Items<Note>,
-    file: &IgnoreName,
+    file: IgnoreName,
 ) -> Result<IndexedPatterns, AllocError>
     ensures folders { AsTheyWere F.tree F.memory_faults folders.old folders.new result }
     ensures notes { Grows notes.old notes.new }
     ensures told { Told (F.tree folders.old) (λ t. IfOk result (λ ps. ps
-        ≡ cond file.now.on (patterns_at (node_at t
-        (names_of file.now.place.now ++ names_of file.now.name.now))) [])) }
+        ≡ cond file.entry.on (patterns_at (node_at t
+        (names_of file.entry.place.now ++ names_of file.entry.name.now))) [])) }
 {
     if !file.on {
         return Ok(IndexedPatterns::new(alloc));
@@ -209,13 +227,13 @@ pub fn read_sought<F: Folders>(
         (λ l. l ≡ level_of t sought (names_of place.now))) }
 {
     let tokeignore = IgnoreName::new(sought.tokeignore, place, ".tokeignore");
-    let tokeignore = patterns_of_name(alloc, folders, notes, &tokeignore)?;
+    let tokeignore = patterns_of_name(alloc, folders, notes, tokeignore)?;
     let ignore = IgnoreName::new(sought.ignore, place, ".ignore");
-    let ignore = patterns_of_name(alloc, folders, notes, &ignore)?;
+    let ignore = patterns_of_name(alloc, folders, notes, ignore)?;
     let gitignore = IgnoreName::new(sought.gitignore, place, ".gitignore");
-    let gitignore = patterns_of_name(alloc, folders, notes, &gitignore)?;
+    let gitignore = patterns_of_name(alloc, folders, notes, gitignore)?;
     let git_exclude = IgnoreName::new(sought.git, place, ".git/info/exclude");
-    let git_exclude = patterns_of_name(alloc, folders, notes, &git_exclude)?;
+    let git_exclude = patterns_of_name(alloc, folders, notes, git_exclude)?;
     Ok(Level {
         tokeignore,
         ignore,

@@ -96,11 +96,11 @@ fn consider(
     settings: &Settings,
     context: &mut Context,
     name: Text,
-    entered: bool,
+    is_folder: bool,
 ) -> Result<(bool, Text), AllocError>
     ensures context { OnOk result (context.new ≡ context.old) }
     ensures dropped { IfOk result (λ p.
-        p.0 ≡ drops settings.now.excludes settings.now.rules context.old name entered) }
+        p.0 ≡ drops settings.now.excludes settings.now.rules context.old name is_folder) }
     ensures name { IfOk result (λ p. p.1 ≡ name) }
 {
     judge(
@@ -108,7 +108,7 @@ fn consider(
         &settings.rules,
         context,
         name,
-        entered,
+        is_folder,
     )
 }
 

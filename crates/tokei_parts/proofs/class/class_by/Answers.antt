@@ -6,8 +6,8 @@ use Rattle.tokei_parts.specs.Class.{class_of}
 use Rattle.tokei_parts.specs.Items.{Mode}
 use Rattle.tokei_parts.specs.ReadingOf.{row_in}
 use Rattle.tokei_parts.specs.SeenChoices.{mode_of}
-use Rattle.tokei_parts.specs.declared.items.Kind.{Kind}
-use Rattle.tokei_parts.specs.declared.items.Kind.TheVariants.{DocString, VerbatimString, OrdinaryString, MultiLineComment}
+use Rattle.tokei_parts.specs.declared.items.ItemKind.{ItemKind}
+use Rattle.tokei_parts.specs.declared.items.ItemKind.TheVariants.{DocString, VerbatimString, OrdinaryString, MultiLineComment}
 use Rattle.tokei_parts.specs.declared.reading.Reading.{Reading}
 use Rattle.tokei_parts.proofs.CodeHeads.{code_head, blank_part, comment_part}
 use Rattle.tokei_parts.proofs.class.class_by.Goals as goal
@@ -17,7 +17,7 @@ plain_of None e = refl
 plain_of (Some x) e = absurd (cc)
 
 -- of the item in which a part began its kind alone counts
-by_kind : (g : Row) (docs_are_comments : Bool) (kind : Kind) (a b bytes : List ℕ) (ended : Mode)
+by_kind : (g : Row) (docs_are_comments : Bool) (kind : ItemKind) (a b bytes : List ℕ) (ended : Mode)
     → class_of g docs_are_comments (record { begun = Some (record { kind = kind; closer = a }); bytes = bytes; ended = ended })
     ≡ class_of g docs_are_comments (record { begun = Some (record { kind = kind; closer = b }); bytes = bytes; ended = ended })
 unfolding class_of
@@ -26,7 +26,7 @@ by_kind g docs_are_comments VerbatimString a b bytes ended = refl
 by_kind g docs_are_comments OrdinaryString a b bytes ended = refl
 by_kind g docs_are_comments MultiLineComment a b bytes ended = refl
 
-by_begun : (g : Row) (docs_are_comments : Bool) (m : Mode) (kind : Kind) (closer bytes : List ℕ) (ended : Mode) → kind_in m ≡ Some kind
+by_begun : (g : Row) (docs_are_comments : Bool) (m : Mode) (kind : ItemKind) (closer bytes : List ℕ) (ended : Mode) → kind_in m ≡ Some kind
     → class_of g docs_are_comments (record { begun = Some (record { kind = kind; closer = closer }); bytes = bytes; ended = ended })
     ≡ class_of g docs_are_comments (record { begun = m; bytes = bytes; ended = ended })
 by_begun g docs_are_comments None kind closer bytes ended e = absurd (cc)

@@ -5,12 +5,12 @@ use Rattle.tokei_table.specs.RowOf.{row_of}
 use Rattle.tokei_parts.specs.ReadingOf.{row_in}
 use Rattle.tokei_parts.specs.SeenChoices.{mode_of}
 use Rattle.tokei_parts.specs.declared.class.Class.{Class}
-use Rattle.tokei_parts.specs.declared.items.Kind.{Kind}
-use Rattle.tokei_parts.specs.declared.items.Kind.TheVariants.{DocString, VerbatimString, OrdinaryString, MultiLineComment}
+use Rattle.tokei_parts.specs.declared.items.ItemKind.{ItemKind}
+use Rattle.tokei_parts.specs.declared.items.ItemKind.TheVariants.{DocString, VerbatimString, OrdinaryString, MultiLineComment}
 use Rattle.tokei_parts.proofs.class.class_within.Goals as goal
 
 -- within an item of that kind the bytes of a line say nothing
-by_kind : (g : Row) (docs_are_comments : Bool) (kind : Kind) (closer a b : List ℕ)
+by_kind : (g : Row) (docs_are_comments : Bool) (kind : ItemKind) (closer a b : List ℕ)
     → class_of g docs_are_comments (record { begun = Some (record { kind = kind; closer = closer }); bytes = a; ended = Some (record { kind = kind; closer = closer }) })
     ≡ class_of g docs_are_comments (record { begun = Some (record { kind = kind; closer = closer }); bytes = b; ended = Some (record { kind = kind; closer = closer }) })
 unfolding class_of

@@ -1,8 +1,8 @@
 use Rattle.std.proofs.Common.{◌≡◌, ◌++◌, drop, map}
 use Rattle.tokei_table_rules.specs.Extended.{extensions_of}
-use Rattle.tokei_table_row.specs.RowOf.{tokens_of, row_of}
+use Rattle.tokei_table_row.specs.RowOf.{row_of}
 use Rattle.tokei_table_rules.proofs.extend.all_extensions.Given as goal
 
 abbrev pub invariant-loop-row : goal.invariant-loop-row
 invariant-loop-row l =
-    tokens_of l.out.items ++ extensions_of (map row_of (drop l.row-index l.rows)) ≡ extensions_of (map row_of l.rows)
+    l.known ++ extensions_of (map row_of (drop l.row-index l.rows)) ≡ extensions_of (map row_of l.rows)

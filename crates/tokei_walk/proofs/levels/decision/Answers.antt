@@ -6,18 +6,18 @@ use Rattle.tokei_walk.proofs.levels.decision.Goals as goal
 
 pub returns-in-Some-verdict_among : goal.returns-in-Some-verdict_among
 returns-in-Some-verdict_among c =
-    let source = c.args.source in let entered = c.args.entered in let below = c.names_behind-below.result.now in
-    let here = c.in-Some-verdict_among.ensures ∙ ap (λ (ps : List Pattern). last_fitting ps below entered) c.patterns.ensures in
+    let source = c.args.source in let is_folder = c.args.is_folder in let below = c.names_behind-below.result.now in
+    let here = c.in-Some-verdict_among.ensures ∙ ap (λ (ps : List Pattern). last_fitting ps below is_folder) c.patterns.ensures in
     nearest_decides source c.loop-level.left.now c.in-Some.farther.now c.in-Some.level.now
-    c.args.names.now below entered c.in-Some-verdict_among.verdict c.in-Some.ensures.cases.0
+    c.args.names.now below is_folder c.in-Some-verdict_among.verdict c.in-Some.ensures.cases.0
     c.names_behind-below.ensures here
     ∙ c.loop-level.invariant
 
 pub loop-level-preserved : goal.loop-level-preserved
 loop-level-preserved c =
-    let source = c.args.source in let entered = c.args.entered in let below = c.names_behind-below.result.now in
-    let here = c.in_default-verdict_among.ensures ∙ ap (λ (ps : List Pattern). last_fitting ps below entered) c.patterns.ensures in
+    let source = c.args.source in let is_folder = c.args.is_folder in let below = c.names_behind-below.result.now in
+    let here = c.in_default-verdict_among.ensures ∙ ap (λ (ps : List Pattern). last_fitting ps below is_folder) c.patterns.ensures in
     nearest_passes source c.loop-level.left.now c.in-Some.farther.now c.in-Some.level.now
-    c.args.names.now below entered c.in-Some.ensures.cases.0 c.names_behind-below.ensures
+    c.args.names.now below is_folder c.in-Some.ensures.cases.0 c.names_behind-below.ensures
     here
     ∙ c.loop-level.invariant

@@ -2,11 +2,12 @@ use Rattle.std.proofs.Common.{◌≡◌, ◌∙◌, ap, sym, subst, option_map}
 use Rattle.std.specs.Ordering.{nat_cmp}
 use Rattle.std.specs.Map.{lookup}
 use Rattle.std.specs.BTreeMap.{is_at}
-use Rattle.tokei_stats.specs.Statistics.{joined, sum, add_all}
+use Rattle.tokei_stats.specs.Statistics.{blobs, joined, sum, add_all}
 use Rattle.tokei_stats.specs.Overflow.{BlobsFit, Fits}
 use Rattle.tokei_stats.specs.Seen.{entries_of, blobs_of, stats_of}
 use Rattle.tokei_stats.proofs.Adding.{add_one, put_one_fits, turn_fits}
 use Rattle.tokei_stats.proofs.Fitting.{blobs-fit}
+use Rattle.tokei_stats.proofs.NoBlobs.{added_some, none_added}
 use Rattle.std.proofs.lemmas.Result.{err_from_is_err_and}
 use Rattle.tokei_stats.proofs.stats.CodeStats.+added_to.Goals as goal
 use Rattle.tokei_stats.proofs.stats.CodeStats.+added_to.Goals.{in-Some-get+in_ok-both-in-Some-get, in-None-get+in_ok-both-in-None-get}
@@ -50,3 +51,21 @@ returns-in_err-both-in-Some-get-clause-overflow t c =
     rw (p.1, p.2) (λ is fits. c.in_err-both-in-Some-get.ensures.overflow is
     (turn_fits c.loop-language.blobs.entries c.next.new.self c.in-Some.language.now _ c.in-Some.stats.now (sym c.in-Some-get.ensures.value)
     (subst BlobsFit (sym all) (blobs-fit (stats_of c.args.other.now) (stats_of c.args.self.now) fits))))
+
+pub returns-in_err-both-in-Some-get-clause-free : goal.returns-in_err-both-in-Some-get-clause-free
+returns-in_err-both-in-Some-get-clause-free t c =
+    let all = ap (λ es. add_all (blobs_of (entries_of c.loop-language.blobs.entries)) (blobs_of (entries_of es))) (sym c.in-Some.ensures.steps) ∙ c.loop-language.invariant.same in
+    λ mine theirs refused. added_some (blobs_of (entries_of c.loop-language.blobs.entries)) (blobs_of (entries_of c.next.new.self)) _ c.in-Some.language.now (stats_of c.in-Some.stats.now) all
+    (none_added (blobs (stats_of c.args.other.now)) (blobs (stats_of c.args.self.now)) mine theirs)
+
+pub returns-in_err-both-in-None-get-clause-free : goal.returns-in_err-both-in-None-get-clause-free
+returns-in_err-both-in-None-get-clause-free t c =
+    let all = ap (λ es. add_all (blobs_of (entries_of c.loop-language.blobs.entries)) (blobs_of (entries_of es))) (sym c.in-Some.ensures.steps) ∙ c.loop-language.invariant.same in
+    λ mine theirs refused. added_some (blobs_of (entries_of c.loop-language.blobs.entries)) (blobs_of (entries_of c.next.new.self)) _ c.in-Some.language.now (stats_of c.in-Some.stats.now) all
+    (none_added (blobs (stats_of c.args.other.now)) (blobs (stats_of c.args.self.now)) mine theirs)
+
+pub returns-in_err-put-clause-free : goal.returns-in_err-put-clause-free
+returns-in_err-put-clause-free t c =
+    let all = ap (λ es. add_all (blobs_of (entries_of c.loop-language.blobs.entries)) (blobs_of (entries_of es))) (sym c.in-Some.ensures.steps) ∙ c.loop-language.invariant.same in
+    λ mine theirs refused. added_some (blobs_of (entries_of c.loop-language.blobs.entries)) (blobs_of (entries_of c.next.new.self)) _ c.in-Some.language.now (stats_of c.in-Some.stats.now) all
+    (none_added (blobs (stats_of c.args.other.now)) (blobs (stats_of c.args.self.now)) mine theirs)

@@ -1,10 +1,11 @@
 use Rattle.std.proofs.Common.{◌∙◌, ap, sym, ◌++◌, rules}
 use Rattle.tokei_stats.specs.declared.stats.CodeStats.{out-CodeStats}
 use Rattle.tokei_stats.specs.declared.stats.CodeStats.TheFolds.{fold-roll-CodeStats, fold_out-CodeStats}
-use Rattle.tokei_stats.specs.Seen.{entries_of}
+use Rattle.tokei_stats.specs.Seen.{entries_of, stats_of}
 use Rattle.tokei_stats.proofs.Adding.{put_one_fits}
 use Rattle.tokei_stats.proofs.Cloning.{clone_more}
 use Rattle.tokei_stats.proofs.Equality.{equal_if_alike}
+use Rattle.tokei_stats.proofs.NoBlobs.{met_some}
 use Rattle.tokei_stats.proofs.stats.CodeStats.+try_clone.Goals as goal
 
 pub loop-language-preserved : goal.loop-language-preserved
@@ -23,3 +24,11 @@ returns-clause-equal t c = equal_if_alike _ _ (search (rules, fold-roll-CodeStat
 
 pub returns-clause-fits : goal.returns-clause-fits
 returns-clause-fits t c = rw (fold-roll-CodeStats) (record { blanks = search rules; code = search rules; comments = search rules }, c.loop-language.invariant.fits)
+
+pub returns-in_err-copy-clause-free : goal.returns-in_err-copy-clause-free
+returns-in_err-copy-clause-free t c = λ n. absurd (met_some c.args.self.now (entries_of c.loop-language.blobs.entries) (c.in-Some.language.now, stats_of c.in-Some.stats.now) (entries_of c.next.new.self)
+    (ap (λ es. entries_of c.loop-language.blobs.entries ++ entries_of es) (sym c.in-Some.ensures.steps) ∙ c.loop-language.invariant.same) n)
+
+pub returns-in_err-put-clause-free : goal.returns-in_err-put-clause-free
+returns-in_err-put-clause-free t c = λ n. absurd (met_some c.args.self.now (entries_of c.loop-language.blobs.entries) (c.in-Some.language.now, stats_of c.in-Some.stats.now) (entries_of c.next.new.self)
+    (ap (λ es. entries_of c.loop-language.blobs.entries ++ entries_of es) (sym c.in-Some.ensures.steps) ∙ c.loop-language.invariant.same) n)

@@ -1,0 +1,264 @@
+//! Where the text of a refused table goes wrong.
+ghost use Rattle.std.specs.Prelude.{◌≡◌, Err, map, string_bytes, IfOk, IfSome};
+ghost use Rattle.serde_json.specs.View.{view};
+ghost use Rattle.tokei_table.specs.Flaws.{TellsToken, rows_in, rows_in_value};
+ghost use Rattle.tokei_table.specs.Outcome.{outcome, outcome_of_value, tested};
+ghost use Rattle.tokei_table_row.specs.RowOf.{row_of};
+ghost use Rattle.tokei_table.specs.declared.error.TableError.TheVariants.{Layout, Escape, Token};
+ghost use Rattle.tokei_table.specs.declared.error.TableError.TheVariants.{NamedTwice, NamedTotal, Fallback};
+
+use crate::error::TableError;
+use crate::table::data;
+use serde_json::Value;
+use std::alloc::{AllocError, Global};
+use std::fmt;
+use tokei_table_json::{
+    has_layout, is_escaped_table, misescaped_language, rows_of, unfit_language,
+};
+use tokei_table_row::Syntax;
+use tokei_table_rules::names::{names_twice, second_of_name, shared_name};
+use tokei_table_rules::well_formed::{
+    all_have_fallbacks, all_have_tokens, bad_member, is_total, missing_key, names_total,
+};
+
+/// Where the text of a refused table goes wrong.
+#[derive(Debug, Drop)]
+pub struct TableFlaw {
+    /// Why the table is refused.
+    pub cause: TableError,
+    /// The key of the language.
+    pub language: String,
+    /// The member of the language where the cause is `Layout`, `Escape` or `Token`, and empty where
+    /// the language isn't even an object. The name that stands for two languages where it is
+    /// `NamedTwice`, the key of the missing language where it is `Fallback`, and else empty.
+    pub word: String,
+    /// The other language of that name, or empty.
+    pub other: String,
+}
+
+/// What a member of a language has to hold, in words.
+fn form_of(member: &str) -> &str {
+    match member {
+        "name" | "kind" => "text",
+        "nested" | "literate" | "blank" => "truth value",
+        "multi_line_comments" | "nested_comments" | "quotes" => "list of pairs of texts",
+        "verbatim_quotes" | "doc_quotes" => "list of pairs of texts",
+        "contexts" => "list of objects, each with a tag in a language of kind 'html'",
+        _ => "list of texts",
+    }
+}
+
+/// The flaw in a sentence, which names the language and the member.
+impl fmt::Display for TableFlaw {
+    ghost use Rattle.std.specs.Prelude.{None};
+
+    ghost output = { λ _. None };
+
+    fn fmt<W: fmt::Write>(&self, f: &mut fmt::Formatter<W>) -> fmt::Result {
+        let language = self.language.as_str();
+        let word = self.word.as_str();
+        let other = self.other.as_str();
+        match self.cause {
+            TableError::Layout => {
+                if word.is_empty() {
+                    return write!(f, "the language '{language}' is no object");
+                }
+                let form = form_of(word);
+                write!(f, "'{word}' of the language '{language}' is no {form}")
+            }
+            TableError::Escape => {
+                write!(
+                    f,
+                    "'{word}' of the language '{language}' has an unknown escape"
+                )
+            }
+            TableError::Token => write!(
+                f,
+                "the language '{language}': a token of '{word}' is empty, blank or holds a newline"
+            ),
+            TableError::NamedTwice => {
+                write!(
+                    f,
+                    "the name '{word}' stands for the languages '{language}' and '{other}'"
+                )
+            }
+            TableError::NamedTotal => write!(f, "the language '{language}' is named Total"),
+            TableError::Fallback => {
+                write!(
+                    f,
+                    "the language '{language}' needs '{word}', which is missing"
+                )
+            }
+            TableError::NotJson | TableError::Memory => write!(f, "the language '{language}'"),
+        }
+    }
+}
+
+/// A flaw of that cause in the language.
+fn flaw(
+    alloc: Global,
+    cause: TableError,
+    language: &str,
+    word: &str,
+) -> Result<TableFlaw, AllocError>
+    ensures cause { IfOk result (λ f. f.cause ≡ cause) }
+    ensures language { IfOk result (λ f. string_bytes f.language ≡ language.now) }
+    ensures word { IfOk result (λ f. string_bytes f.word ≡ word.now) }
+{
+    let language = String::from_str(alloc, language)?;
+    let word = String::from_str(alloc, word)?;
+    Ok(TableFlaw {
+        cause,
+        language,
+        word,
+        other: String::new(alloc),
+    })
+}
+
+/// The flaw of a language and its member, where there is one.
+fn misfit(
+    alloc: Global,
+    cause: TableError,
+    found: Option<(&str, Option<&str>)>,
+) -> Result<Option<TableFlaw>, AllocError>
+    ensures { IfOk result (λ o. IfSome o (λ f. f.cause ≡ cause)) }
+{
+    match found {
+        Some((language, Some(member))) => Ok(Some(flaw(alloc, cause, language, member)?)),
+        Some((language, None)) => Ok(Some(flaw(alloc, cause, language, "")?)),
+        None => Ok(None),
+    }
+}
+
+fn layout_flaw(alloc: Global, value: &Value) -> Result<Option<TableFlaw>, AllocError>
+    ensures { IfOk result (λ o. IfSome o (λ f. f.cause ≡ Layout)) }
+{
+    match value.get("languages") {
+        Some(Value::Object(languages)) => {
+            misfit(alloc, TableError::Layout, unfit_language(languages))
+        }
+        _ => Ok(None),
+    }
+}
+
+fn escape_flaw(alloc: Global, value: &Value) -> Result<Option<TableFlaw>, AllocError>
+    ensures { IfOk result (λ o. IfSome o (λ f. f.cause ≡ Escape)) }
+{
+    match value.get("languages") {
+        Some(Value::Object(languages)) => {
+            misfit(alloc, TableError::Escape, misescaped_language(languages))
+        }
+        _ => Ok(None),
+    }
+}
+
+fn token_flaw(alloc: Global, rows: &[Syntax]) -> Result<Option<TableFlaw>, AllocError>
+    ensures cause { IfOk result (λ o. IfSome o (λ f. f.cause ≡ Token)) }
+    ensures token { IfOk result (λ o. IfSome o (TellsToken (map row_of rows.now))) }
+{
+    for row in rows {
+        if let Some(member) = bad_member(row) {
+            return Ok(Some(flaw(alloc, TableError::Token, row.key.as_str(), member)?));
+        }
+    }
+    Ok(None)
+}
+
+/// The flaw of a name that the row at that place shares with one before it.
+fn clash(alloc: Global, rows: &[Syntax], row: &Syntax) -> Result<Option<TableFlaw>, AllocError>
+    ensures { IfOk result (λ o. IfSome o (λ f. f.cause ≡ NamedTwice)) }
+{
+    for earlier in rows {
+        if let Some(name) = shared_name(row, earlier) {
+            let mut found = flaw(alloc, TableError::NamedTwice, earlier.key.as_str(), name)?;
+            found.other.push_str(row.key.as_str())?;
+            return Ok(Some(found));
+        }
+    }
+    Ok(None)
+}
+
+fn name_flaw(alloc: Global, rows: &[Syntax]) -> Result<Option<TableFlaw>, AllocError>
+    ensures { IfOk result (λ o. IfSome o (λ f. f.cause ≡ NamedTwice)) }
+{
+    match second_of_name(alloc, rows)? {
+        Some(place) => clash(alloc, &rows[..place], &rows[place]),
+        None => Ok(None),
+    }
+}
+
+fn total_flaw(alloc: Global, rows: &[Syntax]) -> Result<Option<TableFlaw>, AllocError>
+    ensures { IfOk result (λ o. IfSome o (λ f. f.cause ≡ NamedTotal)) }
+{
+    for row in rows {
+        if is_total(row) {
+            return Ok(Some(flaw(alloc, TableError::NamedTotal, row.key.as_str(), "")?));
+        }
+    }
+    Ok(None)
+}
+
+fn fallback_flaw(alloc: Global, rows: &[Syntax]) -> Result<Option<TableFlaw>, AllocError>
+    ensures { IfOk result (λ o. IfSome o (λ f. f.cause ≡ Fallback)) }
+{
+    for row in rows {
+        if let Some(key) = missing_key(rows, row) {
+            return Ok(Some(flaw(alloc, TableError::Fallback, row.key.as_str(), key)?));
+        }
+    }
+    Ok(None)
+}
+
+/// What of the rows forbids a count.
+#[tactic(auto, unfolding(crate::specs::Outcome::tested))]
+fn row_flaw(alloc: Global, rows: &[Syntax]) -> Result<Option<TableFlaw>, AllocError>
+    ensures cause { IfOk result (λ o. IfSome o (λ f. tested (map row_of rows.now) ≡ Err f.cause)) }
+    ensures token { IfOk result (λ o. IfSome o (TellsToken (map row_of rows.now))) }
+{
+    if !all_have_tokens(rows) {
+        return token_flaw(alloc, rows);
+    }
+    if names_twice(alloc, rows)? {
+        return name_flaw(alloc, rows);
+    }
+    if names_total(rows) {
+        return total_flaw(alloc, rows);
+    }
+    if !all_have_fallbacks(rows) {
+        return fallback_flaw(alloc, rows);
+    }
+    Ok(None)
+}
+
+/// What of a JSON value keeps it from being a table.
+#[tactic(auto, unfolding(crate::specs::Outcome::outcome_of_value))]
+fn value_flaw(alloc: Global, value: Value) -> Result<Option<TableFlaw>, AllocError>
+    ensures cause { IfOk result
+        (λ o. IfSome o (λ f. outcome_of_value (view value) ≡ Err f.cause)) }
+    ensures token { IfOk result (λ o. IfSome o (TellsToken (rows_in_value (view value)))) }
+{
+    if !has_layout(&value) {
+        return layout_flaw(alloc, &value);
+    }
+    if !is_escaped_table(value.get("languages")) {
+        return escape_flaw(alloc, &value);
+    }
+    let rows = rows_of(alloc, value)?;
+    row_flaw(alloc, &rows)
+}
+
+impl TableFlaw {
+    /// Where a text that `LanguageTable::from_json` refuses goes wrong. None is told of a table, of
+    /// what is no JSON text, or where no language of its own is at fault. It fails where memory runs
+    /// out.
+    pub fn find(alloc: Global, bytes: &[u8]) -> Result<Option<TableFlaw>, AllocError>
+        ensures cause { IfOk result (λ o. IfSome o (λ f. outcome bytes.now ≡ Err f.cause)) }
+        ensures token { IfOk result (λ o. IfSome o (TellsToken (rows_in bytes.now))) }
+    {
+        match data(alloc, bytes) {
+            Ok(value) => value_flaw(alloc, value),
+            Err(TableError::Memory) => Err(AllocError),
+            Err(_) => Ok(None),
+        }
+    }
+}

@@ -1,0 +1,8 @@
+use Rattle.std.proofs.Common.{◌≡◌}
+use Rattle.serde_json.specs.View.{members_view}
+use Rattle.tokei_table_json.specs.MemberLayout.{all_members, fits}
+use Rattle.tokei_table_json.proofs.misfits.unfit_member.Given as goal
+
+abbrev pub invariant-loop-key : goal.invariant-loop-key
+invariant-loop-key l =
+    all_members (fits l.html) (members_view l.members.entries) ≡ all_members (fits l.html) (members_view l.key-iterator)
