@@ -11,6 +11,7 @@ pub mod HeavyBlocks
 pub mod KnownLanguages
 pub mod KnownReadings
 pub mod LineWeight
+pub mod LinesLeft
 pub mod LoadedMarks
 pub mod Loads
 pub mod NotebookReading

@@ -4,6 +4,7 @@
 pub mod Countings
 pub mod Gathered
 pub mod Languages
+pub mod NoComments
 pub mod NotebookCells
 pub mod OpeningItems
 pub mod PartLaw

@@ -9,6 +9,7 @@
 mod counter;
 mod file_context;
 pub mod laws;
+mod lines_left;
 mod parse;
 mod plain_reading;
 mod reader;

@@ -27,6 +27,7 @@ ghost use Rattle.tokei_count.specs.UnderWay.{IsReadBy, IsUnderWay, reading_insid
 ghost use Rattle.tokei_stats.specs.Seen.{stats_of, sums_of};
 ghost use Rattle.tokei_stats.specs.Statistics.{lines_of, plus};
 
+use crate::lines_left::{count_lines_left, has_no_comments};
 use crate::reader::Reader;
 use std::alloc::{AllocError, Global};
 use std::collections::BTreeMap;
@@ -325,6 +326,10 @@ fn skip_lines(
     }
     let to = next_opener(reading.matchers, reading.text, so_far.start, *next);
     *next = to;
+    if to == reading.text.len() && has_no_comments(reading.syntax) {
+        count_lines_left(reading, so_far)?;
+        return Ok(to);
+    }
     count_lines(reading, so_far, to)?;
     Ok(to)
 }

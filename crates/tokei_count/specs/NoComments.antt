@@ -1,0 +1,15 @@
+-- Languages without comments: by its bytes alone a line that begins and ends plain is blank or not.
+use Rattle.std.specs.Prelude.{ℕ, ◌&&◌, ◌==◌, Bool, true, false, length}
+use Rattle.tokei_stats.specs.Statistics.{Counts}
+use Rattle.tokei_table.specs.Row.{Row}
+
+-- the language has no comment of any kind
+abbrev pub has_no_comments : Row → Bool
+has_no_comments r =
+    (length r.line_comment == 0)
+    && ((length r.multi_line_comments == 0) && (length r.nested_comments == 0))
+
+-- the counts of so many blank lines and so many others, in a language that is literate or not
+abbrev pub counts_in : Bool → ℕ → ℕ → Counts
+counts_in true blank solid = record { blanks = blank; code = 0; comments = solid }
+counts_in false blank solid = record { blanks = blank; code = solid; comments = 0 }

@@ -1,0 +1,70 @@
+//! The lines that are left of a text without openers, in a language without comments: by its bytes
+//! alone each is blank or not.
+ghost use Rattle.std.specs.Prelude.{◌≡◌, ◌+◌, true, [], None, drop, length};
+ghost use Rattle.std.specs.Prelude.{IsErrOf, IsOk, OnOk};
+ghost use Rattle.tokei_table.specs.FirstOpener.{first_opener};
+ghost use Rattle.tokei_table.specs.Openers.{openers};
+ghost use Rattle.tokei_table.specs.RowOf.{row_of};
+ghost use Rattle.tokei_parts.specs.Glance.{opener_place};
+ghost use Rattle.tokei_parts.specs.ReadingOf.{openers_in, row_in};
+ghost use Rattle.tokei_parts.specs.Seen.{chain_of};
+ghost use Rattle.tokei_count.specs.NoComments.{counts_in, has_no_comments};
+ghost use Rattle.tokei_count.specs.Readers.{reading_of};
+ghost use Rattle.tokei_count.specs.UnderWay.{IsUnderWay};
+ghost use Rattle.tokei_stats.specs.Overflow.{Fits};
+ghost use Rattle.tokei_stats.specs.Seen.{sums_of};
+
+use crate::text_reading::ReadSoFar;
+use tokei_bytes::{LineCounts, count_lines};
+use tokei_parts::Reading;
+use tokei_stats::{CountError, Sums};
+use tokei_table::Syntax;
+
+/// Whether the language has no comments.
+pub(crate) fn has_no_comments(syntax: &Syntax) -> bool
+    ensures { result ≡ has_no_comments (row_of syntax.now) }
+{
+    syntax.line_comment.len() == 0
+        && syntax.multi_line_comments.len() == 0
+        && syntax.nested_comments.len() == 0
+}
+
+/// What the lines count as, in a language that is literate or not.
+fn sums_in(literate: bool, lines: LineCounts) -> Sums
+    ensures { sums_of result ≡ counts_in literate lines.blank lines.solid }
+{
+    if literate {
+        Sums {
+            blanks: lines.blank,
+            code: 0,
+            comments: lines.solid,
+        }
+    } else {
+        Sums {
+            blanks: lines.blank,
+            code: lines.solid,
+            comments: 0,
+        }
+    }
+}
+
+/// Counts the lines that are left, where no opener is and the language has no comments.
+#[inline(never)]
+pub(crate) fn count_lines_left(reading: &Reading, so_far: &mut ReadSoFar) -> Result<(), CountError>
+    requires skips { reading.now.skips ≡ true }
+    requires under_way { IsUnderWay reading.now so_far.old }
+    requires plain { chain_of so_far.old.stack.items ≡ [] }
+    requires none { length reading.now.text.now ≡ so_far.old.start
+        + opener_place (openers_in reading.now) (drop so_far.old.start reading.now.text.now) }
+    requires bare { has_no_comments (row_in reading.now) ≡ true }
+    ensures under_way { OnOk result (IsUnderWay reading.now so_far.new) }
+    ensures end { OnOk result (so_far.new.start ≡ length reading.now.text.now) }
+    ensures quiet { first_opener (openers (row_in reading.now)) reading.now.text.now ≡ None → IsOk result }
+    ensures overflow { IsErrOf result CountError.Overflow → ¬ Fits (reading_of reading.now) }
+{
+    let text = reading.text;
+    let lines = sums_in(reading.syntax.literate, count_lines(text, so_far.start));
+    so_far.own = so_far.own.plus(lines)?;
+    so_far.start = text.len();
+    Ok(())
+}
