@@ -143,7 +143,7 @@ fn say(row: &Row, ended: &Outcome, answers: &mut Answers) -> Result<(), RowError
 fn is_line_without_memory(err: &[u8]) -> bool {
     err.is_empty()
         || err == "Error: out of memory\n".as_bytes()
-        || err == "Error: the output can't be written\n".as_bytes()
+        || err == "Error: the output can't be written: out of memory\n".as_bytes()
 }
 
 /// Whether a run that should have succeeded was ended by memory, and its output is the beginning of what is wanted. The
