@@ -10,7 +10,8 @@ use std::process::ExitCode;
 use std::time::{Duration, Instant};
 use std::{env, io};
 use test_table::bench_json;
-use tokei_table::{LanguageTable, LanguageType, OpenerIndex, TableError};
+use tokei_table::{LanguageTable, LanguageType, TableError};
+use tokei_table_search::OpenerIndex;
 
 /// Of so many runs the quickest one stands.
 const RUNS: usize = 5;

@@ -18,7 +18,7 @@ use crate::text_reading::ReadSoFar;
 use tokei_bytes::{LineCounts, count_lines};
 use tokei_parts::Reading;
 use tokei_stats::{CountError, Sums};
-use tokei_table::Syntax;
+use tokei_table_row::Syntax;
 
 /// Whether the language has no comments.
 pub(crate) fn has_no_comments(syntax: &Syntax) -> bool

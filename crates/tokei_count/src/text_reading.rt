@@ -38,8 +38,9 @@ use tokei_parts::{
     innermost, line_end, line_front, line_len, line_stop, newline_before, next_opener, read_part,
 };
 use tokei_stats::{CodeStats, CountError, Sums, add_blob};
-use tokei_table::ext::trim;
-use tokei_table::{LanguageType, Syntax};
+use tokei_table::LanguageType;
+use tokei_table_row::Syntax;
+use tokei_table_row::ext::trim;
 
 /// A text that was read.
 #[derive(Drop)]
