@@ -26,7 +26,7 @@ fn add_file(folders: &mut MemoryFolders, place: &str, content: &[u8]) -> Result<
 }
 
 /// Adds the files of a table: each place, and the text of the file there.
-fn add_texts(folders: &mut MemoryFolders, files: &Row) -> Result<(), RowError> {
+pub fn add_texts(folders: &mut MemoryFolders, files: &Row) -> Result<(), RowError> {
     for (place, content) in files.members {
         let text = text_of("files", content)?;
         add_file(folders, place.as_str(), text.as_bytes())?;

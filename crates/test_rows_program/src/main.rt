@@ -1,18 +1,12 @@
 //! Asks the rows of runs, of the program, and of what a user tells it: command lines, configuration files.
 #![tactic(auto)]
 
-mod columns;
 mod command_lines;
 mod configuration_files;
-mod jobs;
-mod listings;
 mod notes;
-mod overriding;
 mod program;
 mod program_faults;
-mod run_faults;
-mod run_sums;
-mod runs;
+mod reports;
 mod subjects;
 mod taken;
 

@@ -1,25 +1,31 @@
 //! Rows of the program over folders in memory: how it ends, and what it writes.
+use crate::reports::{say_first_words, say_lines, say_narrowed};
 use std::alloc::Global;
 use std::str::from_utf8;
-use test_rows::{Answers, Asked, Members, Row, RowError, Said, folders_of};
+use test_rows::{Answers, Asked, Members, Row, RowError, Said, add_texts, folders_of};
 use test_table::bench_json;
-use tokei::{Counted, MemoryFolders, Sink, Source};
+use tokei::{Counted, Folders, MemoryFolders, Sink, Source};
 use tokei_program::{Env, program};
 
-/// The members of these rows. `languages.json` beside the row's files is the bench table, unless the row is `without_table`.
-/// `input` is what standard input holds, `xdg_config_home` and `home` are variables, and `table` is the place of the table that
-/// the program is told of; one that is left out isn't set.
+/// The members of these rows. `languages.json` beside the row's files is the bench table, unless the row is `without_table`;
+/// with `hidden_table` or a table of its own, `table_json`, the table is `.table.json`, which isn't counted, and the program
+/// is told of it. `beside` are further files. `input` is what standard input holds, `xdg_config_home` and `home` are
+/// variables, and `table` is the place of the table that the program is told of; one that is left out isn't set.
 pub const MEMBERS: Members = Members {
     given: &[
         "words",
         "files",
         "files_hex",
         "unread",
+        "beside",
         "without_table",
+        "hidden_table",
+        "table_json",
         "xdg_config_home",
         "home",
         "table",
         "input",
+        "wider",
     ],
     wanted: &[
         "status",
@@ -27,6 +33,9 @@ pub const MEMBERS: Members = Members {
         "out_begins",
         "out_has",
         "out_lacks",
+        "out_first_words",
+        "out_lines",
+        "out_narrowed",
         "err",
         "err_has",
     ],
@@ -42,38 +51,69 @@ fn owned(alloc: Global, row: &Row, member: &'static str) -> Result<Option<String
     }
 }
 
+/// The place of a table that isn't counted beside the files of a row.
+const HIDDEN_TABLE: &str = ".table.json";
+
+/// Whether the table of a row stands there.
+fn has_hidden_table(row: &Row) -> Result<bool, RowError> {
+    Ok(row.has("table_json") || row.flag("hidden_table")?)
+}
+
 /// The variables of a row.
 fn variables(alloc: Global, row: &Row) -> Result<Env, RowError> {
     let xdg_config_home = owned(alloc, row, "xdg_config_home")?;
     let home = owned(alloc, row, "home")?;
+    let table = if has_hidden_table(row)? {
+        Some(String::from_str(alloc, HIDDEN_TABLE)?)
+    } else {
+        owned(alloc, row, "table")?
+    };
     Ok(Env {
         xdg_config_home,
         home,
-        table: owned(alloc, row, "table")?,
+        table,
     })
 }
 
-/// The folders of a row, with the bench table in them.
-fn around(alloc: Global, row: &Row) -> Result<MemoryFolders, RowError> {
-    let mut folders = folders_of(alloc, row)?;
-    if !row.flag("without_table")? && folders.add_file("languages.json", bench_json()).is_err() {
+/// Adds the table of a row, where it has one.
+fn add_table(folders: &mut MemoryFolders, row: &Row) -> Result<(), RowError> {
+    let place = if has_hidden_table(row)? {
+        HIDDEN_TABLE
+    } else {
+        "languages.json"
+    };
+    let bytes = match row.text_if("table_json")? {
+        Some(text) => text.as_bytes(),
+        None => bench_json(),
+    };
+    if !row.flag("without_table")? && folders.add_file(place, bytes).is_err() {
         return Err(RowError::Memory);
+    }
+    Ok(())
+}
+
+/// The folders of a row, with its table and the files beside in them.
+pub fn around(alloc: Global, row: &Row) -> Result<MemoryFolders, RowError> {
+    let mut folders = folders_of(alloc, row)?;
+    add_table(&mut folders, row)?;
+    if let Some(beside) = row.table_if("beside")? {
+        add_texts(&mut folders, &beside)?;
     }
     Ok(folders)
 }
 
-/// The status of the program with a row's words, where these stand around it.
-pub fn status<S: Source, W: Sink, E: Sink>(
+/// The status of the program with a row's words over these folders.
+pub fn status<F: Folders, S: Source, W: Sink, E: Sink>(
     alloc: Global,
     row: &Row,
+    folders: &mut F,
     input: &mut S,
     out: &mut W,
     err: &mut E,
 ) -> Result<u8, RowError> {
     let words = row.texts(alloc, "words")?;
     let env = variables(alloc, row)?;
-    let mut folders = around(alloc, row)?;
-    Ok(program(alloc, &words, &env, &mut folders, input, out, err))
+    Ok(program(alloc, &words, &env, folders, input, out, err))
 }
 
 /// How a run of the program ended, and what it wrote.
@@ -89,7 +129,8 @@ fn ended(alloc: Global, row: &Row) -> Result<Outcome, RowError> {
     let mut input = Counted::new(row.text_if("input")?.unwrap_or("").as_bytes());
     let mut out = Counted::new(Vec::new(alloc));
     let mut err = Counted::new(Vec::new(alloc));
-    let status = status(alloc, row, &mut input, &mut out, &mut err)?;
+    let mut folders = around(alloc, row)?;
+    let status = status(alloc, row, &mut folders, &mut input, &mut out, &mut err)?;
     Ok(Outcome {
         status,
         out: out.inner,
@@ -106,7 +147,7 @@ fn text_of<'a>(member: &'static str, bytes: &'a [u8]) -> Result<&'a str, RowErro
 }
 
 /// Answers what stands on standard output.
-fn say_out(row: &Row, text: &str, answers: &mut Answers) {
+fn say_out(row: &Row, text: &str, answers: &mut Answers) -> Result<(), RowError> {
     if row.has("out") {
         answers.say("out", Said::Text(text));
     }
@@ -119,6 +160,16 @@ fn say_out(row: &Row, text: &str, answers: &mut Answers) {
     if row.has("out_lacks") {
         answers.say_absent("out_lacks", text);
     }
+    if row.has("out_first_words") {
+        say_first_words(text, answers);
+    }
+    if let Some(wanted) = row.table_if("out_lines")? {
+        say_lines(text, &wanted, answers);
+    }
+    if let Some(wider) = row.number_if("wider")? {
+        say_narrowed(text, wider, answers);
+    }
+    Ok(())
 }
 
 /// Answers what stands on standard error.
@@ -134,7 +185,7 @@ fn say_err(row: &Row, text: &str, answers: &mut Answers) {
 /// Answers how a run of the program ended.
 fn say(row: &Row, ended: &Outcome, answers: &mut Answers) -> Result<(), RowError> {
     answers.say("status", Said::Number(ended.status as u128));
-    say_out(row, text_of("out", &ended.out)?, answers);
+    say_out(row, text_of("out", &ended.out)?, answers)?;
     say_err(row, text_of("err", &ended.err)?, answers);
     Ok(())
 }

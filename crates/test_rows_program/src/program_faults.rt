@@ -1,9 +1,9 @@
 //! Rows of the program of which one write or one read fails.
-use crate::program::status;
+use crate::program::{around, status};
 use std::alloc::Global;
 use std::str::from_utf8;
 use test_rows::{Answers, Asked, Members, Row, RowError, Said};
-use tokei::{Counted, FailOnce};
+use tokei::{Counted, FailOnce, FailingFolders};
 
 /// The members of these rows: those of a run of the program, and what `fails`.
 pub const MEMBERS: Members = Members {
@@ -12,7 +12,10 @@ pub const MEMBERS: Members = Members {
         "files",
         "files_hex",
         "unread",
+        "beside",
         "without_table",
+        "hidden_table",
+        "table_json",
         "xdg_config_home",
         "home",
         "input",
@@ -33,6 +36,9 @@ enum Failing {
 
 /// No run writes to an end or reads so often.
 const NEVER: u64 = 100;
+
+/// No run asks the folders so often.
+const MOST_CALLS: u64 = 1_000;
 
 /// Of the writes to `out`, of those to `err` and of the reads, the number of the one that fails.
 type Calls = (u64, u64, u64);
@@ -65,13 +71,29 @@ fn ended(alloc: Global, row: &Row, calls: Calls) -> Result<Outcome, RowError> {
     let mut err = FailOnce::new(Counted::new(Vec::new(alloc)), calls.1);
     let bytes = row.text_if("input")?.unwrap_or("").as_bytes();
     let mut input = FailOnce::new(Counted::new(bytes), calls.2);
-    let status = status(alloc, row, &mut input, &mut out, &mut err)?;
+    let mut folders = around(alloc, row)?;
+    let status = status(alloc, row, &mut folders, &mut input, &mut out, &mut err)?;
     let failed = out.failed() | err.failed() | input.failed();
     Ok(Outcome {
         status,
         out: out.inner.inner,
         err: err.inner.inner,
         failed,
+    })
+}
+
+/// Runs the program over folders that fail behind so many calls, each as where memory runs out.
+fn ended_behind(alloc: Global, row: &Row, calls: u64) -> Result<Outcome, RowError> {
+    let mut folders = FailingFolders::new(around(alloc, row)?, calls);
+    let mut out = Counted::new(Vec::new(alloc));
+    let mut err = Counted::new(Vec::new(alloc));
+    let mut input = Counted::new(row.text_if("input")?.unwrap_or("").as_bytes());
+    let status = status(alloc, row, &mut folders, &mut input, &mut out, &mut err)?;
+    Ok(Outcome {
+        status,
+        out: out.inner,
+        err: err.inner,
+        failed: status != 0,
     })
 }
 
@@ -132,6 +154,20 @@ fn reads_are_right(alloc: Global, row: &Row) -> Result<bool, RowError> {
     Ok(succeeds && fails_at_each(alloc, row, Failing::Input, b"", line)?)
 }
 
+/// Whether the run ends as it should behind each call of the folders on which all fail, and succeeds without.
+fn calls_are_right(alloc: Global, row: &Row) -> Result<bool, RowError> {
+    let right = ended(alloc, row, NONE)?;
+    for calls in 0..MOST_CALLS {
+        let ended = ended_behind(alloc, row, calls)?;
+        match is_failure(&ended, &right.out, "Error: out of memory\n") {
+            Some(true) => {}
+            Some(false) => return Ok(false),
+            None => return Ok(calls != 0 && ended.out.as_slice() == right.out.as_slice()),
+        }
+    }
+    Ok(false)
+}
+
 /// Whether a run of which the first write to `err` failed has status 1 and the output of a run without a fault,
 /// which says something.
 fn is_mute(ended: &Outcome, right: &Outcome) -> bool {
@@ -156,9 +192,10 @@ fn ends_right(alloc: Global, row: &Row) -> Result<bool, RowError> {
         "each write to out" => writes_are_right(alloc, row),
         "the first write to err" => ends_mute(alloc, row),
         "each read" => reads_are_right(alloc, row),
+        "each call of the folders" => calls_are_right(alloc, row),
         _ => Err(RowError::Kind(
             "fails",
-            "each write to out, the first write to err or each read",
+            "each write to out, the first write to err, each read or each call of the folders",
         )),
     }
 }

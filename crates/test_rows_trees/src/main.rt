@@ -4,7 +4,6 @@
 mod configurations;
 mod documents;
 mod files;
-mod folders;
 mod given_languages;
 mod ignore_files;
 mod languages;

@@ -1,7 +1,7 @@
 //! What the rows of this program are about.
 use crate::{
-    documents, files, folders, ignore_files, languages, patterns, printed, read_back, statistics,
-    walks, words,
+    documents, files, ignore_files, languages, patterns, printed, read_back, statistics, walks,
+    words,
 };
 use test_rows::{Answers, Asked, Members, Row, RowError, Subject};
 
@@ -10,7 +10,6 @@ use test_rows::{Answers, Asked, Members, Row, RowError, Subject};
 pub enum Rows {
     Documents,
     Files,
-    Folders,
     IgnoreFiles,
     Languages,
     Patterns,
@@ -22,10 +21,9 @@ pub enum Rows {
 }
 
 /// All of them, in the order of their files' names.
-pub const SUBJECTS: [Rows; 11] = [
+pub const SUBJECTS: [Rows; 10] = [
     Rows::Documents,
     Rows::Files,
-    Rows::Folders,
     Rows::IgnoreFiles,
     Rows::Languages,
     Rows::Patterns,
@@ -41,7 +39,6 @@ impl Subject for Rows {
         match *self {
             Rows::Documents => "documents.toml",
             Rows::Files => "files.toml",
-            Rows::Folders => "folders.toml",
             Rows::IgnoreFiles => "ignore_files.toml",
             Rows::Languages => "languages.toml",
             Rows::Patterns => "patterns.toml",
@@ -57,7 +54,6 @@ impl Subject for Rows {
         match *self {
             Rows::Documents => documents::MEMBERS,
             Rows::Files => files::MEMBERS,
-            Rows::Folders => folders::MEMBERS,
             Rows::IgnoreFiles => ignore_files::MEMBERS,
             Rows::Languages => languages::MEMBERS,
             Rows::Patterns => patterns::MEMBERS,
@@ -73,7 +69,6 @@ impl Subject for Rows {
         match *self {
             Rows::Documents => documents::came(asked, row, answers),
             Rows::Files => files::came(asked, row, answers),
-            Rows::Folders => folders::came(asked, row, answers),
             Rows::IgnoreFiles => ignore_files::came(asked, row, answers),
             Rows::Languages => languages::came(asked, row, answers),
             Rows::Patterns => patterns::came(asked, row, answers),

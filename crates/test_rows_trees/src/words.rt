@@ -1,9 +1,9 @@
-//! Rows of words: of formats, of styles of numbers and of streams.
+//! Rows of words: of formats, of styles of numbers, of streams and of columns.
 use test_rows::{Answers, Asked, Members, Page, Row, RowError, Said};
 use tokei_earlier::Format;
-use tokei_options::{NumberFormatStyle, Streaming};
+use tokei_options::{NumberFormatStyle, Sort, Streaming};
 
-/// The members of these rows: the word of a `format`, of a `style` or of a `stream`; a `number` that is written in the
+/// The members of these rows: the word of a `format`, of a `style`, of a `stream` or of a `column`; a `number` that is written in the
 /// style; the name of a list of formats; or whether the style without a word is asked for.
 pub const MEMBERS: Members = Members {
     given: &[
@@ -13,6 +13,7 @@ pub const MEMBERS: Members = Members {
         "number",
         "default_style",
         "stream",
+        "column",
     ],
     wanted: &["answer"],
     optional: &[],
@@ -79,6 +80,14 @@ fn say_stream(word: &str, answers: &mut Answers) {
     }
 }
 
+/// Says which column a word names.
+fn say_column(word: &str, answers: &mut Answers) {
+    match word.parse::<Sort>() {
+        Ok(sort) => answers.say_debug("answer", &sort),
+        Err(cause) => answers.say_shown("answer", &cause),
+    }
+}
+
 /// What the row's word stands for.
 pub fn came(_asked: &Asked, row: &Row, answers: &mut Answers) -> Result<(), RowError> {
     if let Some(word) = row.text_if("format")? {
@@ -89,6 +98,8 @@ pub fn came(_asked: &Asked, row: &Row, answers: &mut Answers) -> Result<(), RowE
         say_style(word, row.number_if("number")?, answers)?;
     } else if row.flag("default_style")? {
         answers.say_debug("answer", &NumberFormatStyle::default());
+    } else if let Some(word) = row.text_if("column")? {
+        say_column(word, answers);
     } else {
         say_stream(row.text("stream")?, answers);
     }
