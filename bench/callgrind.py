@@ -1,10 +1,10 @@
-"""The instructions that `bench_count` takes to count a text, by `valgrind --tool=callgrind`, which nothing else on
+"""The instructions that the program of the crate `bench` takes to count a text, by `valgrind --tool=callgrind`, which nothing else on
 the machine changes."""
 import subprocess
 import sys
 
 READING = "tokei_count::"
-CALLERS = ("bench_count::", "tokei_bench_count::")  # the second was its name before 2026-11-26
+CALLERS = ("bench::", "bench_count::", "tokei_bench_count::")  # the last two were its names up to 2026-11-27
 
 
 def reading_cost(path):
@@ -23,10 +23,11 @@ def reading_cost(path):
     return cost
 
 
-def cost_of(program, key, text, room):
-    """What the program's calls of `parse_from_slice` take: one for the whole of the text, one for its first half."""
-    words = ["valgrind", "--tool=callgrind", f"--callgrind-out-file={room}/out", program, key, "without-plain"]
+def cost_of(command, key, text, room):
+    """What the calls of `parse_from_slice` take of the program that the command runs: one for the whole of the text, one for
+    its first half."""
+    words = ["valgrind", "--tool=callgrind", f"--callgrind-out-file={room}/out", *command, key, "without-plain"]
     ran = subprocess.run(words, input=text, stdout=subprocess.DEVNULL, stderr=subprocess.PIPE, check=False)
     if ran.returncode != 0:
-        sys.exit(f"{program} fails at a text of {key}:\n{ran.stderr.decode('utf-8', 'replace')}")
+        sys.exit(f"{command[0]} fails at a text of {key}:\n{ran.stderr.decode('utf-8', 'replace')}")
     return reading_cost(f"{room}/out")

@@ -2,7 +2,8 @@
 use std::alloc::{AllocError, Global};
 use std::process::Abort;
 use test_table::bench_json;
-use tokei_table::{LanguageTable, LanguageType, OpenerIndex, TableError};
+use tokei_table::{LanguageTable, LanguageType, TableError};
+use tokei_table_search::OpenerIndex;
 
 /// The bench table.
 fn bench(alloc: Global) -> Result<LanguageTable, TableError> {

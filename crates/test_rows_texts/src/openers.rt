@@ -1,6 +1,7 @@
 //! Rows of searches for the first opener in a text.
 use test_rows::{Answers, Asked, Members, Row, RowError, Said};
-use tokei_table::{LanguageTable, LanguageType, OpenerIndex};
+use tokei_table::{LanguageTable, LanguageType};
+use tokei_table_search::OpenerIndex;
 
 /// The members of these rows. The openers are those of a language of the bench table, or a list of texts. `first` is
 /// the place of the first opener in the text, or `none`, or `an empty opener`.

@@ -15,5 +15,5 @@ counting_of rows job = counting_by rows (settings_of job.config)
 
 -- the files that a job counts
 abbrev pub files_of : Job → Tree → List KeptFile
-files_of job t =
-    kept_by (settings_of job.config) t (texts_of job.paths.items) (texts_of job.ignored.items)
+files_of job tree =
+    kept_by (settings_of job.config) tree (texts_of job.paths.items) (texts_of job.ignored.items)

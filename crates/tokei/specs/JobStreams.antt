@@ -14,11 +14,11 @@ use Rattle.tokei_table.specs.Row.{Row}
 -- behind what stood there a writer has the stream of a job's files, and nothing else
 abbrev pub WritesStream : Streaming → List Row → Job → Tree → Option (List ℕ) → Option (List ℕ)
     → Type 0
-WritesStream form rows job t old new =
-    Appends old new (stream_text form rows (counting_of rows job) t (files_of job t))
+WritesStream form rows job tree old new =
+    Appends old new (stream_text form rows (counting_of rows job) tree (files_of job tree))
 
 -- the sums of a stream fit: the readings, and the renewed counts of earlier results. Its rows show
 -- exact sums
-pub record StreamFits (rows : List Row) (job : Job) (t : Tree) : Type 0 where
+pub record StreamFits (rows : List Row) (job : Job) (tree : Tree) : Type 0 where
   pub earlier : RenewalFits (earlier_of job.earlier)
-  pub readings : ReadingsFit (counting_of rows job) t (files_of job t)
+  pub readings : ReadingsFit (counting_of rows job) tree (files_of job tree)

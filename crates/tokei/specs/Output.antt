@@ -16,15 +16,15 @@ use Rattle.tokei.specs.Runs.{languages_after}
 -- nothing else
 abbrev pub WritesDocument : Format → List Row → Job → Tree → Option (List ℕ) → Option (List ℕ)
     → Type 0
-WritesDocument format rows job t old new =
-    Appends old new (document_text format rows (languages_after rows job t))
+WritesDocument format rows job tree old new =
+    Appends old new (document_text format rows (languages_after rows job tree))
 
 -- the report of a job's languages is written
 abbrev pub WritesReport : List Row → Job → Tree → Option (List ℕ) → Option (List ℕ) → Type 0
-WritesReport rows job t old new = AppendsReport rows job (languages_after rows job t) old new
+WritesReport rows job tree old new = AppendsReport rows job (languages_after rows job tree) old new
 
 -- what a run writes
 abbrev pub Outputs : Wanted → List Row → Job → Tree → Option (List ℕ) → Option (List ℕ) → Type 0
-Outputs (Document format) rows job t old new = WritesDocument format rows job t old new
-Outputs Report rows job t old new = WritesReport rows job t old new
-Outputs (Stream form) rows job t old new = WritesStream form rows job t old new
+Outputs (Document format) rows job tree old new = WritesDocument format rows job tree old new
+Outputs Report rows job tree old new = WritesReport rows job tree old new
+Outputs (Stream form) rows job tree old new = WritesStream form rows job tree old new

@@ -18,5 +18,6 @@ heading_of Json = []
 
 -- the row of a file's report, under the name of its language
 abbrev pub report_row : Streaming → List Row → ℕ → ReportValue → List ℕ
-report_row Simple rows language r = stream_row (name_in rows language) r.name (own r.stats)
-report_row Json rows language r = compact_text (line_data rows language r) ++ newline
+report_row Simple rows language report =
+    stream_row (name_in rows language) report.name (own report.stats)
+report_row Json rows language report = compact_text (line_data rows language report) ++ newline

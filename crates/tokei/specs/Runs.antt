@@ -13,7 +13,7 @@ use Rattle.tokei.specs.Counted.{counting_of, files_of}
 
 -- the languages that a run shows
 unfoldable pub languages_after : List Row → Job → Tree → List (ℕ × LanguageValue)
-languages_after rows job t =
+languages_after rows job tree =
     renewed_languages
     (merged_languages (earlier_of job.earlier)
-    (languages_of_run (counting_of rows job) t (files_of job t)))
+    (languages_of_run (counting_of rows job) tree (files_of job tree)))

@@ -13,13 +13,14 @@ use Rattle.tokei_walk.specs.declared.kept_file.KeptFile.{KeptFile}
 
 -- the report of a file in a language, where the file can be read
 abbrev pub report_in : Counting → Tree → KeptFile → ℕ → Option (ℕ × ReportValue)
-report_in c t file language =
+report_in counting tree file language =
     option_map (λ s. (language, record { name = file.path; stats = s }))
-    (stats_at t c.rows c.docs language file.place)
+    (stats_at tree counting.rows counting.docs language file.place)
 
 -- the report of a file beside its language, where it counts in one and can be read
 unfoldable pub report_of_file : Counting → Tree → KeptFile → Option (ℕ × ReportValue)
-report_of_file c t file = option_and_then (report_in c t file) (language_of_file c t file)
+report_of_file counting tree file =
+    option_and_then (report_in counting tree file) (language_of_file counting tree file)
 
 -- the row of a report, if there is one
 abbrev pub row_of : Streaming → List Row → Option (ℕ × ReportValue) → List ℕ
@@ -28,12 +29,12 @@ row_of form rows (Some report) = report_row form rows report.0 report.1
 
 -- the row of a file
 abbrev pub file_row : Streaming → List Row → Counting → Tree → KeptFile → List ℕ
-file_row form rows c t file = row_of form rows (report_of_file c t file)
+file_row form rows counting tree file = row_of form rows (report_of_file counting tree file)
 
 -- the rows of files, in their order
 abbrev pub rows_of : Streaming → List Row → Counting → Tree → List KeptFile → List ℕ
-rows_of form rows c t files = flat_map (file_row form rows c t) files
+rows_of form rows counting tree files = flat_map (file_row form rows counting tree) files
 
 -- the rows below their heading
 abbrev pub stream_text : Streaming → List Row → Counting → Tree → List KeptFile → List ℕ
-stream_text form rows c t files = heading_of form ++ rows_of form rows c t files
+stream_text form rows counting tree files = heading_of form ++ rows_of form rows counting tree files

@@ -19,23 +19,24 @@ use Rattle.tokei.specs.Runs.{languages_after}
 
 -- the readings of a job's files fit, and the renewed counts of all languages
 abbrev pub TallyFits : List Row → Job → Tree → Type 0
-TallyFits rows job t = RunFits (counting_of rows job) t (files_of job t) (earlier_of job.earlier)
+TallyFits rows job tree = RunFits (counting_of rows job) tree (files_of job tree)
+    (earlier_of job.earlier)
 
 -- so do the sums that a document of this format shows
-pub record DocumentFits (format : Format) (rows : List Row) (job : Job) (t : Tree) : Type 0 where
-  pub tally : TallyFits rows job t
-  pub shown : DocumentSumsFit format (languages_after rows job t)
+pub record DocumentFits (format : Format) (rows : List Row) (job : Job) (tree : Tree) : Type 0 where
+  pub tally : TallyFits rows job tree
+  pub shown : DocumentSumsFit format (languages_after rows job tree)
 
 -- those of a run that writes a report
-pub record RunReportFits (rows : List Row) (job : Job) (t : Tree) : Type 0 where
-  pub tally : TallyFits rows job t
-  pub table : PrintedReportFits (sort_of job) (style_of job) (languages_after rows job t)
+pub record RunReportFits (rows : List Row) (job : Job) (tree : Tree) : Type 0 where
+  pub tally : TallyFits rows job tree
+  pub table : PrintedReportFits (sort_of job) (style_of job) (languages_after rows job tree)
 
 -- those of a run
 abbrev pub Fits : Wanted → List Row → Job → Tree → Type 0
-Fits (Document format) rows job t = DocumentFits format rows job t
-Fits Report rows job t = RunReportFits rows job t
-Fits (Stream form) rows job t = StreamFits rows job t
+Fits (Document format) rows job tree = DocumentFits format rows job tree
+Fits Report rows job tree = RunReportFits rows job tree
+Fits (Stream form) rows job tree = StreamFits rows job tree
 
 -- what a run has tested of earlier results: a stream, which doesn't show them, renews their counts
 -- all the same

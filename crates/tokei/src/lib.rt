@@ -19,14 +19,17 @@ pub use running::run;
 pub use streaming::stream;
 
 // What is handed on from below.
+pub use tokei_bytes::{decode_text, find_char_boundary};
 pub use tokei_config::{Config, ConfigDirs, LanguageConfig};
 pub use tokei_count::{
-    Capture, CountConfig, Counter, FileContext, HtmlLike, LanguageContext, SharedMatchers,
-    SimpleCapture, count_plain, count_plain_counted, decode_text, end_lf, end_markdown, end_script,
-    end_style, end_template, find_char_boundary, parse_counted, parse_from_slice, parse_from_str,
-    start_lf, start_markdown, start_script, start_style, start_template,
+    Counter, FileContext, LanguageContext, count_plain, count_plain_counted, parse_counted,
+    parse_from_slice, parse_from_str,
 };
 pub use tokei_earlier::{Format, FormatError, InputError, add_input, from_value};
+pub use tokei_embedding::{
+    Capture, HtmlLike, SimpleCapture, end_lf, end_markdown, end_script, end_style, end_template,
+    start_lf, start_markdown, start_script, start_style, start_template,
+};
 pub use tokei_files::{ParseFault, from_path, from_shebang, parse_file};
 pub use tokei_folders::{
     Above, Call, Entry, FailingFolders, Fault, Folders, Items, Kind, Listing, MemoryFolders, Text,
@@ -36,14 +39,17 @@ pub use tokei_io::{Counted, FailOnce, OutputError, Sink, Source, put};
 pub use tokei_json::{report_line, to_value};
 pub use tokei_languages::{Language, Languages};
 pub use tokei_options::{
-    NumberFormat, NumberFormatStyle, Sort, SortError, Streaming, StreamingError, StyleError,
+    CountConfig, NumberFormat, NumberFormatStyle, Sort, SortError, Streaming, StreamingError,
+    StyleError,
 };
+pub use tokei_parts::SharedMatchers;
 pub use tokei_print::{Printer, print_stream_heading, print_stream_row};
 pub use tokei_statistics::CountFiles;
 pub use tokei_stats::{CodeStats, CountError, Report, ReportRow};
-pub use tokei_table::{
-    LanguageTable, LanguageType, OpenerIndex, Syntax, TableError, contains_slice, has_extension,
-    is_blank_text, is_line_ending_whitespace, is_whitespace, trim,
+pub use tokei_table::{LanguageTable, LanguageType, TableError, has_extension};
+pub use tokei_table_row::{
+    Syntax, contains_slice, is_blank_text, is_line_ending_whitespace, is_whitespace, trim,
     trim_first_and_last_line_of_whitespace, trim_start,
 };
+pub use tokei_table_search::OpenerIndex;
 pub use tokei_walk::{Kept, KeptFile, Note, NoteKind, Rules, Walk, kept_files};

@@ -145,8 +145,10 @@ fn test_earlier(alloc: Global, job: &Job) -> Result<(), CountError>
 
 /// A walk over the files of a job.
 fn walk_of(alloc: Global, job: &Job) -> Result<Walk, AllocError>
-    ensures comes { IfOk result (λ w. (t : Tree) → is_sound t ≡ true → to_come t w ≡ files_of job.now t) }
-    ensures notes { IfOk result (λ w. notes_of w ≡ notes_of_excludes (texts_of job.now.ignored.items)) }
+    ensures comes { IfOk result (λ w. (t : Tree) → is_sound t ≡ true
+        → to_come t w ≡ files_of job.now t) }
+    ensures notes { IfOk result (λ w. notes_of w
+        ≡ notes_of_excludes (texts_of job.now.ignored.items)) }
 {
     Walk::new(alloc, &job.paths, &job.ignored, &rules(&job.config))
 }

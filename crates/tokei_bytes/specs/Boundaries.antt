@@ -3,11 +3,11 @@ use Rattle.std.specs.Prelude.{ℕ, suc, ◌+◌, ◌≤◌, List, [], ◌∷◌,
 use Rattle.std.specs.Fmt.{is_char_start}
 use Rattle.std.specs.Str.{IsCharBoundary}
 
--- the least boundary of the text that is not below i
-pub record IsLeastBoundary (text : List ℕ) (i found : ℕ) : Type 0 where
+-- the least boundary of the text that is not below `index`
+pub record IsLeastBoundary (text : List ℕ) (index found : ℕ) : Type 0 where
   pub boundary : IsCharBoundary text found
-  pub not_below : i ≤ found
-  pub least : (k : ℕ) → i ≤ k → IsCharBoundary text k → found ≤ k
+  pub not_below : index ≤ found
+  pub least : (k : ℕ) → index ≤ k → IsCharBoundary text k → found ≤ k
 
 -- how many bytes stand before the first that begins a character
 abbrev pub cut_len : List ℕ → ℕ
@@ -16,4 +16,4 @@ cut_len (b ∷ text) = if is_char_start b then 0 else suc (cut_len text)
 
 -- the same boundary, computed
 abbrev pub boundary_from : List ℕ → ℕ → ℕ
-boundary_from text i = i + cut_len (drop i text)
+boundary_from text index = index + cut_len (drop index text)

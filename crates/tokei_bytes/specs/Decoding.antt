@@ -19,8 +19,8 @@ order_of (a ∷ b ∷ rest) =
 
 -- the unit of two bytes
 abbrev pub unit_of : ByteOrder → ℕ → ℕ → ℕ
-unit_of BigEndian a b = a * 256 + b
-unit_of LittleEndian a b = b * 256 + a
+unit_of BigEndian a second = a * 256 + second
+unit_of LittleEndian a second = second * 256 + a
 
 -- the units of the bytes, two by two
 abbrev pub units_of : ByteOrder → List ℕ → List ℕ

@@ -8,15 +8,15 @@ newline = 10
 
 -- the blanks: a space and the bytes 9 to 13, the newline among them
 abbrev pub is_blank : ℕ → Bool
-is_blank b = (b == 32) || (nat_le 9 b && nat_le b 13)
+is_blank byte = (byte == 32) || (nat_le 9 byte && nat_le byte 13)
 
 -- 1 for true
 abbrev pub flag : Bool → ℕ
-flag x = if x then 1 else 0
+flag test = if test then 1 else 0
 
 -- whether the line that goes on behind the byte has no front yet, by whether it had none before
 abbrev pub blank_behind : Bool → ℕ → Bool
-blank_behind blank b = (b == newline) || (blank && is_blank b)
+blank_behind blank byte = (byte == newline) || (blank && is_blank byte)
 
 -- the same behind a text
 abbrev pub blank_after : Bool → List ℕ → Bool
@@ -48,4 +48,4 @@ goes_on (b ∷ c ∷ t) = goes_on (c ∷ t)
 
 -- how many lines
 abbrev pub line_count : List ℕ → ℕ
-line_count t = newline_count t + flag (goes_on t)
+line_count text = newline_count text + flag (goes_on text)

@@ -3,9 +3,9 @@ use Rattle.std.specs.Prelude.{ℕ, Bool, true, false, ◌==◌, not, List, [], �
 
 -- Whether the byte is in the list.
 abbrev pub is_one_of : List ℕ → ℕ → Bool
-is_one_of [] x = false
-is_one_of (b ∷ t) x = if x == b then true else is_one_of t x
+is_one_of [] byte = false
+is_one_of (b ∷ t) byte = if byte == b then true else is_one_of t byte
 
 -- Whether it isn't.
 abbrev pub is_none_of : List ℕ → ℕ → Bool
-is_none_of bs x = not (is_one_of bs x)
+is_none_of bs byte = not (is_one_of bs byte)

@@ -4,6 +4,6 @@ use Rattle.tokei_bytes.specs.OneOf.{is_one_of}
 
 -- one of the bytes stands at the place, and where it is `first`, one of the seconds behind it
 abbrev pub counts_at : List ℕ → ℕ → List ℕ → List ℕ → ℕ → Bool
-counts_at bytes first seconds text p =
-    is_one_of bytes (slice_index text p)
-    && (not (slice_index text p == first) || is_one_of seconds (slice_index text (p + 1)))
+counts_at bytes first seconds text place =
+    is_one_of bytes (slice_index text place)
+    && (not (slice_index text place == first) || is_one_of seconds (slice_index text (place + 1)))

@@ -3,16 +3,16 @@ use Rattle.std.specs.Prelude.{◌≡◌, ℕ, ◌%◌, ◌<◌, ◌==◌, ◌&&�
 
 -- Whether the byte stands in the slot of its low half.
 abbrev pub is_slotted : List ℕ → ℕ → Bool
-is_slotted slots x = slice_index slots (x % 16) == x
+is_slotted slots byte = slice_index slots (byte % 16) == byte
 
 -- Whether it stands in one of two.
 abbrev pub in_slots : List ℕ → List ℕ → ℕ → Bool
-in_slots slots others x = is_slotted slots x || is_slotted others x
+in_slots slots others byte = is_slotted slots byte || is_slotted others byte
 
 -- Whether a token can begin with the two bytes: the first of them tells alone, or with the other.
 abbrev pub is_told : List ℕ → List ℕ → List ℕ → ℕ → ℕ → Bool
-is_told alone firsts seconds x y =
-    is_slotted alone x || (is_slotted firsts x && is_slotted seconds y)
+is_told alone firsts seconds byte y =
+    is_slotted alone byte || (is_slotted firsts byte && is_slotted seconds y)
 
 -- A vector of 32 bytes holds the slots twice.
 pub record HasSlots (slots lanes : List ℕ) : Type 0 where

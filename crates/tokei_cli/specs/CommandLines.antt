@@ -12,16 +12,16 @@ status_of (Asked text) = 0
 
 -- the files and folders to be counted
 abbrev pub inputs_of : Cli → List (List ℕ)
-inputs_of c = map string_bytes c.input.items
+inputs_of line = map string_bytes line.input.items
 
 -- the patterns of what is left out
 abbrev pub excludes_of : Cli → List (List ℕ)
-excludes_of c = map string_bytes c.exclude.items
+excludes_of line = map string_bytes line.exclude.items
 
 -- where earlier results are read from
 abbrev pub file_input_of : Cli → Option (List ℕ)
-file_input_of c = option_map string_bytes c.file_input
+file_input_of line = option_map string_bytes line.file_input
 
 -- the file of the table of languages, where one is named
 abbrev pub table_of : Cli → Option (List ℕ)
-table_of c = option_map string_bytes c.table
+table_of line = option_map string_bytes line.table

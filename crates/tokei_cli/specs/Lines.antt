@@ -26,29 +26,30 @@ inputs_given (Some []) = codes "." ∷ []
 inputs_given (Some (text ∷ texts)) = text ∷ texts
 
 -- the members of a command line are those of these matches
-pub record IsLine (rows : List Row) (c : Cli) : Type 0 where
-  pub columns : IsNumber (one_of (codes "columns") rows) c.columns
-  pub files : c.files ≡ is_on (one_of (codes "files") rows)
-  pub hidden : c.hidden ≡ is_on (one_of (codes "hidden") rows)
-  pub no_ignore : c.no_ignore ≡ is_on (one_of (codes "no-ignore") rows)
-  pub no_ignore_parent : c.no_ignore_parent ≡ is_on (one_of (codes "no-ignore-parent") rows)
-  pub no_ignore_dot : c.no_ignore_dot ≡ is_on (one_of (codes "no-ignore-dot") rows)
-  pub no_ignore_vcs : c.no_ignore_vcs ≡ is_on (one_of (codes "no-ignore-vcs") rows)
-  pub output : option_map string_bytes c.output ≡ first_of (codes "output") rows
-  pub streaming : option_map string_bytes c.streaming ≡ first_of (codes "streaming") rows
-  pub print_languages : c.print_languages ≡ is_on (one_of (codes "languages") rows)
-  pub sort : option_map string_bytes c.sort
+pub record IsLine (rows : List Row) (line : Cli) : Type 0 where
+  pub columns : IsNumber (one_of (codes "columns") rows) line.columns
+  pub files : line.files ≡ is_on (one_of (codes "files") rows)
+  pub hidden : line.hidden ≡ is_on (one_of (codes "hidden") rows)
+  pub no_ignore : line.no_ignore ≡ is_on (one_of (codes "no-ignore") rows)
+  pub no_ignore_parent : line.no_ignore_parent ≡ is_on (one_of (codes "no-ignore-parent") rows)
+  pub no_ignore_dot : line.no_ignore_dot ≡ is_on (one_of (codes "no-ignore-dot") rows)
+  pub no_ignore_vcs : line.no_ignore_vcs ≡ is_on (one_of (codes "no-ignore-vcs") rows)
+  pub output : option_map string_bytes line.output ≡ first_of (codes "output") rows
+  pub streaming : option_map string_bytes line.streaming ≡ first_of (codes "streaming") rows
+  pub print_languages : line.print_languages ≡ is_on (one_of (codes "languages") rows)
+  pub sort : option_map string_bytes line.sort
       ≡ option_or (first_of (codes "rsort") rows) (first_of (codes "sort") rows)
-  pub sort_reverse : c.sort_reverse ≡ is_some (first_of (codes "rsort") rows)
-  pub types : option_map (λ v. map string_bytes v.items) c.types ≡ all_of (codes "types") rows
-  pub compact : c.compact ≡ is_on (one_of (codes "compact") rows)
-  pub number_format : option_map string_bytes c.number_format ≡ first_of (codes "num-format") rows
-  pub verbose : c.verbose ≡ count_of (codes "verbose") rows
-  pub excludes : excludes_of c ≡ unwrap_or (all_of (codes "exclude") rows) []
-  pub file_input : file_input_of c ≡ first_of (codes "file_input") rows
-  pub inputs : inputs_of c ≡ inputs_given (all_of (codes "input") rows)
-  pub table : table_of c ≡ first_of (codes "table") rows
+  pub sort_reverse : line.sort_reverse ≡ is_some (first_of (codes "rsort") rows)
+  pub types : option_map (λ v. map string_bytes v.items) line.types ≡ all_of (codes "types") rows
+  pub compact : line.compact ≡ is_on (one_of (codes "compact") rows)
+  pub number_format : option_map string_bytes line.number_format
+      ≡ first_of (codes "num-format") rows
+  pub verbose : line.verbose ≡ count_of (codes "verbose") rows
+  pub excludes : excludes_of line ≡ unwrap_or (all_of (codes "exclude") rows) []
+  pub file_input : file_input_of line ≡ first_of (codes "file_input") rows
+  pub inputs : inputs_of line ≡ inputs_given (all_of (codes "input") rows)
+  pub table : table_of line ≡ first_of (codes "table") rows
 
 -- the command line of these words, of which the first is the program's name
 abbrev pub IsLineOf : List (List ℕ) → Cli → Type 0
-IsLineOf words c = IsLine (matches_of line_app words) c
+IsLineOf words line = IsLine (matches_of line_app words) line

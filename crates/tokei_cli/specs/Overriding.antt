@@ -30,15 +30,15 @@ switched given configured = if given then Some true else configured
 
 -- the languages of the option for types, where it is given
 abbrev pub types_of : List Row → Cli → Option (List ℕ)
-types_of rows c = option_map (λ v. languages_named rows (map string_bytes v.items)) c.types
+types_of rows line = option_map (λ v. languages_named rows (map string_bytes v.items)) line.types
 
 -- the settings under the options: five switches and the types, all else as it is configured
 abbrev pub overridden : List Row → Cli → Settings → Settings
-overridden rows c s = record s {
-  hidden = switched c.hidden s.hidden;
-  no_ignore = switched c.no_ignore s.no_ignore;
-  no_ignore_parent = switched c.no_ignore_parent s.no_ignore_parent;
-  no_ignore_dot = switched c.no_ignore_dot s.no_ignore_dot;
-  no_ignore_vcs = switched c.no_ignore_vcs s.no_ignore_vcs;
-  types = option_or (types_of rows c) s.types;
+overridden rows line settings = record settings {
+  hidden = switched line.hidden settings.hidden;
+  no_ignore = switched line.no_ignore settings.no_ignore;
+  no_ignore_parent = switched line.no_ignore_parent settings.no_ignore_parent;
+  no_ignore_dot = switched line.no_ignore_dot settings.no_ignore_dot;
+  no_ignore_vcs = switched line.no_ignore_vcs settings.no_ignore_vcs;
+  types = option_or (types_of rows line) settings.types;
 }

@@ -20,7 +20,7 @@ extensions_text (e ∷ es) = join_by (λ t. t) (codes ", ") (e ∷ es)
 
 -- the line of a language
 abbrev pub row_line : Row → List ℕ
-row_line r = list_line r.name (extensions_text r.extensions)
+row_line row = list_line row.name (extensions_text row.extensions)
 
 -- a heading, and a line for each language
 abbrev pub languages_text : List Row → List ℕ

@@ -16,13 +16,14 @@ as_text bytes = if is_utf8 bytes then Some bytes else None
 
 -- The text of the file of that name in a folder, where it can be read as UTF-8.
 abbrev pub text_at : Tree → Names → List ℕ → Option (List ℕ)
-text_at t folder name = option_and_then as_text (node_content (node_at t (folder ++ names_of name)))
+text_at tree folder name = option_and_then as_text
+    (node_content (node_at tree (folder ++ names_of name)))
 
 -- The text of a folder's configuration file: `tokei.toml`, or `.tokeirc` where that can't be read
 -- as UTF-8.
 abbrev pub file_text : Tree → Names → Option (List ℕ)
-file_text t folder =
-    option_or (text_at t folder (codes "tokei.toml")) (text_at t folder (codes ".tokeirc"))
+file_text tree folder =
+    option_or (text_at tree folder (codes "tokei.toml")) (text_at tree folder (codes ".tokeirc"))
 
 -- The settings of a file's text; none without a file.
 abbrev pub settings_of_file : List Row → Option (List ℕ) → Settings
@@ -31,13 +32,14 @@ settings_of_file rows (Some text) = settings_of_text rows text
 
 -- The settings of a folder; none without a folder.
 abbrev pub settings_of_folder : List Row → Tree → Option (String Global) → Settings
-settings_of_folder rows t None = empty
-settings_of_folder rows t (Some place) =
-    settings_of_file rows (file_text t (names_of (string_bytes place)))
+settings_of_folder rows tree None = empty
+settings_of_folder rows tree (Some place) =
+    settings_of_file rows (file_text tree (names_of (string_bytes place)))
 
 -- The configuration: of each member the first that is there of the current folder, the home folder
 -- and the one for configuration.
 abbrev pub configuration : List Row → Tree → ConfigDirs → Settings
-configuration rows t dirs =
-    first_of_each (settings_of_folder rows t dirs.current)
-    (first_of_each (settings_of_folder rows t dirs.home) (settings_of_folder rows t dirs.config))
+configuration rows tree dirs =
+    first_of_each (settings_of_folder rows tree dirs.current)
+    (first_of_each (settings_of_folder rows tree dirs.home)
+    (settings_of_folder rows tree dirs.config))

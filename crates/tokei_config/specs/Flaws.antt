@@ -53,8 +53,8 @@ cause_of_found rows (Some (Some bytes)) = cause_of_bytes rows bytes
 
 -- Why the file of that name in a folder does.
 abbrev pub cause_at : List Row → Tree → List ℕ → List ℕ → Option Cause
-cause_at rows t place name =
-    cause_of_found rows (file_found (node_at t (names_of place ++ names_of name)))
+cause_at rows tree place name =
+    cause_of_found rows (file_found (node_at tree (names_of place ++ names_of name)))
 
 -- A file's place, and why it counts as empty.
 abbrev pub PlacedCause : Type 0
@@ -62,7 +62,8 @@ PlacedCause = List ℕ × Cause
 
 -- The file of that name, where it counts as empty though it is there.
 abbrev pub flaw_at : List Row → Tree → List ℕ → List ℕ → Option PlacedCause
-flaw_at rows t place name = option_map (λ c. (joined place name, c)) (cause_at rows t place name)
+flaw_at rows tree place name =
+    option_map (λ c. (joined place name, c)) (cause_at rows tree place name)
 
 -- No item, or one.
 abbrev pub listed : {X : Type 0} → Option X → List X
@@ -71,25 +72,27 @@ listed (Some x) = x ∷ []
 
 -- The second file of a folder, which is read where the first one has no text.
 abbrev pub second_flaw : List Row → Tree → List ℕ → Bool → List PlacedCause
-second_flaw rows t place first_is_text =
-    if first_is_text then [] else listed (flaw_at rows t place (codes ".tokeirc"))
+second_flaw rows tree place first_is_text =
+    if first_is_text then [] else listed (flaw_at rows tree place (codes ".tokeirc"))
 
 -- The files of a folder that are read and count as empty.
 abbrev pub flaws_in : List Row → Tree → Option (String Global) → List PlacedCause
-flaws_in rows t None = []
-flaws_in rows t (Some dir) =
-    listed (flaw_at rows t (string_bytes dir) (codes "tokei.toml"))
-    ++ second_flaw rows t (string_bytes dir)
-    (is_some (text_at t (names_of (string_bytes dir)) (codes "tokei.toml")))
+flaws_in rows tree None = []
+flaws_in rows tree (Some dir) =
+    listed (flaw_at rows tree (string_bytes dir) (codes "tokei.toml"))
+    ++ second_flaw rows tree (string_bytes dir)
+    (is_some (text_at tree (names_of (string_bytes dir)) (codes "tokei.toml")))
 
 -- Those of the current folder, of the home folder, and of the one for configuration.
 abbrev pub flaws_of : List Row → Tree → ConfigDirs → List PlacedCause
-flaws_of rows t dirs =
-    flaws_in rows t dirs.current ++ (flaws_in rows t dirs.home ++ flaws_in rows t dirs.config)
+flaws_of rows tree dirs =
+    flaws_in rows tree dirs.current ++
+    (flaws_in rows tree dirs.home ++ flaws_in rows tree dirs.config)
 
 -- The place and the cause of each flaw.
 abbrev pub placed_cause : Flaw → PlacedCause
-placed_cause f = (f.place, f.cause)
+placed_cause flaw = (flaw.place, flaw.cause)
 
+-- The same of all of them, in order.
 abbrev pub placed_causes : List Flaw → List PlacedCause
 placed_causes = map placed_cause

@@ -19,9 +19,9 @@ extensions_in ms = option_and_then as_texts (get_member (codes "extensions") ms)
 
 -- The addition of a member, whose key is a language's key or name.
 abbrev pub addition : List Row → List ℕ → Data → Option Addition
-addition rows key d =
+addition rows key value =
     option_and_then (λ language. option_map (λ es. (language, es))
-    (option_and_then extensions_in (as_table d)))
+    (option_and_then extensions_in (as_table value)))
     (first_where (has_name key) rows)
 
 -- The addition of each member; nothing where one of them can't be read.
@@ -45,4 +45,5 @@ one_each found = if named_twice found then None else Some (in_table_order found)
 
 -- What a table `[languages]` adds.
 abbrev pub as_additions : List Row → Data → Option (List Addition)
-as_additions rows d = option_and_then one_each (option_and_then (additions rows) (as_table d))
+as_additions rows value = option_and_then one_each
+    (option_and_then (additions rows) (as_table value))

@@ -18,11 +18,11 @@ natural_of (negsuc n) = None
 
 -- A whole number that isn't below 0.
 abbrev pub as_count : Data → Option ℕ
-as_count d = option_and_then natural_of (as_integer d)
+as_count value = option_and_then natural_of (as_integer value)
 
 -- The word of a column.
 abbrev pub as_sort : Data → Option Sort
-as_sort d = option_and_then sort_of_word (as_str d)
+as_sort value = option_and_then sort_of_word (as_str value)
 
 -- What each item stands for; nothing where one of them can't be read.
 abbrev pub all_of : {X : Type 0} → (Data → Option X) → Items → Option (List X)
@@ -31,12 +31,12 @@ all_of read (item d ds) = option_and_then (λ x. option_map (λ xs. x ∷ xs) (a
 
 -- The language of which a text is the key or the name, letter by letter.
 abbrev pub as_language : List Row → Data → Option ℕ
-as_language rows d = option_and_then (λ word. first_where (has_name word) rows) (as_str d)
+as_language rows value = option_and_then (λ word. first_where (has_name word) rows) (as_str value)
 
 -- A list of languages.
 abbrev pub as_languages : List Row → Data → Option (List ℕ)
-as_languages rows d = option_and_then (all_of (as_language rows)) (as_array d)
+as_languages rows value = option_and_then (all_of (as_language rows)) (as_array value)
 
 -- A list of texts.
 abbrev pub as_texts : Data → Option (List (List ℕ))
-as_texts d = option_and_then (all_of as_str) (as_array d)
+as_texts value = option_and_then (all_of as_str) (as_array value)

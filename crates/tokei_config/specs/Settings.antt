@@ -33,20 +33,20 @@ empty = record {
 
 -- Member by member the first settings, and the second where the first have none.
 abbrev pub first_of_each : Settings → Settings → Settings
-first_of_each a b = record {
-  columns = option_or a.columns b.columns;
-  hidden = option_or a.hidden b.hidden;
-  no_ignore = option_or a.no_ignore b.no_ignore;
-  no_ignore_parent = option_or a.no_ignore_parent b.no_ignore_parent;
-  no_ignore_dot = option_or a.no_ignore_dot b.no_ignore_dot;
-  no_ignore_vcs = option_or a.no_ignore_vcs b.no_ignore_vcs;
+first_of_each settings other = record {
+  columns = option_or settings.columns other.columns;
+  hidden = option_or settings.hidden other.hidden;
+  no_ignore = option_or settings.no_ignore other.no_ignore;
+  no_ignore_parent = option_or settings.no_ignore_parent other.no_ignore_parent;
+  no_ignore_dot = option_or settings.no_ignore_dot other.no_ignore_dot;
+  no_ignore_vcs = option_or settings.no_ignore_vcs other.no_ignore_vcs;
   treat_doc_strings_as_comments =
-      option_or a.treat_doc_strings_as_comments b.treat_doc_strings_as_comments;
-  sort = option_or a.sort b.sort;
-  types = option_or a.types b.types;
-  languages = option_or a.languages b.languages;
+      option_or settings.treat_doc_strings_as_comments other.treat_doc_strings_as_comments;
+  sort = option_or settings.sort other.sort;
+  types = option_or settings.types other.types;
+  languages = option_or settings.languages other.languages;
 }
 
 -- The extensions that languages gain, in the order of the table.
 abbrev pub additions_in : Settings → List (ℕ × List (List ℕ))
-additions_in s = unwrap_or s.languages []
+additions_in settings = unwrap_or settings.languages []

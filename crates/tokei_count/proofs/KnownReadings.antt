@@ -50,7 +50,8 @@ put_known m (blob j s rest) k v h known f = by_cmp (nat_cmp k j) (put_known m re
     by_cmp Equal r = (h.0, (f, h.1.1))
     by_cmp Greater r = (h.0, (h.1.0, r))
 
-joined_known : (m : ℕ) (o : Option Statistics) (f : Statistics → Statistics) (t : Statistics) → IsKnown m o → ((s : Statistics) → AreKnown m s → AreKnown m (f s)) → AreKnown m t → AreKnown m (joined o f t)
+joined_known : (m : ℕ) (o : Option Statistics) (f : Statistics → Statistics) (t : Statistics) → IsKnown m o
+    → ((s : Statistics) → AreKnown m s → AreKnown m (f s)) → AreKnown m t → AreKnown m (joined o f t)
 joined_known m None f t h g k = k
 joined_known m (Some s) f t h g k = g s h
 
@@ -77,7 +78,8 @@ cells_known m (c ∷ cs) h = (h.0, cells_known m cs h.1)
 module _ (rows : List Row) (tokens : HaveTokens rows) (docs_are_comments : Bool) where
   kids_known : (levels language : ℕ) (t : List ℕ) → language < length rows → EachOf (λ k. k.language < length rows) (children (marks [] (items_in (languages_of rows) levels language t)))
   kids_known levels language t known =
-      (text_loaded (row_at rows language) (blocks (languages_of rows) levels language t) (sound_row (row_at rows language) (every_token rows tokens language)) (by_levels rows language t levels) (λ k. k.language < length rows)
+      (text_loaded (row_at rows language) (blocks (languages_of rows) levels language t)
+      (sound_row (row_at rows language) (every_token rows tokens language)) (by_levels rows language t levels) (λ k. k.language < length rows)
       (λ l u k e. blocks_known rows language t known levels l u k e) t).kids
 
   pub reading-known : (levels language : ℕ) (t : List ℕ) → language < length rows → AreKnown (length rows) (reading (languages_of rows) docs_are_comments levels language t)
@@ -92,7 +94,8 @@ module _ (rows : List Row) (tokens : HaveTokens rows) (docs_are_comments : Bool)
 
       by_test : (x : Bool) → AreKnown (length rows) (cond x empty (read_by (row_at rows language) docs_are_comments (λ k. empty) ms))
       by_test true = tt
-      by_test false = sum_known (length rows) (node own none) (children_add (λ k. empty) (children ms)) tt (adds_known (length rows) (λ k. empty) (λ k h. tt) (children ms) (kids_known zero language t known))
+      by_test false = sum_known (length rows) (node own none) (children_add (λ k. empty) (children ms)) tt
+          (adds_known (length rows) (λ k. empty) (λ k h. tt) (children ms) (kids_known zero language t known))
   reading-known (suc n) language t known = by_test (is_notebook (row_at rows language)) (λ k h. reading-known n k.language k.contents h)
     where
       ms : List Mark

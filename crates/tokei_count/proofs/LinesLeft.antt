@@ -79,7 +79,8 @@ fronts_line (b ∷ t) blank = by_ends (b == newline) (is_blank b) blank refl (en
     by_ends true true false q e ih = refl
     by_ends false true true q e ih = bare_sum (front_count true t) ∙ ih true ∙ ap (λ x. flag (not (x && all_blank (first_line t))) + front_count true (drop (length (first_line t)) t)) (sym q)
     by_ends false true false q e ih = bare_sum (front_count false t) ∙ ih false
-    by_ends false false true q e ih = ap (λ n. 1 + n) (ih false ∙ bare_sum (front_count true (drop (length (first_line t)) t))) ∙ ap (λ x. flag (not (x && all_blank (first_line t))) + front_count true (drop (length (first_line t)) t)) (sym q)
+    by_ends false false true q e ih = ap (λ n. 1 + n) (ih false ∙ bare_sum (front_count true (drop (length (first_line t)) t)))
+        ∙ ap (λ x. flag (not (x && all_blank (first_line t))) + front_count true (drop (length (first_line t)) t)) (sym q)
     by_ends false false false q e ih = bare_sum (front_count false t) ∙ ih false
 
 -- the first line is one
@@ -98,7 +99,8 @@ count_line (b ∷ c ∷ s) h = by_ends (b == newline) (count_line (c ∷ s) (ome
     by_ends false ih = omega (arith, ih)
 
 -- the counts of a line and of those behind it
-added : (literate blank : Bool) (lines one_more all : Counts) (before after fronts more : ℕ) → one_more ≡ plus lines (one_of (class_by literate blank)) → before + fronts ≡ 1 + (after + more) → fronts ≡ flag (not blank) + more
+added : (literate blank : Bool) (lines one_more all : Counts) (before after fronts more : ℕ)
+    → one_more ≡ plus lines (one_of (class_by literate blank)) → before + fronts ≡ 1 + (after + more) → fronts ≡ flag (not blank) + more
     → all ≡ plus lines (counts_in literate before fronts) → all ≡ plus one_more (counts_in literate after more)
 added true true lines one_more all before after fronts more e f g h =
     h ∙ counts_same _ _ (omega (arith, f, g, ap (λ (m : Counts). m.blanks) e)) (omega (arith, ap (λ (m : Counts). m.code) e)) (omega (arith, g, ap (λ (m : Counts). m.comments) e))

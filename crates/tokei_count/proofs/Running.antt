@@ -43,7 +43,8 @@ running-is m s t (byte_at b x c ∷ ms) =
 
     by_test : (y : Bool) → running (innermost c) [] 0 (drop 1 t) ms ≡ map passed_of (stretches (innermost c) [] (drop 1 t) ms)
         → running m (bytes_of on) (choices_of on) (drop 1 t) ms ≡ map passed_of (stretches m on (drop 1 t) ms)
-        → cond y (record { begun = m; reach = bytes_of on; size = length (bytes_of on); choices = choices_of on } ∷ running (innermost c) [] 0 (drop 1 t) ms) (running m (bytes_of on) (choices_of on) (drop 1 t) ms)
+        → cond y (record { begun = m; reach = bytes_of on; size = length (bytes_of on); choices = choices_of on } ∷ running (innermost c) [] 0
+        (drop 1 t) ms) (running m (bytes_of on) (choices_of on) (drop 1 t) ms)
         ≡ map passed_of (cond y (record { begun = m; reach = bytes_of on; own = on } ∷ stretches (innermost c) [] (drop 1 t) ms) (stretches m on (drop 1 t) ms))
     by_test true h k = ap₂ (λ n w. record { begun = m; reach = bytes_of on; size = n; choices = choices_of on } ∷ w) (length-bytes on) h
     by_test false h k = k

@@ -47,7 +47,8 @@ put_within m (blob j s rest) k v h f = by_cmp (nat_cmp k j) (put_within m rest k
     by_cmp Equal r = omega (arith, h, f)
     by_cmp Greater r = omega (arith, h, r)
 
-joined_fewer : (m : ℕ) (o : Option Statistics) (f : Statistics → Statistics) (t : Statistics) → HoldsFewer m o → ((s : Statistics) → depth s < m → depth (f s) < m) → depth t < m → depth (joined o f t) < m
+joined_fewer : (m : ℕ) (o : Option Statistics) (f : Statistics → Statistics) (t : Statistics) → HoldsFewer m o
+    → ((s : Statistics) → depth s < m → depth (f s) < m) → depth t < m → depth (joined o f t) < m
 joined_fewer m None f t h g k = k
 joined_fewer m (Some s) f t h g k = g s h
 
@@ -78,7 +79,8 @@ module _ (rows : List Row) (tokens : HaveTokens rows) (docs_are_comments : Bool)
   childless : (language : ℕ) (t : List ℕ) → children (marks [] (items_in (languages_of rows) zero language t)) ≡ []
   childless language t =
       none_of (children (marks [] (items_in (languages_of rows) zero language t)))
-      (text_loaded (row_at rows language) (blocks (languages_of rows) zero language t) (sound_row (row_at rows language) (every_token rows tokens language)) (by_levels rows language t zero) (λ k. ⊥) (λ l u k e. cc) t).kids
+      (text_loaded (row_at rows language) (blocks (languages_of rows) zero language t)
+      (sound_row (row_at rows language) (every_token rows tokens language)) (by_levels rows language t zero) (λ k. ⊥) (λ l u k e. cc) t).kids
 
   pub reading-shallow : (levels language : ℕ) (t : List ℕ) → depth (reading (languages_of rows) docs_are_comments levels language t) ≤ levels
   unfolding reading

@@ -94,7 +94,8 @@ none_of None h = refl
 none_of (Some a) h = cc
 
 -- in a text without opener no part that begins plain is walked
-pub not_walked : (os : List (List ℕ)) (text : List ℕ) (start : ℕ) (c : Chain) → AreInLine os → first_opener os text ≡ None → c ≡ [] → is_walked os (innermost c) (first_line (drop start text)) ≡ true → ⊥
+pub not_walked : (os : List (List ℕ)) (text : List ℕ) (start : ℕ) (c : Chain) → AreInLine os → first_opener os text ≡ None → c ≡ []
+    → is_walked os (innermost c) (first_line (drop start text)) ≡ true → ⊥
 not_walked os text start c lines none plain walked =
     let u : List ℕ = drop start text in
     let none_here : first_opener os u ≡ None = none_of (first_opener os u) (none_drop os start text (ap is_some none)) in
@@ -135,29 +136,44 @@ module _ (skips : Bool) (rows : List Row) (levels language : ℕ) (text : List �
   steps-lines h = by_levels levels h
     where
       by_levels : (n : ℕ) → is_notebook (row_at rows language) ≡ false
-          → made_steps skips (languages_of rows) n language text ≡ steps_left (row_at rows language) (blocks (languages_of rows) n language text) (length text) skips [] text + length (children_left (row_at rows language) (blocks (languages_of rows) n language text) (length text) [] text) + sum_over (child_steps skips (languages_of rows) n) (children_left (row_at rows language) (blocks (languages_of rows) n language text) (length text) [] text)
+          → made_steps skips (languages_of rows) n language text
+          ≡ steps_left (row_at rows language) (blocks (languages_of rows) n language text) (length text) skips [] text + length
+          (children_left (row_at rows language) (blocks (languages_of rows) n language text) (length text) [] text) + sum_over
+          (child_steps skips (languages_of rows) n) (children_left (row_at rows language) (blocks (languages_of rows) n language text)
+          (length text) [] text)
       by_levels zero h =
           let none = sum_none (child_steps skips (languages_of rows) zero) (λ k. refl) (children_in (languages_of rows) zero language text) in
           ap (λ x. cond x 0 (own_steps_by skips (row_at rows language) text (items_in (languages_of rows) zero language text) + length (children_in (languages_of rows) zero language text))) h
           ∙ omega (arith, none, own_steps_by-running skips (row_at rows language) text (items_in (languages_of rows) zero language text))
-      by_levels (suc n) h = ap (λ x. cond x (sum_over (λ k. made_steps skips (languages_of rows) n k.language k.contents) (cell_blocks rows language text)) (own_steps_by skips (row_at rows language) text (items_in (languages_of rows) (suc n) language text) + length (children_in (languages_of rows) (suc n) language text) + sum_over (λ k. made_steps skips (languages_of rows) n k.language k.contents) (children_in (languages_of rows) (suc n) language text))) h
-          ∙ ap (λ m. m + length (children_in (languages_of rows) (suc n) language text) + sum_over (λ k. made_steps skips (languages_of rows) n k.language k.contents) (children_in (languages_of rows) (suc n) language text)) (own_steps_by-running skips (row_at rows language) text (items_in (languages_of rows) (suc n) language text))
+      by_levels (suc n) h = ap (λ x. cond x (sum_over (λ k. made_steps skips (languages_of rows) n k.language k.contents)
+          (cell_blocks rows language text)) (own_steps_by skips (row_at rows language) text (items_in (languages_of rows) (suc n) language text) +
+          length (children_in (languages_of rows) (suc n) language text) + sum_over
+          (λ k. made_steps skips (languages_of rows) n k.language k.contents) (children_in (languages_of rows) (suc n) language text))) h
+          ∙ ap (λ m. m + length (children_in (languages_of rows) (suc n) language text) + sum_over
+          (λ k. made_steps skips (languages_of rows) n k.language k.contents) (children_in (languages_of rows) (suc n) language text))
+          (own_steps_by-running skips (row_at rows language) text (items_in (languages_of rows) (suc n) language text))
 
   -- a notebook, with levels left or none
   pub steps-notebook : is_notebook g ≡ true → 0 < levels → made_steps skips (languages_of rows) levels language text ≡ inner_of (cell_blocks rows language text)
   unfolding with_children
   steps-notebook h some = by_levels levels some h
     where
-      by_levels : (n : ℕ) → 0 < n → is_notebook (row_at rows language) ≡ true → made_steps skips (languages_of rows) n language text ≡ sum_over (child_steps skips (languages_of rows) n) (cell_blocks rows language text)
+      by_levels : (n : ℕ) → 0 < n → is_notebook (row_at rows language) ≡ true
+          → made_steps skips (languages_of rows) n language text
+          ≡ sum_over (child_steps skips (languages_of rows) n) (cell_blocks rows language text)
       by_levels zero some h = absurd (omega (arith, some))
-      by_levels (suc n) some h = ap (λ x. cond x (sum_over (λ k. made_steps skips (languages_of rows) n k.language k.contents) (cell_blocks rows language text)) (own_steps_by skips (row_at rows language) text (items_in (languages_of rows) (suc n) language text) + length (children_in (languages_of rows) (suc n) language text) + sum_over (λ k. made_steps skips (languages_of rows) n k.language k.contents) (children_in (languages_of rows) (suc n) language text))) h
+      by_levels (suc n) some h = ap (λ x. cond x (sum_over (λ k. made_steps skips (languages_of rows) n k.language k.contents)
+          (cell_blocks rows language text)) (own_steps_by skips (row_at rows language) text (items_in (languages_of rows) (suc n) language text) +
+          length (children_in (languages_of rows) (suc n) language text) + sum_over
+          (λ k. made_steps skips (languages_of rows) n k.language k.contents) (children_in (languages_of rows) (suc n) language text))) h
 
   pub steps-no_notebook : is_notebook g ≡ true → levels ≡ 0 → made_steps skips (languages_of rows) levels language text ≡ 0
   unfolding with_children
   steps-no_notebook h none_left = by_levels levels none_left h
     where
       by_levels : (n : ℕ) → n ≡ 0 → is_notebook (row_at rows language) ≡ true → made_steps skips (languages_of rows) n language text ≡ 0
-      by_levels zero e h = ap (λ x. cond x 0 (own_steps_by skips (row_at rows language) text (items_in (languages_of rows) zero language text) + length (children_in (languages_of rows) zero language text))) h
+      by_levels zero e h = ap (λ x. cond x 0 (own_steps_by skips (row_at rows language) text (items_in (languages_of rows) zero language text) +
+          length (children_in (languages_of rows) zero language text))) h
       by_levels (suc n) e h = absurd (omega (arith, e))
 
   steps_left-none : (l : ℕ) (c : Chain) → steps_left g block l skips c [] ≡ 0
@@ -176,7 +192,8 @@ module _ (skips : Bool) (rows : List Row) (levels language : ℕ) (text : List �
 
   module _ (own inner l : ℕ) (c : Chain) (rest : List ℕ) (u : AreUnderWay own inner l c rest) where
     -- a line that is walked
-    pub line_steps : (docs_are_comments : Bool) (n j : ℕ) (class : Class) (d : Chain) → ReadsLine g block l docs_are_comments c n j class d rest → walks skips (openers g) (innermost c) (take n rest) ≡ true → AreUnderWay (own + j) inner l d (drop n rest)
+    pub line_steps : (docs_are_comments : Bool) (n j : ℕ) (class : Class) (d : Chain) → ReadsLine g block l docs_are_comments c n j class d rest
+        → walks skips (openers g) (innermost c) (take n rest) ≡ true → AreUnderWay (own + j) inner l d (drop n rest)
     line_steps docs_are_comments n j class d r walked =
         let here : steps_left g block l skips c rest ≡ j + steps_left g block l skips d (drop n rest) = r.steps skips ∙ ap (λ x. cond x j 0 + steps_left g block l skips d (drop n rest)) walked in
         record {
@@ -185,7 +202,8 @@ module _ (skips : Bool) (rows : List Row) (levels language : ℕ) (text : List �
         }
 
     -- a line that isn't
-    pub line_skipped : (docs_are_comments : Bool) (n j : ℕ) (class : Class) (d : Chain) → ReadsLine g block l docs_are_comments c n j class d rest → walks skips (openers g) (innermost c) (take n rest) ≡ false → AreUnderWay own inner l d (drop n rest)
+    pub line_skipped : (docs_are_comments : Bool) (n j : ℕ) (class : Class) (d : Chain) → ReadsLine g block l docs_are_comments c n j class d rest
+        → walks skips (openers g) (innermost c) (take n rest) ≡ false → AreUnderWay own inner l d (drop n rest)
     line_skipped docs_are_comments n j class d r walked =
         let here : steps_left g block l skips c rest ≡ 0 + steps_left g block l skips d (drop n rest) = r.steps skips ∙ ap (λ x. cond x j 0 + steps_left g block l skips d (drop n rest)) walked in
         record {
@@ -194,7 +212,8 @@ module _ (skips : Bool) (rows : List Row) (levels language : ℕ) (text : List �
         }
 
     -- a part that a child breaks off, and the child
-    pub broken_steps : (docs_are_comments : Bool) (n j : ℕ) (k : Block) (d : Chain) → ReadsChild g block l docs_are_comments c n j k d rest → walks skips (openers g) (innermost c) (first_line rest) ≡ true
+    pub broken_steps : (docs_are_comments : Bool) (n j : ℕ) (k : Block) (d : Chain) → ReadsChild g block l docs_are_comments c n j k d rest
+        → walks skips (openers g) (innermost c) (first_line rest) ≡ true
         → AreUnderWay (own + (j + 1)) (capped (inner + capped (child_steps skips (languages_of rows) levels k))) (length rest - (n + k.size)) [] (drop (n + k.size) rest)
     broken_steps docs_are_comments n j k d r walked =
         let l' : ℕ = length rest - (n + k.size) in
@@ -225,7 +244,8 @@ matchers_at rows language i d e h = ap (λ n. get_or (map matchers_of rows) n d)
     there (r ∷ rs) (suc n) h = there rs n (omega (arith, h))
 
 -- where a line ends and the text doesn't, a part begins
-pub glance_part : (text : List ℕ) (l start stop : ℕ) → IsPart text l start start → stop ≡ start + length (first_line (drop start text)) → start < length text → stop < length text → IsPart text l stop stop
+pub glance_part : (text : List ℕ) (l start stop : ℕ) → IsPart text l start start → stop ≡ start + length (first_line (drop start text))
+    → start < length text → stop < length text → IsPart text l stop stop
 glance_part text l start stop p e some more =
     let u : List ℕ = drop start text in
     let len : length u ≡ length text - start = length-drop start text in

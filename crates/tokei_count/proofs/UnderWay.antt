@@ -58,16 +58,49 @@ sums_with a b = record { blanks = a.blanks + b.blanks; code = a.code + b.code; c
 -- what was read so far, with those lines more, up to that place
 abbrev pub gone_on : ReadSoFar → Sums → ℕ → ReadSoFar
 gone_on p lines at =
-    record { own = sums_with p.own lines; blobs = p.blobs; own_steps = p.own_steps; inner_steps = p.inner_steps; behind_child = p.behind_child; start = at; stack = p.stack; search = p.search; child = p.child }
+    record {
+      own = sums_with p.own lines;
+      blobs = p.blobs;
+      own_steps = p.own_steps;
+      inner_steps = p.inner_steps;
+      behind_child =
+          p.behind_child;
+      start = at;
+      stack = p.stack;
+      search = p.search;
+      child = p.child;
+    }
 
 -- the lines are told by their counts
 pub same_sums : (a b : Sums) → sums_of a ≡ sums_of b → a ≡ b
 same_sums a b e = ap (λ (m : Counts). record { blanks = m.blanks; code = m.code; comments = m.comments }) e
 
 pub counted_on : (r : Reading) (p : ReadSoFar) (o : Sums) (at : ℕ) → (lines : Sums) → sums_of o ≡ sums_of (sums_with p.own lines) → IsUnderWay r (gone_on p lines at)
-    → IsUnderWay r (record { own = o; blobs = p.blobs; own_steps = p.own_steps; inner_steps = p.inner_steps; behind_child = p.behind_child; start = at; stack = p.stack; search = p.search; child = p.child })
+    → IsUnderWay r (record {
+      own = o;
+      blobs = p.blobs;
+      own_steps = p.own_steps;
+      inner_steps = p.inner_steps;
+      behind_child = p.behind_child;
+      start =
+          at;
+      stack = p.stack;
+      search = p.search;
+      child = p.child;
+    })
 counted_on r p o at lines e way =
-    subst (λ (s : Sums). IsUnderWay r (record { own = s; blobs = p.blobs; own_steps = p.own_steps; inner_steps = p.inner_steps; behind_child = p.behind_child; start = at; stack = p.stack; search = p.search; child = p.child }))
+    subst (λ (s : Sums). IsUnderWay r (record {
+      own = s;
+      blobs = p.blobs;
+      own_steps = p.own_steps;
+      inner_steps = p.inner_steps;
+      behind_child =
+          p.behind_child;
+      start = at;
+      stack = p.stack;
+      search = p.search;
+      child = p.child;
+    }))
     (same_sums (sums_with p.own lines) o (sym e)) way
 
 module _ (r : Reading) (p : ReadSoFar) (way : IsUnderWay r p) where
@@ -78,11 +111,23 @@ module _ (r : Reading) (p : ReadSoFar) (way : IsUnderWay r p) where
       let c : 0 ≡ lines.code = ap (λ (m : Counts). m.code) (sym none) in
       let d : 0 ≡ lines.comments = ap (λ (m : Counts). m.comments) (sym none) in
       let same : p.own ≡ sums_with p.own lines = same_sums p.own (sums_with p.own lines) (counts_same _ _ (omega arith) (omega arith) (omega arith)) in
-      subst (λ (s : Sums). IsUnderWay r (record { own = s; blobs = p.blobs; own_steps = p.own_steps; inner_steps = p.inner_steps; behind_child = p.behind_child; start = p.start; stack = p.stack; search = p.search; child = p.child })) same way
+      subst (λ (s : Sums). IsUnderWay r (record {
+        own = s;
+        blobs = p.blobs;
+        own_steps = p.own_steps;
+        inner_steps = p.inner_steps;
+        behind_child =
+            p.behind_child;
+        start = p.start;
+        stack = p.stack;
+        search = p.search;
+        child = p.child;
+      })) same way
 
   -- the counts so far fit where the whole does
   pub counts_fit : Fits (reading_of r) → CountsFit (sums_of p.own)
-  counts_fit fits = own_fits r.table.now r.docs_are_comments r.levels r.language r.text.now (sums_of p.own) (blobs_of (entries_of p.blobs.entries)) p.behind_child (chain_of p.stack.items) (drop p.start r.text.now)
+  counts_fit fits = own_fits r.table.now r.docs_are_comments r.levels r.language r.text.now (sums_of p.own) (blobs_of (entries_of p.blobs.entries))
+      p.behind_child (chain_of p.stack.items) (drop p.start r.text.now)
       (record { counts = way.counts; kids = way.kids }) way.lines fits
 
   abbrev text : List ℕ
@@ -107,8 +152,10 @@ module _ (r : Reading) (p : ReadSoFar) (way : IsUnderWay r p) where
   stepped = record { own = way.steps; inner = way.inner }
 
   -- a part that must be walked where the reading skips is walked
-  walks_here : (reach : List ℕ) → reach ≡ first_line rest → (r.skips ≡ true → is_walked (openers_in r) (innermost c) (first_line rest) ≡ true) → walks r.skips (openers (row_in r)) (innermost c) reach ≡ true
-  walks_here reach e walked = by_test r.skips (λ skipped. ap (is_walked (openers (row_in r)) (innermost c)) e ∙ ap (λ os. is_walked os (innermost c) (first_line rest)) (sym (openers_are r)) ∙ walked skipped)
+  walks_here : (reach : List ℕ) → reach ≡ first_line rest → (r.skips ≡ true → is_walked (openers_in r) (innermost c) (first_line rest) ≡ true)
+      → walks r.skips (openers (row_in r)) (innermost c) reach ≡ true
+  walks_here reach e walked = by_test r.skips (λ skipped. ap (is_walked (openers (row_in r)) (innermost c)) e
+      ∙ ap (λ os. is_walked os (innermost c) (first_line rest)) (sym (openers_are r)) ∙ walked skipped)
     where
       by_test : (x : Bool) → (x ≡ true → is_walked (openers (row_in r)) (innermost c) reach ≡ true) → walks x (openers (row_in r)) (innermost c) reach ≡ true
       by_test true h = h refl
@@ -135,7 +182,8 @@ module _ (r : Reading) (p : ReadSoFar) (way : IsUnderWay r p) where
       (ap (λ os. is_walked os (innermost c) (first_line rest)) (sym (openers_are r)) ∙ walked)
 
   -- it goes on by a line that ends before the place `behind`
-  module _ (class : Class) (behind j : ℕ) (s : Vec Enclosure) (low : p.start < behind) (line : ReadsLine (row_in r) (blocks_of r) p.behind_child r.docs_are_comments c (behind - p.start) j class (chain_of s.items) rest) where
+  module _ (class : Class) (behind j : ℕ) (s : Vec Enclosure) (low : p.start < behind)
+      (line : ReadsLine (row_in r) (blocks_of r) p.behind_child r.docs_are_comments c (behind - p.start) j class (chain_of s.items) rest) where
     abbrev n : ℕ
     n = behind - p.start
 
@@ -153,9 +201,14 @@ module _ (r : Reading) (p : ReadSoFar) (way : IsUnderWay r p) where
         → (r.skips ≡ true → first_opener (openers (row_in r)) text ≡ None → (d ≡ []) × (lines_of (sums_of o) ≤ behind))
         → IsUnderWay r (record { own = o; blobs = p.blobs; own_steps = m; inner_steps = p.inner_steps; behind_child = p.behind_child; start = behind; stack = s; search = h; child = k })
     line_on o m h k own_is searched few part taken quiet =
-        let went : IsCounted r.table.now r.docs_are_comments r.levels r.language text (plus own (one_of class)) blobs p.behind_child d (drop n rest) = line_read r.table.now r.docs_are_comments r.levels r.language text own blobs p.behind_child c rest counted n class d line in
-        let moved : IsCounted r.table.now r.docs_are_comments r.levels r.language text (plus own (one_of class)) blobs p.behind_child d (drop behind text) = subst (IsCounted r.table.now r.docs_are_comments r.levels r.language text (plus own (one_of class)) blobs p.behind_child d) there went in
-        let now : IsCounted r.table.now r.docs_are_comments r.levels r.language text (sums_of o) blobs p.behind_child d (drop behind text) = subst (λ (m : Counts). IsCounted r.table.now r.docs_are_comments r.levels r.language text m blobs p.behind_child d (drop behind text)) (sym own_is) moved in
+        let went : IsCounted r.table.now r.docs_are_comments r.levels r.language text (plus own (one_of class)) blobs p.behind_child d (drop n rest) =
+        line_read r.table.now r.docs_are_comments r.levels r.language text own blobs p.behind_child c rest counted n class d line in
+        let moved : IsCounted r.table.now r.docs_are_comments r.levels r.language text (plus own (one_of class)) blobs p.behind_child d
+        (drop behind text) = subst (IsCounted r.table.now r.docs_are_comments r.levels r.language text (plus own (one_of class)) blobs
+        p.behind_child d) there went in
+        let now : IsCounted r.table.now r.docs_are_comments r.levels r.language text (sums_of o) blobs p.behind_child d (drop behind text) =
+        subst (λ (m : Counts). IsCounted r.table.now r.docs_are_comments r.levels r.language text m blobs p.behind_child d (drop behind text))
+        (sym own_is) moved in
         let made = subst (AreUnderWay r.skips r.table.now r.levels r.language text m p.inner_steps p.behind_child d) there taken in
         record {
           lines = way.lines;
@@ -189,12 +242,25 @@ module _ (r : Reading) (p : ReadSoFar) (way : IsUnderWay r p) where
     holds_none = ap (λ os. holds os (first_line rest)) (sym (openers_are r)) ∙ none
 
     line : (j : ℕ) × ReadsLine (row_in r) (blocks_of r) p.behind_child r.docs_are_comments c (stop - p.start) j class c rest
-    line = glance_reads r.table.now r.docs_are_comments r.levels r.language text p.behind_child rest class c (stop - p.start) plain size way.tokens (omega (arith, length-drop p.start text, some)) holds_none class_is
+    line = glance_reads r.table.now r.docs_are_comments r.levels r.language text p.behind_child rest class c (stop - p.start) plain size way.tokens
+        (omega (arith, length-drop p.start text, some)) holds_none class_is
 
     pub skipped_fits : Fits (reading_of r) → CountsFit (plus own (one_of class))
     skipped_fits fits = line_sum_fits class stop line.0 p.stack low line.1 fits
 
-    pub skipped_on : r.skips ≡ true → (o : Sums) → sums_of o ≡ plus own (one_of class) → IsUnderWay r (record { own = o; blobs = p.blobs; own_steps = p.own_steps; inner_steps = p.inner_steps; behind_child = p.behind_child; start = stop; stack = p.stack; search = p.search; child = p.child })
+    pub skipped_on : r.skips ≡ true → (o : Sums) → sums_of o ≡ plus own (one_of class)
+        → IsUnderWay r (record {
+          own = o;
+          blobs = p.blobs;
+          own_steps = p.own_steps;
+          inner_steps = p.inner_steps;
+          behind_child =
+              p.behind_child;
+          start = stop;
+          stack = p.stack;
+          search = p.search;
+          child = p.child;
+        })
     skipped_on skipped o own_is = line_on class stop line.0 p.stack low line.1 o p.own_steps p.search p.child own_is way.searched (omega (arith, way.few, low))
         (λ more. glance_part text p.behind_child p.start stop (way.part some) stop_is some more)
         (line_skipped r.skips r.table.now r.levels r.language text p.own_steps p.inner_steps p.behind_child c rest stepped r.docs_are_comments (stop - p.start) line.0 class c line.1
@@ -202,12 +268,24 @@ module _ (r : Reading) (p : ReadSoFar) (way : IsUnderWay r p) where
         (λ skipped quiet. (plain, omega (arith, (way.quiet skipped quiet).1, ap lines_of own_is, lines_of-one own class, low)))
 
   -- a part that is walked to the end of its line, by so many steps
-  module _ (class : Class) (behind made : ℕ) (s : Vec Enclosure) (part : ReadsTo (row_in r) (blocks_of r) p.behind_child r.docs_are_comments c (chain_of s.items) p.start text made (Line class behind)) where
+  module _ (class : Class) (behind made : ℕ) (s : Vec Enclosure)
+      (part : ReadsTo (row_in r) (blocks_of r) p.behind_child r.docs_are_comments c (chain_of s.items) p.start text made (Line class behind)) where
     pub walked_fits : Fits (reading_of r) → CountsFit (plus own (one_of class))
     walked_fits fits = line_sum_fits class behind made s part.some part.reads fits
 
     pub walked_on : (o : Sums) (h : List ℕ) (k : CodeBlock.Block) → sums_of o ≡ plus own (one_of class) → h ≡ text → (r.skips ≡ true → is_walked (openers_in r) (innermost c) (first_line rest) ≡ true)
-        → IsUnderWay r (record { own = o; blobs = p.blobs; own_steps = p.own_steps + made; inner_steps = p.inner_steps; behind_child = p.behind_child; start = behind; stack = s; search = h; child = k })
+        → IsUnderWay r (record {
+          own = o;
+          blobs = p.blobs;
+          own_steps = p.own_steps + made;
+          inner_steps = p.inner_steps;
+          behind_child =
+              p.behind_child;
+          start = behind;
+          stack = s;
+          search = h;
+          child = k;
+        })
     walked_on o h k own_is searched walked =
         let size : behind - p.start ≡ length (first_line rest) = omega (arith, part.line) in
         let reach : take (behind - p.start) rest ≡ first_line rest = ap (λ m. take m rest) size ∙ take-first rest in
@@ -217,7 +295,8 @@ module _ (r : Reading) (p : ReadSoFar) (way : IsUnderWay r p) where
         (λ skipped none. absurd (unwalked skipped none (walked skipped)))
 
   -- a part that is walked to the place at which a child breaks it off, and the child k
-  module _ (place made : ℕ) (d : Chain) (k : Block) (part : ReadsTo (row_in r) (blocks_of r) p.behind_child r.docs_are_comments c d p.start text made (Broken place)) (opens : blocks_of r p.behind_child (drop place text) ≡ Some k) where
+  module _ (place made : ℕ) (d : Chain) (k : Block) (part : ReadsTo (row_in r) (blocks_of r) p.behind_child r.docs_are_comments c d p.start text made
+      (Broken place)) (opens : blocks_of r p.behind_child (drop place text) ≡ Some k) where
     abbrev before : ℕ
     before = place - p.start
 
@@ -257,19 +336,27 @@ module _ (r : Reading) (p : ReadSoFar) (way : IsUnderWay r p) where
         let plain : chain_of q.stack.items ≡ [] = chain_is ∙ breaks.reads.plain in
         let low : p.start ≤ place = breaks.part.low in
         let left' : length rest - (before + k.size) ≡ q.behind_child = omega (arith, len, low, left_is) in
-        let there : drop (before + k.size) rest ≡ drop q.start text = let at_place : p.start + (before + k.size) ≡ q.start = omega (arith, low, start_is) in drop-drop (before + k.size) p.start text ∙ ap (λ m. drop m text) at_place in
+        let there : drop (before + k.size) rest ≡ drop q.start text = let at_place : p.start + (before + k.size) ≡ q.start =
+        omega (arith, low, start_is) in drop-drop (before + k.size) p.start text ∙ ap (λ m. drop m text) at_place in
         let own_steps_are : p.own_steps + (j + 1) ≡ q.own_steps = omega (arith, made_is, part.2) in
         let within : q.start ≤ length text = omega (arith, child_within, start_is) in
         let went = child_read r.table.now r.docs_are_comments r.levels r.language text own blobs p.behind_child c rest counted before j k d breaks.reads in
         let with_k : Blobs = put blobs k.language (joined (at blobs k.language) (λ s. sum s (reading_inside r k)) (reading_inside r k)) in
-        let went1 = subst (λ (m : Counts). IsCounted r.table.now r.docs_are_comments r.levels r.language text m with_k (length rest - (before + k.size)) [] (drop (before + k.size) rest)) (sym own_is) went in
-        let went2 = subst (λ (bs : Blobs). IsCounted r.table.now r.docs_are_comments r.levels r.language text (sums_of q.own) bs (length rest - (before + k.size)) [] (drop (before + k.size) rest)) (sym blobs_are) went1 in
-        let went3 = subst (λ (m : ℕ). IsCounted r.table.now r.docs_are_comments r.levels r.language text (sums_of q.own) (blobs_of (entries_of q.blobs.entries)) m [] (drop (before + k.size) rest)) left' went2 in
-        let went4 = subst (λ (e : Chain). IsCounted r.table.now r.docs_are_comments r.levels r.language text (sums_of q.own) (blobs_of (entries_of q.blobs.entries)) q.behind_child e (drop (before + k.size) rest)) (sym plain) went3 in
-        let now = subst (IsCounted r.table.now r.docs_are_comments r.levels r.language text (sums_of q.own) (blobs_of (entries_of q.blobs.entries)) q.behind_child (chain_of q.stack.items)) there went4 in
+        let went1 = subst (λ (m : Counts). IsCounted r.table.now r.docs_are_comments r.levels r.language text m with_k
+        (length rest - (before + k.size)) [] (drop (before + k.size) rest)) (sym own_is) went in
+        let went2 = subst (λ (bs : Blobs). IsCounted r.table.now r.docs_are_comments r.levels r.language text (sums_of q.own) bs
+        (length rest - (before + k.size)) [] (drop (before + k.size) rest)) (sym blobs_are) went1 in
+        let went3 = subst (λ (m : ℕ). IsCounted r.table.now r.docs_are_comments r.levels r.language text (sums_of q.own)
+        (blobs_of (entries_of q.blobs.entries)) m [] (drop (before + k.size) rest)) left' went2 in
+        let went4 = subst (λ (e : Chain). IsCounted r.table.now r.docs_are_comments r.levels r.language text (sums_of q.own)
+        (blobs_of (entries_of q.blobs.entries)) q.behind_child e (drop (before + k.size) rest)) (sym plain) went3 in
+        let now = subst (IsCounted r.table.now r.docs_are_comments r.levels r.language text (sums_of q.own) (blobs_of (entries_of q.blobs.entries))
+        q.behind_child (chain_of q.stack.items)) there went4 in
         let taken =
-        let stepped1 = broken_steps r.skips r.table.now r.levels r.language text p.own_steps p.inner_steps p.behind_child c rest stepped r.docs_are_comments before j k d breaks.reads (walks_here (first_line rest) refl walked) in
-        let stepped2 = subst (λ m. AreUnderWay r.skips r.table.now r.levels r.language text m (capped (p.inner_steps + capped (steps_inside r k))) (length rest - (before + k.size)) [] (drop (before + k.size) rest)) own_steps_are stepped1 in
+        let stepped1 = broken_steps r.skips r.table.now r.levels r.language text p.own_steps p.inner_steps p.behind_child c rest stepped
+        r.docs_are_comments before j k d breaks.reads (walks_here (first_line rest) refl walked) in
+        let stepped2 = subst (λ m. AreUnderWay r.skips r.table.now r.levels r.language text m (capped (p.inner_steps + capped (steps_inside r k)))
+        (length rest - (before + k.size)) [] (drop (before + k.size) rest)) own_steps_are stepped1 in
         let stepped3 = subst (λ m. AreUnderWay r.skips r.table.now r.levels r.language text q.own_steps m (length rest - (before + k.size)) [] (drop (before + k.size) rest)) (sym inner_is) stepped2 in
         let stepped4 = subst (λ m. AreUnderWay r.skips r.table.now r.levels r.language text q.own_steps q.inner_steps m [] (drop (before + k.size) rest)) left' stepped3 in
         let stepped5 = subst (λ (e : Chain). AreUnderWay r.skips r.table.now r.levels r.language text q.own_steps q.inner_steps q.behind_child e (drop (before + k.size) rest)) (sym plain) stepped4 in
@@ -279,7 +366,8 @@ module _ (r : Reading) (p : ReadSoFar) (way : IsUnderWay r p) where
           tokens = way.tokens;
           closable = subst IsClosable (sym plain) tt;
           within = within;
-          part = λ more. let left_there : length text - q.start ≡ q.behind_child = omega (arith, left_is, start_is) in subst (λ l. IsPart text l q.start q.start) left_there (part_behind text q.start within);
+          part = λ more. let left_there : length text - q.start ≡ q.behind_child =
+              omega (arith, left_is, start_is) in subst (λ l. IsPart text l q.start q.start) left_there (part_behind text q.start within);
           searched = searched;
           counts = now.counts;
           kids = now.kids;
@@ -290,14 +378,16 @@ module _ (r : Reading) (p : ReadSoFar) (way : IsUnderWay r p) where
         }
 
 -- lines that were skipped, and one more, by the place of the first opener
-pub skipped_more : (r : Reading) (p : ReadSoFar) (lines more : Sums) (at stop next : ℕ) (class : Class) → r.skips ≡ true → IsUnderWay r (gone_on p lines at) → sums_of more ≡ plus (sums_of lines) (one_of class)
+pub skipped_more : (r : Reading) (p : ReadSoFar) (lines more : Sums) (at stop next : ℕ) (class : Class) → r.skips ≡ true
+    → IsUnderWay r (gone_on p lines at) → sums_of more ≡ plus (sums_of lines) (one_of class)
     → at < length r.text.now → chain_of p.stack.items ≡ [] → stop ≡ at + length (first_line (drop at r.text.now)) → next ≡ at + opener_place (openers_in r) (drop at r.text.now) → stop ≤ next
     → class ≡ class_of (row_in r) r.docs_are_comments (record { begun = None; bytes = take (stop - at) (drop at r.text.now); ended = None })
     → IsUnderWay r (gone_on p more stop)
 skipped_more r p lines more at stop next class skipped way more_is some plain stop_is next_is before class_is =
     let q : ReadSoFar = gone_on p lines at in
     let u : List ℕ = drop at r.text.now in
-    let none : holds (openers_in r) (first_line u) ≡ false = holds-line (openers_in r) (openers_lines r q way) u ∙ place-behind (openers_in r) u (length (first_line u)) (omega (arith, stop_is, next_is, before)) in
+    let none : holds (openers_in r) (first_line u) ≡ false = holds-line (openers_in r) (openers_lines r q way) u
+    ∙ place-behind (openers_in r) u (length (first_line u)) (omega (arith, stop_is, next_is, before)) in
     let blanks : more.blanks ≡ lines.blanks + (one_of class).blanks = ap (λ (m : Counts). m.blanks) more_is in
     let code : more.code ≡ lines.code + (one_of class).code = ap (λ (m : Counts). m.code) more_is in
     let comments : more.comments ≡ lines.comments + (one_of class).comments = ap (λ (m : Counts). m.comments) more_is in

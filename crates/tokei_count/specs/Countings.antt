@@ -24,9 +24,11 @@ text_reading rows config language text =
 abbrev pub text_steps : List Row → ℕ → List ℕ → ℕ
 text_steps rows language text = steps (languages_of rows) outermost_levels language text
 
+-- the steps that the plain reading of the text takes
 abbrev pub text_plain_steps : List Row → ℕ → List ℕ → ℕ
 text_plain_steps rows language text = plain_steps (languages_of rows) outermost_levels language text
 
+-- how many openings of children are met in the text and in its children
 abbrev pub text_openings : List Row → ℕ → List ℕ → ℕ
 text_openings rows language text = openings (languages_of rows) outermost_levels language text
 
@@ -40,7 +42,7 @@ text_weight rows language text = weight (languages_of rows) outermost_levels lan
 
 -- the lines of a text and of all its children
 abbrev pub all_lines : Statistics → ℕ
-all_lines s = lines_of (summary s)
+all_lines statistics = lines_of (summary statistics)
 
 -- the text, in a language other than notebooks, holds no opener
 pub record HasNoOpener (rows : List Row) (language : ℕ) (text : List ℕ) : Type 0 where

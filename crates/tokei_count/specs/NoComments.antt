@@ -5,9 +5,9 @@ use Rattle.tokei_table.specs.Row.{Row}
 
 -- the language has no comment of any kind
 abbrev pub has_no_comments : Row → Bool
-has_no_comments r =
-    (length r.line_comment == 0)
-    && ((length r.multi_line_comments == 0) && (length r.nested_comments == 0))
+has_no_comments row =
+    (length row.line_comment == 0)
+    && ((length row.multi_line_comments == 0) && (length row.nested_comments == 0))
 
 -- the counts of so many blank lines and so many others, in a language that is literate or not
 abbrev pub counts_in : Bool → ℕ → ℕ → Counts

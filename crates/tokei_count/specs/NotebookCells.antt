@@ -8,8 +8,14 @@ use Rattle.tokei_parts.specs.Items.{Block}
 
 -- a cell as a child: its language and text, with no size and no lines of the notebook
 abbrev pub cell_block : Cell → Block
-cell_block c = record { language = c.language; contents = c.source; size = 0; share = no_lines }
+cell_block cell = record {
+  language = cell.language;
+  contents = cell.source;
+  size = 0;
+  share =
+      no_lines;
+}
 
 -- the cells of a notebook's text, in their order
 abbrev pub cell_blocks : List Row → ℕ → List ℕ → List Block
-cell_blocks rows language t = map cell_block (notebook_cells rows language t)
+cell_blocks rows language text = map cell_block (notebook_cells rows language text)

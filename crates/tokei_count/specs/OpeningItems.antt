@@ -25,7 +25,7 @@ unfoldable mutual
 
 -- those of a text, its children apart
 abbrev pub own_openings : Row → List ℕ → Items → ℕ
-own_openings r t is = openings_in is
+own_openings row text is = openings_in is
 
 -- The openings of a text, with those of its children, and one for each child.
 abbrev pub openings : Languages → ℕ → ℕ → List ℕ → ℕ

@@ -15,16 +15,18 @@ use Rattle.tokei_count.specs.WeightLaws.{HaveTokens}
 
 -- where it isn't walked it begins and ends in plain text
 abbrev pub IsInPlainText : List (List ℕ) → Part → Type 0
-IsInPlainText os p = is_walked os p.begun p.bytes ≡ false → (p.begun ≡ None) × (p.ended ≡ None)
+IsInPlainText os part = is_walked os part.begun part.bytes ≡ false → (part.begun ≡ None)
+    × (part.ended ≡ None)
 
 -- where it isn't walked it has all of its reach
 abbrev pub IsUnbroken : List (List ℕ) → Stretch → Type 0
-IsUnbroken os s = is_walked os s.begun s.reach ≡ false → length s.own ≡ length s.reach
+IsUnbroken os stretch = is_walked os stretch.begun stretch.reach ≡ false
+    → length stretch.own ≡ length stretch.reach
 
--- so it is with the parts of the text t, whose marks these are
-pub record UnwalkedStayPlain (os : List (List ℕ)) (t : List ℕ) (ms : List Mark) : Type 0 where
+-- so it is with the parts of the text `text`, whose marks these are
+pub record UnwalkedStayPlain (os : List (List ℕ)) (text : List ℕ) (ms : List Mark) : Type 0 where
   pub parts : AllByRecursion (IsInPlainText os) (parts_of ms)
-  pub unbroken : AllByRecursion (IsUnbroken os) (stretches None [] t ms)
+  pub unbroken : AllByRecursion (IsUnbroken os) (stretches None [] text ms)
 
 -- and so with those of each text, by a table of which all texts that a count looks for are tokens
 abbrev pub UnwalkedPartsStayPlain : Type 0

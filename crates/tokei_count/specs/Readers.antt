@@ -9,12 +9,13 @@ use Rattle.tokei_parts.specs.declared.reading.Reading.{Reading}
 
 -- the plain reading of a text, with so many levels left, in a language
 abbrev pub reading_by : Reader → ℕ → ℕ → List ℕ → Statistics
-reading_by r levels language text =
-    reading (languages_of r.table.now) r.docs_are_comments levels language text
+reading_by reader levels language text =
+    reading (languages_of reader.table.now) reader.docs_are_comments levels language text
 
 -- the steps that the reader takes for it
 abbrev pub steps_by : Reader → ℕ → ℕ → List ℕ → ℕ
-steps_by r levels language text = made_steps r.skips (languages_of r.table.now) levels language text
+steps_by reader levels language text =
+    made_steps reader.skips (languages_of reader.table.now) levels language text
 
 -- the plain reading of a text that is read
 abbrev pub reading_of : Reading → Statistics

@@ -17,7 +17,7 @@ abbrev mutual
   blobs_depth none = 0
   blobs_depth (blob k t rest) = max (depth t + 1) (blobs_depth rest)
 
--- each language of the blobs is one of the first n, at every depth
+-- each language of the blobs is below the number, at every depth
 abbrev mutual
   pub AreKnown : ℕ → Statistics → Type 0
   AreKnown n (node c bs) = BlobsAreKnown n bs
@@ -28,7 +28,8 @@ abbrev mutual
 
 -- a reading holds no more levels of blobs than there are levels to read
 abbrev pub ReadingsAreShallow : Type 0
-ReadingsAreShallow = (rows : List Row) → HaveTokens rows → (docs_are_comments : Bool) (levels language : ℕ) (t : List ℕ)
+ReadingsAreShallow = (rows : List Row) → HaveTokens rows
+    → (docs_are_comments : Bool) (levels language : ℕ) (t : List ℕ)
     → depth (reading (languages_of rows) docs_are_comments levels language t) ≤ levels
 
 -- a reading in a language of the table has blobs of its languages alone

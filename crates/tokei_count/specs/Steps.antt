@@ -35,35 +35,35 @@ sum_over f (k ∷ ks) = f k + sum_over f ks
 
 -- the items of a text, with so many levels left
 abbrev pub items_in : Languages → ℕ → ℕ → List ℕ → Items
-items_in ls levels language t = items_of (ls.row language) (blocks ls levels language t) t
+items_in ls levels language text = items_of (ls.row language) (blocks ls levels language text) text
 
 -- the children among them
 abbrev pub children_in : Languages → ℕ → ℕ → List ℕ → List Block
-children_in ls levels language t = children (marks [] (items_in ls levels language t))
+children_in ls levels language text = children (marks [] (items_in ls levels language text))
 
 -- A number of each text, with those of its children or cells: for a text that is read in lines it
 -- is `own`, and one for each child; a notebook has nothing but its cells, and with no levels left
 -- nothing at all.
 unfoldable pub with_children : (Row → List ℕ → Items → ℕ) → Languages → ℕ → ℕ → List ℕ → ℕ
-with_children own ls zero language t =
+with_children own ls zero language text =
     if is_notebook (ls.row language) then 0
-    else own (ls.row language) t (items_in ls zero language t)
-    + length (children_in ls zero language t)
-with_children own ls (suc levels) language t =
+    else own (ls.row language) text (items_in ls zero language text)
+    + length (children_in ls zero language text)
+with_children own ls (suc levels) language text =
     if is_notebook (ls.row language)
-    then sum_over (λ k. with_children own ls levels k.language k.contents) (ls.cells language t)
-    else own (ls.row language) t (items_in ls (suc levels) language t)
-    + length (children_in ls (suc levels) language t)
+    then sum_over (λ k. with_children own ls levels k.language k.contents) (ls.cells language text)
+    else own (ls.row language) text (items_in ls (suc levels) language text)
+    + length (children_in ls (suc levels) language text)
     + sum_over (λ k. with_children own ls levels k.language k.contents)
-    (children_in ls (suc levels) language t)
+    (children_in ls (suc levels) language text)
 
 -- the choices in the walked parts of a text, its children apart
 abbrev pub own_steps : Row → List ℕ → Items → ℕ
-own_steps r t is = walked_choices (openers r) (stretches None [] t (marks [] is))
+own_steps row text is = walked_choices (openers row) (stretches None [] text (marks [] is))
 
 -- the choices in all parts of a text, its children apart
 abbrev pub own_choices : Row → List ℕ → Items → ℕ
-own_choices r t is = all_choices (stretches None [] t (marks [] is))
+own_choices row text is = all_choices (stretches None [] text (marks [] is))
 
 -- what a reading makes of these: where it skips, those in the walked parts, and else all
 abbrev pub own_steps_by : Bool → Row → List ℕ → Items → ℕ
@@ -72,7 +72,7 @@ own_steps_by false = own_choices
 
 -- the bytes of the walked parts of a text, its children apart
 abbrev pub own_work : Row → List ℕ → Items → ℕ
-own_work r t is = walked_bytes (openers r) (stretches None [] t (marks [] is))
+own_work row text is = walked_bytes (openers row) (stretches None [] text (marks [] is))
 
 -- The steps of a text, with those of its children: the choices in its walked parts, and one for
 -- each child.
@@ -93,11 +93,11 @@ work = with_children own_work
 
 -- the steps of a child, or of a notebook's cell, in a text with so many levels left
 abbrev pub child_steps : Bool → Languages → ℕ → Block → ℕ
-child_steps skips ls zero k = 0
-child_steps skips ls (suc levels) k = made_steps skips ls levels k.language k.contents
+child_steps skips ls zero block = 0
+child_steps skips ls (suc levels) block = made_steps skips ls levels block.language block.contents
 
 -- the number, or the greatest `u128` where that is less
 abbrev pub capped : ℕ → ℕ
-capped n =
-    if nat_le n 340282366920938463463374607431768211455 then n
+capped number =
+    if nat_le number 340282366920938463463374607431768211455 then number
     else 340282366920938463463374607431768211455

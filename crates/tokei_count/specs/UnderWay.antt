@@ -20,76 +20,85 @@ use Rattle.tokei_parts.specs.declared.reading.Reading.{Reading}
 use Rattle.tokei_count.specs.declared.text_reading.ReadSoFar.{ReadSoFar}
 
 -- the text is read as the reader says
-pub record IsReadBy (reader : Reader) (r : Reading) : Type 0 where
-  pub table : r.table.now ≡ reader.table.now
-  pub docs_are_comments : r.docs_are_comments ≡ reader.docs_are_comments
-  pub skips : r.skips ≡ reader.skips
+pub record IsReadBy (reader : Reader) (reading : Reading) : Type 0 where
+  pub table : reading.table.now ≡ reader.table.now
+  pub docs_are_comments : reading.docs_are_comments ≡ reader.docs_are_comments
+  pub skips : reading.skips ≡ reader.skips
 
 -- the statistics of a child of the text
 abbrev pub reading_inside : Reading → Block → Statistics
-reading_inside r = child_reading (languages_of r.table.now) r.docs_are_comments r.levels
+reading_inside reading = child_reading (languages_of reading.table.now) reading.docs_are_comments
+    reading.levels
 
 -- the steps of a child of the text
 abbrev pub steps_inside : Reading → Block → ℕ
-steps_inside r = child_steps r.skips (languages_of r.table.now) r.levels
+steps_inside reading = child_steps reading.skips (languages_of reading.table.now) reading.levels
 
 -- what is left of the text
 abbrev pub ahead : Reading → ReadSoFar → List ℕ
-ahead r p = drop p.start r.text.now
+ahead reading so_far = drop so_far.start reading.text.now
 
 -- the children of the text
 abbrev pub all_children : Reading → List Block
-all_children r = children_left (row_in r) (blocks_of r) (length r.text.now) [] r.text.now
+all_children reading = children_left (row_in reading) (blocks_of reading)
+    (length reading.text.now) [] reading.text.now
 
 -- the children of what is left of the text
 abbrev pub children_ahead : Reading → ReadSoFar → List Block
-children_ahead r p =
-    children_left (row_in r) (blocks_of r) p.behind_child (chain_of p.stack.items) (ahead r p)
+children_ahead reading so_far =
+    children_left (row_in reading) (blocks_of reading) so_far.behind_child
+    (chain_of so_far.stack.items) (ahead reading so_far)
 
 -- the counts of the text, with what its children add to them
 abbrev pub all_counts : Reading → Counts
-all_counts r =
+all_counts reading =
     plus
-    (counts_left (row_in r) (blocks_of r) (length r.text.now) r.docs_are_comments [] r.text.now)
-    (shares (all_children r))
+    (counts_left (row_in reading) (blocks_of reading) (length reading.text.now)
+    reading.docs_are_comments [] reading.text.now)
+    (shares (all_children reading))
 
 -- the counts of what is left of the text, with what its children add to them
 abbrev pub counts_ahead : Reading → ReadSoFar → Counts
-counts_ahead r p =
+counts_ahead reading so_far =
     plus
-    (counts_left (row_in r) (blocks_of r) p.behind_child r.docs_are_comments
-    (chain_of p.stack.items) (ahead r p))
-    (shares (children_ahead r p))
+    (counts_left (row_in reading) (blocks_of reading) so_far.behind_child reading.docs_are_comments
+    (chain_of so_far.stack.items) (ahead reading so_far))
+    (shares (children_ahead reading so_far))
 
 -- the steps of the text itself, one for each child with them, and of what is left of it, for the reading at hand
 abbrev pub all_steps : Reading → ℕ
-all_steps r = steps_left (row_in r) (blocks_of r) (length r.text.now) r.skips [] r.text.now + length (all_children r)
+all_steps reading = steps_left (row_in reading) (blocks_of reading) (length reading.text.now)
+    reading.skips [] reading.text.now + length (all_children reading)
 
 -- the steps of what is left of the text, one for each child with them
 abbrev pub steps_ahead : Reading → ReadSoFar → ℕ
-steps_ahead r p =
-    steps_left (row_in r) (blocks_of r) p.behind_child r.skips (chain_of p.stack.items) (ahead r p)
-    + length (children_ahead r p)
+steps_ahead reading so_far =
+    steps_left (row_in reading) (blocks_of reading) so_far.behind_child reading.skips
+    (chain_of so_far.stack.items) (ahead reading so_far)
+    + length (children_ahead reading so_far)
 
 -- the blobs so far with those of the children
 abbrev pub blobs_with : Reading → Blobs → List Block → Blobs
-blobs_with r = gathered (reading_inside r)
+blobs_with reading = gathered (reading_inside reading)
 
--- The next part of the text, which is no notebook, begins where `p` says. In a text without opener
+-- The next part of the text, which is no notebook, begins where `so_far` says. In a text without opener
 -- that is read with skipping, each line so far was skipped.
-pub record IsUnderWay (r : Reading) (p : ReadSoFar) : Type 0 where
-  pub lines : is_notebook (row_in r) ≡ false
-  pub tokens : has_tokens (row_in r) ≡ true
-  pub closable : IsClosable (chain_of p.stack.items)
-  pub within : p.start ≤ length r.text.now
-  pub part : p.start < length r.text.now → IsPart r.text.now p.behind_child p.start p.start
-  pub searched : p.search ≡ r.text.now
-  pub counts : plus (sums_of p.own) (counts_ahead r p) ≡ all_counts r
-  pub kids : blobs_with r (blobs_of (entries_of p.blobs.entries)) (children_ahead r p)
-      ≡ blobs_with r none (all_children r)
-  pub few : p.own_steps ≤ p.start
-  pub steps : p.own_steps + steps_ahead r p ≡ all_steps r
-  pub inner : capped (p.inner_steps + sum_over (steps_inside r) (children_ahead r p))
-      ≡ capped (sum_over (steps_inside r) (all_children r))
-  pub quiet : r.skips ≡ true → first_opener (openers (row_in r)) r.text.now ≡ None
-      → (chain_of p.stack.items ≡ []) × (lines_of (sums_of p.own) ≤ p.start)
+pub record IsUnderWay (reading : Reading) (so_far : ReadSoFar) : Type 0 where
+  pub lines : is_notebook (row_in reading) ≡ false
+  pub tokens : has_tokens (row_in reading) ≡ true
+  pub closable : IsClosable (chain_of so_far.stack.items)
+  pub within : so_far.start ≤ length reading.text.now
+  pub part : so_far.start < length reading.text.now
+      → IsPart reading.text.now so_far.behind_child so_far.start so_far.start
+  pub searched : so_far.search ≡ reading.text.now
+  pub counts : plus (sums_of so_far.own) (counts_ahead reading so_far) ≡ all_counts reading
+  pub kids : blobs_with reading (blobs_of (entries_of so_far.blobs.entries))
+      (children_ahead reading so_far)
+      ≡ blobs_with reading none (all_children reading)
+  pub few : so_far.own_steps ≤ so_far.start
+  pub steps : so_far.own_steps + steps_ahead reading so_far ≡ all_steps reading
+  pub inner : capped (so_far.inner_steps + sum_over (steps_inside reading)
+      (children_ahead reading so_far))
+      ≡ capped (sum_over (steps_inside reading) (all_children reading))
+  pub quiet : reading.skips ≡ true → first_opener (openers (row_in reading)) reading.text.now ≡ None
+      → (chain_of so_far.stack.items ≡ []) × (lines_of (sums_of so_far.own) ≤ so_far.start)

@@ -7,20 +7,20 @@ use Rattle.tokei_count.specs.Steps.{children_in, sum_over}
 
 -- what a text weighs by itself: its bytes, and a notebook nothing
 abbrev pub own_weight : Languages → ℕ → List ℕ → ℕ
-own_weight ls language t = if is_notebook (ls.row language) then 0 else length t
+own_weight ls language text = if is_notebook (ls.row language) then 0 else length text
 
 -- What a text weighs beside its bytes: a notebook the weights of its cells, each in its language;
 -- another text the extras of its children, whose bytes are among its own. With no levels left it is
 -- nothing.
 unfoldable pub extra : Languages → ℕ → ℕ → List ℕ → ℕ
-extra ls zero language t = 0
-extra ls (suc levels) language t =
+extra ls zero language text = 0
+extra ls (suc levels) language text =
     if is_notebook (ls.row language)
     then sum_over (λ k. own_weight ls k.language k.contents + extra ls levels k.language k.contents)
-    (ls.cells language t)
+    (ls.cells language text)
     else sum_over (λ k. extra ls levels k.language k.contents)
-    (children_in ls (suc levels) language t)
+    (children_in ls (suc levels) language text)
 
 -- The weight of a text, with so many levels left.
 abbrev pub weight : Languages → ℕ → ℕ → List ℕ → ℕ
-weight ls levels language t = own_weight ls language t + extra ls levels language t
+weight ls levels language text = own_weight ls language text + extra ls levels language text

@@ -19,11 +19,3 @@ pub use counter::Counter;
 pub use file_context::{FileContext, LanguageContext};
 pub use parse::{parse_counted, parse_from_slice, parse_from_str};
 pub use plain_reading::{count_plain, count_plain_counted};
-pub use tokei_bytes::{decode_text, find_char_boundary};
-pub use tokei_embedding::{
-    Capture, HtmlLike, SimpleCapture, end_lf, end_markdown, end_script, end_style, end_template,
-    start_lf, start_markdown, start_script, start_style, start_template,
-};
-pub use tokei_options::CountConfig;
-pub use tokei_parts::SharedMatchers;
-pub use tokei_stats::{CodeStats, CountError, Report, ReportRow};

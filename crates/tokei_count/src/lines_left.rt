@@ -18,7 +18,7 @@ use crate::text_reading::ReadSoFar;
 use tokei_bytes::{LineCounts, count_lines};
 use tokei_parts::Reading;
 use tokei_stats::{CountError, Sums};
-use tokei_table::Syntax;
+use tokei_table_row::Syntax;
 
 /// Whether the language has no comments.
 pub(crate) fn has_no_comments(syntax: &Syntax) -> bool
@@ -59,7 +59,8 @@ pub(crate) fn count_lines_left(reading: &Reading, so_far: &mut ReadSoFar) -> Res
     requires bare { has_no_comments (row_in reading.now) ≡ true }
     ensures under_way { OnOk result (IsUnderWay reading.now so_far.new) }
     ensures end { OnOk result (so_far.new.start ≡ length reading.now.text.now) }
-    ensures quiet { first_opener (openers (row_in reading.now)) reading.now.text.now ≡ None → IsOk result }
+    ensures quiet { first_opener (openers (row_in reading.now)) reading.now.text.now ≡ None
+        → IsOk result }
     ensures overflow { IsErrOf result CountError.Overflow → ¬ Fits (reading_of reading.now) }
 {
     let text = reading.text;

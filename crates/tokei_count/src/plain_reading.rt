@@ -29,8 +29,10 @@ pub fn count_plain_counted(
     config: &CountConfig,
 ) -> Result<(CodeStats, u128), CountError>
     requires { language < length counter.now }
-    ensures reads { IfOk result (λ r. stats_of r.0 ≡ text_reading counter.now config.now language text.now) }
-    ensures steps { IfOk result (λ r. r.1 ≡ capped (text_plain_steps counter.now language text.now)) }
+    ensures reads { IfOk result (λ r. stats_of r.0
+        ≡ text_reading counter.now config.now language text.now) }
+    ensures steps { IfOk result (λ r. r.1
+        ≡ capped (text_plain_steps counter.now language text.now)) }
     ensures overflow { IsErrOf result CountError.Overflow
         → ¬ Fits (text_reading counter.now config.now language text.now) }
 {

@@ -38,8 +38,9 @@ use tokei_parts::{
     innermost, line_end, line_front, line_len, line_stop, newline_before, next_opener, read_part,
 };
 use tokei_stats::{CodeStats, CountError, Sums, add_blob};
-use tokei_table::ext::trim;
-use tokei_table::{LanguageType, Syntax};
+use tokei_table::LanguageType;
+use tokei_table_row::Syntax;
+use tokei_table_row::ext::trim;
 
 /// A text that was read.
 #[derive(Drop)]
@@ -122,8 +123,10 @@ fn read_notebook(
     requires known { language < length reader.table.now }
     requires indexed { reader.matchers.now ≡ map matchers_of reader.table.now }
     requires notebook { is_notebook (row_at reader.table.now language) ≡ true }
-    ensures reads { IfOk result (λ r. stats_of r.stats ≡ reading_by reader.entry levels language text.now) }
-    ensures steps { IfOk result (λ r. r.steps ≡ capped (steps_by reader.entry levels language text.now)) }
+    ensures reads { IfOk result (λ r. stats_of r.stats
+        ≡ reading_by reader.entry levels language text.now) }
+    ensures steps { IfOk result (λ r. r.steps
+        ≡ capped (steps_by reader.entry levels language text.now)) }
     ensures overflow { IsErrOf result CountError.Overflow
         → ¬ Fits (reading_by reader.entry levels language text.now) }
 {
@@ -219,7 +222,8 @@ fn count_lines(reading: &Reading, so_far: &mut ReadSoFar, next: usize) -> Result
     ensures more { OnOk result (so_far.new.start < length reading.now.text.now
         → next < so_far.new.start + length (line_from reading.now so_far.new.start)) }
     ensures plain { chain_of so_far.new.stack.items ≡ [] }
-    ensures quiet { first_opener (openers (row_in reading.now)) reading.now.text.now ≡ None → IsOk result }
+    ensures quiet { first_opener (openers (row_in reading.now)) reading.now.text.now ≡ None
+        → IsOk result }
     ensures overflow { IsErrOf result CountError.Overflow → ¬ Fits (reading_of reading.now) }
 {
     let text = reading.text;
@@ -345,8 +349,10 @@ fn read_child<'a>(
     requires indexed { reader.matchers.now ≡ map matchers_of reader.table.now }
     requires deep { 0 < reading.now.levels }
     requires known { child.now.language < length reading.now.table.now }
-    ensures reads { IfOk result (λ r. stats_of r.stats ≡ reading_inside reading.now (block_of child.now)) }
-    ensures steps { IfOk result (λ r. r.steps ≡ capped (steps_inside reading.now (block_of child.now))) }
+    ensures reads { IfOk result (λ r. stats_of r.stats
+        ≡ reading_inside reading.now (block_of child.now)) }
+    ensures steps { IfOk result (λ r. r.steps
+        ≡ capped (steps_inside reading.now (block_of child.now))) }
     ensures overflow { IsErrOf result CountError.Overflow
         → ¬ Fits (reading_inside reading.now (block_of child.now)) }
 {
@@ -421,10 +427,14 @@ pub(crate) fn read_text<'a>(
 ) -> Result<TextRead, CountError>
     requires known { language < length reader.table.now }
     requires indexed { reader.matchers.now ≡ map matchers_of reader.table.now }
-    ensures reads { IfOk result (λ r. stats_of r.stats ≡ reading_by reader.entry levels language text.now) }
-    ensures steps { IfOk result (λ r. r.steps ≡ capped (steps_by reader.entry levels language text.now)) }
-    ensures quiet { reader.entry.skips ≡ true → is_notebook (row_at reader.entry.table.now language) ≡ false
-        → first_opener (openers (row_at reader.entry.table.now language)) text.now ≡ None → IsOk result }
+    ensures reads { IfOk result (λ r. stats_of r.stats
+        ≡ reading_by reader.entry levels language text.now) }
+    ensures steps { IfOk result (λ r. r.steps
+        ≡ capped (steps_by reader.entry levels language text.now)) }
+    ensures quiet { reader.entry.skips ≡ true
+        → is_notebook (row_at reader.entry.table.now language) ≡ false
+        → first_opener (openers (row_at reader.entry.table.now language)) text.now ≡ None
+        → IsOk result }
     ensures overflow { IsErrOf result CountError.Overflow
         → ¬ Fits (reading_by reader.entry levels language text.now) }
 {

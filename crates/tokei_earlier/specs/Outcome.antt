@@ -14,11 +14,11 @@ use Rattle.tokei_earlier.specs.declared.error.InputError.TheVariants.{Empty, Not
 
 -- of a JSON value
 unfoldable pub outcome_of_value : List Row → Data → Result (List (ℕ × LanguageValue)) InputError
-outcome_of_value rows d =
-    if not (has_layout d) then Err Layout
-    else (if not (all_known rows d) then Err UnknownLanguage
-    else (if not (all_once rows d) then Err NamedTwice
-    else Ok (languages_in rows d)))
+outcome_of_value rows value =
+    if not (has_layout value) then Err Layout
+    else (if not (all_known rows value) then Err UnknownLanguage
+    else (if not (all_once rows value) then Err NamedTwice
+    else Ok (languages_in rows value)))
 
 -- of a text that may have no reading
 abbrev pub outcome_of_reading : List Row → Option Data

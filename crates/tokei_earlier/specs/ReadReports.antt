@@ -13,25 +13,25 @@ use Rattle.tokei_json.specs.LanguageMaps.{language_named}
 
 -- a member's count
 abbrev pub count_in : Option Data → ℕ
-count_in o = unwrap_or (option_and_then as_u64 (option_and_then as_number o)) 0
+count_in found = unwrap_or (option_and_then as_u64 (option_and_then as_number found)) 0
 
 -- the three counts of an object
 unfoldable pub counts_in : Data → Counts
-counts_in d = record {
-  blanks = count_in (get (codes "blanks") d);
-  code = count_in (get (codes "code") d);
-  comments = count_in (get (codes "comments") d);
+counts_in value = record {
+  blanks = count_in (get (codes "blanks") value);
+  code = count_in (get (codes "code") value);
+  comments = count_in (get (codes "comments") value);
 }
 
 -- the entries with this value for the language, where there is one
 abbrev pub put_named : {S : Type 0} → Option ℕ → List (ℕ × S) → S → List (ℕ × S)
-put_named None es s = es
-put_named (Some k) es s = insert_entry nat_cmp es k s
+put_named None es entries = es
+put_named (Some k) es entries = insert_entry nat_cmp es k entries
 
 -- the blobs with these statistics for the language, where there is one
 abbrev pub put_blob : Option ℕ → Blobs → Statistics → Blobs
-put_blob None bs s = bs
-put_blob (Some k) bs s = put bs k s
+put_blob None bs statistics = bs
+put_blob (Some k) bs statistics = put bs k statistics
 
 -- statistics; `blobs_at` looks for the blobs among their members
 abbrev mutual
@@ -59,7 +59,7 @@ abbrev mutual
 -- a text's bytes; other values have none
 abbrev pub text_in : Option Data → List ℕ
 text_in (Some (string t)) = t
-text_in d = []
+text_in found = []
 
 -- the statistics of a member, where it is there; else they are empty
 abbrev pub statistics_at : List Row → Option Data → Statistics
@@ -68,9 +68,9 @@ statistics_at rows (Some d) = statistics_in rows d
 
 -- a report: its name and its statistics
 abbrev pub report_in : List Row → Data → ReportValue
-report_in rows d = record {
-  name = text_in (get (codes "name") d);
-  stats = statistics_at rows (get (codes "stats") d);
+report_in rows value = record {
+  name = text_in (get (codes "name") value);
+  stats = statistics_at rows (get (codes "stats") value);
 }
 
 -- the reports of the items, in their order
@@ -81,7 +81,7 @@ all_reports_in rows (item d ds) = report_in rows d ∷ all_reports_in rows ds
 -- the reports of a list; other values have none
 abbrev pub reports_in : List Row → Option Data → List ReportValue
 reports_in rows (Some (array ds)) = all_reports_in rows ds
-reports_in rows d = []
+reports_in rows found = []
 
 -- the children that are there, and those of the members
 abbrev pub with_children : List Row → Members → List (ℕ × List ReportValue)
@@ -93,9 +93,9 @@ with_children rows (member k d ms) found =
 -- the children of an object; other values have none
 abbrev pub children_in : List Row → Option Data → List (ℕ × List ReportValue)
 children_in rows (Some (object ms)) = with_children rows ms []
-children_in rows d = []
+children_in rows found = []
 
 -- whether the member is there and true
 abbrev pub truth_in : Option Data → Bool
 truth_in (Some (boolean b)) = b
-truth_in d = false
+truth_in found = false

@@ -10,11 +10,11 @@ use Rattle.tokei_json.specs.LanguageMaps.{language_named}
 
 -- a language: its counts, reports and children, and whether it is inaccurate
 unfoldable pub language_in : List Row → Data → LanguageValue
-language_in rows d = record {
-  counts = counts_in d;
-  reports = reports_in rows (get (codes "reports") d);
-  children = children_in rows (get (codes "children") d);
-  inaccurate = truth_in (get (codes "inaccurate") d);
+language_in rows value = record {
+  counts = counts_in value;
+  reports = reports_in rows (get (codes "reports") value);
+  children = children_in rows (get (codes "children") value);
+  inaccurate = truth_in (get (codes "inaccurate") value);
 }
 
 -- the languages that are there, and those of the members; `Total` is none
@@ -26,4 +26,4 @@ with_languages rows (member k d ms) found =
 -- the languages of an object; other values have none
 abbrev pub languages_in : List Row → Data → List (ℕ × LanguageValue)
 languages_in rows (object ms) = with_languages rows ms []
-languages_in rows d = []
+languages_in rows value = []

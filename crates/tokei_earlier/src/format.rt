@@ -14,7 +14,8 @@ use std::alloc::Global;
 use std::str::FromStr;
 use thiserror::Error;
 use tokei_json::to_text;
-use tokei_languages::{CountError, Languages};
+use tokei_languages::Languages;
+use tokei_stats::CountError;
 use tokei_table::LanguageTable;
 
 /// A format in which languages are printed and read.

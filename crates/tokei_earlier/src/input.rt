@@ -11,7 +11,8 @@ use crate::document::parse_bytes;
 use crate::error::InputError;
 use std::alloc::Global;
 use tokei_io::Source;
-use tokei_languages::{CountError, Languages};
+use tokei_languages::Languages;
+use tokei_stats::CountError;
 use tokei_table::LanguageTable;
 
 /// The most reads of one input.

@@ -8,7 +8,8 @@ use crate::reading::{children_in, count_in, reports_in, truth_in};
 use serde_json::{Map, Value};
 use std::alloc::{AllocError, Global};
 use tokei_json::NamedTable;
-use tokei_languages::{CountError, Language, Languages};
+use tokei_languages::{Language, Languages};
+use tokei_stats::CountError;
 use tokei_table::LanguageType;
 
 #[tactic(auto, unfolding(crate::specs::Reading::language_in, crate::specs::ReadReports::counts_in))]

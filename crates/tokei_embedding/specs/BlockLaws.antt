@@ -40,11 +40,11 @@ TargetsReach =
     → target_block part place rest ≡ Some b → Reaches b.size b.contents rest
 
 -- No block opens where a newline stands.
-pub record NoneAtNewline (part t : List ℕ) (place : ℕ) : Type 0 where
-  pub fence : fence_block part place (newline ∷ t) ≡ None
-  pub tag : (g : Tag) → tag_block g part place (newline ∷ t) ≡ None
-  pub doc : doc_block (newline ∷ t) ≡ None
-  pub target : target_block part place (newline ∷ t) ≡ None
+pub record NoneAtNewline (part text : List ℕ) (place : ℕ) : Type 0 where
+  pub fence : fence_block part place (newline ∷ text) ≡ None
+  pub tag : (g : Tag) → tag_block g part place (newline ∷ text) ≡ None
+  pub doc : doc_block (newline ∷ text) ≡ None
+  pub target : target_block part place (newline ∷ text) ≡ None
 
 -- At each place of a part at which a newline stands, no block opens.
 abbrev pub NewlinesOpenNothing : Type 0

@@ -20,7 +20,8 @@ end_of c = c.start + length c.bytes
 
 -- What a span of the part that begins at `from` captures of the text.
 abbrev pub captured : List ℕ → ℕ → Span → Captured
-captured t from s = record { start = from + s.start; bytes = bytes_of t (shifted from s) }
+captured text from span = record
+    { start = from + span.start; bytes = bytes_of text (shifted from span) }
 
 -- Where the token stands first in the part.
 abbrev pub token_span : List ℕ → List ℕ → Option Span
@@ -41,13 +42,13 @@ fence_closing part =
 
 -- The capture of a whole opening, and that of the value in it.
 abbrev pub opening_captured : List ℕ → ℕ → Opening → List (Option Captured)
-opening_captured t from o =
-    Some (captured t from o.whole) ∷ option_map (captured t from) o.value ∷ []
+opening_captured text from opening =
+    Some (captured text from opening.whole) ∷ option_map (captured text from) opening.value ∷ []
 
 -- What `text[from..to]` opens of the tag.
 abbrev pub start_tag : Tag → List ℕ → ℕ → ℕ → Option (List (Option Captured))
-start_tag tag t from to =
-    option_map (opening_captured t from) (first_opening tag (part_of t from to))
+start_tag tag text from to =
+    option_map (opening_captured text from) (first_opening tag (part_of text from to))
 
 -- Whether the capture begins at one place and ends by the other.
 abbrev pub lies_in : ℕ → ℕ → Captured → Bool
@@ -77,8 +78,8 @@ pub record TagOpenings : Type 0 where
 
 -- What `text[from..to]` opens of the three.
 abbrev pub tag_openings : List ℕ → ℕ → ℕ → TagOpenings
-tag_openings t from to = record {
-  script = start_tag Script t from to;
-  style = start_tag Style t from to;
-  template = start_tag Template t from to;
+tag_openings text from to = record {
+  script = start_tag Script text from to;
+  style = start_tag Style text from to;
+  template = start_tag Template text from to;
 }

@@ -5,8 +5,8 @@ use Rattle.tokei_table_row.specs.Bytes.{trim_start, begins, newline}
 
 -- The byte before the first line of the others.
 abbrev pub in_front : ℕ → List (List ℕ) → List (List ℕ)
-in_front b [] = (b ∷ []) ∷ []
-in_front b (line ∷ lines) = (b ∷ line) ∷ lines
+in_front byte [] = (byte ∷ []) ∷ []
+in_front byte (line ∷ lines) = (byte ∷ line) ∷ lines
 
 -- The lines of a text, each through its newline.
 abbrev pub lines_of : List ℕ → List (List ℕ)
@@ -24,9 +24,9 @@ doc_marks = codes "///" ∷ codes "//!" ∷ []
 
 -- The mark at the front of the text.
 abbrev pub front_mark : List ℕ → Option (List ℕ)
-front_mark t =
-    if begins (codes "///") t then Some (codes "///")
-    else if begins (codes "//!") t then Some (codes "//!")
+front_mark text =
+    if begins (codes "///") text then Some (codes "///")
+    else if begins (codes "//!") text then Some (codes "//!")
     else None
 
 -- The mark with which the line begins behind its front blanks.
@@ -56,7 +56,7 @@ pub record DocBlock : Type 0 where
 
 -- The block of so many bytes at the front of the text.
 abbrev pub doc_of : List ℕ → ℕ → DocBlock
-doc_of rest n = record { contents = doc_text (take n rest); size = n }
+doc_of rest number = record { contents = doc_text (take number rest); size = number }
 
 -- The block that opens at the front of the text, where the rest of the line there begins with a
 -- mark behind its front blanks: that rest, and the lines behind it that begin with the same mark.

@@ -16,20 +16,20 @@ solid_len (b ∷ t) = if is_blank b then 0 else suc (solid_len t)
 -- Whether the text begins with a byte or more that aren't blank, and a blank behind the longest run
 -- of them.
 abbrev pub begins_info : List ℕ → Bool
-begins_info t = nat_lt 0 (solid_len t) && nat_lt (solid_len t) (length t)
+begins_info text = nat_lt 0 (solid_len text) && nat_lt (solid_len text) (length text)
 
 -- Whether a fence opening stands at the front: a fence, its info (the bytes that aren't blank), and
 -- one blank.
 abbrev pub opens_fence : List ℕ → Bool
-opens_fence t = begins fence t && begins_info (drop 3 t)
+opens_fence text = begins fence text && begins_info (drop 3 text)
 
 -- Whether a fence stands at the front, and no blank behind it. No fence opens in such a text.
 abbrev pub is_solid_fence : List ℕ → Bool
-is_solid_fence t = begins fence t && (solid_len (drop 3 t) == length (drop 3 t))
+is_solid_fence text = begins fence text && (solid_len (drop 3 text) == length (drop 3 text))
 
 -- The length of the info in the fence opening at the front.
 abbrev pub info_len : List ℕ → ℕ
-info_len t = solid_len (drop 3 t)
+info_len text = solid_len (drop 3 text)
 
 -- The part's first fence opening.
 abbrev pub first_fence : List ℕ → Option ℕ
@@ -49,23 +49,23 @@ pub record Fence : Type 0 where
   pub size : ℕ
   pub closed : Bool
 
--- The block at the front of `rest`, by the bytes behind its opening of n bytes, and the closing
+-- The block at the front of `rest`, by the bytes behind its opening of that size, and the closing
 -- fence in them. A block that isn't closed runs to the end.
 abbrev pub fence_to : List ℕ → ℕ → List ℕ → List ℕ → Option ℕ → Fence
-fence_to info n rest behind None =
+fence_to info number rest behind None =
     record { info = info; contents = behind; size = length rest; closed = false }
-fence_to info n rest behind (Some i) = record {
+fence_to info number rest behind (Some i) = record {
   info = info;
   contents = take i behind;
-  size = n + i + closing_len (drop (i + 3) behind);
+  size = number + i + closing_len (drop (i + 3) behind);
   closed = true;
 }
 
--- The block at the front of `rest`, whose info has n bytes.
+-- The block at the front of `rest`, whose info has that size.
 abbrev pub fence_from : ℕ → List ℕ → Fence
-fence_from n rest =
-    let behind = drop (n + 4) rest in
-    fence_to (take n (drop 3 rest)) (n + 4) rest behind (first_of fence behind)
+fence_from number rest =
+    let behind = drop (number + 4) rest in
+    fence_to (take number (drop 3 rest)) (number + 4) rest behind (first_of fence behind)
 
 -- The block that opens at a place of a part, where the part's first fence opening stands there.
 -- `rest` is the text from the place on.

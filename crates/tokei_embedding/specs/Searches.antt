@@ -15,13 +15,13 @@ last_where test (b ∷ t) = later_or (test (b ∷ t)) (last_where test t)
 
 -- The first place at which the token stands. A token of one byte finds that byte.
 abbrev pub first_of : List ℕ → List ℕ → Option ℕ
-first_of token t = first_where (begins token) t
+first_of token text = first_where (begins token) text
 
 -- The last place at which the token stands.
 abbrev pub last_of : List ℕ → List ℕ → Option ℕ
-last_of token t = last_where (begins token) t
+last_of token text = last_where (begins token) text
 
 -- Whether what was found is the given place.
 abbrev pub is_at : ℕ → Option ℕ → Bool
-is_at k None = false
-is_at k (Some i) = i == k
+is_at place None = false
+is_at place (Some i) = i == place

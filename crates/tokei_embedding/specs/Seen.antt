@@ -12,22 +12,37 @@ use Rattle.tokei_embedding.specs.declared.target_blocks.TargetAt.{TargetAt}
 
 -- a fence with the bytes of its info and of its contents
 abbrev pub fence_seen : FenceAt → Fence
-fence_seen f =
-    record { info = f.info.now; contents = f.contents.now; size = f.size; closed = f.closed }
+fence_seen fence =
+    record {
+      info = fence.info.now;
+      contents = fence.contents.now;
+      size = fence.size;
+      closed =
+          fence.closed;
+    }
 
 -- a span, by the places in bytes at which it starts and stops
 abbrev pub span_seen : CodeSpan.Span → Span
-span_seen s = record { start = s.start; stop = s.stop }
+span_seen span = record { start = span.start; stop = span.stop }
 
 -- a tag's opening: its whole span, and that of its attribute's value where it has one
 abbrev pub opening_seen : CodeOpening.Opening → Opening
-opening_seen o = record { whole = span_seen o.whole; value = option_map span_seen o.value }
+opening_seen opening = record {
+  whole = span_seen opening.whole;
+  value =
+      option_map span_seen opening.value;
+}
 
 -- an element, with the bytes of its attribute's value and of its contents
 abbrev pub tag_seen : TagAt → TagBlock
-tag_seen t =
-    record { value = option_map (λ v. v.now) t.value; contents = t.contents.now; size = t.size }
+tag_seen tag =
+    record {
+      value = option_map (λ v. v.now) tag.value;
+      contents = tag.contents.now;
+      size =
+          tag.size;
+    }
 
 -- a block of the target language, with the bytes of its contents
 abbrev pub target_seen : TargetAt → TargetBlock
-target_seen b = record { contents = b.contents.now; size = b.size }
+target_seen target = record { contents = target.contents.now; size = target.size }

@@ -8,8 +8,8 @@ pub record Span : Type 0 where
 
 -- The span so many bytes further on.
 abbrev pub shifted : ℕ → Span → Span
-shifted n s = record { start = n + s.start; stop = n + s.stop }
+shifted place span = record { start = place + span.start; stop = place + span.stop }
 
 -- The span's bytes.
 abbrev pub bytes_of : List ℕ → Span → List ℕ
-bytes_of t s = take (s.stop - s.start) (drop s.start t)
+bytes_of text span = take (span.stop - span.start) (drop span.start text)

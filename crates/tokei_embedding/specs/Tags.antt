@@ -28,14 +28,14 @@ attribute_of Template = codes "lang=\""
 -- The attribute's value in the bytes before a quote mark: from behind the attribute's last place
 -- there to that mark.
 abbrev pub value_before : List ℕ → List ℕ → Option ℕ → Option Span
-value_before attribute t None = None
-value_before attribute t (Some q) =
+value_before attribute text None = None
+value_before attribute text (Some q) =
     option_map (λ a. record { start = a + length attribute; stop = q })
-    (last_of attribute (take q t))
+    (last_of attribute (take q text))
 
 -- The attribute's value in a tag's inside: it runs to the last quote mark.
 abbrev pub value_in : List ℕ → List ℕ → Option Span
-value_in attribute t = value_before attribute t (last_of (codes "\"") t)
+value_in attribute text = value_before attribute text (last_of (codes "\"") text)
 
 -- The place behind the value, or the front without one.
 abbrev pub value_end : Option Span → ℕ
@@ -47,29 +47,29 @@ pub record Opening : Type 0 where
   pub whole : Span
   pub value : Option Span
 
--- The opening that begins at the place p, by the bytes from the place n on, and the value in them:
--- it ends behind the first `>` after the value.
+-- The opening that begins at the place, by the bytes from the place `size` on, and the value in
+-- them: it ends behind the first `>` after the value.
 abbrev pub opening_past : ℕ → ℕ → List ℕ → Option Span → Option Opening
-opening_past p n inside value =
+opening_past place number inside value =
     let behind = value_end value in
     option_map (λ k. record {
-      whole = record { start = p; stop = n + (behind + k + 1) };
-      value = option_map (shifted n) value;
+      whole = record { start = place; stop = number + (behind + k + 1) };
+      value = option_map (shifted number) value;
     }) (first_of (codes ">") (drop behind inside))
 
 -- The same, by the last `>` of these bytes: the value is sought before it. Without one nothing
 -- opens.
 abbrev pub opening_before : List ℕ → ℕ → ℕ → List ℕ → Option ℕ → Option Opening
-opening_before attribute p n inside None = None
-opening_before attribute p n inside (Some g) =
-    opening_past p n inside (value_in attribute (take g inside))
+opening_before attribute place number inside None = None
+opening_before attribute place number inside (Some g) =
+    opening_past place number inside (value_in attribute (take g inside))
 
--- The opening of the tag whose token stands at the place p of the part.
+-- The opening of the tag whose token stands at the place of the part.
 abbrev pub opening_at : Tag → List ℕ → ℕ → Option Opening
-opening_at tag part p =
-    let n = p + length (token_of tag) in
+opening_at tag part place =
+    let n = place + length (token_of tag) in
     let inside = drop n part in
-    opening_before (attribute_of tag) p n inside (last_of (codes ">") inside)
+    opening_before (attribute_of tag) place n inside (last_of (codes ">") inside)
 
 -- The opening of the tag at the place where its token was found.
 abbrev pub opening_found : Tag → List ℕ → Option ℕ → Option Opening
@@ -87,13 +87,13 @@ pub record TagBlock : Type 0 where
   pub contents : List ℕ
   pub size : ℕ
 
--- The element with an opening of n bytes, by the bytes behind it, and the closing tag in them.
+-- The element with an opening of that size, by the bytes behind it, and the closing tag in them.
 -- Without a closing tag, or with nothing but blanks before it, there is none.
 abbrev pub element_to : Option (List ℕ) → ℕ → List ℕ → Option ℕ → Option TagBlock
-element_to value n behind None = None
-element_to value n behind (Some i) =
+element_to value number behind None = None
+element_to value number behind (Some i) =
     if all_blank (take i behind) then None
-    else Some (record { value = value; contents = take i behind; size = n + i })
+    else Some (record { value = value; contents = take i behind; size = number + i })
 
 -- The element of an opening of the part. `rest` is the text from the place on at which the opening
 -- stands.

@@ -36,7 +36,7 @@ target_block part place rest =
 
 -- Word bytes are ASCII's letters and digits, and the underscore.
 abbrev pub is_word : ℕ → Bool
-is_word b = is_ascii_alphanumeric b || b == underscore
+is_word byte = is_ascii_alphanumeric byte || byte == underscore
 
 -- How many word bytes stand at the front.
 abbrev pub word_len : List ℕ → ℕ
@@ -51,14 +51,14 @@ ends_line (b ∷ t) = (b == newline) || (is_blank b && ends_line t)
 -- Whether a target's word may end before this text: blanks that hold a newline or reach the end, or
 -- a semicolon or an opening brace behind optional blanks.
 abbrev pub ends_target : List ℕ → Bool
-ends_target t =
-    ends_line t || begins (codes ";") (trim_start t) || begins (codes "{") (trim_start t)
+ends_target text =
+    ends_line text || begins (codes ";") (trim_start text) || begins (codes "{") (trim_start text)
 
 -- The word at the front, where it has a byte at least and is followed as a target must be.
 abbrev pub target_word : List ℕ → Option (List ℕ)
-target_word t =
-    let n = word_len t in
-    if nat_lt 0 n && ends_target (drop n t) then Some (take n t) else None
+target_word text =
+    let n = word_len text in
+    if nat_lt 0 n && ends_target (drop n text) then Some (take n text) else None
 
 -- The word behind one blank or more.
 abbrev pub word_behind_blanks : List ℕ → Option (List ℕ)
@@ -67,7 +67,7 @@ word_behind_blanks (b ∷ t) = if is_blank b then target_word (trim_start t) els
 
 -- The target that stands at the front of the text.
 abbrev pub target_here : List ℕ → Option (List ℕ)
-target_here t = if begins (codes "target") t then word_behind_blanks (drop 6 t) else None
+target_here text = if begins (codes "target") text then word_behind_blanks (drop 6 text) else None
 
 -- The first target, where the byte before the text is a word byte or not. None stands right behind
 -- a word byte.
@@ -78,4 +78,4 @@ target_after word (b ∷ t) =
 
 -- The text's target.
 abbrev pub target_of : List ℕ → Option (List ℕ)
-target_of t = target_after false t
+target_of text = target_after false text

@@ -17,18 +17,23 @@ is_on switch = unwrap_or switch false
 -- which ignore rules are obeyed: without ignore files none of their kinds is, and none above the
 -- roots
 abbrev pub rules_of : Settings → Rules
-rules_of s = record {
-  parents = not (is_on s.no_ignore || is_on s.no_ignore_parent);
-  dot = not (is_on s.no_ignore || is_on s.no_ignore_dot);
-  git = not (is_on s.no_ignore || is_on s.no_ignore_vcs);
-  hidden = not (is_on s.hidden);
+rules_of settings = record {
+  parents = not (is_on settings.no_ignore || is_on settings.no_ignore_parent);
+  dot = not (is_on settings.no_ignore || is_on settings.no_ignore_dot);
+  git = not (is_on settings.no_ignore || is_on settings.no_ignore_vcs);
+  hidden = not (is_on settings.hidden);
 }
 
 -- by what files are counted
 abbrev pub counting_by : List Row → Settings → Counting
-counting_by rows s =
-    record { rows = rows_by rows s; docs = is_on s.treat_doc_strings_as_comments; types = s.types }
+counting_by rows settings =
+    record {
+      rows = rows_by rows settings;
+      docs =
+          is_on settings.treat_doc_strings_as_comments;
+      types = settings.types;
+    }
 
 -- the files of a known tree that are counted: those below the roots that the rules keep
 unfoldable pub kept_by : Settings → Tree → List (List ℕ) → List (List ℕ) → List KeptFile
-kept_by s t roots excludes = kept_in (excludes_of excludes) (rules_of s) t roots
+kept_by settings tree roots excludes = kept_in (excludes_of excludes) (rules_of settings) tree roots

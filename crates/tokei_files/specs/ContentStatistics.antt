@@ -16,4 +16,5 @@ stats_in rows docs language content =
 
 -- the statistics of the file at a place, where it can be read
 abbrev pub stats_at : Tree → List Row → Bool → ℕ → List ℕ → Option Statistics
-stats_at t rows docs language place = option_map (stats_in rows docs language) (content_at t place)
+stats_at tree rows docs language place =
+    option_map (stats_in rows docs language) (content_at tree place)

@@ -5,4 +5,4 @@ use Rattle.tokei_folders.specs.Tree.{Tree, node_at, names_of}
 
 -- the content of the file at a place, where it can be read
 unfoldable pub content_at : Tree → List ℕ → Option (List ℕ)
-content_at t place = node_content (node_at t (names_of place))
+content_at tree place = node_content (node_at tree (names_of place))

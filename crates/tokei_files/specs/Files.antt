@@ -27,18 +27,21 @@ counted types language = if counts types language then Some language else None
 
 -- the language in which a file counts, if in any
 abbrev pub language_of_file : Counting → Tree → KeptFile → Option ℕ
-language_of_file c t file = option_and_then (counted c.types) (language_by_path t c.rows file.place)
+language_of_file counting tree file =
+    option_and_then (counted counting.types) (language_by_path tree counting.rows file.place)
 
 -- the statistics of a file that counts in this language fit the code's numbers
 abbrev pub ReadingFits : Counting → Tree → KeptFile → Option ℕ → Type 0
-ReadingFits c t file None = ⊤
-ReadingFits c t file (Some l) = IfSome (stats_at t c.rows c.docs l file.place) Fits
+ReadingFits counting tree file None = ⊤
+ReadingFits counting tree file (Some l) =
+    IfSome (stats_at tree counting.rows counting.docs l file.place) Fits
 
 -- those of a file, in the language in which it counts
 abbrev pub FileFits : Counting → Tree → KeptFile → Type 0
-FileFits c t file = ReadingFits c t file (language_of_file c t file)
+FileFits counting tree file = ReadingFits counting tree file (language_of_file counting tree file)
 
 -- those of each file
 abbrev pub ReadingsFit : Counting → Tree → List KeptFile → Type 0
-ReadingsFit c t [] = ⊤
-ReadingsFit c t (file ∷ files) = FileFits c t file × ReadingsFit c t files
+ReadingsFit counting tree [] = ⊤
+ReadingsFit counting tree (file ∷ files) = FileFits counting tree file
+    × ReadingsFit counting tree files

@@ -23,14 +23,14 @@ from_head rows (Err fault) = None
 
 -- by the head of the file at a path
 abbrev pub language_by_head : Tree → List Row → List ℕ → Option ℕ
-language_by_head t rows path = from_head rows (head_answer (node_at t (names_of path)))
+language_by_head tree rows path = from_head rows (head_answer (node_at tree (names_of path)))
 
 -- the language of the file at a path
 abbrev pub language_by_path : Tree → List Row → List ℕ → Option ℕ
-language_by_path t rows path =
+language_by_path tree rows path =
     or_else (from_file_name rows (name_of path)) (
-    if is_some (extension_of (name_of path)) then None else language_by_head t rows path)
+    if is_some (extension_of (name_of path)) then None else language_by_head tree rows path)
 
 -- the rows of the table in which languages have gained the extensions of the configuration
 abbrev pub rows_by : List Row → Settings → List Row
-rows_by rows s = extended rows (additions_in s)
+rows_by rows settings = extended rows (additions_in settings)

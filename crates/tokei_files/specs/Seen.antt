@@ -6,8 +6,8 @@ use Rattle.tokei_files.specs.declared.counting.Counting as CodeCounting
 
 -- what files are counted with: the table, how doc strings count, and the languages that are wanted
 abbrev pub counting_of : CodeCounting.Counting → Counting
-counting_of c = record {
-  rows = c.counter.now;
-  docs = docs_of c.config;
-  types = option_map (λ types. types.now) c.types;
+counting_of counting = record {
+  rows = counting.counter.now;
+  docs = docs_of counting.config;
+  types = option_map (λ types. types.now) counting.types;
 }

@@ -19,16 +19,16 @@ note_without file (Some content) = []
 
 -- a file that counts in this language leaves a note where its content can't be read
 abbrev pub unread_in : Tree → KeptFile → Option ℕ → List Note
-unread_in t file None = []
-unread_in t file (Some language) = note_without file (content_at t file.place)
+unread_in tree file None = []
+unread_in tree file (Some language) = note_without file (content_at tree file.place)
 
 -- the note of a file, if it leaves one
 unfoldable pub unread_of_file : Counting → Tree → KeptFile → List Note
-unread_of_file c t file = unread_in t file (language_of_file c t file)
+unread_of_file counting tree file = unread_in tree file (language_of_file counting tree file)
 
 -- those of files, in their order
 abbrev pub unread_of : Counting → Tree → List KeptFile → List Note
-unread_of c t files = flat_map (unread_of_file c t) files
+unread_of counting tree files = flat_map (unread_of_file counting tree) files
 
 -- the last notes are these
 pub record EndsIn (last all : List Note) : Type 0 where

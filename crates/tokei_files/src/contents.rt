@@ -5,7 +5,7 @@ ghost use Rattle.tokei_folders.specs.declared.fs.Fault.TheVariants.{Refused as R
 ghost use Rattle.tokei_files.specs.Contents.{content_at};
 ghost use Rattle.tokei_folders.specs.AsTheyWere.{SameTree, FaultsStay};
 
-use tokei_walk::{Fault, Folders};
+use tokei_folders::{Fault, Folders};
 
 /// The content of the file at a place; whether the walk has just listed it. `Refused` where it
 /// can't be read, else `Memory`; the folders keep their tree.

@@ -12,9 +12,12 @@ ghost use Rattle.tokei_folders.specs.AsTheyWere.{SameTree, FaultsStay};
 use crate::contents::content;
 use crate::error::ParseFault;
 use std::alloc::Global;
-use tokei_count::{CodeStats, CountConfig, Counter, decode_text, parse_from_slice};
+use tokei_bytes::decode_text;
+use tokei_count::{Counter, parse_from_slice};
+use tokei_folders::Folders;
+use tokei_options::CountConfig;
+use tokei_stats::CodeStats;
 use tokei_table::LanguageType;
-use tokei_walk::Folders;
 
 /// By what files are counted.
 #[derive(Drop)]

@@ -1,8 +1,8 @@
 //! Why a file has no report.
 use std::alloc::AllocError;
 use thiserror::Error;
-use tokei_count::CountError;
-use tokei_walk::Fault;
+use tokei_folders::Fault;
+use tokei_stats::CountError;
 
 /// Why a file has no report.
 #[derive(Clone, Copy, Debug, PartialEq, Eq, Error)]

@@ -8,8 +8,9 @@ ghost use Rattle.tokei_folders.specs.AsTheyWere.{SameTree, NoFault};
 use crate::counting::Counting;
 use crate::paths::language_of_path;
 use std::alloc::AllocError;
+use tokei_folders::Folders;
 use tokei_table::LanguageType;
-use tokei_walk::{Folders, KeptFile};
+use tokei_walk::KeptFile;
 
 impl Counting<'_> {
     /// Whether files of the language are counted.

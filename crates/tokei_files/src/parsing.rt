@@ -14,8 +14,9 @@ use crate::counting::Counting;
 use crate::error::ParseFault;
 use std::alloc::Global;
 use tokei_config::Config;
-use tokei_count::{Counter, Report};
+use tokei_count::Counter;
 use tokei_folders::Folders;
+use tokei_stats::Report;
 use tokei_table::LanguageType;
 
 /// The report of the file at a path, in a language of the counter's table: what its content counts,

@@ -8,9 +8,9 @@ ghost use Rattle.tokei_folders.specs.AsTheyWere.{SameTree, NoFault};
 
 use std::alloc::{AllocError, Global};
 use tokei_config::Config;
+use tokei_folders::names::last_name;
+use tokei_folders::{Fault, Folders};
 use tokei_table::{LanguageTable, LanguageType, has_extension};
-use tokei_walk::names::last_name;
-use tokei_walk::{Fault, Folders};
 
 /// The last name of a path; the empty text where it has none.
 fn file_name(path: &str) -> &str

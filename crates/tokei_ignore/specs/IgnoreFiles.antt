@@ -47,7 +47,7 @@ patterns_of_line line = patterns_in (outcome_of_line (without_return line))
 
 -- the byte ends a line
 abbrev pub is_newline : ℕ → Bool
-is_newline b = b == 10
+is_newline byte = byte == 10
 
 -- the patterns of the lines, in order
 unfoldable pub patterns_of : List ℕ → List Pattern
@@ -69,7 +69,7 @@ or_else None o = o
 
 -- a negated pattern keeps what it fits
 abbrev pub verdict_of : Pattern → Verdict
-verdict_of p = if p.negated then Keep else Ignore
+verdict_of pattern = if pattern.negated then Keep else Ignore
 
 -- the last pattern that fits decides; none does where none fits
 unfoldable pub last_fitting : List Pattern → List (List ℕ) → Bool → Option Verdict

@@ -26,12 +26,12 @@ slot_of count (Some k) = k % count + 1
 
 -- the pattern is one of the slot
 abbrev pub has_slot : ℕ → ℕ → Pattern → Bool
-has_slot count slot p = slot_of count (pattern_key p) == slot
+has_slot count slot pattern = slot_of count (pattern_key pattern) == slot
 
 -- the pattern is one of the key's slot
 abbrev pub has_key : ℕ → Option ℕ → Pattern → Bool
-has_key count None p = false
-has_key count (Some k) p = has_slot count (slot_of count (Some k)) p
+has_key count None pattern = false
+has_key count (Some k) pattern = has_slot count (slot_of count (Some k)) pattern
 
 -- the place of the last pattern of a slot that fits
 unfoldable pub latest_in : ℕ → ℕ → List Pattern → List (List ℕ) → Bool → ℕ

@@ -17,11 +17,12 @@ folded onto key (x ∷ xs) = folded onto (onto key x) xs
 
 -- the number of a key with one more byte
 unfoldable pub mixed : ℕ → ℕ → ℕ
-mixed number b = (number * 1000003 % 2 ^ 64 + b) % 2 ^ 64
+mixed number byte = (number * 1000003 % 2 ^ 64 + byte) % 2 ^ 64
 
 -- a key with one more byte; where dots count, one begins the key
 abbrev pub onto_byte : Bool → Option ℕ → ℕ → Option ℕ
-onto_byte dots key b = if dots && (b == dot) then Some 1 else option_map (λ k. mixed k b) key
+onto_byte dots key byte = if dots && (byte == dot) then Some 1 else option_map (λ k. mixed k byte)
+    key
 
 -- a key with more bytes
 abbrev pub onto_bytes : Bool → Option ℕ → List ℕ → Option ℕ
@@ -29,7 +30,7 @@ onto_bytes dots = folded (onto_byte dots)
 
 -- a key with the bytes of one more character
 abbrev pub onto_character : Bool → Option ℕ → ℕ → Option ℕ
-onto_character dots key c = onto_bytes dots key (encode_utf8 c)
+onto_character dots key character = onto_bytes dots key (encode_utf8 character)
 
 -- a key with the characters of a name
 abbrev pub onto_name : Bool → Option ℕ → List ℕ → Option ℕ
@@ -83,8 +84,9 @@ extension_key = folded onto_extension None
 
 -- a pattern's key, of as much as it names
 abbrev pub pattern_key : Pattern → Option ℕ
-pattern_key p =
-    or_else (path_key p.segments) (or_else (whole_key p.segments) (extension_key p.segments))
+pattern_key pattern =
+    or_else (path_key pattern.segments)
+    (or_else (whole_key pattern.segments) (extension_key pattern.segments))
 
 -- a path's key with one more name
 abbrev pub onto_names : Option ℕ → List ℕ → Option ℕ
@@ -92,7 +94,8 @@ onto_names key name = onto_name false (onto_slash key) name
 
 -- the key of an entry's names
 unfoldable pub key_of_path : List (List ℕ) → Option ℕ
-key_of_path names = if nat_lt most_names (length names) then None else folded onto_names (Some 3) names
+key_of_path names = if nat_lt most_names (length names) then None else folded onto_names (Some 3)
+    names
 
 -- the key of an entry's last name
 unfoldable pub key_of_name : List (List ℕ) → Option ℕ

@@ -42,7 +42,7 @@ closed ss = if ends_in_names ss then ss ++ Name (AnyRun ∷ []) ∷ [] else ss
 
 -- the character is a slash
 abbrev pub is_slash : ℕ → Bool
-is_slash c = c == 47
+is_slash character = character == 47
 
 -- what is left is cut at its slashes; where no slash anchors it, any number of names may stand in
 -- front
@@ -87,4 +87,5 @@ exclude_pattern cs = from_end false (trimmed cs)
 
 -- a pattern fits an entry's names; one for folders only fits no file
 abbrev pub fits_entry : Pattern → List (List ℕ) → Bool → Bool
-fits_entry p names folder = (folder || not p.folders_only) && fits_names p.segments names
+fits_entry pattern names folder =
+    (folder || not pattern.folders_only) && fits_names pattern.segments names

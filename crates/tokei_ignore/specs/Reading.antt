@@ -11,74 +11,88 @@ use Rattle.tokei_folders.specs.Ends.{begins_with}
 
 -- one more piece is read, and no class
 abbrev pub after_piece : Reading → Piece → Reading
-after_piece r p = record r { pieces = r.pieces ++ p ∷ []; place = Outside }
+after_piece reading piece = record reading
+    { pieces = reading.pieces ++ piece ∷ []; place = Outside }
 
 -- a class of the members so far is read
 abbrev pub after_class : Reading → Bool → Reading
-after_class r turned =
-    record r { pieces = r.pieces ++ Class turned r.ranges ∷ []; ranges = []; place = Outside }
+after_class reading turned =
+    record reading {
+      pieces = reading.pieces ++ Class turned reading.ranges ∷ [];
+      ranges =
+          [];
+      place = Outside;
+    }
 
 -- one more range of characters is read
 abbrev pub with_range : Reading → ℕ → ℕ → Reading
-with_range r low high = record r { ranges = r.ranges ++ record { low = low; high = high } ∷ [] }
+with_range reading low high = record reading
+    { ranges = reading.ranges ++ record { low = low; high = high } ∷ [] }
 
 -- the characters that a `[` begins a named class with
 abbrev pub names_class : Bool → ℕ → Bool → Bool
-names_class quoted c colon = not quoted && (c == 91) && colon
+names_class quoted character colon = not quoted && (character == 91) && colon
 
 -- a character outside a class; one behind a backslash is itself
 abbrev pub outside : Reading → Bool → ℕ → Reading
-outside r quoted c =
-    if quoted then after_piece r (Exactly c)
-    else (if c == 42 then after_piece r AnyRun
-    else (if c == 63 then after_piece r AnyOne
-    else (if c == 91 then record r { place = Opened }
-    else after_piece r (Exactly c))))
+outside reading quoted character =
+    if quoted then after_piece reading (Exactly character)
+    else (if character == 42 then after_piece reading AnyRun
+    else (if character == 63 then after_piece reading AnyOne
+    else (if character == 91 then record reading { place = Opened }
+    else after_piece reading (Exactly character))))
 
 -- a member of a class is read, but for `[:`
 abbrev pub member : Reading → Bool → Bool → ℕ → Bool → Result Reading PatternError
-member r turned quoted c colon =
-    if names_class quoted c colon then Err Bad else Ok (record r { place = Behind turned c })
+member reading turned quoted character colon =
+    if names_class quoted character colon then Err Bad else Ok
+    (record reading { place = Behind turned character })
 
 -- the end of a class or its next member
 abbrev pub inside : Reading → Bool → Bool → ℕ → Bool → Result Reading PatternError
-inside r turned quoted c colon =
-    if not quoted && (c == 93) then Ok (after_class r turned) else member r turned quoted c colon
+inside reading turned quoted character colon =
+    if not quoted && (character == 93) then Ok (after_class reading turned) else member reading
+    turned quoted character colon
 
 -- a mark that turns a class round, or its first member
 abbrev pub opened : Reading → Bool → ℕ → Bool → Result Reading PatternError
-opened r quoted c colon =
-    if not quoted && ((c == 33) || (c == 94)) then Ok (record r { place = First true })
-    else member r false quoted c colon
+opened reading quoted character colon =
+    if not quoted && ((character == 33) || (character == 94)) then Ok
+    (record reading { place = First true })
+    else member reading false quoted character colon
 
 -- a `-` behind a member, or what follows a member that stands for itself
 abbrev pub behind : Reading → Bool → ℕ → Bool → ℕ → Bool → Result Reading PatternError
-behind r turned low quoted c colon =
-    if not quoted && (c == 45) then Ok (record r { place = Dash turned low })
-    else inside (with_range r low low) turned quoted c colon
+behind reading turned low quoted character colon =
+    if not quoted && (character == 45) then Ok (record reading { place = Dash turned low })
+    else inside (with_range reading low low) turned quoted character colon
 
 -- the range's high end, not below its low one; before the class's end the `-` is a member
 abbrev pub dash : Reading → Bool → ℕ → Bool → ℕ → Bool → Result Reading PatternError
-dash r turned low quoted c colon =
-    if not quoted && (c == 93)
-    then Ok (after_class (with_range (with_range r low low) 45 45) turned)
-    else (if names_class quoted c colon || nat_lt c low then Err Bad
-    else Ok (record (with_range r low c) { place = Inside turned }))
+dash reading turned low quoted character colon =
+    if not quoted && (character == 93)
+    then Ok (after_class (with_range (with_range reading low low) 45 45) turned)
+    else (if names_class quoted character colon || nat_lt character low then Err Bad
+    else Ok (record (with_range reading low character) { place = Inside turned }))
 
 -- a character, at the place where it stands
 abbrev pub at_place : Reading → Place → Bool → ℕ → Bool → Result Reading PatternError
-at_place r Outside quoted c colon = Ok (outside r quoted c)
-at_place r Opened quoted c colon = opened r quoted c colon
-at_place r (First turned) quoted c colon = member r turned quoted c colon
-at_place r (Inside turned) quoted c colon = inside r turned quoted c colon
-at_place r (Behind turned low) quoted c colon = behind r turned low quoted c colon
-at_place r (Dash turned low) quoted c colon = dash r turned low quoted c colon
+at_place reading Outside quoted character colon = Ok (outside reading quoted character)
+at_place reading Opened quoted character colon = opened reading quoted character colon
+at_place reading (First turned) quoted character colon =
+    member reading turned quoted character colon
+at_place reading (Inside turned) quoted character colon =
+    inside reading turned quoted character colon
+at_place reading (Behind turned low) quoted character colon =
+    behind reading turned low quoted character colon
+at_place reading (Dash turned low) quoted character colon =
+    dash reading turned low quoted character colon
 
 -- one character more, `colon` saying whether a colon follows; a backslash quotes the next one
 unfoldable pub taken : Reading → ℕ → Bool → Result Reading PatternError
-taken r c colon =
-    if not r.quoted && (c == 92) then Ok (record r { quoted = true })
-    else at_place (record r { quoted = false }) r.place r.quoted c colon
+taken reading character colon =
+    if not reading.quoted && (character == 92) then Ok (record reading { quoted = true })
+    else at_place (record reading { quoted = false }) reading.place reading.quoted character colon
 
 -- the next step on what was read, or the error that came first
 abbrev pub and_then : {A B : Type 0} → Result A PatternError → (A → Result B PatternError)
@@ -88,8 +102,8 @@ and_then (Err e) f = Err e
 
 -- the characters, one after another
 abbrev pub read : Reading → List ℕ → Result Reading PatternError
-read r [] = Ok r
-read r (c ∷ cs) = and_then (taken r c (begins_with 58 cs)) (λ s. read s cs)
+read reading [] = Ok reading
+read reading (c ∷ cs) = and_then (taken reading c (begins_with 58 cs)) (λ s. read s cs)
 
 -- no class of characters is open
 abbrev pub is_outside : Place → Bool
@@ -102,7 +116,8 @@ is_outside (Dash turned low) = false
 
 -- a segment ends outside a class and behind no lone backslash
 unfoldable pub finished : Reading → Result (List Piece) PatternError
-finished r = if is_outside r.place && not r.quoted then Ok r.pieces else Err Bad
+finished reading = if is_outside reading.place && not reading.quoted then Ok reading.pieces else
+    Err Bad
 
 -- nothing is read
 abbrev pub start : Reading

@@ -12,7 +12,7 @@ use Rattle.tokei_ignore.specs.Fits.{fits}
 
 -- the character is one from the range's low end to its high end
 abbrev pub is_in_range : ℕ → Range → Bool
-is_in_range c r = nat_le r.low c && nat_le c r.high
+is_in_range character range = nat_le range.low character && nat_le character range.high
 
 -- a star takes any number of characters
 abbrev pub spans_characters : Piece → Bool
@@ -24,11 +24,12 @@ spans_characters (Class turned ranges) = false
 -- `?` fits each character, a character itself, a class its members or, where it is turned, all
 -- others
 abbrev pub fits_character : Piece → ℕ → Bool
-fits_character AnyRun c = false
-fits_character AnyOne c = true
-fits_character (Exactly x) c = x == c
-fits_character (Class turned ranges) c =
-    cond turned (not (list_any (is_in_range c) ranges)) (list_any (is_in_range c) ranges)
+fits_character AnyRun character = false
+fits_character AnyOne character = true
+fits_character (Exactly x) character = x == character
+fits_character (Class turned ranges) character =
+    cond turned (not (list_any (is_in_range character) ranges))
+    (list_any (is_in_range character) ranges)
 
 -- the pieces take all the characters
 abbrev pub fits_characters : List Piece → List ℕ → Bool

@@ -3,8 +3,8 @@ use Rattle.std.specs.Prelude.{ℕ, ◌==◌, ◌&&◌, ◌++◌, List, [], ◌�
 
 -- a space before nothing goes too
 abbrev pub onto_kept : ℕ → List ℕ → List ℕ
-onto_kept c [] = if c == 32 then [] else c ∷ []
-onto_kept c (d ∷ ds) = c ∷ d ∷ ds
+onto_kept character [] = if character == 32 then [] else character ∷ []
+onto_kept character (d ∷ ds) = character ∷ d ∷ ds
 
 -- the line without the spaces at its end
 abbrev pub without_spaces : List ℕ → List ℕ

@@ -23,7 +23,8 @@ pub record IsClosed (last new : Written) : Type 0 where
 pub statistics_written : (n : Counts) (blobs : Data) (old first w1 w2 w3 w4 new : Written) → IsOpened old first
     → IsMember (codes "blanks") (count n.blanks) first w1 → IsMember (codes "blobs") blobs w1 w2 → IsMember (codes "code") (count n.code) w2 w3
     → IsMember (codes "comments") (count n.comments) w3 w4 → IsClosed w4 new
-    → IsWritten (object (member (codes "blanks") (count n.blanks) (member (codes "blobs") blobs (member (codes "code") (count n.code) (member (codes "comments") (count n.comments) no_members))))) old new
+    → IsWritten (object (member (codes "blanks") (count n.blanks)
+    (member (codes "blobs") blobs (member (codes "code") (count n.code) (member (codes "comments") (count n.comments) no_members))))) old new
 statistics_written n blobs old first w1 w2 w3 w4 new begun m1 m2 m3 m4 ended =
     let ms4 = member (codes "comments") (count n.comments) no_members in
     let ms3 = member (codes "code") (count n.code) ms4 in

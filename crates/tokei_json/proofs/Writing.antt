@@ -98,7 +98,8 @@ member_of k d old mid new named kept w = record {
   before = w.before ∙ kept;
 }
 
-pub lacks_fewer : (all : Members) (k : List ℕ) (d : Data) (left : Members) (first now next : writer.Written) → LacksMembers all (member k d left) first now → IsMember k d now next → LacksMembers all left first next
+pub lacks_fewer : (all : Members) (k : List ℕ) (d : Data) (left : Members) (first now next : writer.Written)
+    → LacksMembers all (member k d left) first now → IsMember k d now next → LacksMembers all left first next
 lacks_fewer all k d left first now next h w =
     let rest = tree.members_tokens (members_outline left) in
     let here = key k ∷ tree.json_tokens (outline d) in
@@ -108,7 +109,8 @@ lacks_fewer all k d left first now next h w =
       before = w.before ∙ h.before;
     }
 
-pub object_written : (all : Members) (old first now new : writer.Written) → Ascend all → first.tokens ≡ old.tokens ++ begin_object ∷ [] → first.before ≡ old.before → LacksMembers all no_members first now
+pub object_written : (all : Members) (old first now new : writer.Written) → Ascend all → first.tokens ≡ old.tokens ++ begin_object ∷ []
+    → first.before ≡ old.before → LacksMembers all no_members first now
     → new.tokens ≡ now.tokens ++ end_object ∷ [] → new.before ≡ now.before → IsWritten (object all) old new
 object_written all old first now new ascend begun kept h ended kept_last =
     let inside = tree.members_tokens (members_outline all) in

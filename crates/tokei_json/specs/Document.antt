@@ -10,13 +10,14 @@ use Rattle.tokei_table.specs.Row.{Row}
 
 -- a language: its counts, its children and reports, and whether it is inaccurate
 abbrev pub language_data : List Row → LanguageValue → Data
-language_data rows l = object
-    (member (codes "blanks") (count l.counts.blanks)
-    (member (codes "children") (object (named_data rows (reports_data rows) l.children no_members))
-    (member (codes "code") (count l.counts.code)
-    (member (codes "comments") (count l.counts.comments)
-    (member (codes "inaccurate") (boolean l.inaccurate)
-    (member (codes "reports") (reports_data rows l.reports) no_members))))))
+language_data rows language = object
+    (member (codes "blanks") (count language.counts.blanks)
+    (member (codes "children") (object
+    (named_data rows (reports_data rows) language.children no_members))
+    (member (codes "code") (count language.counts.code)
+    (member (codes "comments") (count language.counts.comments)
+    (member (codes "inaccurate") (boolean language.inaccurate)
+    (member (codes "reports") (reports_data rows language.reports) no_members))))))
 
 -- languages beside their total
 unfoldable pub document : List Row → List (ℕ × LanguageValue) → Data

@@ -20,26 +20,26 @@ all_names test (member k d ms) = test k && all_names test ms
 
 -- whether the language's key and its name, which differ, are both members
 abbrev pub has_both : List Row → Data → Option ℕ → Bool
-has_both rows d None = false
-has_both rows d (Some l) =
+has_both rows value None = false
+has_both rows value (Some l) =
     not (bytes_eq (row_at rows l).key (row_at rows l).name)
-    && (is_some (get (row_at rows l).key d) && is_some (get (row_at rows l).name d))
+    && (is_some (get (row_at rows l).key value) && is_some (get (row_at rows l).name value))
 
 -- each name is that of a language
 abbrev pub knows_names : List Row → Data → Bool
 knows_names rows (object ms) = all_names (λ k. is_some (language_named rows k)) ms
-knows_names rows d = true
+knows_names rows value = true
 
 -- no language stands both by its key and by its name
 abbrev pub names_once : List Row → Data → Bool
 names_once rows (object ms) =
     all_names (λ k. not (has_both rows (object ms) (language_named rows k))) ms
-names_once rows d = true
+names_once rows value = true
 
 -- the two tests of such an object
 abbrev pub passes : List Row → MapTest → Data → Bool
-passes rows Known d = knows_names rows d
-passes rows Once d = names_once rows d
+passes rows Known value = knows_names rows value
+passes rows Once value = names_once rows value
 
 -- whether the blobs of statistics pass, at every depth
 abbrev mutual
@@ -65,12 +65,12 @@ abbrev mutual
 
 -- whether the statistics of a report pass
 abbrev pub report_passes : (Data → Bool) → Data → Bool
-report_passes test d = absent_or (statistics_pass test) (get (codes "stats") d)
+report_passes test value = absent_or (statistics_pass test) (get (codes "stats") value)
 
 -- whether the reports of a list pass
 abbrev pub reports_pass : (Data → Bool) → Data → Bool
 reports_pass test (array ds) = all_items (report_passes test) ds
-reports_pass test d = true
+reports_pass test value = true
 
 -- whether the lists of reports pass
 abbrev pub lists_pass : (Data → Bool) → Members → Bool
@@ -80,13 +80,13 @@ lists_pass test (member k d ms) = reports_pass test d && lists_pass test ms
 -- whether an object of children passes, and the lists in it
 abbrev pub children_pass : (Data → Bool) → Data → Bool
 children_pass test (object ms) = test (object ms) && lists_pass test ms
-children_pass test d = true
+children_pass test value = true
 
 -- whether the reports and the children of a language pass
 abbrev pub language_passes : (Data → Bool) → Data → Bool
-language_passes test d =
-    absent_or (reports_pass test) (get (codes "reports") d)
-    && absent_or (children_pass test) (get (codes "children") d)
+language_passes test value =
+    absent_or (reports_pass test) (get (codes "reports") value)
+    && absent_or (children_pass test) (get (codes "children") value)
 
 -- the total isn't looked into
 abbrev pub languages_pass : (Data → Bool) → Members → Bool
@@ -99,9 +99,9 @@ unfoldable pub all_known : List Row → Data → Bool
 all_known rows (object ms) =
     all_names (λ k. bytes_eq k (codes "Total") || is_some (language_named rows k)) ms
     && languages_pass (passes rows Known) ms
-all_known rows d = true
+all_known rows value = true
 
 -- no language stands twice in one object
 unfoldable pub all_once : List Row → Data → Bool
 all_once rows (object ms) = names_once rows (object ms) && languages_pass (passes rows Once) ms
-all_once rows d = true
+all_once rows value = true

@@ -7,14 +7,14 @@ use Rattle.tokei_table.specs.Layout.{is_list, is_text, is_truth_value, stands_an
 
 -- a whole number of 64 bits that isn't negative
 abbrev pub is_count : Data → Bool
-is_count d = is_some (option_and_then as_u64 (as_number d))
+is_count value = is_some (option_and_then as_u64 (as_number value))
 
 -- the three counts of a language or of statistics
 unfoldable pub has_counts : Data → Bool
-has_counts d =
-    stands_and is_count (get (codes "blanks") d)
-    && stands_and is_count (get (codes "code") d)
-    && stands_and is_count (get (codes "comments") d)
+has_counts value =
+    stands_and is_count (get (codes "blanks") value)
+    && stands_and is_count (get (codes "code") value)
+    && stands_and is_count (get (codes "comments") value)
 
 -- statistics have counts and blobs; `blobs_stand` looks for the blobs among their members
 abbrev mutual
@@ -39,12 +39,13 @@ abbrev mutual
 
 -- a report has a name and statistics
 abbrev pub is_report : Data → Bool
-is_report d =
-    stands_and is_text (get (codes "name") d) && stands_and is_statistics (get (codes "stats") d)
+is_report value =
+    stands_and is_text (get (codes "name") value) && stands_and is_statistics
+    (get (codes "stats") value)
 
 -- a list of reports
 abbrev pub are_reports : Data → Bool
-are_reports d = is_list is_report d
+are_reports value = is_list is_report value
 
 -- each member is a list of reports
 abbrev pub all_reports : Members → Bool
@@ -54,15 +55,15 @@ all_reports (member k d ms) = are_reports d && all_reports ms
 -- the reports by language of a language
 abbrev pub are_children : Data → Bool
 are_children (object ms) = all_reports ms
-are_children d = false
+are_children value = false
 
 -- a language has counts, reports, children and the mark of inaccuracy
 unfoldable pub is_language : Data → Bool
-is_language d =
-    has_counts d
-    && stands_and are_reports (get (codes "reports") d)
-    && stands_and are_children (get (codes "children") d)
-    && stands_and is_truth_value (get (codes "inaccurate") d)
+is_language value =
+    has_counts value
+    && stands_and are_reports (get (codes "reports") value)
+    && stands_and are_children (get (codes "children") value)
+    && stands_and is_truth_value (get (codes "inaccurate") value)
 
 -- each member but `Total` is a language
 abbrev pub are_languages : Members → Bool
@@ -72,8 +73,8 @@ are_languages (member k d ms) = (bytes_eq k (codes "Total") || is_language d) &&
 -- languages beside a total, whatever that holds
 abbrev pub is_document : Data → Bool
 is_document (object ms) = is_some (get (codes "Total") (object ms)) && are_languages ms
-is_document d = false
+is_document value = false
 
 -- a document in which no number, wherever it stands, is but a whole one of 64 bits
 unfoldable pub has_layout : Data → Bool
-has_layout d = not (has_float d) && is_document d
+has_layout value = not (has_float value) && is_document value

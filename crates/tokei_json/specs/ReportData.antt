@@ -35,15 +35,15 @@ abbrev mutual
 
 -- a report: its name and its statistics
 abbrev pub report_data : List Row → ReportValue → Data
-report_data rows r = object
-    (member (codes "name") (string r.name)
-    (member (codes "stats") (statistics_data rows r.stats) no_members))
+report_data rows report = object
+    (member (codes "name") (string report.name)
+    (member (codes "stats") (statistics_data rows report.stats) no_members))
 
 -- a file's report beside the name of its language
 abbrev pub line_data : List Row → ℕ → ReportValue → Data
-line_data rows language r = object
+line_data rows language report = object
     (member (codes "language") (string (name_of rows language))
-    (member (codes "stats") (report_data rows r) no_members))
+    (member (codes "stats") (report_data rows report) no_members))
 
 -- the reports in their order
 abbrev pub reports_data : List Row → List ReportValue → Data

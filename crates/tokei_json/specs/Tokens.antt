@@ -14,15 +14,15 @@ use Rattle.tokei_json.specs.ReportData.{name_of}
 use Rattle.tokei_table.specs.Row.{Row}
 
 -- the value's tokens stand behind the old ones, and read as the value
-pub record IsWritten (d : Data) (old new : json.Written) : Type 0 where
-  pub tokens : new.tokens ≡ old.tokens ++ json_tokens (outline d)
-  pub reads : of_json (outline d) ≡ Some d
+pub record IsWritten (value : Data) (old new : json.Written) : Type 0 where
+  pub tokens : new.tokens ≡ old.tokens ++ json_tokens (outline value)
+  pub reads : of_json (outline value) ≡ Some value
   pub before : new.before ≡ old.before
 
 -- the same of a member: a name, and its value
-pub record IsMember (name : List ℕ) (d : Data) (old new : json.Written) : Type 0 where
-  pub tokens : new.tokens ≡ old.tokens ++ key name ∷ json_tokens (outline d)
-  pub reads : of_json (outline d) ≡ Some d
+pub record IsMember (name : List ℕ) (value : Data) (old new : json.Written) : Type 0 where
+  pub tokens : new.tokens ≡ old.tokens ++ key name ∷ json_tokens (outline value)
+  pub reads : of_json (outline value) ≡ Some value
   pub before : new.before ≡ old.before
 
 -- the values that are there, and then each entry's, under the name of its language

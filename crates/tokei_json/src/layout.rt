@@ -7,7 +7,7 @@ ghost use Rattle.tokei_json.specs.Layout.{is_report, are_reports, all_reports, a
 ghost use Rattle.tokei_json.specs.Layout.{are_languages, is_document, has_layout};
 
 use serde_json::{Map, Value};
-use tokei_table::values::has_float;
+use tokei_table_json::values::has_float;
 
 fn is_count(member: Option<&Value>) -> bool
     ensures { result ≡ stands_and is_count (option_map (λ v. view v.now) member.entry) }

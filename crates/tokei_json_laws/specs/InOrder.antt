@@ -17,10 +17,10 @@ ListsAreInOrder [] = ⊤
 ListsAreInOrder (e ∷ es) = ReportsAreInOrder e.1 × ListsAreInOrder es
 
 -- a language's reports, those of its children, and the children
-pub record LanguageIsInOrder (l : LanguageValue) : Type 0 where
-  pub reports : ReportsAreInOrder l.reports
-  pub lists : ListsAreInOrder l.children
-  pub children : IsStrictlySortedBy nat_cmp (keys_of l.children)
+pub record LanguageIsInOrder (language : LanguageValue) : Type 0 where
+  pub reports : ReportsAreInOrder language.reports
+  pub lists : ListsAreInOrder language.children
+  pub children : IsStrictlySortedBy nat_cmp (keys_of language.children)
 
 -- what each language holds stands in the table's order
 abbrev pub ValuesAreInOrder : List (ℕ × LanguageValue) → Type 0

@@ -1,21 +1,23 @@
--- Values whose languages are all of a table with n languages.
+-- Values whose languages are all of a table of so many languages.
 use Rattle.std.specs.Prelude.{ℕ, ◌<◌, List, [], ◌∷◌, ⊤}
 use Rattle.tokei_languages.specs.Values.{ReportValue, LanguageValue}
 pub use Rattle.tokei_count.specs.ReadingLaws.{AreKnown, BlobsAreKnown}
 
--- each language in the reports is one of the first n
+-- each language in the reports is below the limit
 abbrev pub ReportsAreKnown : ℕ → List ReportValue → Type 0
-ReportsAreKnown n [] = ⊤
-ReportsAreKnown n (r ∷ rs) = AreKnown n r.stats × ReportsAreKnown n rs
+ReportsAreKnown limit [] = ⊤
+ReportsAreKnown limit (r ∷ rs) = AreKnown limit r.stats × ReportsAreKnown limit rs
 
--- each child's language is one of the first n, and so are those in its reports
+-- each child's language is below the limit, and so are those in its reports
 abbrev pub ChildrenAreKnown : ℕ → List (ℕ × List ReportValue) → Type 0
-ChildrenAreKnown n [] = ⊤
-ChildrenAreKnown n (e ∷ es) = (e.0 < n) × (ReportsAreKnown n e.1 × ChildrenAreKnown n es)
+ChildrenAreKnown limit [] = ⊤
+ChildrenAreKnown limit (e ∷ es) = (e.0 < limit)
+    × (ReportsAreKnown limit e.1 × ChildrenAreKnown limit es)
 
--- each language is one of the first n, and so are those inside it
+-- each language is below the limit, and so are those inside it
 abbrev pub LanguagesAreKnown : ℕ → List (ℕ × LanguageValue) → Type 0
-LanguagesAreKnown n [] = ⊤
-LanguagesAreKnown n (e ∷ es) =
-    (e.0 < n)
-    × (ReportsAreKnown n e.1.reports × (ChildrenAreKnown n e.1.children × LanguagesAreKnown n es))
+LanguagesAreKnown limit [] = ⊤
+LanguagesAreKnown limit (e ∷ es) =
+    (e.0 < limit)
+    × (ReportsAreKnown limit e.1.reports
+    × (ChildrenAreKnown limit e.1.children × LanguagesAreKnown limit es))

@@ -3,18 +3,18 @@ use Rattle.std.specs.Prelude.{ℕ, ◌≤◌, List, [], ◌∷◌, ⊤}
 use Rattle.tokei_languages.specs.Values.{ReportValue, LanguageValue}
 pub use Rattle.tokei_count.specs.ReadingLaws.{depth as levels, blobs_depth as blob_levels}
 
--- no report's statistics hold more than m levels of blobs
+-- no report's statistics hold more levels than the limit of blobs
 abbrev pub ReportsWithin : ℕ → List ReportValue → Type 0
-ReportsWithin m [] = ⊤
-ReportsWithin m (r ∷ rs) = (levels r.stats ≤ m) × ReportsWithin m rs
+ReportsWithin limit [] = ⊤
+ReportsWithin limit (r ∷ rs) = (levels r.stats ≤ limit) × ReportsWithin limit rs
 
--- no list of reports has one that holds more than m levels of blobs
+-- no list of reports has one that holds more levels than the limit of blobs
 abbrev pub ListsWithin : ℕ → List (ℕ × List ReportValue) → Type 0
-ListsWithin m [] = ⊤
-ListsWithin m (e ∷ es) = ReportsWithin m e.1 × ListsWithin m es
+ListsWithin limit [] = ⊤
+ListsWithin limit (e ∷ es) = ReportsWithin limit e.1 × ListsWithin limit es
 
--- no statistics in the languages hold more than m levels of blobs
+-- no statistics in the languages hold more levels than the limit of blobs
 abbrev pub LanguagesWithin : ℕ → List (ℕ × LanguageValue) → Type 0
-LanguagesWithin m [] = ⊤
-LanguagesWithin m (e ∷ es) =
-    ReportsWithin m e.1.reports × (ListsWithin m e.1.children × LanguagesWithin m es)
+LanguagesWithin limit [] = ⊤
+LanguagesWithin limit (e ∷ es) =
+    ReportsWithin limit e.1.reports × (ListsWithin limit e.1.children × LanguagesWithin limit es)

@@ -26,8 +26,9 @@ use Rattle.tokei_json_laws.specs.Levels.{LanguagesWithin}
 -- the languages of files that are counted by a table and a configuration, and of nothing else
 abbrev pub languages_counted : List Row → Settings → Tree → List KeptFile
     → List (ℕ × LanguageValue)
-languages_counted rows s t files =
-    renewed_languages (merged_languages [] (languages_of_run (counting_by rows s) t files))
+languages_counted rows settings tree files =
+    renewed_languages (merged_languages []
+    (languages_of_run (counting_by rows settings) tree files))
 
 -- what a document needs in order to be read back
 pub record CanBeReadBack (rows : List Row) (es : List (ℕ × LanguageValue)) : Type 0 where

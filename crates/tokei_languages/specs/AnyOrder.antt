@@ -9,8 +9,8 @@ use Rattle.tokei_languages.specs.Values.{ReportValue, LanguageValue, empty_langu
 
 -- a language with one file more: its report, or the mark where it couldn't be read
 abbrev pub with_file : LanguageValue → Option ReportValue → LanguageValue
-with_file s None = marked s
-with_file s (Some r) = with_report s r
+with_file language None = marked language
+with_file language (Some r) = with_report language r
 
 -- the languages with these files more, each under its language
 abbrev pub with_files : List (ℕ × LanguageValue) → List (ℕ × Option ReportValue)
@@ -21,9 +21,9 @@ with_files es (f ∷ fs) =
 
 -- how many reports of a language pass a test
 abbrev pub passing_reports : ℕ → (ReportValue → Bool) → List (ℕ × LanguageValue) → ℕ
-passing_reports k test [] = 0
-passing_reports k test (e ∷ es) =
-    (if k == e.0 then count_by test e.1.reports else 0) + passing_reports k test es
+passing_reports language test [] = 0
+passing_reports language test (e ∷ es) =
+    (if language == e.0 then count_by test e.1.reports else 0) + passing_reports language test es
 
 -- equal totals, and the same reports of each language, whatever their order
 pub record DifferInOrderAlone (es fs : List (ℕ × LanguageValue)) : Type 0 where

@@ -20,18 +20,18 @@ blob_reports name (blob k s rest) =
 -- with one report more, and a child report for each of its blobs; the counts stay until they are
 -- renewed
 abbrev pub with_report : LanguageValue → ReportValue → LanguageValue
-with_report s r = record s {
-  reports = s.reports ++ r ∷ [];
-  children = appended s.children (blob_reports r.name (blobs r.stats));
+with_report language report = record language {
+  reports = language.reports ++ report ∷ [];
+  children = appended language.children (blob_reports report.name (blobs report.stats));
 }
 
 -- both added, the left one's reports first
 abbrev pub merged_language : LanguageValue → LanguageValue → LanguageValue
-merged_language s t = record {
-  counts = plus s.counts t.counts;
-  reports = s.reports ++ t.reports;
-  children = appended s.children t.children;
-  inaccurate = s.inaccurate || t.inaccurate;
+merged_language language other = record {
+  counts = plus language.counts other.counts;
+  reports = language.reports ++ other.reports;
+  children = appended language.children other.children;
+  inaccurate = language.inaccurate || other.inaccurate;
 }
 
 -- every language of either; one of both is added
@@ -41,8 +41,8 @@ merged_languages a b = merged merged_language a b
 
 -- the counts of a language that is there fit with those that are added
 abbrev pub FitAt : Option LanguageValue → LanguageValue → Type 0
-FitAt None t = ⊤
-FitAt (Some s) t = CountsFit (plus s.counts t.counts)
+FitAt None language = ⊤
+FitAt (Some s) language = CountsFit (plus s.counts language.counts)
 
 -- each sum of counts that merging takes is at most the greatest `usize`
 abbrev pub MergeFits : List (ℕ × LanguageValue) → List (ℕ × LanguageValue) → Type 0

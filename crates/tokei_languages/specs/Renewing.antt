@@ -11,7 +11,7 @@ own_sum (r ∷ rs) = plus (own r.stats) (own_sum rs)
 
 -- a language whose counts are the sum of its reports' own counts
 abbrev pub renewed : LanguageValue → LanguageValue
-renewed s = record s { counts = own_sum s.reports }
+renewed language = record language { counts = own_sum language.reports }
 
 -- each language renewed
 abbrev pub renewed_languages : List (ℕ × LanguageValue) → List (ℕ × LanguageValue)

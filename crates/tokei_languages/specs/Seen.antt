@@ -8,11 +8,11 @@ use Rattle.tokei_languages.specs.declared.languages.Languages.{Languages}
 
 -- a language: its counts, its reports, those of its children, and whether it is inaccurate
 abbrev pub language_of : Language → LanguageValue
-language_of s = record {
-  counts = record { blanks = s.blanks; code = s.code; comments = s.comments };
-  reports = reports_of s.reports;
-  children = children_of s.children.entries;
-  inaccurate = s.inaccurate;
+language_of language = record {
+  counts = record { blanks = language.blanks; code = language.code; comments = language.comments };
+  reports = reports_of language.reports;
+  children = children_of language.children.entries;
+  inaccurate = language.inaccurate;
 }
 
 -- each language under its number
@@ -21,8 +21,8 @@ entries_of es = map (λ e. (e.0, language_of e.1)) es
 
 -- the languages by their numbers
 abbrev pub languages_of : Languages → List (ℕ × LanguageValue)
-languages_of s = entries_of s.languages.entries
+languages_of languages = entries_of languages.languages.entries
 
 -- what the languages grow with
 abbrev pub allocator_of : Languages → Global
-allocator_of s = s.alloc
+allocator_of languages = languages.alloc

@@ -10,11 +10,11 @@ use Rattle.tokei_languages.specs.Values.{ReportValue, LanguageValue}
 
 -- whether the sort puts the first report before the second
 abbrev pub puts_first : Sort → ReportValue → ReportValue → Bool
-puts_first Blanks r s = nat_lt (own s.stats).blanks (own r.stats).blanks
-puts_first Comments r s = nat_lt (own s.stats).comments (own r.stats).comments
-puts_first Code r s = nat_lt (own s.stats).code (own r.stats).code
-puts_first Files r s = is_lt (slice_cmp nat_cmp r.name s.name)
-puts_first Lines r s = nat_lt (lines_of (own s.stats)) (lines_of (own r.stats))
+puts_first Blanks report other = nat_lt (own other.stats).blanks (own report.stats).blanks
+puts_first Comments report other = nat_lt (own other.stats).comments (own report.stats).comments
+puts_first Code report other = nat_lt (own other.stats).code (own report.stats).code
+puts_first Files report other = is_lt (slice_cmp nat_cmp report.name other.name)
+puts_first Lines report other = nat_lt (lines_of (own other.stats)) (lines_of (own report.stats))
 
 -- with x before the first that it stands before or ties with, where before y x says that y stands
 -- before x
@@ -36,7 +36,8 @@ pub record IsStableSort {X : Type 0} (before : X → X → Bool) (xs ys : List X
 
 -- a language with its reports in the order of the sort
 abbrev pub sorted_by : Sort → LanguageValue → LanguageValue
-sorted_by sort s = record s { reports = stably_sorted (puts_first sort) s.reports }
+sorted_by sort language = record language
+    { reports = stably_sorted (puts_first sort) language.reports }
 
 -- each language with its reports in the order of the sort
 abbrev pub sorted_languages : Sort → List (ℕ × LanguageValue) → List (ℕ × LanguageValue)

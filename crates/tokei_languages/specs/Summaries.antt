@@ -6,11 +6,11 @@ use Rattle.tokei_languages.specs.Values.{ReportValue, LanguageValue}
 
 -- a language's counts with those of the texts inside
 abbrev pub language_summary : LanguageValue → Counts
-language_summary s = plus s.counts (children_summary s.children)
+language_summary language = plus language.counts (children_summary language.children)
 
 -- a language without children, whose counts have taken them in; reports and mark stay
 abbrev pub summarised : LanguageValue → LanguageValue
-summarised s = record s { counts = language_summary s; children = [] }
+summarised language = record language { counts = language_summary language; children = [] }
 
 -- the summaries of all languages, added up
 abbrev pub languages_summary : List (ℕ × LanguageValue) → Counts

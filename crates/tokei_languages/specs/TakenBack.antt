@@ -16,9 +16,9 @@ all_taken_back es (b ∷ bs) = taken_back (first b.1) (all_taken_back es bs) b.0
 
 -- the language with the counts it had, and its reports and children cut to what they were
 abbrev pub restored : Before → LanguageValue → LanguageValue
-restored b s = record {
-  counts = record { blanks = b.blanks; code = b.code; comments = b.comments };
-  reports = take b.reports s.reports;
-  children = all_taken_back s.children b.children.items;
-  inaccurate = b.inaccurate;
+restored before language = record {
+  counts = record { blanks = before.blanks; code = before.code; comments = before.comments };
+  reports = take before.reports language.reports;
+  children = all_taken_back language.children before.children.items;
+  inaccurate = before.inaccurate;
 }

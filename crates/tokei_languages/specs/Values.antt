@@ -21,11 +21,11 @@ empty_language = record { counts = no_lines; reports = []; children = []; inaccu
 
 -- a file of the language couldn't be read
 abbrev pub marked : LanguageValue → LanguageValue
-marked s = record s { inaccurate = true }
+marked language = record language { inaccurate = true }
 
 -- what was counted of a language, if anything was
 abbrev pub language_at : List (ℕ × LanguageValue) → ℕ → Option LanguageValue
-language_at es k = lookup (is_at (nat_cmp k)) es
+language_at es language = lookup (is_at (nat_cmp language)) es
 
 -- the keys ascend, so that each stands once
 abbrev pub IsInOrder : {S : Type 0} → List (ℕ × S) → Type 0

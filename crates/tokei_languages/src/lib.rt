@@ -15,4 +15,3 @@ mod totals;
 
 pub use language::Language;
 pub use languages::Languages;
-pub use tokei_stats::CountError;

@@ -15,9 +15,9 @@ use tokei_program::{Env, program};
 use tokei_real::{RealFolders, RetriedReader};
 use unstarted::Unstarted;
 
-/// Writes out what is left of the output, and answers the program's status; where that fails, it
-/// answers that of a failure, and says so unless the program has failed and has said why.
-fn flushed<W: Write>(rt: &HostRuntime, status: u8, out: &mut W) -> ExitCode {
+/// Writes out what is left of the output, and returns the program's status; where that fails, it
+/// returns that of a failure, and says so unless the program has failed and has said why.
+fn flush_output<W: Write>(rt: &HostRuntime, status: u8, out: &mut W) -> ExitCode {
     match out.flush() {
         Ok(()) => ExitCode::from(status),
         Err(_) if status != 0 => ExitCode::from(status),
@@ -29,7 +29,7 @@ fn flushed<W: Write>(rt: &HostRuntime, status: u8, out: &mut W) -> ExitCode {
 }
 
 /// Runs the program with these words over real folders, and with the real ends.
-fn ended(rt: &HostRuntime, words: &[&str], env: &Env) -> io::Result<ExitCode> {
+fn run_with_words(rt: &HostRuntime, words: &[&str], env: &Env) -> io::Result<ExitCode> {
     let mut folders = RealFolders::new(rt.clone()?);
     let mut out = Counted::new(BufWriter::new(rt.alloc(), io::writer(rt))?);
     let mut input = Counted::new(RetriedReader::new(rt.reader()));
@@ -44,7 +44,7 @@ fn ended(rt: &HostRuntime, words: &[&str], env: &Env) -> io::Result<ExitCode> {
         &mut out,
         &mut err,
     );
-    Ok(flushed(rt, status, &mut out.inner))
+    Ok(flush_output(rt, status, &mut out.inner))
 }
 
 /// Runs the program with the words that it was started with, in its surroundings.
@@ -52,11 +52,11 @@ fn run_program(rt: &HostRuntime) -> Result<ExitCode, Unstarted> {
     let all = words(rt)?;
     let words: Vec<&str> = all.iter().map(|word| word.as_str()).collect(rt.alloc())?;
     let env = env_of(rt)?;
-    Ok(ended(rt, &words, &env)?)
+    Ok(run_with_words(rt, &words, &env)?)
 }
 
-/// Says why the program isn't run, and answers the status of that.
-fn told(rt: &HostRuntime, why: &Unstarted) -> ExitCode {
+/// Says why the program isn't run, and returns the status of that.
+fn say_why(rt: &HostRuntime, why: &Unstarted) -> ExitCode {
     match why {
         Unstarted::Refused(text) => {
             let _ = eprint!(rt; "{text}");
@@ -72,6 +72,6 @@ fn told(rt: &HostRuntime, why: &Unstarted) -> ExitCode {
 fn main(rt: HostRuntime) -> ExitCode {
     match run_program(&rt) {
         Ok(status) => status,
-        Err(why) => told(&rt, &why),
+        Err(why) => say_why(&rt, &why),
     }
 }

@@ -52,7 +52,8 @@ module _ (rows : List Row) (notebook : ℕ) (known : notebook < length rows) whe
       let kernel : Option ℕ = by_kernel rows (get_in (codes "kernelspec") (codes "language") d) in
       let extension : Option ℕ = by_extension rows (get_in (codes "language_info") (codes "file_extension") d) in
       unwrap_below (length rows) (or_else kernel extension) (fallback rows notebook (codes "Python"))
-      (either_below (length rows) kernel extension (kernel_below rows (get_in (codes "kernelspec") (codes "language") d)) (extension_below rows (get_in (codes "language_info") (codes "file_extension") d)))
+      (either_below (length rows) kernel extension (kernel_below rows (get_in (codes "kernelspec") (codes "language") d))
+      (extension_below rows (get_in (codes "language_info") (codes "file_extension") d)))
       (fallback_below (codes "Python"))
 
   of_known : (o : Option Data) → AreKnown (length rows) (cells_of rows notebook o)

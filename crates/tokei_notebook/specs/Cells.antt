@@ -18,22 +18,22 @@ pub record Cell : Type 0 where
 
 -- a cell of the code: its language, and the bytes of its text
 abbrev pub cell_of : CodeCell → Cell
-cell_of c = record { language = c.language; source = c.source.items }
+cell_of cell = record { language = cell.language; source = cell.source.items }
 
 -- the language that the kernel names: its name is the text in any ASCII case; other values name
 -- none
 abbrev pub by_kernel : List Row → Option Data → Option ℕ
 by_kernel rows (Some (string t)) = first_where (has_name_in_any_case t) rows
-by_kernel rows d = None
+by_kernel rows found = None
 
 -- the language with the text as an extension; other values have none
 abbrev pub by_extension : List Row → Option Data → Option ℕ
 by_extension rows (Some (string t)) = first_where (has_extension t) rows
-by_extension rows d = None
+by_extension rows found = None
 
 -- the member of a member
 abbrev pub get_in : List ℕ → List ℕ → Data → Option Data
-get_in outer inner d = option_and_then (get inner) (get outer d)
+get_in outer inner value = option_and_then (get inner) (get outer value)
 
 -- The language of code cells, by the metadata: the kernel's, else by the extension, else Python.
 unfoldable pub code_language : List Row → ℕ → Option Data → ℕ
@@ -47,7 +47,7 @@ code_language rows notebook (Some d) =
 -- a text's bytes; other values have none
 abbrev pub text_of : Data → List ℕ
 text_of (string t) = t
-text_of d = []
+text_of value = []
 
 -- the texts of a list, joined
 abbrev pub joined : Items → List ℕ
@@ -57,7 +57,7 @@ joined (item d ds) = text_of d ++ joined ds
 -- a cell's text
 abbrev pub source_of : Option Data → List ℕ
 source_of (Some (array ds)) = joined ds
-source_of d = []
+source_of found = []
 
 -- Markdown cells are read in the one language, code cells in the other
 abbrev pub cells_in : ℕ → ℕ → Items → List Cell
@@ -71,7 +71,7 @@ cells_in markdown code (item d ds) =
 -- the cells of the member `cells`; where that is no list there are none
 abbrev pub cells_at : ℕ → ℕ → Option Data → List Cell
 cells_at markdown code (Some (array ds)) = cells_in markdown code ds
-cells_at markdown code d = []
+cells_at markdown code found = []
 
 -- the cells of a JSON value; one without the layout of a notebook has none
 unfoldable pub cells_of : List Row → ℕ → Option Data → List Cell
@@ -85,9 +85,9 @@ cells_of rows notebook (Some d) =
 
 -- The cells of a text in the language of notebooks; a text that isn't a notebook has none.
 abbrev pub notebook_cells : List Row → ℕ → List ℕ → List Cell
-notebook_cells rows notebook t = cells_of rows notebook (data_of t)
+notebook_cells rows notebook text = cells_of rows notebook (data_of text)
 
--- each cell's language is one of the first n
+-- each cell's language is below the limit
 abbrev pub AreKnown : ℕ → List Cell → Type 0
-AreKnown n [] = ⊤
-AreKnown n (c ∷ cs) = (c.language < n) × AreKnown n cs
+AreKnown limit [] = ⊤
+AreKnown limit (c ∷ cs) = (c.language < limit) × AreKnown limit cs

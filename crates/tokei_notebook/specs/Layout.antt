@@ -7,25 +7,26 @@ use Rattle.tokei_table.specs.Layout.{stands_and, is_text, is_list}
 -- The text of a Markdown cell's kind.
 abbrev pub is_markdown : Data → Bool
 is_markdown (string t) = bytes_eq t (codes "markdown")
-is_markdown d = false
+is_markdown value = false
 
 -- The text of a code cell's kind.
 abbrev pub is_code : Data → Bool
 is_code (string t) = bytes_eq t (codes "code")
-is_code d = false
+is_code value = false
 
 -- A cell has a kind, which is one of the two, and a source, which is a list of texts.
 unfoldable pub is_cell : Data → Bool
-is_cell d =
-    stands_and (λ k. is_markdown k || is_code k) (get (codes "cell_type") d)
-    && stands_and (is_list is_text) (get (codes "source") d)
+is_cell value =
+    stands_and (λ k. is_markdown k || is_code k) (get (codes "cell_type") value)
+    && stands_and (is_list is_text) (get (codes "source") value)
 
 -- The metadata tell the kernel and the language, each by any value.
 abbrev pub has_metadata : Data → Bool
-has_metadata d = is_some (get (codes "kernelspec") d) && is_some (get (codes "language_info") d)
+has_metadata value = is_some (get (codes "kernelspec") value) && is_some
+    (get (codes "language_info") value)
 
 -- A notebook has cells and metadata; other members are passed over.
 unfoldable pub has_notebook_layout : Data → Bool
-has_notebook_layout d =
-    stands_and (is_list is_cell) (get (codes "cells") d)
-    && stands_and has_metadata (get (codes "metadata") d)
+has_notebook_layout value =
+    stands_and (is_list is_cell) (get (codes "cells") value)
+    && stands_and has_metadata (get (codes "metadata") value)

@@ -5,7 +5,7 @@ ghost use Rattle.tokei_table.specs.Layout.{all_items, is_list, is_text, stands_a
 ghost use Rattle.tokei_notebook.specs.Layout.{is_markdown, is_code, is_cell, has_metadata, has_notebook_layout};
 
 use serde_json::Value;
-use tokei_table::values::all_texts;
+use tokei_table_json::values::all_texts;
 
 /// Whether the member reads `markdown`.
 pub(crate) fn is_markdown(member: Option<&Value>) -> bool

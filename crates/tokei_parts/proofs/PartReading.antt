@@ -76,7 +76,9 @@ module _ (g : Row) (block : ℕ → List ℕ → Option Block) (fit : FitsBlocks
         plain = o.after;
         counts = ap (tally g docs_are_comments) (lead.same (innermost c) []) ∙ ap (λ ms. tally g docs_are_comments (cut (innermost c) (take n t) None ms)) opened ∙ cut_child c (take n t) k after;
         kids = lead.kids ∙ ap children opened;
-        steps = λ skips. ap (choices_made skips (openers g)) (lead.choices (innermost c) [] 0 ∙ ap (λ x. running (innermost c) (take n t) x (drop n t) (marks_ahead g block l [] (drop n t))) none ∙ ap (running (innermost c) (take n t) j (drop n t)) opened ∙ running_child (innermost c) (take n t) j (drop n t) k after)
+        steps = λ skips. ap (choices_made skips (openers g))
+            (lead.choices (innermost c) [] 0 ∙ ap (λ x. running (innermost c) (take n t) x (drop n t) (marks_ahead g block l [] (drop n t))) none
+            ∙ ap (running (innermost c) (take n t) j (drop n t)) opened ∙ running_child (innermost c) (take n t) j (drop n t) k after)
             ∙ ap (λ w. cond (walks skips (openers g) (innermost c) w) j 0 + choices_made skips (openers g) (running None [] 0 (drop k.size (drop n t)) after)) (line_from n t lead.within)
             ∙ ap (λ w. cond (walks skips (openers g) (innermost c) (first_line t)) j 0 + choices_made skips (openers g) (running None [] 0 w after)) rest;
       }

@@ -8,8 +8,9 @@ use Rattle.tokei_parts.specs.declared.items.Enclosure.{Enclosure}
 
 -- the choice at the place, which the item encloses, takes its byte
 abbrev pub TakesByteAt : Row → Enclosure → List ℕ → ℕ → Type 0
-TakesByteAt r item text p = choice r (mode_of (Some item)) None (drop p text) ≡ takes_byte
+TakesByteAt row item text place =
+    choice row (mode_of (Some item)) None (drop place text) ≡ takes_byte
 
 -- so does each from the place `at` to before `to`
 abbrev pub IsCalm : Row → Enclosure → List ℕ → ℕ → ℕ → Type 0
-IsCalm r item text at to = (p : ℕ) → at ≤ p → p < to → TakesByteAt r item text p
+IsCalm row item text at to = (p : ℕ) → at ≤ p → p < to → TakesByteAt row item text p

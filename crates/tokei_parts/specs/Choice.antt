@@ -22,11 +22,11 @@ pub data Choice : Type 0 where
 
 -- the first pair whose opener stands at the front of the text
 abbrev pub opened : List Pair → List ℕ → Option Pair
-opened ps t = find (λ p. begins p.opener t) ps
+opened ps text = find (λ p. begins p.opener text) ps
 
 -- some token stands at the front of the text
 abbrev pub any_begins : List (List ℕ) → List ℕ → Bool
-any_begins ps t = list_any (λ p. begins p t) ps
+any_begins ps text = list_any (λ p. begins p text) ps
 
 -- f of the value, or the default where there is none
 abbrev pub or_else : {A B : Type 0} → Option A → (A → B) → B → B
@@ -36,64 +36,66 @@ or_else (Some a) f b = f a
 -- an escape is a backslash before a backslash, or before an opener of `quotes`; both are two bytes
 -- long
 abbrev pub is_escape : Row → List ℕ → Bool
-is_escape r [] = false
-is_escape r (b ∷ t) = (b == backslash) && (begins (backslash ∷ []) t || is_some (opened r.quotes t))
+is_escape row [] = false
+is_escape row (b ∷ t) = (b == backslash) &&
+    (begins (backslash ∷ []) t || is_some (opened row.quotes t))
 
 -- the pair, with both its texts, stands in the list
 abbrev pub has_pair : List Pair → Pair → Bool
-has_pair qs p = list_any (λ q. bytes_eq q.opener p.opener && bytes_eq q.closer p.closer) qs
+has_pair qs pair = list_any (λ q. bytes_eq q.opener pair.opener && bytes_eq q.closer pair.closer) qs
 
 -- A multi-line opener that is met inside a comment opens where `nested` is true or its pair is in
 -- `nested_comments`; else it is passed over whole.
 abbrev pub met_in_comment : Row → Pair → Choice
-met_in_comment r p =
-    if r.nested || has_pair r.nested_comments p then opens MultiLineComment p else passes_over p
+met_in_comment row pair =
+    if row.nested || has_pair row.nested_comments pair then opens MultiLineComment pair else
+    passes_over pair
 
 -- in a string: its closer; an escape, unless the string is verbatim; one byte
 abbrev pub choice_in_string : Row → Bool → List ℕ → List ℕ → Choice
-choice_in_string r verbatim closer t =
-    if begins closer t then closes
-    else if (if verbatim then false else is_escape r t) then escapes
+choice_in_string row verbatim closer text =
+    if begins closer text then closes
+    else if (if verbatim then false else is_escape row text) then escapes
     else takes_byte
 
 -- in a comment: an escape; the innermost closer; a multi-line opener, then a nested opener; one
 -- byte
 abbrev pub choice_in_comment : Row → List ℕ → List ℕ → Choice
-choice_in_comment r closer t =
-    if is_escape r t then escapes
-    else if begins closer t then closes
-    else or_else (opened r.multi_line_comments t) (met_in_comment r) (
-    or_else (opened r.nested_comments t) (opens MultiLineComment) takes_byte)
+choice_in_comment row closer text =
+    if is_escape row text then escapes
+    else if begins closer text then closes
+    else or_else (opened row.multi_line_comments text) (met_in_comment row) (
+    or_else (opened row.nested_comments text) (opens MultiLineComment) takes_byte)
 
 -- in plain text where no string opens: a multi-line comment; a nested comment; a line comment; one
 -- byte
 abbrev pub comment_in_plain : Row → List ℕ → Choice
-comment_in_plain r t =
-    or_else (opened r.multi_line_comments t) (opens MultiLineComment) (
-    or_else (opened r.nested_comments t) (opens MultiLineComment) (
-    if any_begins r.line_comment t then begins_line_comment else takes_byte))
+comment_in_plain row text =
+    or_else (opened row.multi_line_comments text) (opens MultiLineComment) (
+    or_else (opened row.nested_comments text) (opens MultiLineComment) (
+    if any_begins row.line_comment text then begins_line_comment else takes_byte))
 
 -- where no child opens and no escape stands: a doc quote; a verbatim quote; a quote; else as where
 -- no string opens
 abbrev pub opening_in_plain : Row → List ℕ → Choice
-opening_in_plain r t =
-    or_else (opened r.doc_quotes t) (opens DocString) (
-    or_else (opened r.verbatim_quotes t) (opens VerbatimString) (
-    or_else (opened r.quotes t) (opens OrdinaryString) (comment_in_plain r t)))
+opening_in_plain row text =
+    or_else (opened row.doc_quotes text) (opens DocString) (
+    or_else (opened row.verbatim_quotes text) (opens VerbatimString) (
+    or_else (opened row.quotes text) (opens OrdinaryString) (comment_in_plain row text)))
 
 -- in plain text: an escape; a child; else as where none of both is
 abbrev pub choice_in_plain : Row → Option Block → List ℕ → Choice
-choice_in_plain r block t =
-    if is_escape r t then escapes else or_else block child_opens (opening_in_plain r t)
+choice_in_plain row block text =
+    if is_escape row text then escapes else or_else block child_opens (opening_in_plain row text)
 
 -- by the kind of the item that encloses the place
 abbrev pub choice_within : Row → ItemKind → List ℕ → List ℕ → Choice
-choice_within r DocString closer t = choice_in_string r false closer t
-choice_within r VerbatimString closer t = choice_in_string r true closer t
-choice_within r OrdinaryString closer t = choice_in_string r false closer t
-choice_within r MultiLineComment closer t = choice_in_comment r closer t
+choice_within row DocString closer text = choice_in_string row false closer text
+choice_within row VerbatimString closer text = choice_in_string row true closer text
+choice_within row OrdinaryString closer text = choice_in_string row false closer text
+choice_within row MultiLineComment closer text = choice_in_comment row closer text
 
 -- the first choice that fits at the front of the text; `block` is the child that may open there
 unfoldable pub choice : Row → Mode → Option Block → List ℕ → Choice
-choice r None block t = choice_in_plain r block t
-choice r (Some e) block t = choice_within r e.kind e.closer t
+choice row None block text = choice_in_plain row block text
+choice row (Some e) block text = choice_within row e.kind e.closer text

@@ -55,22 +55,22 @@ keeps_columns key = bytes_eq key (codes "FortranLegacy") || bytes_eq key (codes 
 
 -- the head of a part: its bytes as they stand, or trimmed
 abbrev pub head_of : Row → List ℕ → List ℕ
-head_of r t = if keeps_columns r.key then t else trim t
+head_of row text = if keeps_columns row.key then text else trim text
 
 -- some pair of the list opens at the front of the text and closes at its end; opener and closer may
 -- overlap
 abbrev pub encloses : List Pair → List ℕ → Bool
-encloses ps t = list_any (λ p. begins p.opener t && ends p.closer t) ps
+encloses ps text = list_any (λ p. begins p.opener text && ends p.closer text) ps
 
 -- some pair of the list opens at the front of the text, and has this closer
 abbrev pub opens_with : List Pair → List ℕ → List ℕ → Bool
-opens_with ps t c = list_any (λ p. begins p.opener t && bytes_eq p.closer c) ps
+opens_with ps text closer = list_any (λ p. begins p.opener text && bytes_eq p.closer closer) ps
 
 -- the mode is a comment, and a pair that opens at the head closes as the innermost comment does
 abbrev pub ends_opened : Row → List ℕ → Mode → Bool
-ends_opened r head e = in_comment e
-    && (opens_with r.multi_line_comments head (closer_of e)
-    || opens_with r.nested_comments head (closer_of e))
+ends_opened row head mode = in_comment mode
+    && (opens_with row.multi_line_comments head (closer_of mode)
+    || opens_with row.nested_comments head (closer_of mode))
 
 -- The rules, in order. `docs_are_comments` says whether doc strings are treated as comments.
 -- 1. begun plain and blank: blank
@@ -86,16 +86,16 @@ ends_opened r head e = in_comment e
 -- comment
 -- 10. else code
 unfoldable pub class_of : Row → Bool → Part → Class
-class_of r docs_are_comments p =
-    if is_plain p.begun && all_blank p.bytes then Blank
-    else if r.literate then Comment
-    else if in_doc_string p.ended && docs_are_comments then Comment
-    else if in_string p.ended then Code
-    else if in_comment p.begun || (in_doc_string p.begun && docs_are_comments) then Comment
-    else if in_string p.begun then Code
-    else if any_begins r.line_comment (head_of r p.bytes) then Comment
-    else if encloses r.multi_line_comments (trim p.bytes)
-    || encloses r.nested_comments (trim p.bytes)
+class_of row docs_are_comments part =
+    if is_plain part.begun && all_blank part.bytes then Blank
+    else if row.literate then Comment
+    else if in_doc_string part.ended && docs_are_comments then Comment
+    else if in_string part.ended then Code
+    else if in_comment part.begun || (in_doc_string part.begun && docs_are_comments) then Comment
+    else if in_string part.begun then Code
+    else if any_begins row.line_comment (head_of row part.bytes) then Comment
+    else if encloses row.multi_line_comments (trim part.bytes)
+    || encloses row.nested_comments (trim part.bytes)
     then Comment
-    else if ends_opened r (head_of r p.bytes) p.ended then Comment
+    else if ends_opened row (head_of row part.bytes) part.ended then Comment
     else Code

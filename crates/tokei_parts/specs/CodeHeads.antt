@@ -6,10 +6,10 @@ use Rattle.tokei_parts.specs.PlainBytes.{BeginsNone}
 
 -- no choice can begin at the first byte, and there is one
 abbrev pub FrontBeginsNone : Matchers → List ℕ → Type 0
-FrontBeginsNone m [] = ⊥
-FrontBeginsNone m (b ∷ t) = BeginsNone m b
+FrontBeginsNone matchers [] = ⊥
+FrontBeginsNone matchers (b ∷ t) = BeginsNone matchers b
 
 -- so it is of the part's first byte and of the first one that isn't blank
-pub record HasCodeHead (m : Matchers) (t : List ℕ) : Type 0 where
-  pub first : FrontBeginsNone m t
-  pub head : FrontBeginsNone m (trim_start t)
+pub record HasCodeHead (matchers : Matchers) (text : List ℕ) : Type 0 where
+  pub first : FrontBeginsNone matchers text
+  pub head : FrontBeginsNone matchers (trim_start text)

@@ -21,14 +21,15 @@ pub record Body : Type 0 where
 abbrev pub ended : Body
 ended = record { items = none; taken = 0; closed = false }
 
--- an item of n bytes, and the body that goes on behind it
+-- an item of that size, and the body that goes on behind it
 abbrev pub before : Item → ℕ → Body → Body
-before i n b = record { items = more i b.items; taken = n + b.taken; closed = b.closed }
+before item size body = record
+    { items = more item body.items; taken = size + body.taken; closed = body.closed }
 
 -- behind an item that isn't closed nothing stands
 abbrev pub behind : Bool → Body → Body
-behind true b = b
-behind false b = ended
+behind true body = body
+behind false body = ended
 
 -- the closer of the item that encloses the place, in plain text nothing
 abbrev pub closer_of : Mode → List ℕ
@@ -40,36 +41,39 @@ abbrev pub second : List ℕ → ℕ
 second [] = 0
 second (b ∷ t) = b
 
--- The body of mode m that stands at the front of b ∷ t, by the choice there. `go n l m` is the body
--- of mode m in t without its first n bytes, where l bytes were left behind the last child.
+-- The body of the mode that stands at the front of byte ∷ text, by the choice there. `go n l m` is
+-- the body of mode m in the text without its first n bytes, where l bytes were left behind the last
+-- child.
 abbrev pub follow : Choice → ℕ → List ℕ → ℕ → Mode → (ℕ → ℕ → Mode → Body) → Body
-follow closes b t l m go = record { items = none; taken = length (closer_of m); closed = true }
-follow escapes b t l m go = before (escaped b (second t)) 2 (go 1 l m)
-follow (child_opens k) b t l m go =
-    before (child k (take k.size (b ∷ t))) k.size (go (k.size - 1) (length (b ∷ t) - k.size) m)
-follow (opens k p) b t l m go =
-    let inner : Body = go (length p.opener - 1) l (Some (enclosure k p)) in
+follow closes byte text left mode go =
+    record { items = none; taken = length (closer_of mode); closed = true }
+follow escapes byte text left mode go = before (escaped byte (second text)) 2 (go 1 left mode)
+follow (child_opens k) byte text left mode go =
+    before (child k (take k.size (byte ∷ text))) k.size
+    (go (k.size - 1) (length (byte ∷ text) - k.size) mode)
+follow (opens k p) byte text left mode go =
+    let inner : Body = go (length p.opener - 1) left (Some (enclosure k p)) in
     before (enclosing_item k p inner.items inner.closed) (length p.opener + inner.taken)
-    (behind inner.closed (go (length p.opener - 1 + inner.taken) l m))
-follow (passes_over p) b t l m go =
-    before (passed_over p) (length p.opener) (go (length p.opener - 1) l m)
-follow begins_line_comment b t l m go =
-    before (line_comment (first_line (b ∷ t))) (length (first_line (b ∷ t)))
-    (go (length (first_line (b ∷ t)) - 1) l m)
-follow takes_byte b t l m go = before (one b) 1 (go 0 l m)
+    (behind inner.closed (go (length p.opener - 1 + inner.taken) left mode))
+follow (passes_over p) byte text left mode go =
+    before (passed_over p) (length p.opener) (go (length p.opener - 1) left mode)
+follow begins_line_comment byte text left mode go =
+    before (line_comment (first_line (byte ∷ text))) (length (first_line (byte ∷ text)))
+    (go (length (first_line (byte ∷ text)) - 1) left mode)
+follow takes_byte byte text left mode go = before (one byte) 1 (go 0 left mode)
 
--- The body of mode m in the text without its first n bytes. `block l s` is the child that opens at
--- the front of s, where l bytes were left behind the last child.
+-- The body of the mode in the text without its first n bytes. `block l s` is the child that opens
+-- at the front of s, where l bytes were left behind the last child.
 unfoldable pub derive : Row → (ℕ → List ℕ → Option Block) → List ℕ → ℕ → ℕ → Mode → Body
-derive r block [] n l m = ended
-derive r block (b ∷ t) (suc n) l m = derive r block t n l m
-derive r block (b ∷ t) zero l m =
-    follow (choice r m (block l (b ∷ t)) (b ∷ t)) b t l m (derive r block t)
+derive row block [] size left mode = ended
+derive row block (b ∷ t) (suc n) left mode = derive row block t n left mode
+derive row block (b ∷ t) zero left mode =
+    follow (choice row mode (block left (b ∷ t)) (b ∷ t)) b t left mode (derive row block t)
 
 -- the items of the whole text
 abbrev pub items_of : Row → (ℕ → List ℕ → Option Block) → List ℕ → Items
-items_of r block t = (derive r block t 0 (length t) None).items
+items_of row block text = (derive row block text 0 (length text) None).items
 
 -- no child opens
 abbrev pub no_child : ℕ → List ℕ → Option Block
-no_child l t = None
+no_child left text = None

@@ -6,7 +6,7 @@ use Rattle.tokei_parts.specs.Class.{is_plain}
 
 -- whether some opener stands in the bytes
 abbrev pub holds : List (List ℕ) → List ℕ → Bool
-holds openers t = is_some (first_opener openers t)
+holds openers text = is_some (first_opener openers text)
 
 -- A part is walked where it begins in a string or a comment, or its reach holds an opener. The
 -- reach goes to the end of the part's line, also where a child breaks the part off.
@@ -19,4 +19,4 @@ walks skips openers begun reach = not skips || is_walked openers begun reach
 
 -- where the first opener stands, or the end of the bytes where none does
 abbrev pub opener_place : List (List ℕ) → List ℕ → ℕ
-opener_place openers t = unwrap_or (first_opener openers t) (length t)
+opener_place openers text = unwrap_or (first_opener openers text) (length text)

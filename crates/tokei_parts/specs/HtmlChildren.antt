@@ -12,9 +12,9 @@ use Rattle.tokei_table.specs.Families.{fallback}
 
 -- The trimmed value of the attribute names the language: a MIME type for a script, else a word.
 abbrev pub by_value : List Row → Tag → List ℕ → Option ℕ
-by_value rows Script v = by_mime rows (trim v)
-by_value rows Style v = by_word rows (trim v)
-by_value rows Template v = by_word rows (trim v)
+by_value rows Script value = by_mime rows (trim value)
+by_value rows Style value = by_word rows (trim value)
+by_value rows Template value = by_word rows (trim value)
 
 -- the language where none is named
 abbrev pub usual_key : Tag → List ℕ
@@ -30,10 +30,10 @@ element_language rows parent tag v =
 -- The text of an element is read without the blank rest of its first line and the blank front of
 -- its last one. The opening is one line of code of the parent.
 abbrev pub element_child : List Row → ℕ → Tag → TagBlock → Block
-element_child rows parent tag e = record {
-  language = element_language rows parent tag e.value;
-  contents = trim_outer_lines e.contents;
-  size = e.size;
+element_child rows parent tag element = record {
+  language = element_language rows parent tag element.value;
+  contents = trim_outer_lines element.contents;
+  size = element.size;
   share = record { blanks = 0; code = 1; comments = 0 };
 }
 
@@ -44,8 +44,8 @@ element_at rows parent tag part place rest =
 
 -- the first that there is
 abbrev pub first_block : Option Block → Option Block → Option Block
-first_block None o = o
-first_block (Some k) o = Some k
+first_block None found = found
+first_block (Some k) found = Some k
 
 -- the child that opens at a place of the part, by any of the three tags; `rest` is the text from
 -- the place on

@@ -34,10 +34,10 @@ mutual
 
 -- an item with a body, by its kind
 abbrev pub enclosing_item : ItemKind → Pair → Items → Bool → Item
-enclosing_item DocString p is closed = string_literal DocString p is closed
-enclosing_item VerbatimString p is closed = string_literal VerbatimString p is closed
-enclosing_item OrdinaryString p is closed = string_literal OrdinaryString p is closed
-enclosing_item MultiLineComment p is closed = comment p is closed
+enclosing_item DocString pair is closed = string_literal DocString pair is closed
+enclosing_item VerbatimString pair is closed = string_literal VerbatimString pair is closed
+enclosing_item OrdinaryString pair is closed = string_literal OrdinaryString pair is closed
+enclosing_item MultiLineComment pair is closed = comment pair is closed
 
 -- an item that encloses a place: what it is, and its closer
 pub record Enclosure : Type 0 where
@@ -46,7 +46,7 @@ pub record Enclosure : Type 0 where
 
 -- the item that the pair opens
 abbrev pub enclosure : ItemKind → Pair → Enclosure
-enclosure k p = record { kind = k; closer = p.closer }
+enclosure k pair = record { kind = k; closer = pair.closer }
 
 -- where a place stands: in the innermost item that encloses it, or plain
 abbrev pub Mode : Type 0
@@ -54,4 +54,4 @@ Mode = Option Enclosure
 
 -- the kind of the item, in plain text none
 abbrev pub kind_in : Mode → Option ItemKind
-kind_in m = option_map (λ e. e.kind) m
+kind_in mode = option_map (λ e. e.kind) mode

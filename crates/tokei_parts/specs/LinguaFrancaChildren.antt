@@ -20,10 +20,10 @@ target_language rows parent (Some word) = unwrap_or (by_name rows (target_name w
 -- the text of a block is read without the blank rest of its first line and the blank front of its
 -- last one; it adds nothing to the parent
 abbrev pub target_child : List Row → ℕ → List ℕ → TargetBlock → Block
-target_child rows parent text b = record {
+target_child rows parent text target = record {
   language = target_language rows parent (target_of text);
-  contents = trim_outer_lines b.contents;
-  size = b.size;
+  contents = trim_outer_lines target.contents;
+  size = target.size;
   share = no_lines;
 }
 

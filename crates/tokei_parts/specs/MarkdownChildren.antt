@@ -10,7 +10,7 @@ use Rattle.tokei_parts.specs.NamedLanguages.{by_word}
 
 -- whether the byte is a comma, `,`
 abbrev pub is_comma : ℕ → Bool
-is_comma b = b == 44
+is_comma byte = byte == 44
 
 -- the language of the first piece that names one
 abbrev pub first_named : List Row → List (List ℕ) → Option ℕ
@@ -24,16 +24,16 @@ known_piece rows info = first_named rows (slice_split is_comma info)
 -- The text of a fence is read trimmed. Its own lines are comments of the parent: 2 where it is
 -- closed, else 1.
 abbrev pub fence_as : Fence → ℕ → Block
-fence_as f language = record {
+fence_as fence language = record {
   language = language;
-  contents = trim f.contents;
-  size = f.size;
-  share = record { blanks = 0; code = 0; comments = if f.closed then 2 else 1 };
+  contents = trim fence.contents;
+  size = fence.size;
+  share = record { blanks = 0; code = 0; comments = if fence.closed then 2 else 1 };
 }
 
 -- a fence whose info names no language is no child
 abbrev pub fence_child : List Row → Fence → Option Block
-fence_child rows f = option_map (fence_as f) (known_piece rows f.info)
+fence_child rows fence = option_map (fence_as fence) (known_piece rows fence.info)
 
 -- the child that opens at a place of the part; `rest` is the text from the place on
 abbrev pub markdown_block : List Row → List ℕ → ℕ → List ℕ → Option Block

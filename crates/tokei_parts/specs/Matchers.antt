@@ -10,23 +10,24 @@ use Rattle.tokei_table.specs.Row.{Pair, Row}
 
 -- the byte is the first of an opener
 abbrev pub begins_opener : List Pair → ℕ → Bool
-begins_opener ps b = list_any (λ p. is_first_of b p.opener) ps
+begins_opener ps byte = list_any (λ p. is_first_of byte p.opener) ps
 
 -- At the byte a choice other than a byte, a closer and a child can begin: it is a backslash, or the
 -- first byte of an opener or a line comment.
 abbrev pub begins_choice : Row → ℕ → Bool
-begins_choice r b =
-    (b == backslash)
-    || (begins_opener r.quotes b
-    || (begins_opener r.verbatim_quotes b || (begins_opener r.doc_quotes b
-    || (begins_opener r.multi_line_comments b || (begins_opener r.nested_comments b
-    || list_any (is_first_of b) r.line_comment)))))
+begins_choice row byte =
+    (byte == backslash)
+    || (begins_opener row.quotes byte
+    || (begins_opener row.verbatim_quotes byte || (begins_opener row.doc_quotes byte
+    || (begins_opener row.multi_line_comments byte || (begins_opener row.nested_comments byte
+    || list_any (is_first_of byte) row.line_comment)))))
 
 -- In a comment one can begin: it is a backslash, or the first byte of a multi-line or nested
 -- opener.
 abbrev pub begins_in_comment : Row → ℕ → Bool
-begins_in_comment r b =
-    (b == backslash) || (begins_opener r.multi_line_comments b || begins_opener r.nested_comments b)
+begins_in_comment row byte =
+    (byte == backslash) || (begins_opener row.multi_line_comments byte || begins_opener
+    row.nested_comments byte)
 
 -- the test's answers for the bytes below n
 abbrev pub flags : (ℕ → Bool) → ℕ → List Bool
@@ -43,9 +44,9 @@ pub record Matchers : Type 0 where
 
 -- the matchers that a row of the table gives
 abbrev pub matchers_of : Row → Matchers
-matchers_of r = record {
-  openers = openers r;
-  begins = flags (begins_choice r) 256;
-  begins_in_comment = flags (begins_in_comment r) 256;
-  family = family_of r.key;
+matchers_of row = record {
+  openers = openers row;
+  begins = flags (begins_choice row) 256;
+  begins_in_comment = flags (begins_in_comment row) 256;
+  family = family_of row.key;
 }

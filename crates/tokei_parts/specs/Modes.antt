@@ -20,28 +20,30 @@ pub data Mark : Type 0 where
   byte_at : ℕ → Bool → Chain → Mark
   child_at : Block → Mark
 
--- bytes inside one choice, with the chain c behind each
+-- bytes inside one choice, with the chain behind each
 abbrev pub inside : Chain → List ℕ → List Mark
-inside c [] = []
-inside c (b ∷ t) = byte_at b false c ∷ inside c t
+inside chain [] = []
+inside chain (b ∷ t) = byte_at b false chain ∷ inside chain t
 
--- bytes of one choice, with the chain c behind each
+-- bytes of one choice, with the chain behind each
 abbrev pub of_choice : Chain → List ℕ → List Mark
-of_choice c [] = []
-of_choice c (b ∷ t) = byte_at b true c ∷ inside c t
+of_choice chain [] = []
+of_choice chain (b ∷ t) = byte_at b true chain ∷ inside chain t
 
 -- the bytes of a closer, the first being the beginning of a choice or not: its item, the innermost
--- of c, encloses each place before its end, and d encloses that
+-- of the first chain, encloses each place before its end, and the second chain encloses that
 abbrev pub closing_from : Bool → Chain → Chain → List ℕ → List Mark
-closing_from x c d [] = []
-closing_from x c d (b ∷ []) = byte_at b x d ∷ []
-closing_from x c d (b ∷ b' ∷ t) = byte_at b x c ∷ closing_from false c d (b' ∷ t)
+closing_from flag chain last [] = []
+closing_from flag chain last (b ∷ []) = byte_at b flag last ∷ []
+closing_from flag chain last (b ∷ b' ∷ t) =
+    byte_at b flag chain ∷ closing_from false chain last (b' ∷ t)
 
 -- the marks of the bytes of a closer, of which the first begins a choice
 abbrev pub closing : Chain → Chain → List ℕ → List Mark
-closing c d t = closing_from true c d t
+closing chain last text = closing_from true chain last text
 
--- the bytes of the items, in order, each with the chain behind it; c encloses the place before them
+-- the bytes of the items, in order, each with the chain behind it; the chain encloses the place
+-- before them
 unfoldable mutual
   pub marks : Chain → Items → List Mark
   marks c none = []

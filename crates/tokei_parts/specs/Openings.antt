@@ -24,11 +24,11 @@ block_by LinguaFranca rows language text part place rest =
     franca_block rows language text part place rest
 block_by Jupyter rows language text part place rest = None
 
--- The child that opens where `rest` is left of the text, and l bytes were left behind the last
--- child. The part there is the reach of the place: from the later of its line's start and the last
--- child's end, through the next newline.
+-- The child that opens where `rest` is left of the text, and so many bytes were left behind the
+-- last child. The part there is the reach of the place: from the later of its line's start and the
+-- last child's end, through the next newline.
 abbrev pub block_in : List Row → ℕ → List ℕ → ℕ → List ℕ → Option Block
-block_in rows language text l rest =
-    let front = part_front text l rest in
+block_in rows language text behind rest =
+    let front = part_front text behind rest in
     block_by (family_of (row_at rows language).key) rows language text (front ++ first_line rest)
     (length front) rest

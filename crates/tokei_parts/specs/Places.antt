@@ -10,48 +10,50 @@ use Rattle.tokei_parts.specs.declared.place.Place.{Place}
 
 -- the text of the place
 abbrev pub text_of : Place → List ℕ
-text_of p = p.reading.now.text.now
+text_of place = place.reading.now.text.now
 
 -- the text from a place of it on
 abbrev pub text_from : Place → ℕ → List ℕ
-text_from p at = drop at (text_of p)
+text_from place at = drop at (text_of place)
 
 -- the bytes of the part whose line stops there
 abbrev pub part_to : Place → ℕ → List ℕ
-part_to p stop = take (stop - p.start) (drop p.start (text_of p))
+part_to place stop = take (stop - place.start) (drop place.start (text_of place))
 
 -- the block that can open at another place of the part
 abbrev pub block_from : Place → ℕ → Option Block
-block_from p at = blocks_of p.reading.now p.behind_child (text_from p at)
+block_from place at = blocks_of place.reading.now place.behind_child (text_from place at)
 
 -- the block that can open at the place itself
 abbrev pub block_here : Place → Option Block
-block_here p = block_from p p.at
+block_here place = block_from place place.at
 
 -- the choice at the place, in a mode
 abbrev pub choice_here : Place → Mode → Choice
-choice_here p mode = choice (row_in p.reading.now) mode (block_here p) (text_from p p.at)
+choice_here place mode = choice (row_in place.reading.now) mode (block_here place)
+    (text_from place place.at)
 
 -- the part is under way at the place, whose line goes to its end
-pub record IsAt (p : Place) : Type 0 where
-  pub part : IsPart (text_of p) p.behind_child p.start p.at
-  pub line : p.end ≡ p.at + line_len (text_from p p.at)
+pub record IsAt (place : Place) : Type 0 where
+  pub part : IsPart (text_of place) place.behind_child place.start place.at
+  pub line : place.end ≡ place.at + line_len (text_from place place.at)
 
 -- a part begins where the place's does, in a line that goes to the place's end
-pub record Begins (p : Place) : Type 0 where
-  pub part : IsPart (text_of p) p.behind_child p.start p.start
-  pub line : p.end ≡ p.start + line_len (text_from p p.start)
+pub record Begins (place : Place) : Type 0 where
+  pub part : IsPart (text_of place) place.behind_child place.start place.start
+  pub line : place.end ≡ place.start + line_len (text_from place place.start)
 
 -- the place's line stops there: behind its newline, or with the text
 abbrev pub StopsAt : Place → ℕ → Type 0
-StopsAt p stop = stop ≡ p.at + length (first_line (text_from p p.at))
+StopsAt place stop = stop ≡ place.at + length (first_line (text_from place place.at))
 
 -- from the place to before `to` no child opens in plain text
 abbrev pub Childless : Place → ℕ → Type 0
-Childless p to = (q : ℕ) → p.at ≤ q → q < to → block_from p q ≡ None
+Childless place to = (q : ℕ) → place.at ≤ q → q < to → block_from place q ≡ None
 
 -- each choice from the place to before `to` takes a byte, where these items enclose it
 abbrev pub LeadsTo : Place → Chain → ℕ → Type 0
-LeadsTo p c to =
-    Leads (row_in p.reading.now) (blocks_of p.reading.now) p.behind_child c (to - p.at) (to - p.at)
-    c (text_from p p.at)
+LeadsTo place chain to =
+    Leads (row_in place.reading.now) (blocks_of place.reading.now) place.behind_child chain
+    (to - place.at) (to - place.at)
+    chain (text_from place place.at)

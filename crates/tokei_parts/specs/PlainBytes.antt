@@ -10,23 +10,24 @@ use Rattle.tokei_parts.specs.declared.items.ItemKind.TheVariants.{DocString, Ver
 use Rattle.tokei_parts.specs.declared.items.ItemKind.TheVariants.{MultiLineComment}
 
 -- a byte that isn't in the set of those whose flags are set
-pub record IsOutside (flags : List Bool) (b : ℕ) : Type 0 where
-  pub small : b < 256
-  pub outside : is_in flags b ≡ false
+pub record IsOutside (flags : List Bool) (byte : ℕ) : Type 0 where
+  pub small : byte < 256
+  pub outside : is_in flags byte ≡ false
 
 -- no escape, opener or line comment begins at the byte, by the matchers
 abbrev pub BeginsNone : Matchers → ℕ → Type 0
-BeginsNone m b = IsOutside m.begins b
+BeginsNone matchers byte = IsOutside matchers.begins byte
 
 -- in a string nothing but an escape begins, by its backslash, and the closer
 abbrev pub BeginsNoneWithin : Matchers → ItemKind → ℕ → Type 0
-BeginsNoneWithin m DocString b = (b == backslash) ≡ false
-BeginsNoneWithin m VerbatimString b = (b == backslash) ≡ false
-BeginsNoneWithin m OrdinaryString b = (b == backslash) ≡ false
-BeginsNoneWithin m MultiLineComment b = IsOutside m.begins_in_comment b
+BeginsNoneWithin matchers DocString byte = (byte == backslash) ≡ false
+BeginsNoneWithin matchers VerbatimString byte = (byte == backslash) ≡ false
+BeginsNoneWithin matchers OrdinaryString byte = (byte == backslash) ≡ false
+BeginsNoneWithin matchers MultiLineComment byte = IsOutside matchers.begins_in_comment byte
 
 -- the closer of the innermost item doesn't begin at the byte, and nothing else does
 abbrev pub IsPlainByte : Matchers → Mode → ℕ → Type 0
-IsPlainByte m None b = BeginsNone m b
-IsPlainByte m (Some e) b =
-    BeginsNoneWithin m e.kind b × (is_first_of b e.closer ≡ false) × (e.closer ≡ [] → ⊥)
+IsPlainByte matchers None byte = BeginsNone matchers byte
+IsPlainByte matchers (Some e) byte =
+    BeginsNoneWithin matchers e.kind byte × (is_first_of byte e.closer ≡ false)
+    × (e.closer ≡ [] → ⊥)

@@ -46,7 +46,7 @@ module _ (r : Row) (block : ℕ → List ℕ → Option Block) where
 
 -- how many newlines end the first line: one, or none where the text ends it
 abbrev pub newlines : List ℕ → ℕ
-newlines t = length (first_line t) - line_len t
+newlines text = length (first_line text) - line_len text
 
 -- no child opens at a newline
 pub record OpensInLine (block : ℕ → List ℕ → Option Block) : Type 0 where
@@ -77,7 +77,8 @@ module _ (r : Row) (block : ℕ → List ℕ → Option Block) (l : ℕ) where
 
   -- the choices that are left in the parts that a reading walks, which skips the others or not, given these items
   abbrev pub steps_left : Bool → Chain → List ℕ → ℕ
-  steps_left skips c t = choices_made skips (openers r) (running (innermost c) [] 0 t (marks_ahead r block l c t))
+  steps_left skips c t = choices_made skips (openers r)
+      (running (innermost c) [] 0 t (marks_ahead r block l c t))
 
   -- One line: n bytes. It is one part, of this class, in which j choices begin, and the text goes
   -- on from d.
@@ -90,7 +91,8 @@ module _ (r : Row) (block : ℕ → List ℕ → Option Block) (l : ℕ) where
         ≡ plus (one_of class) (counts_left docs_are_comments d (drop n t))
     pub kids : children_left c t ≡ children_left d (drop n t)
     pub steps : (skips : Bool) → steps_left skips c t
-        ≡ (if walks skips (openers r) (innermost c) (take n t) then j else 0) + steps_left skips d (drop n t)
+        ≡ (if walks skips (openers r) (innermost c) (take n t) then j else 0) + steps_left skips d
+        (drop n t)
 
   -- A part that a child breaks off: the child k opens behind n bytes, at which j choices begin, in
   -- plain text, and the text goes on behind it.
@@ -102,7 +104,8 @@ module _ (r : Row) (block : ℕ → List ℕ → Option Block) (l : ℕ) where
     pub counts : counts_left docs_are_comments c t
         ≡ tally r docs_are_comments
         (cut None [] None (marks_ahead r block (length t - (n + k.size)) [] (drop (n + k.size) t)))
-    pub kids : children_left c t ≡ k ∷ children (marks_ahead r block (length t - (n + k.size)) [] (drop (n + k.size) t))
+    pub kids : children_left c t ≡ k ∷ children
+        (marks_ahead r block (length t - (n + k.size)) [] (drop (n + k.size) t))
     pub steps : (skips : Bool) → steps_left skips c t
         ≡ (if walks skips (openers r) (innermost c) (first_line t) then j else 0)
         + choices_made skips (openers r) (running None [] 0 (drop (n + k.size) t)
@@ -121,10 +124,10 @@ pub record FitsBlocks (block : ℕ → List ℕ → Option Block) : Type 0 where
   pub some : (l : ℕ) (t : List ℕ) (k : Block) → block l t ≡ Some k → 0 < k.size
   pub within : (l : ℕ) (t : List ℕ) (k : Block) → block l t ≡ Some k → k.size ≤ length t
 
--- a part of the text that began at `start` is under way at the place, where l bytes were left
+-- a part of the text that began at `start` is under way at the place, where `left` bytes were left
 -- behind the last child
-pub record IsPart (text : List ℕ) (l start place : ℕ) : Type 0 where
+pub record IsPart (text : List ℕ) (left start place : ℕ) : Type 0 where
   pub low : start ≤ place
   pub high : place ≤ length text
-  pub behind : length text - l ≤ start
-  pub front : part_front text l (drop place text) ≡ take (place - start) (drop start text)
+  pub behind : length text - left ≤ start
+  pub front : part_front text left (drop place text) ≡ take (place - start) (drop start text)

@@ -10,16 +10,17 @@ use Rattle.tokei_parts.specs.declared.reading.Reading.{Reading}
 
 -- the row of the text's language
 abbrev pub row_in : Reading → Row
-row_in r = row_at r.table.now r.language
+row_in reading = row_at reading.table.now reading.language
 
 -- the blocks that can open in the text
 abbrev pub blocks_of : Reading → (ℕ → List ℕ → Option Block)
-blocks_of r = blocks_at (block_in r.table.now) r.levels r.language r.text.now
+blocks_of reading = blocks_at (block_in reading.table.now) reading.levels reading.language
+    reading.text.now
 
 -- the openers that its parts are searched for
 abbrev pub openers_in : Reading → List (List ℕ)
-openers_in r = r.matchers.now.openers
+openers_in reading = reading.matchers.now.openers
 
 -- the line from a place of the text on
 abbrev pub line_from : Reading → ℕ → List ℕ
-line_from r at = first_line (drop at r.text.now)
+line_from reading at = first_line (drop at reading.text.now)

@@ -16,11 +16,11 @@ pub record Passed : Type 0 where
   pub size : ℕ
   pub choices : ℕ
 
--- The part under way began in mode m, has the bytes s, and n choices began at them.
+-- The part under way began in the mode, has the bytes, and so many choices began at them.
 unfoldable pub running : Mode → List ℕ → ℕ → List ℕ → List Mark → List Passed
-running m s n t [] = elim s [
+running mode bytes made rest [] = elim bytes [
   | [] ↦ []
-  | a ∷ s' ↦ record { begun = m; reach = a ∷ s'; size = length (a ∷ s'); choices = n } ∷ []
+  | a ∷ s' ↦ record { begun = mode; reach = a ∷ s'; size = length (a ∷ s'); choices = made } ∷ []
 ]
 running m s n t (byte_at b x c ∷ ms) =
     if b == newline
@@ -39,7 +39,8 @@ running m s n t (child_at k ∷ ms) =
 -- the choices of those that a reading walks, which skips the others or not
 abbrev pub choices_made : Bool → List (List ℕ) → List Passed → ℕ
 choices_made skips os [] = 0
-choices_made skips os (s ∷ ss) = (if walks skips os s.begun s.reach then s.choices else 0) + choices_made skips os ss
+choices_made skips os (s ∷ ss) =
+    (if walks skips os s.begun s.reach then s.choices else 0) + choices_made skips os ss
 
 -- of those that are walked by a reading that skips
 abbrev pub choices_passed : List (List ℕ) → List Passed → ℕ

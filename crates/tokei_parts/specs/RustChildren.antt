@@ -9,10 +9,10 @@ use Rattle.tokei_table.specs.Families.{fallback}
 
 -- what the lines say is read trimmed; they add nothing to the parent
 abbrev pub doc_child : List Row → ℕ → DocBlock → Block
-doc_child rows parent d = record {
+doc_child rows parent doc = record {
   language = fallback rows parent (codes "Markdown");
-  contents = trim d.contents;
-  size = d.size;
+  contents = trim doc.contents;
+  size = doc.size;
   share = no_lines;
 }
 

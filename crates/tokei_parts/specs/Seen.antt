@@ -10,15 +10,15 @@ use Rattle.tokei_parts.specs.declared.openings.Block as CodeBlock
 
 -- the text of a child: a doc comment's lines are read without their marks, joined and trimmed
 abbrev pub contents_of : CodeBlock.Block → List ℕ
-contents_of k = if k.is_doc then trim (doc_text k.contents.now) else k.contents.now
+contents_of block = if block.is_doc then trim (doc_text block.contents.now) else block.contents.now
 
 -- a child: its language, its text, its size in bytes, and the lines that it adds to its parent's
 abbrev pub block_of : CodeBlock.Block → Block
-block_of k = record {
-  language = k.language;
-  contents = contents_of k;
-  size = k.size;
-  share = record { blanks = 0; code = k.code; comments = k.comments };
+block_of block = record {
+  language = block.language;
+  contents = contents_of block;
+  size = block.size;
+  share = record { blanks = 0; code = block.code; comments = block.comments };
 }
 
 -- the items that enclose a place, from the stack on which the last is the innermost

@@ -22,8 +22,8 @@ choice_of block TakesByte = takes_byte
 
 -- an item that encloses a place: what it is, and the bytes of its closer
 abbrev pub enclosure_of : CodeEnclosure.Enclosure → Enclosure
-enclosure_of e = record { kind = e.kind; closer = e.closer.now }
+enclosure_of item = record { kind = item.kind; closer = item.closer.now }
 
 -- the mode inside the innermost item, plain where there is none
 abbrev pub mode_of : Option CodeEnclosure.Enclosure → Mode
-mode_of o = option_map enclosure_of o
+mode_of item = option_map enclosure_of item

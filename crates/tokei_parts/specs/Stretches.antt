@@ -20,19 +20,19 @@ bytes_of = map (λ b. b.0)
 
 -- how many choices a byte begins: one or none
 abbrev pub one_if : Bool → ℕ
-one_if x = if x then 1 else 0
+one_if flag = if flag then 1 else 0
 
 -- how many choices begin at the bytes
 abbrev pub choices_of : List (ℕ × Bool) → ℕ
 choices_of [] = 0
 choices_of (b ∷ bs) = one_if b.1 + choices_of bs
 
--- The stretches of the marks of what is left of the text, which is t. The part under way began in
--- mode m, and has the bytes s.
+-- The stretches of the marks of what is left of the text, which is `rest`. The part under way began
+-- in the mode, and has the bytes.
 unfoldable pub stretches : Mode → List (ℕ × Bool) → List ℕ → List Mark → List Stretch
-stretches m s t [] = elim s [
+stretches mode s rest [] = elim s [
   | [] ↦ []
-  | a ∷ s' ↦ record { begun = m; reach = bytes_of (a ∷ s'); own = a ∷ s' } ∷ []
+  | a ∷ s' ↦ record { begun = mode; reach = bytes_of (a ∷ s'); own = a ∷ s' } ∷ []
 ]
 stretches m s t (byte_at b x c ∷ ms) =
     if b == newline

@@ -19,9 +19,9 @@ one_of Comment = record { blanks = 0; code = 0; comments = 1 }
 
 -- each counted part is 1 in the column of its class
 abbrev pub tally : Row → Bool → List Part → Counts
-tally r docs_are_comments [] = no_lines
-tally r docs_are_comments (p ∷ ps) =
-    plus (one_of (class_of r docs_are_comments p)) (tally r docs_are_comments ps)
+tally row docs_are_comments [] = no_lines
+tally row docs_are_comments (p ∷ ps) =
+    plus (one_of (class_of row docs_are_comments p)) (tally row docs_are_comments ps)
 
 -- the children, in order
 abbrev pub children : List Mark → List Block
@@ -33,5 +33,5 @@ children (child_at k ∷ ms) = k ∷ children ms
 -- none left no child opens
 abbrev pub blocks_at : (ℕ → List ℕ → (ℕ → List ℕ → Option Block)) → ℕ → ℕ → List ℕ
     → (ℕ → List ℕ → Option Block)
-blocks_at block zero language t = no_child
-blocks_at block (suc levels) language t = block language t
+blocks_at block zero language text = no_child
+blocks_at block (suc levels) language text = block language text

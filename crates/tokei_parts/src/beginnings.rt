@@ -8,7 +8,7 @@ ghost use Rattle.tokei_parts.specs.Matchers.{begins_opener, begins_choice, begin
 
 use std::alloc::{AllocError, Global};
 use tokei_bytes::ByteSet;
-use tokei_table::Syntax;
+use tokei_table_row::Syntax;
 
 /// Adds the token's first byte.
 fn add_first(begins: &mut ByteSet, token: &[u8])

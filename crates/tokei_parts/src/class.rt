@@ -14,8 +14,8 @@ use crate::choice::{any_begins, begins};
 use crate::items::{Enclosure, ItemKind};
 use crate::matchers::LanguageMatchers;
 use crate::reading::Reading;
-use tokei_table::Syntax;
-use tokei_table::ext::{is_blank_text, trim};
+use tokei_table_row::Syntax;
+use tokei_table_row::ext::{is_blank_text, trim};
 use tokei_table_search::blanks_end;
 
 /// What a line counts as.

@@ -11,7 +11,8 @@ use crate::shared_matchers::SharedMatchers;
 use std::alloc::{AllocError, Global};
 use std::marker::Model;
 use tokei_bytes::ByteSet;
-use tokei_table::{Family, LanguageTable, LanguageType};
+use tokei_table::{LanguageTable, LanguageType};
+use tokei_table_rules::Family;
 
 /// What the texts of a language are searched and walked with: its openers, the bytes at which a
 /// choice other than the byte itself, a closer and a child can begin, in plain text and in a

@@ -17,9 +17,9 @@ use crate::line_ends::line_stop;
 use crate::place::Place;
 use crate::reading::Reading;
 use tokei_embedding::{BlockSearch, Tag, fence_at, next_doc, next_fence, next_target, target_at};
-use tokei_table::ext::{trim, trim_first_and_last_line_of_whitespace};
-use tokei_table::family::Family;
 use tokei_table::{LanguageTable, LanguageType};
+use tokei_table_row::ext::{trim, trim_first_and_last_line_of_whitespace};
+use tokei_table_rules::family::Family;
 
 /// A child that opens at a place of a text.
 #[derive(Clone, Copy)]

@@ -8,8 +8,9 @@ ghost use Rattle.tokei_table.specs.Sound.{IsSound};
 ghost use Rattle.tokei_parts.specs.Matchers.{matchers_of};
 
 use crate::matchers::LanguageMatchers;
-use tokei_table::family::Family;
-use tokei_table::{LanguageTable, LanguageType, Syntax};
+use tokei_table::{LanguageTable, LanguageType};
+use tokei_table_row::Syntax;
+use tokei_table_rules::family::Family;
 
 /// A text that is read, and how.
 #[derive(Clone, Copy)]

@@ -6,7 +6,8 @@ ghost use Rattle.tokei_table.specs.Openers.{openers};
 
 use std::alloc::{AllocError, Global};
 use std::marker::Model;
-use tokei_table::{LanguageTable, LanguageType, OpenerIndex};
+use tokei_table::{LanguageTable, LanguageType};
+use tokei_table_search::OpenerIndex;
 
 /// What the texts of a language are searched for openers with. Contracts see its openers.
 #[derive(Drop)]

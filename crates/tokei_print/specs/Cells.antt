@@ -6,14 +6,14 @@ use Rattle.tokei_stats.specs.Statistics.{Counts, lines_of}
 use Rattle.tokei_table.specs.Bytes.{space}
 use Rattle.tokei_options.specs.Grouping.{grouped}
 
--- right in n places
+-- right in the width
 abbrev pub right_in : ℕ → List ℕ → List ℕ
-right_in n text = replicate (n - char_count text) space ++ text
+right_in width text = replicate (width - char_count text) space ++ text
 
--- centred in n places; an odd space goes right
+-- centred in the width; an odd space goes right
 abbrev pub centred_in : ℕ → List ℕ → List ℕ
-centred_in n text =
-    let spaces = n - char_count text in
+centred_in width text =
+    let spaces = width - char_count text in
     replicate (spaces / 2) space ++ (text ++ replicate (spaces - spaces / 2) space)
 
 -- four texts, each behind a space and right in 12 places: lines, code, comments and blanks
@@ -30,12 +30,12 @@ number_text separator number = grouped separator (decimal number)
 
 -- lines, code, comments and blanks with this separator; the lines are their exact sum
 abbrev pub number_cells : List ℕ → Counts → List ℕ
-number_cells separator n =
+number_cells separator counts =
     four_cells
-    (number_text separator (lines_of n))
-    (number_text separator n.code)
-    (number_text separator n.comments)
-    (number_text separator n.blanks)
+    (number_text separator (lines_of counts))
+    (number_text separator counts.code)
+    (number_text separator counts.comments)
+    (number_text separator counts.blanks)
 
 -- how many places a subtotal has for its lines
 abbrev pub subtotal_places : ℕ
@@ -43,8 +43,8 @@ subtotal_places = 14
 
 -- the same, with more places for the lines
 abbrev pub subtotal_cells : List ℕ → Counts → List ℕ
-subtotal_cells separator n =
-    space ∷ (right_in subtotal_places (number_text separator (lines_of n))
-    ++ (space ∷ (right_in count_places (number_text separator n.code)
-    ++ (space ∷ (right_in count_places (number_text separator n.comments)
-    ++ (space ∷ right_in count_places (number_text separator n.blanks)))))))
+subtotal_cells separator counts =
+    space ∷ (right_in subtotal_places (number_text separator (lines_of counts))
+    ++ (space ∷ (right_in count_places (number_text separator counts.code)
+    ++ (space ∷ (right_in count_places (number_text separator counts.comments)
+    ++ (space ∷ right_in count_places (number_text separator counts.blanks)))))))

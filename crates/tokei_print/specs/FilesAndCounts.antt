@@ -11,6 +11,7 @@ files_places = 8
 
 -- how many files, and their counts, behind a name
 abbrev pub files_and_counts : List ℕ → ℕ → Counts → List ℕ
-files_and_counts separator files n =
+files_and_counts separator files counts =
     space
-    ∷ (right_in files_places (number_text separator files) ++ (number_cells separator n ++ newline))
+    ∷ (right_in files_places (number_text separator files) ++
+    (number_cells separator counts ++ newline))

@@ -4,4 +4,4 @@ use Rattle.tokei_stats.specs.Statistics.{Counts, lines_of}
 
 -- the lines are at most the greatest `usize`
 abbrev pub LinesFit : Counts → Type 0
-LinesFit n = lines_of n < 2 ^ 64
+LinesFit counts = lines_of counts < 2 ^ 64

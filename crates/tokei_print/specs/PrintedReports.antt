@@ -16,7 +16,7 @@ use Rattle.tokei_table.specs.Row.{Row}
 
 -- the width of a report: 81 at least, and 65,535 at most
 abbrev pub columns_of : ℕ → ℕ
-columns_of n = if nat_lt n 81 then 81 else (if nat_lt 65535 n then 65535 else n)
+columns_of width = if nat_lt width 81 then 81 else (if nat_lt 65535 width then 65535 else width)
 
 -- the note above a report some of whose languages couldn't be counted whole
 abbrev pub warning_of : List (ℕ × LanguageValue) → List ℕ

@@ -17,7 +17,7 @@ count_of Lines language = lines_of language.counts
 
 -- whether the sort puts the first language before the second
 abbrev pub language_goes_first : Sort → LanguageValue → LanguageValue → Bool
-language_goes_first sort a b = nat_lt (count_of sort b) (count_of sort a)
+language_goes_first sort language other = nat_lt (count_of sort other) (count_of sort language)
 
 -- languages in the order of the sort
 abbrev pub languages_sorted : Sort → List (ℕ × LanguageValue) → List (ℕ × LanguageValue)

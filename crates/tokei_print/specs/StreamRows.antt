@@ -51,6 +51,6 @@ stream_heading = stream_names ++ (newline ++ (stream_strokes ++ newline))
 -- a file's own counts behind the name of its language and its path as it is shown; the lines are
 -- their exact sum
 abbrev pub stream_row : List ℕ → List ℕ → Counts → List ℕ
-stream_row language path n =
+stream_row language path counts =
     right_in language_places language
-    ++ (space ∷ (left_in stream_path_places (shown path) ++ (counts_cells n ++ newline)))
+    ++ (space ∷ (left_in stream_path_places (shown path) ++ (counts_cells counts ++ newline)))

@@ -14,7 +14,7 @@ path_places columns = columns - 56
 
 -- counts that take in those of the texts inside
 abbrev pub subtotal : Layout → List ℕ → Counts → List ℕ
-subtotal layout name n =
+subtotal layout name counts =
     space
     ∷ (name_cell (path_places layout.columns) name
-    ++ (subtotal_cells (separator_in layout) n ++ newline))
+    ++ (subtotal_cells (separator_in layout) counts ++ newline))

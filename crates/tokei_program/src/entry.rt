@@ -13,7 +13,7 @@ use crate::choices::Choices;
 use crate::ending::Ending;
 use crate::environment::Env;
 use crate::notes::passed_text;
-use crate::preparing::{prepared, table_of};
+use crate::preparing::{prepare, table_of};
 use crate::reasons::{ended, run_ended};
 use crate::saying::say;
 use std::alloc::Global;
@@ -22,7 +22,7 @@ use tokei_cli::{Cli, CliError, print_supported_languages};
 
 /// Counts what a command line names, and writes what it wants of that. What is to be said beside it
 /// is answer_words.
-fn counted<F: Folders, S: Source, W: Sink>(
+fn write_counts<F: Folders, S: Source, W: Sink>(
     alloc: Global,
     cli: &Cli,
     choices: Choices,
@@ -42,7 +42,7 @@ fn counted<F: Folders, S: Source, W: Sink>(
     ensures failed { IfErr result (λ e. status_of e ≡ 1) }
 {
     let table = table_of(alloc, cli, env, folders)?;
-    let prepared = prepared(alloc, cli, choices, env, &table, folders, input)?;
+    let prepared = prepare(alloc, cli, choices, env, &table, folders, input)?;
     match run(alloc, &table, folders, &prepared.job, out) {
         Ok(notes) => {
             let text = passed_text(alloc, &table, cli, &notes, &prepared.flaws)?;
@@ -53,7 +53,7 @@ fn counted<F: Folders, S: Source, W: Sink>(
 }
 
 /// Lists the languages of the table that a command line names.
-fn listed<F: Folders, W: Sink>(
+fn write_list<F: Folders, W: Sink>(
     alloc: Global,
     cli: &Cli,
     env: &Env,
@@ -98,9 +98,9 @@ fn carry_out<F: Folders, S: Source, W: Sink>(
 {
     let choices = Choices::of(alloc, cli)?;
     if cli.print_languages {
-        listed(alloc, cli, env, folders, out)
+        write_list(alloc, cli, env, folders, out)
     } else {
-        counted(alloc, cli, choices, env, folders, input, out)
+        write_counts(alloc, cli, choices, env, folders, input, out)
     }
 }
 

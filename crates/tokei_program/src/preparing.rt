@@ -288,7 +288,7 @@ pub struct Preparation {
 }
 
 /// What is counted, where all that the command line names is there.
-pub fn prepared<F: Folders, S: Source>(
+pub fn prepare<F: Folders, S: Source>(
     alloc: Global,
     cli: &Cli,
     choices: Choices,

@@ -169,7 +169,8 @@ language_turns : (s t : LanguageValue) → IsLaidOut s → IsLaidOut t → Langu
 language_turns s t h k = record {
   counts = plus_comm s.counts t.counts;
   reports = IsPermutation-append_comm s.reports t.reports;
-  children = turned IsPermutation IsPermutation-refl reports_joined join_reports any reports_append (λ rs ss p q. IsPermutation-append_comm rs ss) s.children t.children h k (all_any s.children) (all_any t.children);
+  children = turned IsPermutation IsPermutation-refl reports_joined join_reports any reports_append (λ rs ss p q. IsPermutation-append_comm rs ss)
+      s.children t.children h k (all_any s.children) (all_any t.children);
   inaccurate = or_comm s.inaccurate t.inaccurate;
 }
 
@@ -226,7 +227,8 @@ module _ (c : Counting) (t : Tree) where
       (sym (merged_assoc merged_language IsLaidOut languages_join one other rest (file_ascends c t k) (file_laid_out c t k) (run_laid_out c t ks)))
       (sym (merged_assoc merged_language IsLaidOut languages_join other one rest (file_ascends c t j) (file_laid_out c t j) (run_laid_out c t ks)))
       (languages_both (merged_languages one other) (merged_languages other one) rest rest
-      (turned LanguagesAlike language_same language_joined merged_language IsLaidOut languages_join language_turns one other (file_ascends c t j) (file_ascends c t k) (file_laid_out c t j) (file_laid_out c t k))
+      (turned LanguagesAlike language_same language_joined merged_language IsLaidOut languages_join language_turns one other (file_ascends c t j)
+      (file_ascends c t k) (file_laid_out c t j) (file_laid_out c t k))
       (languages_same rest))
 
   run_alike : (files others : List KeptFile) → IsPermutation files others → SameButForOrder (languages_of_run c t files) (languages_of_run c t others)

@@ -17,39 +17,41 @@ language_from path (Some s) = with_report empty_language (record { name = path; 
 
 -- the languages of a file that has this one
 abbrev pub languages_in : Counting → Tree → KeptFile → Option ℕ → List (ℕ × LanguageValue)
-languages_in c t file None = []
-languages_in c t file (Some l) =
-    (l, language_from file.path (stats_at t c.rows c.docs l file.place)) ∷ []
+languages_in counting tree file None = []
+languages_in counting tree file (Some l) =
+    (l, language_from file.path (stats_at tree counting.rows counting.docs l file.place)) ∷ []
 
 -- the languages of a file
 unfoldable pub languages_of_file : Counting → Tree → KeptFile → List (ℕ × LanguageValue)
-languages_of_file c t file = languages_in c t file (language_of_file c t file)
+languages_of_file counting tree file =
+    languages_in counting tree file (language_of_file counting tree file)
 
 -- the languages of a run: those of each file, merged in their order
 abbrev pub languages_of_run : Counting → Tree → List KeptFile → List (ℕ × LanguageValue)
-languages_of_run c t [] = []
-languages_of_run c t (file ∷ files) =
-    merged_languages (languages_of_file c t file) (languages_of_run c t files)
+languages_of_run counting tree [] = []
+languages_of_run counting tree (file ∷ files) =
+    merged_languages (languages_of_file counting tree file) (languages_of_run counting tree files)
 
 -- the languages of the files are merged with those from before
 abbrev pub AddsFiles : Counting → Tree → List KeptFile → List (ℕ × LanguageValue)
     → List (ℕ × LanguageValue) → Type 0
-AddsFiles c t files old new = new ≡ merged_languages old (languages_of_run c t files)
+AddsFiles counting tree files old new =
+    new ≡ merged_languages old (languages_of_run counting tree files)
 
 -- the languages of the first files are, of so many as `count` says
-pub record AddsFirst (c : Counting) (t : Tree) (files : List KeptFile)
+pub record AddsFirst (counting : Counting) (tree : Tree) (files : List KeptFile)
     (old new : List (ℕ × LanguageValue)) : Type 0 where
   pub count : ℕ
-  pub adds : AddsFiles c t (take count files) old new
+  pub adds : AddsFiles counting tree (take count files) old new
 
 -- those of all files are, and the counts are renewed
 abbrev pub AddsRun : Counting → Tree → List KeptFile → List (ℕ × LanguageValue)
     → List (ℕ × LanguageValue) → Type 0
-AddsRun c t files old new =
-    new ≡ renewed_languages (merged_languages old (languages_of_run c t files))
+AddsRun counting tree files old new =
+    new ≡ renewed_languages (merged_languages old (languages_of_run counting tree files))
 
 -- the sums of a run fit the code's numbers: each reading's, and those of the renewed counts
-pub record RunFits (c : Counting) (t : Tree) (files : List KeptFile)
+pub record RunFits (counting : Counting) (tree : Tree) (files : List KeptFile)
     (old : List (ℕ × LanguageValue)) : Type 0 where
-  pub readings : ReadingsFit c t files
-  pub renewal : RenewalFits (merged_languages old (languages_of_run c t files))
+  pub readings : ReadingsFit counting tree files
+  pub renewal : RenewalFits (merged_languages old (languages_of_run counting tree files))

@@ -12,11 +12,11 @@ AreAlike like (e ∷ es) (f ∷ fs) = (e.0 ≡ f.0) × (like e.1 f.1 × AreAlike
 
 -- equal counts and marks, the same reports in any order, and the same languages inside, each with
 -- the same reports in any order
-pub record LanguagesAlike (s t : LanguageValue) : Type 0 where
-  pub counts : s.counts ≡ t.counts
-  pub reports : IsPermutation s.reports t.reports
-  pub children : AreAlike IsPermutation s.children t.children
-  pub inaccurate : s.inaccurate ≡ t.inaccurate
+pub record LanguagesAlike (language other : LanguageValue) : Type 0 where
+  pub counts : language.counts ≡ other.counts
+  pub reports : IsPermutation language.reports other.reports
+  pub children : AreAlike IsPermutation language.children other.children
+  pub inaccurate : language.inaccurate ≡ other.inaccurate
 
 -- the same languages, each of them alike
 abbrev pub SameButForOrder : List (ℕ × LanguageValue) → List (ℕ × LanguageValue) → Type 0

@@ -12,10 +12,11 @@ ghost use Rattle.tokei_walk.specs.Walks.{to_come, excludes_of, texts_of};
 ghost use Rattle.tokei_statistics.specs.Runs.{AddsFiles, AddsFirst, languages_of_file};
 ghost use Rattle.tokei_folders.specs.AsTheyWere.{SameTree, NoFault, FaultsStay};
 
-use tokei_count::{CountError, Report};
 use tokei_files::{Counting, ParseFault, note_unread};
+use tokei_folders::Folders;
 use tokei_languages::Languages;
-use tokei_walk::{Folders, KeptFile, Note, Rules, Walk};
+use tokei_stats::{CountError, Report};
+use tokei_walk::{KeptFile, Note, Rules, Walk};
 
 /// Counts one file: its report goes to its language, or a mark where it can't be read, of which a
 /// note is added. A refusal changes nothing of the languages.

@@ -10,4 +10,3 @@ mod statistics;
 
 pub use counting::{add_file, count_files, count_roots};
 pub use statistics::CountFiles;
-pub use tokei_files::{Counting, ParseFault, from_path, from_shebang, parse_file, rules};

@@ -13,10 +13,11 @@ ghost use Rattle.tokei_folders.specs.AsTheyWere.{SameTree, NoFault};
 
 use crate::counting::count_roots;
 use tokei_config::Config;
-use tokei_count::{CountError, Counter};
+use tokei_count::Counter;
 use tokei_files::{Counting, rules, types};
 use tokei_folders::Folders;
 use tokei_languages::Languages;
+use tokei_stats::CountError;
 use tokei_table::LanguageTable;
 use tokei_walk::Note;
 

@@ -5,10 +5,10 @@ use Rattle.tokei_stats.specs.Statistics.{Statistics, Blobs}
 use Rattle.tokei_stats.specs.Statistics.Statistics.{node}
 use Rattle.tokei_stats.specs.Statistics.Blobs.{none, blob}
 
--- each language of the blobs stands behind k
+-- each language of the blobs stands behind the one
 abbrev pub StandBehind : ℕ → Blobs → Type 0
-StandBehind k none = ⊤
-StandBehind k (blob j t rest) = (k < j) × StandBehind k rest
+StandBehind language none = ⊤
+StandBehind language (blob j t rest) = (language < j) × StandBehind language rest
 
 -- the blobs of the statistics ascend, at every depth
 abbrev mutual

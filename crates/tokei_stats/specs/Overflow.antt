@@ -5,10 +5,10 @@ use Rattle.tokei_stats.specs.Statistics.Statistics.{node}
 use Rattle.tokei_stats.specs.Statistics.Blobs.{none, blob}
 
 -- each of the three numbers is at most the greatest `usize`
-pub record CountsFit (n : Counts) : Type 0 where
-  pub blanks : n.blanks < 2 ^ 64
-  pub code : n.code < 2 ^ 64
-  pub comments : n.comments < 2 ^ 64
+pub record CountsFit (counts : Counts) : Type 0 where
+  pub blanks : counts.blanks < 2 ^ 64
+  pub code : counts.code < 2 ^ 64
+  pub comments : counts.comments < 2 ^ 64
 
 -- each number of the statistics is, at every depth
 abbrev mutual

@@ -3,10 +3,10 @@ use Rattle.std.specs.Prelude.{ℕ, ◌-◌, List, ◌++◌, length, replicate, d
 use Rattle.std.specs.Fmt.{char_count}
 use Rattle.tokei_table_row.specs.Bytes.{space}
 
--- left in n places
+-- left in the width
 abbrev pub left_in : ℕ → List ℕ → List ℕ
-left_in n text = text ++ replicate (n - char_count text) space
+left_in width text = text ++ replicate (width - char_count text) space
 
--- a plain decimal number right in n places; each digit is a byte
+-- a plain decimal number right in the width; each digit is a byte
 abbrev pub number_in : ℕ → ℕ → List ℕ
-number_in n k = replicate (n - length (decimal k)) space ++ decimal k
+number_in width number = replicate (width - length (decimal number)) space ++ decimal number

@@ -13,7 +13,7 @@ pub record ReportValue : Type 0 where
 
 -- a report's name in bytes, and its statistics
 abbrev pub report_of : Report → ReportValue
-report_of r = record { name = string_bytes r.name; stats = stats_of r.stats }
+report_of report = record { name = string_bytes report.name; stats = stats_of report.stats }
 
 -- the reports of a list, in their order
 abbrev pub reports_of : Vec Report Global → List ReportValue

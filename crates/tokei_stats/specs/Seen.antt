@@ -23,7 +23,7 @@ stats_of = fold-CodeStats Statistics stats_step
 
 -- the text's own counts
 abbrev pub counts_of : CodeStats → Counts
-counts_of s = own (stats_of s)
+counts_of stats = own (stats_of stats)
 
 -- each blob with its statistics
 abbrev pub entries_of : List (ℕ × CodeStats) → List (ℕ × Statistics)
@@ -31,4 +31,4 @@ entries_of es = map (λ e. (e.0, stats_of e.1)) es
 
 -- the three sums as counts of lines
 abbrev pub sums_of : Sums → Counts
-sums_of s = record { blanks = s.blanks; code = s.code; comments = s.comments }
+sums_of sums = record { blanks = sums.blanks; code = sums.code; comments = sums.comments }

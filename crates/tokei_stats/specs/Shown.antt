@@ -11,11 +11,11 @@ backslash = 92
 
 -- a control character by its number, as `\u{1b}`
 abbrev pub escaped : ℕ → List ℕ
-escaped c = (backslash ∷ codes "u{") ++ (digits 16 false c ++ codes "}")
+escaped character = (backslash ∷ codes "u{") ++ (digits 16 false character ++ codes "}")
 
 -- any other character is shown as it is
 abbrev pub shown_char : ℕ → List ℕ
-shown_char c = if is_control c then escaped c else encode_utf8 c
+shown_char character = if is_control character then escaped character else encode_utf8 character
 
 -- all characters of a text
 abbrev pub shown : List ℕ → List ℕ

@@ -30,25 +30,27 @@ blobs (node n bs) = bs
 
 -- by how the key stands to an entry's
 abbrev pub by_order : {A : Type 0} → Ordering → A → A → A → A
-by_order Less a b c = a
-by_order Equal a b c = b
-by_order Greater a b c = c
+by_order Less order b c = order
+by_order Equal order b c = b
+by_order Greater order b c = c
 
 -- the statistics of a language
 abbrev pub at : Blobs → ℕ → Option Statistics
-at none k = None
-at (blob j s rest) k = by_order (nat_cmp k j) (at rest k) (Some s) (at rest k)
+at none language = None
+at (blob j s rest) language = by_order (nat_cmp language j) (at rest language) (Some s)
+    (at rest language)
 
 -- the blobs with these statistics for the language
 abbrev pub put : Blobs → ℕ → Statistics → Blobs
-put none k s = blob k s none
-put (blob j t rest) k s =
-    by_order (nat_cmp k j) (blob k s (blob j t rest)) (blob j s rest) (blob j t (put rest k s))
+put none language statistics = blob language statistics none
+put (blob j t rest) language statistics =
+    by_order (nat_cmp language j) (blob language statistics (blob j t rest))
+    (blob j statistics rest) (blob j t (put rest language statistics))
 
 -- f of what is there, or the new statistics where nothing is
 abbrev pub joined : Option Statistics → (Statistics → Statistics) → Statistics → Statistics
-joined None f s = s
-joined (Some t) f s = f t
+joined None f statistics = statistics
+joined (Some t) f statistics = f t
 
 -- the sum, by number and by language, at every depth; a language stays also where its numbers are 0
 abbrev mutual

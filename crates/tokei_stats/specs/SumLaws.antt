@@ -36,24 +36,24 @@ SummarisingOnceSuffices = (s : Statistics) → summary (node (summary s) none) �
 -- the statistics of a language in a sum, by those of the two sides: the sum of both, or the one
 -- that is there
 abbrev pub both : Option Statistics → Option Statistics → Option Statistics
-both None y = y
+both None found = found
 both (Some s) None = Some s
 both (Some s) (Some t) = Some (sum s t)
 
 -- the statistics have the numbers of both sides added up, and at each language the sum of both, or
 -- the one there is
-pub record HoldsBoth (s t total : Statistics) : Type 0 where
-  pub numbers : own total ≡ plus (own s) (own t)
-  pub languages : (k : ℕ) → at (blobs total) k ≡ both (at (blobs s) k) (at (blobs t) k)
+pub record HoldsBoth (statistics more total : Statistics) : Type 0 where
+  pub numbers : own total ≡ plus (own statistics) (own more)
+  pub languages : (k : ℕ) → at (blobs total) k ≡ both (at (blobs statistics) k) (at (blobs more) k)
 
 -- a sum has each language of the two, with the sum of what they have there
 abbrev pub SumsHoldBoth : Type 0
 SumsHoldBoth = (s t : Statistics) → IsOrdered t → HoldsBoth s t (sum s t)
 
 -- what is put at a language stands there, and at another language what stood there
-pub record ChangesOne (old new : Blobs) (k : ℕ) (s : Statistics) : Type 0 where
-  pub here : at new k ≡ Some s
-  pub others : (i : ℕ) → i ≢ k → at new i ≡ at old i
+pub record ChangesOne (old new : Blobs) (place : ℕ) (statistics : Statistics) : Type 0 where
+  pub here : at new place ≡ Some statistics
+  pub others : (i : ℕ) → i ≢ place → at new i ≡ at old i
 
 -- putting statistics at a language changes that language alone
 abbrev pub PutsChangeOne : Type 0

@@ -11,7 +11,7 @@ use Rattle.tokei_table.specs.declared.flaw.TableFlaw.{TableFlaw}
 
 -- The rows of a JSON value.
 abbrev pub rows_in_value : Data → List Row
-rows_in_value d = rows_at (get (codes "languages") d)
+rows_in_value value = rows_at (get (codes "languages") value)
 
 -- The rows of a text, which has none where it is no JSON text.
 abbrev pub rows_in_data : Option Data → List Row
@@ -24,4 +24,5 @@ rows_in bytes = rows_in_data (data_of bytes)
 
 -- Where the flaw is a token, its language is one of the rows and has a bad token in that member.
 abbrev pub TellsToken : List Row → TableFlaw → Type 0
-TellsToken rows f = f.cause ≡ Token → HasBadToken rows (string_bytes f.language) (string_bytes f.word)
+TellsToken rows flaw = flaw.cause ≡ Token
+    → HasBadToken rows (string_bytes flaw.language) (string_bytes flaw.word)

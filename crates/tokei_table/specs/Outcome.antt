@@ -31,10 +31,10 @@ tested rows =
 
 -- What becomes of a JSON value.
 unfoldable pub outcome_of_value : Data → Result (List Row) TableError
-outcome_of_value d =
-    if not (has_layout d) then Err Layout
-    else (if not (is_escaped_table (get (codes "languages") d)) then Err Escape
-    else tested (rows_at (get (codes "languages") d)))
+outcome_of_value value =
+    if not (has_layout value) then Err Layout
+    else (if not (is_escaped_table (get (codes "languages") value)) then Err Escape
+    else tested (rows_at (get (codes "languages") value)))
 
 -- What becomes of a text that may have no reading.
 abbrev pub outcome_of : Option Data → Result (List Row) TableError

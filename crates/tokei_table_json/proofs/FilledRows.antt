@@ -101,34 +101,41 @@ tags_same true d = refl
 tags_same false (array ds) = refl
 tags_same false d = refl
 
-made : List ℕ → List ℕ → List ℕ → List (List ℕ) → List Pair → Bool → List Pair → List Pair → List Pair → List Pair → Bool → Bool → List (List ℕ) → List (List ℕ) → List (List ℕ) → List (List ℕ) → List (List ℕ) → List (List ℕ) → List (List ℕ) → List (List ℕ) → Row
-made key name kind line_comment multi_line_comments nested nested_comments quotes verbatim_quotes doc_quotes literate blank important_syntax extensions filenames path_suffixes mime shebangs env contexts = record {
-  key = key;
-  name = name;
-  kind = kind;
-  line_comment = line_comment;
-  multi_line_comments = multi_line_comments;
-  nested = nested;
-  nested_comments = nested_comments;
-  quotes = quotes;
-  verbatim_quotes = verbatim_quotes;
-  doc_quotes = doc_quotes;
-  literate = literate;
-  blank = blank;
-  important_syntax = important_syntax;
-  extensions = extensions;
-  filenames = filenames;
-  path_suffixes = path_suffixes;
-  mime = mime;
-  shebangs = shebangs;
-  env = env;
-  contexts = contexts;
-}
+made : List ℕ → List ℕ → List ℕ → List (List ℕ) → List Pair → Bool → List Pair → List Pair → List Pair → List Pair → Bool → Bool → List (List ℕ)
+    → List (List ℕ) → List (List ℕ) → List (List ℕ) → List (List ℕ) → List (List ℕ) → List (List ℕ) → List (List ℕ) → Row
+made key name kind line_comment multi_line_comments nested nested_comments quotes verbatim_quotes doc_quotes literate blank important_syntax
+    extensions filenames path_suffixes mime shebangs env contexts = record {
+      key = key;
+      name = name;
+      kind = kind;
+      line_comment = line_comment;
+      multi_line_comments = multi_line_comments;
+      nested = nested;
+      nested_comments = nested_comments;
+      quotes = quotes;
+      verbatim_quotes = verbatim_quotes;
+      doc_quotes = doc_quotes;
+      literate = literate;
+      blank = blank;
+      important_syntax = important_syntax;
+      extensions = extensions;
+      filenames = filenames;
+      path_suffixes = path_suffixes;
+      mime = mime;
+      shebangs = shebangs;
+      env = env;
+      contexts = contexts;
+    }
 
-same_made : (key : List ℕ) (a0 b0 : List ℕ) (a1 b1 : List ℕ) (a2 b2 : List (List ℕ)) (a3 b3 : List Pair) (a4 b4 : Bool) (a5 b5 : List Pair) (a6 b6 : List Pair) (a7 b7 : List Pair) (a8 b8 : List Pair) (a9 b9 : Bool) (a10 b10 : Bool) (a11 b11 : List (List ℕ)) (a12 b12 : List (List ℕ)) (a13 b13 : List (List ℕ)) (a14 b14 : List (List ℕ)) (a15 b15 : List (List ℕ)) (a16 b16 : List (List ℕ)) (a17 b17 : List (List ℕ)) (a18 b18 : List (List ℕ))
-    → a0 ≡ b0 → a1 ≡ b1 → a2 ≡ b2 → a3 ≡ b3 → a4 ≡ b4 → a5 ≡ b5 → a6 ≡ b6 → a7 ≡ b7 → a8 ≡ b8 → a9 ≡ b9 → a10 ≡ b10 → a11 ≡ b11 → a12 ≡ b12 → a13 ≡ b13 → a14 ≡ b14 → a15 ≡ b15 → a16 ≡ b16 → a17 ≡ b17 → a18 ≡ b18
+same_made : (key : List ℕ) (a0 b0 : List ℕ) (a1 b1 : List ℕ) (a2 b2 : List (List ℕ)) (a3 b3 : List Pair) (a4 b4 : Bool) (a5 b5 : List Pair)
+    (a6 b6 : List Pair) (a7 b7 : List Pair) (a8 b8 : List Pair) (a9 b9 : Bool) (a10 b10 : Bool) (a11 b11 : List (List ℕ)) (a12 b12 : List (List ℕ))
+    (a13 b13 : List (List ℕ)) (a14 b14 : List (List ℕ)) (a15 b15 : List (List ℕ)) (a16 b16 : List (List ℕ)) (a17 b17 : List (List ℕ))
+    (a18 b18 : List (List ℕ))
+    → a0 ≡ b0 → a1 ≡ b1 → a2 ≡ b2 → a3 ≡ b3 → a4 ≡ b4 → a5 ≡ b5 → a6 ≡ b6 → a7 ≡ b7 → a8 ≡ b8 → a9 ≡ b9 → a10 ≡ b10 → a11 ≡ b11 → a12 ≡ b12
+    → a13 ≡ b13 → a14 ≡ b14 → a15 ≡ b15 → a16 ≡ b16 → a17 ≡ b17 → a18 ≡ b18
     → made key a0 a1 a2 a3 a4 a5 a6 a7 a8 a9 a10 a11 a12 a13 a14 a15 a16 a17 a18 ≡ made key b0 b1 b2 b3 b4 b5 b6 b7 b8 b9 b10 b11 b12 b13 b14 b15 b16 b17 b18
-same_made key a0 b0 a1 b1 a2 b2 a3 b3 a4 b4 a5 b5 a6 b6 a7 b7 a8 b8 a9 b9 a10 b10 a11 b11 a12 b12 a13 b13 a14 b14 a15 b15 a16 b16 a17 b17 a18 b18 e0 e1 e2 e3 e4 e5 e6 e7 e8 e9 e10 e11 e12 e13 e14 e15 e16 e17 e18 = cc
+same_made key a0 b0 a1 b1 a2 b2 a3 b3 a4 b4 a5 b5 a6 b6 a7 b7 a8 b8 a9 b9 a10 b10 a11 b11 a12 b12 a13 b13 a14 b14 a15 b15 a16 b16 a17 b17 a18 b18 e0
+    e1 e2 e3 e4 e5 e6 e7 e8 e9 e10 e11 e12 e13 e14 e15 e16 e17 e18 = cc
 
 pub row_of_members : (key : List ℕ) (es : List Entry) → AreInOrder es
     → filled (is_html_kind (get_member (codes "kind") (members_view es))) (members_view es) (new_row key)

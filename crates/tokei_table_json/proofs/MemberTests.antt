@@ -33,9 +33,16 @@ pub comments_fit : (es : List Entry) → AreInOrder es → all_members fits_comm
     ≡ has_comments (object (members_view es))
 unfolding has_comments
 comments_fit es s =
-    at_key (codes "line_comment") (is_list is_text) (λ k d. cond (bytes_eq k (codes "multi_line_comments")) (is_list is_text_pair d) (cond (bytes_eq k (codes "nested")) (is_truth_value d) (cond (bytes_eq k (codes "nested_comments")) (is_list is_text_pair d) true))) (λ d. refl) es s
-    ∙ ap (λ b. absent_or (is_list is_text) (get_member (codes "line_comment") (members_view es)) && b) (at_key (codes "multi_line_comments") (is_list is_text_pair) (λ k d. cond (bytes_eq k (codes "nested")) (is_truth_value d) (cond (bytes_eq k (codes "nested_comments")) (is_list is_text_pair d) true)) (λ d. refl) es s
-    ∙ ap (λ b. absent_or (is_list is_text_pair) (get_member (codes "multi_line_comments") (members_view es)) && b) (at_key (codes "nested") (is_truth_value) (λ k d. cond (bytes_eq k (codes "nested_comments")) (is_list is_text_pair d) true) (λ d. refl) es s
+    at_key (codes "line_comment") (is_list is_text) (λ k d. cond (bytes_eq k (codes "multi_line_comments")) (is_list is_text_pair d)
+    (cond (bytes_eq k (codes "nested")) (is_truth_value d) (cond (bytes_eq k (codes "nested_comments")) (is_list is_text_pair d) true)))
+    (λ d. refl) es s
+    ∙ ap (λ b. absent_or (is_list is_text) (get_member (codes "line_comment") (members_view es)) && b)
+    (at_key (codes "multi_line_comments") (is_list is_text_pair)
+    (λ k d. cond (bytes_eq k (codes "nested")) (is_truth_value d) (cond (bytes_eq k (codes "nested_comments")) (is_list is_text_pair d) true))
+    (λ d. refl) es s
+    ∙ ap (λ b. absent_or (is_list is_text_pair) (get_member (codes "multi_line_comments") (members_view es)) && b)
+    (at_key (codes "nested") (is_truth_value) (λ k d. cond (bytes_eq k (codes "nested_comments")) (is_list is_text_pair d) true) (λ d. refl) es
+    s
     ∙ ap (λ b. absent_or (is_truth_value) (get_member (codes "nested") (members_view es)) && b) (last_key (codes "nested_comments") (is_list is_text_pair) es s)))
     ∙ regroup4 (absent_or (is_list is_text) (get_member (codes "line_comment") (members_view es)))
     (absent_or (is_list is_text_pair) (get_member (codes "multi_line_comments") (members_view es)))
@@ -46,8 +53,11 @@ pub literals_fit : (es : List Entry) → AreInOrder es → all_members fits_lite
     ≡ has_literals (object (members_view es))
 unfolding has_literals
 literals_fit es s =
-    at_key (codes "quotes") (is_list is_text_pair) (λ k d. cond (bytes_eq k (codes "verbatim_quotes")) (is_list is_text_pair d) (cond (bytes_eq k (codes "doc_quotes")) (is_list is_text_pair d) true)) (λ d. refl) es s
-    ∙ ap (λ b. absent_or (is_list is_text_pair) (get_member (codes "quotes") (members_view es)) && b) (at_key (codes "verbatim_quotes") (is_list is_text_pair) (λ k d. cond (bytes_eq k (codes "doc_quotes")) (is_list is_text_pair d) true) (λ d. refl) es s
+    at_key (codes "quotes") (is_list is_text_pair) (λ k d. cond (bytes_eq k (codes "verbatim_quotes")) (is_list is_text_pair d)
+    (cond (bytes_eq k (codes "doc_quotes")) (is_list is_text_pair d) true)) (λ d. refl) es s
+    ∙ ap (λ b. absent_or (is_list is_text_pair) (get_member (codes "quotes") (members_view es)) && b)
+    (at_key (codes "verbatim_quotes") (is_list is_text_pair) (λ k d. cond (bytes_eq k (codes "doc_quotes")) (is_list is_text_pair d) true)
+    (λ d. refl) es s
     ∙ ap (λ b. absent_or (is_list is_text_pair) (get_member (codes "verbatim_quotes") (members_view es)) && b) (last_key (codes "doc_quotes") (is_list is_text_pair) es s))
     ∙ regroup3 (absent_or (is_list is_text_pair) (get_member (codes "quotes") (members_view es)))
     (absent_or (is_list is_text_pair) (get_member (codes "verbatim_quotes") (members_view es)))
@@ -57,11 +67,22 @@ pub finders_fit : (es : List Entry) → AreInOrder es → all_members fits_finde
     ≡ has_finders (object (members_view es))
 unfolding has_finders
 finders_fit es s =
-    at_key (codes "extensions") (is_list is_text) (λ k d. cond (bytes_eq k (codes "filenames")) (is_list is_text d) (cond (bytes_eq k (codes "path_suffixes")) (is_list is_text d) (cond (bytes_eq k (codes "mime")) (is_list is_text d) (cond (bytes_eq k (codes "shebangs")) (is_list is_text d) (cond (bytes_eq k (codes "env")) (is_list is_text d) true))))) (λ d. refl) es s
-    ∙ ap (λ b. absent_or (is_list is_text) (get_member (codes "extensions") (members_view es)) && b) (at_key (codes "filenames") (is_list is_text) (λ k d. cond (bytes_eq k (codes "path_suffixes")) (is_list is_text d) (cond (bytes_eq k (codes "mime")) (is_list is_text d) (cond (bytes_eq k (codes "shebangs")) (is_list is_text d) (cond (bytes_eq k (codes "env")) (is_list is_text d) true)))) (λ d. refl) es s
-    ∙ ap (λ b. absent_or (is_list is_text) (get_member (codes "filenames") (members_view es)) && b) (at_key (codes "path_suffixes") (is_list is_text) (λ k d. cond (bytes_eq k (codes "mime")) (is_list is_text d) (cond (bytes_eq k (codes "shebangs")) (is_list is_text d) (cond (bytes_eq k (codes "env")) (is_list is_text d) true))) (λ d. refl) es s
-    ∙ ap (λ b. absent_or (is_list is_text) (get_member (codes "path_suffixes") (members_view es)) && b) (at_key (codes "mime") (is_list is_text) (λ k d. cond (bytes_eq k (codes "shebangs")) (is_list is_text d) (cond (bytes_eq k (codes "env")) (is_list is_text d) true)) (λ d. refl) es s
-    ∙ ap (λ b. absent_or (is_list is_text) (get_member (codes "mime") (members_view es)) && b) (at_key (codes "shebangs") (is_list is_text) (λ k d. cond (bytes_eq k (codes "env")) (is_list is_text d) true) (λ d. refl) es s
+    at_key (codes "extensions") (is_list is_text) (λ k d. cond (bytes_eq k (codes "filenames")) (is_list is_text d)
+    (cond (bytes_eq k (codes "path_suffixes")) (is_list is_text d)
+    (cond (bytes_eq k (codes "mime")) (is_list is_text d)
+    (cond (bytes_eq k (codes "shebangs")) (is_list is_text d) (cond (bytes_eq k (codes "env")) (is_list is_text d) true))))) (λ d. refl) es s
+    ∙ ap (λ b. absent_or (is_list is_text) (get_member (codes "extensions") (members_view es)) && b)
+    (at_key (codes "filenames") (is_list is_text) (λ k d. cond (bytes_eq k (codes "path_suffixes")) (is_list is_text d)
+    (cond (bytes_eq k (codes "mime")) (is_list is_text d)
+    (cond (bytes_eq k (codes "shebangs")) (is_list is_text d) (cond (bytes_eq k (codes "env")) (is_list is_text d) true)))) (λ d. refl) es s
+    ∙ ap (λ b. absent_or (is_list is_text) (get_member (codes "filenames") (members_view es)) && b)
+    (at_key (codes "path_suffixes") (is_list is_text) (λ k d. cond (bytes_eq k (codes "mime")) (is_list is_text d)
+    (cond (bytes_eq k (codes "shebangs")) (is_list is_text d) (cond (bytes_eq k (codes "env")) (is_list is_text d) true))) (λ d. refl) es s
+    ∙ ap (λ b. absent_or (is_list is_text) (get_member (codes "path_suffixes") (members_view es)) && b)
+    (at_key (codes "mime") (is_list is_text) (λ k d. cond (bytes_eq k (codes "shebangs")) (is_list is_text d)
+    (cond (bytes_eq k (codes "env")) (is_list is_text d) true)) (λ d. refl) es s
+    ∙ ap (λ b. absent_or (is_list is_text) (get_member (codes "mime") (members_view es)) && b)
+    (at_key (codes "shebangs") (is_list is_text) (λ k d. cond (bytes_eq k (codes "env")) (is_list is_text d) true) (λ d. refl) es s
     ∙ ap (λ b. absent_or (is_list is_text) (get_member (codes "shebangs") (members_view es)) && b) (last_key (codes "env") (is_list is_text) es s)))))
     ∙ regroup6 (absent_or (is_list is_text) (get_member (codes "extensions") (members_view es)))
     (absent_or (is_list is_text) (get_member (codes "filenames") (members_view es)))
@@ -75,11 +96,26 @@ pub traits_fit : (es : List Entry) → AreInOrder es → all_members (fits_trait
 unfolding has_traits
 traits_fit es s =
     let html = is_html_kind (get_member (codes "kind") (members_view es)) in
-    at_key (codes "name") (is_text) (λ k d. cond (bytes_eq k (codes "kind")) (is_text d) (cond (bytes_eq k (codes "literate")) (is_truth_value d) (cond (bytes_eq k (codes "blank")) (is_truth_value d) (cond (bytes_eq k (codes "important_syntax")) (is_list is_text d) (cond (bytes_eq k (codes "contexts")) (is_list (is_context html) d) true))))) (λ d. refl) es s
-    ∙ ap (λ b. absent_or (is_text) (get_member (codes "name") (members_view es)) && b) (at_key (codes "kind") (is_text) (λ k d. cond (bytes_eq k (codes "literate")) (is_truth_value d) (cond (bytes_eq k (codes "blank")) (is_truth_value d) (cond (bytes_eq k (codes "important_syntax")) (is_list is_text d) (cond (bytes_eq k (codes "contexts")) (is_list (is_context html) d) true)))) (λ d. refl) es s
-    ∙ ap (λ b. absent_or (is_text) (get_member (codes "kind") (members_view es)) && b) (at_key (codes "literate") (is_truth_value) (λ k d. cond (bytes_eq k (codes "blank")) (is_truth_value d) (cond (bytes_eq k (codes "important_syntax")) (is_list is_text d) (cond (bytes_eq k (codes "contexts")) (is_list (is_context html) d) true))) (λ d. refl) es s
-    ∙ ap (λ b. absent_or (is_truth_value) (get_member (codes "literate") (members_view es)) && b) (at_key (codes "blank") (is_truth_value) (λ k d. cond (bytes_eq k (codes "important_syntax")) (is_list is_text d) (cond (bytes_eq k (codes "contexts")) (is_list (is_context html) d) true)) (λ d. refl) es s
-    ∙ ap (λ b. absent_or (is_truth_value) (get_member (codes "blank") (members_view es)) && b) (at_key (codes "important_syntax") (is_list is_text) (λ k d. cond (bytes_eq k (codes "contexts")) (is_list (is_context html) d) true) (λ d. refl) es s
+    at_key (codes "name") (is_text) (λ k d. cond (bytes_eq k (codes "kind")) (is_text d)
+    (cond (bytes_eq k (codes "literate")) (is_truth_value d)
+    (cond (bytes_eq k (codes "blank")) (is_truth_value d)
+    (cond (bytes_eq k (codes "important_syntax")) (is_list is_text d)
+    (cond (bytes_eq k (codes "contexts")) (is_list (is_context html) d) true))))) (λ d. refl) es s
+    ∙ ap (λ b. absent_or (is_text) (get_member (codes "name") (members_view es)) && b)
+    (at_key (codes "kind") (is_text) (λ k d. cond (bytes_eq k (codes "literate")) (is_truth_value d)
+    (cond (bytes_eq k (codes "blank")) (is_truth_value d)
+    (cond (bytes_eq k (codes "important_syntax")) (is_list is_text d)
+    (cond (bytes_eq k (codes "contexts")) (is_list (is_context html) d) true)))) (λ d. refl) es s
+    ∙ ap (λ b. absent_or (is_text) (get_member (codes "kind") (members_view es)) && b)
+    (at_key (codes "literate") (is_truth_value) (λ k d. cond (bytes_eq k (codes "blank")) (is_truth_value d)
+    (cond (bytes_eq k (codes "important_syntax")) (is_list is_text d)
+    (cond (bytes_eq k (codes "contexts")) (is_list (is_context html) d) true))) (λ d. refl) es s
+    ∙ ap (λ b. absent_or (is_truth_value) (get_member (codes "literate") (members_view es)) && b)
+    (at_key (codes "blank") (is_truth_value) (λ k d. cond (bytes_eq k (codes "important_syntax")) (is_list is_text d)
+    (cond (bytes_eq k (codes "contexts")) (is_list (is_context html) d) true)) (λ d. refl) es s
+    ∙ ap (λ b. absent_or (is_truth_value) (get_member (codes "blank") (members_view es)) && b)
+    (at_key (codes "important_syntax") (is_list is_text) (λ k d. cond (bytes_eq k (codes "contexts")) (is_list (is_context html) d) true)
+    (λ d. refl) es s
     ∙ ap (λ b. absent_or (is_list is_text) (get_member (codes "important_syntax") (members_view es)) && b) (last_key (codes "contexts") (is_list (is_context html)) es s)))))
     ∙ regroup6 (absent_or (is_text) (get_member (codes "name") (members_view es)))
     (absent_or (is_text) (get_member (codes "kind") (members_view es)))
@@ -110,11 +146,28 @@ pub tokens_keep : (es : List Entry) → AreInOrder es → all_members keeps_toke
     ≡ has_escaped_tokens (object (members_view es))
 unfolding has_escaped_tokens
 tokens_keep es s =
-    at_key (codes "line_comment") (is_escaped_list) (λ k d. cond (bytes_eq k (codes "multi_line_comments")) (are_escaped_pairs d) (cond (bytes_eq k (codes "nested_comments")) (are_escaped_pairs d) (cond (bytes_eq k (codes "quotes")) (are_escaped_pairs d) (cond (bytes_eq k (codes "verbatim_quotes")) (are_escaped_pairs d) (cond (bytes_eq k (codes "doc_quotes")) (are_escaped_pairs d) true))))) (λ d. refl) es s
-    ∙ ap (λ b. absent_or (is_escaped_list) (get_member (codes "line_comment") (members_view es)) && b) (at_key (codes "multi_line_comments") (are_escaped_pairs) (λ k d. cond (bytes_eq k (codes "nested_comments")) (are_escaped_pairs d) (cond (bytes_eq k (codes "quotes")) (are_escaped_pairs d) (cond (bytes_eq k (codes "verbatim_quotes")) (are_escaped_pairs d) (cond (bytes_eq k (codes "doc_quotes")) (are_escaped_pairs d) true)))) (λ d. refl) es s
-    ∙ ap (λ b. absent_or (are_escaped_pairs) (get_member (codes "multi_line_comments") (members_view es)) && b) (at_key (codes "nested_comments") (are_escaped_pairs) (λ k d. cond (bytes_eq k (codes "quotes")) (are_escaped_pairs d) (cond (bytes_eq k (codes "verbatim_quotes")) (are_escaped_pairs d) (cond (bytes_eq k (codes "doc_quotes")) (are_escaped_pairs d) true))) (λ d. refl) es s
-    ∙ ap (λ b. absent_or (are_escaped_pairs) (get_member (codes "nested_comments") (members_view es)) && b) (at_key (codes "quotes") (are_escaped_pairs) (λ k d. cond (bytes_eq k (codes "verbatim_quotes")) (are_escaped_pairs d) (cond (bytes_eq k (codes "doc_quotes")) (are_escaped_pairs d) true)) (λ d. refl) es s
-    ∙ ap (λ b. absent_or (are_escaped_pairs) (get_member (codes "quotes") (members_view es)) && b) (at_key (codes "verbatim_quotes") (are_escaped_pairs) (λ k d. cond (bytes_eq k (codes "doc_quotes")) (are_escaped_pairs d) true) (λ d. refl) es s
+    at_key (codes "line_comment") (is_escaped_list) (λ k d. cond (bytes_eq k (codes "multi_line_comments")) (are_escaped_pairs d)
+    (cond (bytes_eq k (codes "nested_comments")) (are_escaped_pairs d)
+    (cond (bytes_eq k (codes "quotes")) (are_escaped_pairs d)
+    (cond (bytes_eq k (codes "verbatim_quotes")) (are_escaped_pairs d) (cond (bytes_eq k (codes "doc_quotes")) (are_escaped_pairs d) true)))))
+    (λ d. refl) es s
+    ∙ ap (λ b. absent_or (is_escaped_list) (get_member (codes "line_comment") (members_view es)) && b)
+    (at_key (codes "multi_line_comments") (are_escaped_pairs)
+    (λ k d. cond (bytes_eq k (codes "nested_comments")) (are_escaped_pairs d)
+    (cond (bytes_eq k (codes "quotes")) (are_escaped_pairs d)
+    (cond (bytes_eq k (codes "verbatim_quotes")) (are_escaped_pairs d) (cond (bytes_eq k (codes "doc_quotes")) (are_escaped_pairs d) true))))
+    (λ d. refl) es s
+    ∙ ap (λ b. absent_or (are_escaped_pairs) (get_member (codes "multi_line_comments") (members_view es)) && b)
+    (at_key (codes "nested_comments") (are_escaped_pairs)
+    (λ k d. cond (bytes_eq k (codes "quotes")) (are_escaped_pairs d)
+    (cond (bytes_eq k (codes "verbatim_quotes")) (are_escaped_pairs d) (cond (bytes_eq k (codes "doc_quotes")) (are_escaped_pairs d) true)))
+    (λ d. refl) es s
+    ∙ ap (λ b. absent_or (are_escaped_pairs) (get_member (codes "nested_comments") (members_view es)) && b)
+    (at_key (codes "quotes") (are_escaped_pairs) (λ k d. cond (bytes_eq k (codes "verbatim_quotes")) (are_escaped_pairs d)
+    (cond (bytes_eq k (codes "doc_quotes")) (are_escaped_pairs d) true)) (λ d. refl) es s
+    ∙ ap (λ b. absent_or (are_escaped_pairs) (get_member (codes "quotes") (members_view es)) && b)
+    (at_key (codes "verbatim_quotes") (are_escaped_pairs) (λ k d. cond (bytes_eq k (codes "doc_quotes")) (are_escaped_pairs d) true) (λ d. refl)
+    es s
     ∙ ap (λ b. absent_or (are_escaped_pairs) (get_member (codes "verbatim_quotes") (members_view es)) && b) (last_key (codes "doc_quotes") (are_escaped_pairs) es s)))))
     ∙ regroup6 (absent_or (is_escaped_list) (get_member (codes "line_comment") (members_view es)))
     (absent_or (are_escaped_pairs) (get_member (codes "multi_line_comments") (members_view es)))
@@ -127,11 +180,22 @@ pub finders_keep : (es : List Entry) → AreInOrder es → all_members keeps_fin
     ≡ has_escaped_finders (object (members_view es))
 unfolding has_escaped_finders
 finders_keep es s =
-    at_key (codes "extensions") (is_escaped_list) (λ k d. cond (bytes_eq k (codes "filenames")) (is_escaped_list d) (cond (bytes_eq k (codes "path_suffixes")) (is_escaped_list d) (cond (bytes_eq k (codes "mime")) (is_escaped_list d) (cond (bytes_eq k (codes "shebangs")) (is_escaped_list d) (cond (bytes_eq k (codes "env")) (is_escaped_list d) true))))) (λ d. refl) es s
-    ∙ ap (λ b. absent_or (is_escaped_list) (get_member (codes "extensions") (members_view es)) && b) (at_key (codes "filenames") (is_escaped_list) (λ k d. cond (bytes_eq k (codes "path_suffixes")) (is_escaped_list d) (cond (bytes_eq k (codes "mime")) (is_escaped_list d) (cond (bytes_eq k (codes "shebangs")) (is_escaped_list d) (cond (bytes_eq k (codes "env")) (is_escaped_list d) true)))) (λ d. refl) es s
-    ∙ ap (λ b. absent_or (is_escaped_list) (get_member (codes "filenames") (members_view es)) && b) (at_key (codes "path_suffixes") (is_escaped_list) (λ k d. cond (bytes_eq k (codes "mime")) (is_escaped_list d) (cond (bytes_eq k (codes "shebangs")) (is_escaped_list d) (cond (bytes_eq k (codes "env")) (is_escaped_list d) true))) (λ d. refl) es s
-    ∙ ap (λ b. absent_or (is_escaped_list) (get_member (codes "path_suffixes") (members_view es)) && b) (at_key (codes "mime") (is_escaped_list) (λ k d. cond (bytes_eq k (codes "shebangs")) (is_escaped_list d) (cond (bytes_eq k (codes "env")) (is_escaped_list d) true)) (λ d. refl) es s
-    ∙ ap (λ b. absent_or (is_escaped_list) (get_member (codes "mime") (members_view es)) && b) (at_key (codes "shebangs") (is_escaped_list) (λ k d. cond (bytes_eq k (codes "env")) (is_escaped_list d) true) (λ d. refl) es s
+    at_key (codes "extensions") (is_escaped_list) (λ k d. cond (bytes_eq k (codes "filenames")) (is_escaped_list d)
+    (cond (bytes_eq k (codes "path_suffixes")) (is_escaped_list d)
+    (cond (bytes_eq k (codes "mime")) (is_escaped_list d)
+    (cond (bytes_eq k (codes "shebangs")) (is_escaped_list d) (cond (bytes_eq k (codes "env")) (is_escaped_list d) true))))) (λ d. refl) es s
+    ∙ ap (λ b. absent_or (is_escaped_list) (get_member (codes "extensions") (members_view es)) && b)
+    (at_key (codes "filenames") (is_escaped_list) (λ k d. cond (bytes_eq k (codes "path_suffixes")) (is_escaped_list d)
+    (cond (bytes_eq k (codes "mime")) (is_escaped_list d)
+    (cond (bytes_eq k (codes "shebangs")) (is_escaped_list d) (cond (bytes_eq k (codes "env")) (is_escaped_list d) true)))) (λ d. refl) es s
+    ∙ ap (λ b. absent_or (is_escaped_list) (get_member (codes "filenames") (members_view es)) && b)
+    (at_key (codes "path_suffixes") (is_escaped_list) (λ k d. cond (bytes_eq k (codes "mime")) (is_escaped_list d)
+    (cond (bytes_eq k (codes "shebangs")) (is_escaped_list d) (cond (bytes_eq k (codes "env")) (is_escaped_list d) true))) (λ d. refl) es s
+    ∙ ap (λ b. absent_or (is_escaped_list) (get_member (codes "path_suffixes") (members_view es)) && b)
+    (at_key (codes "mime") (is_escaped_list) (λ k d. cond (bytes_eq k (codes "shebangs")) (is_escaped_list d)
+    (cond (bytes_eq k (codes "env")) (is_escaped_list d) true)) (λ d. refl) es s
+    ∙ ap (λ b. absent_or (is_escaped_list) (get_member (codes "mime") (members_view es)) && b)
+    (at_key (codes "shebangs") (is_escaped_list) (λ k d. cond (bytes_eq k (codes "env")) (is_escaped_list d) true) (λ d. refl) es s
     ∙ ap (λ b. absent_or (is_escaped_list) (get_member (codes "shebangs") (members_view es)) && b) (last_key (codes "env") (is_escaped_list) es s)))))
     ∙ regroup6 (absent_or (is_escaped_list) (get_member (codes "extensions") (members_view es)))
     (absent_or (is_escaped_list) (get_member (codes "filenames") (members_view es)))

@@ -9,58 +9,59 @@ use Rattle.tokei_table_json.specs.Layout.{absent_or, all_items, is_html_kind}
 -- A text's backslashes begin escapes.
 abbrev pub is_escaped_value : Data → Bool
 is_escaped_value (string t) = is_escaped_text t
-is_escaped_value d = true
+is_escaped_value value = true
 
 -- So do those of each text in a list.
 abbrev pub is_escaped_list : Data → Bool
 is_escaped_list (array ds) = all_items is_escaped_value ds
-is_escaped_list d = true
+is_escaped_list value = true
 
 -- So do those of each text in a list of pairs.
 abbrev pub are_escaped_pairs : Data → Bool
 are_escaped_pairs (array ds) = all_items is_escaped_list ds
-are_escaped_pairs d = true
+are_escaped_pairs value = true
 
 -- So do those of a context's tag.
 abbrev pub is_escaped_context : Data → Bool
-is_escaped_context d = absent_or is_escaped_value (get (codes "tag") d)
+is_escaped_context value = absent_or is_escaped_value (get (codes "tag") value)
 
 -- So do those of the tag of each context in a list.
 abbrev pub are_escaped_contexts : Data → Bool
 are_escaped_contexts (array ds) = all_items is_escaped_context ds
-are_escaped_contexts d = true
+are_escaped_contexts value = true
 
 -- The members that hold comments and string literals.
 unfoldable pub has_escaped_tokens : Data → Bool
-has_escaped_tokens d =
-    absent_or is_escaped_list (get (codes "line_comment") d)
-    && absent_or are_escaped_pairs (get (codes "multi_line_comments") d)
-    && absent_or are_escaped_pairs (get (codes "nested_comments") d)
-    && absent_or are_escaped_pairs (get (codes "quotes") d)
-    && absent_or are_escaped_pairs (get (codes "verbatim_quotes") d)
-    && absent_or are_escaped_pairs (get (codes "doc_quotes") d)
+has_escaped_tokens value =
+    absent_or is_escaped_list (get (codes "line_comment") value)
+    && absent_or are_escaped_pairs (get (codes "multi_line_comments") value)
+    && absent_or are_escaped_pairs (get (codes "nested_comments") value)
+    && absent_or are_escaped_pairs (get (codes "quotes") value)
+    && absent_or are_escaped_pairs (get (codes "verbatim_quotes") value)
+    && absent_or are_escaped_pairs (get (codes "doc_quotes") value)
 
 -- The members by which a language is found.
 unfoldable pub has_escaped_finders : Data → Bool
-has_escaped_finders d =
-    absent_or is_escaped_list (get (codes "extensions") d)
-    && absent_or is_escaped_list (get (codes "filenames") d)
-    && absent_or is_escaped_list (get (codes "path_suffixes") d)
-    && absent_or is_escaped_list (get (codes "mime") d)
-    && absent_or is_escaped_list (get (codes "shebangs") d)
-    && absent_or is_escaped_list (get (codes "env") d)
+has_escaped_finders value =
+    absent_or is_escaped_list (get (codes "extensions") value)
+    && absent_or is_escaped_list (get (codes "filenames") value)
+    && absent_or is_escaped_list (get (codes "path_suffixes") value)
+    && absent_or is_escaped_list (get (codes "mime") value)
+    && absent_or is_escaped_list (get (codes "shebangs") value)
+    && absent_or is_escaped_list (get (codes "env") value)
 
 -- The other members; the tags are looked at in a language of kind `html` alone.
 unfoldable pub has_escaped_traits : Data → Bool
-has_escaped_traits d =
-    absent_or is_escaped_value (get (codes "name") d)
-    && absent_or is_escaped_list (get (codes "important_syntax") d)
-    && (not (is_html_kind (get (codes "kind") d))
-    || absent_or are_escaped_contexts (get (codes "contexts") d))
+has_escaped_traits value =
+    absent_or is_escaped_value (get (codes "name") value)
+    && absent_or is_escaped_list (get (codes "important_syntax") value)
+    && (not (is_html_kind (get (codes "kind") value))
+    || absent_or are_escaped_contexts (get (codes "contexts") value))
 
 -- All members of a language.
 abbrev pub is_escaped_language : Data → Bool
-is_escaped_language d = has_escaped_tokens d && has_escaped_finders d && has_escaped_traits d
+is_escaped_language value = has_escaped_tokens value && has_escaped_finders value &&
+    has_escaped_traits value
 
 -- Each member of `languages`.
 abbrev pub are_escaped_languages : Members → Bool
@@ -70,4 +71,4 @@ are_escaped_languages (member k d ms) = is_escaped_language d && are_escaped_lan
 -- Each language of a table has but the known escapes.
 abbrev pub is_escaped_table : Option Data → Bool
 is_escaped_table (Some (object ms)) = are_escaped_languages ms
-is_escaped_table d = true
+is_escaped_table found = true

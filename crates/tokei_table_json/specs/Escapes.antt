@@ -49,14 +49,14 @@ letter_t = 116
 
 -- What a character behind a backslash stands for.
 abbrev pub escape_value : ℕ → Option ℕ
-escape_value c =
-    if c == backslash then Some backslash
-    else (if c == quote_mark then Some quote_mark
-    else (if c == apostrophe then Some apostrophe
-    else (if c == letter_t then Some tab
-    else (if c == letter_r then Some carriage_return
-    else (if c == letter_n then Some newline
-    else (if c == digit_0 then Some nul
+escape_value character =
+    if character == backslash then Some backslash
+    else (if character == quote_mark then Some quote_mark
+    else (if character == apostrophe then Some apostrophe
+    else (if character == letter_t then Some tab
+    else (if character == letter_r then Some carriage_return
+    else (if character == letter_n then Some newline
+    else (if character == digit_0 then Some nul
     else None))))))
 
 -- Whether each backslash begins an escape; `is_escape` asks it of the characters behind a
@@ -84,8 +84,8 @@ abbrev mutual
 
 -- Whether each backslash of a text begins an escape.
 abbrev pub is_escaped_text : List ℕ → Bool
-is_escaped_text t = is_escaped (chars t)
+is_escaped_text text = is_escaped (chars text)
 
 -- A text after escapes.
 abbrev pub unescaped_text : List ℕ → List ℕ
-unescaped_text t = encode_utf8_all (unescaped (chars t))
+unescaped_text text = encode_utf8_all (unescaped (chars text))

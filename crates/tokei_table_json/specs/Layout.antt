@@ -16,16 +16,16 @@ stands_and test (Some d) = test d
 
 -- A text.
 abbrev pub is_text : Data → Bool
-is_text d = is_some (as_str d)
+is_text value = is_some (as_str value)
 
 -- `true` or `false`.
 abbrev pub is_truth_value : Data → Bool
-is_truth_value d = is_some (as_bool d)
+is_truth_value value = is_some (as_bool value)
 
 -- An object.
 abbrev pub is_object : Data → Bool
 is_object (object ms) = true
-is_object d = false
+is_object value = false
 
 -- Whether each item passes the test.
 abbrev pub all_items : (Data → Bool) → Items → Bool
@@ -35,7 +35,7 @@ all_items test (item d ds) = test d && all_items test ds
 -- A list whose items pass the test.
 abbrev pub is_list : (Data → Bool) → Data → Bool
 is_list test (array ds) = all_items test ds
-is_list test d = false
+is_list test value = false
 
 -- Exactly two texts.
 abbrev pub are_two_texts : Items → Bool
@@ -45,57 +45,59 @@ are_two_texts ds = false
 -- A list of exactly two texts.
 abbrev pub is_text_pair : Data → Bool
 is_text_pair (array ds) = are_two_texts ds
-is_text_pair d = false
+is_text_pair value = false
 
 -- The kind of a language is `html`.
 abbrev pub is_html_kind : Option Data → Bool
 is_html_kind (Some (string t)) = bytes_eq t (codes "html")
-is_html_kind d = false
+is_html_kind found = false
 
 -- A context is an object; in a language of kind `html` it has a text `tag`.
 abbrev pub is_context : Bool → Data → Bool
-is_context html d = is_object d && (not html || stands_and is_text (get (codes "tag") d))
+is_context html value = is_object value &&
+    (not html || stands_and is_text (get (codes "tag") value))
 
 -- The members that hold comments.
 unfoldable pub has_comments : Data → Bool
-has_comments d =
-    absent_or (is_list is_text) (get (codes "line_comment") d)
-    && absent_or (is_list is_text_pair) (get (codes "multi_line_comments") d)
-    && absent_or is_truth_value (get (codes "nested") d)
-    && absent_or (is_list is_text_pair) (get (codes "nested_comments") d)
+has_comments value =
+    absent_or (is_list is_text) (get (codes "line_comment") value)
+    && absent_or (is_list is_text_pair) (get (codes "multi_line_comments") value)
+    && absent_or is_truth_value (get (codes "nested") value)
+    && absent_or (is_list is_text_pair) (get (codes "nested_comments") value)
 
 -- The members that hold string literals.
 unfoldable pub has_literals : Data → Bool
-has_literals d =
-    absent_or (is_list is_text_pair) (get (codes "quotes") d)
-    && absent_or (is_list is_text_pair) (get (codes "verbatim_quotes") d)
-    && absent_or (is_list is_text_pair) (get (codes "doc_quotes") d)
+has_literals value =
+    absent_or (is_list is_text_pair) (get (codes "quotes") value)
+    && absent_or (is_list is_text_pair) (get (codes "verbatim_quotes") value)
+    && absent_or (is_list is_text_pair) (get (codes "doc_quotes") value)
 
 -- The members by which a language is found.
 unfoldable pub has_finders : Data → Bool
-has_finders d =
-    absent_or (is_list is_text) (get (codes "extensions") d)
-    && absent_or (is_list is_text) (get (codes "filenames") d)
-    && absent_or (is_list is_text) (get (codes "path_suffixes") d)
-    && absent_or (is_list is_text) (get (codes "mime") d)
-    && absent_or (is_list is_text) (get (codes "shebangs") d)
-    && absent_or (is_list is_text) (get (codes "env") d)
+has_finders value =
+    absent_or (is_list is_text) (get (codes "extensions") value)
+    && absent_or (is_list is_text) (get (codes "filenames") value)
+    && absent_or (is_list is_text) (get (codes "path_suffixes") value)
+    && absent_or (is_list is_text) (get (codes "mime") value)
+    && absent_or (is_list is_text) (get (codes "shebangs") value)
+    && absent_or (is_list is_text) (get (codes "env") value)
 
 -- The other members.
 unfoldable pub has_traits : Data → Bool
-has_traits d =
-    absent_or is_text (get (codes "name") d)
-    && absent_or is_text (get (codes "kind") d)
-    && absent_or is_truth_value (get (codes "literate") d)
-    && absent_or is_truth_value (get (codes "blank") d)
-    && absent_or (is_list is_text) (get (codes "important_syntax") d)
-    && absent_or (is_list (is_context (is_html_kind (get (codes "kind") d))))
-    (get (codes "contexts") d)
+has_traits value =
+    absent_or is_text (get (codes "name") value)
+    && absent_or is_text (get (codes "kind") value)
+    && absent_or is_truth_value (get (codes "literate") value)
+    && absent_or is_truth_value (get (codes "blank") value)
+    && absent_or (is_list is_text) (get (codes "important_syntax") value)
+    && absent_or (is_list (is_context (is_html_kind (get (codes "kind") value))))
+    (get (codes "contexts") value)
 
 -- A language is an object whose members, where they stand, hold such values; others are passed
 -- over.
 abbrev pub is_language : Data → Bool
-is_language d = is_object d && has_comments d && has_literals d && has_finders d && has_traits d
+is_language value = is_object value && has_comments value && has_literals value && has_finders
+    value && has_traits value
 
 -- Whether each member's value is a language.
 abbrev pub are_languages : Members → Bool
@@ -105,9 +107,10 @@ are_languages (member k d ms) = is_language d && are_languages ms
 -- An object each of whose members is a language.
 abbrev pub is_object_of_languages : Data → Bool
 is_object_of_languages (object ms) = are_languages ms
-is_object_of_languages d = false
+is_object_of_languages value = false
 
 -- A table is an object with an object `languages`; no number in it, wherever it stands, is but a
 -- whole one of 64 bits.
 unfoldable pub has_layout : Data → Bool
-has_layout d = not (has_float d) && stands_and is_object_of_languages (get (codes "languages") d)
+has_layout value = not (has_float value) && stands_and is_object_of_languages
+    (get (codes "languages") value)

@@ -12,7 +12,7 @@ use Rattle.tokei_table_row.specs.Row.{Pair, Row}
 -- A text after escapes.
 abbrev pub text_of : Data → List ℕ
 text_of (string t) = unescaped_text t
-text_of d = []
+text_of value = []
 
 -- The text of a member, empty where it is left out.
 abbrev pub text_at : Option Data → List ℕ
@@ -23,7 +23,7 @@ text_at (Some d) = text_of d
 -- out.
 abbrev pub kind_at : Option Data → List ℕ
 kind_at (Some (string t)) = t
-kind_at d = []
+kind_at found = []
 
 -- The texts of a list, in its order.
 abbrev pub texts_of : Items → List (List ℕ)
@@ -33,7 +33,7 @@ texts_of (item d ds) = text_of d ∷ texts_of ds
 -- The list of texts of a member, empty where it is left out.
 abbrev pub texts_at : Option Data → List (List ℕ)
 texts_at (Some (array ds)) = texts_of ds
-texts_at d = []
+texts_at found = []
 
 -- Two empty texts.
 abbrev pub no_pair : Pair
@@ -47,7 +47,7 @@ two_texts ds = no_pair
 -- The two texts of a list.
 abbrev pub pair_in : Data → Pair
 pair_in (array ds) = two_texts ds
-pair_in d = no_pair
+pair_in value = no_pair
 
 -- The pairs of a list, in its order.
 abbrev pub pairs_in : Items → List Pair
@@ -57,12 +57,12 @@ pairs_in (item d ds) = pair_in d ∷ pairs_in ds
 -- The list of pairs of a member, empty where it is left out.
 abbrev pub pairs_at : Option Data → List Pair
 pairs_at (Some (array ds)) = pairs_in ds
-pairs_at d = []
+pairs_at found = []
 
 -- The truth value of a member, false where it is left out.
 abbrev pub truth_at : Option Data → Bool
 truth_at (Some (boolean b)) = b
-truth_at d = false
+truth_at found = false
 
 -- The tags of a list of contexts.
 abbrev pub tags_in : Items → List (List ℕ)
@@ -72,7 +72,7 @@ tags_in (item d ds) = text_at (get (codes "tag") d) ∷ tags_in ds
 -- Only a language of kind `html` has tags.
 abbrev pub tags_at : Bool → Option Data → List (List ℕ)
 tags_at true (Some (array ds)) = tags_in ds
-tags_at html d = []
+tags_at html found = []
 
 -- An empty name counts as none, and the name is then the key.
 abbrev pub name_or : List ℕ → List ℕ → List ℕ
@@ -81,27 +81,27 @@ name_or key (c ∷ cs) = c ∷ cs
 
 -- The row of a member of `languages`.
 unfoldable pub row_in : List ℕ → Data → Row
-row_in key d = record {
+row_in key value = record {
   key = key;
-  name = name_or key (text_at (get (codes "name") d));
-  kind = kind_at (get (codes "kind") d);
-  line_comment = texts_at (get (codes "line_comment") d);
-  multi_line_comments = pairs_at (get (codes "multi_line_comments") d);
-  nested = truth_at (get (codes "nested") d);
-  nested_comments = pairs_at (get (codes "nested_comments") d);
-  quotes = pairs_at (get (codes "quotes") d);
-  verbatim_quotes = pairs_at (get (codes "verbatim_quotes") d);
-  doc_quotes = pairs_at (get (codes "doc_quotes") d);
-  literate = truth_at (get (codes "literate") d);
-  blank = truth_at (get (codes "blank") d);
-  important_syntax = texts_at (get (codes "important_syntax") d);
-  extensions = texts_at (get (codes "extensions") d);
-  filenames = texts_at (get (codes "filenames") d);
-  path_suffixes = texts_at (get (codes "path_suffixes") d);
-  mime = texts_at (get (codes "mime") d);
-  shebangs = texts_at (get (codes "shebangs") d);
-  env = texts_at (get (codes "env") d);
-  contexts = tags_at (is_html_kind (get (codes "kind") d)) (get (codes "contexts") d);
+  name = name_or key (text_at (get (codes "name") value));
+  kind = kind_at (get (codes "kind") value);
+  line_comment = texts_at (get (codes "line_comment") value);
+  multi_line_comments = pairs_at (get (codes "multi_line_comments") value);
+  nested = truth_at (get (codes "nested") value);
+  nested_comments = pairs_at (get (codes "nested_comments") value);
+  quotes = pairs_at (get (codes "quotes") value);
+  verbatim_quotes = pairs_at (get (codes "verbatim_quotes") value);
+  doc_quotes = pairs_at (get (codes "doc_quotes") value);
+  literate = truth_at (get (codes "literate") value);
+  blank = truth_at (get (codes "blank") value);
+  important_syntax = texts_at (get (codes "important_syntax") value);
+  extensions = texts_at (get (codes "extensions") value);
+  filenames = texts_at (get (codes "filenames") value);
+  path_suffixes = texts_at (get (codes "path_suffixes") value);
+  mime = texts_at (get (codes "mime") value);
+  shebangs = texts_at (get (codes "shebangs") value);
+  env = texts_at (get (codes "env") value);
+  contexts = tags_at (is_html_kind (get (codes "kind") value)) (get (codes "contexts") value);
 }
 
 -- A row for each member of `languages`, in the order of the keys.
@@ -112,4 +112,4 @@ rows_in (member k d ms) = row_in k d ∷ rows_in ms
 -- The rows of the object `languages`.
 abbrev pub rows_at : Option Data → List Row
 rows_at (Some (object ms)) = rows_in ms
-rows_at d = []
+rows_at found = []

@@ -25,7 +25,7 @@ backslash = 92
 -- The blanks are the space and the bytes from the tab to the carriage return, the newline among
 -- them.
 abbrev pub is_blank : ℕ → Bool
-is_blank b = (b == space) || (nat_le tab b && nat_le b carriage_return)
+is_blank byte = (byte == space) || (nat_le tab byte && nat_le byte carriage_return)
 
 -- Whether each byte of the text is blank.
 abbrev pub all_blank : List ℕ → Bool
@@ -44,7 +44,7 @@ trim_end (b ∷ t) = if all_blank (b ∷ t) then [] else b ∷ trim_end t
 
 -- The text without the blanks at both ends.
 abbrev pub trim : List ℕ → List ℕ
-trim t = trim_end (trim_start t)
+trim text = trim_end (trim_start text)
 
 -- Whether the text begins with the token.
 abbrev pub begins : List ℕ → List ℕ → Bool

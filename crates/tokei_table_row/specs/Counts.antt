@@ -9,7 +9,7 @@ pub record Counts : Type 0 where
 
 -- all lines, of whatever class
 abbrev pub lines_of : Counts → ℕ
-lines_of n = n.blanks + n.code + n.comments
+lines_of counts = counts.blanks + counts.code + counts.comments
 
 -- the counts of a text without lines
 abbrev pub no_lines : Counts
@@ -17,8 +17,8 @@ no_lines = record { blanks = 0; code = 0; comments = 0 }
 
 -- both, added up
 abbrev pub plus : Counts → Counts → Counts
-plus a b = record {
-  blanks = a.blanks + b.blanks;
-  code = a.code + b.code;
-  comments = a.comments + b.comments;
+plus counts more = record {
+  blanks = counts.blanks + more.blanks;
+  code = counts.code + more.code;
+  comments = counts.comments + more.comments;
 }

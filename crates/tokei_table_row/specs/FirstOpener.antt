@@ -17,9 +17,9 @@ is_nonempty (b ∷ t) = true
 
 -- Whether that byte is the first of the opener.
 abbrev pub is_first_of : ℕ → List ℕ → Bool
-is_first_of x [] = false
-is_first_of x (b ∷ t) = x == b
+is_first_of byte [] = false
+is_first_of byte (b ∷ t) = byte == b
 
 -- Whether that byte is the first of some opener.
 unfoldable pub is_first : List (List ℕ) → ℕ → Bool
-is_first openers x = list_any (is_first_of x) openers
+is_first openers byte = list_any (is_first_of byte) openers

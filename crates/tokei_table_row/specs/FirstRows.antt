@@ -10,4 +10,4 @@ first_where test (r ∷ rs) = if test r then Some 0 else option_map suc (first_w
 
 -- The condition of `from_name`: the word is the key or the name.
 abbrev pub has_name : List ℕ → Row → Bool
-has_name word r = bytes_eq r.key word || bytes_eq r.name word
+has_name word row = bytes_eq row.key word || bytes_eq row.name word

@@ -5,7 +5,7 @@ use Rattle.tokei_table_row.specs.Bytes.{is_blank, newline, carriage_return}
 
 -- A stop is a newline or a byte that isn't blank.
 abbrev pub is_stop : ℕ → Bool
-is_stop b = (b == newline) || not (is_blank b)
+is_stop byte = (byte == newline) || not (is_blank byte)
 
 -- The index of the first stop.
 abbrev pub first_stop : List ℕ → Option ℕ
@@ -25,25 +25,26 @@ last_stop (b ∷ t) = later_or (is_stop b) (last_stop t)
 -- Where the block begins in a text of that length: behind the first stop, but no later than at the
 -- last byte.
 abbrev pub start_behind : ℕ → Option ℕ → ℕ
-start_behind n None = 0
-start_behind n (Some i) = min (i + 1) (n - 1)
+start_behind size None = 0
+start_behind size (Some i) = min (i + 1) (size - 1)
 
 -- Whether that index is the one of a newline behind a carriage return.
 abbrev pub is_return_newline : List ℕ → ℕ → Bool
-is_return_newline t zero = false
-is_return_newline t (suc i) =
-    (slice_index t i == carriage_return) && (slice_index t (suc i) == newline)
+is_return_newline text zero = false
+is_return_newline text (suc i) =
+    (slice_index text i == carriage_return) && (slice_index text (suc i) == newline)
 
 -- Behind which byte the block ends: behind the last stop, or before it where it is a newline behind
 -- a carriage return.
 abbrev pub end_behind : List ℕ → Option ℕ → ℕ
-end_behind t None = length t
-end_behind t (Some i) = if is_return_newline t i then i else i + 1
+end_behind text None = length text
+end_behind text (Some i) = if is_return_newline text i then i else i + 1
 
 -- The bytes between both, none where the end isn't behind the start.
 abbrev pub between : List ℕ → ℕ → ℕ → List ℕ
-between t i j = take (j - i) (drop i t)
+between text index j = take (j - index) (drop index text)
 
 -- The block that is left of a text.
 abbrev pub trim_outer_lines : List ℕ → List ℕ
-trim_outer_lines t = between t (start_behind (length t) (first_stop t)) (end_behind t (last_stop t))
+trim_outer_lines text = between text (start_behind (length text) (first_stop text))
+    (end_behind text (last_stop text))

@@ -35,4 +35,4 @@ is_html_text kind = bytes_eq kind (codes "html")
 
 -- A language is HTML by its kind alone.
 abbrev pub is_html : Row → Bool
-is_html r = is_html_text r.kind
+is_html row = is_html_text row.kind

@@ -16,13 +16,13 @@ is_token (b ∷ t) = no_newline (b ∷ t) && not (all_blank (b ∷ t))
 
 -- Both texts of a pair are tokens.
 abbrev pub is_pair : Pair → Bool
-is_pair p = is_token p.opener && is_token p.closer
+is_pair pair = is_token pair.opener && is_token pair.closer
 
 -- Each text of the row's comments and string literals is a token.
-pub record IsSound (r : Row) : Type 0 where
-  pub line_comment : list_all is_token r.line_comment ≡ true
-  pub multi_line_comments : list_all is_pair r.multi_line_comments ≡ true
-  pub nested_comments : list_all is_pair r.nested_comments ≡ true
-  pub quotes : list_all is_pair r.quotes ≡ true
-  pub verbatim_quotes : list_all is_pair r.verbatim_quotes ≡ true
-  pub doc_quotes : list_all is_pair r.doc_quotes ≡ true
+pub record IsSound (row : Row) : Type 0 where
+  pub line_comment : list_all is_token row.line_comment ≡ true
+  pub multi_line_comments : list_all is_pair row.multi_line_comments ≡ true
+  pub nested_comments : list_all is_pair row.nested_comments ≡ true
+  pub quotes : list_all is_pair row.quotes ≡ true
+  pub verbatim_quotes : list_all is_pair row.verbatim_quotes ≡ true
+  pub doc_quotes : list_all is_pair row.doc_quotes ≡ true

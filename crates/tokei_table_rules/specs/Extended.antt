@@ -23,7 +23,7 @@ listed_for language (a ∷ additions) =
 
 -- The row with further extensions at the end of its own.
 abbrev pub with_extensions : Row → List (List ℕ) → Row
-with_extensions r es = record r { extensions = r.extensions ++ es }
+with_extensions row es = record row { extensions = row.extensions ++ es }
 
 -- In the order of the table each language, of which the first has that place, gains what no
 -- language has yet.

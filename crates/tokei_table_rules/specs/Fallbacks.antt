@@ -10,4 +10,4 @@ has_key rs key = list_any (λ r. bytes_eq r.key key) rs
 
 -- The languages are there on which the children of that one fall back.
 abbrev pub has_fallbacks : List Row → Row → Bool
-has_fallbacks rs r = list_all (has_key rs) (needed_keys (family_of r.key))
+has_fallbacks rs row = list_all (has_key rs) (needed_keys (family_of row.key))

@@ -20,19 +20,20 @@ or_else (Some l) other = Some l
 
 -- The condition of `from_str`: the word and the name are the same in any ASCII case.
 abbrev pub has_name_in_any_case : List ℕ → Row → Bool
-has_name_in_any_case word r = bytes_eq (str_to_ascii_lowercase r.name) (str_to_ascii_lowercase word)
+has_name_in_any_case word row =
+    bytes_eq (str_to_ascii_lowercase row.name) (str_to_ascii_lowercase word)
 
 -- The condition of `from_mime`: it is one of the MIME types.
 abbrev pub has_mime : List ℕ → Row → Bool
-has_mime mime r = holds r.mime mime
+has_mime mime row = holds row.mime mime
 
 -- The condition of `from_file_extension`: it is one of the extensions.
 abbrev pub has_extension : List ℕ → Row → Bool
-has_extension extension r = holds r.extensions extension
+has_extension extension row = holds row.extensions extension
 
 -- The lowered name is one of the whole names.
 abbrev pub has_filename : List ℕ → Row → Bool
-has_filename name r = holds r.filenames name
+has_filename name row = holds row.filenames name
 
 -- Whether one of the texts is a suffix of the name.
 unfoldable pub ends_with_one : List (List ℕ) → List ℕ → Bool
@@ -40,7 +41,7 @@ ends_with_one suffixes name = list_any (λ s. ends s name) suffixes
 
 -- A text of `path_suffixes` is a suffix of the lowered name.
 abbrev pub has_path_suffix : List ℕ → Row → Bool
-has_path_suffix name r = ends_with_one r.path_suffixes name
+has_path_suffix name row = ends_with_one row.path_suffixes name
 
 -- The byte of a dot, `.`.
 abbrev pub dot : ℕ
@@ -49,8 +50,8 @@ dot = 46
 -- What stands behind the last dot, by whether the first byte is one and by what stands behind a
 -- later one.
 abbrev pub behind_dot : Bool → List ℕ → Option (List ℕ) → Option (List ℕ)
-behind_dot is_dot t (Some later) = Some later
-behind_dot is_dot t None = if is_dot then Some t else None
+behind_dot is_dot text (Some later) = Some later
+behind_dot is_dot text None = if is_dot then Some text else None
 
 -- What stands behind the last dot of a text.
 abbrev pub behind_last_dot : List ℕ → Option (List ℕ)

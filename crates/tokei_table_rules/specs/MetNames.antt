@@ -15,7 +15,7 @@ is_met names name = is_some (get_by (λ k. slice_cmp nat_cmp name k.now) names)
 
 -- Whether the key or the name was met.
 abbrev pub was_met : (List ℕ → Bool) → Row → Bool
-was_met met r = met r.key || met r.name
+was_met met row = met row.key || met row.name
 
 -- Whether a name of the rows was met, or names two of them.
 abbrev pub clashes : (List ℕ → Bool) → List Row → Bool

@@ -20,13 +20,13 @@ tag_starts tags = map tag_start tags
 -- The starts of string literals, of documentation in them and of comments, the member
 -- `important_syntax`, and the tags; a language whose kind isn't `html` has no tags.
 abbrev pub important_syntax : Row → List (List ℕ)
-important_syntax r =
-    starts_of r.quotes
-    ++ (starts_of r.doc_quotes
-    ++ (starts_of r.multi_line_comments
-    ++ (starts_of r.nested_comments
-    ++ (r.important_syntax
-    ++ tag_starts r.contexts))))
+important_syntax row =
+    starts_of row.quotes
+    ++ (starts_of row.doc_quotes
+    ++ (starts_of row.multi_line_comments
+    ++ (starts_of row.nested_comments
+    ++ (row.important_syntax
+    ++ tag_starts row.contexts))))
 
 -- What opens the children of a family.
 abbrev pub child_openers : Family → List (List ℕ)
@@ -40,4 +40,5 @@ child_openers Jupyter = []
 -- These, the starts of string literals in which a backslash means itself, and what opens children;
 -- repeats stay.
 abbrev pub openers : Row → List (List ℕ)
-openers r = important_syntax r ++ (starts_of r.verbatim_quotes ++ child_openers (family_of r.key))
+openers row = important_syntax row ++
+    (starts_of row.verbatim_quotes ++ child_openers (family_of row.key))

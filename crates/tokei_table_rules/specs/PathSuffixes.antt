@@ -9,7 +9,7 @@ tail_of text = drop (length text - 2) text
 
 -- Those of each path suffix of the row.
 abbrev pub suffix_tails : Row → List (List ℕ)
-suffix_tails r = map tail_of r.path_suffixes
+suffix_tails row = map tail_of row.path_suffixes
 
 -- Whether the text has fewer than two bytes: the last two bytes of a name don't tell then whether
 -- it ends with the text.
@@ -20,4 +20,4 @@ is_short (a ∷ b ∷ t) = false
 
 -- Whether a path suffix of the row is short.
 abbrev pub has_short_suffix : Row → Bool
-has_short_suffix r = list_any is_short r.path_suffixes
+has_short_suffix row = list_any is_short row.path_suffixes

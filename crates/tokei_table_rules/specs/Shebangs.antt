@@ -18,15 +18,15 @@ word_len (b ∷ t) = if is_blank b then 0 else suc (word_len t)
 
 -- The first longest run of bytes that aren't blank, and what stands behind it.
 abbrev pub first_word : List ℕ → List ℕ
-first_word t = take (word_len (trim_start t)) (trim_start t)
+first_word text = take (word_len (trim_start text)) (trim_start text)
 
 -- What stands behind the first word.
 abbrev pub behind_word : List ℕ → List ℕ
-behind_word t = drop (word_len (trim_start t)) (trim_start t)
+behind_word text = drop (word_len (trim_start text)) (trim_start text)
 
 -- A text of `env` begins the name of the program.
 abbrev pub has_env : List ℕ → Row → Bool
-has_env program r = begins_with_one r.env program
+has_env program row = begins_with_one row.env program
 
 -- By the program that `#!/usr/bin/env` starts, where one is named.
 abbrev pub from_env : List Row → List ℕ → Option ℕ
@@ -35,7 +35,7 @@ from_env rows (b ∷ program) = first_where (has_env (b ∷ program)) rows
 
 -- The word is one of the shebangs.
 abbrev pub has_shebang : List ℕ → Row → Bool
-has_shebang word r = holds r.shebangs word
+has_shebang word row = holds row.shebangs word
 
 -- By the first word, else by the second where the first is `#!/usr/bin/env`.
 abbrev pub from_words : List Row → List ℕ → List ℕ → Option ℕ

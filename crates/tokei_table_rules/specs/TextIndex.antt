@@ -24,11 +24,11 @@ entries_from texts place (r ∷ rs) = entries_of place (texts r) ++ entries_from
 
 -- The texts that name a row.
 abbrev pub names : Row → List (List ℕ)
-names r = r.key ∷ r.name ∷ []
+names row = row.key ∷ row.name ∷ []
 
 -- Its name in ASCII lower case, alone in a list.
 abbrev pub lowered_name : Row → List (List ℕ)
-lowered_name r = str_to_ascii_lowercase r.name ∷ []
+lowered_name row = str_to_ascii_lowercase row.name ∷ []
 
 -- The places that stand beside that group.
 abbrev pub in_group : ℕ → List (ℕ × ℕ) → List ℕ

@@ -7,8 +7,8 @@ use Rattle.tokei_bytes.specs.OneOf.{is_one_of}
 
 -- Those of the openers that begin with that byte.
 abbrev pub with_first : ℕ → List (List ℕ) → List (List ℕ)
-with_first x [] = []
-with_first x (o ∷ os) = if is_first_of x o then o ∷ with_first x os else with_first x os
+with_first byte [] = []
+with_first byte (o ∷ os) = if is_first_of byte o then o ∷ with_first byte os else with_first byte os
 
 -- Whether that byte can follow the opener's first one: it is the second, or there is none.
 abbrev pub goes_on_with : ℕ → List ℕ → Bool

@@ -12,7 +12,7 @@ tells alone firsts seconds (x ∷ y ∷ o) = is_told alone firsts seconds x y
 
 -- The bytes tell each of the openers.
 abbrev pub AllTold : Told → List (List ℕ) → Type 0
-AllTold t os = list_all (tells t.alone t.firsts t.seconds) os ≡ true
+AllTold told os = list_all (tells told.alone told.firsts told.seconds) os ≡ true
 
 -- The bytes, where there are such, do.
 abbrev pub AreTold : Option Told → List (List ℕ) → Type 0

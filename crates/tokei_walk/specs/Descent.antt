@@ -27,7 +27,7 @@ kept place = record { path = place; place = place } ∷ []
 
 -- with the rules of the folder itself
 abbrev pub with_level : Context → Level → Context
-with_level c l = record c { levels = c.levels ++ l ∷ [] }
+with_level context level = record context { levels = context.levels ++ level ∷ [] }
 
 -- what an entry gives, where `inner` is what a folder gives
 abbrev pub of_kind : Kind → Bool → List ℕ → List KeptFile → List KeptFile
@@ -45,81 +45,86 @@ is_folder Other = false
 -- none where the entry is dropped
 unfoldable pub of_entry : List Pattern → Rules → (Context → List ℕ → List KeptFile) → Context
     → List ℕ → Entry → List KeptFile
-of_entry excludes rules inside c place e =
-    of_kind e.kind (drops excludes rules c e.name (is_folder e.kind)) (joined place e.name)
-    (inside (under c e.name) (joined place e.name))
+of_entry excludes rules inside context place entry =
+    of_kind entry.kind (drops excludes rules context entry.name (is_folder entry.kind))
+    (joined place entry.name)
+    (inside (under context entry.name) (joined place entry.name))
 
 -- the files of the entries, in their order
 unfoldable pub of_entries : List Pattern → Rules → (Context → List ℕ → List KeptFile) → Context
     → List ℕ → List Entry → List KeptFile
-of_entries excludes rules inside c place es = flat_map (of_entry excludes rules inside c place) es
+of_entries excludes rules inside context place es =
+    flat_map (of_entry excludes rules inside context place) es
 
 -- a folder that can't be listed gives nothing
 abbrev pub of_listing : (Context → List ℕ → List Entry → List KeptFile) → Context → List ℕ
     → Result (List Entry) Fault → List KeptFile
-of_listing entries c place (Ok es) = entries c place es
-of_listing entries c place (Err e) = []
+of_listing entries context place (Ok es) = entries context place es
+of_listing entries context place (Err e) = []
 
 -- what a folder gives, where so many levels may be entered
 unfoldable pub descend : List Pattern → Rules → Tree → ℕ → Context → List ℕ → List KeptFile
-descend excludes rules t zero c place = []
-descend excludes rules t (suc n) c place =
+descend excludes rules tree zero context place = []
+descend excludes rules tree (suc n) context place =
     of_listing
-    (λ d at es. of_entries excludes rules (descend excludes rules t n)
-    (with_level d (level_at t rules (names_of at))) at es)
-    c place (list_answer t (names_of place))
+    (λ d at es. of_entries excludes rules (descend excludes rules tree n)
+    (with_level d (level_at tree rules (names_of at))) at es)
+    context place (list_answer tree (names_of place))
 
 -- the rules of the folders above a root, from the top down
 unfoldable pub levels_above : Tree → Rules → Names → List Level
-levels_above t rules p = map (λ a. level_at t rules a.0) (folders_above [] p)
+levels_above tree rules names = map (λ a. level_at tree rules a.0) (folders_above [] names)
 
 -- the context of a root's entries, before the rules of the root itself
 unfoldable pub root_context : Tree → Rules → Names → Context
-root_context t rules p = record {
-  levels = if rules.parents then levels_above t rules p else [];
-  names = if rules.parents then p else [];
-  shown = p;
+root_context tree rules place = record {
+  levels = if rules.parents then levels_above tree rules place else [];
+  names = if rules.parents then place else [];
+  shown = place;
 }
 
 -- a root that is a file is kept; one that is missing gives nothing
 abbrev pub of_node : List Pattern → Rules → Tree → List ℕ → Option Node → List KeptFile
-of_node excludes rules t root None = []
-of_node excludes rules t root (Some (file r h content)) = kept root
-of_node excludes rules t root (Some (folder r)) =
-    descend excludes rules t 257 (root_context t rules (names_of root)) root
+of_node excludes rules tree root None = []
+of_node excludes rules tree root (Some (file r h content)) = kept root
+of_node excludes rules tree root (Some (folder r)) =
+    descend excludes rules tree 257 (root_context tree rules (names_of root)) root
 
 -- the files of a root; an empty root gives nothing
 unfoldable pub of_root : List Pattern → Rules → Tree → List ℕ → List KeptFile
-of_root excludes rules t root =
-    if is_empty root then [] else of_node excludes rules t root (node_at t (names_of root))
+of_root excludes rules tree root =
+    if is_empty root then [] else of_node excludes rules tree root (node_at tree (names_of root))
 
 -- the context without the last name
 abbrev pub without_name : Context → Context
-without_name c = record c { names = without_last c.names; shown = without_last c.shown }
+without_name context = record context
+    { names = without_last context.names; shown = without_last context.shown }
 
 -- the context of the folder that holds this one
 abbrev pub outer : Context → Context
-outer c = record {
-  levels = without_last c.levels;
-  names = without_last c.names;
-  shown = without_last c.shown;
+outer context = record {
+  levels = without_last context.levels;
+  names = without_last context.names;
+  shown = without_last context.shown;
 }
 
 -- what the folders give that are entered and not left, the innermost first
 unfoldable pub of_frames : List Pattern → Rules → Tree → Context → List Frame → List KeptFile
-of_frames excludes rules t c [] = []
-of_frames excludes rules t c (f ∷ fs) =
-    of_entries excludes rules (descend excludes rules t (256 - length fs)) c f.place
+of_frames excludes rules tree context [] = []
+of_frames excludes rules tree context (f ∷ fs) =
+    of_entries excludes rules (descend excludes rules tree (256 - length fs)) context f.place
     (reverse f.left)
-    ++ of_frames excludes rules t (outer c) fs
+    ++ of_frames excludes rules tree (outer context) fs
 
 -- what the folder that is walked still gives
 abbrev pub of_top : List Pattern → Rules → Tree → Stack → List KeptFile
-of_top excludes rules t s =
-    of_entries excludes rules (descend excludes rules t (256 - length s.holders)) s.context s.place
-    (reverse s.left)
+of_top excludes rules tree stack =
+    of_entries excludes rules (descend excludes rules tree (256 - length stack.holders))
+    stack.context stack.place
+    (reverse stack.left)
 
 -- the files of the walked folder, and then those of the folders that hold it
 abbrev pub of_stack : List Pattern → Rules → Tree → Stack → List KeptFile
-of_stack excludes rules t s =
-    of_top excludes rules t s ++ of_frames excludes rules t (outer s.context) (reverse s.holders)
+of_stack excludes rules tree stack =
+    of_top excludes rules tree stack ++ of_frames excludes rules tree (outer stack.context)
+    (reverse stack.holders)

@@ -25,31 +25,31 @@ patterns_at (Some (file r h content)) = cond r [] (patterns_of content)
 
 -- the patterns of the file that these names lead to from a folder
 unfoldable pub ignore_file_at : Tree → Names → Names → List Pattern
-ignore_file_at t p names = patterns_at (node_at t (p ++ names))
+ignore_file_at tree place names = patterns_at (node_at tree (place ++ names))
 
 -- a folder with an entry `.git` is the top of a repository
 unfoldable pub has_git : Tree → Names → Bool
-has_git t p = is_some (node_at t (p ++ codes ".git" ∷ []))
+has_git tree names = is_some (node_at tree (names ++ codes ".git" ∷ []))
 
 -- the rules of a folder; a kind that is switched off has no pattern
 unfoldable pub level_at : Tree → Rules → Names → Level
-level_at t rules p = record {
-  tokeignore = if rules.dot then ignore_file_at t p (codes ".tokeignore" ∷ []) else [];
-  ignore = if rules.dot then ignore_file_at t p (codes ".ignore" ∷ []) else [];
-  gitignore = if rules.git then ignore_file_at t p (codes ".gitignore" ∷ []) else [];
+level_at tree rules names = record {
+  tokeignore = if rules.dot then ignore_file_at tree names (codes ".tokeignore" ∷ []) else [];
+  ignore = if rules.dot then ignore_file_at tree names (codes ".ignore" ∷ []) else [];
+  gitignore = if rules.git then ignore_file_at tree names (codes ".gitignore" ∷ []) else [];
   git_exclude =
-      if rules.git && has_git t p
-      then ignore_file_at t p (codes ".git" ∷ codes "info" ∷ codes "exclude" ∷ [])
+      if rules.git && has_git tree names
+      then ignore_file_at tree names (codes ".git" ∷ codes "info" ∷ codes "exclude" ∷ [])
       else [];
-  git = rules.git && has_git t p;
+  git = rules.git && has_git tree names;
 }
 
 -- the patterns of a level that come from one kind of ignore file
 abbrev pub patterns_from : IgnoreKind → Level → List Pattern
-patterns_from Tokeignore l = l.tokeignore
-patterns_from Plain l = l.ignore
-patterns_from Gitignore l = l.gitignore
-patterns_from GitExclude l = l.git_exclude
+patterns_from Tokeignore level = level.tokeignore
+patterns_from Plain level = level.ignore
+patterns_from Gitignore level = level.gitignore
+patterns_from GitExclude level = level.git_exclude
 
 -- from the top down: what a nearer folder decides takes the place of what those above decided; the
 -- names are those from the first folder down to the entry
@@ -90,14 +90,17 @@ is_excluded excludes shown is_folder = list_any (λ p. fits_entry p shown is_fol
 
 -- the context with an entry's name
 abbrev pub under : Context → List ℕ → Context
-under c name = record c { names = c.names ++ name ∷ []; shown = c.shown ++ name ∷ [] }
+under context name = record context
+    { names = context.names ++ name ∷ []; shown = context.shown ++ name ∷ [] }
 
 -- whether the entry that the context's names lead to is dropped, and its own name
 unfoldable pub drops_last : List Pattern → Rules → Context → List ℕ → Bool → Bool
-drops_last excludes rules c name is_folder =
-    if is_excluded excludes c.shown is_folder then true
-    else is_dropped_by (decided c.levels c.names is_folder) (rules.hidden && begins_with dot name)
+drops_last excludes rules context name is_folder =
+    if is_excluded excludes context.shown is_folder then true
+    else is_dropped_by (decided context.levels context.names is_folder)
+    (rules.hidden && begins_with dot name)
 
 -- whether an entry of a folder is dropped, by its name and whether it is a folder
 abbrev pub drops : List Pattern → Rules → Context → List ℕ → Bool → Bool
-drops excludes rules c name is_folder = drops_last excludes rules (under c name) name is_folder
+drops excludes rules context name is_folder =
+    drops_last excludes rules (under context name) name is_folder

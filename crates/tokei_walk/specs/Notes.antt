@@ -16,7 +16,7 @@ use Rattle.tokei_ignore.specs.Patterns.{exclude_pattern}
 
 -- what a walk met so far
 unfoldable pub notes_of : Walk → List Note
-notes_of w = w.notes
+notes_of walk = walk.notes
 
 -- a bad exclude leaves a note
 abbrev pub notes_by : List ℕ → Result (Option Pattern) PatternError → List Note

@@ -20,15 +20,16 @@ frames_rank (f ∷ fs) = length f.left * weight (256 - length fs) + frames_rank 
 
 -- the entries left of all folders that are walked
 unfoldable pub stack_rank : Stack → ℕ
-stack_rank s = length s.left * weight (256 - length s.holders) + frames_rank (reverse s.holders)
+stack_rank stack = length stack.left * weight (256 - length stack.holders) + frames_rank
+    (reverse stack.holders)
 
 -- those, and the roots that are still to come
 unfoldable pub all_rank : Stack → List (List ℕ) → ℕ
-all_rank s roots = length roots * weight 257 + stack_rank s
+all_rank stack roots = length roots * weight 257 + stack_rank stack
 
 -- the measure of a walk
 unfoldable pub rank : Walk → ℕ
-rank w = all_rank w.stack w.roots
+rank walk = all_rank walk.stack walk.roots
 
 -- a step that finds a file lowers the measure
 abbrev pub FoundFalls : Stack → Stack → Step → Type 0

@@ -25,12 +25,14 @@ listed rules es = record {
 
 -- the rules that the ignore files give which are sought
 unfoldable pub level_of : Tree → Sought → Names → Level
-level_of t sought p = record {
-  tokeignore = if sought.tokeignore then ignore_file_at t p (codes ".tokeignore" ∷ []) else [];
-  ignore = if sought.ignore then ignore_file_at t p (codes ".ignore" ∷ []) else [];
-  gitignore = if sought.gitignore then ignore_file_at t p (codes ".gitignore" ∷ []) else [];
+level_of tree sought names = record {
+  tokeignore = if sought.tokeignore then ignore_file_at tree names (codes ".tokeignore" ∷ []) else
+      [];
+  ignore = if sought.ignore then ignore_file_at tree names (codes ".ignore" ∷ []) else [];
+  gitignore = if sought.gitignore then ignore_file_at tree names (codes ".gitignore" ∷ []) else [];
   git_exclude =
-      if sought.git then ignore_file_at t p (codes ".git" ∷ codes "info" ∷ codes "exclude" ∷ [])
+      if sought.git then ignore_file_at tree names
+      (codes ".git" ∷ codes "info" ∷ codes "exclude" ∷ [])
       else [];
   git = sought.git;
 }

@@ -36,15 +36,17 @@ pub record Enters (old new : Stack) (place : List ℕ) : Type 0 where
   pub few : length new.left < 2 ^ 64
 
 -- in a known tree its entries and its rules are the tree's
-pub record EntersTold (t : Tree) (rules : Rules) (old new : Stack) (place : List ℕ) : Type 0 where
-  pub entries_are : list_answer t (names_of place) ≡ Ok (reverse new.left)
-  pub levels_are : new.context.levels ≡ old.context.levels ++ level_at t rules (names_of place) ∷ []
+pub record EntersTold (tree : Tree) (rules : Rules) (old new : Stack) (place : List ℕ) : Type 0
+  where
+    pub entries_are : list_answer tree (names_of place) ≡ Ok (reverse new.left)
+    pub levels_are : new.context.levels
+        ≡ old.context.levels ++ level_at tree rules (names_of place) ∷ []
 
 -- what an entry that is a folder gives
 abbrev pub of_folder : List Pattern → Rules → Tree → Stack → List ℕ → List ℕ → List KeptFile
-of_folder excludes rules t s name place =
-    cond (drops excludes rules s.context name true) []
-    (descend excludes rules t (256 - length s.holders) (under s.context name) place)
+of_folder excludes rules tree stack name place =
+    cond (drops excludes rules stack.context name true) []
+    (descend excludes rules tree (256 - length stack.holders) (under stack.context name) place)
 
 -- a file that isn't dropped is found
 abbrev pub file_kept : Bool → List ℕ → Step
@@ -53,11 +55,11 @@ file_kept false place = Found (record { path = place; place = place })
 
 -- what a step over one entry leaves
 abbrev pub StepTells : List Pattern → Rules → Tree → Stack → Stack → Step → Type 0
-StepTells excludes rules t old new (Found k) =
-    of_stack excludes rules t old ≡ k ∷ of_stack excludes rules t new
-StepTells excludes rules t old new Passed =
-    of_top excludes rules t old ≡ of_top excludes rules t new
-StepTells excludes rules t old new Ended = of_top excludes rules t old ≡ []
+StepTells excludes rules tree old new (Found k) =
+    of_stack excludes rules tree old ≡ k ∷ of_stack excludes rules tree new
+StepTells excludes rules tree old new Passed =
+    of_top excludes rules tree old ≡ of_top excludes rules tree new
+StepTells excludes rules tree old new Ended = of_top excludes rules tree old ≡ []
 
 -- the walked folder stays, with what holds it
 abbrev pub Stays : Stack → Stack → Type 0
@@ -83,13 +85,14 @@ NoneIsSame old new (Some k) = Unit {0}
 -- what a visit of a folder's entry leaves
 abbrev pub VisitTells : List Pattern → Rules → Tree → Stack → Stack → List ℕ → List ℕ
     → Option KeptFile → Type 0
-VisitTells excludes rules t old new name place None = of_folder excludes rules t old name place ≡ []
-VisitTells excludes rules t old new name place (Some k) =
-    of_folder excludes rules t old name place ++ of_stack excludes rules t old
-    ≡ k ∷ of_stack excludes rules t new
+VisitTells excludes rules tree old new name place None =
+    of_folder excludes rules tree old name place ≡ []
+VisitTells excludes rules tree old new name place (Some k) =
+    of_folder excludes rules tree old name place ++ of_stack excludes rules tree old
+    ≡ k ∷ of_stack excludes rules tree new
 
 -- what the exploring of the walked folder leaves
 abbrev pub ExploreTells : List Pattern → Rules → Tree → Stack → Stack → Option KeptFile → Type 0
-ExploreTells excludes rules t old new None = of_top excludes rules t old ≡ []
-ExploreTells excludes rules t old new (Some k) =
-    of_stack excludes rules t old ≡ k ∷ of_stack excludes rules t new
+ExploreTells excludes rules tree old new None = of_top excludes rules tree old ≡ []
+ExploreTells excludes rules tree old new (Some k) =
+    of_stack excludes rules tree old ≡ k ∷ of_stack excludes rules tree new

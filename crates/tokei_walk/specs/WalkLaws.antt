@@ -20,7 +20,7 @@ DescentMeetsKept =
 
 -- a file stands at a kept file's place
 abbrev pub is_file_of : Tree → KeptFile → Bool
-is_file_of t k = is_file (node_at t (names_of k.place))
+is_file_of tree file = is_file (node_at tree (names_of file.place))
 
 -- each kept file of a sound tree is a file of the tree
 abbrev pub KeptAreFiles : Type 0

@@ -22,27 +22,29 @@ use Rattle.tokei_folders.specs.Tree.{Tree, Names, names_of, node_at}
 
 -- the files of roots, the last one first
 unfoldable pub of_roots : List Pattern → Rules → Tree → List (List ℕ) → List KeptFile
-of_roots excludes rules t roots = flat_map (of_root excludes rules t) (reverse roots)
+of_roots excludes rules tree roots = flat_map (of_root excludes rules tree) (reverse roots)
 
 -- the files of the walked folders, and then those of the roots that are left
 abbrev pub of_all : List Pattern → Rules → Tree → Stack → List (List ℕ) → List KeptFile
-of_all excludes rules t s roots = of_stack excludes rules t s ++ of_roots excludes rules t roots
+of_all excludes rules tree stack roots =
+    of_stack excludes rules tree stack ++ of_roots excludes rules tree roots
 
 -- the list of files still to come in a tree; a walk that has failed has none
 unfoldable pub to_come : Tree → Walk → List KeptFile
-to_come t w = if w.failed then [] else of_all w.settings.excludes w.settings.rules t w.stack w.roots
+to_come tree walk = if walk.failed then [] else of_all walk.settings.excludes walk.settings.rules
+    tree walk.stack walk.roots
 
 -- memory ran out in the walk
 unfoldable pub has_failed : Walk → Bool
-has_failed w = w.failed
+has_failed walk = walk.failed
 
 -- nothing is left of a stack
 abbrev pub is_spent : Stack → Bool
-is_spent s = is_empty s.left && is_empty s.holders
+is_spent stack = is_empty stack.left && is_empty stack.holders
 
 -- a walk is over: it has failed, or nothing is left of it
 unfoldable pub is_over : Walk → Bool
-is_over w = w.failed || (is_spent w.stack && is_empty w.roots)
+is_over walk = walk.failed || (is_spent walk.stack && is_empty walk.roots)
 
 -- the bytes of texts
 abbrev pub texts_of : List (String Global) → List (List ℕ)
@@ -56,7 +58,7 @@ Advances old new (Some k) = old ≡ k ∷ new
 
 -- what a descent through the roots meets, in their order
 unfoldable pub descended : List Pattern → Rules → Tree → List (List ℕ) → List KeptFile
-descended excludes rules t roots = flat_map (of_root excludes rules t) roots
+descended excludes rules tree roots = flat_map (of_root excludes rules tree) roots
 
 -- the pattern of an exclude, where it has one
 abbrev pub exclude_patterns : List ℕ → List Pattern
@@ -68,7 +70,7 @@ excludes_of texts = flat_map exclude_patterns texts
 
 -- in no tree is a file to come
 abbrev pub HasEnded : Walk → Type 0
-HasEnded w = (t : Tree) → to_come t w ≡ []
+HasEnded walk = (t : Tree) → to_come t walk ≡ []
 
 -- the answer of a root that is begun: the first file of its own, and the rest is left
 abbrev pub RootGives : List KeptFile → List KeptFile → Option KeptFile → Type 0
@@ -84,9 +86,9 @@ file_of_root (Some Other) root = None
 
 -- what a tree has at a root; an empty root is missing
 abbrev pub RootIs : Tree → List ℕ → Option Kind → Type 0
-RootIs t root kind =
+RootIs tree root kind =
     (is_empty root ≡ true → kind ≡ None)
-    × (is_empty root ≡ false → kind ≡ node_kind (node_at t (names_of root)))
+    × (is_empty root ≡ false → kind ≡ node_kind (node_at tree (names_of root)))
 
 -- the names of folders above from the top down, and their rules
 abbrev pub names_over : List Above → Names
@@ -94,4 +96,4 @@ names_over found = map (λ a. a.1) (map above_view (reverse found))
 
 -- the rules of the folders that were found above, from the top down
 abbrev pub levels_over : Tree → Rules → List Above → List Level
-levels_over t rules found = map (λ a. level_at t rules a.0) (map above_view (reverse found))
+levels_over tree rules found = map (λ a. level_at tree rules a.0) (map above_view (reverse found))

@@ -20,9 +20,4 @@ mod walking;
 pub use collect::{Kept, kept_files};
 pub use kept_file::{KeptFile, Note, NoteKind};
 pub use levels::Rules;
-pub use tokei_folders::{
-    Above, Call, Entry, FailingFolders, Fault, Folders, Items, Kind, Listing, MemoryFolders, Text,
-    names, places,
-};
-pub use tokei_ignore::{IgnoreFile, IndexedPatterns, Pattern, PatternError, Verdict};
 pub use walking::Walk;

@@ -29,7 +29,8 @@ loop-file-preserved g c =
       told = λ t e.
           let here = inv.same ∙ e in
           let given = subst (λ (o : Option KeptFile). Advances (to_come t c.loop-file.walk) (to_come t c.next.new.self) o) c.in-Some.is (c.in_ok-file.ensures.told t here) in
-          one_row_more (file_row c.args.by.now.rows.now.form c.args.by.now.rows.now.table.now by t) _ _ _ c.in-Some.file _ _ _ (inv.told t e) given (c.in_ok-write_file.ensures.told t (c.next.ensures.same ∙ here));
+          one_row_more (file_row c.args.by.now.rows.now.form c.args.by.now.rows.now.table.now by t) _ _ _ c.in-Some.file _ _ _ (inv.told t e) given
+          (c.in_ok-write_file.ensures.told t (c.next.ensures.same ∙ here));
       fits = λ t e f.
           let here = inv.same ∙ e in
           let given = subst (λ (o : Option KeptFile). Advances (to_come t c.loop-file.walk) (to_come t c.next.new.self) o) c.in-Some.is (c.in_ok-file.ensures.told t here) in

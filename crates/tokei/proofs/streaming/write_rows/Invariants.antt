@@ -14,7 +14,8 @@ abbrev pub invariant-loop-file : goal.invariant-loop-file
 invariant-loop-file g l = record {
   same : g.F.Folders.tree l.folders ≡ g.F.Folders.tree l.initial.folders;
   told : Told (g.F.Folders.tree l.initial.folders) (λ t.
-      RowsSoFar (file_row l.by.rows.now.form l.by.rows.now.table.now (counting_of l.by.counting.now) t) (to_come t l.initial.walk) (to_come t l.walk) (g.W.Sink.contents l.initial.writer) (g.W.Sink.contents l.writer));
+      RowsSoFar (file_row l.by.rows.now.form l.by.rows.now.table.now (counting_of l.by.counting.now) t) (to_come t l.initial.walk) (to_come t l.walk)
+      (g.W.Sink.contents l.initial.writer) (g.W.Sink.contents l.writer));
   fits : Told (g.F.Folders.tree l.initial.folders) (λ t.
       ReadingsFit (counting_of l.by.counting.now) t (to_come t l.initial.walk) → ReadingsFit (counting_of l.by.counting.now) t (to_come t l.walk));
   notes : Grows (notes_of l.initial.walk) (notes_of l.walk);

@@ -29,7 +29,8 @@ overflow_add-newlines c =
     let text : List ℕ = c.args.text.now in
     let at : ℕ = c.loop-at.at in
     let newlines = ap count_ones c.line_masks-lines.ensures.newlines ∙ ones_newlines (chunk at 32 text) in
-    let few = newlines_fit text c.args.from (c.loop-at.newlines + count_ones c.line_masks-lines.result.newlines) (newline_count (drop (at + 32) text)) (omega (arith, c.loop-at.invariant.newlines, block_newlines text at, newlines)) in
+    let few = newlines_fit text c.args.from (c.loop-at.newlines + count_ones c.line_masks-lines.result.newlines) (newline_count (drop (at + 32) text))
+    (omega (arith, c.loop-at.invariant.newlines, block_newlines text at, newlines)) in
     omega (arith, few)
 
 pub overflow_add-fronts : goal.overflow_add-fronts
@@ -39,5 +40,7 @@ overflow_add-fronts c =
     let blank = c.loop-at.blank == 1 in
     let block : List ℕ = chunk at 32 text in
     let fronts = ap count_ones c.line_masks-lines.ensures.fronts ∙ ones_fronts block blank in
-    let few = fronts_fit_in text c.args.from (c.loop-at.fronts + count_ones c.line_masks-lines.result.fronts) (front_count (blank_after blank block) (drop (at + 32) text)) (omega (arith, c.loop-at.invariant.fronts, block_fronts text at blank, fronts)) in
+    let few = fronts_fit_in text c.args.from (c.loop-at.fronts + count_ones c.line_masks-lines.result.fronts)
+    (front_count (blank_after blank block) (drop (at + 32) text))
+    (omega (arith, c.loop-at.invariant.fronts, block_fronts text at blank, fronts)) in
     omega (arith, few)

@@ -14,10 +14,13 @@ returns c =
     let parent = setting_read (λ v. v) _ setting.NoIgnoreParent c.flag_at-3.result c.in_ok-no_ignore_parent.no_ignore_parent c.flag_at-3.ensures (sym c.in_ok-no_ignore_parent.was ∙ c.at-4.ensures) in
     let dot = setting_read (λ v. v) _ setting.NoIgnoreDot c.flag_at-4.result c.in_ok-no_ignore_dot.no_ignore_dot c.flag_at-4.ensures (sym c.in_ok-no_ignore_dot.was ∙ c.at-5.ensures) in
     let vcs = setting_read (λ v. v) _ setting.NoIgnoreVcs c.flag_at-5.result c.in_ok-no_ignore_vcs.no_ignore_vcs c.flag_at-5.ensures (sym c.in_ok-no_ignore_vcs.was ∙ c.at-6.ensures) in
-    let docs = setting_read (λ v. v) _ setting.TreatDocStringsAsComments c.flag_at-6.result c.in_ok-treat_doc_strings_as_comments.treat_doc_strings_as_comments c.flag_at-6.ensures (sym c.in_ok-treat_doc_strings_as_comments.was ∙ c.at-7.ensures) in
+    let docs = setting_read (λ v. v) _ setting.TreatDocStringsAsComments c.flag_at-6.result
+    c.in_ok-treat_doc_strings_as_comments.treat_doc_strings_as_comments c.flag_at-6.ensures
+    (sym c.in_ok-treat_doc_strings_as_comments.was ∙ c.at-7.ensures) in
     let sort = setting_read (λ v. v) _ setting.Sort c.sort_at.result c.in_ok-sort.sort c.sort_at.ensures (sym c.in_ok-sort.was ∙ c.at-8.ensures) in
     let types = setting_read (option_map (λ v. v.items)) _ setting.Types c.types_at.result c.in_ok-types.types c.types_at.ensures (sym c.in_ok-types.was ∙ c.at-9.ensures) in
-    let languages = setting_read (option_map (λ m. additions_of m.entries)) _ setting.Languages c.languages_at.result c.in_ok-languages.languages c.languages_at.ensures (sym c.in_ok-languages.was ∙ c.at-10.ensures) in
+    let languages = setting_read (option_map (λ m. additions_of m.entries)) _ setting.Languages c.languages_at.result c.in_ok-languages.languages
+    c.languages_at.ensures (sym c.in_ok-languages.was ∙ c.at-10.ensures) in
     (rw (columns, hidden, no_ignore, parent, dot, vcs, docs, sort, types, languages) refl, rw (columns, hidden, no_ignore, parent, dot, vcs, docs, sort, types, languages) refl)
 
 pub returns-in_err-languages : goal.returns-in_err-languages
@@ -28,9 +31,12 @@ returns-in_err-languages c =
     let parent = setting_read (λ v. v) _ setting.NoIgnoreParent c.flag_at-3.result c.in_ok-no_ignore_parent.no_ignore_parent c.flag_at-3.ensures (sym c.in_ok-no_ignore_parent.was ∙ c.at-4.ensures) in
     let dot = setting_read (λ v. v) _ setting.NoIgnoreDot c.flag_at-4.result c.in_ok-no_ignore_dot.no_ignore_dot c.flag_at-4.ensures (sym c.in_ok-no_ignore_dot.was ∙ c.at-5.ensures) in
     let vcs = setting_read (λ v. v) _ setting.NoIgnoreVcs c.flag_at-5.result c.in_ok-no_ignore_vcs.no_ignore_vcs c.flag_at-5.ensures (sym c.in_ok-no_ignore_vcs.was ∙ c.at-6.ensures) in
-    let docs = setting_read (λ v. v) _ setting.TreatDocStringsAsComments c.flag_at-6.result c.in_ok-treat_doc_strings_as_comments.treat_doc_strings_as_comments c.flag_at-6.ensures (sym c.in_ok-treat_doc_strings_as_comments.was ∙ c.at-7.ensures) in
+    let docs = setting_read (λ v. v) _ setting.TreatDocStringsAsComments c.flag_at-6.result
+    c.in_ok-treat_doc_strings_as_comments.treat_doc_strings_as_comments c.flag_at-6.ensures
+    (sym c.in_ok-treat_doc_strings_as_comments.was ∙ c.at-7.ensures) in
     let sort = setting_read (λ v. v) _ setting.Sort c.sort_at.result c.in_ok-sort.sort c.sort_at.ensures (sym c.in_ok-sort.was ∙ c.at-8.ensures) in
     let types = setting_read (option_map (λ v. v.items)) _ setting.Types c.types_at.result c.in_ok-types.types c.types_at.ensures (sym c.in_ok-types.was ∙ c.at-9.ensures) in
-    let languages = setting_refused (option_map (λ m. additions_of m.entries)) _ setting.Languages c.languages_at.result c.in_err-languages.field-0.0 c.languages_at.ensures (sym c.in_err-languages.was ∙ c.at-10.ensures) in
+    let languages = setting_refused (option_map (λ m. additions_of m.entries)) _ setting.Languages c.languages_at.result c.in_err-languages.field-0.0
+    c.languages_at.ensures (sym c.in_err-languages.was ∙ c.at-10.ensures) in
     let is : c.from_residual-in_err-languages.result ≡ Err c.in_err-languages.field-0.0 = search rules in
     rw is (last_refused c.args.table.now (table_view c.args.members.now) columns hidden no_ignore parent dot vcs docs sort types c.in_err-languages.field-0.0 languages)

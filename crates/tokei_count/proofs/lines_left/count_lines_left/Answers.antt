@@ -15,7 +15,8 @@ returns-clause-under_way c =
     let q = c.requires in
     let n = c.count_lines in
     counted_on r p c.in_ok-so_far.field-0 (length r.text.now) c.sums_in-lines.result c.in_ok-so_far.ensures.ok
-    (all_left r p q.skips q.plain q.bare c.sums_in-lines.result n.result.blank n.result.solid q.under_way q.none n.ensures.solid n.ensures.all (c.sums_in-lines.ensures ∙ ap (λ (g : Row). counts_in g.literate n.result.blank n.result.solid) r.row))
+    (all_left r p q.skips q.plain q.bare c.sums_in-lines.result n.result.blank n.result.solid q.under_way q.none n.ensures.solid n.ensures.all
+    (c.sums_in-lines.ensures ∙ ap (λ (g : Row). counts_in g.literate n.result.blank n.result.solid) r.row))
 
 pub returns-in_err-so_far-clause-overflow : goal.returns-in_err-so_far-clause-overflow
 returns-in_err-so_far-clause-overflow c =
@@ -23,7 +24,8 @@ returns-in_err-so_far-clause-overflow c =
     let p = c.args.so_far.now in
     let q = c.requires in
     let n = c.count_lines in
-    let way = all_left r p q.skips q.plain q.bare c.sums_in-lines.result n.result.blank n.result.solid q.under_way q.none n.ensures.solid n.ensures.all (c.sums_in-lines.ensures ∙ ap (λ (g : Row). counts_in g.literate n.result.blank n.result.solid) r.row) in
+    let way = all_left r p q.skips q.plain q.bare c.sums_in-lines.result n.result.blank n.result.solid q.under_way q.none n.ensures.solid
+    n.ensures.all (c.sums_in-lines.ensures ∙ ap (λ (g : Row). counts_in g.literate n.result.blank n.result.solid) r.row) in
     λ is fits. c.in_err-so_far.ensures.past (counts_fit r (gone_on p c.sums_in-lines.result (length r.text.now)) way fits)
 
 pub returns-in_err-so_far-clause-quiet : goal.returns-in_err-so_far-clause-quiet
@@ -32,7 +34,8 @@ returns-in_err-so_far-clause-quiet c = λ none.
     let p = c.args.so_far.now in
     let q = c.requires in
     let n = c.count_lines in
-    let way = all_left r p q.skips q.plain q.bare c.sums_in-lines.result n.result.blank n.result.solid q.under_way q.none n.ensures.solid n.ensures.all (c.sums_in-lines.ensures ∙ ap (λ (g : Row). counts_in g.literate n.result.blank n.result.solid) r.row) in
+    let way = all_left r p q.skips q.plain q.bare c.sums_in-lines.result n.result.blank n.result.solid q.under_way q.none n.ensures.solid
+    n.ensures.all (c.sums_in-lines.ensures ∙ ap (λ (g : Row). counts_in g.literate n.result.blank n.result.solid) r.row) in
     let few = (way.quiet q.skips none).1 in
     let fits : CountsFit (plus (sums_of p.own) (sums_of c.sums_in-lines.result)) = record { blanks = omega (arith, few); code = omega (arith, few); comments = omega (arith, few) } in
     absurd (c.in_err-so_far.ensures.past fits)

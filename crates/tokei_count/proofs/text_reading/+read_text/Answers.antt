@@ -27,66 +27,116 @@ use Rattle.tokei_count.proofs.UnderWay.{first_end, all_read, all_made, unwalked,
 use Rattle.tokei_count.proofs.text_reading.+read_text.Goals as goal
 
 pub read_notebook-returns-then-levels-eq0-clause-reads : goal.read_notebook-returns-then-levels-eq0-clause-reads
-read_notebook-returns-then-levels-eq0-clause-reads t c = c.new-stats.ensures ∙ sym (reading-no_notebook c.args.reader.table.now c.args.reader.docs_are_comments c.args.levels c.args.language c.args.text.now c.requires.notebook c.if-levels-eq0.true)
+read_notebook-returns-then-levels-eq0-clause-reads t c = c.new-stats.ensures
+    ∙ sym (reading-no_notebook c.args.reader.table.now c.args.reader.docs_are_comments c.args.levels c.args.language c.args.text.now
+    c.requires.notebook c.if-levels-eq0.true)
 
 pub read_notebook-loop-cell-init : goal.read_notebook-loop-cell-init
 read_notebook-loop-cell-init t c = record {
-  cells = ap (λ es. gathered (child_reading (languages_of c.args.reader.table.now) c.args.reader.docs_are_comments c.args.levels) (blobs_of (entries_of es)) (map cell_block (map cell_of c.as_slice-cell-items.result.now))) c.new-blobs.ensures.empty
-      ∙ begun c.args.reader.table.now c.args.reader.docs_are_comments c.args.levels c.args.language c.args.text.now c.as_slice-cell-items.result.now (ap (map cell_of) c.as_slice-cell-items.ensures.value ∙ c.in_ok-cells.ensures.value);
+  cells = ap (λ es. gathered (child_reading (languages_of c.args.reader.table.now) c.args.reader.docs_are_comments c.args.levels)
+      (blobs_of (entries_of es)) (map cell_block (map cell_of c.as_slice-cell-items.result.now))) c.new-blobs.ensures.empty
+      ∙ begun c.args.reader.table.now c.args.reader.docs_are_comments c.args.levels c.args.language c.args.text.now c.as_slice-cell-items.result.now
+      (ap (map cell_of) c.as_slice-cell-items.ensures.value ∙ c.in_ok-cells.ensures.value);
   inner =
-      let all : 0 + sum_over (child_steps c.args.reader.skips (languages_of c.args.reader.table.now) c.args.levels) (map cell_block (map cell_of c.as_slice-cell-items.result.now)) ≡ sum_over (child_steps c.args.reader.skips (languages_of c.args.reader.table.now) c.args.levels) (cell_blocks c.args.reader.table.now c.args.language c.args.text.now) =
-      omega (arith, ap (sum_over (child_steps c.args.reader.skips (languages_of c.args.reader.table.now) c.args.levels)) (cells_begun c.args.reader.table.now c.args.reader.docs_are_comments c.args.levels c.args.language c.args.text.now c.as_slice-cell-items.result.now (ap (map cell_of) c.as_slice-cell-items.ensures.value ∙ c.in_ok-cells.ensures.value))) in
+      let all : 0 + sum_over (child_steps c.args.reader.skips (languages_of c.args.reader.table.now) c.args.levels)
+      (map cell_block (map cell_of c.as_slice-cell-items.result.now))
+      ≡ sum_over (child_steps c.args.reader.skips (languages_of c.args.reader.table.now) c.args.levels)
+      (cell_blocks c.args.reader.table.now c.args.language c.args.text.now) =
+      omega (
+        arith,
+        ap (sum_over (child_steps c.args.reader.skips (languages_of c.args.reader.table.now) c.args.levels))
+            (cells_begun c.args.reader.table.now c.args.reader.docs_are_comments c.args.levels c.args.language c.args.text.now
+            c.as_slice-cell-items.result.now (ap (map cell_of) c.as_slice-cell-items.ensures.value ∙ c.in_ok-cells.ensures.value)),
+      ) in
       ap capped all;
   small = refl;
 }
 
 pub read_notebook-read_text-requires : goal.read_notebook-read_text-requires
 read_notebook-read_text-requires t c =
-    let known : AreKnown (length c.args.reader.table.now) (map cell_of c.as_slice-cell-items.result.now) = subst (λ cs. AreKnown (length c.args.reader.table.now) (map cell_of cs)) (sym c.as_slice-cell-items.ensures.value) c.in_ok-cells.ensures.known in
-    (omega (arith, c.if-levels-eq0.false, c.decreases), (subst (λ (cell : Cell). cell.language < length c.args.reader.table.now) (sym c.cell-item.is) (known_at (length c.args.reader.table.now) c.as_slice-cell-items.result.now c.loop-cell.cell-index c.cell-item.result known c.loop-cell-test.true), c.requires.indexed))
+    let known : AreKnown (length c.args.reader.table.now) (map cell_of c.as_slice-cell-items.result.now) =
+    subst (λ cs. AreKnown (length c.args.reader.table.now) (map cell_of cs)) (sym c.as_slice-cell-items.ensures.value)
+    c.in_ok-cells.ensures.known in (
+      omega (arith, c.if-levels-eq0.false, c.decreases),
+      (
+        subst (λ (cell : Cell). cell.language < length c.args.reader.table.now) (sym c.cell-item.is)
+            (known_at (length c.args.reader.table.now) c.as_slice-cell-items.result.now c.loop-cell.cell-index c.cell-item.result known
+            c.loop-cell-test.true),
+        c.requires.indexed,
+      ),
+    )
 
 pub read_notebook-returns-in_err-read-clause-overflow : goal.read_notebook-returns-in_err-read-clause-overflow
 read_notebook-returns-in_err-read-clause-overflow t c =
     let some : 0 < c.args.levels = omega (arith, c.if-levels-eq0.false) in
-    let read_is = cell_reading c.args.reader.table.now c.args.reader.docs_are_comments c.args.levels c.args.language c.args.text.now (blobs_of (entries_of c.loop-cell.blobs.entries)) c.as_slice-cell-items.result.now c.loop-cell.cell-index c.cell-item.result c.loop-cell-test.true c.cell-item.is c.loop-cell.invariant.cells c.deref.result.now c.deref.ensures.value some in
+    let read_is = cell_reading c.args.reader.table.now c.args.reader.docs_are_comments c.args.levels c.args.language c.args.text.now
+    (blobs_of (entries_of c.loop-cell.blobs.entries)) c.as_slice-cell-items.result.now c.loop-cell.cell-index c.cell-item.result
+    c.loop-cell-test.true c.cell-item.is c.loop-cell.invariant.cells c.deref.result.now c.deref.ensures.value some in
     let p = err_from_is_err_and c.from_residual-in_err-read.result c.from_residual-in_err-read.ensures.1 in
-    rw (p.1, p.2) (λ is fits. c.in_err-read.ensures.overflow is (subst Fits (sym read_is) (cell_fits c.args.reader.table.now c.args.reader.docs_are_comments c.args.levels c.args.language c.args.text.now (blobs_of (entries_of c.loop-cell.blobs.entries)) c.as_slice-cell-items.result.now c.loop-cell.cell-index c.cell-item.result c.loop-cell-test.true c.cell-item.is c.loop-cell.invariant.cells c.requires.notebook some fits)))
+    rw (p.1, p.2) (λ is fits. c.in_err-read.ensures.overflow is
+    (subst Fits (sym read_is) (cell_fits c.args.reader.table.now c.args.reader.docs_are_comments c.args.levels c.args.language c.args.text.now
+    (blobs_of (entries_of c.loop-cell.blobs.entries)) c.as_slice-cell-items.result.now c.loop-cell.cell-index c.cell-item.result
+    c.loop-cell-test.true c.cell-item.is c.loop-cell.invariant.cells c.requires.notebook some fits)))
 
 pub read_notebook-returns-in_err-add_blob-clause-overflow : goal.read_notebook-returns-in_err-add_blob-clause-overflow
 read_notebook-returns-in_err-add_blob-clause-overflow t c =
     let some : 0 < c.args.levels = omega (arith, c.if-levels-eq0.false) in
-    let read_is = cell_reading c.args.reader.table.now c.args.reader.docs_are_comments c.args.levels c.args.language c.args.text.now (blobs_of (entries_of c.loop-cell.blobs.entries)) c.as_slice-cell-items.result.now c.loop-cell.cell-index c.cell-item.result c.loop-cell-test.true c.cell-item.is c.loop-cell.invariant.cells c.deref.result.now c.deref.ensures.value some in
+    let read_is = cell_reading c.args.reader.table.now c.args.reader.docs_are_comments c.args.levels c.args.language c.args.text.now
+    (blobs_of (entries_of c.loop-cell.blobs.entries)) c.as_slice-cell-items.result.now c.loop-cell.cell-index c.cell-item.result
+    c.loop-cell-test.true c.cell-item.is c.loop-cell.invariant.cells c.deref.result.now c.deref.ensures.value some in
     let k : Block = cell_block (cell_of c.cell-item.result) in
     let stats_is : stats_of c.in_ok-read.read.stats ≡ child_reading (languages_of c.args.reader.table.now) c.args.reader.docs_are_comments c.args.levels k = c.in_ok-read.ensures.reads ∙ read_is in
     let p = err_from_is_err_and c.from_residual-in_err-add_blob.result c.from_residual-in_err-add_blob.ensures.1 in
     rw (p.1, p.2) (λ is fits.
     let same_err : c.in_err-add_blob.field-0.0 ≡ Overflow = cc in
     let bs : Blobs = blobs_of (entries_of c.loop-cell.blobs.entries) in
-    let fit : Fits (joined (at bs k.language) (λ o. sum o (child_reading (languages_of c.args.reader.table.now) c.args.reader.docs_are_comments c.args.levels k)) (child_reading (languages_of c.args.reader.table.now) c.args.reader.docs_are_comments c.args.levels k)) =
-    cell_blob_fits c.args.reader.table.now c.args.reader.docs_are_comments c.args.levels c.args.language c.args.text.now bs c.as_slice-cell-items.result.now c.loop-cell.cell-index c.cell-item.result c.loop-cell-test.true c.cell-item.is c.loop-cell.invariant.cells c.requires.notebook some fits in
+    let fit : Fits (joined (at bs k.language) (λ o. sum o
+    (child_reading (languages_of c.args.reader.table.now) c.args.reader.docs_are_comments c.args.levels k))
+    (child_reading (languages_of c.args.reader.table.now) c.args.reader.docs_are_comments c.args.levels k)) =
+    cell_blob_fits c.args.reader.table.now c.args.reader.docs_are_comments c.args.levels c.args.language c.args.text.now bs
+    c.as_slice-cell-items.result.now c.loop-cell.cell-index c.cell-item.result c.loop-cell-test.true c.cell-item.is c.loop-cell.invariant.cells
+    c.requires.notebook some fits in
     c.in_err-add_blob.ensures.overflow (ap Err same_err) (subst (λ s. Fits (joined (at bs k.language) (λ o. sum o s) s)) (sym stats_is) fit))
 
 pub read_notebook-loop-cell-preserved : goal.read_notebook-loop-cell-preserved
 read_notebook-loop-cell-preserved t c =
     let some : 0 < c.args.levels = omega (arith, c.if-levels-eq0.false) in
-    let read_is = cell_reading c.args.reader.table.now c.args.reader.docs_are_comments c.args.levels c.args.language c.args.text.now (blobs_of (entries_of c.loop-cell.blobs.entries)) c.as_slice-cell-items.result.now c.loop-cell.cell-index c.cell-item.result c.loop-cell-test.true c.cell-item.is c.loop-cell.invariant.cells c.deref.result.now c.deref.ensures.value some in
+    let read_is = cell_reading c.args.reader.table.now c.args.reader.docs_are_comments c.args.levels c.args.language c.args.text.now
+    (blobs_of (entries_of c.loop-cell.blobs.entries)) c.as_slice-cell-items.result.now c.loop-cell.cell-index c.cell-item.result
+    c.loop-cell-test.true c.cell-item.is c.loop-cell.invariant.cells c.deref.result.now c.deref.ensures.value some in
     let k : Block = cell_block (cell_of c.cell-item.result) in
     let old : Blobs = (blobs_of (entries_of c.loop-cell.blobs.entries)) in
     let stats_is : stats_of c.in_ok-read.read.stats ≡ child_reading (languages_of c.args.reader.table.now) c.args.reader.docs_are_comments c.args.levels k = c.in_ok-read.ensures.reads ∙ read_is in
-    let blobs_are : blobs_of (entries_of c.add_blob.new.blobs.entries) ≡ put old k.language (joined (at old k.language) (λ s. sum s (child_reading (languages_of c.args.reader.table.now) c.args.reader.docs_are_comments c.args.levels k)) (child_reading (languages_of c.args.reader.table.now) c.args.reader.docs_are_comments c.args.levels k)) =
+    let blobs_are : blobs_of (entries_of c.add_blob.new.blobs.entries)
+    ≡ put old k.language (joined (at old k.language) (λ s. sum s
+    (child_reading (languages_of c.args.reader.table.now) c.args.reader.docs_are_comments c.args.levels k))
+    (child_reading (languages_of c.args.reader.table.now) c.args.reader.docs_are_comments c.args.levels k)) =
     c.in_ok-add_blob.ensures.ok ∙ ap (λ s'. put old k.language (joined (at old k.language) (λ s. sum s s') s')) stats_is in
     record {
-      cells = ap (λ bs. gathered (child_reading (languages_of c.args.reader.table.now) c.args.reader.docs_are_comments c.args.levels) bs (map cell_block (map cell_of (drop (c.loop-cell.cell-index + 1) c.as_slice-cell-items.result.now)))) blobs_are
-          ∙ cell_read c.args.reader.table.now c.args.reader.docs_are_comments c.args.levels c.args.language c.args.text.now (blobs_of (entries_of c.loop-cell.blobs.entries)) c.as_slice-cell-items.result.now c.loop-cell.cell-index c.cell-item.result c.loop-cell-test.true c.cell-item.is c.loop-cell.invariant.cells;
+      cells = ap (λ bs. gathered (child_reading (languages_of c.args.reader.table.now) c.args.reader.docs_are_comments c.args.levels) bs
+          (map cell_block (map cell_of (drop (c.loop-cell.cell-index + 1) c.as_slice-cell-items.result.now)))) blobs_are
+          ∙ cell_read c.args.reader.table.now c.args.reader.docs_are_comments c.args.levels c.args.language c.args.text.now
+          (blobs_of (entries_of c.loop-cell.blobs.entries)) c.as_slice-cell-items.result.now c.loop-cell.cell-index c.cell-item.result
+          c.loop-cell-test.true c.cell-item.is c.loop-cell.invariant.cells;
       inner =
           let rest : List Block = map cell_block (map cell_of (drop (c.loop-cell.cell-index + 1) c.as_slice-cell-items.result.now)) in
           let one : ℕ = child_steps c.args.reader.skips (languages_of c.args.reader.table.now) c.args.levels k in
-          let source_is : made_steps c.args.reader.skips (languages_of c.args.reader.table.now) (c.args.levels - 1) c.cell-item.result.language c.deref.result.now ≡ one = ap (made_steps c.args.reader.skips (languages_of c.args.reader.table.now) (c.args.levels - 1) c.cell-item.result.language) c.deref.ensures.value ∙ sym (child_steps-is c.args.reader.skips c.args.reader.table.now c.args.levels k some) in
-          let steps_are : c.capped_sum-steps.result ≡ capped (c.loop-cell.steps + capped one) = c.capped_sum-steps.ensures ∙ ap (λ m. capped (c.loop-cell.steps + m)) (c.in_ok-read.ensures.steps ∙ ap capped source_is) in
-          let all : c.loop-cell.steps + one + sum_over (child_steps c.args.reader.skips (languages_of c.args.reader.table.now) c.args.levels) rest ≡ c.loop-cell.steps + sum_over (child_steps c.args.reader.skips (languages_of c.args.reader.table.now) c.args.levels) (k ∷ rest) = omega arith in
+          let source_is : made_steps c.args.reader.skips (languages_of c.args.reader.table.now) (c.args.levels - 1) c.cell-item.result.language
+          c.deref.result.now ≡ one = ap (made_steps c.args.reader.skips (languages_of c.args.reader.table.now) (c.args.levels - 1)
+          c.cell-item.result.language) c.deref.ensures.value
+          ∙ sym (child_steps-is c.args.reader.skips c.args.reader.table.now c.args.levels k some) in
+          let steps_are : c.capped_sum-steps.result ≡ capped (c.loop-cell.steps + capped one) = c.capped_sum-steps.ensures
+          ∙ ap (λ m. capped (c.loop-cell.steps + m)) (c.in_ok-read.ensures.steps ∙ ap capped source_is) in
+          let all : c.loop-cell.steps + one + sum_over (child_steps c.args.reader.skips (languages_of c.args.reader.table.now) c.args.levels) rest
+          ≡ c.loop-cell.steps + sum_over (child_steps c.args.reader.skips (languages_of c.args.reader.table.now) c.args.levels) (k ∷ rest) =
+          omega arith in
           ap (λ m. capped (m + sum_over (child_steps c.args.reader.skips (languages_of c.args.reader.table.now) c.args.levels) rest)) steps_are
-          ∙ capped-left (c.loop-cell.steps + capped one) (sum_over (child_steps c.args.reader.skips (languages_of c.args.reader.table.now) c.args.levels) rest) ∙ capped_middle c.loop-cell.steps one (sum_over (child_steps c.args.reader.skips (languages_of c.args.reader.table.now) c.args.levels) rest) ∙ ap capped all
-          ∙ ap (λ ks. capped (c.loop-cell.steps + sum_over (child_steps c.args.reader.skips (languages_of c.args.reader.table.now) c.args.levels) ks)) (sym (cells_split c.as_slice-cell-items.result.now c.loop-cell.cell-index c.cell-item.result c.loop-cell-test.true c.cell-item.is))
+          ∙ capped-left (c.loop-cell.steps + capped one) (sum_over
+          (child_steps c.args.reader.skips (languages_of c.args.reader.table.now) c.args.levels) rest)
+          ∙ capped_middle c.loop-cell.steps one (sum_over (child_steps c.args.reader.skips (languages_of c.args.reader.table.now) c.args.levels)
+          rest) ∙ ap capped all
+          ∙ ap (λ ks. capped (c.loop-cell.steps + sum_over (child_steps c.args.reader.skips (languages_of c.args.reader.table.now) c.args.levels) ks))
+          (sym (cells_split c.as_slice-cell-items.result.now c.loop-cell.cell-index c.cell-item.result c.loop-cell-test.true c.cell-item.is))
           ∙ c.loop-cell.invariant.inner;
       small = c.capped_sum-steps.ensures ∙ capped-twice (c.loop-cell.steps + c.in_ok-read.read.steps) ∙ sym (ap capped c.capped_sum-steps.ensures);
     }
@@ -95,31 +145,43 @@ pub read_notebook-returns-clause-reads : goal.read_notebook-returns-clause-reads
 read_notebook-returns-clause-reads t c =
     let some : 0 < c.args.levels = omega (arith, c.if-levels-eq0.false) in
     let at_end : c.loop-cell.cell-index ≡ length c.as_slice-cell-items.result.now = omega (arith, c.loop-cell-test.false, c.loop-cell.auto.cell-index-end) in
-    c.assembled-stats.ensures ∙ ap (λ n. node n (blobs_of (entries_of c.loop-cell.blobs.entries))) c.new.ensures ∙ cells_whole c.args.reader.table.now c.args.reader.docs_are_comments c.args.levels c.args.language c.args.text.now (blobs_of (entries_of c.loop-cell.blobs.entries)) c.as_slice-cell-items.result.now c.loop-cell.cell-index at_end c.requires.notebook some c.loop-cell.invariant.cells
+    c.assembled-stats.ensures ∙ ap (λ n. node n (blobs_of (entries_of c.loop-cell.blobs.entries))) c.new.ensures
+    ∙ cells_whole c.args.reader.table.now c.args.reader.docs_are_comments c.args.levels c.args.language c.args.text.now
+    (blobs_of (entries_of c.loop-cell.blobs.entries)) c.as_slice-cell-items.result.now c.loop-cell.cell-index at_end c.requires.notebook some
+    c.loop-cell.invariant.cells
 
 pub read_notebook-returns-then-levels-eq0-clause-steps : goal.read_notebook-returns-then-levels-eq0-clause-steps
-read_notebook-returns-then-levels-eq0-clause-steps t c = sym (ap capped (steps-no_notebook c.args.reader.skips c.args.reader.table.now c.args.levels c.args.language c.args.text.now c.requires.notebook c.if-levels-eq0.true))
+read_notebook-returns-then-levels-eq0-clause-steps t c =
+    sym (ap capped (steps-no_notebook c.args.reader.skips c.args.reader.table.now c.args.levels c.args.language c.args.text.now c.requires.notebook
+    c.if-levels-eq0.true))
 
 pub read_notebook-returns-clause-steps : goal.read_notebook-returns-clause-steps
 read_notebook-returns-clause-steps t c =
     let some : 0 < c.args.levels = omega (arith, c.if-levels-eq0.false) in
     let at_end : c.loop-cell.cell-index ≡ length c.as_slice-cell-items.result.now = omega (arith, c.loop-cell-test.false, c.loop-cell.auto.cell-index-end) in
-    let none_left : map cell_block (map cell_of (drop c.loop-cell.cell-index c.as_slice-cell-items.result.now)) ≡ [] = ap (λ cs. map cell_block (map cell_of cs)) (drop_all c.loop-cell.cell-index c.as_slice-cell-items.result.now (omega (arith, at_end))) in
+    let none_left : map cell_block (map cell_of (drop c.loop-cell.cell-index c.as_slice-cell-items.result.now)) ≡ [] =
+    ap (λ cs. map cell_block (map cell_of cs)) (drop_all c.loop-cell.cell-index c.as_slice-cell-items.result.now (omega (arith, at_end))) in
     let bare : c.loop-cell.steps ≡ c.loop-cell.steps + 0 = omega arith in
     c.loop-cell.invariant.small
-    ∙ ap capped bare ∙ ap (λ ks. capped (c.loop-cell.steps + sum_over (child_steps c.args.reader.skips (languages_of c.args.reader.table.now) c.args.levels) ks)) (sym none_left) ∙ c.loop-cell.invariant.inner
+    ∙ ap capped bare ∙ ap (λ ks. capped (c.loop-cell.steps + sum_over
+    (child_steps c.args.reader.skips (languages_of c.args.reader.table.now) c.args.levels) ks)) (sym none_left) ∙ c.loop-cell.invariant.inner
     ∙ sym (ap capped (steps-notebook c.args.reader.skips c.args.reader.table.now c.args.levels c.args.language c.args.text.now c.requires.notebook some))
 
 pub read_text-invariant_of-reading-clause-matched : goal.read_text-invariant_of-reading-clause-matched
-read_text-invariant_of-reading-clause-matched t c = ap (λ ms. get_or ms c.index.result c.index-reader-index.result) c.requires.indexed ∙ matchers_at c.args.reader.table.now c.args.language c.index.result c.index-reader-index.result c.index.ensures c.requires.known
+read_text-invariant_of-reading-clause-matched t c = ap (λ ms. get_or ms c.index.result c.index-reader-index.result) c.requires.indexed
+    ∙ matchers_at c.args.reader.table.now c.args.language c.index.result c.index-reader-index.result c.index.ensures c.requires.known
 
 pub read_text-invariant_of-reading-clause-opens : goal.read_text-invariant_of-reading-clause-opens
 read_text-invariant_of-reading-clause-opens t c =
     c.family.ensures
-    ∙ ap (λ (m : Matchers). m.family) (ap (λ ms. get_or ms c.index.result c.index-reader-index.result) c.requires.indexed ∙ matchers_at c.args.reader.table.now c.args.language c.index.result c.index-reader-index.result c.index.ensures c.requires.known)
+    ∙ ap (λ (m : Matchers). m.family) (ap (λ ms. get_or ms c.index.result c.index-reader-index.result) c.requires.indexed
+    ∙ matchers_at c.args.reader.table.now c.args.language c.index.result c.index-reader-index.result c.index.ensures c.requires.known)
 
 pub read_child-read_text-requires : goal.read_child-read_text-requires
-read_child-read_text-requires t c = (omega (arith, c.requires.deep, c.decreases), (subst (λ (rows : List Row). c.args.child.now.language < length rows) c.requires.reader.table c.requires.known, c.requires.indexed))
+read_child-read_text-requires t c = (
+  omega (arith, c.requires.deep, c.decreases),
+  (subst (λ (rows : List Row). c.args.child.now.language < length rows) c.requires.reader.table c.requires.known, c.requires.indexed),
+)
 
 pub read_text-loop-so_far-init : goal.read_text-loop-so_far-init
 read_text-loop-so_far-init t c = record {
@@ -130,7 +192,8 @@ read_text-loop-so_far-init t c = record {
 
 pub read_text-line_end-end-requires-clause-known : goal.read_text-line_end-end-requires-clause-known
 read_text-line_end-end-requires-clause-known t c = λ high.
-    end_later c.args.text.now c.loop-so_far.so_far.start c.skip_lines.new.so_far.start c.loop-so_far.end c.in_ok-clear.ensures.on (c.loop-so_far.invariant.line (omega (arith, c.in_ok-clear.ensures.on, high))) high
+    end_later c.args.text.now c.loop-so_far.so_far.start c.skip_lines.new.so_far.start c.loop-so_far.end c.in_ok-clear.ensures.on
+    (c.loop-so_far.invariant.line (omega (arith, c.in_ok-clear.ensures.on, high))) high
 
 pub read_text-loop-so_far-preserved-in-Continue-branch-2 : goal.read_text-loop-so_far-preserved-in-Continue-branch-2
 read_text-loop-so_far-preserved-in-Continue-branch-2 t c =
@@ -145,7 +208,8 @@ pub read_text-loop-so_far-preserved : goal.read_text-loop-so_far-preserved
 read_text-loop-so_far-preserved t c = record {
   under_way = c.in_ok-clear.ensures.under_way;
   line = λ high.
-      end_later c.args.text.now c.loop-so_far.so_far.start c.skip_lines.new.so_far.start c.loop-so_far.end c.in_ok-clear.ensures.on (c.loop-so_far.invariant.line (omega (arith, c.in_ok-clear.ensures.on, high))) high;
+      end_later c.args.text.now c.loop-so_far.so_far.start c.skip_lines.new.so_far.start c.loop-so_far.end c.in_ok-clear.ensures.on
+      (c.loop-so_far.invariant.line (omega (arith, c.in_ok-clear.ensures.on, high))) high;
   known = c.in_ok-clear.ensures.known;
 }
 
@@ -160,23 +224,62 @@ pub read_text-returns-clause-steps : goal.read_text-returns-clause-steps
 read_text-returns-clause-steps t c = c.capped_sum-steps.ensures ∙ all_made _ _ c.loop-so_far.invariant.under_way (omega (arith, c.loop-so_far-test.false))
 
 pub read_walked-returns-in_err-so_far-in-Line-clause-overflow : goal.read_walked-returns-in_err-so_far-in-Line-clause-overflow
-read_walked-returns-in_err-so_far-in-Line-clause-overflow t c = λ is fits. c.in_err-so_far-in-Line.ensures.past (subst (λ (m : Counts). CountsFit (plus (sums_of c.args.so_far.now.own) m)) (sym c.counted_as.ensures)
-    (walked_fits c.args.reading.now c.args.so_far.now c.requires.under_way c.in-Line.class c.in-Line.behind c.in_ok-part.part.steps c.read_part.new.stack (subst (ReadsTo (row_in c.args.reading.now) (blocks_of c.args.reading.now) c.args.so_far.now.behind_child c.args.reading.now.docs_are_comments (chain_of c.args.so_far.now.stack.items) (chain_of c.read_part.new.stack.items) c.args.so_far.now.start c.args.reading.now.text.now c.in_ok-part.part.steps) c.in-Line.is c.in_ok-part.ensures.reads) fits))
+read_walked-returns-in_err-so_far-in-Line-clause-overflow t c =
+    λ is fits. c.in_err-so_far-in-Line.ensures.past (subst (λ (m : Counts). CountsFit (plus (sums_of c.args.so_far.now.own) m))
+    (sym c.counted_as.ensures)
+    (walked_fits c.args.reading.now c.args.so_far.now c.requires.under_way c.in-Line.class c.in-Line.behind c.in_ok-part.part.steps
+    c.read_part.new.stack (subst (ReadsTo (row_in c.args.reading.now) (blocks_of c.args.reading.now) c.args.so_far.now.behind_child
+    c.args.reading.now.docs_are_comments (chain_of c.args.so_far.now.stack.items) (chain_of c.read_part.new.stack.items) c.args.so_far.now.start
+    c.args.reading.now.text.now c.in_ok-part.part.steps) c.in-Line.is c.in_ok-part.ensures.reads) fits))
 
 pub read_walked-returns-in_err-so_far-in-Broken-clause-overflow : goal.read_walked-returns-in_err-so_far-in-Broken-clause-overflow
-read_walked-returns-in_err-so_far-in-Broken-clause-overflow t c = λ is fits. c.in_err-so_far-in-Broken.ensures.past (subst (λ (m : Counts). CountsFit (plus (sums_of c.args.so_far.now.own) m)) (sym c.share_of.ensures)
-    (broken_fits c.args.reading.now c.args.so_far.now c.requires.under_way c.in-Broken.at c.in_ok-part.part.steps (chain_of c.read_part.new.stack.items) (block_of c.read_part.new.found) (subst (ReadsTo (row_in c.args.reading.now) (blocks_of c.args.reading.now) c.args.so_far.now.behind_child c.args.reading.now.docs_are_comments (chain_of c.args.so_far.now.stack.items) (chain_of c.read_part.new.stack.items) c.args.so_far.now.start c.args.reading.now.text.now c.in_ok-part.part.steps) c.in-Broken.is c.in_ok-part.ensures.reads) (c.in_ok-part.ensures.found c.in-Broken.at c.in-Broken.is) fits))
+read_walked-returns-in_err-so_far-in-Broken-clause-overflow t c =
+    λ is fits. c.in_err-so_far-in-Broken.ensures.past (subst (λ (m : Counts). CountsFit (plus (sums_of c.args.so_far.now.own) m))
+    (sym c.share_of.ensures)
+    (broken_fits c.args.reading.now c.args.so_far.now c.requires.under_way c.in-Broken.at c.in_ok-part.part.steps
+    (chain_of c.read_part.new.stack.items) (block_of c.read_part.new.found)
+    (subst (ReadsTo (row_in c.args.reading.now) (blocks_of c.args.reading.now) c.args.so_far.now.behind_child
+    c.args.reading.now.docs_are_comments (chain_of c.args.so_far.now.stack.items) (chain_of c.read_part.new.stack.items) c.args.so_far.now.start
+    c.args.reading.now.text.now c.in_ok-part.part.steps) c.in-Broken.is c.in_ok-part.ensures.reads)
+    (c.in_ok-part.ensures.found c.in-Broken.at c.in-Broken.is) fits))
 
 pub read_walked-read_child-requires : goal.read_walked-read_child-requires
-read_walked-read_child-requires t c =
-    (omega (arith, c.decreases), (c.requires.reader, (c.requires.indexed, (child_deep c.args.reading.now c.args.so_far.now c.requires.under_way c.in-Broken.at c.in_ok-part.part.steps (chain_of c.read_part.new.stack.items) (block_of c.read_part.new.found) (subst (ReadsTo (row_in c.args.reading.now) (blocks_of c.args.reading.now) c.args.so_far.now.behind_child c.args.reading.now.docs_are_comments (chain_of c.args.so_far.now.stack.items) (chain_of c.read_part.new.stack.items) c.args.so_far.now.start c.args.reading.now.text.now c.in_ok-part.part.steps) c.in-Broken.is c.in_ok-part.ensures.reads) (c.in_ok-part.ensures.found c.in-Broken.at c.in-Broken.is), child_known c.args.reading.now c.args.so_far.now c.requires.under_way c.in-Broken.at c.in_ok-part.part.steps (chain_of c.read_part.new.stack.items) (block_of c.read_part.new.found) (subst (ReadsTo (row_in c.args.reading.now) (blocks_of c.args.reading.now) c.args.so_far.now.behind_child c.args.reading.now.docs_are_comments (chain_of c.args.so_far.now.stack.items) (chain_of c.read_part.new.stack.items) c.args.so_far.now.start c.args.reading.now.text.now c.in_ok-part.part.steps) c.in-Broken.is c.in_ok-part.ensures.reads) (c.in_ok-part.ensures.found c.in-Broken.at c.in-Broken.is)))))
+read_walked-read_child-requires t c = (
+  omega (arith, c.decreases),
+  (
+    c.requires.reader,
+    (
+      c.requires.indexed,
+      (
+        child_deep c.args.reading.now c.args.so_far.now c.requires.under_way c.in-Broken.at c.in_ok-part.part.steps
+            (chain_of c.read_part.new.stack.items) (block_of c.read_part.new.found)
+            (subst (ReadsTo (row_in c.args.reading.now) (blocks_of c.args.reading.now) c.args.so_far.now.behind_child
+            c.args.reading.now.docs_are_comments (chain_of c.args.so_far.now.stack.items) (chain_of c.read_part.new.stack.items) c.args.so_far.now.start
+            c.args.reading.now.text.now c.in_ok-part.part.steps) c.in-Broken.is c.in_ok-part.ensures.reads)
+            (c.in_ok-part.ensures.found c.in-Broken.at c.in-Broken.is),
+        child_known c.args.reading.now c.args.so_far.now c.requires.under_way
+            c.in-Broken.at c.in_ok-part.part.steps (chain_of c.read_part.new.stack.items) (block_of c.read_part.new.found)
+            (subst (ReadsTo (row_in c.args.reading.now) (blocks_of c.args.reading.now) c.args.so_far.now.behind_child
+            c.args.reading.now.docs_are_comments (chain_of c.args.so_far.now.stack.items) (chain_of c.read_part.new.stack.items) c.args.so_far.now.start
+            c.args.reading.now.text.now c.in_ok-part.part.steps) c.in-Broken.is c.in_ok-part.ensures.reads)
+            (c.in_ok-part.ensures.found c.in-Broken.at c.in-Broken.is),
+      ),
+    ),
+  ),
+)
 
 pub read_walked-returns-in_err-read-in-Broken-clause-overflow : goal.read_walked-returns-in_err-read-in-Broken-clause-overflow
 read_walked-returns-in_err-read-in-Broken-clause-overflow t c =
     let p = err_from_is_err_and c.from_residual-in_err-read-in-Broken.result c.from_residual-in_err-read-in-Broken.ensures.1 in
     rw (p.1, p.2) (λ is fits.
     let same : c.in_err-read-in-Broken.field-0.0 ≡ Overflow = cc in
-    c.in_err-read-in-Broken.ensures.overflow (ap Err same) (inner_fits c.args.reading.now c.args.so_far.now c.requires.under_way c.in-Broken.at c.in_ok-part.part.steps (chain_of c.read_part.new.stack.items) (block_of c.read_part.new.found) (subst (ReadsTo (row_in c.args.reading.now) (blocks_of c.args.reading.now) c.args.so_far.now.behind_child c.args.reading.now.docs_are_comments (chain_of c.args.so_far.now.stack.items) (chain_of c.read_part.new.stack.items) c.args.so_far.now.start c.args.reading.now.text.now c.in_ok-part.part.steps) c.in-Broken.is c.in_ok-part.ensures.reads) (c.in_ok-part.ensures.found c.in-Broken.at c.in-Broken.is) fits))
+    c.in_err-read-in-Broken.ensures.overflow (ap Err same)
+    (inner_fits c.args.reading.now c.args.so_far.now c.requires.under_way c.in-Broken.at c.in_ok-part.part.steps
+    (chain_of c.read_part.new.stack.items) (block_of c.read_part.new.found)
+    (subst (ReadsTo (row_in c.args.reading.now) (blocks_of c.args.reading.now) c.args.so_far.now.behind_child
+    c.args.reading.now.docs_are_comments (chain_of c.args.so_far.now.stack.items) (chain_of c.read_part.new.stack.items) c.args.so_far.now.start
+    c.args.reading.now.text.now c.in_ok-part.part.steps) c.in-Broken.is c.in_ok-part.ensures.reads)
+    (c.in_ok-part.ensures.found c.in-Broken.at c.in-Broken.is) fits))
 
 pub read_walked-returns-in_err-add_blob-in-Broken-clause-overflow : goal.read_walked-returns-in_err-add_blob-in-Broken-clause-overflow
 read_walked-returns-in_err-add_blob-in-Broken-clause-overflow t c =
@@ -186,17 +289,32 @@ read_walked-returns-in_err-add_blob-in-Broken-clause-overflow t c =
     rw (p.1, p.2) (λ is fits.
     let same : c.in_err-add_blob-in-Broken.field-0.0 ≡ Overflow = cc in
     c.in_err-add_blob-in-Broken.ensures.overflow (ap Err same)
-    (subst (λ s. Fits (joined (at old k.language) (λ o. sum o s) s)) (sym c.in_ok-read-in-Broken.ensures.reads) (added_fits c.args.reading.now c.args.so_far.now c.requires.under_way c.in-Broken.at c.in_ok-part.part.steps (chain_of c.read_part.new.stack.items) (block_of c.read_part.new.found) (subst (ReadsTo (row_in c.args.reading.now) (blocks_of c.args.reading.now) c.args.so_far.now.behind_child c.args.reading.now.docs_are_comments (chain_of c.args.so_far.now.stack.items) (chain_of c.read_part.new.stack.items) c.args.so_far.now.start c.args.reading.now.text.now c.in_ok-part.part.steps) c.in-Broken.is c.in_ok-part.ensures.reads) (c.in_ok-part.ensures.found c.in-Broken.at c.in-Broken.is) fits)))
+    (subst (λ s. Fits (joined (at old k.language) (λ o. sum o s) s)) (sym c.in_ok-read-in-Broken.ensures.reads)
+    (added_fits c.args.reading.now c.args.so_far.now c.requires.under_way c.in-Broken.at c.in_ok-part.part.steps
+    (chain_of c.read_part.new.stack.items) (block_of c.read_part.new.found)
+    (subst (ReadsTo (row_in c.args.reading.now) (blocks_of c.args.reading.now) c.args.so_far.now.behind_child
+    c.args.reading.now.docs_are_comments (chain_of c.args.so_far.now.stack.items) (chain_of c.read_part.new.stack.items) c.args.so_far.now.start
+    c.args.reading.now.text.now c.in_ok-part.part.steps) c.in-Broken.is c.in_ok-part.ensures.reads)
+    (c.in_ok-part.ensures.found c.in-Broken.at c.in-Broken.is) fits)))
 
 pub read_walked-returns-in_ok-so_far-in-Line-clause-under_way : goal.read_walked-returns-in_ok-so_far-in-Line-clause-under_way
-read_walked-returns-in_ok-so_far-in-Line-clause-under_way t c = walked_on c.args.reading.now c.args.so_far.now c.requires.under_way c.in-Line.class c.in-Line.behind c.in_ok-part.part.steps c.read_part.new.stack (subst (ReadsTo (row_in c.args.reading.now) (blocks_of c.args.reading.now) c.args.so_far.now.behind_child c.args.reading.now.docs_are_comments (chain_of c.args.so_far.now.stack.items) (chain_of c.read_part.new.stack.items) c.args.so_far.now.start c.args.reading.now.text.now c.in_ok-part.part.steps) c.in-Line.is c.in_ok-part.ensures.reads) c.in_ok-so_far-in-Line.field-0 c.read_part.new.search c.read_part.new.found
+read_walked-returns-in_ok-so_far-in-Line-clause-under_way t c =
+    walked_on c.args.reading.now c.args.so_far.now c.requires.under_way c.in-Line.class c.in-Line.behind c.in_ok-part.part.steps
+    c.read_part.new.stack (subst (ReadsTo (row_in c.args.reading.now) (blocks_of c.args.reading.now) c.args.so_far.now.behind_child
+    c.args.reading.now.docs_are_comments (chain_of c.args.so_far.now.stack.items) (chain_of c.read_part.new.stack.items) c.args.so_far.now.start
+    c.args.reading.now.text.now c.in_ok-part.part.steps) c.in-Line.is c.in_ok-part.ensures.reads) c.in_ok-so_far-in-Line.field-0
+    c.read_part.new.search c.read_part.new.found
     (c.in_ok-so_far-in-Line.ensures.ok ∙ ap (plus (sums_of c.args.so_far.now.own)) c.counted_as.ensures) (c.in_ok-part.ensures.same ∙ c.requires.under_way.searched) c.requires.walked
 
 pub read_walked-returns-in_ok-add_blob-in-Broken-clause-under_way : goal.read_walked-returns-in_ok-add_blob-in-Broken-clause-under_way
 read_walked-returns-in_ok-add_blob-in-Broken-clause-under_way t c =
     let k : Block = block_of c.read_part.new.found in
     let old : Blobs = blobs_of (entries_of c.args.so_far.now.blobs.entries) in
-    broken_on c.args.reading.now c.args.so_far.now c.requires.under_way c.in-Broken.at c.in_ok-part.part.steps (chain_of c.read_part.new.stack.items) (block_of c.read_part.new.found) (subst (ReadsTo (row_in c.args.reading.now) (blocks_of c.args.reading.now) c.args.so_far.now.behind_child c.args.reading.now.docs_are_comments (chain_of c.args.so_far.now.stack.items) (chain_of c.read_part.new.stack.items) c.args.so_far.now.start c.args.reading.now.text.now c.in_ok-part.part.steps) c.in-Broken.is c.in_ok-part.ensures.reads) (c.in_ok-part.ensures.found c.in-Broken.at c.in-Broken.is) _
+    broken_on c.args.reading.now c.args.so_far.now c.requires.under_way c.in-Broken.at c.in_ok-part.part.steps (chain_of c.read_part.new.stack.items)
+    (block_of c.read_part.new.found) (subst (ReadsTo (row_in c.args.reading.now) (blocks_of c.args.reading.now) c.args.so_far.now.behind_child
+    c.args.reading.now.docs_are_comments (chain_of c.args.so_far.now.stack.items) (chain_of c.read_part.new.stack.items) c.args.so_far.now.start
+    c.args.reading.now.text.now c.in_ok-part.part.steps) c.in-Broken.is c.in_ok-part.ensures.reads)
+    (c.in_ok-part.ensures.found c.in-Broken.at c.in-Broken.is) _
     (c.in_ok-so_far-in-Broken.ensures.ok ∙ ap (plus (sums_of c.args.so_far.now.own)) c.share_of.ensures)
     (c.in_ok-add_blob-in-Broken.ensures.ok ∙ ap (λ s'. put old k.language (joined (at old k.language) (λ s. sum s s') s')) c.in_ok-read-in-Broken.ensures.reads)
     refl (c.capped_sum-so_far.ensures ∙ ap (λ m. capped (c.args.so_far.now.inner_steps + m)) c.in_ok-read-in-Broken.ensures.steps)

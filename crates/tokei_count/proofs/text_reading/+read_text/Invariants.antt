@@ -38,8 +38,12 @@ decreases-read_notebook l = 3 * l.levels
 -- the cells read so far and those that are left are all
 abbrev pub invariant-read_notebook-loop-cell : goal.invariant-read_notebook-loop-cell
 invariant-read_notebook-loop-cell l = record {
-  cells : gathered (child_reading (languages_of l.reader.table.now) l.reader.docs_are_comments l.levels) (blobs_of (entries_of l.blobs.entries)) (map cell_block (map cell_of (drop l.cell-index l.cell-items)))
+  cells : gathered (child_reading (languages_of l.reader.table.now) l.reader.docs_are_comments l.levels) (blobs_of (entries_of l.blobs.entries))
+      (map cell_block (map cell_of (drop l.cell-index l.cell-items)))
       ≡ gathered (child_reading (languages_of l.reader.table.now) l.reader.docs_are_comments l.levels) none (cell_blocks l.reader.table.now l.fn.language l.text);
-  inner : capped (l.steps + sum_over (child_steps l.reader.skips (languages_of l.reader.table.now) l.levels) (map cell_block (map cell_of (drop l.cell-index l.cell-items)))) ≡ capped (sum_over (child_steps l.reader.skips (languages_of l.reader.table.now) l.levels) (cell_blocks l.reader.table.now l.fn.language l.text));
+  inner : capped (l.steps + sum_over (child_steps l.reader.skips (languages_of l.reader.table.now) l.levels)
+      (map cell_block (map cell_of (drop l.cell-index l.cell-items))))
+      ≡ capped (sum_over (child_steps l.reader.skips (languages_of l.reader.table.now) l.levels)
+      (cell_blocks l.reader.table.now l.fn.language l.text));
   small : l.steps ≡ capped l.steps;
 }

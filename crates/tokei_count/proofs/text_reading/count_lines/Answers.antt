@@ -25,7 +25,8 @@ loop-at-preserved c =
     let e = c.line_front-front.ensures in
     let some : at < length text = omega (arith, c.loop-at-test.true, c.requires.within) in
     let stop_is : c.line_stop-stop.result ≡ at + length (first_line (drop at text)) =
-    line_stops text at c.line_front-front.result.newline c.args.next c.line_stop-stop.result c.loop-at-test.true c.requires.within e.high e.line e.found c.line_stop-stop.ensures.more c.line_stop-stop.ensures.last c.if-next-stop.false in
+    line_stops text at c.line_front-front.result.newline c.args.next c.line_stop-stop.result c.loop-at-test.true c.requires.within e.high e.line
+    e.found c.line_stop-stop.ensures.more c.line_stop-stop.ensures.last c.if-next-stop.false in
     let low : at ≤ c.line_stop-stop.result = omega (arith, stop_is) in
     record {
       under_way = skipped_more c.args.reading.now c.args.so_far.now c.loop-at.lines c.one_more.new.lines at c.line_stop-stop.result c.args.next c.class_of_plain.result
@@ -36,7 +37,8 @@ loop-at-preserved c =
     }
 
 pub returns-in_err-so_far-clause-overflow : goal.returns-in_err-so_far-clause-overflow
-returns-in_err-so_far-clause-overflow c = λ is fits. c.in_err-so_far.ensures.past (counts_fit c.args.reading.now (gone_on c.args.so_far.now c.loop-at.lines c.loop-at.at) c.loop-at.invariant.under_way fits)
+returns-in_err-so_far-clause-overflow c = λ is fits. c.in_err-so_far.ensures.past
+    (counts_fit c.args.reading.now (gone_on c.args.so_far.now c.loop-at.lines c.loop-at.at) c.loop-at.invariant.under_way fits)
 
 pub returns-clause-more : goal.returns-clause-more
 returns-clause-more c some =
@@ -44,5 +46,7 @@ returns-clause-more c some =
       | else-loop-at-test w ↦ omega (arith, w.loop-at-test, c.loop-at.invariant.high, line_some c.args.reading.now.text.now c.loop-at.at some)
       | then-loop-at-test+then-next-stop w ↦
           let e = w.line_front-front.ensures in
-          line_goes_over c.args.reading.now.text.now c.loop-at.at w.line_front-front.result.newline c.args.next w.line_stop-stop.result w.loop-at-test.true c.requires.within e.high e.line e.found w.line_stop-stop.ensures.more w.line_stop-stop.ensures.last w.if-next-stop.true
+          line_goes_over c.args.reading.now.text.now c.loop-at.at w.line_front-front.result.newline c.args.next w.line_stop-stop.result
+          w.loop-at-test.true c.requires.within e.high e.line e.found w.line_stop-stop.ensures.more w.line_stop-stop.ensures.last
+          w.if-next-stop.true
     ]

@@ -16,7 +16,8 @@ loop-language-preserved c =
     let data_of = member_data rows (languages_of c.args.counted.now.languages.now) in
     let here = seen_by (λ x. x) l.members.entries in
     let called : c.name_of-name.result.now ≡ name_of rows c.in-Some.language.now = search rules in
-    let put_here : members_by data_of (seen_by (λ x. x) c.insert.new.self.entries) ≡ put (name_of rows c.in-Some.language.now) (language_data rows (language_of c.in-Some.value.now)) (members_by data_of here) =
+    let put_here : members_by data_of (seen_by (λ x. x) c.insert.new.self.entries)
+    ≡ put (name_of rows c.in-Some.language.now) (language_data rows (language_of c.in-Some.value.now)) (members_by data_of here) =
     ap (λ es. members_by data_of (seen_by (λ x. x) es)) c.in_ok-insert.ensures.entries
     ∙ ap (members_by data_of) (insert_seen (λ x. x) l.members.entries c.name_of-name.result (Language c.in-Some.value))
     ∙ insert_member data_of here c.name_of-name.result.now (Language c.in-Some.value) ∙ rw called refl in

@@ -16,7 +16,13 @@ returns c =
     let w1 = c.string.new.self in
     let w2 = c.write_statistics.new.out in
     let same : c.as_str.result.now ≡ r.name = search rules in
-    let named : IsWritten (string r.name) c.key.new.self w1 = record { tokens = c.in_ok-string.ensures.ok ∙ ap (λ s. c.key.new.self.tokens ++ token.string s ∷ []) same; reads = refl; before = c.in_ok-string.ensures.room.0 } in
+    let named : IsWritten (string r.name) c.key.new.self w1 =
+    record {
+      tokens = c.in_ok-string.ensures.ok ∙ ap (λ s. c.key.new.self.tokens ++ token.string s ∷ []) same;
+      reads = refl;
+      before =
+          c.in_ok-string.ensures.room.0;
+    } in
     let m1 = member_of (codes "name") (string r.name) c.begin_object.new.self c.key.new.self w1 c.in_ok-key.ensures.ok c.in_ok-key.ensures.room.0 named in
     let m2 = member_of (codes "stats") (statistics_data rows r.stats) w1 c.key-2.new.self w2 c.in_ok-key-2.ensures.ok c.in_ok-key-2.ensures.room.0 c.in_ok-write_statistics.ensures in
     on_ok_weaker c.end_object.result (λ e.

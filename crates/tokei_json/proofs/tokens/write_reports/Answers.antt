@@ -35,4 +35,5 @@ returns c =
     let left : LacksItems (shown xs) no_items c.begin_array.new.self l.out = subst (λ ys. LacksItems (shown xs) (shown ys) c.begin_array.new.self l.out) none l.invariant in
     on_ok_weaker c.end_array.result (λ e.
     subst (λ ys. IsWritten (array (shown ys)) c.args.out.now c.end_array.new.self) c.deref-report-items.ensures.value
-    (array_written (shown xs) c.args.out.now c.begin_array.new.self l.out c.end_array.new.self c.in_ok-begin_array.ensures.ok c.in_ok-begin_array.ensures.room.0 left e c.end_array.ensures.room.0)) c.end_array.ensures.ok
+    (array_written (shown xs) c.args.out.now c.begin_array.new.self l.out c.end_array.new.self c.in_ok-begin_array.ensures.ok
+    c.in_ok-begin_array.ensures.room.0 left e c.end_array.ensures.room.0)) c.end_array.ensures.ok

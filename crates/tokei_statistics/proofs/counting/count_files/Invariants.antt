@@ -15,7 +15,9 @@ invariant-loop-file g l = record {
   notes : Grows (notes_of l.initial.walk) (notes_of l.walk);
   honest : g.F.Folders.memory_faults l.initial.folders < 2 ^ 64 - 1 → g.F.Folders.memory_faults l.folders ≡ g.F.Folders.memory_faults l.initial.folders;
   told : Told (g.F.Folders.tree l.initial.folders) (λ t. SoFar (counting_of l.counting) t (to_come t l.initial.walk) (to_come t l.walk) (languages_of l.initial.languages) (languages_of l.languages));
-  unread : Told (g.F.Folders.tree l.initial.folders) (λ t. l.unread.items ++ unread_of (counting_of l.counting) t (to_come t l.walk) ≡ l.initial.unread.items ++ unread_of (counting_of l.counting) t (to_come t l.initial.walk));
+  unread : Told (g.F.Folders.tree l.initial.folders)
+      (λ t. l.unread.items ++ unread_of (counting_of l.counting) t (to_come t l.walk)
+      ≡ l.initial.unread.items ++ unread_of (counting_of l.counting) t (to_come t l.initial.walk));
 }
 
 abbrev pub decreases-loop-file : goal.decreases-loop-file

@@ -26,9 +26,11 @@ pub returns-clause-fits : goal.returns-clause-fits
 returns-clause-fits t c = rw (fold-roll-CodeStats) (record { blanks = search rules; code = search rules; comments = search rules }, c.loop-language.invariant.fits)
 
 pub returns-in_err-copy-clause-free : goal.returns-in_err-copy-clause-free
-returns-in_err-copy-clause-free t c = λ n. absurd (met_some c.args.self.now (entries_of c.loop-language.blobs.entries) (c.in-Some.language.now, stats_of c.in-Some.stats.now) (entries_of c.next.new.self)
+returns-in_err-copy-clause-free t c = λ n. absurd (met_some c.args.self.now (entries_of c.loop-language.blobs.entries)
+    (c.in-Some.language.now, stats_of c.in-Some.stats.now) (entries_of c.next.new.self)
     (ap (λ es. entries_of c.loop-language.blobs.entries ++ entries_of es) (sym c.in-Some.ensures.steps) ∙ c.loop-language.invariant.same) n)
 
 pub returns-in_err-put-clause-free : goal.returns-in_err-put-clause-free
-returns-in_err-put-clause-free t c = λ n. absurd (met_some c.args.self.now (entries_of c.loop-language.blobs.entries) (c.in-Some.language.now, stats_of c.in-Some.stats.now) (entries_of c.next.new.self)
+returns-in_err-put-clause-free t c = λ n. absurd (met_some c.args.self.now (entries_of c.loop-language.blobs.entries)
+    (c.in-Some.language.now, stats_of c.in-Some.stats.now) (entries_of c.next.new.self)
     (ap (λ es. entries_of c.loop-language.blobs.entries ++ entries_of es) (sym c.in-Some.ensures.steps) ∙ c.loop-language.invariant.same) n)

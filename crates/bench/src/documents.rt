@@ -1,27 +1,35 @@
 //! Prints languages as a JSON document and parses them back, and has `serde_json` alone print and parse the same text. It
 //! prints a line for each of these ways: its name and how many bytes the text has.
 //!
-//! The first two arguments are how many languages there are, and how many reports each of them has; each report holds
+//! The first two words are how many languages there are, and how many reports each of them has; each report holds
 //! statistics of one more language. Behind them may stand a word: with `times` each line ends in the nanoseconds of the
 //! quickest run; with `make` the languages are only made, with `print` they are printed too, with `parse` the text is parsed
 //! too. Where what is parsed differs from what was printed, it refuses.
-#![tactic(auto)]
-
-mod making;
-mod measure;
-mod request;
-mod ways;
-
-use making::{made_languages, made_table};
-use measure::{Measured, time};
-use request::{Task, requested};
+use crate::document_times::{Measured, time};
+use crate::document_ways::{Input, Way};
+use crate::making::{made_languages, made_table};
+use anyhow::bail;
 use serde_json::Value;
 use std::alloc::Global;
 use std::time::Clock;
 use tokei_earlier::Format;
 use tokei_languages::Languages;
 use tokei_table::LanguageTable;
-use ways::{Input, Way};
+
+/// What is done with the languages that are made.
+#[derive(Clone, Copy)]
+pub enum Task {
+    /// Nothing.
+    Make,
+    /// They are printed.
+    Print,
+    /// They are printed, and the text is parsed.
+    Parse,
+    /// Each way is gone.
+    Compare,
+    /// Each way is gone and timed.
+    Time,
+}
 
 /// Prints the line of a way.
 fn print_line(
@@ -95,16 +103,50 @@ fn print_once(
     Ok(())
 }
 
-fn main(rt: HostRuntime) -> anyhow::Result<()> {
+/// Makes so many languages of so many reports each, and does that with them.
+pub fn show(rt: &HostRuntime, languages: usize, reports: usize, task: Task) -> anyhow::Result<()> {
     let alloc = rt.alloc();
-    let request = requested(&rt)?;
-    let table = made_table(alloc, request.languages)?;
-    let languages = made_languages(alloc, &table, request.reports)?;
-    match request.task {
+    let table = made_table(alloc, languages)?;
+    let languages = made_languages(alloc, &table, reports)?;
+    match task {
         Task::Make => Ok(()),
         Task::Print => print_once(alloc, &table, &languages, false),
         Task::Parse => print_once(alloc, &table, &languages, true),
-        Task::Compare => compare_all(&rt, alloc, &table, &languages, false),
-        Task::Time => compare_all(&rt, alloc, &table, &languages, true),
+        Task::Compare => compare_all(rt, alloc, &table, &languages, false),
+        Task::Time => compare_all(rt, alloc, &table, &languages, true),
     }
+}
+
+/// The number that a word spells. It fails at another word.
+fn number(word: &str) -> anyhow::Result<usize> {
+    match word.parse::<usize>() {
+        Ok(number) => Ok(number),
+        Err(_) => bail!("{word} is no number"),
+    }
+}
+
+/// The task that a word names. It fails at another word.
+fn task(word: &str) -> anyhow::Result<Task> {
+    match word {
+        "make" => Ok(Task::Make),
+        "print" => Ok(Task::Print),
+        "parse" => Ok(Task::Parse),
+        "times" => Ok(Task::Time),
+        _ => bail!("{word} is none of make, print, parse, times"),
+    }
+}
+
+/// Does what the words ask for. It fails where a number is missing, and at a word that isn't known.
+pub fn measure(rt: &HostRuntime, words: &[String]) -> anyhow::Result<()> {
+    let (languages, reports, task) = match words {
+        [languages, reports] => (languages, reports, Task::Compare),
+        [languages, reports, word] => (languages, reports, task(word.as_str())?),
+        _ => bail!("behind documents stand numbers of languages and of reports, and a task"),
+    };
+    show(
+        rt,
+        number(languages.as_str())?,
+        number(reports.as_str())?,
+        task,
+    )
 }

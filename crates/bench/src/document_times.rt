@@ -1,5 +1,5 @@
 //! How long ways of printing and of parsing take.
-use crate::ways::{Input, Way};
+use crate::document_ways::{Input, Way};
 use std::alloc::Global;
 use std::time::{Clock, Duration, Instant};
 

@@ -4,7 +4,7 @@ use Rattle.tokei_walk.specs.Walks.{texts_of}
 use Rattle.tokei_program.proofs.Asking.{notes_shown}
 use Rattle.tokei_program.specs.Beside.{AnyMet, MetIn}
 use Rattle.tokei_program.specs.NotesText.{passed_text}
-use Rattle.tokei_program.proofs.entry.counted.Goals as goal
+use Rattle.tokei_program.proofs.entry.write_counts.Goals as goal
 
 pub returns-in-Ok-clause-told : goal.returns-in-Ok-clause-told
 returns-in-Ok-clause-told g c t told = record {
@@ -12,7 +12,7 @@ returns-in-Ok-clause-told g c t told = record {
   table = c.in_ok-table.ensures.told t told;
   job = c.in_ok-prepared.prepared.job;
   is = c.in_ok-prepared.ensures.told t (c.table_of.ensures.same ∙ told);
-  outputs = c.in-Ok.ensures.told t (c.prepared.ensures.same ∙ (c.table_of.ensures.same ∙ told));
+  outputs = c.in-Ok.ensures.told t (c.prepare.ensures.same ∙ (c.table_of.ensures.same ∙ told));
 }
 
 pub returns-in-Ok-clause-noted : goal.returns-in-Ok-clause-noted

@@ -1,27 +1,19 @@
-//! Counts standard input in a language of the bench table, by the plain reading and as callers count, and counts its
-//! newlines. It prints a line for each way of counting: its name, and the newlines, or the blank, code and comment lines of
-//! the text and of all texts inside it.
+//! Counts a text in a language of the bench table, by the plain reading and as callers count, and counts its newlines. It
+//! prints a line for each way of counting: its name, and the newlines, or the blank, code and comment lines of the text and
+//! of all texts inside it.
 //!
-//! The language's key is the first argument. Behind it may stand `times`, with which each line ends in the nanoseconds of
-//! the quickest run, and `without-plain`, which leaves the plain reading out. Where the two readings differ, it refuses.
-#![tactic(auto)]
-
+//! The language's key is the first word. Behind it may stand `times`, with which each line ends in the nanoseconds of the
+//! quickest run, and `without-plain`, which leaves the plain reading out. Where the two readings differ, it refuses.
 ghost use Rattle.std.specs.Prelude.{◌<◌, length};
 
-mod measure;
-mod request;
-mod ways;
-
+use crate::count_times::{Measured, time};
+use crate::count_ways::{Answer, Input, Way};
 use anyhow::bail;
-use measure::{Measured, time};
-use request::{Request, requested};
 use std::alloc::Global;
-use std::io::Read;
 use std::time::Clock;
 use test_table::bench_json;
 use tokei_count::Counter;
 use tokei_table::{LanguageTable, LanguageType};
-use ways::{Answer, Input, Way};
 
 /// Prints the line of a way of counting.
 fn print_line(
@@ -54,8 +46,9 @@ fn print_line(
 fn compare(
     rt: &(impl Print + Clock),
     alloc: Global,
-    request: &Request,
     input: &Input,
+    timed: bool,
+    with_plain: bool,
 ) -> anyhow::Result<()>
     requires { input.now.language < length input.now.counter.now }
 {
@@ -64,7 +57,7 @@ fn compare(
     for way in [Way::Newlines, Way::NewlinesInTurn] {
         all.push(Measured::new(alloc, way, input)?)?;
     }
-    if !request.without_plain {
+    if with_plain {
         let plain = Measured::new(alloc, Way::CountPlain, input)?;
         if plain.answer != parsed.answer {
             bail!("the two readings differ");
@@ -74,29 +67,50 @@ fn compare(
     // the half is timed beside the whole
     all.push(Measured::new(alloc, Way::FirstHalf, input)?)?;
     all.push(parsed)?;
-    if request.timed {
+    if timed {
         time(rt, alloc, &mut all, input)?;
     }
     for measured in &all {
-        print_line(rt, alloc, measured, request.timed)?;
+        print_line(rt, alloc, measured, timed)?;
     }
     Ok(())
 }
 
-fn main(rt: HostRuntime) -> anyhow::Result<()> {
+/// Counts the text in each way, timed or not, with the plain reading or without.
+pub fn show(
+    rt: &HostRuntime,
+    key: &str,
+    text: &[u8],
+    timed: bool,
+    with_plain: bool,
+) -> anyhow::Result<()> {
     let alloc = rt.alloc();
-    let request = requested(&rt)?;
     let table = LanguageTable::from_json(alloc, bench_json())?;
-    let Some(language) = LanguageType::from_name(&table, request.key.as_str()) else {
-        bail!("the bench table has no language {}", request.key);
+    let Some(language) = LanguageType::from_name(&table, key) else {
+        bail!("the bench table has no language {key}");
     };
     let counter = Counter::new(alloc, &table)?;
-    let mut text = Vec::new(alloc);
-    rt.reader().read_to_end(&mut text)?;
     let input = Input {
         counter: &counter,
         language,
-        text: &text,
+        text,
     };
-    compare(&rt, alloc, &request, &input)
+    compare(rt, alloc, &input, timed, with_plain)
+}
+
+/// Counts the text as the words ask for. It fails where there is none, and at a word that isn't known.
+pub fn measure(rt: &HostRuntime, words: &[String], text: &[u8]) -> anyhow::Result<()> {
+    let [key, options @ ..] = words else {
+        bail!("behind count stands the key of a language");
+    };
+    let mut timed = false;
+    let mut with_plain = true;
+    for word in options {
+        match word.as_str() {
+            "times" => timed = true,
+            "without-plain" => with_plain = false,
+            other => bail!("{other} is neither times nor without-plain"),
+        }
+    }
+    show(rt, key.as_str(), text, timed, with_plain)
 }

@@ -1,7 +1,7 @@
 //! How long ways of counting take.
 ghost use Rattle.std.specs.Prelude.{◌<◌, length};
 
-use crate::ways::{Answer, Input, Way};
+use crate::count_ways::{Answer, Input, Way};
 use anyhow::bail;
 use std::alloc::Global;
 use std::time::{Clock, Duration, Instant};

@@ -1,16 +1,14 @@
-//! Searches standard input for the openers of a language of the bench table, and prints the place of the first one, or
-//! `none`. The language's key is the first argument. Where the second one is `times`, it prints instead how many
-//! nanoseconds the search takes, and how many the search for one byte that C texts haven't.
-#![tactic(auto)]
-
+//! Searches a text for the openers of a language of the bench table, and prints the place of the first one, or `none`. The
+//! language's key is the first word. Where the second one is `times`, it prints instead how many nanoseconds the search
+//! takes, and how many the search for one byte that C texts haven't.
+use anyhow::bail;
 use memchr::memchr;
 use std::alloc::Global;
-use std::io::Read;
-use std::process::ExitCode;
+use std::io;
 use std::time::{Duration, Instant};
-use std::{env, io};
 use test_table::bench_json;
-use tokei_table::{LanguageTable, LanguageType, OpenerIndex, TableError};
+use tokei_table::{LanguageTable, LanguageType, TableError};
+use tokei_table_search::OpenerIndex;
 
 /// Of so many runs the quickest one stands.
 const RUNS: usize = 5;
@@ -30,6 +28,7 @@ fn index_of(alloc: Global, key: &str) -> Result<Option<OpenerIndex>, TableError>
     }
 }
 
+/// Prints a place, or that there is none.
 fn print_place(rt: &HostRuntime, found: Option<usize>) -> io::Result<()> {
     match found {
         Some(place) => println!(rt; "{place}"),
@@ -59,42 +58,27 @@ fn times(rt: &HostRuntime, index: &OpenerIndex, text: &[u8]) -> io::Result<(Dura
     Ok((openers, byte))
 }
 
-fn run(rt: &HostRuntime, index: &OpenerIndex, timed: bool) -> io::Result<()> {
-    let mut text = Vec::new(rt.alloc());
-    rt.reader().read_to_end(&mut text)?;
+/// Searches the text for the openers of the language with that key, timed or not.
+pub fn show(rt: &HostRuntime, key: &str, text: &[u8], timed: bool) -> anyhow::Result<()> {
+    let Some(index) = index_of(rt.alloc(), key)? else {
+        bail!("the bench table has no language {key}");
+    };
     if !timed {
-        return print_place(rt, index.first_in(&text));
+        print_place(rt, index.first_in(text))?;
+        return Ok(());
     }
-    let (openers, byte) = times(rt, index, &text)?;
+    let (openers, byte) = times(rt, &index, text)?;
     let openers = openers.as_nanos();
     let byte = byte.as_nanos();
-    println!(rt; "openers {openers}\nbyte {byte}")
+    println!(rt; "openers {openers}\nbyte {byte}")?;
+    Ok(())
 }
 
-fn main(rt: HostRuntime) -> io::Result<ExitCode> {
-    let mut words = env::args(&rt)?;
-    let _program = words.next();
-    let key = words.next();
-    let timed = match words.next() {
-        Some(word) => word.as_str() == "times",
-        None => false,
-    };
-    let Some(key) = key else {
-        eprintln!(rt; "the first argument is the key of a language")?;
-        return Ok(ExitCode::FAILURE);
-    };
-    match index_of(rt.alloc(), key.as_str()) {
-        Ok(Some(index)) => {
-            run(&rt, &index, timed)?;
-            Ok(ExitCode::SUCCESS)
-        }
-        Ok(None) => {
-            eprintln!(rt; "the bench table has no such language")?;
-            Ok(ExitCode::FAILURE)
-        }
-        Err(refused) => {
-            eprintln!(rt; "{refused}")?;
-            Ok(ExitCode::FAILURE)
-        }
+/// Searches the text as the words ask for. It fails where there is none, and at a word that isn't known.
+pub fn measure(rt: &HostRuntime, words: &[String], text: &[u8]) -> anyhow::Result<()> {
+    match words {
+        [key] => show(rt, key.as_str(), text, false),
+        [key, word] if word.as_str() == "times" => show(rt, key.as_str(), text, true),
+        _ => bail!("behind search stand the key of a language, and times where it is timed"),
     }
 }
