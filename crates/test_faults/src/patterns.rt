@@ -4,20 +4,11 @@ use std::test::Fail;
 use tokei_folders::{Items, Text};
 use tokei_ignore::Pattern;
 
-/// A name of so many `a`, alone.
-fn long_name(alloc: Global, length: usize) -> Result<Items<Text>, AllocError> {
-    let mut name = String::new(alloc);
-    for _ in 0..length {
-        name.push_str("a")?;
-    }
-    let mut names = Items::new(alloc);
-    names.push(Text::from_str(alloc, name.as_str())?)?;
-    Ok(names)
-}
-
 /// Whether a line's pattern fits a file whose name is so many `a`; `None` where there is no pattern.
 fn fits_long_name(alloc: Global, line: &str, length: usize) -> Result<Option<bool>, AllocError> {
-    let names = long_name(alloc, length)?;
+    let name = "a".repeat(alloc, length)?;
+    let mut names = Items::new(alloc);
+    names.push(Text::from_str(alloc, name.as_str())?)?;
     Ok(match Pattern::parse(alloc, line) {
         Ok(Some(pattern)) => Some(pattern.fits(names.as_slice(), false)),
         Ok(None) | Err(_) => None,

@@ -7,9 +7,9 @@ use tokei_real::reading::{all_by, all_of, all_within, head_of};
 
 /// A reader that gives a text, two bytes a read at most, and has then ended or fails.
 #[derive(Clone, Copy)]
-struct Slow<'a> {
-    left: &'a [u8],
-    fails: bool,
+pub struct Slow<'a> {
+    pub left: &'a [u8],
+    pub fails: bool,
 }
 
 impl Read for Slow<'_> {
@@ -37,16 +37,6 @@ fn is_read(alloc: Global, said: usize) -> bool {
     }
 }
 
-/// The first of these lengths by which it isn't, if there is one.
-fn first_wrong_length(alloc: Global) -> Option<usize> {
-    for said in [0, 1, 5, 6, 100, 70_000] {
-        if !is_read(alloc, said) {
-            return Some(said);
-        }
-    }
-    None
-}
-
 /// Whether a reader that fails gives neither the whole of a file nor its head.
 fn fails_whole_and_head(alloc: Global) -> (bool, bool) {
     let failing = Slow {
@@ -61,7 +51,9 @@ fn fails_whole_and_head(alloc: Global) -> (bool, bool) {
 
 #[test]
 fn files_of_another_length(rt: HostRuntime) {
-    assert_eq!(rt; first_wrong_length(rt.alloc()), None);
+    for said in [0, 1, 5, 6, 100, 70_000] {
+        assert!(rt; is_read(rt.alloc(), said), "{said}");
+    }
     assert_eq!(rt; fails_whole_and_head(rt.alloc()), (true, true));
 }
 
@@ -77,19 +69,11 @@ fn is_kept_within(alloc: Global, most: u64) -> bool {
     }
 }
 
-/// The first bound at which it is otherwise, if there is one.
-fn first_wrong_bound(alloc: Global) -> Option<u64> {
-    for most in [0, 4, 5, 6, u64::MAX] {
-        if !is_kept_within(alloc, most) {
-            return Some(most);
-        }
-    }
-    None
-}
-
 #[test]
 fn more_bytes_than_the_bound(rt: HostRuntime) {
-    assert_eq!(rt; first_wrong_bound(rt.alloc()), None);
+    for most in [0, 4, 5, 6, u64::MAX] {
+        assert!(rt; is_kept_within(rt.alloc(), most), "{most}");
+    }
 }
 
 /// An open file that is said to have so many bytes, of which each read that gives some is interrupted before it.
@@ -163,18 +147,14 @@ fn is_read_twice(alloc: Global, length: usize, said: u64) -> Result<bool, AllocE
     Ok(is_read_by(alloc, &mut buffer, said, false) && is_read_by(alloc, &mut buffer, said, true))
 }
 
-/// The first buffer by which something else is answered, if there is one.
-fn first_wrong_buffer(alloc: Global) -> Result<Option<(usize, u64)>, AllocError> {
-    for (length, said) in BUFFERS {
-        if !is_read_twice(alloc, length, said)? {
-            return Ok(Some((length, said)));
-        }
-    }
-    Ok(None)
-}
-
 // A buffer that is too small, as large as the file, and larger; a file that grew or shrank since its length was asked.
 #[test]
 fn files_by_a_kept_buffer(rt: HostRuntime) {
-    assert_eq!(rt; first_wrong_buffer(rt.alloc()), Ok(None));
+    for (length, said) in BUFFERS {
+        assert_eq!(rt;
+            is_read_twice(rt.alloc(), length, said),
+            Ok(true),
+            "{length}, {said}"
+        );
+    }
 }
