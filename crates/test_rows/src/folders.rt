@@ -1,6 +1,6 @@
 //! Folders in memory, as a row has them.
 use crate::error::RowError;
-use crate::row::{Row, has_word, text_of};
+use crate::row::{Row, decode, has_word, text_of};
 use std::alloc::Global;
 use tokei_folders::{Call, Fault, MemoryFolders};
 
@@ -41,10 +41,7 @@ fn add_digits(
     place: &str,
     digits: &str,
 ) -> Result<(), RowError> {
-    match hex::decode(alloc, digits) {
-        Ok(bytes) => add_file(folders, place, &bytes),
-        Err(_) => Err(RowError::Kind("files_hex", "pairs of hexadecimal digits")),
-    }
+    add_file(folders, place, &decode(alloc, "files_hex", digits)?)
 }
 
 /// Adds the files of a table: each place, and the bytes of the file there, as hexadecimal digits.

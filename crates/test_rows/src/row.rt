@@ -1,5 +1,6 @@
 //! A row, and how its members are read.
 use crate::error::RowError;
+use hex::FromHexError;
 use std::alloc::Global;
 use toml::{Table, Value};
 
@@ -76,6 +77,15 @@ pub fn text_of<'a>(member: &'static str, value: &'a Value) -> Result<&'a str, Ro
     }
 }
 
+/// The bytes that hexadecimal digits are.
+pub fn decode(alloc: Global, member: &'static str, digits: &str) -> Result<Vec<u8>, RowError> {
+    match hex::decode(alloc, digits) {
+        Ok(bytes) => Ok(bytes),
+        Err(FromHexError::OutOfMemory) => Err(RowError::Memory),
+        Err(_) => Err(RowError::Kind(member, "pairs of hexadecimal digits")),
+    }
+}
+
 impl<'a> Row<'a> {
     /// A row with its name and members, in a file with these shared values.
     pub fn new(name: &'a str, members: &'a Table, shared: Option<&'a Table>) -> Row<'a> {
@@ -138,10 +148,7 @@ impl<'a> Row<'a> {
         hex: &'static str,
     ) -> Result<Vec<u8>, RowError> {
         match self.text_if(hex)? {
-            Some(digits) => match hex::decode(alloc, digits) {
-                Ok(bytes) => Ok(bytes),
-                Err(_) => Err(RowError::Kind(hex, "pairs of hexadecimal digits")),
-            },
+            Some(digits) => decode(alloc, hex, digits),
             None => Ok(Vec::from_slice(alloc, self.text(member)?.as_bytes())?),
         }
     }
