@@ -5,7 +5,8 @@
 Each call of `CALLS` is made to fail in turn with each error of `ERRORS`, up to a run in which none did. Such a run ends
 as if none had failed; or with status 1, one line on standard error and nothing on standard output; or it says what it
 lost: each file that is missing or has other counts stands, or a folder above it, in a note on standard error, as does an
-ignore file where a file is counted that it drops. A call that was interrupted is made again, so that nothing is lost.
+ignore file where a file is counted that it drops. Each such note ends in the system's words for the error. A call that
+was interrupted is made again, so that nothing is lost.
 One loss is silent by the rules: a file without extension whose head can't be read has no language and leaves no note.
 """
 import errno
@@ -96,6 +97,8 @@ def fault(got, want, error):
         return f"loses {silent} and says {told!r}"
     if set(after) - set(before) and not told:
         return f"counts {sorted(set(after) - set(before))} and says nothing"
+    if not all(line.endswith(f": {os.strerror(error)} (os error {error})") for line in told.splitlines()):
+        return f"says {told!r}, without the system's words"
     return None
 
 

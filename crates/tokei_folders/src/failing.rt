@@ -139,6 +139,10 @@ impl<F: Folders> Folders for FailingFolders<F> {
         self.inner.cause(alloc)
     }
 
+    fn cause_at(&self, alloc: Global, place: &str) -> Result<String, AllocError> {
+        self.inner.cause_at(alloc, place)
+    }
+
     fn unheld(&self) -> &str {
         self.inner.unheld()
     }

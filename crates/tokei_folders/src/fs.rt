@@ -1,7 +1,7 @@
 //! The calls on folders, and what they answer.
-ghost use Rattle.std.specs.Prelude.{◌≡◌, ◌<◌, ℕ, Ok, Option};
+ghost use Rattle.std.specs.Prelude.{◌≡◌, ◌<◌, ℕ, [], IfOk, Ok, Option, string_bytes};
 ghost use Rattle.tokei_folders.specs.Tree.{Tree, IsSound, node_at, names_of};
-ghost use Rattle.tokei_folders.specs.Answers.{Tells, BytesTell, AboveTells, ListTells, LosesNone, NamesTell, StaysFull, counted, kind_answer, node_kind, read_answer, head_answer};
+ghost use Rattle.tokei_folders.specs.Answers.{Told, Tells, BytesTell, AboveTells, ListTells, LosesNone, NamesTell, StaysFull, counted, kind_answer, node_kind, read_answer, head_answer};
 
 use crate::texts::Text;
 use std::alloc::{AllocError, AllocFailed, Global};
@@ -174,6 +174,15 @@ pub trait Folders {
     /// Why the last call without an answer had none, in the system's words; empty where the folders
     /// have no words for it. It is for messages alone: nothing is promised of it.
     fn cause(&self, alloc: Global) -> Result<String, AllocError> {
+        Ok(String::new(alloc))
+    }
+
+    /// Why the last refused call on a place was refused, in the system's words; empty where the
+    /// folders have no words for it, as those with a known tree. It is for messages alone: nothing is
+    /// promised of the words.
+    fn cause_at(&self, alloc: Global, _place: &str) -> Result<String, AllocError>
+        ensures silent { Told (tree self.now) (λ t. IfOk result (λ text. string_bytes text ≡ [])) }
+    {
         Ok(String::new(alloc))
     }
 

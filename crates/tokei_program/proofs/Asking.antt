@@ -59,14 +59,15 @@ module _ {E : Type 0} (met : Met) (c : Cli) where
   beside_is words old new (Ok text) spelled shows = inr (record { line = c; spelled = spelled; shows = shows })
 
 -- the notes of a run over the command line's excludes are shown
-pub notes_shown : (met : Met) (c : Cli) (rows : List Row) (flaws : List Flaw) (excludes : List (List ℕ)) (notes : List Note) (text : List ℕ)
-    → met c rows flaws → excludes ≡ excludes_of c → Grows (notes_of_excludes excludes) notes → text ≡ passed_text rows c notes flaws
+pub notes_shown : (met : Met) (c : Cli) (rows : List Row) (flaws : List Flaw) (excludes : List (List ℕ)) (notes as_shown : List Note) (text : List ℕ)
+    → met c rows flaws notes as_shown → excludes ≡ excludes_of c → Grows (notes_of_excludes excludes) notes → text ≡ passed_text rows c as_shown flaws
     → ShowsNotes met c text
-notes_shown met c rows flaws excludes notes text is_met are grows shown = record {
+notes_shown met c rows flaws excludes notes as_shown text is_met are grows shown = record {
   rows = rows;
   flaws = flaws;
-  are = is_met;
   notes = notes;
   first = subst (λ e. Grows (notes_of_excludes e) notes) are grows;
+  as_shown = as_shown;
+  are = is_met;
   shown = shown;
 }

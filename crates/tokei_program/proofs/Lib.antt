@@ -1,3 +1,4 @@
 pub mod Asking
 pub mod Causes
 pub mod Messages
+pub mod Showing

@@ -1,5 +1,5 @@
 -- What the program says beside what was asked for: notes of what was passed over.
-use Rattle.std.specs.Prelude.{◌≡◌, ℕ, List, [], Bool, true, false, Option, Some, Ok, ◌⊎◌, ⊤}
+use Rattle.std.specs.Prelude.{◌≡◌, ℕ, List, [], Bool, true, false, Option, Some, Ok, ◌⊎◌, map}
 use Rattle.std.specs.Io.KnownBytes.{Appends}
 use Rattle.tokei_cli.specs.CommandLines.{excludes_of}
 use Rattle.tokei_cli.specs.declared.cli.Cli.{Cli}
@@ -9,29 +9,33 @@ use Rattle.tokei_program.specs.declared.environment.Env.{Env}
 use Rattle.tokei_config.specs.declared.flaws.Flaw.{Flaw}
 use Rattle.tokei_program.specs.Jobs.{AreFlaws}
 use Rattle.tokei_program.specs.NotesText.{passed_text}
+use Rattle.tokei_program.specs.Shown.{AreShown, shown_note}
 use Rattle.tokei_program.specs.Tables.{place_of_table, table_at}
 use Rattle.tokei_program.specs.Writing.{WritesText}
 use Rattle.tokei_table.specs.Row.{Row}
 use Rattle.tokei_walk.specs.declared.kept_file.Note.{Note}
 use Rattle.tokei_walk.specs.Notes.{Grows, notes_of_excludes}
 
--- which rows are those of a command line's table, and which configuration files count as empty
+-- which rows are those of a command line's table, which configuration files count as empty, and how
+-- the notes of a run are shown
 abbrev pub Met : Type 1
-Met = Cli → List Row → List Flaw → Type 0
+Met = Cli → List Row → List Flaw → List Note → List Note → Type 0
 
--- any, where the folders tell no tree
+-- any rows and files, where the folders tell no tree; and a note may have words behind its place
 abbrev pub AnyMet : Met
-AnyMet c rows flaws = ⊤
+AnyMet c rows flaws notes as_shown = AreShown notes as_shown
 
--- the rows of the table's file, and the configuration files that are there and count as empty
-pub record AreMet (env : Env) (t : Tree) (c : Cli) (rows : List Row)
-    (flaws : List Flaw) : Type 0 where
+-- the rows of the table's file, and the configuration files that are there and count as empty; and
+-- no note has words behind its place
+pub record AreMet (env : Env) (t : Tree) (c : Cli) (rows : List Row) (flaws : List Flaw)
+    (notes as_shown : List Note) : Type 0 where
   pub table : table_at t (place_of_table env c) ≡ Some (Ok rows)
   pub empty : AreFlaws rows env t flaws
+  pub plain : as_shown ≡ map shown_note notes
 
 -- those of a known tree
 abbrev pub MetIn : Env → Tree → Met
-MetIn env t c rows flaws = AreMet env t c rows flaws
+MetIn env t c rows flaws notes as_shown = AreMet env t c rows flaws notes as_shown
 
 -- a text shows what a command line passes over: the notes of a run, of which those of the excludes
 -- come first, the configuration files that count as empty, and the words that name no language of
@@ -39,10 +43,11 @@ MetIn env t c rows flaws = AreMet env t c rows flaws
 pub record ShowsNotes (met : Met) (c : Cli) (text : List ℕ) : Type 0 where
   pub rows : List Row
   pub flaws : List Flaw
-  pub are : met c rows flaws
   pub notes : List Note
   pub first : Grows (notes_of_excludes (excludes_of c)) notes
-  pub shown : text ≡ passed_text rows c notes flaws
+  pub as_shown : List Note
+  pub are : met c rows flaws notes as_shown
+  pub shown : text ≡ passed_text rows c as_shown flaws
 
 -- beside the list of languages, where it is asked for, nothing is said, and else notes
 abbrev pub ShowsBy : Met → Bool → Cli → List ℕ → Type 0

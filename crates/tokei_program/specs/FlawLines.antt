@@ -1,5 +1,5 @@
 -- The lines of configuration files that count as empty though they are there.
-use Rattle.std.specs.Prelude.{ℕ, ◌==◌, List, [], ◌++◌, codes, if◌then◌else◌, length, map}
+use Rattle.std.specs.Prelude.{ℕ, List, [], ◌++◌, codes, if◌then◌else◌, map}
 use Rattle.log.specs.Level.{allows}
 use Rattle.log.specs.Line.{header_text}
 use Rattle.log.specs.declared.level.Level.TheVariants.{Warn}
@@ -10,6 +10,7 @@ use Rattle.tokei_config.specs.declared.flaws.Flaw.{Flaw}
 use Rattle.tokei_config.specs.declared.flaws.Setting.{Setting}
 use Rattle.tokei_config.specs.declared.flaws.Setting.TheVariants as setting
 use Rattle.tokei_program.specs.NoteLines.{filter_of}
+use Rattle.tokei_program.specs.Shown.{followed}
 use Rattle.tokei_stats.specs.Shown.{shown}
 
 -- what is wrong with a member
@@ -36,9 +37,7 @@ words_of_cause (BadSetting s) = words_of_setting s
 
 -- the same, with what else is known of it
 abbrev pub explained : Flaw → List ℕ
-explained f =
-    if length f.detail == 0 then words_of_cause f.cause
-    else words_of_cause f.cause ++ (codes ": " ++ shown f.detail)
+explained f = followed (words_of_cause f.cause) f.detail
 
 -- what has happened
 unfoldable pub happened : List ℕ

@@ -4,7 +4,6 @@ use Rattle.tokei_cli.specs.declared.cli.Cli.{Cli}
 use Rattle.tokei_config.specs.declared.flaws.Flaw.{Flaw}
 use Rattle.tokei_program.specs.FlawLines.{flaw_lines}
 use Rattle.tokei_program.specs.NoteLines.{filter_of, lines_of}
-use Rattle.tokei_program.specs.Shown.{shown_note}
 use Rattle.tokei_program.specs.Types.{type_lines}
 use Rattle.tokei_table.specs.Bytes.{newline}
 use Rattle.tokei_table.specs.Row.{Row}
@@ -14,11 +13,11 @@ use Rattle.tokei_walk.specs.declared.kept_file.Note.{Note}
 abbrev pub ended : List ℕ → List ℕ
 ended line = line ++ newline ∷ []
 
--- the lines that a command line shows: of a run's notes, of configuration files that count as empty,
--- and of its own words that name no language
+-- the lines that a command line shows: of notes as they are shown, of configuration files that count
+-- as empty, and of its own words that name no language
 abbrev pub passed_lines : List Row → Cli → List Note → List Flaw → List (List ℕ)
 passed_lines rows c notes flaws =
-    (lines_of (filter_of c.verbose) (map shown_note notes) ++ flaw_lines c flaws)
+    (lines_of (filter_of c.verbose) notes ++ flaw_lines c flaws)
     ++ type_lines rows c
 
 -- these lines as a text

@@ -16,6 +16,7 @@ use crate::notes::passed_text;
 use crate::preparing::{prepare, table_of};
 use crate::reasons::{ended, run_ended};
 use crate::saying::say;
+use crate::shown::shown_notes;
 use std::alloc::Global;
 use tokei::{Folders, Sink, Source, put, run};
 use tokei_cli::{Cli, CliError, print_supported_languages};
@@ -45,7 +46,8 @@ fn write_counts<F: Folders, S: Source, W: Sink>(
     let prepared = prepare(alloc, cli, choices, env, &table, folders, input)?;
     match run(alloc, &table, folders, &prepared.job, out) {
         Ok(notes) => {
-            let text = passed_text(alloc, &table, cli, &notes, &prepared.flaws)?;
+            let shown = shown_notes(alloc, folders, &notes)?;
+            let text = passed_text(alloc, &table, cli, &shown, &prepared.flaws)?;
             Ok(text)
         }
         Err(error) => Err(run_ended(alloc, error, folders, out)),

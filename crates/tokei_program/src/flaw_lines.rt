@@ -3,6 +3,7 @@ ghost use Rattle.std.specs.Prelude.{◌≡◌, ◌++◌, ◌∷◌, [], IfOk, On
 ghost use Rattle.tokei_program.specs.FlawLines.{explained, flaw_line, flaw_lines, happened, told_of, words_of_cause, words_of_setting};
 
 use crate::note_lines::filter;
+use crate::shown::followed;
 use log::sink::Lines;
 use log::{Level, Record};
 use std::alloc::{AllocError, Global};
@@ -46,12 +47,7 @@ fn words(cause: Cause) -> &'static str
 fn explained(alloc: Global, flaw: &Flaw) -> Result<String, AllocError>
     ensures { IfOk result (λ text. string_bytes text ≡ explained flaw.now) }
 {
-    let words = words(flaw.cause);
-    if flaw.detail.is_empty() {
-        return String::from_str(alloc, words);
-    }
-    let detail = shown(alloc, flaw.detail.as_str())?;
-    format!(in alloc; "{words}: {detail}")
+    followed(alloc, words(flaw.cause), flaw.detail.as_str())
 }
 
 /// The file, and why it counts as empty.

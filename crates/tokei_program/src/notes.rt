@@ -4,7 +4,6 @@ ghost use Rattle.tokei_program.specs.NotesText.{ended, passed_text};
 
 use crate::flaw_lines::log_flaws;
 use crate::note_lines::log_notes;
-use crate::shown::shown_notes;
 use crate::types::log_types;
 use log::sink::Lines;
 use std::alloc::{AllocError, Global};
@@ -33,9 +32,9 @@ fn text_of(alloc: Global, lines: &[String]) -> Result<String, AllocError>
     Ok(text)
 }
 
-/// The lines of what a run passed over, of the configuration files that count as empty, and of the
-/// words of its command line that name no language of the table; of those that are shown where `--verbose` was given so often. It fails where
-/// memory runs out.
+/// The lines of what a run passed over, by notes as they are shown, of the configuration files that
+/// count as empty, and of the words of its command line that name no language of the table; of those
+/// that are shown where `--verbose` was given so often. It fails where memory runs out.
 pub fn passed_text(
     alloc: Global,
     table: &LanguageTable,
@@ -46,9 +45,8 @@ pub fn passed_text(
     ensures { IfOk result (λ text. string_bytes text
         ≡ passed_text table.now cli.now notes.now flaws.now) }
 {
-    let notes = shown_notes(alloc, notes)?;
     let mut lines = Lines::new(alloc);
-    log_notes(&notes, cli.verbose, &mut lines)?;
+    log_notes(notes, cli.verbose, &mut lines)?;
     log_flaws(alloc, cli, flaws, &mut lines)?;
     log_types(alloc, table, cli, &mut lines)?;
     text_of(alloc, lines.as_slice())

@@ -24,6 +24,7 @@ use tokei::{
 };
 use tokei_cli::{Cli, OverrideConfig};
 use tokei_config::{ConfigRead, Flaw};
+use tokei_stats::shown::shown;
 
 /// The table in the current folder, for where neither the command line nor the environment names
 /// one.
@@ -217,7 +218,7 @@ fn check_root<F: Folders>(alloc: Global, folders: &mut F, root: &str) -> Result<
     match folders.kind(root) {
         Ok(_) => Ok(()),
         Err(Fault::Memory) => Err(Ending::Memory),
-        Err(Fault::Refused) => Err(Ending::Missing(String::from_str(alloc, root)?)),
+        Err(Fault::Refused) => Err(Ending::Missing(shown(alloc, root)?)),
     }
 }
 

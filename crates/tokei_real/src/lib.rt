@@ -6,6 +6,7 @@ mod limited;
 mod listing;
 pub mod reading;
 mod real_folders;
+mod refusals;
 mod retried;
 mod status;
 

@@ -5,12 +5,14 @@ ghost use Rattle.std.specs.Fs.{file_type, IsFile, IsDir};
 ghost use Rattle.std.specs.IoError.{error_kind};
 ghost use Rattle.tokei_real.specs.Listings.{by_name, by_bytes};
 
+use crate::refusals::{Refusal, Refusals};
 use crate::retried::retried;
-use std::alloc::AllocError;
+use std::alloc::{AllocError, Global};
 use std::fs::{DirEntry, Metadata};
-use std::io::ErrorKind;
+use std::io::{Error, ErrorKind};
 use std::rt::Files;
 use std::{fs, io};
+use tokei_folders::places::joined;
 use tokei_folders::{Entry, Kind, Listing, Text};
 
 /// What the system says stands there. A link that isn't followed is neither a file nor a folder,
@@ -47,20 +49,45 @@ fn put_names_in_order(names: &mut Vec<Text>) -> Result<(), AllocError>
     Ok(())
 }
 
-/// Adds what the system says of an entry: one that is removed meanwhile is left out, and one of
-/// which it doesn't say what stands there is lost. It is refused out of memory alone.
-fn add_entry(listing: &mut Listing, name: Text, said: io::Result<Kind>) -> io::Result<()>
-    ensures entry { IfOk said (λ k. OnOk result (listing.new.entries.items
-        ≡ listing.old.entries.items ++ record { name = name; kind = k } ∷ [])) }
+/// Keeps why an entry of the folder at a place is lost, where memory suffices for that.
+fn keep_refusal(alloc: Global, place: &str, name: &str, error: Error, refusals: &mut Vec<Refusal>) {
+    if let Ok(place) = joined(alloc, place, name) {
+        let place = place.into_string();
+        let _kept = refusals.push(Refusal { place, error });
+    }
+}
+
+/// What a folder holds, in no order, and why entries of it are lost.
+#[derive(Drop)]
+struct Unordered {
+    listing: Listing,
+    refusals: Vec<Refusal>,
+}
+
+/// Adds what the system says of an entry of the folder at a place: one that is removed meanwhile is
+/// left out, and one of which it doesn't say what stands there is lost. It is refused out of memory
+/// alone.
+fn add_entry(
+    alloc: Global,
+    place: &str,
+    name: Text,
+    said: io::Result<Kind>,
+    found: &mut Unordered,
+) -> io::Result<()>
+    ensures entry { IfOk said (λ k. OnOk result (found.new.listing.entries.items
+        ≡ found.old.listing.entries.items ++ record { name = name; kind = k } ∷ [])) }
     ensures lost { IfErr said (λ e. error_kind e ≢ ErrorKind.NotFound → OnOk result
-        (listing.new.lost.items ≡ listing.old.lost.items ++ name ∷ [])) }
-    ensures named { listing.new.unnamed ≡ listing.old.unnamed }
+        (found.new.listing.lost.items ≡ found.old.listing.lost.items ++ name ∷ [])) }
+    ensures named { found.new.listing.unnamed ≡ found.old.listing.unnamed }
 {
     match said {
-        Ok(kind) => listing.entries.push(Entry { name, kind })?,
+        Ok(kind) => found.listing.entries.push(Entry { name, kind })?,
         Err(e) if e.kind() == ErrorKind::NotFound => {}
         Err(e) if e.kind() == ErrorKind::OutOfMemory => return Err(e),
-        Err(_) => listing.lost.push(name)?,
+        Err(e) => {
+            keep_refusal(alloc, place, name.as_str(), e, &mut found.refusals);
+            found.listing.lost.push(name)?;
+        }
     }
     Ok(())
 }
@@ -71,37 +98,51 @@ fn kind_of_entry<R: Files + Clone + Drop>(entry: &DirEntry<R>) -> io::Result<Kin
     Ok(kind_of(&metadata))
 }
 
+/// Nothing of a folder.
+fn nothing_found(alloc: Global) -> Unordered {
+    Unordered {
+        listing: Listing {
+            entries: Vec::new(alloc),
+            lost: Vec::new(alloc),
+            unnamed: 0,
+        },
+        refusals: Vec::new(alloc),
+    }
+}
+
 /// What the folder at a place holds, in no order.
-fn found<R: Files + AllocGlobal + Clone + Drop>(rt: &R, place: &str) -> io::Result<Listing> {
-    let mut listing = Listing {
-        entries: Vec::new(rt.alloc()),
-        lost: Vec::new(rt.alloc()),
-        unnamed: 0,
-    };
+fn found<R: Files + AllocGlobal + Clone + Drop>(rt: &R, place: &str) -> io::Result<Unordered> {
+    let alloc = rt.alloc();
+    let mut found = nothing_found(alloc);
     for entry in fs::read_dir(rt, place)? {
         match entry {
             Ok(entry) => {
-                let name = Text::from_str(rt.alloc(), entry.file_name())?;
-                add_entry(&mut listing, name, kind_of_entry(&entry))?;
+                let name = Text::from_str(alloc, entry.file_name())?;
+                add_entry(alloc, place, name, kind_of_entry(&entry), &mut found)?;
             }
             Err(e) if e.kind() == ErrorKind::InvalidFilename => {
-                listing.unnamed = listing.unnamed.saturating_add(1);
+                found.listing.unnamed = found.listing.unnamed.saturating_add(1);
             }
             Err(e) => return Err(e),
         }
     }
-    Ok(listing)
+    Ok(found)
 }
 
-/// What the folder at a place holds, in the byte order of the names.
+/// What the folder at a place holds, in the byte order of the names; why entries are lost is kept.
 pub(crate) fn listing<R: Files + AllocGlobal + Clone + Drop>(
     rt: &R,
     place: &str,
+    refusals: &mut Refusals,
 ) -> io::Result<Listing>
     ensures sorted { IfOk result (λ l. IsSorted by_name l.entries.items) }
     ensures lost_sorted { IfOk result (λ l. IsSorted by_bytes l.lost.items) }
 {
-    let mut listing = retried(|| found(rt, place))?;
+    let Unordered {
+        mut listing,
+        refusals: why,
+    } = retried(|| found(rt, place))?;
+    refusals.keep_all(why);
     put_in_order(&mut listing.entries)?;
     put_names_in_order(&mut listing.lost)?;
     Ok(listing)

@@ -5,8 +5,10 @@ ghost use Rattle.tokei_folders.specs.Answers.{counted, StaysFull};
 use crate::folders_above::folders_above;
 use crate::listing::{kind_of, listing};
 use crate::reading::{content, head, listed_content, named_content};
+use crate::refusals::Refusals;
 use crate::status::{kind_if_any, status};
 use std::alloc::{AllocError, Global};
+use std::collections::BTreeSet;
 use std::io;
 use std::io::ErrorKind;
 use std::rt::Files;
@@ -22,8 +24,13 @@ pub struct RealFolders<R> {
     buffer: Vec<u8>,
     /// Why the last call without an answer had none.
     refusal: Option<io::Error>,
+    /// Why calls on places were refused.
+    refusals: Refusals,
     /// The place whose content memory last didn't suffice for.
     unheld: String,
+    /// Places at which nothing was when `kind_if_any` was asked, as those of ignore files above a
+    /// root: the next root doesn't ask the system for them again.
+    nothing: BTreeSet<String>,
 }
 
 impl<R: Files + AllocGlobal + Clone + Drop> RealFolders<R> {
@@ -32,18 +39,23 @@ impl<R: Files + AllocGlobal + Clone + Drop> RealFolders<R> {
         ensures none { result.memory_faults ≡ 0 }
     {
         let buffer = Vec::new(rt.alloc());
+        let refusals = Refusals::new(rt.alloc());
         let unheld = String::new(rt.alloc());
+        let nothing = BTreeSet::new(rt.alloc());
         RealFolders {
             rt,
             memory_faults: 0,
             buffer,
             refusal: None,
+            refusals,
             unheld,
+            nothing,
         }
     }
 
-    /// The answer, or why there is none, which is kept; out of memory is counted.
-    fn answered<T>(&mut self, given: io::Result<T>) -> Result<T, Fault>
+    /// The answer of a call on a place, or why there is none, which is kept; out of memory is
+    /// counted.
+    fn answered<T>(&mut self, place: &str, given: io::Result<T>) -> Result<T, Fault>
         ensures counts { self.old.memory_faults < u64.MAX
             → self.new.memory_faults ≡ counted result (self.old.memory_faults) }
         ensures full { StaysFull self.old.memory_faults self.new.memory_faults }
@@ -53,11 +65,22 @@ impl<R: Files + AllocGlobal + Clone + Drop> RealFolders<R> {
             Err(e) => {
                 self.refusal = Some(e);
                 if e.kind() != ErrorKind::OutOfMemory {
+                    let alloc = self.rt.alloc();
+                    self.refusals.keep(alloc, place, e);
                     return Err(Fault::Refused);
                 }
                 self.memory_faults = self.memory_faults.saturating_add(1);
                 Err(Fault::Memory)
             }
+        }
+    }
+
+    /// Keeps that nothing is at a place, where memory suffices for that.
+    fn keep_nothing(&mut self, place: &str)
+        ensures { self.new.memory_faults ≡ self.old.memory_faults }
+    {
+        if let Ok(place) = String::from_str(self.rt.alloc(), place) {
+            let _kept = self.nothing.insert(place);
         }
     }
 
@@ -71,7 +94,7 @@ impl<R: Files + AllocGlobal + Clone + Drop> RealFolders<R> {
             → self.new.memory_faults ≡ counted result (self.old.memory_faults) }
         ensures full { StaysFull self.old.memory_faults self.new.memory_faults }
     {
-        let answer = self.answered(given);
+        let answer = self.answered(place, given);
         if matches!(answer, Err(Fault::Memory)) {
             // Memory for so little may be left where there was none for the content.
             self.unheld = String::from_str(self.rt.alloc(), place).unwrap_or(String::new(
@@ -91,18 +114,24 @@ impl<R: Files + AllocGlobal + Clone + Drop> Folders for RealFolders<R> {
 
     fn kind(&mut self, place: &str) -> Result<Kind, Fault> {
         let metadata = status(&self.rt, place);
-        let metadata = self.answered(metadata)?;
+        let metadata = self.answered(place, metadata)?;
         Ok(kind_of(&metadata))
     }
 
     fn kind_if_any(&mut self, place: &str) -> Result<Option<Kind>, Fault> {
+        if self.nothing.contains(place) {
+            return Ok(None);
+        }
         let found = kind_if_any(&self.rt, place);
-        self.answered(found)
+        if matches!(found, Ok(None)) {
+            self.keep_nothing(place);
+        }
+        self.answered(place, found)
     }
 
     fn list(&mut self, place: &str) -> Result<Listing, Fault> {
-        let found = listing(&self.rt, place);
-        self.answered(found)
+        let found = listing(&self.rt, place, &mut self.refusals);
+        self.answered(place, found)
     }
 
     fn read(&mut self, place: &str) -> Result<Vec<u8>, Fault> {
@@ -122,12 +151,12 @@ impl<R: Files + AllocGlobal + Clone + Drop> Folders for RealFolders<R> {
 
     fn head(&mut self, place: &str) -> Result<Vec<u8>, Fault> {
         let bytes = head(&self.rt, place);
-        self.answered(bytes)
+        self.answered(place, bytes)
     }
 
     fn above(&mut self, place: &str) -> Result<Vec<Above>, Fault> {
         let found = folders_above(&self.rt, place);
-        self.answered(found)
+        self.answered(place, found)
     }
 
     fn cause(&self, alloc: Global) -> Result<String, AllocError> {
@@ -135,6 +164,10 @@ impl<R: Files + AllocGlobal + Clone + Drop> Folders for RealFolders<R> {
             Some(refusal) => format!(in alloc; "{refusal}"),
             None => Ok(String::new(alloc)),
         }
+    }
+
+    fn cause_at(&self, alloc: Global, place: &str) -> Result<String, AllocError> {
+        self.refusals.words(alloc, place)
     }
 
     fn unheld(&self) -> &str {

@@ -15,12 +15,29 @@ returns-in-Ok-clause-told g c t told = record {
   outputs = c.in-Ok.ensures.told t (c.prepare.ensures.same ∙ (c.table_of.ensures.same ∙ told));
 }
 
+pub returns-in-Ok-clause-beside : goal.returns-in-Ok-clause-beside
+returns-in-Ok-clause-beside g c =
+    let flaws = c.in_ok-prepared.prepared.flaws.items in
+    let notes = c.in-Ok.notes.items in
+    let as_shown = c.in_ok-shown-in-Ok.shown.items in
+    let shown : string_bytes c.in_ok-text-in-Ok.text ≡ passed_text c.in_ok-table.table c.args.cli.now as_shown flaws = search rules in
+    notes_shown AnyMet c.args.cli.now c.in_ok-table.table flaws
+    (texts_of c.in_ok-prepared.prepared.job.ignored.items) notes as_shown (string_bytes c.in_ok-text-in-Ok.text)
+    c.in_ok-shown-in-Ok.ensures.some
+    c.in_ok-prepared.ensures.excludes c.in-Ok.ensures.notes shown
+
 pub returns-in-Ok-clause-noted : goal.returns-in-Ok-clause-noted
 returns-in-Ok-clause-noted g c t told =
     let flaws = c.in_ok-prepared.prepared.flaws.items in
     let notes = c.in-Ok.notes.items in
-    let shown : string_bytes c.in_ok-text-in-Ok.text ≡ passed_text c.in_ok-table.table c.args.cli.now notes flaws = search rules in
+    let as_shown = c.in_ok-shown-in-Ok.shown.items in
+    let shown : string_bytes c.in_ok-text-in-Ok.text ≡ passed_text c.in_ok-table.table c.args.cli.now as_shown flaws = search rules in
+    let same = c.run.ensures.same ∙ (c.prepare.ensures.same ∙ (c.table_of.ensures.same ∙ told)) in
     notes_shown (MetIn c.args.env.now t) c.args.cli.now c.in_ok-table.table flaws
-    (texts_of c.in_ok-prepared.prepared.job.ignored.items) notes (string_bytes c.in_ok-text-in-Ok.text)
-    (record { table = c.in_ok-table.ensures.told t told; empty = c.in_ok-prepared.ensures.flawed t (c.table_of.ensures.same ∙ told) })
+    (texts_of c.in_ok-prepared.prepared.job.ignored.items) notes as_shown (string_bytes c.in_ok-text-in-Ok.text)
+    (record {
+      table = c.in_ok-table.ensures.told t told;
+      empty = c.in_ok-prepared.ensures.flawed t (c.table_of.ensures.same ∙ told);
+      plain = c.in_ok-shown-in-Ok.ensures.silent t same;
+    })
     c.in_ok-prepared.ensures.excludes c.in-Ok.ensures.notes shown

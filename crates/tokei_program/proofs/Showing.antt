@@ -1,0 +1,25 @@
+-- Notes that are shown, one by one.
+use Rattle.std.proofs.Common.{◌≡◌, ◌∙◌, ℕ, ◌+◌, ◌<◌, ◌≤◌, List, [], ◌∷◌, ◌++◌, ap, arith, length, get_or, take, take_all, sym, subst}
+use Rattle.std.proofs.Math.Seq.{take-suc}
+use Rattle.tokei_program.specs.Shown.{AreShown, IsShown}
+use Rattle.tokei_walk.specs.declared.kept_file.Note.{Note}
+
+-- one more is shown behind them
+pub shown_more : (ns ss : List Note) (n s : Note) → AreShown ns ss → IsShown n s → AreShown (ns ++ n ∷ []) (ss ++ s ∷ [])
+shown_more [] [] n s before this = (this, tt)
+shown_more [] (t ∷ ss) n s before this = absurd before
+shown_more (m ∷ ns) [] n s before this = absurd before
+shown_more (m ∷ ns) (t ∷ ss) n s before this = (before.0, shown_more ns ss n s before.1 this)
+
+more : (i : ℕ) → suc i ≡ i + 1
+more i = omega arith
+
+-- the next one is shown behind the first
+pub shown_next : (ns ss : List Note) (i : ℕ) (n s : Note) → AreShown (take i ns) ss → i < length ns → n ≡ get_or ns i n → IsShown n s → AreShown (take (i + 1) ns) (ss ++ s ∷ [])
+shown_next ns ss i n s before within is this =
+    let next : take i ns ++ n ∷ [] ≡ take (i + 1) ns = ap (λ m. take i ns ++ m ∷ []) is ∙ sym (take-suc ns i n within) ∙ ap (λ k. take k ns) (more i) in
+    subst (λ ms. AreShown ms (ss ++ s ∷ [])) next (shown_more (take i ns) ss n s before this)
+
+-- where none is left, all are shown
+pub shown_all : (ns ss : List Note) (i : ℕ) → AreShown (take i ns) ss → length ns ≤ i → AreShown ns ss
+shown_all ns ss i shown over = subst (λ ms. AreShown ms ss) (take_all i ns over) shown
