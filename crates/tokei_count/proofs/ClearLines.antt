@@ -1,6 +1,7 @@
 -- Lines of bytes at which no choice can begin are counted by their fronts: such a line is blank, or
 -- code, and a comment in a literate language.
 use Rattle.std.proofs.Common.{◌≡◌, ℕ, zero, suc, ◌+◌, ◌-◌, ◌<◌, ◌≤◌, ◌==◌, cond, Bool, true, false, List, [], ◌∷◌, length, take, drop, get_or, None, refl, sym, ◌∙◌, ap, subst, arith, length-drop}
+use Rattle.std.specs.Prelude.{⊤}
 use Rattle.std.proofs.lemmas.Bool.Decides.{Decides-eqb}
 use Rattle.std.proofs.lemmas.List.{drop-take, get_or-drop, get_or-take, length-take-le}
 use Rattle.tokei_bytes.specs.Lines.{front_count, line_count}
@@ -26,7 +27,7 @@ use Rattle.tokei_count.proofs.StepReading.{line_some}
 use Rattle.tokei_count.proofs.UnderWay.{gone_on}
 
 -- no choice can begin at any of the bytes
-AreClear : Matchers → List ℕ → Type 0
+abbrev AreClear : Matchers → List ℕ → Type 0
 AreClear m [] = ⊤
 AreClear m (b ∷ t) = BeginsNone m b × AreClear m t
 
@@ -61,16 +62,20 @@ clear_class r line some clear = by_front (trim_start line) refl (front_clear r.m
         let solid : all_blank line ≡ false = head_not_blank r.matchers.now line (b ∷ w) is none.0 in
         by_literate (row_in r).literate refl head ∙ sym (ap (class_by (row_in r).literate) solid)
 
+never : false ≡ true → ⊥
+never h = cc
+
 -- a text that is cut behind a newline has the same first line
 cut_line : (u : List ℕ) (k : ℕ) → k < length u → get_or u k 0 ≡ newline → first_line (take (suc k) u) ≡ first_line u
 cut_line [] k within is = absurd (omega (arith, within))
-cut_line (b ∷ t) k within is = by_byte (b == newline) refl k within is
+cut_line (b ∷ t) k within is = by_byte (b == newline) refl k within is (λ j w i. cut_line t j w i)
   where
     by_byte : (x : Bool) → (b == newline) ≡ x → (j : ℕ) → j < length (b ∷ t) → get_or (b ∷ t) j 0 ≡ newline
+        → ((i : ℕ) → i < length t → get_or t i 0 ≡ newline → first_line (take (suc i) t) ≡ first_line t)
         → cond x (b ∷ []) (b ∷ first_line (take j t)) ≡ cond x (b ∷ []) (b ∷ first_line t)
-    by_byte true e j w i = refl
-    by_byte false e zero w i = let yes : (b == newline) ≡ true = (Decides-eqb b newline).1 i in let no : false ≡ true = sym e ∙ yes in cc
-    by_byte false e (suc j) w i = ap (λ s. b ∷ s) (cut_line t j (omega (arith, w)) i)
+    by_byte true e j w i rest = refl
+    by_byte false e zero w i rest = let yes : (b == newline) ≡ true = (Decides-eqb b newline).1 i in let no : false ≡ true = sym e ∙ yes in absurd (never no)
+    by_byte false e (suc j) w i rest = ap (λ s. b ∷ s) (rest j (omega (arith, w)) i)
 
 -- where the last newline of a stretch is
 pub newline_at : (text : List ℕ) (start clear last : ℕ) → start ≤ clear → clear ≤ length text → last < length (take (clear - start) (drop start text))
@@ -112,3 +117,16 @@ module _ (r : Reading) (p : ReadSoFar) (clear stop : ℕ) (some : p.start < stop
       → sums_of all ≡ counts_in (row_in r).literate blank solid → IsUnderWay r (gone_on p all stop)
   clear_lines skipped plain next before known all blank solid way is whole sums =
       all_before r p skipped plain stop next (omega (arith, high, within)) before same class_is all blank solid way (omega (arith, some)) known is whole sums
+
+-- the same by what the searches find
+pub clear_way : (r : Reading) (p : ReadSoFar) (next clear last blank solid : ℕ) (lines : Sums) → r.skips ≡ true → IsUnderWay r p → chain_of p.stack.items ≡ []
+    → next ≡ p.start + opener_place (openers_in r) (drop p.start r.text.now) → next ≤ length r.text.now → p.start ≤ clear → clear ≤ next
+    → ((k : ℕ) → p.start ≤ k → k < clear → BeginsNone r.matchers.now (get_or r.text.now k 0))
+    → last < length (take (clear - p.start) (drop p.start r.text.now)) → (get_or (take (clear - p.start) (drop p.start r.text.now)) last 0 == newline) ≡ true
+    → solid ≡ front_count true (drop p.start (take (p.start + last + 1) r.text.now)) → blank + solid ≡ line_count (drop p.start (take (p.start + last + 1) r.text.now))
+    → sums_of lines ≡ counts_in (row_in r).literate blank solid → IsUnderWay r (gone_on p lines (p.start + last + 1))
+clear_way r p next clear last blank solid lines skipped way plain known within low high none below is solid_is whole sums =
+    let found = newline_at r.text.now p.start clear last low (omega (arith, high, within)) below is in
+    let ends : get_or r.text.now (p.start + last + 1 - 1) 0 ≡ newline = ap (λ n. get_or r.text.now n 0) (omega arith) ∙ found.1 in
+    clear_lines r p clear (p.start + last + 1) (omega arith) found.0 (omega (arith, high, within)) ends none skipped plain next (omega (arith, found.0, high)) known lines blank solid way
+    solid_is whole sums

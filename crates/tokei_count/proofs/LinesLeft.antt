@@ -1,6 +1,6 @@
 -- The lines that are left of a text, where no opener is left and the language has no comments, are
 -- counted by their fronts.
-use Rattle.std.proofs.Common.{◌≡◌, ℕ, ◌+◌, ◌<◌, ◌≤◌, ◌==◌, ◌&&◌, ◌||◌, cond, Bool, true, false, List, [], ◌∷◌, length, take, drop, take_all, None, refl, sym, ◌∙◌, ap, arith}
+use Rattle.std.proofs.Common.{◌≡◌, ℕ, ◌+◌, ◌<◌, ◌==◌, ◌&&◌, ◌||◌, cond, Bool, true, false, List, [], ◌∷◌, length, take, drop, take_all, None, refl, sym, ◌∙◌, ap, arith}
 use Rattle.std.proofs.lemmas.Bool.Decides.{Decides-eqb}
 use Rattle.tokei_bytes.specs.Lines.{front_count, line_count}
 use Rattle.tokei_table.specs.Bytes.{all_blank, trim}
