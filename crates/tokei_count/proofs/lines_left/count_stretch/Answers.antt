@@ -8,7 +8,7 @@ use Rattle.tokei_stats.specs.Seen.{sums_of}
 use Rattle.tokei_stats.specs.Statistics.{plus}
 use Rattle.tokei_count.proofs.ClearLines.{clear_way, newline_at}
 use Rattle.tokei_count.proofs.UnderWay.{counted_on, counts_fit, gone_on}
-use Rattle.tokei_count.proofs.lines_left.count_clear_lines.Goals as goal
+use Rattle.tokei_count.proofs.lines_left.count_stretch.Goals as goal
 
 pub returns-in_err-so_far-clause-quiet : goal.returns-in_err-so_far-clause-quiet
 returns-in_err-so_far-clause-quiet c = λ none.
