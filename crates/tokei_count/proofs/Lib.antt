@@ -2,6 +2,7 @@ pub mod ByChoices
 pub mod CalmChoices
 pub mod CalmLines
 pub mod ChildSums
+pub mod ClearLines
 pub mod Encloses
 pub mod Fitting
 pub mod Gathered
@@ -11,6 +12,7 @@ pub mod HeavyBlocks
 pub mod KnownLanguages
 pub mod KnownReadings
 pub mod LineWeight
+pub mod LinesBefore
 pub mod LinesLeft
 pub mod LoadedMarks
 pub mod Loads

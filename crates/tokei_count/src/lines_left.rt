@@ -1,6 +1,6 @@
-//! The lines that are left of a text without openers, in a language without comments: by its bytes
-//! alone each is blank or not.
-ghost use Rattle.std.specs.Prelude.{◌≡◌, ◌+◌, true, [], None, drop, length};
+//! Lines that are counted all at once, by their bytes alone: those that are left of a text without
+//! openers, in a language without comments, and those of bytes at which nothing can begin.
+ghost use Rattle.std.specs.Prelude.{◌≡◌, ◌+◌, ◌≤◌, true, [], None, drop, length};
 ghost use Rattle.std.specs.Prelude.{IsErrOf, IsOk, OnOk};
 ghost use Rattle.tokei_table.specs.FirstOpener.{first_opener};
 ghost use Rattle.tokei_table.specs.Openers.{openers};
@@ -15,6 +15,7 @@ ghost use Rattle.tokei_stats.specs.Overflow.{Fits};
 ghost use Rattle.tokei_stats.specs.Seen.{sums_of};
 
 use crate::text_reading::ReadSoFar;
+use memchr::memrchr;
 use tokei_bytes::{LineCounts, count_lines};
 use tokei_parts::Reading;
 use tokei_stats::{CountError, Sums};
@@ -68,4 +69,75 @@ pub(crate) fn count_lines_left(reading: &Reading, so_far: &mut ReadSoFar) -> Res
     so_far.own = so_far.own.plus(lines)?;
     so_far.start = text.len();
     Ok(())
+}
+
+/// Counts the next lines at whose bytes no choice can begin, of those that stop before the first
+/// opener, at `next`, or with the text: by its front alone each is blank or not.
+#[inline(never)]
+fn count_stretch(reading: &Reading, so_far: &mut ReadSoFar, next: usize) -> Result<(), CountError>
+    requires skips { reading.now.skips ≡ true }
+    requires under_way { IsUnderWay reading.now so_far.old }
+    requires plain { chain_of so_far.old.stack.items ≡ [] }
+    requires next { next ≡ so_far.old.start
+        + opener_place (openers_in reading.now) (drop so_far.old.start reading.now.text.now) }
+    requires low { so_far.old.start ≤ next }
+    requires within { next ≤ length reading.now.text.now }
+    ensures under_way { OnOk result (IsUnderWay reading.now so_far.new) }
+    ensures low { OnOk result (so_far.old.start ≤ so_far.new.start) }
+    ensures high { OnOk result (so_far.new.start ≤ next) }
+    ensures next { OnOk result (next ≡ so_far.new.start
+        + opener_place (openers_in reading.now) (drop so_far.new.start reading.now.text.now)) }
+    ensures plain { chain_of so_far.new.stack.items ≡ [] }
+    ensures quiet { first_opener (openers (row_in reading.now)) reading.now.text.now ≡ None
+        → IsOk result }
+    ensures overflow { IsErrOf result CountError.Overflow → ¬ Fits (reading_of reading.now) }
+{
+    let text = reading.text;
+    let clear = reading.matchers.plain_end(text, so_far.start, next);
+    let Some(last) = memrchr(b'\n', &text[so_far.start..clear]) else {
+        return Ok(());
+    };
+    let stop = so_far.start + last + 1;
+    let lines = sums_in(
+        reading.syntax.literate,
+        count_lines(&text[..stop], so_far.start),
+    );
+    so_far.own = so_far.own.plus(lines)?;
+    so_far.start = stop;
+    Ok(())
+}
+
+/// Where the next opener is nearer than so many bytes, lines are counted one after another: to look
+/// at them all at once takes some preparation.
+const LONG: usize = 256;
+
+/// Counts the next lines at whose bytes no choice can begin, where the first opener, at `next`, is
+/// far enough away.
+#[inline(always)]
+pub(crate) fn count_clear_lines(
+    reading: &Reading,
+    so_far: &mut ReadSoFar,
+    next: usize,
+) -> Result<(), CountError>
+    requires skips { reading.now.skips ≡ true }
+    requires under_way { IsUnderWay reading.now so_far.old }
+    requires plain { chain_of so_far.old.stack.items ≡ [] }
+    requires next { next ≡ so_far.old.start
+        + opener_place (openers_in reading.now) (drop so_far.old.start reading.now.text.now) }
+    requires low { so_far.old.start ≤ next }
+    requires within { next ≤ length reading.now.text.now }
+    ensures under_way { OnOk result (IsUnderWay reading.now so_far.new) }
+    ensures low { OnOk result (so_far.old.start ≤ so_far.new.start) }
+    ensures high { OnOk result (so_far.new.start ≤ next) }
+    ensures next { OnOk result (next ≡ so_far.new.start
+        + opener_place (openers_in reading.now) (drop so_far.new.start reading.now.text.now)) }
+    ensures plain { chain_of so_far.new.stack.items ≡ [] }
+    ensures quiet { first_opener (openers (row_in reading.now)) reading.now.text.now ≡ None
+        → IsOk result }
+    ensures overflow { IsErrOf result CountError.Overflow → ¬ Fits (reading_of reading.now) }
+{
+    if next - so_far.start < LONG {
+        return Ok(());
+    }
+    count_stretch(reading, so_far, next)
 }

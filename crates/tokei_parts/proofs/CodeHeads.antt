@@ -167,7 +167,7 @@ module _ (g : Row) (s : IsSound g) (m : Matchers) (is : m ≡ matchers_of g) (do
           let trimmed : trim t ≡ b ∷ trim_end w = ap trim_end f ∙ trimmed_by (is_blank b) (all_blank w) b w (front_solid t b w f) in
           by_rules t a u b (trim_end w) e trimmed (front_not_blank t b w f) (starts_nothing g s m a u is i) (starts_nothing g s m b (trim_end w) is k)
 
-no_head : (t : List ℕ) → trim_start t ≡ [] → all_blank t ≡ true
+pub no_head : (t : List ℕ) → trim_start t ≡ [] → all_blank t ≡ true
 no_head [] e = refl
 no_head (a ∷ t) e = by_test (is_blank a) e (no_head t)
   where
@@ -179,7 +179,7 @@ pub blank_part : (g : Row) (docs_are_comments : Bool) (t : List ℕ) (ended : Mo
 unfolding class_of
 blank_part g docs_are_comments t ended e = rw (no_head t e) refl
 
-head_not_blank : (m : Matchers) (t v : List ℕ) → trim_start t ≡ v → FrontBeginsNone m v → all_blank t ≡ false
+pub head_not_blank : (m : Matchers) (t v : List ℕ) → trim_start t ≡ v → FrontBeginsNone m v → all_blank t ≡ false
 head_not_blank m t [] e k = absurd k
 head_not_blank m t (b ∷ w) e k = front_not_blank t b w e
 
