@@ -1,7 +1,8 @@
 -- Notes that are shown, one by one.
-use Rattle.std.proofs.Common.{◌≡◌, ◌∙◌, ℕ, ◌+◌, ◌<◌, ◌≤◌, List, [], ◌∷◌, ◌++◌, ap, arith, length, get_or, take, take_all, sym, subst}
+use Rattle.std.proofs.Common.{◌≡◌, ◌∙◌, ℕ, suc, ◌+◌, ◌<◌, ◌≤◌, List, [], ◌∷◌, ◌++◌, ap, arith, length, get_or, map, take, take_all, sym, subst}
+use Rattle.std.proofs.lemmas.List.{map-append}
 use Rattle.std.proofs.Math.Seq.{take-suc}
-use Rattle.tokei_program.specs.Shown.{AreShown, IsShown}
+use Rattle.tokei_program.specs.Shown.{AreShown, IsShown, shown_note}
 use Rattle.tokei_walk.specs.declared.kept_file.Note.{Note}
 
 -- one more is shown behind them
@@ -14,11 +15,21 @@ shown_more (m ∷ ns) (t ∷ ss) n s before this = (before.0, shown_more ns ss n
 more : (i : ℕ) → suc i ≡ i + 1
 more i = omega arith
 
+-- the first notes and the next one
+taken_next : (ns : List Note) (i : ℕ) (n : Note) → i < length ns → n ≡ get_or ns i n → take i ns ++ n ∷ [] ≡ take (i + 1) ns
+taken_next ns i n within is =
+    ap (λ (m : Note). take i ns ++ m ∷ []) is ∙ sym (take-suc ns i n within) ∙ ap (λ (k : ℕ). take k ns) (more i)
+
 -- the next one is shown behind the first
 pub shown_next : (ns ss : List Note) (i : ℕ) (n s : Note) → AreShown (take i ns) ss → i < length ns → n ≡ get_or ns i n → IsShown n s → AreShown (take (i + 1) ns) (ss ++ s ∷ [])
 shown_next ns ss i n s before within is this =
-    let next : take i ns ++ n ∷ [] ≡ take (i + 1) ns = ap (λ m. take i ns ++ m ∷ []) is ∙ sym (take-suc ns i n within) ∙ ap (λ k. take k ns) (more i) in
-    subst (λ ms. AreShown ms (ss ++ s ∷ [])) next (shown_more (take i ns) ss n s before this)
+    subst (λ ms. AreShown ms (ss ++ s ∷ [])) (taken_next ns i n within is) (shown_more (take i ns) ss n s before this)
+
+-- the next one has no words either
+pub plain_next : (ns ss : List Note) (i : ℕ) (n s : Note) → ss ≡ map shown_note (take i ns) → i < length ns → n ≡ get_or ns i n → s ≡ shown_note n → ss ++ s ∷ [] ≡ map shown_note (take (i + 1) ns)
+plain_next ns ss i n s before within is this =
+    ap (λ (xs : List Note). xs ++ s ∷ []) before ∙ ap (λ (x : Note). map shown_note (take i ns) ++ x ∷ []) this
+    ∙ sym (map-append shown_note (take i ns) (n ∷ [])) ∙ ap (λ (ms : List Note). map shown_note ms) (taken_next ns i n within is)
 
 -- where none is left, all are shown
 pub shown_all : (ns ss : List Note) (i : ℕ) → AreShown (take i ns) ss → length ns ≤ i → AreShown ns ss

@@ -64,7 +64,6 @@ fn shown_note<F: Folders>(alloc: Global, folders: &F, note: &Note) -> Result<Not
 
 /// The notes as they are shown, each with why its place gave no answer, where the folders have words
 /// for that.
-#[tactic(auto, using(crate::proofs::Showing::shown_next, crate::proofs::Showing::shown_all))]
 pub fn shown_notes<F: Folders>(
     alloc: Global,
     folders: &F,

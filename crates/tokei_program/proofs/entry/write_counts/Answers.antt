@@ -1,9 +1,11 @@
 -- What is written is the output of the run that was prepared over the table.
-use Rattle.std.proofs.Common.{◌≡◌, ◌∙◌, rules, string_bytes}
+use Rattle.std.proofs.Common.{◌≡◌, ◌∙◌, List, ap, map, rules, string_bytes, subst}
 use Rattle.tokei_walk.specs.Walks.{texts_of}
 use Rattle.tokei_program.proofs.Asking.{notes_shown}
 use Rattle.tokei_program.specs.Beside.{AnyMet, MetIn}
 use Rattle.tokei_program.specs.NotesText.{passed_text}
+use Rattle.tokei_program.specs.Shown.{AreShown, shown_note}
+use Rattle.tokei_walk.specs.declared.kept_file.Note.{Note}
 use Rattle.tokei_program.proofs.entry.write_counts.Goals as goal
 
 pub returns-in-Ok-clause-told : goal.returns-in-Ok-clause-told
@@ -21,9 +23,10 @@ returns-in-Ok-clause-beside g c =
     let notes = c.in-Ok.notes.items in
     let as_shown = c.in_ok-shown-in-Ok.shown.items in
     let shown : string_bytes c.in_ok-text-in-Ok.text ≡ passed_text c.in_ok-table.table c.args.cli.now as_shown flaws = search rules in
+    let these : c.deref.result.now ≡ notes = search rules in
     notes_shown AnyMet c.args.cli.now c.in_ok-table.table flaws
     (texts_of c.in_ok-prepared.prepared.job.ignored.items) notes as_shown (string_bytes c.in_ok-text-in-Ok.text)
-    c.in_ok-shown-in-Ok.ensures.some
+    (subst (λ (ns : List Note). AreShown ns as_shown) these c.in_ok-shown-in-Ok.ensures.some)
     c.in_ok-prepared.ensures.excludes c.in-Ok.ensures.notes shown
 
 pub returns-in-Ok-clause-noted : goal.returns-in-Ok-clause-noted
@@ -32,12 +35,13 @@ returns-in-Ok-clause-noted g c t told =
     let notes = c.in-Ok.notes.items in
     let as_shown = c.in_ok-shown-in-Ok.shown.items in
     let shown : string_bytes c.in_ok-text-in-Ok.text ≡ passed_text c.in_ok-table.table c.args.cli.now as_shown flaws = search rules in
+    let these : c.deref.result.now ≡ notes = search rules in
     let same = c.run.ensures.same ∙ (c.prepare.ensures.same ∙ (c.table_of.ensures.same ∙ told)) in
     notes_shown (MetIn c.args.env.now t) c.args.cli.now c.in_ok-table.table flaws
     (texts_of c.in_ok-prepared.prepared.job.ignored.items) notes as_shown (string_bytes c.in_ok-text-in-Ok.text)
     (record {
       table = c.in_ok-table.ensures.told t told;
       empty = c.in_ok-prepared.ensures.flawed t (c.table_of.ensures.same ∙ told);
-      plain = c.in_ok-shown-in-Ok.ensures.silent t same;
+      plain = c.in_ok-shown-in-Ok.ensures.silent t same ∙ ap (λ (ns : List Note). map shown_note ns) these;
     })
     c.in_ok-prepared.ensures.excludes c.in-Ok.ensures.notes shown
