@@ -27,36 +27,36 @@ AnyMet c rows flaws notes as_shown = AreShown notes as_shown
 
 -- the rows of the table's file, and the configuration files that are there and count as empty; and
 -- no note has words behind its place
-pub record AreMet (env : Env) (t : Tree) (c : Cli) (rows : List Row) (flaws : List Flaw)
+pub record AreMet (env : Env) (tree : Tree) (line : Cli) (rows : List Row) (flaws : List Flaw)
     (notes as_shown : List Note) : Type 0 where
-  pub table : table_at t (place_of_table env c) ≡ Some (Ok rows)
-  pub empty : AreFlaws rows env t flaws
+  pub table : table_at tree (place_of_table env line) ≡ Some (Ok rows)
+  pub empty : AreFlaws rows env tree flaws
   pub plain : as_shown ≡ map shown_note notes
 
 -- those of a known tree
 abbrev pub MetIn : Env → Tree → Met
-MetIn env t c rows flaws notes as_shown = AreMet env t c rows flaws notes as_shown
+MetIn env tree c rows flaws notes as_shown = AreMet env tree c rows flaws notes as_shown
 
 -- a text shows what a command line passes over: the notes of a run, of which those of the excludes
 -- come first, the configuration files that count as empty, and the words that name no language of
 -- the table
-pub record ShowsNotes (met : Met) (c : Cli) (text : List ℕ) : Type 0 where
+pub record ShowsNotes (met : Met) (line : Cli) (text : List ℕ) : Type 0 where
   pub rows : List Row
   pub flaws : List Flaw
   pub notes : List Note
-  pub first : Grows (notes_of_excludes (excludes_of c)) notes
+  pub first : Grows (notes_of_excludes (excludes_of line)) notes
   pub as_shown : List Note
-  pub are : met c rows flaws notes as_shown
-  pub shown : text ≡ passed_text rows c as_shown flaws
+  pub are : met line rows flaws notes as_shown
+  pub shown : text ≡ passed_text rows line as_shown flaws
 
 -- beside the list of languages, where it is asked for, nothing is said, and else notes
 abbrev pub ShowsBy : Met → Bool → Cli → List ℕ → Type 0
-ShowsBy met true c text = text ≡ []
-ShowsBy met false c text = ShowsNotes met c text
+ShowsBy met true cli text = text ≡ []
+ShowsBy met false cli text = ShowsNotes met cli text
 
 -- a text is what is said beside what a command line asks for
 abbrev pub ShowsAsked : Met → Cli → List ℕ → Type 0
-ShowsAsked met c text = ShowsBy met c.print_languages c text
+ShowsAsked met cli text = ShowsBy met cli.print_languages cli text
 
 -- a text is what is said beside what the command line of these words asks for
 pub record ShowsLine (met : Met) (words : List (List ℕ)) (text : List ℕ) : Type 0 where

@@ -38,14 +38,14 @@ style_of style = unwrap_or style Plain
 
 -- a command line chooses what is written, the column that it sorts by, if any, and how numbers are
 -- shown
-pub record Chooses (c : Cli) (wanted : Wanted) (sort : Option Sort)
+pub record Chooses (line : Cli) (wanted : Wanted) (sort : Option Sort)
     (style : NumberFormatStyle) : Type 0 where
   pub output : Option Format
-  pub format : ReadsAs GivesFormat c.output output
+  pub format : ReadsAs GivesFormat line.output output
   pub streaming : Option Streaming
-  pub form : ReadsAs ParsesForm c.streaming streaming
+  pub form : ReadsAs ParsesForm line.streaming streaming
   pub written : wanted ≡ wanted_of streaming output
-  pub column : ReadsAs GivesColumn c.sort sort
+  pub column : ReadsAs GivesColumn line.sort sort
   pub numbers : Option NumberFormatStyle
-  pub named : ReadsAs ParsesStyle c.number_format numbers
+  pub named : ReadsAs ParsesStyle line.number_format numbers
   pub shown : style ≡ style_of numbers

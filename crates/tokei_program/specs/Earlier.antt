@@ -15,7 +15,7 @@ unfiled input name = if bytes_eq name (codes "stdin") then input else Some name
 
 -- the bytes that a name means, where they are known: those of its file, where it can be read
 abbrev pub bytes_named : Tree → Option (List ℕ) → List ℕ → Option (List ℕ)
-bytes_named t input name = option_or (content_at t name) (unfiled input name)
+bytes_named tree input name = option_or (content_at tree name) (unfiled input name)
 
 -- the languages are those of the bytes, where these are known
 abbrev pub AreRead : List Row → Option (List ℕ) → Languages → Type 0
@@ -25,8 +25,8 @@ AreRead rows bytes languages = IfSome bytes (IsAdded rows [] (languages_of langu
 -- means
 abbrev pub AreEarlier : List Row → Tree → Option (List ℕ) → Option (List ℕ) → Option Languages
     → Type 0
-AreEarlier rows t input None None = ⊤
-AreEarlier rows t input None (Some languages) = ⊥
-AreEarlier rows t input (Some name) None = ⊥
-AreEarlier rows t input (Some name) (Some languages) =
-    AreRead rows (bytes_named t input name) languages
+AreEarlier rows tree input None None = ⊤
+AreEarlier rows tree input None (Some languages) = ⊥
+AreEarlier rows tree input (Some name) None = ⊥
+AreEarlier rows tree input (Some name) (Some languages) =
+    AreRead rows (bytes_named tree input name) languages

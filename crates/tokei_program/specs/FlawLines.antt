@@ -37,7 +37,7 @@ words_of_cause (BadSetting s) = words_of_setting s
 
 -- the same, with what else is known of it
 abbrev pub explained : Flaw → List ℕ
-explained f = followed (words_of_cause f.cause) f.detail
+explained flaw = followed (words_of_cause flaw.cause) flaw.detail
 
 -- what has happened
 unfoldable pub happened : List ℕ
@@ -45,12 +45,12 @@ happened = codes "configuration counts as empty"
 
 -- the file, and why
 abbrev pub told_of : Flaw → List ℕ
-told_of f = shown f.place ++ (codes ": " ++ explained f)
+told_of flaw = shown flaw.place ++ (codes ": " ++ explained flaw)
 
 -- `[WARN  configuration counts as empty] ./tokei.toml: 'sort' is no column`
 abbrev pub flaw_line : Flaw → List ℕ
-flaw_line f = header_text Warn happened ++ told_of f
+flaw_line flaw = header_text Warn happened ++ told_of flaw
 
 -- a line of each, where warnings are shown
 abbrev pub flaw_lines : Cli → List Flaw → List (List ℕ)
-flaw_lines c flaws = if allows (filter_of c.verbose) Warn then map flaw_line flaws else []
+flaw_lines line flaws = if allows (filter_of line.verbose) Warn then map flaw_line flaws else []

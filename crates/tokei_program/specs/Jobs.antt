@@ -21,32 +21,33 @@ use Rattle.tokei_table.specs.Row.{Row}
 use Rattle.tokei_walk.specs.Walks.{texts_of}
 
 -- the configuration of a user's files, with the options above it
-pub record IsConfig (rows : List Row) (c : Cli) (env : Env) (t : Tree)
+pub record IsConfig (rows : List Row) (line : Cli) (env : Env) (tree : Tree)
     (config : Config) : Type 0 where
   pub dirs : ConfigDirs
   pub found : AreDirs env dirs
-  pub settings : settings_of config ≡ overridden rows c (configuration rows t dirs)
+  pub settings : settings_of config ≡ overridden rows line (configuration rows tree dirs)
 
 -- the configuration files that count as empty though they are there
-pub record AreFlaws (rows : List Row) (env : Env) (t : Tree) (flaws : List Flaw) : Type 0 where
+pub record AreFlaws (rows : List Row) (env : Env) (tree : Tree) (flaws : List Flaw) : Type 0 where
   pub dirs : ConfigDirs
   pub found : AreDirs env dirs
-  pub are : placed_causes flaws ≡ flaws_of rows t dirs
+  pub are : placed_causes flaws ≡ flaws_of rows tree dirs
 
 -- the members of a run that the command line gives
-pub record IsJob (c : Cli) (job : Job) : Type 0 where
-  pub paths : texts_of job.paths.items ≡ inputs_of c
-  pub ignored : texts_of job.ignored.items ≡ excludes_of c
-  pub columns : job.columns ≡ columns_of c.columns job.config.columns
-  pub files : job.files ≡ c.files
-  pub compact : job.compact ≡ c.compact
-  pub reverse : job.reverse ≡ c.sort_reverse
+pub record IsJob (line : Cli) (job : Job) : Type 0 where
+  pub paths : texts_of job.paths.items ≡ inputs_of line
+  pub ignored : texts_of job.ignored.items ≡ excludes_of line
+  pub columns : job.columns ≡ columns_of line.columns job.config.columns
+  pub files : job.files ≡ line.files
+  pub compact : job.compact ≡ line.compact
+  pub reverse : job.reverse ≡ line.sort_reverse
 
 -- the run of a command line, in an environment, over a known tree and what stands on standard input
-pub record IsJobOf (rows : List Row) (c : Cli) (env : Env) (t : Tree) (input : Option (List ℕ))
+pub record IsJobOf (rows : List Row) (line : Cli) (env : Env) (tree : Tree)
+    (input : Option (List ℕ))
     (job : Job) : Type 0 where
-  pub members : IsJob c job
-  pub chosen : Chooses c job.wanted job.sort job.numbers
-  pub config : IsConfig rows c env t job.config
-  pub earlier : AreEarlier rows t input (file_input_of c) job.earlier
-  pub roots : AllStand t (inputs_of c)
+  pub members : IsJob line job
+  pub chosen : Chooses line job.wanted job.sort job.numbers
+  pub config : IsConfig rows line env tree job.config
+  pub earlier : AreEarlier rows tree input (file_input_of line) job.earlier
+  pub roots : AllStand tree (inputs_of line)

@@ -38,10 +38,10 @@ words_of UnresolvedRoot = codes "folders above can't be told"
 
 -- the levels that are shown where the option for more notes was given n times
 abbrev pub filter_of : ℕ → LevelFilter
-filter_of n =
-    if n == 1 then level_filter.Warn
-    else (if n == 2 then level_filter.Debug
-    else (if n == 3 then level_filter.Trace else level_filter.Error))
+filter_of number =
+    if number == 1 then level_filter.Warn
+    else (if number == 2 then level_filter.Debug
+    else (if number == 3 then level_filter.Trace else level_filter.Error))
 
 -- `[ERROR not found] nope`
 abbrev pub note_line : Note → List ℕ

@@ -1,5 +1,5 @@
 -- The lines of what was passed over.
-use Rattle.std.specs.Prelude.{ℕ, List, [], ◌∷◌, ◌++◌, flat_map, map}
+use Rattle.std.specs.Prelude.{ℕ, List, [], ◌∷◌, ◌++◌, flat_map}
 use Rattle.tokei_cli.specs.declared.cli.Cli.{Cli}
 use Rattle.tokei_config.specs.declared.flaws.Flaw.{Flaw}
 use Rattle.tokei_program.specs.FlawLines.{flaw_lines}
@@ -16,10 +16,10 @@ ended line = line ++ newline ∷ []
 -- the lines that a command line shows: of notes as they are shown, of configuration files that count
 -- as empty, and of its own words that name no language
 abbrev pub passed_lines : List Row → Cli → List Note → List Flaw → List (List ℕ)
-passed_lines rows c notes flaws =
-    (lines_of (filter_of c.verbose) notes ++ flaw_lines c flaws)
-    ++ type_lines rows c
+passed_lines rows line notes flaws =
+    (lines_of (filter_of line.verbose) notes ++ flaw_lines line flaws)
+    ++ type_lines rows line
 
 -- these lines as a text
 abbrev pub passed_text : List Row → Cli → List Note → List Flaw → List ℕ
-passed_text rows c notes flaws = flat_map ended (passed_lines rows c notes flaws)
+passed_text rows line notes flaws = flat_map ended (passed_lines rows line notes flaws)

@@ -17,12 +17,12 @@ default_table = codes "languages.json"
 
 -- the place of the table: that of the option, else that of the environment
 abbrev pub place_of_table : Env → Cli → List ℕ
-place_of_table env c = unwrap_or (option_or (table_of c) (text_of env.table)) default_table
+place_of_table env line = unwrap_or (option_or (table_of line) (text_of env.table)) default_table
 
 -- the content of the file at a place, where one stands there that can be read
 abbrev pub content_at : Tree → List ℕ → Option (List ℕ)
-content_at t place = node_content (node_at t (names_of place))
+content_at tree place = node_content (node_at tree (names_of place))
 
 -- what reading the table at a place answers, where a file stands there that can be read
 abbrev pub table_at : Tree → List ℕ → Option (Result (List Row) TableError)
-table_at t place = option_map outcome (content_at t place)
+table_at tree place = option_map outcome (content_at tree place)

@@ -49,10 +49,10 @@ unnamed_of rows words = flat_map (unnamed_in rows) words
 
 -- those of a command line
 abbrev pub unnamed_types : List Row → Cli → List (List ℕ)
-unnamed_types rows c =
-    option_map_or (λ v. unnamed_of rows (map string_bytes v.items)) c.types []
+unnamed_types rows line =
+    option_map_or (λ v. unnamed_of rows (map string_bytes v.items)) line.types []
 
 -- a line of each, where warnings are shown
 abbrev pub type_lines : List Row → Cli → List (List ℕ)
-type_lines rows c =
-    if allows (filter_of c.verbose) Warn then map piece_line (unnamed_types rows c) else []
+type_lines rows line =
+    if allows (filter_of line.verbose) Warn then map piece_line (unnamed_types rows line) else []

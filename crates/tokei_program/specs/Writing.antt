@@ -15,39 +15,39 @@ use Rattle.tokei_program.specs.Tables.{place_of_table, table_at}
 use Rattle.tokei_table.specs.Row.{Row}
 
 -- behind what stood there a writer has what the run of a command line outputs
-pub record WritesCounts (c : Cli) (env : Env) (t : Tree)
+pub record WritesCounts (line : Cli) (env : Env) (tree : Tree)
     (input old new : Option (List ℕ)) : Type 0 where
   pub rows : List Row
-  pub table : table_at t (place_of_table env c) ≡ Some (Ok rows)
+  pub table : table_at tree (place_of_table env line) ≡ Some (Ok rows)
   pub job : Job
-  pub is : IsJobOf rows c env t input job
-  pub outputs : Outputs job.wanted rows job t old new
+  pub is : IsJobOf rows line env tree input job
+  pub outputs : Outputs job.wanted rows job tree old new
 
 -- behind what stood there a writer has the list of the table's languages
-pub record WritesList (c : Cli) (env : Env) (t : Tree)
+pub record WritesList (line : Cli) (env : Env) (tree : Tree)
     (old new : Option (List ℕ)) : Type 0 where
   pub rows : List Row
-  pub table : table_at t (place_of_table env c) ≡ Some (Ok rows)
+  pub table : table_at tree (place_of_table env line) ≡ Some (Ok rows)
   pub appended : Appends old new (languages_text rows)
 
 -- the list, where it is asked for, and else the counts
 abbrev pub WritesBy : Bool → Cli → Env → Tree → Option (List ℕ) → Option (List ℕ) → Option (List ℕ)
     → Type 0
-WritesBy true c env t input old new = WritesList c env t old new
-WritesBy false c env t input old new = WritesCounts c env t input old new
+WritesBy true cli env tree input old new = WritesList cli env tree old new
+WritesBy false cli env tree input old new = WritesCounts cli env tree input old new
 
 -- what a command line asks for is written
-pub record WritesAsked (line : Cli) (env : Env) (t : Tree)
+pub record WritesAsked (line : Cli) (env : Env) (tree : Tree)
     (input old new : Option (List ℕ)) : Type 0 where
   pub inputs : inputs_of line ≢ []
-  pub written : WritesBy line.print_languages line env t input old new
+  pub written : WritesBy line.print_languages line env tree input old new
 
 -- what the command line of these words asks for is written
-pub record WritesLine (words : List (List ℕ)) (env : Env) (t : Tree)
+pub record WritesLine (words : List (List ℕ)) (env : Env) (tree : Tree)
     (input old new : Option (List ℕ)) : Type 0 where
   pub line : Cli
   pub spelled : IsLineOf words line
-  pub asked : WritesAsked line env t input old new
+  pub asked : WritesAsked line env tree input old new
 
 -- the text of help or of the version is written
 pub record WritesText (old new : Option (List ℕ)) : Type 0 where
@@ -58,4 +58,4 @@ pub record WritesText (old new : Option (List ℕ)) : Type 0 where
 -- either of them
 abbrev pub Writes : List (List ℕ) → Env → Tree → Option (List ℕ) → Option (List ℕ) → Option (List ℕ)
     → Type 0
-Writes words env t input old new = WritesText old new ⊎ WritesLine words env t input old new
+Writes words env tree input old new = WritesText old new ⊎ WritesLine words env tree input old new
