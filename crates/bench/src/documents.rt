@@ -126,7 +126,7 @@ fn number(word: &str) -> anyhow::Result<usize> {
 }
 
 /// The task that a word names. It fails at another word.
-fn task(word: &str) -> anyhow::Result<Task> {
+fn named_task(word: &str) -> anyhow::Result<Task> {
     match word {
         "make" => Ok(Task::Make),
         "print" => Ok(Task::Print),
@@ -140,7 +140,7 @@ fn task(word: &str) -> anyhow::Result<Task> {
 pub fn measure(rt: &HostRuntime, words: &[String]) -> anyhow::Result<()> {
     let (languages, reports, task) = match words {
         [languages, reports] => (languages, reports, Task::Compare),
-        [languages, reports, word] => (languages, reports, task(word.as_str())?),
+        [languages, reports, word] => (languages, reports, named_task(word.as_str())?),
         _ => bail!("behind documents stand numbers of languages and of reports, and a task"),
     };
     show(

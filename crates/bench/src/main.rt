@@ -59,6 +59,6 @@ fn main(rt: HostRuntime) -> anyhow::Result<()> {
     let Some(task) = words.next() else {
         bail!("the first word is one of count, search, files, documents and example");
     };
-    let words = words.collect(rt.alloc())?;
+    let words: Vec<String> = words.collect(rt.alloc())?;
     measure(&rt, task.as_str(), &words)
 }
