@@ -1,9 +1,10 @@
-//! Counts a text in a language of the bench table, by the plain reading and as callers count, and counts its newlines. It
-//! prints a line for each way of counting: its name, and the newlines, or the blank, code and comment lines of the text and
-//! of all texts inside it.
+//! Counts a text in a language of the bench table, by the plain reading and as callers count, and counts its
+//! newlines. It prints a line for each way of counting: its name, and the newlines, or the blank, code and comment
+//! lines of the text and of all texts inside it.
 //!
-//! The language's key is the first word. Behind it may stand `times`, with which each line ends in the nanoseconds of the
-//! quickest run, and `without-plain`, which leaves the plain reading out. Where the two readings differ, it refuses.
+//! The language's key is the first word. Behind it may stand `times`, with which each line ends in the nanoseconds of
+//! the quickest run, and `without-plain`, which leaves the plain reading out. Where the two readings differ, it
+//! refuses.
 ghost use Rattle.std.specs.Prelude.{◌<◌, length};
 
 use crate::count_times::{Measured, time};

@@ -80,8 +80,12 @@ const CONFIG: CountConfig = CountConfig {
 /// The statistics of the text, by the plain reading.
 fn read_plainly(alloc: Global, input: &Input) -> Result<CodeStats, CountError>
     requires { input.now.language < length input.now.counter.now }
-    ensures reads { IfOk result (λ s. stats_of s ≡ reading (languages_of input.now.counter.now) false outermost_levels input.now.language input.now.text.now) }
-    ensures overflow { IsErrOf result CountError.Overflow → ¬ Fits (reading (languages_of input.now.counter.now) false outermost_levels input.now.language input.now.text.now) }
+    ensures reads { IfOk result (λ s. stats_of s
+        ≡ reading (languages_of input.now.counter.now) false outermost_levels
+        input.now.language input.now.text.now) }
+    ensures overflow { IsErrOf result CountError.Overflow
+        → ¬ Fits (reading (languages_of input.now.counter.now) false outermost_levels
+        input.now.language input.now.text.now) }
 {
     count_plain(alloc, input.counter, input.language, input.text, &CONFIG)
 }
@@ -89,8 +93,12 @@ fn read_plainly(alloc: Global, input: &Input) -> Result<CodeStats, CountError>
 /// The statistics of the text, as callers count.
 fn parsed(alloc: Global, input: &Input) -> Result<CodeStats, CountError>
     requires { input.now.language < length input.now.counter.now }
-    ensures reads { IfOk result (λ s. stats_of s ≡ reading (languages_of input.now.counter.now) false outermost_levels input.now.language input.now.text.now) }
-    ensures overflow { IsErrOf result CountError.Overflow → ¬ Fits (reading (languages_of input.now.counter.now) false outermost_levels input.now.language input.now.text.now) }
+    ensures reads { IfOk result (λ s. stats_of s
+        ≡ reading (languages_of input.now.counter.now) false outermost_levels
+        input.now.language input.now.text.now) }
+    ensures overflow { IsErrOf result CountError.Overflow
+        → ¬ Fits (reading (languages_of input.now.counter.now) false outermost_levels
+        input.now.language input.now.text.now) }
 {
     parse_from_slice(alloc, input.counter, input.language, input.text, &CONFIG)
 }

@@ -83,7 +83,8 @@ impl Answer {
 
 /// The document of the input's languages.
 fn printed(alloc: Global, input: &Input) -> anyhow::Result<String>
-    ensures { IfOk result (λ s. string_bytes s ≡ compact_text (document input.now.table.now (languages_of input.now.languages.now))) }
+    ensures { IfOk result (λ s. string_bytes s
+        ≡ compact_text (document input.now.table.now (languages_of input.now.languages.now))) }
 {
     Ok(Format::Json.print(alloc, input.table, input.languages)?)
 }

@@ -1,10 +1,10 @@
-//! Prints languages as a JSON document and parses them back, and has `serde_json` alone print and parse the same text. It
-//! prints a line for each of these ways: its name and how many bytes the text has.
+//! Prints languages as a JSON document and parses them back, and has `serde_json` alone print and parse the same
+//! text. It prints a line for each of these ways: its name and how many bytes the text has.
 //!
 //! The first two words are how many languages there are, and how many reports each of them has; each report holds
-//! statistics of one more language. Behind them may stand a word: with `times` each line ends in the nanoseconds of the
-//! quickest run; with `make` the languages are only made, with `print` they are printed too, with `parse` the text is parsed
-//! too. Where what is parsed differs from what was printed, it refuses.
+//! statistics of one more language. Behind them may stand a word: with `times` each line ends in the nanoseconds of
+//! the quickest run; with `make` the languages are only made, with `print` they are printed too, with `parse` the
+//! text is parsed too. Where what is parsed differs from what was printed, it refuses.
 use crate::document_times::{Measured, time};
 use crate::document_ways::{Input, Way};
 use crate::making::{made_languages, made_table};

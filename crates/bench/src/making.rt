@@ -29,7 +29,8 @@ fn made_report(alloc: Global, number: usize, inside: LanguageType) -> anyhow::Re
     Ok(report)
 }
 
-/// All languages of the table with so many reports each. Inside each file stands a text of the language listed before its own.
+/// All languages of the table with so many reports each. Inside each file stands a text of the language listed before
+/// its own.
 pub fn made_languages(
     alloc: Global,
     table: &LanguageTable,

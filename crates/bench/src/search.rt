@@ -1,6 +1,6 @@
-//! Searches a text for the openers of a language of the bench table, and prints the place of the first one, or `none`. The
-//! language's key is the first word. Where the second one is `times`, it prints instead how many nanoseconds the search
-//! takes, and how many the search for one byte that C texts haven't.
+//! Searches a text for the openers of a language of the bench table, and prints the place of the first one, or
+//! `none`. The language's key is the first word. Where the second one is `times`, it prints instead how many
+//! nanoseconds the search takes, and how many the search for one byte that C texts haven't.
 use anyhow::bail;
 use memchr::memchr;
 use std::alloc::Global;

@@ -17,8 +17,8 @@ fn long_input(alloc: Global) -> Result<String, AllocError> {
     format!(in alloc; "{head}{name}{tail}")
 }
 
-/// Whether the read with a number came, which fails; what the addition to a language of seven lines of code returned; how
-/// many languages there are then, and how many lines of code that one has.
+/// Whether the read with a number came, which fails; what the addition to a language of seven lines of code returned;
+/// how many languages there are then, and how many lines of code that one has.
 type Left = (bool, Result<(), InputError>, usize, Option<usize>);
 
 /// What is left of a language of seven lines of code where this read of earlier results fails.
@@ -54,8 +54,8 @@ fn each_read_fails_once(rt: HostRuntime) -> Result<(), Fail> {
     Ok(())
 }
 
-/// Whether two hundred thousand bytes, of blanks and a document without languages, are read as such a document, two bytes
-/// in each read.
+/// Whether two hundred thousand bytes, of blanks and a document without languages, are read as such a document, two
+/// bytes in each read.
 fn adds_nothing(alloc: Global, table: &LanguageTable) -> Result<bool, Fail> {
     let mut text = " ".repeat(alloc, 199_989)?;
     text.push_str("{\"Total\":0}")?;

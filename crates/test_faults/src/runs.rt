@@ -42,8 +42,8 @@ fn add_all<F: Folders>(
     Ok(())
 }
 
-/// What a call left of C: why it was refused, how many lines of code there are, how many files are named in their order,
-/// and whether one is marked as unread.
+/// What a call left of C: why it was refused, how many lines of code there are, how many files are named in their
+/// order, and whether one is marked as unread.
 type Left = (Option<CountError>, usize, usize, bool);
 
 /// The files that are read, in the order of a walk.
@@ -85,8 +85,8 @@ fn left_behind(
     }
 }
 
-/// How many files are named, and whether one is marked, where the call with this number fails: three calls find the files,
-/// one reads each of them, and one the head.
+/// How many files are named, and whether one is marked, where the call with this number fails: three calls find the
+/// files, one reads each of them, and one the head.
 const FIRST: [(usize, bool); 7] = [
     (0, false),
     (0, false),

@@ -37,8 +37,8 @@ fn is_kept(count: usize, path: &str) -> bool {
     KEPT.get(count).is_some_and(|kept| *kept == path)
 }
 
-/// Whether a walk met no fault, and returned all that is kept; `None` where what it returned aren't the first files that
-/// are kept, where it says otherwise whether it failed, or where it goes on.
+/// Whether a walk met no fault, and returned all that is kept; `None` where what it returned aren't the first files
+/// that are kept, where it says otherwise whether it failed, or where it goes on.
 fn is_whole<F: Folders>(folders: &mut F, walk: &mut Walk) -> Option<bool> {
     let mut count = 0_usize;
     let mut fails = false;
