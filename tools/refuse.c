@@ -69,17 +69,6 @@ int posix_memalign(void **to, size_t align, size_t size) {
     return refused() ? ENOMEM : real(to, align, size);
 }
 
-int open(const char *path, int flags, ...) {
-    static int (*real)(const char *, int, ...);
-    if (!real) real = dlsym(RTLD_NEXT, "open");
-    va_list rest;
-    va_start(rest, flags);
-    int mode = flags & O_CREAT ? va_arg(rest, int) : 0;
-    va_end(rest);
-    open_said(path);
-    return real(path, flags, mode);
-}
-
 int openat(int folder, const char *path, int flags, ...) {
     static int (*real)(int, const char *, int, ...);
     if (!real) real = dlsym(RTLD_NEXT, "openat");
@@ -89,4 +78,12 @@ int openat(int folder, const char *path, int flags, ...) {
     va_end(rest);
     open_said(path);
     return real(folder, path, flags, mode);
+}
+
+int open(const char *path, int flags, ...) {
+    va_list rest;
+    va_start(rest, flags);
+    int mode = flags & O_CREAT ? va_arg(rest, int) : 0;
+    va_end(rest);
+    return openat(AT_FDCWD, path, flags, mode);
 }
