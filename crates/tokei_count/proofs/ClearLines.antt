@@ -77,6 +77,14 @@ cut_line (b ∷ t) k within is = by_byte (b == newline) refl k within is (λ j w
     by_byte false e zero w i rest = let yes : (b == newline) ≡ true = (Decides-eqb b newline).1 i in let no : false ≡ true = sym e ∙ yes in absurd (never no)
     by_byte false e (suc j) w i rest = ap (λ s. b ∷ s) (rest j (omega (arith, w)) i)
 
+-- so has what is left of a text that is cut behind a newline, from each place on
+pub cut_lines : (text : List ℕ) (stop at : ℕ) → stop ≤ length text → get_or text (stop - 1) 0 ≡ newline → at < stop → first_line (drop at (take stop text)) ≡ first_line (drop at text)
+cut_lines text stop at within ends below =
+    let k : ℕ = stop - 1 - at in
+    let cut : drop at (take stop text) ≡ take (suc k) (drop at text) = ap (λ n. drop at (take n text)) (omega (arith, below)) ∙ drop-take at (suc k) text in
+    let last : get_or (drop at text) k 0 ≡ newline = get_or-drop at text k 0 ∙ ap (λ n. get_or text n 0) (omega (arith, below)) ∙ ends in
+    ap first_line cut ∙ cut_line (drop at text) k (omega (arith, length-drop at text, below, within)) last
+
 -- where the last newline of a stretch is
 pub newline_at : (text : List ℕ) (start clear last : ℕ) → start ≤ clear → clear ≤ length text → last < length (take (clear - start) (drop start text))
     → (get_or (take (clear - start) (drop start text)) last 0 == newline) ≡ true → (start + last + 1 ≤ clear) × (get_or text (start + last) 0 ≡ newline)
@@ -93,11 +101,7 @@ module _ (r : Reading) (p : ReadSoFar) (clear stop : ℕ) (some : p.start < stop
   text = r.text.now
 
   same : (at : ℕ) → p.start ≤ at → at < stop → first_line (drop at (take stop text)) ≡ first_line (drop at text)
-  same at low below =
-      let k : ℕ = stop - 1 - at in
-      let cut : drop at (take stop text) ≡ take (suc k) (drop at text) = ap (λ n. drop at (take n text)) (omega (arith, below)) ∙ drop-take at (suc k) text in
-      let last : get_or (drop at text) k 0 ≡ newline = get_or-drop at text k 0 ∙ ap (λ n. get_or text n 0) (omega (arith, below)) ∙ ends in
-      ap first_line cut ∙ cut_line (drop at text) k (omega (arith, length-drop at text, below, high, within)) last
+  same at low below = cut_lines text stop at (omega (arith, high, within)) ends below
 
   class_is : (at : ℕ) → p.start ≤ at → at < stop → class_plain r (first_line (drop at text)) ≡ class_by (row_in r).literate (all_blank (first_line (drop at text)))
   class_is at low below =

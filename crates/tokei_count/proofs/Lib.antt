@@ -14,6 +14,7 @@ pub mod KnownReadings
 pub mod LineWeight
 pub mod LinesBefore
 pub mod LinesLeft
+pub mod LinesWithin
 pub mod LoadedMarks
 pub mod Loads
 pub mod NotebookReading

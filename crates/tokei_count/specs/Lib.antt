@@ -1,6 +1,7 @@
 -- What contracts say of counting: the items of a text and their parts, the class of each part, the
 -- children, the plain reading, its steps and its weight.
 -- The code's own words, which no public contract has:
+pub mod ClassLines
 pub mod Countings
 pub mod Gathered
 pub mod Languages

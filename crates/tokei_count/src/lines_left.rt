@@ -1,13 +1,18 @@
 //! Lines that are counted all at once, by their bytes alone: those that are left of a text without
-//! openers, in a language without comments, and those of bytes at which nothing can begin.
-ghost use Rattle.std.specs.Prelude.{◌≡◌, ◌+◌, ◌≤◌, true, [], None, drop, length};
+//! openers, in a language without comments, those of bytes at which nothing can begin, and those
+//! within an item.
+ghost use Rattle.std.specs.Prelude.{◌≡◌, ◌+◌, ◌≤◌, true, [], None, Some, drop, length};
 ghost use Rattle.std.specs.Prelude.{IsErrOf, IsOk, OnOk};
 ghost use Rattle.tokei_table.specs.FirstOpener.{first_opener};
 ghost use Rattle.tokei_table.specs.Openers.{openers};
 ghost use Rattle.tokei_table.specs.RowOf.{row_of};
+ghost use Rattle.tokei_parts.specs.Calm.{IsCalm};
 ghost use Rattle.tokei_parts.specs.Glance.{opener_place};
+ghost use Rattle.tokei_parts.specs.Modes.{innermost};
 ghost use Rattle.tokei_parts.specs.ReadingOf.{openers_in, row_in};
 ghost use Rattle.tokei_parts.specs.Seen.{chain_of};
+ghost use Rattle.tokei_parts.specs.SeenChoices.{mode_of};
+ghost use Rattle.tokei_count.specs.ClassLines.{lines_in};
 ghost use Rattle.tokei_count.specs.NoComments.{counts_in, has_no_comments};
 ghost use Rattle.tokei_count.specs.Readers.{reading_of};
 ghost use Rattle.tokei_count.specs.UnderWay.{IsUnderWay};
@@ -17,7 +22,7 @@ ghost use Rattle.tokei_stats.specs.Seen.{sums_of};
 use crate::text_reading::ReadSoFar;
 use memchr::memrchr;
 use tokei_bytes::{LineCounts, count_lines};
-use tokei_parts::Reading;
+use tokei_parts::{Class, Enclosure, Reading, class_within};
 use tokei_stats::{CountError, Sums};
 use tokei_table_row::Syntax;
 
@@ -140,4 +145,87 @@ pub(crate) fn count_clear_lines(
         return Ok(());
     }
     count_stretch(reading, so_far, next)
+}
+
+/// What so many lines of the class count as.
+fn sums_of_class(class: Class, lines: usize) -> Sums
+    ensures { sums_of result ≡ lines_in class lines }
+{
+    match class {
+        Class::Blank => Sums {
+            blanks: lines,
+            code: 0,
+            comments: 0,
+        },
+        Class::Code => Sums {
+            blanks: 0,
+            code: lines,
+            comments: 0,
+        },
+        Class::Comment => Sums {
+            blanks: 0,
+            code: 0,
+            comments: lines,
+        },
+    }
+}
+
+/// Counts the next lines that stop at `to` or before, all within the item that encloses them: up to
+/// there each choice takes its byte.
+#[inline(never)]
+fn count_stretch_within(
+    reading: &Reading,
+    so_far: &mut ReadSoFar,
+    item: Enclosure,
+    to: usize,
+) -> Result<(), CountError>
+    requires under_way { IsUnderWay reading.now so_far.old }
+    requires within { innermost (chain_of so_far.old.stack.items) ≡ mode_of (Some item) }
+    requires calm { IsCalm (row_in reading.now) item reading.now.text.now so_far.old.start to }
+    requires low { so_far.old.start ≤ to }
+    requires high { to ≤ length reading.now.text.now }
+    ensures under_way { OnOk result (IsUnderWay reading.now so_far.new) }
+    ensures low { OnOk result (so_far.old.start ≤ so_far.new.start) }
+    ensures high { OnOk result (so_far.new.start ≤ to) }
+    ensures same { so_far.new.stack ≡ so_far.old.stack }
+    ensures overflow { IsErrOf result CountError.Overflow → ¬ Fits (reading_of reading.now) }
+{
+    let text = reading.text;
+    let Some(last) = memrchr(b'\n', &text[so_far.start..to]) else {
+        return Ok(());
+    };
+    let stop = so_far.start + last + 1;
+    let lines = count_lines(&text[..stop], so_far.start);
+    let class = class_within(reading, item);
+    let within = sums_of_class(class, lines.blank + lines.solid);
+    so_far.own = so_far.own.plus(within)?;
+    so_far.own_steps += stop - so_far.start;
+    so_far.start = stop;
+    Ok(())
+}
+
+/// Counts the next lines that stop at `to` or before, all within the item that encloses them, where
+/// they are long enough together.
+#[inline(always)]
+pub(crate) fn count_lines_within(
+    reading: &Reading,
+    so_far: &mut ReadSoFar,
+    item: Enclosure,
+    to: usize,
+) -> Result<(), CountError>
+    requires under_way { IsUnderWay reading.now so_far.old }
+    requires within { innermost (chain_of so_far.old.stack.items) ≡ mode_of (Some item) }
+    requires calm { IsCalm (row_in reading.now) item reading.now.text.now so_far.old.start to }
+    requires low { so_far.old.start ≤ to }
+    requires high { to ≤ length reading.now.text.now }
+    ensures under_way { OnOk result (IsUnderWay reading.now so_far.new) }
+    ensures low { OnOk result (so_far.old.start ≤ so_far.new.start) }
+    ensures high { OnOk result (so_far.new.start ≤ to) }
+    ensures same { so_far.new.stack ≡ so_far.old.stack }
+    ensures overflow { IsErrOf result CountError.Overflow → ¬ Fits (reading_of reading.now) }
+{
+    if to - so_far.start < LONG {
+        return Ok(());
+    }
+    count_stretch_within(reading, so_far, item, to)
 }

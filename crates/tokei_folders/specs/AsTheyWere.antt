@@ -16,6 +16,6 @@ NoFault faults old new result = OnOk result (FaultsStay faults old new)
 
 -- both
 pub record AsTheyWere {F A E : Type 0} (tree : F → Option Tree) (faults : F → ℕ) (old new : F)
-    (r : Result A E) : Type 0 where
+    (result : Result A E) : Type 0 where
   pub same : SameTree tree old new
-  pub honest : NoFault faults old new r
+  pub honest : NoFault faults old new result

@@ -10,15 +10,16 @@ use Rattle.tokei_folders.specs.Tree.{Tree, IsSound, is_sound, names_of}
 -- a content is answered, and where there is none the call is refused
 abbrev pub answer_with : Option (List ℕ) → Result (List ℕ) Fault
 answer_with None = Err Refused
-answer_with (Some c) = Ok c
+answer_with (Some content) = Ok content
 
 -- a read answers the content of what stands at the place
 abbrev pub ReadsContent : Type 0
-ReadsContent = (o : Option Node) → read_answer o ≡ answer_with (node_content o)
+ReadsContent = (node : Option Node) → read_answer node ≡ answer_with (node_content node)
 
 -- folders that tell a tree tell a sound one
 abbrev pub ToldIsSound : Type 0
-ToldIsSound = (o : Option Tree) (t : Tree) → IsSound o → o ≡ Some t → is_sound t ≡ true
+ToldIsSound =
+    (told : Option Tree) (tree : Tree) → IsSound told → told ≡ Some tree → is_sound tree ≡ true
 
 -- the names of a joined place are those of the folder and then those of the name
 abbrev pub JoinsNames : Type 0

@@ -5,8 +5,8 @@ use Rattle.tokei_folders.specs.Tree.{Tree}
 
 -- the tree that they tell
 abbrev pub tree_of : MemoryFolders → Tree
-tree_of m = m.tree
+tree_of folders = folders.tree
 
 -- how many of their answers were out of memory
 abbrev pub faults_of : MemoryFolders → ℕ
-faults_of m = m.faults
+faults_of folders = folders.faults

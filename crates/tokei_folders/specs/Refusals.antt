@@ -9,31 +9,33 @@ use Rattle.tokei_folders.specs.Tree.{Names, Tree, names_cmp, node_at}
 
 -- the call is refused; one of the wrong kind is refused anyway
 abbrev pub refusing : Call → Node → Node
-refusing ListCall (folder r) = folder true
-refusing Read (folder r) = folder r
-refusing Head (folder r) = folder r
-refusing ListCall (file r h content) = file r h content
-refusing Read (file r h content) = file true h content
-refusing Head (file r h content) = file r true content
+refusing ListCall (folder no_list) = folder true
+refusing Read (folder no_list) = folder no_list
+refusing Head (folder no_list) = folder no_list
+refusing ListCall (file no_read no_head content) = file no_read no_head content
+refusing Read (file no_read no_head content) = file true no_head content
+refusing Head (file no_read no_head content) = file no_read true content
 
 -- what stands at a place is another
 abbrev pub changed : (Node → Node) → Names → Tree → Tree
-changed f p [] = []
-changed f p (e ∷ t) =
-    if is_eq (names_cmp e.names p) then record { names = e.names; node = f e.node } ∷ t
-    else e ∷ changed f p t
+changed change names [] = []
+changed change names (first ∷ rest) =
+    if is_eq (names_cmp first.names names)
+    then record { names = first.names; node = change first.node } ∷ rest
+    else first ∷ changed change names rest
 
 -- the call is refused at a place
 abbrev pub refused_at : Call → Names → Tree → Tree
-refused_at call p t = changed (refusing call) p t
+refused_at call names tree = changed (refusing call) names tree
 
 -- a place refuses a call
 unfoldable pub with_refusal : Tree → Names → Call → Option Tree
-with_refusal t p call = if is_some (node_at t p) then Some (refused_at call p t) else None
+with_refusal tree names call =
+    if is_some (node_at tree names) then Some (refused_at call names tree) else None
 
 -- a place refuses all of them
 unfoldable pub with_refusals : Tree → Names → Option Tree
-with_refusals t p =
-    if is_some (node_at t p)
-    then Some (refused_at ListCall p (refused_at Read p (refused_at Head p t)))
+with_refusals tree names =
+    if is_some (node_at tree names)
+    then Some (refused_at ListCall names (refused_at Read names (refused_at Head names tree)))
     else None

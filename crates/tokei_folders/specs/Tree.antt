@@ -21,16 +21,16 @@ names_cmp = slice_cmp (slice_cmp nat_cmp)
 
 -- the one list of names stands before the other
 abbrev pub is_before : Names → Names → Bool
-is_before a b = is_lt (names_cmp a b)
+is_before names others = is_lt (names_cmp names others)
 
 -- the names stand before those of each place of the tree
 abbrev pub is_first : Names → Tree → Bool
-is_first p t = list_all (λ e. is_before p e.names) t
+is_first names tree = list_all (λ placed. is_before names placed.names) tree
 
 -- each place stands before all that follow it
 abbrev pub is_in_order : Tree → Bool
 is_in_order [] = true
-is_in_order (e ∷ t) = is_first e.names t && is_in_order t
+is_in_order (first ∷ rest) = is_first first.names rest && is_in_order rest
 
 -- the byte of a dot
 abbrev pub dot : ℕ
@@ -39,12 +39,12 @@ dot = 46
 -- an empty piece of a place, and `.`, is no name
 abbrev pub is_name : List ℕ → Bool
 is_name [] = false
-is_name (c ∷ []) = not (c == dot)
-is_name (c ∷ d ∷ cs) = true
+is_name (first ∷ []) = not (first == dot)
+is_name (first ∷ second ∷ rest) = true
 
 -- the character is a slash
 abbrev pub is_slash : ℕ → Bool
-is_slash c = c == 47
+is_slash byte = byte == 47
 
 -- the names of a place
 unfoldable pub names_of : List ℕ → Names
@@ -56,29 +56,31 @@ is_whole_name name = is_name name && not (list_any is_slash name)
 
 -- each name of the place is one
 abbrev pub has_names : PlacedNode → Bool
-has_names e = list_all is_whole_name e.names
+has_names placed = list_all is_whole_name placed.names
 
 -- the places stand in order, and their names are names
 unfoldable pub is_sound : Tree → Bool
-is_sound t = is_in_order t && list_all has_names t
+is_sound tree = is_in_order tree && list_all has_names tree
 
 -- a known tree is sound
 abbrev pub IsSound : Option Tree → Type 0
 IsSound None = ⊤
-IsSound (Some t) = is_sound t ≡ true
+IsSound (Some tree) = is_sound tree ≡ true
 
 -- what stands at a place
 abbrev pub node_at : Tree → Names → Option Node
-node_at [] p = None
-node_at (e ∷ t) p = if is_eq (names_cmp e.names p) then Some e.node else node_at t p
+node_at [] names = None
+node_at (first ∷ rest) names =
+    if is_eq (names_cmp first.names names) then Some first.node else node_at rest names
 
 -- the folders above a place from the top down, each with the name that leads down from it
 abbrev pub folders_above : Names → Names → List (Names × List ℕ)
 folders_above top [] = []
-folders_above top (n ∷ ns) = (top, n) ∷ folders_above (top ++ n ∷ []) ns
+folders_above top (first ∷ rest) = (top, first) ∷ folders_above (top ++ first ∷ []) rest
 
 -- what stands below a folder: the names from it down
 abbrev pub below : Names → Names → Option Names
-below [] ns = Some ns
-below (d ∷ ds) [] = None
-below (d ∷ ds) (n ∷ ns) = if is_eq (slice_cmp nat_cmp d n) then below ds ns else None
+below [] names = Some names
+below (first ∷ rest) [] = None
+below (first ∷ rest) (name ∷ names) =
+    if is_eq (slice_cmp nat_cmp first name) then below rest names else None

@@ -1,5 +1,6 @@
 -- A part at whose head nothing but code can begin is code, and a part of blanks is blank.
-use Rattle.std.proofs.Common.{◌≡◌, ℕ, zero, suc, ◌+◌, ◌-◌, ◌<◌, ◌≤◌, ◌==◌, Bool, true, false, ◌&&◌, ◌||◌, not, cond, List, [], ◌∷◌, None, Some, drop, take, length, length-drop, get_or, slice_index_or, refl, sym, ◌∙◌, ap, subst, arith}
+use Rattle.std.proofs.Common.{◌≡◌, ℕ, zero, suc, ◌+◌, ◌-◌, ◌<◌, ◌≤◌, ◌==◌, Bool, true, false, ◌&&◌, ◌||◌, not, cond, List, [], ◌∷◌, None, Some, drop, take, length, length-drop, get_or, slice_index_or, refl, sym, ◌∙◌, ap, subst, arith, inl, inr}
+use Rattle.std.proofs.lemmas.Bool.{cases_lt}
 use Rattle.std.proofs.lemmas.List.{length-take-le, get_or-take, get_or-drop}
 use Rattle.std.proofs.Math.ListN.{drop_of_length-le}
 use Rattle.std.specs.List.{list_all}
@@ -201,6 +202,15 @@ begun_at : (m : Matchers) (u : List ℕ) (h : ℕ) → h < length u → BeginsNo
 begun_at m [] h l n = absurd (omega arith)
 begun_at m (a ∷ u) zero l n = n
 begun_at m (a ∷ u) (suc h) l n = begun_at m u h (omega arith) n
+
+-- the blanks before `solid` and those from it on
+pub blanks : (text : List ℕ) (start solid head : ℕ)
+    → ((p : ℕ) → start ≤ p → p < solid → is_blank (get_or text p 0) ≡ true) → ((p : ℕ) → solid ≤ p → p < head → is_blank (get_or text p 0) ≡ true)
+    → (p : ℕ) → start ≤ p → p < head → is_blank (get_or text p 0) ≡ true
+blanks text start solid head front rest p low high = elim (cases_lt p solid) [
+  | inl before ↦ front p low before
+  | inr behind ↦ rest p behind high
+]
 
 -- The part of the text t from place i to before place j, whose front blanks end at place h.
 module _ (t : List ℕ) (i j h : ℕ) (low : i ≤ h) (high : h ≤ j) (within : j ≤ length t)

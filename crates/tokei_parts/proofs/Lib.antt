@@ -5,6 +5,7 @@ pub mod CalmPlaces
 pub mod Childless
 pub mod Children
 pub mod CodeHeads
+pub mod CommentHeads
 pub mod Cuts
 pub mod DocSizes
 pub mod Fits

@@ -4,6 +4,7 @@ pub mod Calm
 pub mod Choice
 pub mod Class
 pub mod CodeHeads
+pub mod CommentHeads
 pub mod Derivation
 pub mod Glance
 pub mod Glanced

@@ -4,7 +4,7 @@ ghost use Rattle.tokei_parts.specs.Calm.{IsCalm, TakesByteAt};
 ghost use Rattle.tokei_parts.specs.ReadingOf.{row_in};
 
 use crate::choice::stands;
-use crate::items::Enclosure;
+use crate::items::{Enclosure, ItemKind};
 use crate::plain_bytes::{begins_none_within, item_end};
 use crate::reading::Reading;
 
@@ -19,6 +19,37 @@ fn takes_byte(reading: &Reading, item: Enclosure, at: usize) -> bool
     begins_none_within(reading.matchers, item.kind, text[at]) && !stands(item.closer, &text[at..])
 }
 
+/// The same up to before the answer, in a comment whose closer has two bytes or more: these two are
+/// searched for together.
+#[inline(always)]
+fn pairs_end(reading: &Reading, item: Enclosure, at: usize) -> usize
+    requires { at ≤ length reading.now.text.now }
+    ensures low { at ≤ result }
+    ensures high { result ≤ length reading.now.text.now }
+    ensures calm { IsCalm (row_in reading.now) item.entry reading.now.text.now at result }
+{
+    match (item.kind, item.closer) {
+        (ItemKind::MultiLineComment, [first, second, ..]) => reading
+            .matchers
+            .comment_end_by_two(*first, *second, reading.text, at),
+        _ => at,
+    }
+}
+
+/// From the place `at` of the reading's text to before the answer each choice takes its byte, where
+/// the item encloses them, as far as searches for several bytes at once tell.
+#[inline(always)]
+fn stretch_end(reading: &Reading, item: Enclosure, at: usize) -> usize
+    requires { at ≤ length reading.now.text.now }
+    ensures low { at ≤ result }
+    ensures high { result ≤ length reading.now.text.now }
+    ensures calm { IsCalm (row_in reading.now) item.entry reading.now.text.now at result }
+{
+    let text = reading.text;
+    let near = pairs_end(reading, item, at);
+    item_end(reading.matchers, item, text, near, text.len())
+}
+
 /// From the place `at` of the reading's text to before the answer each choice takes its byte, where
 /// the item encloses them: up to the item's closer, or to where an escape or an opener can begin.
 #[inline(never)]
@@ -29,9 +60,9 @@ pub fn calm_end(reading: &Reading, item: Enclosure, at: usize) -> usize
     ensures calm { IsCalm (row_in reading.now) item.entry reading.now.text.now at result }
 {
     let text = reading.text;
-    let mut next = item_end(reading.matchers, item, text, at, text.len());
+    let mut next = stretch_end(reading, item, at);
     while next < text.len() && takes_byte(reading, item, next) {
-        next = item_end(reading.matchers, item, text, next + 1, text.len());
+        next = stretch_end(reading, item, next + 1);
     }
     next
 }

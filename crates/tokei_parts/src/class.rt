@@ -1,12 +1,14 @@
 //! What a part counts as.
 ghost use Rattle.std.specs.Prelude.{◌≡◌, ℕ, List, ◌-◌, ◌<◌, ◌≤◌, true, None, Some, [], drop, length, slice_index, take};
 ghost use Rattle.tokei_table.specs.Bytes.{is_blank, trim, trim_start};
-ghost use Rattle.tokei_table.specs.RowOf.{pairs_of, row_of};
+ghost use Rattle.tokei_table.specs.RowOf.{pairs_of, row_of, tokens_of};
 ghost use Rattle.tokei_parts.specs.Items.{kind_in};
 ghost use Rattle.tokei_parts.specs.Class.{encloses, opens_with, class_of, head_of};
 ghost use Rattle.tokei_parts.specs.Items.{Mode};
 ghost use Rattle.tokei_parts.specs.Class.{in_comment, in_string, in_doc_string, ends_opened};
+ghost use Rattle.tokei_parts.specs.Class.{keeps_columns};
 ghost use Rattle.tokei_parts.specs.CodeHeads.{HasCodeHead};
+ghost use Rattle.tokei_parts.specs.CommentHeads.{HasCommentHead, any_solid_begins, ends_solid};
 ghost use Rattle.tokei_parts.specs.ReadingOf.{row_in};
 ghost use Rattle.tokei_parts.specs.SeenChoices.{mode_of};
 
@@ -15,7 +17,7 @@ use crate::items::{Enclosure, ItemKind};
 use crate::matchers::LanguageMatchers;
 use crate::reading::Reading;
 use tokei_table_row::Syntax;
-use tokei_table_row::ext::{is_blank_text, trim};
+use tokei_table_row::ext::{is_blank_text, is_whitespace, trim};
 use tokei_table_search::blanks_end;
 
 /// What a line counts as.
@@ -77,12 +79,19 @@ fn in_doc_string(mode: Option<Enclosure>) -> bool
     }
 }
 
+/// Whether comments are told by their column in the language.
+fn keeps_columns(key: &str) -> bool
+    ensures { result ≡ keeps_columns key.now }
+{
+    key == "FortranLegacy" || key == "FortranModern"
+}
+
 /// The part without its blanks, which is `trimmed`, or as it stands where columns count.
 fn head_of<'t>(syntax: &Syntax, text: &'t [u8], trimmed: &'t [u8]) -> &'t [u8]
     requires { trimmed.now ≡ trim text.now }
     ensures { result.now ≡ head_of (row_of syntax.now) text.now }
 {
-    if syntax.key.as_str() == "FortranLegacy" || syntax.key.as_str() == "FortranModern" {
+    if keeps_columns(syntax.key.as_str()) {
         text
     } else {
         trimmed
@@ -259,6 +268,52 @@ fn class_of_line(syntax: &Syntax, docs_are_comments: bool, bytes: &[u8]) -> Clas
     class_of(syntax, docs_are_comments, None, bytes, None)
 }
 
+/// Whether the token's last byte is no blank.
+#[inline(always)]
+fn ends_solid(token: &[u8]) -> bool
+    ensures { result ≡ ends_solid token.now }
+{
+    match token.split_last() {
+        None => false,
+        Some((last, _)) => !is_whitespace(*last),
+    }
+}
+
+/// Whether a token that doesn't end in a blank stands at the front of the text.
+#[inline(always)]
+fn any_solid_begins(tokens: &[String], text: &[u8]) -> bool
+    ensures { result ≡ any_solid_begins (tokens_of tokens.now) text.now }
+{
+    for token in tokens {
+        if ends_solid(token.as_bytes()) && begins(token, text) {
+            return true;
+        }
+    }
+    false
+}
+
+/// Whether a line comment stands at the head of the part of the text from `start` to before `stop`,
+/// and doesn't end in a blank, by which a trimmed part can end too early for it. Only blanks stand
+/// before `solid`.
+#[inline(never)]
+fn begins_comment(syntax: &Syntax, text: &[u8], start: usize, solid: usize, stop: usize) -> bool
+    requires order { start ≤ stop }
+    requires within { stop ≤ length text.now }
+    requires low { start ≤ solid }
+    requires solid { (p : ℕ) → start ≤ p → p < solid → is_blank (slice_index text.now p) ≡ true }
+    ensures { result ≡ true
+        → HasCommentHead (row_of syntax.now) (take (stop - start) (drop start text.now)) }
+{
+    if stop <= solid {
+        return false;
+    }
+    let head = blanks_end(text, solid, stop);
+    if start < head && keeps_columns(syntax.key.as_str()) {
+        return false;
+    }
+    any_solid_begins(&syntax.line_comment, &text[head..stop])
+}
+
 /// The class of the line of a text from `start` to before `stop`, in the reading's language, which
 /// no item encloses at either end, as `class_of` has it. Only blanks stand before `solid`.
 #[inline(always)]
@@ -284,6 +339,7 @@ pub fn class_of_plain(
         Some(Class::Blank) => Class::Blank,
         Some(Class::Code) if syntax.literate => Class::Comment,
         Some(Class::Code) => Class::Code,
+        _ if begins_comment(syntax, text, start, solid, stop) => Class::Comment,
         _ => class_of_line(syntax, reading.docs_are_comments, &text[start..stop]),
     }
 }

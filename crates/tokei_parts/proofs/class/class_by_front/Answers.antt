@@ -1,8 +1,6 @@
-use Rattle.std.proofs.Common.{◌≡◌, ◌∙◌, ℕ, List, ◌<◌, ◌≤◌, true, refl, sym, slice_index, arith, inl, inr}
-use Rattle.std.proofs.lemmas.Bool.{cases_lt}
-use Rattle.tokei_table.specs.Bytes.{is_blank}
+use Rattle.std.proofs.Common.{◌≡◌, ◌∙◌, ◌≤◌, refl, sym, slice_index, arith}
 use Rattle.tokei_parts.specs.PlainBytes.{BeginsNone}
-use Rattle.tokei_parts.proofs.CodeHeads.{blank_front, code_front}
+use Rattle.tokei_parts.proofs.CodeHeads.{blank_front, blanks, code_front}
 use Rattle.tokei_parts.proofs.class.class_by_front.Goals as goal
 
 pub returns-then-stop-solid-clause-blank : goal.returns-then-stop-solid-clause-blank
@@ -11,15 +9,6 @@ returns-then-stop-solid-clause-blank c _ =
     c.requires.within
     (λ p low high. c.requires.solid p low (omega (arith, high, c.if-stop-solid.true)))
     (λ below. absurd (omega (arith, below))) refl
-
--- the blanks before `solid` and those from it on
-blanks : (text : List ℕ) (start solid head : ℕ)
-    → ((p : ℕ) → start ≤ p → p < solid → is_blank (slice_index text p) ≡ true) → ((p : ℕ) → solid ≤ p → p < head → is_blank (slice_index text p) ≡ true)
-    → (p : ℕ) → start ≤ p → p < head → is_blank (slice_index text p) ≡ true
-blanks text start solid head front rest p low high = elim (cases_lt p solid) [
-  | inl before ↦ front p low before
-  | inr behind ↦ rest p behind high
-]
 
 pub returns-then-head-stop-clause-blank : goal.returns-then-head-stop-clause-blank
 returns-then-head-stop-clause-blank c _ =

@@ -1,9 +1,11 @@
-use Rattle.std.proofs.Common.{◌≡◌, ℕ, List, [], Some, None, ◌-◌, drop, take, true, false, sym, ap, ◌∙◌, refl}
+use Rattle.std.proofs.Common.{◌≡◌, ℕ, List, [], Some, None, ◌-◌, drop, take, true, false, sym, ap, subst, ◌∙◌, refl}
 use Rattle.tokei_table.specs.Bytes.{trim_start}
 use Rattle.tokei_table.specs.Row.{Row}
+use Rattle.tokei_parts.specs.CommentHeads.{HasCommentHead}
 use Rattle.tokei_parts.specs.ReadingOf.{row_in}
 use Rattle.tokei_parts.specs.declared.reading.Reading.{Reading}
 use Rattle.tokei_parts.proofs.CodeHeads.{code_head, literate_head, blank_part}
+use Rattle.tokei_parts.proofs.CommentHeads.{comment_line}
 use Rattle.tokei_parts.proofs.class.class_of_plain.Goals as goal
 
 -- the bytes of the part
@@ -30,3 +32,9 @@ returns-in-Some-Code-2 c =
     let literate : (row_in r).literate ≡ false = ap (λ (g : Row). g.literate) (sym r.row) ∙ c.if-syntax.false in
     sym (code_head (row_in r) r.sound r.matchers.now r.matched r.docs_are_comments None literate refl (bytes c.args.text.now c.args.start c.args.stop)
     (c.class_by_front.ensures.code (c.in-Some-Code.is ∙ ap Some c.in-Some-Code-2.field-0-is)))
+
+pub returns-in_default : goal.returns-in_default
+returns-in_default c =
+    let r : Reading = c.args.reading.now in
+    let part : List ℕ = bytes c.args.text.now c.args.start c.args.stop in
+    sym (comment_line (row_in r) r.docs_are_comments part (subst (λ (g : Row). HasCommentHead g part) r.row (c.begins_comment.ensures c.if-begins_comment.true)))
