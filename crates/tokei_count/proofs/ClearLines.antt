@@ -91,7 +91,8 @@ pub newline_at : (text : List ℕ) (start clear last : ℕ) → start ≤ clear 
 newline_at text start clear last low within below is =
     let size : length (take (clear - start) (drop start text)) ≡ clear - start = length-take-le (clear - start) (drop start text) (omega (arith, length-drop start text, low, within)) in
     let near : last < clear - start = omega (arith, below, size) in
-    (omega (arith, near, low), sym (get_or-take (clear - start) (drop start text) last 0 near ∙ get_or-drop start text last 0) ∙ (Decides-eqb (get_or (take (clear - start) (drop start text)) last 0) newline).0 is)
+    let same : get_or (take (clear - start) (drop start text)) last 0 ≡ get_or text (start + last) 0 = get_or-take (clear - start) (drop start text) last 0 near ∙ get_or-drop start text last 0 in
+    (omega (arith, near, low), sym same ∙ (Decides-eqb (get_or (take (clear - start) (drop start text)) last 0) newline).0 is)
 
 -- the lines of the text from the place on whose last byte, before `stop`, is a newline
 module _ (r : Reading) (p : ReadSoFar) (clear stop : ℕ) (some : p.start < stop) (high : stop ≤ clear) (within : clear ≤ length r.text.now)
@@ -110,7 +111,8 @@ module _ (r : Reading) (p : ReadSoFar) (clear stop : ℕ) (some : p.start < stop
       let cut : List ℕ = drop at (take stop text) in
       let short : at + length line ≤ stop = omega (arith, ap (λ (w : List ℕ). length w) (same at low below), first_within cut, length-drop at (take stop text), length_seen, below) in
       let byte : (k : ℕ) → k < length line → BeginsNone r.matchers.now (get_or line k 0) = λ k l.
-      subst (BeginsNone r.matchers.now) (sym (ap (λ (w : List ℕ). get_or w k 0) (sym (take-first u)) ∙ get_or-take (length line) u k 0 l ∙ get_or-drop at text k 0)) (none (at + k) (omega (arith, low)) (omega (arith, l, short, high))) in
+      let there : get_or line k 0 ≡ get_or text (at + k) 0 = ap (λ (w : List ℕ). get_or w k 0) (sym (take-first u)) ∙ get_or-take (length line) u k 0 l ∙ get_or-drop at text k 0 in
+      subst (BeginsNone r.matchers.now) (sym there) (none (at + k) (omega (arith, low)) (omega (arith, l, short, high))) in
       clear_class r line (line_some text at (omega (arith, below, high, within))) (all_clear r.matchers.now line byte)
     where
       length_seen : length (take stop text) ≡ stop

@@ -128,7 +128,8 @@ module _ (r : Reading) (p : ReadSoFar) (skipped : r.skips ≡ true) (plain : cha
       (subst (λ k. IsUnderWay r (gone_on p lines k)) there way)
 
   -- what was counted from the place on is right, if it is so from a later place on
-  module _ (all : Sums) (lines : Sums) (at blank : ℕ) (low : p.start ≤ at) (within : at ≤ stop) (way : IsUnderWay r (gone_on p lines at)) (known : next ≡ at + opener_place (openers_in r) (drop at text))
+  module _ (all : Sums) (lines : Sums) (at blank : ℕ) (low : p.start ≤ at) (within : at ≤ stop) (way : IsUnderWay r (gone_on p lines at))
+      (known : next ≡ at + opener_place (openers_in r) (drop at text))
       (told : blank + front_count true (drop at seen) ≡ line_count (drop at seen)) (sums : sums_of all ≡ plus (sums_of lines) (counts_in literate blank (front_count true (drop at seen)))) where
     abbrev Later : Type 0
     Later = (mid : Sums) (end left : ℕ) → at < end → end ≤ stop → IsUnderWay r (gone_on p mid end) → next ≡ end + opener_place (openers_in r) (drop end text)
@@ -155,8 +156,11 @@ module _ (r : Reading) (p : ReadSoFar) (skipped : r.skips ≡ true) (plain : cha
         let there : drop (length line) v ≡ drop end seen = drop-drop (length line) at seen in
         let left : ℕ = line_count (drop end seen) - front_count true (drop end seen) in
         let left_is : left + front_count true (drop end seen) ≡ line_count (drop end seen) = omega (arith, fronts_in_lines (drop end seen)) in
-        let lines_are : line_count v ≡ 1 + line_count (drop end seen) = count_line v (omega (arith, length-drop at seen, seen_size, some)) ∙ ap (λ (w : List ℕ). 1 + line_count (drop (length w) v)) line_is ∙ ap (λ w. 1 + line_count w) there in
-        let fronts_are : front_count true v ≡ flag (not is_blank_line) + front_count true (drop end seen) = fronts_line v true ∙ ap (λ (w : List ℕ). flag (not (all_blank w)) + front_count true (drop (length w) v)) line_is ∙ ap (λ w. flag (not is_blank_line) + front_count true w) there in
+        let lines_are : line_count v ≡ 1 + line_count (drop end seen) =
+        count_line v (omega (arith, length-drop at seen, seen_size, some)) ∙ ap (λ (w : List ℕ). 1 + line_count (drop (length w) v)) line_is ∙ ap (λ w. 1 + line_count w) there in
+        let fronts_are : front_count true v ≡ flag (not is_blank_line) + front_count true (drop end seen) =
+        fronts_line v true ∙ ap (λ (w : List ℕ). flag (not (all_blank w)) + front_count true (drop (length w) v)) line_is
+        ∙ ap (λ w. flag (not is_blank_line) + front_count true w) there in
         let whole : blank + front_count true v ≡ 1 + (left + front_count true (drop end seen)) = omega (arith, told, lines_are, left_is) in
         later mid end left (omega (arith, line_some text at some_text)) short gone (opener_later (openers_in r) text at end next (omega arith) (omega (arith, short, before)) known) left_is
         (added literate is_blank_line (sums_of lines) (sums_of mid) (sums_of all) blank left (front_count true v) (front_count true (drop end seen)) refl whole fronts_are sums)
@@ -183,5 +187,6 @@ module _ (r : Reading) (p : ReadSoFar) (skipped : r.skips ≡ true) (plain : cha
       → solid ≡ front_count true (drop p.start seen) → blank + solid ≡ line_count (drop p.start seen) → sums_of all ≡ counts_in literate blank solid
       → IsUnderWay r (gone_on p all stop)
   all_before all blank solid way within known is whole sums =
-      by_lines (stop - p.start) (record { blanks = 0; code = 0; comments = 0 }) all p.start blank (omega arith) (omega arith) within (none_more r p way (record { blanks = 0; code = 0; comments = 0 }) refl) known (omega (arith, is, whole))
+      by_lines (stop - p.start) (record { blanks = 0; code = 0; comments = 0 }) all p.start blank (omega arith) (omega arith) within
+      (none_more r p way (record { blanks = 0; code = 0; comments = 0 }) refl) known (omega (arith, is, whole))
       (none_before literate blank (front_count true (drop p.start seen)) (sums_of all) (sums ∙ ap (counts_in literate blank) is))

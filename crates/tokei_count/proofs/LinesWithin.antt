@@ -1,8 +1,10 @@
 -- Lines within an item, in which each choice takes its byte, are counted by their newlines: each is of
 -- the class that the item gives it, whatever its bytes.
-use Rattle.std.proofs.Common.{◌≡◌, ℕ, zero, suc, ◌+◌, ◌-◌, ◌<◌, ◌≤◌, ◌==◌, true, List, length, take, drop, get_or, Some, ◌⊎◌, inl, inr, refl, sym, ◌∙◌, ap, subst, arith, length-drop}
-use Rattle.std.proofs.lemmas.List.{drop-drop, drop_all, length-take-le}
-use Rattle.tokei_bytes.specs.Lines.{line_count}
+use Rattle.std.proofs.Common.{◌≡◌, ℕ, zero, suc, ◌+◌, ◌-◌, ◌<◌, ◌≤◌, ◌==◌, not, true, false, List, length, take, drop, get_or, Some, ◌⊎◌, inl, inr, refl, sym, ◌∙◌, ap, subst, arith, length-drop}
+use Rattle.std.proofs.lemmas.Bool.Decides.{Decides-eqb}
+use Rattle.std.proofs.lemmas.List.{drop-drop, drop_all, get_or-drop, get_or-take, length-take-le}
+use Rattle.tokei_bytes.proofs.LineSums.{last_tells}
+use Rattle.tokei_bytes.specs.Lines.{flag, goes_on, line_count, newline_count}
 use Rattle.tokei_table.specs.Bytes.{newline}
 use Rattle.tokei_parts.proofs.LineEnds.{below_or}
 use Rattle.tokei_parts.proofs.Lines.{first_within}
@@ -116,17 +118,29 @@ module _ (r : Reading) (p : ReadSoFar) (item : CodeEnclosure.Enclosure) (class :
       by_lines (stop - p.start) (record { blanks = 0; code = 0; comments = 0 }) all p.start (omega arith) (omega arith) low
       (none_within r p way (record { blanks = 0; code = 0; comments = 0 }) refl) (none_before class (line_count (drop p.start seen)) (sums_of all) sums)
 
+-- where a text's last byte is a newline, it has as many lines
+lines_of_newlines : (u : List ℕ) (k : ℕ) → length u ≡ suc k → get_or u k 0 ≡ newline → newline_count u ≡ line_count u
+lines_of_newlines u k size ends =
+    let closed : goes_on u ≡ false = last_tells u k size ∙ ap not ((Decides-eqb (get_or u k 0) newline).1 ends) in
+    omega (arith, ap flag closed)
+
 -- the same by what the search for the last newline finds
-pub way_within : (r : Reading) (p : ReadSoFar) (item : CodeEnclosure.Enclosure) (class : Class) (to last number : ℕ) (lines : Sums) → IsUnderWay r p → innermost (chain_of p.stack.items) ≡ mode_of (Some item)
+pub way_within : (r : Reading) (p : ReadSoFar) (item : CodeEnclosure.Enclosure) (class : Class) (to last number : ℕ) (lines : Sums)
+    → IsUnderWay r p → innermost (chain_of p.stack.items) ≡ mode_of (Some item)
     → IsCalm (row_in r) item r.text.now p.start to → p.start ≤ to → to ≤ length r.text.now
     → last < length (take (to - p.start) (drop p.start r.text.now)) → (get_or (take (to - p.start) (drop p.start r.text.now)) last 0 == newline) ≡ true
-    → number ≡ line_count (drop p.start (take (p.start + last + 1) r.text.now)) → sums_of lines ≡ lines_in class number
+    → number ≡ newline_count (drop p.start (take (p.start + last + 1) r.text.now)) → sums_of lines ≡ lines_in class number
     → ((bytes : List ℕ) → class ≡ class_of (row_in r) r.docs_are_comments (record { begun = mode_of (Some item); bytes = bytes; ended = mode_of (Some item) }))
     → IsUnderWay r (gone_within p lines (p.start + last + 1))
 way_within r p item class to last number lines way within calm low inside below is number_is sums class_is =
     let found = newline_at r.text.now p.start to last low inside below is in
     let ends : get_or r.text.now (p.start + last + 1 - 1) 0 ≡ newline = ap (λ n. get_or r.text.now n 0) (omega arith) ∙ found.1 in
-    all_within r p item class (p.start + last + 1) to inside found.0 ends within calm class_is lines way (omega arith) (sums ∙ ap (lines_in class) number_is)
+    let seen : List ℕ = take (p.start + last + 1) r.text.now in
+    let stretch : List ℕ = drop p.start seen in
+    let long : length stretch ≡ suc last = omega (arith, length-drop p.start seen, length-take-le (p.start + last + 1) r.text.now (omega (arith, found.0, inside))) in
+    let final : get_or stretch last 0 ≡ newline = get_or-drop p.start seen last 0 ∙ get_or-take (p.start + last + 1) r.text.now (p.start + last) 0 (omega arith) ∙ found.1 in
+    let lines_are : number ≡ line_count stretch = number_is ∙ lines_of_newlines stretch last long final in
+    all_within r p item class (p.start + last + 1) to inside found.0 ends within calm class_is lines way (omega arith) (sums ∙ ap (lines_in class) lines_are)
 
 -- with the counts that were added up
 pub counted_within : (r : Reading) (p : ReadSoFar) (own lines : Sums) (at : ℕ) → sums_of own ≡ sums_of (sums_with p.own lines) → IsUnderWay r (gone_within p lines at)

@@ -10,6 +10,7 @@ mod counter;
 mod file_context;
 pub mod laws;
 mod lines_left;
+mod newlines;
 mod parse;
 mod plain_reading;
 mod reader;

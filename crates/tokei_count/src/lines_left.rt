@@ -19,6 +19,7 @@ ghost use Rattle.tokei_count.specs.UnderWay.{IsUnderWay};
 ghost use Rattle.tokei_stats.specs.Overflow.{Fits};
 ghost use Rattle.tokei_stats.specs.Seen.{sums_of};
 
+use crate::newlines::count_newlines;
 use crate::text_reading::ReadSoFar;
 use memchr::memrchr;
 use tokei_bytes::{LineCounts, count_lines};
@@ -195,9 +196,8 @@ fn count_stretch_within(
         return Ok(());
     };
     let stop = so_far.start + last + 1;
-    let lines = count_lines(&text[..stop], so_far.start);
-    let class = class_within(reading, item);
-    let within = sums_of_class(class, lines.blank + lines.solid);
+    let lines = count_newlines(&text[..stop], so_far.start);
+    let within = sums_of_class(class_within(reading, item), lines);
     so_far.own = so_far.own.plus(within)?;
     so_far.own_steps += stop - so_far.start;
     so_far.start = stop;

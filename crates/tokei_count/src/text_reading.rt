@@ -27,9 +27,7 @@ ghost use Rattle.tokei_count.specs.UnderWay.{IsReadBy, IsUnderWay, reading_insid
 ghost use Rattle.tokei_stats.specs.Seen.{stats_of, sums_of};
 ghost use Rattle.tokei_stats.specs.Statistics.{lines_of, plus};
 
-use crate::lines_left::{
-    count_clear_lines, count_lines_left, count_lines_within, has_no_comments,
-};
+use crate::lines_left::{count_clear_lines, count_lines_left, count_lines_within, has_no_comments};
 use crate::reader::Reader;
 use std::alloc::{AllocError, Global};
 use std::collections::BTreeMap;

@@ -7,7 +7,7 @@ use Rattle.std.specs.Cmp.Lexicographic.{pointwise}
 use Rattle.tokei_table.specs.Bytes.{begins, is_blank, all_blank, trim, trim_start, trim_end}
 use Rattle.tokei_table.specs.Row.{Row}
 use Rattle.tokei_parts.specs.Choice.{any_begins}
-use Rattle.tokei_parts.specs.Class.{class_of, head_of, keeps_columns}
+use Rattle.tokei_parts.specs.Class.{class_of, keeps_columns}
 use Rattle.tokei_parts.specs.CommentHeads.{HasCommentHead, any_solid_begins, ends_solid}
 use Rattle.tokei_parts.specs.declared.class.Class.TheVariants.{Comment}
 use Rattle.tokei_parts.proofs.Fits.{and_left, and_right}
@@ -88,7 +88,8 @@ never : false ≡ true → ⊥
 never h = cc
 
 -- such a token behind the front blanks, of which there is none where columns count
-pub comment_head : (g : Row) (part : List ℕ) (k : ℕ) → trim_start part ≡ drop k part → any_solid_begins g.line_comment (drop k part) ≡ true → (0 < k → keeps_columns g.key ≡ false) → HasCommentHead g part
+pub comment_head : (g : Row) (part : List ℕ) (k : ℕ) → trim_start part ≡ drop k part → any_solid_begins g.line_comment (drop k part) ≡ true
+    → (0 < k → keeps_columns g.key ≡ false) → HasCommentHead g part
 comment_head g part k front h columns =
     let found = stands g.line_comment (drop k part) h in
     record {

@@ -5,7 +5,7 @@ ghost use Rattle.tokei_parts.specs.ReadingOf.{row_in};
 
 use crate::choice::stands;
 use crate::items::{Enclosure, ItemKind};
-use crate::plain_bytes::{begins_none_within, item_end};
+use crate::plain_bytes::{begins_none_within, is_plain_byte, item_end};
 use crate::reading::Reading;
 
 /// Whether nothing but the item's closer can begin at the place, which the item encloses, and that
@@ -19,10 +19,10 @@ fn takes_byte(reading: &Reading, item: Enclosure, at: usize) -> bool
     begins_none_within(reading.matchers, item.kind, text[at]) && !stands(item.closer, &text[at..])
 }
 
-/// The same up to before the answer, in a comment whose closer has two bytes or more: these two are
-/// searched for together.
+/// The same from the place to before the answer, in a comment whose closer has two bytes or more,
+/// where the second tells it.
 #[inline(always)]
-fn pairs_end(reading: &Reading, item: Enclosure, at: usize) -> usize
+fn comment_end(reading: &Reading, item: Enclosure, at: usize) -> usize
     requires { at ≤ length reading.now.text.now }
     ensures low { at ≤ result }
     ensures high { result ≤ length reading.now.text.now }
@@ -31,13 +31,14 @@ fn pairs_end(reading: &Reading, item: Enclosure, at: usize) -> usize
     match (item.kind, item.closer) {
         (ItemKind::MultiLineComment, [first, second, ..]) => reading
             .matchers
-            .comment_end_by_two(*first, *second, reading.text, at),
+            .comment_end_by_second(*first, *second, reading.text, at),
         _ => at,
     }
 }
 
 /// From the place `at` of the reading's text to before the answer each choice takes its byte, where
-/// the item encloses them, as far as searches for several bytes at once tell.
+/// the item encloses them, as far as searches for several bytes at once tell. Often something can
+/// begin at the place itself, and nothing is searched.
 #[inline(always)]
 fn stretch_end(reading: &Reading, item: Enclosure, at: usize) -> usize
     requires { at ≤ length reading.now.text.now }
@@ -46,14 +47,17 @@ fn stretch_end(reading: &Reading, item: Enclosure, at: usize) -> usize
     ensures calm { IsCalm (row_in reading.now) item.entry reading.now.text.now at result }
 {
     let text = reading.text;
-    let near = pairs_end(reading, item, at);
+    if text.len() <= at || !is_plain_byte(reading.matchers, Some(item), text[at]) {
+        return at;
+    }
+    let near = comment_end(reading, item, at);
     item_end(reading.matchers, item, text, near, text.len())
 }
 
 /// From the place `at` of the reading's text to before the answer each choice takes its byte, where
 /// the item encloses them: up to the item's closer, or to where an escape or an opener can begin.
 #[inline(never)]
-pub fn calm_end(reading: &Reading, item: Enclosure, at: usize) -> usize
+fn calm_end_ahead(reading: &Reading, item: Enclosure, at: usize) -> usize
     requires { at ≤ length reading.now.text.now }
     ensures low { at ≤ result }
     ensures high { result ≤ length reading.now.text.now }
@@ -65,4 +69,19 @@ pub fn calm_end(reading: &Reading, item: Enclosure, at: usize) -> usize
         next = stretch_end(reading, item, next + 1);
     }
     next
+}
+
+/// The same. Where an escape or an opener can begin at the place itself, nothing is searched.
+#[inline(never)]
+pub fn calm_end(reading: &Reading, item: Enclosure, at: usize) -> usize
+    requires { at ≤ length reading.now.text.now }
+    ensures low { at ≤ result }
+    ensures high { result ≤ length reading.now.text.now }
+    ensures calm { IsCalm (row_in reading.now) item.entry reading.now.text.now at result }
+{
+    let text = reading.text;
+    if at < text.len() && !begins_none_within(reading.matchers, item.kind, text[at]) {
+        return at;
+    }
+    calm_end_ahead(reading, item, at)
 }

@@ -10,7 +10,7 @@ use crate::beginnings::{beginnings, beginnings_in_comment};
 use crate::shared_matchers::SharedMatchers;
 use std::alloc::{AllocError, Global};
 use std::marker::Model;
-use tokei_bytes::{ByteSet, next_pair};
+use tokei_bytes::ByteSet;
 use tokei_table::{LanguageTable, LanguageType};
 use tokei_table_rules::Family;
 
@@ -127,28 +127,27 @@ impl LanguageMatchers {
         self.begins_in_comment.clear_end_with(first, text, at, to)
     }
 
-    /// How far, from the place `at` of the text on, no such choice can begin in a comment whose
-    /// closer begins with these two bytes, and they don't stand together either. It is `at` where
-    /// the language has more choices than one search can look for, and before the last block of the
-    /// text it may go no further.
+    /// The same up to the text's end in a comment whose closer begins with these two bytes, where
+    /// another choice can begin at the second: then no search stops at the first. It is `at` in any
+    /// other language.
     #[inline(always)]
-    pub fn comment_end_by_two(&self, first: u8, second: u8, text: &[u8], at: usize) -> usize
+    pub fn comment_end_by_second(&self, first: u8, second: u8, text: &[u8], at: usize) -> usize
         requires { at ≤ length text.now }
         ensures low { at ≤ result }
         ensures high { result ≤ length text.now }
         ensures none { (p : ℕ) → at ≤ p → p < result
             → IsOutside self.now.begins_in_comment (slice_index text.now p) }
-        ensures open { (p : ℕ) → at ≤ p → p < result → slice_index text.now p ≡ first
-            → slice_index text.now (p + 1) ≡ second → ⊥ }
+        ensures unclosed { (p : ℕ) → at ≤ p → p < result → p + 1 < length text.now
+            → slice_index text.now p ≡ first → slice_index text.now (p + 1) ≡ second → ⊥ }
     {
-        let Some(few) = self.begins_in_comment.few() else {
-            return at;
-        };
-        let [a, b, c, d] = few;
-        if c != d || self.begins_in_comment.has(first) {
+        if !self.begins_in_comment.has(second) {
             return at;
         }
-        next_pair([a, b, c, first], first, [second; 4], text, at, text.len())
+        let end = self.begins_in_comment.clear_end(text, at, text.len());
+        if at < end && end < text.len() && text[end - 1] == first && text[end] == second {
+            return end - 1;
+        }
+        end
     }
 }
 

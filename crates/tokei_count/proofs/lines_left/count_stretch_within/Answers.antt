@@ -1,29 +1,17 @@
-use Rattle.std.proofs.Common.{◌≡◌, ◌+◌, ℕ, List, length, take, drop, arith, length-drop}
-use Rattle.std.proofs.lemmas.List.{length-take-le}
-use Rattle.tokei_bytes.proofs.LineSums.{lines_within}
+use Rattle.std.proofs.Common.{◌+◌}
 use Rattle.tokei_count.proofs.CalmLines.{gone_within}
-use Rattle.tokei_count.proofs.ClearLines.{newline_at}
 use Rattle.tokei_count.proofs.LinesWithin.{counted_within, way_within}
 use Rattle.tokei_count.proofs.UnderWay.{counts_fit}
 use Rattle.tokei_count.proofs.lines_left.count_stretch_within.Goals as goal
-
-pub overflow_add-lines : goal.overflow_add-lines
-overflow_add-lines c =
-    let text : List ℕ = c.args.reading.now.text.now in
-    let start : ℕ = c.args.so_far.now.start in
-    let stop : ℕ = start + c.in-Some.last + 1 in
-    let q = c.requires in
-    let short = newline_at text start c.args.to c.in-Some.last q.low q.high c.in-Some.ensures.0.high c.in-Some.ensures.1 in
-    omega (arith, c.count_lines-lines.ensures.all, lines_within (drop start (take stop text)), length-drop start (take stop text), length-take-le stop text (omega (arith, short.0, q.high)), short.0, c.ranges.to.fits)
 
 pub returns-in_err-so_far-clause-overflow : goal.returns-in_err-so_far-clause-overflow
 returns-in_err-so_far-clause-overflow c =
     let r = c.args.reading.now in
     let p = c.args.so_far.now in
     let q = c.requires in
-    let n = c.count_lines-lines in
-    let way = way_within r p c.args.item c.class_within-class.result c.args.to c.in-Some.last (n.result.blank + n.result.solid) c.sums_of_class-within.result q.under_way q.within q.calm q.low q.high
-    c.in-Some.ensures.0.high c.in-Some.ensures.1 n.ensures.all c.sums_of_class-within.ensures c.class_within-class.ensures in
+    let n = c.count_newlines-lines in
+    let way = way_within r p c.args.item c.class_within.result c.args.to c.in-Some.last n.result c.sums_of_class-within.result q.under_way q.within q.calm q.low q.high
+    c.in-Some.ensures.0.high c.in-Some.ensures.1 n.ensures c.sums_of_class-within.ensures c.class_within.ensures in
     λ is fits. c.in_err-so_far.ensures.past (counts_fit r (gone_within p c.sums_of_class-within.result (p.start + c.in-Some.last + 1)) way fits)
 
 pub returns-clause-under_way : goal.returns-clause-under_way
@@ -31,7 +19,7 @@ returns-clause-under_way c =
     let r = c.args.reading.now in
     let p = c.args.so_far.now in
     let q = c.requires in
-    let n = c.count_lines-lines in
+    let n = c.count_newlines-lines in
     counted_within r p c.in_ok-so_far.field-0 c.sums_of_class-within.result (p.start + c.in-Some.last + 1) c.in_ok-so_far.ensures.ok
-    (way_within r p c.args.item c.class_within-class.result c.args.to c.in-Some.last (n.result.blank + n.result.solid) c.sums_of_class-within.result q.under_way q.within q.calm q.low q.high
-    c.in-Some.ensures.0.high c.in-Some.ensures.1 n.ensures.all c.sums_of_class-within.ensures c.class_within-class.ensures)
+    (way_within r p c.args.item c.class_within.result c.args.to c.in-Some.last n.result c.sums_of_class-within.result q.under_way q.within q.calm q.low q.high
+    c.in-Some.ensures.0.high c.in-Some.ensures.1 n.ensures c.sums_of_class-within.ensures c.class_within.ensures)

@@ -1,4 +1,4 @@
-use Rattle.std.proofs.Common.{◌≡◌, ◌∙◌, ◌≤◌, refl, sym, slice_index, arith}
+use Rattle.std.proofs.Common.{◌∙◌, refl, sym, slice_index, arith}
 use Rattle.tokei_parts.specs.PlainBytes.{BeginsNone}
 use Rattle.tokei_parts.proofs.CodeHeads.{blank_front, blanks, code_front}
 use Rattle.tokei_parts.proofs.class.class_by_front.Goals as goal

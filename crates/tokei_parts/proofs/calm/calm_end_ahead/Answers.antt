@@ -1,6 +1,6 @@
-use Rattle.std.proofs.Common.{ℕ, ◌+◌, arith}
+use Rattle.std.proofs.Common.{ℕ, arith}
 use Rattle.tokei_parts.proofs.CalmPlaces.{calm_on}
-use Rattle.tokei_parts.proofs.calm.calm_end.Goals as goal
+use Rattle.tokei_parts.proofs.calm.calm_end_ahead.Goals as goal
 
 pub loop-next-preserved : goal.loop-next-preserved
 loop-next-preserved c =

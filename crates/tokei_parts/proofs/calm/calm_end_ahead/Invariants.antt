@@ -1,7 +1,7 @@
 use Rattle.std.proofs.Common.{◌-◌, ◌≤◌, length}
 use Rattle.tokei_parts.specs.Calm.{IsCalm}
 use Rattle.tokei_parts.specs.ReadingOf.{row_in}
-use Rattle.tokei_parts.proofs.calm.calm_end.Given as goal
+use Rattle.tokei_parts.proofs.calm.calm_end_ahead.Given as goal
 
 abbrev pub invariant-loop-next : goal.invariant-loop-next
 invariant-loop-next l = record {

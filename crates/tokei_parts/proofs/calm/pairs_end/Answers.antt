@@ -1,7 +1,0 @@
-use Rattle.tokei_parts.proofs.CalmPlaces.{calm_pairs}
-use Rattle.tokei_parts.proofs.calm.pairs_end.Goals as goal
-
-pub returns-in-MultiLineComment-len2-up-clause-calm : goal.returns-in-MultiLineComment-len2-up-clause-calm
-returns-in-MultiLineComment-len2-up-clause-calm c =
-    let e = c.comment_end_by_two.ensures in
-    calm_pairs c.args.reading.now c.args.item c.args.at c.comment_end_by_two.result c.in-MultiLineComment-len2-up.is-0 c.in-MultiLineComment-len2-up.len_at_least e.high e.none e.open
