@@ -263,3 +263,19 @@ comment_part g docs_are_comments t (Some x) ended b e = rw (not_doc ended e) (rw
     both : (y : Bool) → cond y Comment Comment ≡ Comment
     both true = refl
     both false = refl
+
+-- a part that began in a string is code, where doc strings are
+pub string_part : (g : Row) (t : List ℕ) (begun ended : Mode)
+    → in_comment begun ≡ false → (begun ≡ None → ⊥) → g.literate ≡ false
+    → class_of g false (record { begun = begun; bytes = t; ended = ended }) ≡ Code
+unfolding class_of
+string_part g t None ended b some plain = absurd (some refl)
+string_part g t (Some x) ended b some plain = rw plain (rw b (by_modes (in_doc_string ended) (in_string ended) (is_doc_string x.kind)))
+  where
+    by_modes : (a b c : Bool) → cond (a && false) Comment (cond b Code (cond (c && false) Comment Code)) ≡ Code
+    by_modes true true c = refl
+    by_modes true false true = refl
+    by_modes true false false = refl
+    by_modes false true c = refl
+    by_modes false false true = refl
+    by_modes false false false = refl

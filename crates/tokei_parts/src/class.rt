@@ -227,6 +227,7 @@ pub fn class_by(
             _ => class_of(syntax, docs_are_comments, None, bytes, ended),
         },
         Some(_) if is_comment(begun) && !in_string(ended) => Class::Comment,
+        Some(_) if !is_comment(begun) && !docs_are_comments && !syntax.literate => Class::Code,
         Some(kind) => {
             let closer = &reading.text[..0];
             let mode = Some(Enclosure { kind, closer });

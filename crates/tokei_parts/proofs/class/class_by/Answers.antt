@@ -9,12 +9,16 @@ use Rattle.tokei_parts.specs.SeenChoices.{mode_of}
 use Rattle.tokei_parts.specs.declared.items.ItemKind.{ItemKind}
 use Rattle.tokei_parts.specs.declared.items.ItemKind.TheVariants.{DocString, VerbatimString, OrdinaryString, MultiLineComment}
 use Rattle.tokei_parts.specs.declared.reading.Reading.{Reading}
-use Rattle.tokei_parts.proofs.CodeHeads.{code_head, blank_part, comment_part}
+use Rattle.tokei_parts.proofs.CodeHeads.{code_head, blank_part, comment_part, string_part}
 use Rattle.tokei_parts.proofs.class.class_by.Goals as goal
 
 plain_of : (m : Mode) → kind_in m ≡ None → m ≡ None
 plain_of None e = refl
 plain_of (Some x) e = absurd (cc)
+
+begun_some : (m : Mode) (kind : ItemKind) → kind_in m ≡ Some kind → m ≡ None → ⊥
+begun_some None kind e none = cc
+begun_some (Some x) kind e none = cc
 
 -- of the item in which a part began its kind alone counts
 by_kind : (g : Row) (docs_are_comments : Bool) (kind : ItemKind) (a b bytes : List ℕ) (ended : Mode)
@@ -67,6 +71,14 @@ pub returns-in-Some-2 : goal.returns-in-Some-2
 returns-in-Some-2 c = λ m is.
     let r : Reading = c.args.reading.now in
     let part : List ℕ = part_bytes r c.args.start c.args.stop in
-    c.class_of-in-Some-2.ensures
-    ∙ ap (λ (g : Row). class_of g r.docs_are_comments (record { begun = Some (record { kind = c.in-Some-2.kind; closer = [] }); bytes = part; ended = mode_of c.args.ended })) r.row
-    ∙ by_begun (row_in r) r.docs_are_comments m c.in-Some-2.kind [] part (mode_of c.args.ended) (is ∙ c.in-Some-2.is)
+    let literate : (row_in r).literate ≡ false = ap (λ (g : Row). g.literate) (sym r.row) ∙ c.if-not-syntax-2.true in
+    sym (ap (λ docs. class_of (row_in r) docs (record { begun = m; bytes = part; ended = mode_of c.args.ended })) c.if-not-docs_are_comments.true
+    ∙ string_part (row_in r) part m (mode_of c.args.ended) (sym (c.if-not-is_comment.ensures m is)) (begun_some m c.in-Some-2.field-0 (is ∙ c.in-Some-2.is)) literate)
+
+pub returns-in-Some-3 : goal.returns-in-Some-3
+returns-in-Some-3 c = λ m is.
+    let r : Reading = c.args.reading.now in
+    let part : List ℕ = part_bytes r c.args.start c.args.stop in
+    c.class_of-in-Some-3.ensures
+    ∙ ap (λ (g : Row). class_of g r.docs_are_comments (record { begun = Some (record { kind = c.in-Some-3.kind; closer = [] }); bytes = part; ended = mode_of c.args.ended })) r.row
+    ∙ by_begun (row_in r) r.docs_are_comments m c.in-Some-3.kind [] part (mode_of c.args.ended) (is ∙ c.in-Some-3.is)
