@@ -1,12 +1,13 @@
 //! The rows of a table that has its layout and but the known escapes.
-ghost use Rattle.std.specs.Prelude.{◌≡◌, Some, codes, map, IfOk, OnOk, string_bytes};
-ghost use Rattle.serde_json.specs.Data.{string, boolean, array};
+ghost use Rattle.std.specs.Prelude.{◌≡◌, Bool, Some, codes, map, true, IfOk, OnOk, string_bytes};
+ghost use Rattle.serde_json.specs.Data.{Items, string, boolean, array};
 ghost use Rattle.serde_json.specs.Find.{get, get_member};
 ghost use Rattle.serde_json.specs.View.{view, items_view, members_view};
 ghost use Rattle.tokei_table_row.specs.NewRow.{new_row};
 ghost use Rattle.tokei_table_row.specs.RowOf.{pair_of, pairs_of, tokens_of, row_of};
 ghost use Rattle.tokei_table_json.specs.Escapes.{unescaped_text};
 ghost use Rattle.tokei_table_json.specs.Filled.{with_member, filled};
+ghost use Rattle.tokei_table_json.specs.Filled.{holds_pairs, holds_texts};
 ghost use Rattle.tokei_table_json.specs.KeyOrder.{AreInOrder, IsInKeyOrder};
 ghost use Rattle.tokei_table_json.specs.Layout.{is_html_kind};
 ghost use Rattle.tokei_table_json.specs.Rows.{text_of, text_at, texts_of, name_or};
@@ -98,24 +99,48 @@ fn tags(alloc: Global, items: &Vec<Value>) -> Result<Vec<String>, AllocError>
     Ok(out)
 }
 
-/// Puts the texts in place of those that are there.
-fn put_texts(alloc: Global, list: &mut Vec<String>, items: Vec<Value>) -> Result<(), AllocError>
-    ensures { OnOk result (tokens_of list.new.items ≡ texts_of (items_view items.items)) }
+/// Puts the texts in place of those of the member.
+fn put_texts(row: &mut Syntax, key: &str, texts: Vec<String>)
+    requires { holds_texts key.now ≡ true }
+    ensures { (html : Bool) (ds : Items) → tokens_of texts.items ≡ texts_of ds
+        → row_of row.new ≡ with_member html key.now (array ds) (row_of row.old) }
 {
-    *list = texts(alloc, items)?;
-    Ok(())
+    if key == "extensions" {
+        row.extensions = texts;
+    } else if key == "line_comment" {
+        row.line_comment = texts;
+    } else if key == "filenames" {
+        row.filenames = texts;
+    } else if key == "shebangs" {
+        row.shebangs = texts;
+    } else if key == "env" {
+        row.env = texts;
+    } else if key == "path_suffixes" {
+        row.path_suffixes = texts;
+    } else if key == "mime" {
+        row.mime = texts;
+    } else {
+        row.important_syntax = texts;
+    }
 }
 
-/// Puts the pairs in place of those that are there.
-fn put_pairs(
-    alloc: Global,
-    list: &mut Vec<(String, String)>,
-    items: Vec<Value>,
-) -> Result<(), AllocError>
-    ensures { OnOk result (pairs_of list.new.items ≡ pairs_in (items_view items.items)) }
+/// Puts the pairs in place of those of the member.
+fn put_pairs(row: &mut Syntax, key: &str, pairs: Vec<(String, String)>)
+    requires { holds_pairs key.now ≡ true }
+    ensures { (html : Bool) (ds : Items) → pairs_of pairs.items ≡ pairs_in ds
+        → row_of row.new ≡ with_member html key.now (array ds) (row_of row.old) }
 {
-    *list = pairs(alloc, items)?;
-    Ok(())
+    if key == "multi_line_comments" {
+        row.multi_line_comments = pairs;
+    } else if key == "quotes" {
+        row.quotes = pairs;
+    } else if key == "verbatim_quotes" {
+        row.verbatim_quotes = pairs;
+    } else if key == "doc_quotes" {
+        row.doc_quotes = pairs;
+    } else {
+        row.nested_comments = pairs;
+    }
 }
 
 /// Puts the tags, which only a language of kind `html` has, in place of those that are there.
@@ -148,6 +173,31 @@ fn put_name(alloc: Global, name: &mut String, text: String) -> Result<(), AllocE
     Ok(())
 }
 
+/// Whether a member's list is one of texts.
+fn holds_texts(key: &str) -> bool
+    ensures { result ≡ holds_texts key.now }
+{
+    key == "extensions"
+        || key == "line_comment"
+        || key == "filenames"
+        || key == "shebangs"
+        || key == "env"
+        || key == "path_suffixes"
+        || key == "mime"
+        || key == "important_syntax"
+}
+
+/// Whether a member's list is one of pairs.
+fn holds_pairs(key: &str) -> bool
+    ensures { result ≡ holds_pairs key.now }
+{
+    key == "multi_line_comments"
+        || key == "quotes"
+        || key == "verbatim_quotes"
+        || key == "doc_quotes"
+        || key == "nested_comments"
+}
+
 /// Reads a member whose value is a list.
 fn read_list(
     alloc: Global,
@@ -159,37 +209,14 @@ fn read_list(
     ensures { OnOk result (row_of row.new
         ≡ with_member html key.now (array (items_view items.items)) (row_of row.old)) }
 {
-    if key == "extensions" {
-        put_texts(alloc, &mut row.extensions, items)
-    } else if key == "line_comment" {
-        put_texts(alloc, &mut row.line_comment, items)
-    } else if key == "multi_line_comments" {
-        put_pairs(alloc, &mut row.multi_line_comments, items)
-    } else if key == "quotes" {
-        put_pairs(alloc, &mut row.quotes, items)
-    } else if key == "verbatim_quotes" {
-        put_pairs(alloc, &mut row.verbatim_quotes, items)
-    } else if key == "env" {
-        put_texts(alloc, &mut row.env, items)
-    } else if key == "filenames" {
-        put_texts(alloc, &mut row.filenames, items)
-    } else if key == "shebangs" {
-        put_texts(alloc, &mut row.shebangs, items)
-    } else if key == "doc_quotes" {
-        put_pairs(alloc, &mut row.doc_quotes, items)
-    } else if key == "path_suffixes" {
-        put_texts(alloc, &mut row.path_suffixes, items)
-    } else if key == "mime" {
-        put_texts(alloc, &mut row.mime, items)
+    if holds_texts(key) {
+        put_texts(row, key, texts(alloc, items)?);
+    } else if holds_pairs(key) {
+        put_pairs(row, key, pairs(alloc, items)?);
     } else if key == "contexts" {
-        put_tags(alloc, &mut row.contexts, html, &items)
-    } else if key == "important_syntax" {
-        put_texts(alloc, &mut row.important_syntax, items)
-    } else if key == "nested_comments" {
-        put_pairs(alloc, &mut row.nested_comments, items)
-    } else {
-        Ok(())
+        put_tags(alloc, &mut row.contexts, html, &items)?;
     }
+    Ok(())
 }
 
 /// Reads a member whose value is a text.
