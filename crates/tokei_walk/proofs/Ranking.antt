@@ -113,3 +113,11 @@ root_falls s u roots front root is h =
     let one : length roots ≡ length front + 1 = ap length is ∙ length-append front (root ∷ []) in
     let product : length roots * w ≡ length front * w + w = ap (λ n. n * w) one ∙ omega arith in
     omega arith
+
+-- and where it gives no file, there is one root less
+pub root_passed : (s u : Stack) (roots front : List (List ℕ)) (root : List ℕ) → roots ≡ front ++ root ∷ [] → stack_rank u < stack_rank s + weight 257 → length u.holders ≤ length s.holders
+    → (all_rank u front ≤ all_rank s roots) × (length front + length u.holders < length roots + length s.holders)
+root_passed s u roots front root is h below =
+    let less = root_falls s u roots front root is h in
+    let one : length roots ≡ length front + 1 = ap length is ∙ length-append front (root ∷ []) in
+    (omega arith, omega arith)

@@ -1,10 +1,11 @@
 -- What the roots of a walk give.
-use Rattle.std.proofs.Common.{◌≡◌, ℕ, List, [], ◌∷◌, ◌++◌, reverse, map, Bool, true, false, cond, Option, Some, None, refl, sym, ap, ap₂, ◌∙◌, append_assoc}
+use Rattle.std.proofs.Common.{◌≡◌, ℕ, List, [], ◌∷◌, ◌++◌, reverse, map, Bool, true, false, cond, Option, Some, None, Ok, refl, sym, ap, ap₂, ◌∙◌, append_assoc}
 use Rattle.std.proofs.lemmas.List.{reverse-append, reverse-reverse}
 use Rattle.std.specs.List.{flat_map}
 use Rattle.tokei_folders.specs.declared.nodes.Node.{Node}
 use Rattle.tokei_folders.specs.declared.nodes.Node.TheVariants.{File as file, Folder as folder}
 use Rattle.tokei_folders.specs.declared.fs.Above.{Above}
+use Rattle.tokei_folders.specs.declared.fs.Entry.{Entry}
 use Rattle.tokei_folders.specs.declared.fs.Kind.{Kind}
 use Rattle.tokei_folders.specs.declared.fs.Kind.TheVariants.{File, Folder, Other}
 use Rattle.tokei_walk.specs.declared.kept_file.KeptFile.{KeptFile}
@@ -12,16 +13,19 @@ use Rattle.tokei_walk.specs.declared.levels.Context.{Context}
 use Rattle.tokei_walk.specs.declared.levels.Level.{Level}
 use Rattle.tokei_walk.specs.declared.levels.Rules.{Rules}
 use Rattle.tokei_ignore.specs.declared.patterns.Pattern.{Pattern}
+use Rattle.tokei_walk.specs.declared.rules_files.Sought.{Sought}
 use Rattle.tokei_walk.specs.declared.stack.Stack.{Stack}
 use Rattle.tokei_walk.specs.declared.walking.Walk.{Walk}
-use Rattle.tokei_folders.specs.Answers.{above_view, node_kind}
-use Rattle.tokei_walk.specs.Descent.{kept, of_root, of_node, of_top, of_stack, root_context, levels_above}
+use Rattle.tokei_folders.specs.Answers.{above_view, list_answer, node_kind}
+use Rattle.tokei_walk.specs.Descent.{kept, descend, with_level, of_root, of_node, of_top, of_stack, root_context, levels_above}
 use Rattle.tokei_ignore.specs.Fits.{is_empty}
 use Rattle.tokei_walk.specs.Levels.{level_at}
-use Rattle.tokei_walk.specs.Stacks.{Stays}
+use Rattle.tokei_walk.specs.Sought.{listed, level_of}
+use Rattle.tokei_walk.specs.Stacks.{Stays, NoneStays, ExploreTells}
 use Rattle.tokei_folders.specs.Tree.{Names, Tree, IsSound, is_sound, node_at, names_of, folders_above}
 use Rattle.tokei_walk.specs.Walks.{of_roots, of_all, to_come, descended, Advances, RootIs, names_over, levels_over}
-use Rattle.tokei_walk.proofs.StackSteps.{same_stack, empty_gives, top_ends, same_context}
+use Rattle.tokei_walk.proofs.ListedFiles.{level_listed}
+use Rattle.tokei_walk.proofs.StackSteps.{same_stack, empty_gives, top_ends, same_context, root_entered}
 
 pub more : {X : Type 0} (xs ys zs rest whole : List X) (x : X) → ys ≡ xs ++ x ∷ [] → zs ≡ x ∷ rest → xs ++ zs ≡ whole → ys ++ rest ≡ whole
 more xs ys zs rest whole x is first so_far = ap (λ q. q ++ rest) is ∙ append_assoc xs (x ∷ []) rest ∙ ap (λ q. xs ++ q) (sym first) ∙ so_far
@@ -32,15 +36,9 @@ turned found front a is = ap reverse is ∙ reverse-append front (a ∷ [])
 pub names_over_pop : (found front : List Above) (a : Above) → found ≡ front ++ a ∷ [] → names_over found ≡ a.name ∷ names_over front
 names_over_pop found front a is = ap (λ (q : List Above). map (λ b. b.1) (map above_view q)) (turned found front a is)
 
-pub levels_over_pop : (t : Tree) (r : Rules) (found front : List Above) (a : Above) (l : Level)
-    (at : List ℕ)
-    → found ≡ front ++ a ∷ [] → l ≡ level_at t r (names_of at) → at ≡ a.place
-    → levels_over t r found ≡ l ∷ levels_over t r front
-levels_over_pop t r found front a l at is level place =
-    ap (λ (q : List Above). map (λ b. level_at t r b.0) (map above_view q))
-    (turned found front a is)
-    ∙ ap (λ (k : Level). k ∷ levels_over t r front)
-    (sym (level ∙ ap (λ p. level_at t r (names_of p)) place))
+pub levels_over_pop : (t : Tree) (r : Rules) (found front : List Above) (a : Above)
+    → found ≡ front ++ a ∷ [] → levels_over t r found ≡ level_at t r (names_of a.place) ∷ levels_over t r front
+levels_over_pop t r found front a is = ap (λ (q : List Above). map (λ b. level_at t r b.0) (map above_view q)) (turned found front a is)
 
 names_down : (top p : Names) → map (λ a. a.1) (folders_above top p) ≡ p
 names_down top [] = refl
@@ -65,6 +63,22 @@ if_off false x y e = refl
 pub context_alone : (t : Tree) (r : Rules) (p : Names) (c : Context) → r.parents ≡ false → c.levels ≡ [] → c.names ≡ [] → c.shown ≡ p → c ≡ root_context t r p
 unfolding root_context
 context_alone t r p c off levels names shown = same_context (levels ∙ if_off r.parents _ [] off) (names ∙ if_off r.parents p [] off) shown
+
+-- a context with one level more
+pub level_added : (c d : Context) (ls : List Level) (l m : Level) → c ≡ d → l ≡ m → ls ≡ c.levels ++ l ∷ [] → record { levels = ls; names = c.names; shown = c.shown } ≡ with_level d m
+level_added c d ls l m e f is =
+    same_context (is ∙ ap₂ (λ (x : Context) (y : Level). x.levels ++ y ∷ []) e f) (ap (λ (x : Context). x.names) e) (ap (λ (x : Context). x.shown) e)
+
+-- a root that is listed and walked
+pub root_walked : (xs : List Pattern) (r : Rules) (t : Tree) (s : Stack) (c : Context) (q : Sought) (root at : List ℕ) (es : List Entry)
+    → list_answer t (names_of root) ≡ Ok es → q ≡ listed r es → at ≡ root
+    → c ≡ with_level (root_context t r (names_of at)) (level_of t q (names_of at))
+    → s.context ≡ c → s.place ≡ root → reverse s.left ≡ es → s.holders ≡ []
+    → descend xs r t 257 (root_context t r (names_of root)) root ≡ of_stack xs r t s
+root_walked xs r t s c q root at es entries sought here told context place left below =
+    let level = ap₂ (λ (x : Sought) (p : List ℕ). level_of t x (names_of p)) sought here ∙ level_listed t r (names_of root) es entries in
+    let whole = context ∙ told ∙ ap₂ with_level (ap (λ p. root_context t r (names_of p)) here) level in
+    root_entered xs r t s (root_context t r (names_of root)) (root_context t r (names_of root)) (level_at t r (names_of root)) root (entries ∙ ap Ok (sym left)) refl refl whole place below
 
 pub root_blank : (xs : List Pattern) (r : Rules) (t : Tree) (root : List ℕ) → is_empty root ≡ true → of_root xs r t root ≡ []
 unfolding of_root
@@ -142,17 +156,20 @@ no_roots xs r t roots e = ap (λ q. flat_map (of_root xs r t) (reverse q)) e
 pub all_ended : (xs : List Pattern) (r : Rules) (t : Tree) (s : Stack) (roots : List (List ℕ)) → s.left ≡ [] → s.holders ≡ [] → roots ≡ [] → of_all xs r t s roots ≡ []
 all_ended xs r t s roots left below none = ap₂ (λ (a b : List KeptFile). a ++ b) (empty_gives xs r t s left below) (no_roots xs r t roots none)
 
+-- where the walked folder gives nothing more, the same is to come
+pub all_explored : (xs : List Pattern) (r : Rules) (t : Tree) (s v : Stack) (roots : List (List ℕ)) → NoneStays s v None → ExploreTells xs r t s v None → of_all xs r t s roots ≡ of_all xs r t v roots
+all_explored xs r t s v roots stays top = ap (λ (q : List KeptFile). q ++ of_roots xs r t roots) (explored_none xs r t s v stays.0 stays.1 top)
+
 roots_pop : (xs : List Pattern) (r : Rules) (t : Tree) (roots front : List (List ℕ)) (root : List ℕ) → roots ≡ front ++ root ∷ [] → of_roots xs r t roots ≡ of_root xs r t root ++ of_roots xs r t front
 unfolding of_roots
 roots_pop xs r t roots front root is = ap (λ q. flat_map (of_root xs r t) q) (ap reverse is ∙ reverse-append front (root ∷ []))
 
 -- the next root, where nothing of the one before is left
-pub root_begins : (xs : List Pattern) (r : Rules) (t : Tree) (s v : Stack)
+pub root_begins : (xs : List Pattern) (r : Rules) (t : Tree) (s : Stack)
     (roots front : List (List ℕ)) (root : List ℕ)
-    → Stays s v → v.left ≡ [] → v.holders ≡ [] → of_top xs r t s ≡ [] → roots ≡ front ++ root ∷ []
+    → s.left ≡ [] → s.holders ≡ [] → roots ≡ front ++ root ∷ []
     → of_all xs r t s roots ≡ of_root xs r t root ++ of_roots xs r t front
-root_begins xs r t s v roots front root stays left below none is =
-    ap₂ (λ (a b : List KeptFile). a ++ b) (explored_none xs r t s v stays left none ∙ empty_gives xs r t v left below) (roots_pop xs r t roots front root is)
+root_begins xs r t s roots front root left below is = ap₂ (λ (a b : List KeptFile). a ++ b) (empty_gives xs r t s left below) (roots_pop xs r t roots front root is)
 
 pub to_come_left : (t : Tree) (w : Walk) → w.failed ≡ false → to_come t w ≡ of_all w.settings.excludes w.settings.rules t w.stack w.roots
 unfolding to_come

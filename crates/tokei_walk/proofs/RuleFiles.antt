@@ -38,14 +38,32 @@ pub file_told : {ps : List Pattern} {on on' : Bool} {p p' n n' : List ℕ} (t : 
     → ps ≡ cond on (patterns_at (node_at t (names_of p ++ names_of n))) [] → ps ≡ cond on' (patterns_at (node_at t (names_of p' ++ names_of n'))) []
 file_told t eo ep en h = h ∙ (λ i. cond (eo i) (patterns_at (node_at t (names_of (ep i) ++ names_of (en i)))) [])
 
--- the rules of the files that are sought, file by file
-pub level_told : (t : Tree) (s : Sought) (p : Names) (a b c d : List Pattern)
-    → a ≡ cond s.tokeignore (patterns_at (node_at t (p ++ names_of (codes ".tokeignore")))) []
-    → b ≡ cond s.ignore (patterns_at (node_at t (p ++ names_of (codes ".ignore")))) []
-    → c ≡ cond s.gitignore (patterns_at (node_at t (p ++ names_of (codes ".gitignore")))) []
-    → d ≡ cond s.git (patterns_at (node_at t (p ++ names_of (codes ".git/info/exclude")))) []
-    → record { tokeignore = a; ignore = b; gitignore = c; git_exclude = d; git = s.git } ≡ level_of t s p
+-- each file that is sought has its part of the rules
+pub tokeignore_told : (t : Tree) (s : Sought) (p : Names) (a : List Pattern)
+    → a ≡ cond s.tokeignore (patterns_at (node_at t (p ++ names_of (codes ".tokeignore")))) [] → a ≡ (level_of t s p).tokeignore
 unfolding level_of ignore_file_at names_of
+tokeignore_told t s p a e = e
+
+pub ignore_told : (t : Tree) (s : Sought) (p : Names) (a : List Pattern)
+    → a ≡ cond s.ignore (patterns_at (node_at t (p ++ names_of (codes ".ignore")))) [] → a ≡ (level_of t s p).ignore
+unfolding level_of ignore_file_at names_of
+ignore_told t s p a e = e
+
+pub gitignore_told : (t : Tree) (s : Sought) (p : Names) (a : List Pattern)
+    → a ≡ cond s.gitignore (patterns_at (node_at t (p ++ names_of (codes ".gitignore")))) [] → a ≡ (level_of t s p).gitignore
+unfolding level_of ignore_file_at names_of
+gitignore_told t s p a e = e
+
+pub git_exclude_told : (t : Tree) (s : Sought) (p : Names) (a : List Pattern)
+    → a ≡ cond s.git (patterns_at (node_at t (p ++ names_of (codes ".git/info/exclude")))) [] → a ≡ (level_of t s p).git_exclude
+unfolding level_of ignore_file_at names_of
+git_exclude_told t s p a e = e
+
+-- the rules of the files that are sought, part by part
+pub level_told : (t : Tree) (s : Sought) (p : Names) (a b c d : List Pattern)
+    → a ≡ (level_of t s p).tokeignore → b ≡ (level_of t s p).ignore → c ≡ (level_of t s p).gitignore → d ≡ (level_of t s p).git_exclude
+    → record { tokeignore = a; ignore = b; gitignore = c; git_exclude = d; git = s.git } ≡ level_of t s p
+unfolding level_of
 level_told t s p a b c d ea eb ec ed = same_level ea eb ec ed refl
 
 -- a folder's own rules, where its `.git` is known and each file is sought

@@ -1,6 +1,7 @@
 -- What a step of the walk leaves of the files to come.
 use Rattle.std.proofs.Common.{◌≡◌, ℕ, zero, suc, ◌-◌, ◌<◌, ◌≤◌, List, [], ◌∷◌, ◌++◌, length, reverse, Bool, true, false, cond, Some, Result, Ok, Err, refl, sym, ap, ap₂, ◌∙◌, arith, append_assoc, append-nil, subst, IfOk, OnOk}
 use Rattle.std.specs.declared.alloc.AllocError.{AllocError}
+use Rattle.std.specs.Bool.{MatchBool}
 use Rattle.std.proofs.lemmas.List.{reverse-append, length-reverse, same_from_push, length-append}
 use Rattle.tokei_folders.specs.declared.fs.Entry.{Entry}
 use Rattle.tokei_folders.specs.declared.fs.Kind.{Kind}
@@ -19,7 +20,7 @@ use Rattle.tokei_folders.specs.Places.{joined}
 use Rattle.tokei_walk.specs.Descent.{kept, with_level, of_kind, is_folder, of_entry, of_entries, of_listing, descend, outer, without_name, of_frames, of_top, of_stack}
 use Rattle.tokei_folders.specs.Ends.{without_last}
 use Rattle.tokei_walk.specs.Levels.{level_at, drops, under}
-use Rattle.tokei_walk.specs.Stacks.{Pops, Leaves, Enters, EntersTold, of_folder, file_kept, StepTells, Stays}
+use Rattle.tokei_walk.specs.Stacks.{Pops, Leaves, Enters, EntersTold, at_entry, of_folder, file_kept, StepTells, Stays}
 use Rattle.tokei_folders.specs.Tree.{Tree, names_of}
 use Rattle.tokei_folders.proofs.ListEnds.{without_last-push}
 
@@ -184,6 +185,27 @@ visit_entered xs r t s u c name place is kept_in shallow h told =
     ap (λ b. cond b [] (descend xs r t (256 - length s.holders) (under s.context name) place)) kept_in ∙ ap (λ m. descend xs r t m (under s.context name) place) more
     ∙ listed xs r t n (under s.context name) place (reverse u.left) told.entries_are
     ∙ same_top xs r t (reverse u.left) fewer (entered_context s u c (level_at t r (names_of place)) place name is h told.levels_are) (sym h.place_is)
+
+-- what an entry gives whose folder is entered
+pub entered_told : (xs : List Pattern) (r : Rules) (t : Tree) (s u v : Stack) (name place : List ℕ) (b : Bool)
+    → b ≡ true → u ≡ at_entry s name → place ≡ joined s.place name
+    → drops xs r s.context name true ≡ false → length s.holders < 256 → (b ≡ true → Enters u v place)
+    → MatchBool b (EntersTold t r u v place) (list_answer t (names_of place) ≡ Err Refused)
+    → of_folder xs r t s name (joined s.place name) ≡ of_top xs r t v
+entered_told xs r t s u v name place false is named at kept_in shallow enters told = absurd (cc)
+entered_told xs r t s u v name place true is named at kept_in shallow enters told =
+    ap (λ (p : List ℕ). of_folder xs r t s name p) (sym at)
+    ∙ visit_entered xs r t s v (under s.context name) name place refl kept_in shallow
+    (subst (λ (w : Stack). Enters w v place) named (enters is))
+    (subst (λ (w : Stack). EntersTold t r w v place) named told)
+
+-- and one whose folder can't be listed
+pub refused_told : (xs : List Pattern) (r : Rules) (t : Tree) (s u v : Stack) (name place : List ℕ) (b : Bool)
+    → b ≡ false → place ≡ joined s.place name
+    → MatchBool b (EntersTold t r u v place) (list_answer t (names_of place) ≡ Err Refused)
+    → of_folder xs r t s name (joined s.place name) ≡ []
+refused_told xs r t s u v name place true is at told = absurd (cc)
+refused_told xs r t s u v name place false is at told = ap (λ (p : List ℕ). of_folder xs r t s name p) (sym at) ∙ visit_refused xs r t s name place told
 
 outer_is : (s u : Stack) (c : Context) (name place : List ℕ) → c ≡ under s.context name → Enters (with_context s c) u place → outer u.context ≡ s.context
 outer_is s u c name place is h =

@@ -20,5 +20,6 @@ pub mod Notes
 pub mod Ranks
 pub mod Sought
 pub mod Stacks
+pub mod Turns
 pub mod WalkLaws
 pub mod Walks

@@ -42,6 +42,10 @@ pub record EntersTold (tree : Tree) (rules : Rules) (old new : Stack) (place : L
     pub levels_are : new.context.levels
         ≡ old.context.levels ++ level_at tree rules (names_of place) ∷ []
 
+-- the context has the name of an entry of the walked folder last
+abbrev pub at_entry : Stack → List ℕ → Stack
+at_entry stack name = record stack { context = under stack.context name }
+
 -- what an entry that is a folder gives
 abbrev pub of_folder : List Pattern → Rules → Tree → Stack → List ℕ → List ℕ → List KeptFile
 of_folder excludes rules tree stack name place =

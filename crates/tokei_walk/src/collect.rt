@@ -3,8 +3,8 @@ ghost use Rattle.std.specs.Prelude.{◌≡◌, IfOk};
 ghost use Rattle.tokei_folders.specs.Answers.{Told};
 ghost use Rattle.tokei_folders.specs.AsTheyWere.{SameTree, NoFault};
 ghost use Rattle.tokei_walk.specs.Kept.{kept_in};
-ghost use Rattle.tokei_walk.specs.Notes.{Grows, notes_of_excludes};
-ghost use Rattle.tokei_walk.specs.Walks.{excludes_of, texts_of};
+ghost use Rattle.tokei_walk.specs.Notes.{Grows, notes_of, notes_of_excludes};
+ghost use Rattle.tokei_walk.specs.Walks.{excludes_of, texts_of, to_come};
 
 use crate::kept_file::{KeptFile, Note};
 use crate::levels::Rules;
@@ -19,10 +19,28 @@ pub struct Kept {
     pub notes: Vec<Note>,
 }
 
+/// The files that a walk still has to come.
+fn files_to_come<F: Folders>(
+    alloc: Global,
+    folders: &mut F,
+    walk: &mut Walk,
+) -> Result<Vec<KeptFile>, AllocError>
+    ensures same { SameTree F.tree folders.old folders.new }
+    ensures told { Told (F.tree folders.old) (λ t. IfOk result
+        (λ files. files.items ≡ to_come t walk.old)) }
+    ensures notes { Grows (notes_of walk.old) (notes_of walk.new) }
+    ensures honest { NoFault F.memory_faults folders.old folders.new result }
+{
+    let mut files = Items::new(alloc);
+    while let Some(file) = walk.next(folders)? {
+        files.push(file)?;
+    }
+    Ok(files.into_vec())
+}
+
 /// All files that the ignore rules keep: the roots that are files, and those below a root, which a
 /// filter of all places keeps, in order of the roots and of the places. It is refused out of
 /// memory alone.
-#[tactic(auto, using(crate::proofs::Growing::grows_same, crate::proofs::Growing::grows_on))]
 pub fn kept_files<F: Folders>(
     alloc: Global,
     folders: &mut F,
@@ -38,12 +56,9 @@ pub fn kept_files<F: Folders>(
     ensures honest { NoFault F.memory_faults folders.old folders.new result }
 {
     let mut walk = Walk::new(alloc, roots, excludes, rules)?;
-    let mut files = Items::new(alloc);
-    while let Some(file) = walk.next(folders)? {
-        files.push(file)?;
-    }
+    let files = files_to_come(alloc, folders, &mut walk)?;
     Ok(Kept {
-        files: files.into_vec(),
+        files,
         notes: walk.into_notes(),
     })
 }

@@ -62,7 +62,6 @@ fn listed<F: Folders>(folders: &mut F, place: &str) -> Result<Option<Listing>, A
 }
 
 /// What a folder holds, where it can be listed, with notes of what is passed over.
-#[tactic(auto, using(crate::proofs::Growing::grows_same, crate::proofs::Growing::grows_on))]
 pub fn listing<F: Folders>(
     alloc: Global,
     folders: &mut F,

@@ -1,9 +1,10 @@
 //! The folders above a root, and what their rules decide.
-ghost use Rattle.std.specs.Prelude.{◌≡◌, ◌++◌, [], reverse, map, OnOk, IfOk};
+ghost use Rattle.std.specs.Prelude.{◌≡◌, ◌++◌, [], ◌∷◌, reverse, map, OnOk, IfOk};
 ghost use Rattle.tokei_folders.specs.Answers.{Told, above_view};
 ghost use Rattle.tokei_folders.specs.AsTheyWere.{AsTheyWere};
 ghost use Rattle.tokei_folders.specs.Tree.{names_of, folders_above};
 ghost use Rattle.tokei_walk.specs.Descent.{root_context};
+ghost use Rattle.tokei_walk.specs.Levels.{level_at};
 ghost use Rattle.tokei_walk.specs.Notes.{Grows};
 ghost use Rattle.tokei_walk.specs.Walks.{names_over, levels_over};
 
@@ -38,8 +39,30 @@ fn folders_over<F: Folders>(
     }
 }
 
-/// Reads the rules of the folders above, from the top down, with the names that lead down.
+/// Reads the rules of a folder above, and adds them and its name.
 #[tactic(auto, using(crate::proofs::Growing::grows_same, crate::proofs::Growing::grows_on))]
+fn read_above<F: Folders>(
+    settings: &Settings,
+    folders: &mut F,
+    notes: &mut Items<Note>,
+    above: Above,
+    context: &mut Context,
+) -> Result<(), AllocError>
+    ensures folders { AsTheyWere F.tree F.memory_faults folders.old folders.new result }
+    ensures notes { Grows notes.old notes.new }
+    ensures shown { OnOk result (context.new.shown ≡ context.old.shown) }
+    ensures names { OnOk result (context.new.names ≡ context.old.names ++ above.name ∷ []) }
+    ensures levels { Told (F.tree folders.old) (λ t. OnOk result (context.new.levels
+        ≡ context.old.levels ++ level_at t settings.now.rules (names_of above.place) ∷ [])) }
+{
+    let place = above.place.as_str();
+    let level = read_level(settings.alloc, folders, notes, &settings.rules, place)?;
+    context.levels.push(level)?;
+    context.names.push(above.name)?;
+    Ok(())
+}
+
+/// Reads the rules of the folders above, from the top down, with the names that lead down.
 fn read_over<F: Folders>(
     settings: &Settings,
     folders: &mut F,
@@ -55,16 +78,12 @@ fn read_over<F: Folders>(
         ≡ context.old.levels ++ levels_over t settings.now.rules found)) }
 {
     while let Some(above) = found.pop() {
-        let place = above.place.as_str();
-        let level = read_level(settings.alloc, folders, notes, &settings.rules, place)?;
-        context.levels.push(level)?;
-        context.names.push(above.name)?;
+        read_above(settings, folders, notes, above, context)?;
     }
     Ok(())
 }
 
 /// The context of a root's entries, but for the rules of the root itself.
-#[tactic(auto, using(crate::proofs::Growing::grows_same, crate::proofs::Growing::grows_on))]
 pub fn context_of_root<F: Folders>(
     settings: &Settings,
     folders: &mut F,

@@ -1,21 +1,23 @@
 //! The beginning of a root.
-ghost use Rattle.std.specs.Prelude.{◌≡◌, ◌<◌, ◌≤◌, ◌+◌, ◌++◌, [], ◌∷◌, true, false, None, length, OnOk, IfOk};
+ghost use Rattle.std.specs.Prelude.{◌≡◌, ◌<◌, ◌≤◌, ◌+◌, ◌^◌, ◌++◌, [], ◌∷◌, true, false, None, length, reverse, OnOk, IfOk};
 ghost use Rattle.tokei_folders.specs.Answers.{Told, node_kind};
 ghost use Rattle.tokei_folders.specs.AsTheyWere.{AsTheyWere};
 ghost use Rattle.tokei_folders.specs.Tree.{names_of, node_at};
 ghost use Rattle.tokei_ignore.specs.Fits.{is_empty};
-ghost use Rattle.tokei_walk.specs.Descent.{root_context, of_root, of_stack, descend};
+ghost use Rattle.tokei_walk.specs.Descent.{root_context, with_level, of_root, of_stack, descend};
 ghost use Rattle.tokei_walk.specs.Notes.{Grows, missing_note};
 ghost use Rattle.tokei_walk.specs.Ranks.{weight, stack_rank};
+ghost use Rattle.tokei_walk.specs.Sought.{level_of};
 ghost use Rattle.tokei_walk.specs.Walks.{RootGives, RootIs, file_of_root, texts_of};
 
 use crate::kept_file::{KeptFile, Note, NoteKind};
+use crate::levels::Context;
 use crate::listings::listing;
 use crate::parents::context_of_root;
-use crate::rules_files::{note, read_sought, sought_among};
+use crate::rules_files::{Sought, note, read_sought, sought_among};
 use crate::stack::{Settings, Stack};
 use std::alloc::{AllocError, Global};
-use tokei_folders::{Fault, Folders, Items, Kind, Text};
+use tokei_folders::{Entry, Fault, Folders, Items, Kind, Text};
 
 /// A copy of the roots.
 pub fn copied_roots(alloc: Global, roots: &[String]) -> Result<Items<Text>, AllocError>
@@ -28,8 +30,44 @@ pub fn copied_roots(alloc: Global, roots: &[String]) -> Result<Items<Text>, Allo
     Ok(copies)
 }
 
+/// The context of a root's entries, with the rules of the root itself, by those of its ignore files
+/// that are sought.
+fn context_in_root<F: Folders>(
+    settings: &Settings,
+    folders: &mut F,
+    notes: &mut Items<Note>,
+    sought: Sought,
+    root: &str,
+) -> Result<Context, AllocError>
+    ensures folders { AsTheyWere F.tree F.memory_faults folders.old folders.new result }
+    ensures notes { Grows notes.old notes.new }
+    ensures told { Told (F.tree folders.old) (λ t. IfOk result (λ c. c
+        ≡ with_level (root_context t settings.now.rules (names_of root.now))
+        (level_of t sought (names_of root.now)))) }
+{
+    let mut context = context_of_root(settings, folders, notes, root)?;
+    let level = read_sought(settings.alloc, folders, notes, sought, root)?;
+    context.levels.push(level)?;
+    Ok(context)
+}
+
+/// Walks a root with this context and these entries, in place of all that is walked.
+fn walk_root(stack: &mut Stack, context: Context, place: Text, entries: Vec<Entry>)
+    ensures context { stack.new.context ≡ context }
+    ensures place { stack.new.place ≡ place }
+    ensures entries { reverse stack.new.left ≡ entries.items }
+    ensures few { length stack.new.left < 2 ^ 64 }
+    ensures holders { stack.new.holders ≡ [] }
+{
+    let mut left = Items::from_vec(entries);
+    left.reverse();
+    stack.context = context;
+    stack.place = place;
+    stack.left = left;
+    stack.holders.clear();
+}
+
 /// Walks a root that is a folder.
-#[tactic(auto, using(crate::proofs::Growing::grows_same, crate::proofs::Growing::grows_on))]
 fn enter_root<F: Folders>(
     settings: &Settings,
     folders: &mut F,
@@ -47,21 +85,12 @@ fn enter_root<F: Folders>(
         (root_context t settings.now.rules (names_of root)) root
         ≡ of_stack settings.now.excludes settings.now.rules t stack.new)) }
 {
-    let alloc = settings.alloc;
-    let listing = match listing(alloc, folders, notes, root.as_str())? {
-        Some(listing) => listing,
-        None => return Ok(()),
+    let Some(listing) = listing(settings.alloc, folders, notes, root.as_str())? else {
+        return Ok(());
     };
-    let mut context = context_of_root(settings, folders, notes, root.as_str())?;
     let sought = sought_among(&settings.rules, listing.entries.as_slice());
-    let level = read_sought(alloc, folders, notes, sought, root.as_str())?;
-    context.levels.push(level)?;
-    let mut left = Items::from_vec(listing.entries);
-    left.reverse();
-    stack.context = context;
-    stack.place = root;
-    stack.left = left;
-    stack.holders.clear();
+    let context = context_in_root(settings, folders, notes, sought, root.as_str())?;
+    walk_root(stack, context, root, listing.entries);
     Ok(())
 }
 

@@ -89,7 +89,6 @@ fn note_bad_lines(
 }
 
 /// The patterns of an ignore file, where it is there and can be read.
-#[tactic(auto, using(crate::proofs::Growing::grows_same, crate::proofs::Growing::grows_on))]
 fn patterns_of_file<F: Folders>(
     alloc: Global,
     folders: &mut F,
@@ -212,8 +211,51 @@ pub fn sought_among(rules: &Rules, entries: &[Entry]) -> Sought
     }
 }
 
+/// The patterns of `.tokeignore` and of `.ignore`, each where it is sought.
+fn dot_patterns<F: Folders>(
+    alloc: Global,
+    folders: &mut F,
+    notes: &mut Items<Note>,
+    sought: Sought,
+    place: &str,
+) -> Result<(IndexedPatterns, IndexedPatterns), AllocError>
+    ensures folders { AsTheyWere F.tree F.memory_faults folders.old folders.new result }
+    ensures notes { Grows notes.old notes.new }
+    ensures tokeignore { Told (F.tree folders.old) (λ t. IfOk result
+        (λ p. p.0 ≡ (level_of t sought (names_of place.now)).tokeignore)) }
+    ensures ignore { Told (F.tree folders.old) (λ t. IfOk result
+        (λ p. p.1 ≡ (level_of t sought (names_of place.now)).ignore)) }
+{
+    let tokeignore = IgnoreName::new(sought.tokeignore, place, ".tokeignore");
+    let tokeignore = patterns_of_name(alloc, folders, notes, tokeignore)?;
+    let ignore = IgnoreName::new(sought.ignore, place, ".ignore");
+    let ignore = patterns_of_name(alloc, folders, notes, ignore)?;
+    Ok((tokeignore, ignore))
+}
+
+/// The patterns of `.gitignore` and of `.git/info/exclude`, each where it is sought.
+fn git_patterns<F: Folders>(
+    alloc: Global,
+    folders: &mut F,
+    notes: &mut Items<Note>,
+    sought: Sought,
+    place: &str,
+) -> Result<(IndexedPatterns, IndexedPatterns), AllocError>
+    ensures folders { AsTheyWere F.tree F.memory_faults folders.old folders.new result }
+    ensures notes { Grows notes.old notes.new }
+    ensures gitignore { Told (F.tree folders.old) (λ t. IfOk result
+        (λ p. p.0 ≡ (level_of t sought (names_of place.now)).gitignore)) }
+    ensures git_exclude { Told (F.tree folders.old) (λ t. IfOk result
+        (λ p. p.1 ≡ (level_of t sought (names_of place.now)).git_exclude)) }
+{
+    let gitignore = IgnoreName::new(sought.gitignore, place, ".gitignore");
+    let gitignore = patterns_of_name(alloc, folders, notes, gitignore)?;
+    let git_exclude = IgnoreName::new(sought.git, place, ".git/info/exclude");
+    let git_exclude = patterns_of_name(alloc, folders, notes, git_exclude)?;
+    Ok((gitignore, git_exclude))
+}
+
 /// Reads the ignore files of a folder that are sought.
-#[tactic(auto, using(crate::proofs::Growing::grows_same, crate::proofs::Growing::grows_on))]
 pub fn read_sought<F: Folders>(
     alloc: Global,
     folders: &mut F,
@@ -226,14 +268,8 @@ pub fn read_sought<F: Folders>(
     ensures told { Told (F.tree folders.old) (λ t. IfOk result
         (λ l. l ≡ level_of t sought (names_of place.now))) }
 {
-    let tokeignore = IgnoreName::new(sought.tokeignore, place, ".tokeignore");
-    let tokeignore = patterns_of_name(alloc, folders, notes, tokeignore)?;
-    let ignore = IgnoreName::new(sought.ignore, place, ".ignore");
-    let ignore = patterns_of_name(alloc, folders, notes, ignore)?;
-    let gitignore = IgnoreName::new(sought.gitignore, place, ".gitignore");
-    let gitignore = patterns_of_name(alloc, folders, notes, gitignore)?;
-    let git_exclude = IgnoreName::new(sought.git, place, ".git/info/exclude");
-    let git_exclude = patterns_of_name(alloc, folders, notes, git_exclude)?;
+    let (tokeignore, ignore) = dot_patterns(alloc, folders, notes, sought, place)?;
+    let (gitignore, git_exclude) = git_patterns(alloc, folders, notes, sought, place)?;
     Ok(Level {
         tokeignore,
         ignore,

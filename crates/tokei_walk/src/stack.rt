@@ -1,17 +1,17 @@
 //! The folders that are walked, and the way through them.
-ghost use Rattle.std.specs.Prelude.{◌≡◌, ◌<◌, ◌+◌, ◌-◌, ◌++◌, [], ◌∷◌, length, reverse, OnOk, OnSome, IfOk, Err, true, false};
+ghost use Rattle.std.specs.Prelude.{◌≡◌, ◌<◌, ◌+◌, ◌-◌, ◌++◌, [], ◌∷◌, length, reverse, cond, OnOk, OnSome, IfOk, IfSome, Err, None, true, false};
 ghost use Rattle.std.specs.Bool.{MatchBool};
 ghost use Rattle.tokei_walk.specs.Notes.{Grows};
 ghost use Rattle.tokei_folders.specs.Answers.{Told, list_answer};
 ghost use Rattle.tokei_folders.specs.AsTheyWere.{AsTheyWere};
 ghost use Rattle.tokei_folders.specs.declared.fs.Fault.TheVariants.{Refused as RefusedFault};
 ghost use Rattle.tokei_folders.specs.Places.{joined as joined_places};
-ghost use Rattle.tokei_folders.specs.Tree.{names_of};
+ghost use Rattle.tokei_folders.specs.Tree.{Tree, names_of};
 ghost use Rattle.tokei_walk.specs.Levels.{drops, under};
-ghost use Rattle.tokei_walk.specs.Descent.{without_name};
+ghost use Rattle.tokei_walk.specs.Descent.{without_name, of_top};
 ghost use Rattle.tokei_walk.specs.Walks.{is_spent as spent};
 ghost use Rattle.tokei_walk.specs.Ranks.{weight, stack_rank, FoundFalls};
-ghost use Rattle.tokei_walk.specs.Stacks.{Pops, Leaves, Enters, EntersTold, StepTells, StepStays, NoneStays, NoneIsSame, file_kept, VisitTells, ExploreTells};
+ghost use Rattle.tokei_walk.specs.Stacks.{Pops, Leaves, Enters, EntersTold, StepTells, StepStays, NoneStays, NoneIsSame, at_entry, file_kept, of_folder, VisitTells, ExploreTells};
 
 use crate::kept_file::{KeptFile, Note, NoteKind};
 use crate::levels::{Context, Level, Rules, judge};
@@ -130,7 +130,6 @@ pub enum Step {
 }
 
 /// Walks another folder; whether it can be listed.
-#[tactic(auto, using(crate::proofs::Growing::grows_same, crate::proofs::Growing::grows_on))]
 pub fn enter<F: Folders>(
     settings: &Settings,
     folders: &mut F,
@@ -176,8 +175,71 @@ fn push_folder(
     Ok(())
 }
 
-/// Explores the folder of an entry, whose name this is, and leaves it again where it gives no file.
+/// Adds the name of an entry that is a folder to the context; its place, or none where it is dropped
+/// or stands too deep.
 #[tactic(auto, using(crate::proofs::Growing::grows_same, crate::proofs::Growing::grows_on))]
+fn push_folder_name(
+    settings: &Settings,
+    notes: &mut Items<Note>,
+    stack: &mut Stack,
+    name: Text,
+) -> Result<Option<Text>, AllocError>
+    ensures notes { Grows notes.old notes.new }
+    ensures place { IfOk result (λ o. IfSome o
+        (λ p. p ≡ joined_places stack.old.place name)) }
+    ensures named { IfOk result (λ o. OnSome o (stack.new ≡ at_entry stack.old name)) }
+    ensures shallow { IfOk result (λ o. OnSome o (length stack.old.holders < 256)) }
+    ensures kept { IfOk result (λ o. OnSome o
+        (drops settings.now.excludes settings.now.rules stack.old.context name true ≡ false)) }
+    ensures same { IfOk result (λ o. o ≡ None → stack.new ≡ stack.old) }
+    ensures passed { IfOk result (λ o. o ≡ None → (t : Tree)
+        → of_folder settings.now.excludes settings.now.rules t stack.old name
+        (joined_places stack.old.place name) ≡ []) }
+{
+    let (dropped, name) = consider(settings, &mut stack.context, name, true)?;
+    if dropped {
+        return Ok(None);
+    }
+    let place = joined(settings.alloc, stack.place.as_str(), name.as_str())?;
+    if stack.holders.as_slice().len() >= 256 {
+        note(settings.alloc, notes, NoteKind::TooDeep, place.as_str())?;
+        return Ok(None);
+    }
+    push_name(settings.alloc, &mut stack.context, name)?;
+    Ok(Some(place))
+}
+
+/// Walks the folder of an entry, whose name this is; whether it is walked. One that is dropped,
+/// stands too deep or can't be listed isn't.
+fn enter_entry<F: Folders>(
+    settings: &Settings,
+    folders: &mut F,
+    notes: &mut Items<Note>,
+    stack: &mut Stack,
+    name: Text,
+) -> Result<bool, AllocError>
+    ensures folders { AsTheyWere F.tree F.memory_faults folders.old folders.new result }
+    ensures notes { Grows notes.old notes.new }
+    ensures refused { IfOk result (λ b. b ≡ false → stack.new ≡ stack.old) }
+    ensures shallow { IfOk result (λ b. b ≡ true → length stack.old.holders < 256) }
+    ensures entered { IfOk result (λ b. b ≡ true
+        → Enters (at_entry stack.old name) stack.new (joined_places stack.old.place name)) }
+    ensures told { Told (F.tree folders.old) (λ t. IfOk result (λ b.
+        of_folder settings.now.excludes settings.now.rules t stack.old name
+        (joined_places stack.old.place name)
+        ≡ cond b (of_top settings.now.excludes settings.now.rules t stack.new) [])) }
+{
+    let Some(place) = push_folder_name(settings, notes, stack, name)? else {
+        return Ok(false);
+    };
+    if enter(settings, folders, notes, stack, place)? {
+        return Ok(true);
+    }
+    forget(&mut stack.context);
+    Ok(false)
+}
+
+/// Explores the folder of an entry, whose name this is, and leaves it again where it gives no file.
 #[cycle(exploring)]
 fn visit<F: Folders>(
     settings: &Settings,
@@ -195,19 +257,7 @@ fn visit<F: Folders>(
         VisitTells settings.now.excludes settings.now.rules t stack.old stack.new
         name (joined_places stack.old.place name) o)) }
 {
-    let alloc = settings.alloc;
-    let (dropped, name) = consider(settings, &mut stack.context, name, true)?;
-    if dropped {
-        return Ok(None);
-    }
-    let place = joined(alloc, stack.place.as_str(), name.as_str())?;
-    if stack.holders.as_slice().len() >= 256 {
-        note(alloc, notes, NoteKind::TooDeep, place.as_str())?;
-        return Ok(None);
-    }
-    push_name(alloc, &mut stack.context, name)?;
-    if !enter(settings, folders, notes, stack, place)? {
-        forget(&mut stack.context);
+    if !enter_entry(settings, folders, notes, stack, name)? {
         return Ok(None);
     }
     match explore(settings, folders, notes, stack)? {
@@ -220,7 +270,6 @@ fn visit<F: Folders>(
 }
 
 /// Meets the next entry of the walked folder.
-#[tactic(auto, using(crate::proofs::Growing::grows_same, crate::proofs::Growing::grows_on))]
 #[cycle(exploring)]
 fn meet_next<F: Folders>(
     settings: &Settings,
@@ -249,7 +298,6 @@ fn meet_next<F: Folders>(
 }
 
 /// The next file below the walked folder, which stays where there is none.
-#[tactic(auto, using(crate::proofs::Growing::grows_same, crate::proofs::Growing::grows_on))]
 #[cycle(exploring)]
 pub fn explore<F: Folders>(
     settings: &Settings,

@@ -6,18 +6,49 @@ ghost use Rattle.tokei_folders.specs.Tree.{Tree, is_sound};
 ghost use Rattle.tokei_walk.specs.Kept.{kept_in};
 ghost use Rattle.tokei_walk.specs.Notes.{Grows, notes_of, notes_of_excludes};
 ghost use Rattle.tokei_walk.specs.Ranks.{all_rank, rank};
+ghost use Rattle.tokei_walk.specs.Turns.{TurnFalls, TurnTells};
 ghost use Rattle.tokei_walk.specs.Walks.{to_come, has_failed as walk_failed, is_over as over_now, of_all, Advances, HasEnded, excludes_of, texts_of};
 
 use crate::excludes::read_excludes;
 use crate::kept_file::{KeptFile, Note};
 use crate::levels::{Context, Rules};
 use crate::roots::{begin_root, copied_roots};
-use crate::stack::{Settings, Stack, explore, leave};
+use crate::stack::{Settings, Stack, Step, explore, leave};
 use std::alloc::{AllocError, Global};
 use tokei_folders::{Folders, Items, Text};
 
-/// The next file of the walk.
+/// Goes on where the walked folder has nothing left: in the folder that holds it or, where none
+/// does, in the next root.
 #[tactic(auto, using(crate::proofs::Growing::grows_same, crate::proofs::Growing::grows_on))]
+fn go_on<F: Folders>(
+    settings: &Settings,
+    folders: &mut F,
+    notes: &mut Items<Note>,
+    stack: &mut Stack,
+    roots: &mut Items<Text>,
+) -> Result<Step, AllocError>
+    requires { stack.old.left ≡ [] }
+    ensures folders { AsTheyWere F.tree F.memory_faults folders.old folders.new result }
+    ensures notes { Grows notes.old notes.new }
+    ensures falls { IfOk result (λ s.
+        TurnFalls stack.old roots.old stack.new roots.new s) }
+    ensures told { Told (F.tree folders.old) (λ t. IfOk result (λ s. TurnTells
+        (of_all settings.now.excludes settings.now.rules t stack.old roots.old)
+        (of_all settings.now.excludes settings.now.rules t stack.new roots.new) s)) }
+{
+    if leave(stack) {
+        return Ok(Step::Passed);
+    }
+    let Some(root) = roots.pop() else {
+        return Ok(Step::Ended);
+    };
+    match begin_root(settings, folders, notes, stack, root)? {
+        Some(file) => Ok(Step::Found(file)),
+        None => Ok(Step::Passed),
+    }
+}
+
+/// The next file of the walk.
 fn advance<F: Folders>(
     settings: &Settings,
     folders: &mut F,
@@ -40,16 +71,10 @@ fn advance<F: Folders>(
             Some(file) => return Ok(Some(file)),
             None => {}
         }
-        if leave(stack) {
-            continue;
-        }
-        let root = match roots.pop() {
-            Some(root) => root,
-            None => return Ok(None),
-        };
-        match begin_root(settings, folders, notes, stack, root)? {
-            Some(file) => return Ok(Some(file)),
-            None => {}
+        match go_on(settings, folders, notes, stack, roots)? {
+            Step::Found(file) => return Ok(Some(file)),
+            Step::Passed => {}
+            Step::Ended => return Ok(None),
         }
     }
 }

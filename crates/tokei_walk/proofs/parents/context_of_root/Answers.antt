@@ -1,8 +1,9 @@
-use Rattle.std.proofs.Common.{◌++◌, List, ℕ, ap, ◌∙◌}
+use Rattle.std.proofs.Common.{◌++◌, List, ℕ, ap, ◌∙◌, refl}
 use Rattle.tokei_walk.specs.declared.levels.Level.{Level}
 use Rattle.tokei_folders.specs.Tree.{names_of}
 use Rattle.tokei_walk.specs.Walks.{names_over, levels_over}
 use Rattle.tokei_walk.proofs.RootSteps.{context_told, context_alone}
+use Rattle.tokei_walk.proofs.Growing.{grows_same, grows_on}
 use Rattle.tokei_walk.proofs.parents.context_of_root.Goals as goal
 
 pub returns-clause-told : goal.returns-clause-told
@@ -14,3 +15,15 @@ returns-clause-told g c = λ t e.
 
 pub returns-then-not-settings-clause-told : goal.returns-then-not-settings-clause-told
 returns-then-not-settings-clause-told g c = λ t e. context_alone t c.args.settings.now.rules (names_of c.args.root.now) _ c.if-not-settings.true c.new.ensures c.new-2.ensures c.in_ok-shown.ensures
+
+pub returns-in_err-shown-clause-notes : goal.returns-in_err-shown-clause-notes
+returns-in_err-shown-clause-notes g c = grows_same _ _ refl
+
+pub returns-then-not-settings-clause-notes : goal.returns-then-not-settings-clause-notes
+returns-then-not-settings-clause-notes g c = grows_same _ _ refl
+
+pub returns-in_err-read_over-clause-notes : goal.returns-in_err-read_over-clause-notes
+returns-in_err-read_over-clause-notes g c = grows_on _ _ _ c.folders_over.ensures.notes c.read_over.ensures.notes
+
+pub returns-clause-notes : goal.returns-clause-notes
+returns-clause-notes g c = grows_on _ _ _ c.folders_over.ensures.notes c.read_over.ensures.notes

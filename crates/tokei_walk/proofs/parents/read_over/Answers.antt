@@ -1,23 +1,37 @@
-use Rattle.std.proofs.Common.{◌∙◌, rules}
+use Rattle.std.proofs.Common.{◌∙◌, rules, refl}
+use Rattle.tokei_folders.specs.Tree.{names_of}
+use Rattle.tokei_walk.specs.Levels.{level_at}
 use Rattle.tokei_walk.specs.Walks.{names_over, levels_over}
-use Rattle.tokei_walk.proofs.Growing.{grows_on}
+use Rattle.tokei_walk.proofs.Growing.{grows_on, grows_same}
 use Rattle.tokei_walk.proofs.RootSteps.{more, names_over_pop, levels_over_pop}
 use Rattle.tokei_walk.proofs.parents.read_over.Goals as goal
 
 pub loop-above-preserved : goal.loop-above-preserved
 loop-above-preserved g c =
-    let inv = c.loop-above.invariant in let cx = c.loop-above.context in let a = c.in-Some.above in let front = c.pop.new.self in let r = c.args.settings.now.rules in record {
-      notes = grows_on _ _ _ inv.notes c.read_level.ensures.notes;
-      same = c.read_level.ensures.folders.same ∙ inv.same;
+    let inv = c.loop-above.invariant in let old = c.loop-above.context in let new = c.read_above.new.context in
+    let found = c.loop-above.found in let front = c.pop.new.self in let a = c.in-Some.above in let r = c.args.settings.now.rules in record {
+      notes = grows_on _ _ _ inv.notes c.read_above.ensures.notes;
+      same = c.read_above.ensures.folders.same ∙ inv.same;
       honest = search rules;
-      shown = inv.shown;
+      shown = c.in_ok-read_above.ensures.shown ∙ inv.shown;
       names =
-          more cx.names c.push-in-Some.new.self (names_over c.loop-above.found) (names_over front) _
-          a.name c.in_ok-push-2.ensures.ok
-          (names_over_pop c.loop-above.found front a c.in-Some.ensures) inv.names;
-      levels = λ t e. more cx.levels c.push.new.self (levels_over t r c.loop-above.found) (levels_over t r front) _ c.in_ok-level.level c.in_ok-push.ensures.ok
-          (levels_over_pop t r c.loop-above.found front a c.in_ok-level.level
-          c.as_str-place.result.now c.in-Some.ensures
-          (c.in_ok-level.ensures.told t (inv.same ∙ e)) c.as_str-place.ensures)
-          (inv.levels t e);
+          more old.names new.names (names_over found) (names_over front) _ a.name
+          c.in_ok-read_above.ensures.names (names_over_pop found front a c.in-Some.ensures)
+          inv.names;
+      levels = λ t e. more old.levels new.levels (levels_over t r found) (levels_over t r front) _ (level_at t r (names_of a.place))
+          (c.in_ok-read_above.ensures.levels t (inv.same ∙ e))
+          (levels_over_pop t r found front a c.in-Some.ensures) (inv.levels t e);
     }
+
+pub returns-in_err-read_above-clause-notes : goal.returns-in_err-read_above-clause-notes
+returns-in_err-read_above-clause-notes g c = grows_on _ _ _ c.loop-above.invariant.notes c.read_above.ensures.notes
+
+pub loop-above-init : goal.loop-above-init
+loop-above-init g c = record {
+  notes = grows_same _ _ refl;
+  same = refl;
+  honest = λ h. refl;
+  shown = refl;
+  names = refl;
+  levels = λ t e. refl;
+}

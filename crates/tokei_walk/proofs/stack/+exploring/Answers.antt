@@ -1,22 +1,17 @@
-use Rattle.std.proofs.Common.{◌≡◌, ℕ, ◌+◌, ◌-◌, ◌++◌, ◌≤◌, ◌<◌, List, [], ◌∷◌, length, reverse, Bool, Option, OnSome, Err, sym, ap, ap₂, ◌∙◌, arith, subst, rules}
+use Rattle.std.proofs.Common.{◌≡◌, ◌+◌, ◌-◌, ◌++◌, ◌≤◌, ◌<◌, List, [], ◌∷◌, length, reverse, Bool, cond, Option, OnSome, refl, sym, ap, ◌∙◌, arith, subst, rules}
 use Rattle.std.proofs.lemmas.List.{length-append}
-use Rattle.std.specs.Bool.{MatchBool}
-use Rattle.tokei_folders.specs.declared.fs.Fault.TheVariants.{Refused}
 use Rattle.tokei_walk.specs.declared.kept_file.KeptFile.{KeptFile}
 use Rattle.tokei_folders.specs.declared.fs.Entry.{Entry}
-use Rattle.tokei_folders.specs.Answers.{list_answer}
 use Rattle.tokei_folders.specs.Places.{joined}
-use Rattle.tokei_walk.specs.Descent.{of_stack}
-use Rattle.tokei_walk.specs.declared.levels.Context.{Context}
+use Rattle.tokei_walk.specs.Descent.{of_top, of_stack}
 use Rattle.tokei_walk.specs.declared.stack.Frame.{Frame}
 use Rattle.tokei_walk.specs.declared.stack.Stack.{Stack}
 use Rattle.tokei_walk.specs.Levels.{under}
 use Rattle.tokei_walk.specs.declared.stack.Step.{Step}
 use Rattle.tokei_walk.specs.Ranks.{weight, stack_rank}
-use Rattle.tokei_walk.specs.Stacks.{Pops, EntersTold, of_folder, VisitTells, ExploreTells, NoneIsSame, NoneStays, StepStays, StepTells}
-use Rattle.tokei_folders.specs.Tree.{names_of}
-use Rattle.tokei_walk.proofs.StackSteps.{with_context, refused_stack, top_ends, tells_other, file_told, tells_folder_some, tells_folder_none, visit_deep, visit_refused, visit_entered, stack_entered, visit_left}
-use Rattle.tokei_walk.proofs.Growing.{grows_on}
+use Rattle.tokei_walk.specs.Stacks.{Pops, VisitTells, ExploreTells, NoneIsSame, NoneStays, StepStays, StepTells}
+use Rattle.tokei_walk.proofs.StackSteps.{top_ends, tells_other, file_told, tells_folder_some, tells_folder_none, stack_entered, visit_left}
+use Rattle.tokei_walk.proofs.Growing.{grows_on, grows_same}
 use Rattle.tokei_walk.proofs.Ranking.{popped, entered_rank, stays_rank, file_falls}
 use Rattle.tokei_walk.proofs.stack.+exploring.Goals as goal
 
@@ -83,88 +78,84 @@ meet_next-returns-in-Some-2-clause-falls g t c =
     let below = ap (λ (w : Stack). weight (256 - length w.holders)) pops.1 in
     omega (arith, popped s u c.in-Some.entry pops, below, falls)
 
--- the context has the entry's name last
-abbrev Under : Stack → Context → List ℕ → Type 0
-Under s d name = d ≡ under s.context name
-
-pub visit-returns-then-as_slice-ge256-clause-told : goal.visit-returns-then-as_slice-ge256-clause-told
-visit-returns-then-as_slice-ge256-clause-told g t c = λ t' e.
-    let x = c.args.settings.now in let s = c.args.stack.now in
-    let deep : 256 ≤ length s.holders = omega (arith, ap length c.as_slice.ensures) in
-    visit_deep x.excludes x.rules t' s c.args.name (joined s.place c.args.name) deep
-
-pub visit-returns-then-not-branch-clause-stays : goal.visit-returns-then-not-branch-clause-stays
-visit-returns-then-not-branch-clause-stays g t c =
-    let s = c.args.stack.now in let d = c.push_name.new.context in let name = c.args.name in
-    let is : Under s d name = c.in_ok-push_name.ensures ∙ ap₂ (λ (a : Context) (n : List ℕ). under a n) c.in_ok-dropped.ensures.context c.in_ok-dropped.ensures.name in
-    refused_stack s c.enter.new.stack d c.forget.new.context name (c.in_ok-enter.ensures.refused c.if-not-branch.true) is c.forget.ensures
-
 pub visit-returns-then-not-branch-clause-told : goal.visit-returns-then-not-branch-clause-told
 visit-returns-then-not-branch-clause-told g t c = λ t' e.
-    let x = c.args.settings.now in let s = c.args.stack.now in let d = c.push_name.new.context in let name = c.args.name in let place = c.in_ok-place.place in
-    let at : place ≡ joined s.place name = c.in_ok-place.ensures.place ∙ ap₂ (λ (p n : List ℕ). joined p n) c.as_str.ensures (c.as_str-2.ensures ∙ c.in_ok-dropped.ensures.name) in
-    let told =
-    subst
-    (λ (b : Bool). MatchBool b
-    (EntersTold t' x.rules (with_context s d) c.enter.new.stack place)
-    (list_answer t' (names_of place) ≡ Err Refused))
-    c.if-not-branch.true (c.in_ok-enter.ensures.told t' e) in
-    ap (λ (p : List ℕ). of_folder x.excludes x.rules t' s name p) (sym at) ∙ visit_refused x.excludes x.rules t' s name place told
+    let x = c.args.settings.now in
+    c.in_ok-enter_entry.ensures.told t' e ∙ ap (λ (b : Bool). cond b (of_top x.excludes x.rules t' c.enter_entry.new.stack) []) c.if-not-branch.true
 
 pub visit-explore-requires : goal.visit-explore-requires
 visit-explore-requires g t c κs within =
     let s = c.args.stack.now in
     let f : Frame = record { place = s.place; left = s.left } in
-    let enters = c.in_ok-enter.ensures.entered c.if-not-branch.false in
-    let shallow : length s.holders < 256 = omega (arith, ap length c.as_slice.ensures) in
-    let deeper : length c.enter.new.stack.holders ≡ length s.holders + 1 = ap length enters.holders_is ∙ length-append s.holders (f ∷ []) in
+    let enters = c.in_ok-enter_entry.ensures.entered c.if-not-branch.false in
+    let shallow = c.in_ok-enter_entry.ensures.shallow c.if-not-branch.false in
+    let deeper : length c.enter_entry.new.stack.holders ≡ length s.holders + 1 = ap length enters.holders_is ∙ length-append s.holders (f ∷ []) in
     (omega (arith, shallow, deeper), search rules)
 
 pub visit-returns-in-Some-clause-told : goal.visit-returns-in-Some-clause-told
 visit-returns-in-Some-clause-told g t c = λ t' e.
-    let x = c.args.settings.now in let s = c.args.stack.now in let d = c.push_name.new.context in let u = c.enter.new.stack in let name = c.args.name in let place = c.in_ok-place.place in
-    let shallow : length s.holders < 256 = omega (arith, ap length c.as_slice.ensures) in
-    let is : Under s d name = c.in_ok-push_name.ensures ∙ ap₂ (λ (a : Context) (n : List ℕ). under a n) c.in_ok-dropped.ensures.context c.in_ok-dropped.ensures.name in
-    let at : place ≡ joined s.place name = c.in_ok-place.ensures.place ∙ ap₂ (λ (p n : List ℕ). joined p n) c.as_str.ensures (c.as_str-2.ensures ∙ c.in_ok-dropped.ensures.name) in
-    let stays = sym c.in_ok-dropped.ensures.dropped ∙ c.if-dropped.false in
-    let enters = c.in_ok-enter.ensures.entered c.if-not-branch.false in
-    let told =
-    subst
-    (λ (b : Bool). MatchBool b (EntersTold t' x.rules (with_context s d) u place)
-    (list_answer t' (names_of place) ≡ Err Refused))
-    c.if-not-branch.false (c.in_ok-enter.ensures.told t' e) in
-    let explored = subst (λ (o : Option KeptFile). ExploreTells x.excludes x.rules t' u c.explore.new.stack o) c.in-Some.is (c.in_ok-file.ensures.told t' (c.enter.ensures.folders.same ∙ e)) in
-    ap (λ (p : List ℕ). of_folder x.excludes x.rules t' s name p ++ of_stack x.excludes x.rules t' s) (sym at)
-    ∙ ap (λ (q : List KeptFile). q ++ of_stack x.excludes x.rules t' s) (visit_entered x.excludes x.rules t' s u d name place is stays shallow enters told)
-    ∙ sym (stack_entered x.excludes x.rules t' s u d name place is enters) ∙ explored
+    let x = c.args.settings.now in let s = c.args.stack.now in let u = c.enter_entry.new.stack in let name = c.args.name in
+    let enters = c.in_ok-enter_entry.ensures.entered c.if-not-branch.false in
+    let own = c.in_ok-enter_entry.ensures.told t' e ∙ ap (λ (b : Bool). cond b (of_top x.excludes x.rules t' u) []) c.if-not-branch.false in
+    let explored = subst (λ (o : Option KeptFile). ExploreTells x.excludes x.rules t' u c.explore.new.stack o) c.in-Some.is (c.in_ok-file.ensures.told t' (c.enter_entry.ensures.folders.same ∙ e)) in
+    ap (λ (q : List KeptFile). q ++ of_stack x.excludes x.rules t' s) own
+    ∙ sym (stack_entered x.excludes x.rules t' s u (under s.context name) name (joined s.place name) refl enters) ∙ explored
 
 pub visit-returns-in-Some-clause-falls : goal.visit-returns-in-Some-clause-falls
 visit-returns-in-Some-clause-falls g t c =
-    let s = c.args.stack.now in let d = c.push_name.new.context in let u = c.enter.new.stack in let v = c.explore.new.stack in
-    let shallow : length s.holders < 256 = omega (arith, ap length c.as_slice.ensures) in
-    let enters = c.in_ok-enter.ensures.entered c.if-not-branch.false in
-    let falls = subst (λ (o : Option KeptFile). OnSome o (stack_rank v < stack_rank u)) c.in-Some.is c.in_ok-file.ensures.falls in
-    omega (arith, entered_rank s u d c.in_ok-place.place shallow enters, falls)
+    let s = c.args.stack.now in let u = c.enter_entry.new.stack in let name = c.args.name in
+    let falls = subst (λ (o : Option KeptFile). OnSome o (stack_rank c.explore.new.stack < stack_rank u)) c.in-Some.is c.in_ok-file.ensures.falls in
+    let enters = c.in_ok-enter_entry.ensures.entered c.if-not-branch.false in
+    let shallow = c.in_ok-enter_entry.ensures.shallow c.if-not-branch.false in
+    omega (arith, entered_rank s u (under s.context name) (joined s.place name) shallow enters, falls)
 
 pub visit-returns-in-None-clause-stays : goal.visit-returns-in-None-clause-stays
 visit-returns-in-None-clause-stays g t c =
-    let s = c.args.stack.now in let d = c.push_name.new.context in let u = c.enter.new.stack in let name = c.args.name in
-    let is : Under s d name = c.in_ok-push_name.ensures ∙ ap₂ (λ (a : Context) (n : List ℕ). under a n) c.in_ok-dropped.ensures.context c.in_ok-dropped.ensures.name in
+    let s = c.args.stack.now in let u = c.enter_entry.new.stack in let name = c.args.name in
     let stays = subst (λ (o : Option KeptFile). NoneStays u c.explore.new.stack o) c.in-None.is c.in_ok-file.ensures.stays in
-    visit_left s u c.explore.new.stack c.leave.new.stack d c.leave.result name c.in_ok-place.place is (c.in_ok-enter.ensures.entered c.if-not-branch.false) stays.0 c.leave.ensures
+    visit_left s u c.explore.new.stack c.leave.new.stack (under s.context name) c.leave.result name (joined s.place name) refl
+    (c.in_ok-enter_entry.ensures.entered c.if-not-branch.false) stays.0 c.leave.ensures
 
 pub visit-returns-in-None-clause-told : goal.visit-returns-in-None-clause-told
 visit-returns-in-None-clause-told g t c = λ t' e.
-    let x = c.args.settings.now in let s = c.args.stack.now in let d = c.push_name.new.context in let u = c.enter.new.stack in let name = c.args.name in let place = c.in_ok-place.place in
-    let shallow : length s.holders < 256 = omega (arith, ap length c.as_slice.ensures) in
-    let is : Under s d name = c.in_ok-push_name.ensures ∙ ap₂ (λ (a : Context) (n : List ℕ). under a n) c.in_ok-dropped.ensures.context c.in_ok-dropped.ensures.name in
-    let at : place ≡ joined s.place name = c.in_ok-place.ensures.place ∙ ap₂ (λ (p n : List ℕ). joined p n) c.as_str.ensures (c.as_str-2.ensures ∙ c.in_ok-dropped.ensures.name) in
-    let stays = sym c.in_ok-dropped.ensures.dropped ∙ c.if-dropped.false in
-    let enters = c.in_ok-enter.ensures.entered c.if-not-branch.false in
-    let told =
-    subst
-    (λ (b : Bool). MatchBool b (EntersTold t' x.rules (with_context s d) u place)
-    (list_answer t' (names_of place) ≡ Err Refused))
-    c.if-not-branch.false (c.in_ok-enter.ensures.told t' e) in
-    let explored = subst (λ (o : Option KeptFile). ExploreTells x.excludes x.rules t' u c.explore.new.stack o) c.in-None.is (c.in_ok-file.ensures.told t' (c.enter.ensures.folders.same ∙ e)) in
-    ap (λ (p : List ℕ). of_folder x.excludes x.rules t' s name p) (sym at) ∙ visit_entered x.excludes x.rules t' s u d name place is stays shallow enters told ∙ explored
+    let x = c.args.settings.now in let u = c.enter_entry.new.stack in
+    let own = c.in_ok-enter_entry.ensures.told t' e ∙ ap (λ (b : Bool). cond b (of_top x.excludes x.rules t' u) []) c.if-not-branch.false in
+    let explored = subst (λ (o : Option KeptFile). ExploreTells x.excludes x.rules t' u c.explore.new.stack o) c.in-None.is (c.in_ok-file.ensures.told t' (c.enter_entry.ensures.folders.same ∙ e)) in
+    own ∙ explored
+
+pub explore-returns-in_err-file-clause-notes : goal.explore-returns-in_err-file-clause-notes
+explore-returns-in_err-file-clause-notes g t c = grows_on _ _ _ c.loop-file.invariant.notes c.meet_next.ensures.notes
+
+pub explore-returns-in-Found-clause-notes : goal.explore-returns-in-Found-clause-notes
+explore-returns-in-Found-clause-notes g t c = grows_on _ _ _ c.loop-file.invariant.notes c.meet_next.ensures.notes
+
+pub explore-returns-in-Ended-clause-notes : goal.explore-returns-in-Ended-clause-notes
+explore-returns-in-Ended-clause-notes g t c = grows_on _ _ _ c.loop-file.invariant.notes c.meet_next.ensures.notes
+
+pub meet_next-returns-in_default-clause-notes : goal.meet_next-returns-in_default-clause-notes
+meet_next-returns-in_default-clause-notes g t c = grows_same _ _ refl
+
+pub meet_next-returns-in-Other-clause-notes : goal.meet_next-returns-in-Other-clause-notes
+meet_next-returns-in-Other-clause-notes g t c = grows_same _ _ refl
+
+pub meet_next-returns-in-File-clause-notes : goal.meet_next-returns-in-File-clause-notes
+meet_next-returns-in-File-clause-notes g t c = grows_same _ _ refl
+
+pub visit-returns-in_err-file-clause-notes : goal.visit-returns-in_err-file-clause-notes
+visit-returns-in_err-file-clause-notes g t c = grows_on _ _ _ c.enter_entry.ensures.notes c.explore.ensures.notes
+
+pub visit-returns-in-Some-clause-notes : goal.visit-returns-in-Some-clause-notes
+visit-returns-in-Some-clause-notes g t c = grows_on _ _ _ c.enter_entry.ensures.notes c.explore.ensures.notes
+
+pub visit-returns-in-None-clause-notes : goal.visit-returns-in-None-clause-notes
+visit-returns-in-None-clause-notes g t c = grows_on _ _ _ c.enter_entry.ensures.notes c.explore.ensures.notes
+
+pub explore-loop-file-init : goal.explore-loop-file-init
+explore-loop-file-init g t c = record {
+  notes = grows_same _ _ refl;
+  same = refl;
+  honest = λ h. refl;
+  stays = (refl, refl, refl);
+  falls = omega arith;
+  told = λ t' e. refl;
+}

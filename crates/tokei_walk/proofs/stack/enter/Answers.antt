@@ -8,6 +8,7 @@ use Rattle.tokei_walk.specs.declared.rules_files.Sought.{Sought}
 use Rattle.tokei_walk.specs.declared.levels.Level.{Level}
 use Rattle.tokei_walk.specs.Sought.{listed, level_of}
 use Rattle.tokei_walk.proofs.ListedFiles.{level_listed}
+use Rattle.tokei_walk.proofs.Growing.{grows_on}
 use Rattle.tokei_walk.proofs.stack.enter.Goals as goal
 
 pub returns-clause-told : goal.returns-clause-told
@@ -29,3 +30,12 @@ returns-clause-told g c = λ t e.
       entries_are = listed_here ∙ ap Ok (sym (c.in_ok-push_folder.ensures.entries ∙ c.from_vec.ensures));
       levels_are = c.in_ok-push_folder.ensures.levels ∙ ap (λ (l : Level). c.args.stack.now.context.levels ++ l ∷ []) level;
     }
+
+pub returns-in_err-level-clause-notes : goal.returns-in_err-level-clause-notes
+returns-in_err-level-clause-notes g c = grows_on _ _ _ c.listing.ensures.notes c.read_sought.ensures.notes
+
+pub returns-in_err-push_folder-clause-notes : goal.returns-in_err-push_folder-clause-notes
+returns-in_err-push_folder-clause-notes g c = grows_on _ _ _ c.listing.ensures.notes c.read_sought.ensures.notes
+
+pub returns-clause-notes : goal.returns-clause-notes
+returns-clause-notes g c = grows_on _ _ _ c.listing.ensures.notes c.read_sought.ensures.notes

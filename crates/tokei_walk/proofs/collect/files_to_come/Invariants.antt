@@ -3,7 +3,7 @@ use Rattle.tokei_folders.specs.Answers.{Told}
 use Rattle.tokei_walk.specs.Notes.{Grows, notes_of}
 use Rattle.tokei_walk.specs.Ranks.{rank}
 use Rattle.tokei_walk.specs.Walks.{to_come}
-use Rattle.tokei_walk.proofs.collect.kept_files.Given as goal
+use Rattle.tokei_walk.proofs.collect.files_to_come.Given as goal
 
 abbrev pub invariant-loop-files : goal.invariant-loop-files
 invariant-loop-files g l = record {

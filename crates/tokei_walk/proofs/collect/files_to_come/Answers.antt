@@ -1,0 +1,40 @@
+use Rattle.std.proofs.Common.{◌++◌, refl, List, Option, ◌∙◌, sym, ap, append-nil, subst, rules}
+use Rattle.tokei_walk.specs.declared.kept_file.KeptFile.{KeptFile}
+use Rattle.tokei_walk.specs.Walks.{to_come, Advances}
+use Rattle.tokei_walk.proofs.Growing.{grows_on, grows_same}
+use Rattle.tokei_walk.proofs.RootSteps.{more}
+use Rattle.tokei_walk.proofs.collect.files_to_come.Goals as goal
+
+pub loop-files-init : goal.loop-files-init
+loop-files-init g c = record {
+  notes = grows_same _ _ refl;
+  same = refl;
+  honest = λ h. refl;
+  told = λ t e. ap (λ (x : List KeptFile). x ++ to_come t c.args.walk.now) c.new-files.ensures;
+}
+
+pub loop-files-preserved : goal.loop-files-preserved
+loop-files-preserved g c =
+    let inv = c.loop-files.invariant in record {
+      notes = grows_on _ _ _ inv.notes c.next.ensures.notes;
+      same = c.next.ensures.same ∙ inv.same;
+      honest = search rules;
+      told = λ t e.
+          let given = subst (λ (o : Option KeptFile). Advances (to_come t c.loop-files.walk) (to_come t c.next.new.self) o) c.in-Some.is (c.in_ok-file.ensures.told t (inv.same ∙ e)) in
+          more c.loop-files.files c.push.new.self (to_come t c.loop-files.walk) (to_come t c.next.new.self) _ c.in-Some.file c.in_ok-push.ensures.ok given (inv.told t e);
+    }
+
+pub returns-clause-told : goal.returns-clause-told
+returns-clause-told g c = λ t e.
+    let inv = c.loop-files.invariant in
+    let none = subst (λ (o : Option KeptFile). Advances (to_come t c.loop-files.walk) (to_come t c.next.new.self) o) c.in_default.is (c.in_ok-file.ensures.told t (inv.same ∙ e)) in
+    c.into_vec.ensures ∙ sym (append-nil c.loop-files.files) ∙ ap (λ (x : List KeptFile). c.loop-files.files ++ x) (sym none) ∙ inv.told t e
+
+pub returns-in_err-file-clause-notes : goal.returns-in_err-file-clause-notes
+returns-in_err-file-clause-notes g c = grows_on _ _ _ c.loop-files.invariant.notes c.next.ensures.notes
+
+pub returns-in_err-push-clause-notes : goal.returns-in_err-push-clause-notes
+returns-in_err-push-clause-notes g c = grows_on _ _ _ c.loop-files.invariant.notes c.next.ensures.notes
+
+pub returns-clause-notes : goal.returns-clause-notes
+returns-clause-notes g c = grows_on _ _ _ c.loop-files.invariant.notes c.next.ensures.notes

@@ -1,0 +1,32 @@
+use Rattle.std.proofs.Common.{◌≤◌, ℕ, List, length, sym, ap, ap₂, ◌∙◌, arith}
+use Rattle.tokei_folders.specs.Places.{joined}
+use Rattle.tokei_walk.specs.declared.levels.Context.{Context}
+use Rattle.tokei_walk.specs.Levels.{under}
+use Rattle.tokei_walk.proofs.StackSteps.{with_context, visit_dropped, visit_deep}
+use Rattle.tokei_walk.proofs.stack.push_folder_name.Goals as goal
+
+pub returns-then-dropped-clause-passed : goal.returns-then-dropped-clause-passed
+returns-then-dropped-clause-passed c = λ q t.
+    let x = c.args.settings.now in let s = c.args.stack.now in
+    visit_dropped x.excludes x.rules t s c.args.name (joined s.place c.args.name) (sym c.in_ok-dropped.ensures.dropped ∙ c.if-dropped.true)
+
+pub returns-then-as_slice-ge256-clause-passed : goal.returns-then-as_slice-ge256-clause-passed
+returns-then-as_slice-ge256-clause-passed c = λ q t.
+    let x = c.args.settings.now in let s = c.args.stack.now in
+    let deep : 256 ≤ length s.holders = omega (arith, ap length c.as_slice.ensures) in
+    visit_deep x.excludes x.rules t s c.args.name (joined s.place c.args.name) deep
+
+pub returns-clause-place : goal.returns-clause-place
+returns-clause-place c =
+    c.in_ok-place.ensures.place ∙ ap₂ (λ (p n : List ℕ). joined p n) c.as_str.ensures (c.as_str-2.ensures ∙ c.in_ok-dropped.ensures.name)
+
+pub returns-clause-named : goal.returns-clause-named
+returns-clause-named c =
+    let is = c.in_ok-push_name.ensures ∙ ap₂ (λ (a : Context) (n : List ℕ). under a n) c.in_ok-dropped.ensures.context c.in_ok-dropped.ensures.name in
+    ap (with_context c.args.stack.now) is
+
+pub returns-clause-shallow : goal.returns-clause-shallow
+returns-clause-shallow c = omega (arith, ap length c.as_slice.ensures)
+
+pub returns-clause-kept : goal.returns-clause-kept
+returns-clause-kept c = sym c.in_ok-dropped.ensures.dropped ∙ c.if-dropped.false
