@@ -79,6 +79,11 @@ pub option_added : (r : Rule) (a : Arg) (old new : Command) (app : App) → IsOp
     → app_of new ≡ with_rule app r
 option_added r a old new app option added so_far = added.shape option.1 ∙ ap₂ with_rule so_far option.0
 
+-- one more option, which is refused beside another one
+pub excluding_added : (r : Rule) (a : Arg) (old new : Command) (app : App) → IsOption r a
+    → app_of new ≡ with_rule (app_of old) (excluding (rule_of a)) → app_of old ≡ app → app_of new ≡ with_rule app (excluding r)
+excluding_added r a old new app option added so_far = added ∙ ap₂ with_rule so_far (ap excluding option.0)
+
 -- an app that has a version
 abbrev versioned : App → App
 versioned a = record a { top = record a.top { has_version = true } }

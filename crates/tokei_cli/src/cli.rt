@@ -164,6 +164,59 @@ fn order(alloc: Global, matches: &ArgMatches<'_>) -> Result<(Option<String>, boo
     }
 }
 
+/// The words that the options on formats are given.
+#[derive(Drop)]
+struct Formats {
+    output: Option<String>,
+    streaming: Option<String>,
+    number_format: Option<String>,
+}
+
+/// Reads what the options on formats are given.
+fn read_formats(alloc: Global, matches: &ArgMatches<'_>) -> Result<Formats, AllocError>
+    ensures output { IfOk result (λ f. option_map string_bytes f.output
+        ≡ first_of (codes "output") (rows_of (found_of matches.now))) }
+    ensures streaming { IfOk result (λ f. option_map string_bytes f.streaming
+        ≡ first_of (codes "streaming") (rows_of (found_of matches.now))) }
+    ensures numbers { IfOk result (λ f. option_map string_bytes f.number_format
+        ≡ first_of (codes "num-format") (rows_of (found_of matches.now))) }
+{
+    Ok(Formats {
+        output: value(alloc, matches, "output")?,
+        streaming: value(alloc, matches, "streaming")?,
+        number_format: value(alloc, matches, "num-format")?,
+    })
+}
+
+/// What a command line names of files and folders.
+#[derive(Drop)]
+struct Paths {
+    exclude: Vec<String>,
+    file_input: Option<String>,
+    input: Vec<String>,
+    table: Option<String>,
+}
+
+/// Reads the patterns, files and folders that a command line names.
+fn read_paths(alloc: Global, matches: &ArgMatches<'_>) -> Result<Paths, AllocError>
+    ensures excludes { IfOk result (λ p. map string_bytes p.exclude.items
+        ≡ unwrap_or (all_of (codes "exclude") (rows_of (found_of matches.now))) []) }
+    ensures file_input { IfOk result (λ p. option_map string_bytes p.file_input
+        ≡ first_of (codes "file_input") (rows_of (found_of matches.now))) }
+    ensures inputs { IfOk result (λ p. map string_bytes p.input.items
+        ≡ inputs_given (all_of (codes "input") (rows_of (found_of matches.now)))) }
+    ensures some { IfOk result (λ p. map string_bytes p.input.items ≢ []) }
+    ensures table { IfOk result (λ p. option_map string_bytes p.table
+        ≡ first_of (codes "table") (rows_of (found_of matches.now))) }
+{
+    Ok(Paths {
+        exclude: values(alloc, matches, "exclude")?,
+        file_input: value(alloc, matches, "file_input")?,
+        input: inputs(alloc, matches)?,
+        table: value(alloc, matches, "table")?,
+    })
+}
+
 impl Cli {
     /// Reads the words of a command line, of which the first is the program's name. A refused
     /// command line, and one that asks for help or the version, are errors with the text to be
@@ -187,6 +240,9 @@ impl Cli {
         ensures reverse { IfOk result (λ c. c.sort_reverse ≡ true → IsSome c.sort) }
     {
         let (sort, sort_reverse) = order(alloc, matches)?;
+        let types = given(alloc, matches, "types")?;
+        let formats = read_formats(alloc, matches)?;
+        let paths = read_paths(alloc, matches)?;
         Ok(Cli {
             columns: number(matches, "columns"),
             files: flag(matches, "files"),
@@ -195,19 +251,19 @@ impl Cli {
             no_ignore_parent: flag(matches, "no-ignore-parent"),
             no_ignore_dot: flag(matches, "no-ignore-dot"),
             no_ignore_vcs: flag(matches, "no-ignore-vcs"),
-            output: value(alloc, matches, "output")?,
-            streaming: value(alloc, matches, "streaming")?,
+            output: formats.output,
+            streaming: formats.streaming,
             print_languages: flag(matches, "languages"),
             sort,
             sort_reverse,
-            types: given(alloc, matches, "types")?,
+            types,
             compact: flag(matches, "compact"),
-            number_format: value(alloc, matches, "num-format")?,
+            number_format: formats.number_format,
             verbose: matches.get_count("verbose"),
-            exclude: values(alloc, matches, "exclude")?,
-            file_input: value(alloc, matches, "file_input")?,
-            input: inputs(alloc, matches)?,
-            table: value(alloc, matches, "table")?,
+            exclude: paths.exclude,
+            file_input: paths.file_input,
+            input: paths.input,
+            table: paths.table,
         })
     }
 
