@@ -1,13 +1,10 @@
 -- What the parser's builders make of an option.
-use Rattle.std.proofs.Common.{◌≡◌, ◌&&◌, ◌==◌, ◌++◌, ◌∷◌, ◌+◌, ◌<◌, ℕ, List, [], Bool, true, false, not, length, Option, None, Some}
+use Rattle.std.proofs.Common.{◌≡◌, ◌&&◌, ◌==◌, ◌++◌, ◌∷◌, ◌+◌, ◌<◌, ℕ, List, [], Bool, true, false, not, length, Some}
 use Rattle.std.proofs.Common.{Bor, refl, ap, ap₂, ◌∙◌, slice_get, codes, arith, eqb-true, length-append}
 use Rattle.clap.specs.Words.{AddsArg, AddsConflicts, App, Rule, app_of, new_app, rule_of, with_rule}
 use Rattle.clap.specs.Simple.{app_of_fields}
 use Rattle.clap.specs.Walk.{is_free_arg}
-use Rattle.std.specs.Prelude.{IsSomeAnd}
 use Rattle.clap.specs.declared.builder.action.ArgAction.{ArgAction}
-use Rattle.clap.specs.declared.builder.range.ValueRange.{ValueRange}
-use Rattle.clap.specs.declared.builder.value_parser.ValueParser.{ValueParser}
 use Rattle.clap.specs.declared.builder.arg.Arg.{Arg}
 use Rattle.clap.specs.declared.builder.command.Command.{Command}
 use Rattle.clap.specs.declared.builder.command.Command.TheViews.{out-Command as fields_of}
@@ -25,33 +22,6 @@ pub acting_is : (x : ArgAction) (r : Rule) (a b : Arg) → b ≡ record a { acti
     → IsOption (record r { action = Some x }) b
 acting_is x r a b is option =
     (ap rule_of is ∙ ap (λ (r : Rule). record r { action = Some x }) option.0, ap (λ (x : Arg). x.global) is ∙ option.1)
-
-pub named_is : (name : Bor (List ℕ)) (r : Rule) (a b : Arg) → b ≡ record a { long = Some name } → IsOption r a
-    → IsOption (record r { long = Some name.now }) b
-named_is name r a b is option =
-    (ap rule_of is ∙ ap (λ (r : Rule). record r { long = Some name.now }) option.0, ap (λ (x : Arg). x.global) is ∙ option.1)
-
-pub helped_is : (text : Option (Bor (List ℕ))) (r : Rule) (a b : Arg) → b ≡ record a { help = text } → IsOption r a → IsOption r b
-helped_is text r a b is option = (ap rule_of is ∙ option.0, ap (λ (x : Arg). x.global) is ∙ option.1)
-
-pub parsed_is : (q : ValueParser) (r : Rule) (a b : Arg) → b ≡ record a { value_parser = b.value_parser }
-    → b.value_parser ≡ Some q → IsOption r a
-    → IsOption (record r { parser = Some q }) b
-parsed_is q r a b is given option =
-    let rule = ap (λ p. record (rule_of a) { parser = p }) given ∙ ap (λ (r : Rule). record r { parser = Some q }) option.0 in
-    (ap rule_of is ∙ rule, ap (λ (x : Arg). x.global) is ∙ option.1)
-
-some_is : (n : ValueRange) (o : Option ValueRange) → IsSomeAnd o (λ r. r ≡ n) → o ≡ Some n
-some_is n None h = absurd h
-some_is n (Some x) h = ap (λ y. Some y) h
-
-pub ranged_is : (n : ValueRange) (r : Rule) (a b : Arg) → b ≡ record a { num_vals = b.num_vals }
-    → IsSomeAnd b.num_vals (λ x. x ≡ n) → IsOption r a
-    → IsOption (record r { range = Some n }) b
-ranged_is n r a b is given option =
-    let rule =
-    ap (λ p. record (rule_of a) { range = p }) (some_is n b.num_vals given) ∙ ap (λ (r : Rule). record r { range = Some n }) option.0 in
-    (ap rule_of is ∙ rule, ap (λ (x : Arg). x.global) is ∙ option.1)
 
 not_free : (x e y : Bool) → e ≡ false → (not x && (e && y)) ≡ false
 not_free true e y h = refl
