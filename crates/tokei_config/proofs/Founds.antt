@@ -1,5 +1,5 @@
 -- What there is of a file, by its kind and its content.
-use Rattle.std.proofs.Common.{◌≡◌, ◌≢◌, ℕ, List, true, false, Option, Some, None, Result, Ok, Err, IfOk, cond, refl, ap}
+use Rattle.std.proofs.Common.{◌≡◌, ◌≢◌, true, false, Option, Some, None, Result, Ok, Err, IfOk, refl, ap}
 use Rattle.tokei_config.specs.Found.{content_of, found_of, file_found}
 use Rattle.tokei_config.specs.declared.files.Found.{Found}
 use Rattle.tokei_config.specs.declared.files.Found.TheVariants.{Nothing, Unreadable, Content}

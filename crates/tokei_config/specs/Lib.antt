@@ -4,6 +4,7 @@ pub mod Flaws
 pub mod Found
 pub mod Languages
 pub mod Members
+pub mod ReadMembers
 pub mod Reading
 pub mod Seen
 pub mod Settings

@@ -1,5 +1,5 @@
 //! The configuration of a run.
-use crate::files::{ConfigDirs, config_in};
+use crate::files::{ConfigDirs, config_behind, config_in};
 use crate::flaws::Flaw;
 use crate::language_config::LanguageConfig;
 use std::alloc::{AllocError, Global};
@@ -107,10 +107,9 @@ impl Config {
     {
         let mut flaws = Vec::new(alloc);
         let current = config_in(alloc, table, folders, &dirs.current, &mut flaws)?;
-        let home = config_in(alloc, table, folders, &dirs.home, &mut flaws)?;
-        let config = config_in(alloc, table, folders, &dirs.config, &mut flaws)?;
+        let behind = config_behind(alloc, table, folders, dirs, &mut flaws)?;
         Ok(ConfigRead {
-            config: current.or(home.or(config)),
+            config: current.or(behind),
             flaws,
         })
     }
@@ -130,13 +129,10 @@ impl Config {
         ensures { IfOk result (λ v. map addition_of v.items
             ≡ additions_in (settings_of self.entry.now)) }
     {
-        let mut additions = Vec::new(alloc);
-        if let Some(languages) = &self.languages {
-            for (language, config) in languages.iter() {
-                add(&mut additions, *language, config.extensions.as_slice())?;
-            }
+        match &self.languages {
+            Some(languages) => extensions_gained(alloc, languages),
+            None => Ok(Vec::new(alloc)),
         }
-        Ok(additions)
     }
 
     /// The table in which languages have gained the extensions of this configuration, which no
@@ -173,7 +169,8 @@ impl Config {
     }
 }
 
-ghost use Rattle.std.specs.Prelude.{◌≡◌, ◌++◌, ◌∷◌, [], map, OnOk, string_bytes};
+ghost use Rattle.std.specs.Prelude.{◌≡◌, ◌++◌, ◌∷◌, [], map, IfOk, OnOk, string_bytes};
+ghost use Rattle.tokei_config.specs.Seen.{additions_of};
 ghost use Rattle.tokei_table.specs.Extended.{addition_of};
 ghost use Rattle.tokei_folders.specs.AsTheyWere.{SameTree, NoFault};
 
@@ -190,6 +187,21 @@ fn add<'a>(
         Ok(()) => Ok(()),
         Err(_) => Err(AllocError),
     }
+}
+
+/// The extensions that each language gains, in the order of the table.
+fn extensions_gained(
+    alloc: Global,
+    languages: &BTreeMap<LanguageType, LanguageConfig>,
+) -> Result<Vec<(LanguageType, &[String])>, AllocError>
+    ensures { IfOk result (λ v. map addition_of v.items
+        ≡ additions_of languages.entry.now.entries) }
+{
+    let mut additions = Vec::new(alloc);
+    for (language, config) in languages.iter() {
+        add(&mut additions, *language, config.extensions.as_slice())?;
+    }
+    Ok(additions)
 }
 
 impl Default for Config {

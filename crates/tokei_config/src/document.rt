@@ -1,8 +1,9 @@
 //! A configuration file's text.
-ghost use Rattle.std.specs.Prelude.{◌≡◌, IfOk, Some, option_map};
+ghost use Rattle.std.specs.Prelude.{◌≡◌, IfErr, IfOk, Some, option_map};
 ghost use Rattle.toml.specs.View.{table_view};
-ghost use Rattle.tokei_config.specs.Document.{settings_of_text};
+ghost use Rattle.tokei_config.specs.Document.{flag, settings_of_text};
 ghost use Rattle.tokei_config.specs.Flaws.{cause_of_text};
+ghost use Rattle.tokei_config.specs.ReadMembers.{AreFileFlags, AreValues, StopsAtFirst, bad_file_flag, bad_or, bad_value};
 ghost use Rattle.tokei_config.specs.Reading.{ReadsSettings, at_setting};
 ghost use Rattle.tokei_config.specs.Seen.{settings_of};
 ghost use Rattle.tokei_config.specs.Settings.{empty};
@@ -14,6 +15,7 @@ use crate::languages::{languages_at, types_at};
 use crate::members::{MemberError, count_at, flag_at, sort_at};
 use std::alloc::{AllocError, Global};
 use tokei_folders::Text;
+use tokei_options::Sort;
 use tokei_table::LanguageTable;
 use toml::Table;
 use toml::de::Error;
@@ -25,6 +27,25 @@ pub(crate) enum SettingError {
     Memory,
     /// This one is of a wrong kind, or names what isn't known.
     Bad(Setting),
+}
+
+/// The members that say which files are counted.
+#[derive(Clone, Copy)]
+pub(crate) struct FileFlags {
+    pub hidden: Option<bool>,
+    pub no_ignore: Option<bool>,
+    pub no_ignore_parent: Option<bool>,
+    pub no_ignore_dot: Option<bool>,
+    pub no_ignore_vcs: Option<bool>,
+}
+
+/// The members that are one value.
+#[derive(Clone, Copy)]
+pub(crate) struct Values {
+    pub columns: Option<usize>,
+    pub file_flags: FileFlags,
+    pub treat_doc_strings_as_comments: Option<bool>,
+    pub sort: Option<Sort>,
 }
 
 /// Why a text counts as empty.
@@ -54,38 +75,74 @@ fn at<T>(setting: Setting, read: Result<T, MemberError>) -> Result<T, SettingErr
     }
 }
 
+/// The flag of a setting, by its key.
+fn flag_of(setting: Setting, members: &Table, key: &str) -> Result<Option<bool>, SettingError>
+    ensures is_read { IfOk result (λ f. flag key.now (table_view members.now) ≡ Some f) }
+    ensures refused { IfErr result
+        (StopsAtFirst (bad_or setting (flag key.now (table_view members.now)))) }
+{
+    at(setting, flag_at(members, key))
+}
+
+/// The flags that say which files are counted.
+fn file_flags_in(members: &Table) -> Result<FileFlags, SettingError>
+    ensures are_read { IfOk result (AreFileFlags (table_view members.now)) }
+    ensures refused { IfErr result (StopsAtFirst (bad_file_flag (table_view members.now))) }
+{
+    let hidden = flag_of(Setting::Hidden, members, "hidden")?;
+    let no_ignore = flag_of(Setting::NoIgnore, members, "no_ignore")?;
+    let no_ignore_parent = flag_of(Setting::NoIgnoreParent, members, "no_ignore_parent")?;
+    let no_ignore_dot = flag_of(Setting::NoIgnoreDot, members, "no_ignore_dot")?;
+    let no_ignore_vcs = flag_of(Setting::NoIgnoreVcs, members, "no_ignore_vcs")?;
+    Ok(FileFlags {
+        hidden,
+        no_ignore,
+        no_ignore_parent,
+        no_ignore_dot,
+        no_ignore_vcs,
+    })
+}
+
+/// The members that are one value.
+fn values_in(members: &Table) -> Result<Values, SettingError>
+    ensures are_read { IfOk result (AreValues (table_view members.now)) }
+    ensures refused { IfErr result (StopsAtFirst (bad_value (table_view members.now))) }
+{
+    let columns = at(Setting::Columns, count_at(members, "columns"))?;
+    let file_flags = file_flags_in(members)?;
+    let treat_doc_strings_as_comments = flag_of(
+        Setting::TreatDocStringsAsComments,
+        members,
+        "treat_doc_strings_as_comments",
+    )?;
+    let sort = at(Setting::Sort, sort_at(members, "sort"))?;
+    Ok(Values {
+        columns,
+        file_flags,
+        treat_doc_strings_as_comments,
+        sort,
+    })
+}
+
 /// The configuration of a file's members; refused at the first that can't be read.
 fn config_in(alloc: Global, table: &LanguageTable, members: &Table) -> Result<Config, SettingError>
     ensures { ReadsSettings table.now (table_view members.now) result }
 {
-    let columns = at(Setting::Columns, count_at(members, "columns"))?;
-    let hidden = at(Setting::Hidden, flag_at(members, "hidden"))?;
-    let no_ignore = at(Setting::NoIgnore, flag_at(members, "no_ignore"))?;
-    let no_ignore_parent = at(
-        Setting::NoIgnoreParent,
-        flag_at(members, "no_ignore_parent"),
-    )?;
-    let no_ignore_dot = at(Setting::NoIgnoreDot, flag_at(members, "no_ignore_dot"))?;
-    let no_ignore_vcs = at(Setting::NoIgnoreVcs, flag_at(members, "no_ignore_vcs"))?;
-    let treat_doc_strings_as_comments = at(
-        Setting::TreatDocStringsAsComments,
-        flag_at(members, "treat_doc_strings_as_comments"),
-    )?;
-    let sort = at(Setting::Sort, sort_at(members, "sort"))?;
+    let values = values_in(members)?;
     let types = at(Setting::Types, types_at(alloc, table, members, "types"))?;
     let languages = at(
         Setting::Languages,
         languages_at(alloc, table, members, "languages"),
     )?;
     Ok(Config {
-        columns,
-        hidden,
-        no_ignore,
-        no_ignore_parent,
-        no_ignore_dot,
-        no_ignore_vcs,
-        treat_doc_strings_as_comments,
-        sort,
+        columns: values.columns,
+        hidden: values.file_flags.hidden,
+        no_ignore: values.file_flags.no_ignore,
+        no_ignore_parent: values.file_flags.no_ignore_parent,
+        no_ignore_dot: values.file_flags.no_ignore_dot,
+        no_ignore_vcs: values.file_flags.no_ignore_vcs,
+        treat_doc_strings_as_comments: values.treat_doc_strings_as_comments,
+        sort: values.sort,
         types,
         languages,
     })

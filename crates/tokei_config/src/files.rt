@@ -6,6 +6,7 @@ ghost use Rattle.tokei_config.specs.Flaws.{cause_of_bytes, cause_of_found, flaw_
 ghost use Rattle.tokei_config.specs.Found.{content_of, found_of, file_found};
 ghost use Rattle.tokei_folders.specs.Answers.{node_content};
 ghost use Rattle.tokei_config.specs.Seen.{settings_of};
+ghost use Rattle.tokei_config.specs.Settings.{first_of_each};
 ghost use Rattle.tokei_folders.specs.Answers.{Told};
 ghost use Rattle.tokei_folders.specs.Places.{joined as joined_places};
 ghost use Rattle.tokei_folders.specs.Tree.{names_of, node_at};
@@ -148,6 +149,26 @@ fn config_of_found(
     }
 }
 
+/// What is read of the file at a place.
+fn read_at<F: Folders>(
+    alloc: Global,
+    table: &LanguageTable,
+    folders: &mut F,
+    place: &str,
+) -> Result<BytesRead, AllocError>
+    ensures same { SameTree F.tree folders.old folders.new }
+    ensures told { Told (F.tree folders.old) (λ t. IfOk result (λ r.
+        option_map settings_of r.config ≡ option_map (settings_of_text table.now)
+        (option_and_then as_text (node_content (node_at t (names_of place.now)))))) }
+    ensures cause { Told (F.tree folders.old) (λ t. IfOk result (λ r.
+        option_map (λ w. w.cause) r.reason
+        ≡ cause_of_found table.now (file_found (node_at t (names_of place.now))))) }
+    ensures honest { NoFault F.memory_faults folders.old folders.new result }
+{
+    let found = found_at(alloc, folders, place)?;
+    config_of_found(alloc, table, found)
+}
+
 /// The flaw of a file at a place.
 fn flaw_of(place: Text, reason: Option<Reason>) -> Option<Flaw>
     ensures { option_map placed_cause result ≡ option_map (λ r. (place, r.cause)) reason }
@@ -196,8 +217,7 @@ fn config_at<F: Folders>(
 {
     let (folder, name) = file;
     let place = joined(alloc, folder, name)?;
-    let found = found_at(alloc, folders, place.as_str())?;
-    let read = config_of_found(alloc, table, found)?;
+    let read = read_at(alloc, table, folders, place.as_str())?;
     push(flaws, flaw_of(place, read.reason))?;
     Ok(read.config)
 }
@@ -229,4 +249,27 @@ pub(crate) fn config_in<F: Folders>(
         Some(config) => Ok(config),
         None => Ok(Config::new()),
     }
+}
+
+/// The configuration behind the current folder's: of each member the first that is there of the
+/// home folder's and that of the folder for configuration. Adds the flaws of their files.
+pub(crate) fn config_behind<F: Folders>(
+    alloc: Global,
+    table: &LanguageTable,
+    folders: &mut F,
+    dirs: &ConfigDirs,
+    flaws: &mut Vec<Flaw>,
+) -> Result<Config, AllocError>
+    ensures same { SameTree F.tree folders.old folders.new }
+    ensures told { Told (F.tree folders.old) (λ t. IfOk result (λ c. settings_of c
+        ≡ first_of_each (settings_of_folder table.now t dirs.now.home)
+        (settings_of_folder table.now t dirs.now.config))) }
+    ensures flawed { Told (F.tree folders.old) (λ t. OnOk result (placed_causes flaws.new.items
+        ≡ placed_causes flaws.old.items
+        ++ (flaws_in table.now t dirs.now.home ++ flaws_in table.now t dirs.now.config))) }
+    ensures honest { NoFault F.memory_faults folders.old folders.new result }
+{
+    let home = config_in(alloc, table, folders, &dirs.home, flaws)?;
+    let config = config_in(alloc, table, folders, &dirs.config, flaws)?;
+    Ok(home.or(config))
 }
