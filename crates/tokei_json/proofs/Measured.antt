@@ -1,5 +1,5 @@
 -- What is put under names is no deeper than what it was taken from.
-use Rattle.std.proofs.Common.{◌≡◌, ℕ, ◌≤◌, List, [], ◌∷◌, arith, Ordering, Less, Equal, Greater, nat_cmp, map, Bor}
+use Rattle.std.proofs.Common.{ℕ, ◌≤◌, List, [], ◌∷◌, arith, Ordering, Less, Equal, Greater, nat_cmp, map, Bor}
 use Rattle.std.specs.BTreeMap.{insert_entry}
 use Rattle.std.specs.Prelude.{max}
 use Rattle.std.specs.Cmp.Lexicographic.{slice_cmp}

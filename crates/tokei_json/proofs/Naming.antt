@@ -6,7 +6,7 @@ use Rattle.std.specs.List.{AllByRecursion}
 use Rattle.std.specs.List.Sorted.{IsStrictlySortedBy}
 use Rattle.std.specs.Map.{keys_of}
 use Rattle.std.specs.Ordering.{match_ordering}
-use Rattle.serde_json.specs.Data.{Data, Members, no_members, member, put}
+use Rattle.serde_json.specs.Data.{Data, Members, member, put}
 use Rattle.tokei_json.specs.ReportData.{name_of, named_data, blobs_data, statistics_data, reports_data}
 use Rattle.tokei_json.specs.Tokens.{named, members_by}
 use Rattle.tokei_json.proofs.Writing.{IsBelow, Ascend}

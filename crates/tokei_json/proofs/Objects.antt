@@ -1,8 +1,8 @@
 -- Objects of a document whose members are written one after another.
-use Rattle.std.proofs.Common.{◌≡◌, ℕ, List, [], ◌∷◌, ◌++◌, Bool, codes, refl, ap}
+use Rattle.std.proofs.Common.{◌≡◌, ℕ, List, [], ◌∷◌, ◌++◌, Bool, codes, refl}
 use Rattle.json.specs.Token.{begin_object, end_object}
 use Rattle.json.specs.Written.{Written}
-use Rattle.serde_json.specs.Data.{Data, boolean, string, object, Members, no_members, member}
+use Rattle.serde_json.specs.Data.{Data, boolean, string, object, no_members, member}
 use Rattle.tokei_json.specs.ReportData.{count}
 use Rattle.tokei_json.specs.Tokens.{IsWritten, IsMember}
 use Rattle.tokei_json.proofs.Writing.{Ascend, lacks_all, lacks_fewer, object_written}

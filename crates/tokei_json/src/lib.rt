@@ -2,6 +2,7 @@
 //! stream, and which JSON values are documents.
 #![tactic(auto)]
 
+mod counted_objects;
 pub mod language_maps;
 pub mod layout;
 pub mod named_table;

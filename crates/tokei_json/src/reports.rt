@@ -8,7 +8,8 @@ ghost use Rattle.tokei_json.specs.ReportData.{reports_data, named_data, line_dat
 ghost use Rattle.tokei_stats.specs.Reports.{report_of, reports_of, children_of};
 ghost use Rattle.tokei_stats.specs.Seen.{blobs_of, entries_of, stats_of};
 
-use serde_json::{Map, Value, json};
+use crate::counted_objects::count_members;
+use serde_json::{Map, Value, json, put};
 use std::alloc::{AllocError, Global};
 use std::collections::BTreeMap;
 use tokei_stats::{CodeStats, Report};
@@ -33,13 +34,10 @@ fn statistics_value(
 ) -> Result<Value, AllocError>
     ensures { IfOk result (λ v. view v ≡ statistics_data table.now (stats_of stats.now)) }
 {
-    let blobs = Value::Object(blobs_value(alloc, table, &stats.blobs)?);
-    json!(in alloc; {
-        "blanks": stats.blanks,
-        "blobs": blobs,
-        "code": stats.code,
-        "comments": stats.comments
-    })
+    let blobs = blobs_value(alloc, table, &stats.blobs)?;
+    let mut members = count_members(alloc, stats.own_counts())?;
+    put(&mut members, alloc, "blobs", Value::Object(blobs))?;
+    Ok(Value::Object(members))
 }
 
 #[cycle(statistics)]
@@ -53,9 +51,8 @@ fn blobs_value(
 {
     let mut members = Map::new(alloc);
     for (language, stats) in blobs.iter() {
-        let name = String::from_str(alloc, name_of(table, *language))?;
         let value = statistics_value(alloc, table, stats)?;
-        drop(members.insert(name, value)?);
+        put(&mut members, alloc, name_of(table, *language), value)?;
     }
     Ok(members)
 }
@@ -77,7 +74,8 @@ pub fn reports_value(
 {
     let mut items = Vec::with_capacity(alloc, reports.len())?;
     for report in reports {
-        items.push(report_value(alloc, table, report)?)?;
+        let value = report_value(alloc, table, report)?;
+        items.push(value)?;
     }
     Ok(Value::Array(items))
 }
@@ -95,9 +93,8 @@ pub fn children_value(
 {
     let mut members = Map::new(alloc);
     for (language, reports) in children.iter() {
-        let name = String::from_str(alloc, name_of(table, *language))?;
         let value = reports_value(alloc, table, reports)?;
-        drop(members.insert(name, value)?);
+        put(&mut members, alloc, name_of(table, *language), value)?;
     }
     Ok(members)
 }

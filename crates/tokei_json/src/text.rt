@@ -67,8 +67,8 @@ fn write_reports_by_language(
     ensures { OnOk result (IsWritten (object (named_data table.now (reports_data table.now)
         (reports_by_language (languages_of languages.now)) no_members)) out.old out.new) }
 {
-    let members = by_name(alloc, table, languages.iter())?;
     out.begin_object()?;
+    let members = by_name(alloc, table, languages.iter())?;
     for (name, language) in members.iter() {
         out.key(*name)?;
         write_reports(alloc, table, &language.reports, out)?;
@@ -147,8 +147,8 @@ fn write_document(alloc: Global, counted: &Counted, out: &mut Writer) -> Result<
         (document counted.now.table.now (languages_of counted.now.languages.now))
         out.old out.new) }
 {
-    let members = members_of(alloc, counted)?;
     out.begin_object()?;
+    let members = members_of(alloc, counted)?;
     for (name, member) in members.iter() {
         out.key(*name)?;
         write_member(alloc, counted, *member, out)?;

@@ -69,8 +69,8 @@ fn write_blobs(
         (object (blobs_data table.now (blobs_of (entries_of blobs.now.entries)) no_members))
         out.old out.new) }
 {
-    let members = by_name(alloc, table, blobs.iter())?;
     out.begin_object()?;
+    let members = by_name(alloc, table, blobs.iter())?;
     for (name, stats) in members.iter() {
         out.key(*name)?;
         write_statistics(alloc, table, *stats, out)?;
@@ -123,8 +123,8 @@ pub(crate) fn write_children(
         (object (named_data table.now (reports_data table.now) (children_of children.now.entries)
         no_members)) out.old out.new) }
 {
-    let members = by_name(alloc, table, children.iter())?;
     out.begin_object()?;
+    let members = by_name(alloc, table, children.iter())?;
     for (name, reports) in members.iter() {
         out.key(*name)?;
         write_reports(alloc, table, *reports, out)?;

@@ -8,8 +8,9 @@ ghost use Rattle.tokei_languages.specs.Summaries.{languages_summary, reports_by_
 ghost use Rattle.tokei_stats.specs.Overflow.{CountsFit};
 ghost use Rattle.tokei_stats.specs.Seen.{sums_of};
 
+use crate::counted_objects::language_object;
 use crate::reports::{children_value, name_of, reports_value};
-use serde_json::{Map, Value, json};
+use serde_json::{Map, Value, put};
 use std::alloc::{AllocError, Global};
 use tokei_languages::{Language, Languages};
 use tokei_stats::{CountError, Sums};
@@ -22,16 +23,14 @@ fn language_value(
 ) -> Result<Value, AllocError>
     ensures { IfOk result (λ v. view v ≡ language_data table.now (language_of language.now)) }
 {
-    let children = Value::Object(children_value(alloc, table, &language.children)?);
+    let counts = Sums {
+        blanks: language.blanks,
+        code: language.code,
+        comments: language.comments,
+    };
+    let children = children_value(alloc, table, &language.children)?;
     let reports = reports_value(alloc, table, &language.reports)?;
-    json!(in alloc; {
-        "blanks": language.blanks,
-        "children": children,
-        "code": language.code,
-        "comments": language.comments,
-        "inaccurate": language.inaccurate,
-        "reports": reports
-    })
+    language_object(alloc, counts, children, language.inaccurate, reports)
 }
 
 fn languages_value(
@@ -44,9 +43,8 @@ fn languages_value(
 {
     let mut members = Map::new(alloc);
     for (language, value) in languages.iter() {
-        let name = String::from_str(alloc, name_of(table, *language))?;
         let value = language_value(alloc, table, value)?;
-        drop(members.insert(name, value)?);
+        put(&mut members, alloc, name_of(table, *language), value)?;
     }
     Ok(members)
 }
@@ -63,9 +61,8 @@ fn reports_by_language_value(
 {
     let mut members = Map::new(alloc);
     for (language, value) in languages.iter() {
-        let name = String::from_str(alloc, name_of(table, *language))?;
         let value = reports_value(alloc, table, &value.reports)?;
-        drop(members.insert(name, value)?);
+        put(&mut members, alloc, name_of(table, *language), value)?;
     }
     Ok(members)
 }
@@ -81,15 +78,9 @@ fn total_of_counts_value(
     ensures { IfOk result (λ v. view v
         ≡ language_data table.now (total_of (languages_of languages.now))) }
 {
-    let children = Value::Object(reports_by_language_value(alloc, table, languages)?);
-    json!(in alloc; {
-        "blanks": counts.blanks,
-        "children": children,
-        "code": counts.code,
-        "comments": counts.comments,
-        "inaccurate": languages.is_inaccurate(),
-        "reports": []
-    })
+    let children = reports_by_language_value(alloc, table, languages)?;
+    let reports = Value::Array(Vec::new(alloc));
+    language_object(alloc, counts, children, languages.is_inaccurate(), reports)
 }
 
 /// The total of the languages. `Overflow` only where one of its counts passes the greatest `usize`,
@@ -119,8 +110,7 @@ fn document_of_total(
     ensures { IfOk result (λ v. view v ≡ document table.now (languages_of languages.now)) }
 {
     let mut members = languages_value(alloc, table, languages)?;
-    let name = String::from_str(alloc, "Total")?;
-    drop(members.insert(name, total)?);
+    put(&mut members, alloc, "Total", total)?;
     Ok(Value::Object(members))
 }
 

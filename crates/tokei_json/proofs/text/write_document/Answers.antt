@@ -1,6 +1,6 @@
-use Rattle.std.proofs.Common.{◌≡◌, [], codes, refl, sym, ap, ◌∙◌, subst}
+use Rattle.std.proofs.Common.{◌≡◌, ◌∙◌, subst}
 use Rattle.std.proofs.lemmas.Result.{on_ok_weaker}
-use Rattle.serde_json.specs.Data.{object, no_members, member}
+use Rattle.serde_json.specs.Data.{no_members, member}
 use Rattle.tokei_json.specs.Members.{member_data}
 use Rattle.tokei_json.specs.Tokens.{IsWritten, members_by}
 use Rattle.tokei_json.proofs.Naming.{seen_by, ascend}

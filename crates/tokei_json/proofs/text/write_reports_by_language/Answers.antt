@@ -1,9 +1,9 @@
-use Rattle.std.proofs.Common.{◌≡◌, [], codes, refl, sym, ap, ◌∙◌, subst}
+use Rattle.std.proofs.Common.{◌≡◌, [], sym, ap, ◌∙◌, subst}
 use Rattle.std.proofs.lemmas.Result.{on_ok_weaker}
 use Rattle.serde_json.specs.Data.{object, no_members, member}
-use Rattle.tokei_json.specs.Tokens.{IsWritten, members_by, named}
+use Rattle.tokei_json.specs.Tokens.{IsWritten, members_by}
 use Rattle.tokei_json.specs.Document.{reports_data, named_data}
-use Rattle.tokei_languages.specs.Seen.{entries_of, language_of, languages_of, reports_of}
+use Rattle.tokei_languages.specs.Seen.{language_of, languages_of, reports_of}
 use Rattle.tokei_languages.specs.Summaries.{reports_by_language}
 use Rattle.tokei_languages.specs.declared.language.Language.{Language}
 use Rattle.tokei_json.proofs.Naming.{now_of, seen_by, ascend, named_members, named_reports}

@@ -1,8 +1,8 @@
-use Rattle.std.proofs.Common.{◌≡◌, codes, refl, sym, ap, ◌∙◌, subst, rules}
+use Rattle.std.proofs.Common.{◌≡◌, codes, refl, ap, ◌∙◌, subst, rules}
 use Rattle.std.proofs.lemmas.Result.{on_ok_weaker}
 use Rattle.serde_json.specs.Data.{array, boolean, object, no_items, no_members}
-use Rattle.tokei_json.specs.Document.{count, reports_data, named_data, language_data}
-use Rattle.tokei_json.specs.Tokens.{IsMember, IsWritten}
+use Rattle.tokei_json.specs.Document.{reports_data, named_data, language_data}
+use Rattle.tokei_json.specs.Tokens.{IsWritten}
 use Rattle.tokei_json.proofs.Objects.{language_written, totalled}
 use Rattle.tokei_json.proofs.Writing.{member_of}
 use Rattle.tokei_languages.specs.Seen.{languages_of}

@@ -1,9 +1,9 @@
-use Rattle.std.proofs.Common.{◌≡◌, ◌+◌, ◌*◌, ◌<◌, ◌≤◌, [], ◌∷◌, map, codes, refl, sym, ap, ◌∙◌, subst, arith}
+use Rattle.std.proofs.Common.{◌≡◌, ◌+◌, ◌*◌, ◌<◌, ◌≤◌, [], codes, sym, ap, ◌∙◌, subst, arith}
 use Rattle.std.proofs.lemmas.Result.{on_ok_weaker}
 use Rattle.std.specs.List.{AllByRecursion}
 use Rattle.std.specs.Map.{values_of}
 use Rattle.serde_json.specs.Data.{object, no_members, member}
-use Rattle.tokei_json.specs.ReportData.{count, statistics_data, blobs_data}
+use Rattle.tokei_json.specs.ReportData.{statistics_data, blobs_data}
 use Rattle.tokei_json.specs.Tokens.{IsWritten, members_by, named}
 use Rattle.tokei_json.proofs.Measured.{named_within, AreWithin, AreWithin-seen}
 use Rattle.tokei_json.proofs.Naming.{now_of, seen_by, ascend, named_members, named_blobs}

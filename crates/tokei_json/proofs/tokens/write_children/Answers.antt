@@ -1,4 +1,4 @@
-use Rattle.std.proofs.Common.{◌≡◌, [], codes, refl, sym, ap, ◌∙◌, subst}
+use Rattle.std.proofs.Common.{◌≡◌, [], ap, ◌∙◌, subst}
 use Rattle.std.proofs.lemmas.Result.{on_ok_weaker}
 use Rattle.serde_json.specs.Data.{object, no_members, member}
 use Rattle.tokei_json.specs.Tokens.{IsWritten, members_by, named}
