@@ -131,7 +131,13 @@ impl LanguageMatchers {
     /// another choice can begin at the second: then no search stops at the first. It is `at` in any
     /// other language.
     #[inline(always)]
-    pub fn comment_end_by_second(&self, first: u8, second: u8, text: &[u8], at: usize) -> usize
+    pub(crate) fn comment_end_by_second(
+        &self,
+        first: u8,
+        second: u8,
+        text: &[u8],
+        at: usize,
+    ) -> usize
         requires { at ≤ length text.now }
         ensures low { at ≤ result }
         ensures high { result ≤ length text.now }
