@@ -65,8 +65,8 @@ fn columns<'a>(alloc: Global) -> Arg<'a>
 
 /// The options on what the report lists.
 fn with_listing<'a>(alloc: Global, command: Command<'a>) -> Result<Command<'a>, AllocError>
-    ensures { IfOk result (λ c. app_of c
-        ≡ with_rule (with_rule (app_of command.entry) (lettered (codes "f") (switch (codes "files"))))
+    ensures { IfOk result (λ c. app_of c ≡ with_rule
+        (with_rule (app_of command.entry) (lettered (codes "f") (switch (codes "files"))))
         (lettered (codes "C") (switch (codes "compact")))) }
 {
     let files = flag(alloc, "files", "Also lists every file.").short('f');

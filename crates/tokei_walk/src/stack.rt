@@ -175,8 +175,8 @@ fn push_folder(
     Ok(())
 }
 
-/// Adds the name of an entry that is a folder to the context; its place, or none where it is dropped
-/// or stands too deep.
+/// Adds the name of an entry that is a folder to the context; its place, or none where it is
+/// dropped or stands too deep.
 #[tactic(auto, using(crate::proofs::Growing::grows_same, crate::proofs::Growing::grows_on))]
 fn push_folder_name(
     settings: &Settings,
