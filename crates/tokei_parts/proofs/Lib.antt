@@ -20,6 +20,7 @@ pub mod PartReading
 pub mod PartWhole
 pub mod Pieces
 pub mod PlainBytes
+pub mod Reaching
 pub mod Stack
 pub mod Stepping
 pub mod TokenEnds

@@ -21,6 +21,7 @@ pub mod Parts
 pub mod Places
 pub mod PlainBytes
 pub mod Progress
+pub mod Reached
 pub mod ReadingOf
 pub mod Running
 pub mod RustChildren

@@ -3,8 +3,7 @@ use Rattle.std.specs.Prelude.{◌≡◌, ℕ, ◌+◌, ◌-◌, ◌<◌, ◌≤�
 use Rattle.tokei_parts.specs.Lines.{first_line, line_len}
 use Rattle.tokei_parts.specs.Items.{Block, Mode}
 use Rattle.tokei_parts.specs.Choice.{Choice, choice}
-use Rattle.tokei_parts.specs.Modes.{Chain}
-use Rattle.tokei_parts.specs.Progress.{IsPart, Leads}
+use Rattle.tokei_parts.specs.Progress.{IsPart}
 use Rattle.tokei_parts.specs.ReadingOf.{row_in, blocks_of}
 use Rattle.tokei_parts.specs.declared.place.Place.{Place}
 
@@ -50,10 +49,3 @@ StopsAt place stop = stop ≡ place.at + length (first_line (text_from place pla
 -- from the place to before `to` no child opens in plain text
 abbrev pub Childless : Place → ℕ → Type 0
 Childless place to = (q : ℕ) → place.at ≤ q → q < to → block_from place q ≡ None
-
--- each choice from the place to before `to` takes a byte, where these items enclose it
-abbrev pub LeadsTo : Place → Chain → ℕ → Type 0
-LeadsTo place chain to =
-    Leads (row_in place.reading.now) (blocks_of place.reading.now) place.behind_child chain
-    (to - place.at) (to - place.at)
-    chain (text_from place place.at)

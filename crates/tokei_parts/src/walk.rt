@@ -1,14 +1,16 @@
 //! A part is walked with a stack of the items that enclose the place.
-ghost use Rattle.std.specs.Prelude.{◌≡◌, ℕ, ◌+◌, ◌-◌, ◌<◌, ◌≤◌, true, false, None, Some, is_some, IfOk, length};
-ghost use Rattle.std.specs.Prelude.{slice_index};
+ghost use Rattle.std.specs.Prelude.{◌≡◌, ℕ, ◌+◌, ◌<◌, ◌≤◌, true, false, None, Some};
+ghost use Rattle.std.specs.Prelude.{is_some, IfOk, length, slice_index};
 ghost use Rattle.tokei_parts.specs.Choice.Choice.{takes_byte};
-ghost use Rattle.tokei_parts.specs.Lines.{line_len};
-ghost use Rattle.tokei_parts.specs.Modes.{innermost};
+ghost use Rattle.tokei_parts.specs.Items.{kind_in};
+ghost use Rattle.tokei_parts.specs.Modes.{Chain, innermost};
 ghost use Rattle.tokei_parts.specs.PlainBytes.{IsPlainByte};
-ghost use Rattle.tokei_parts.specs.Places.{Begins, Childless, IsAt, LeadsTo};
-ghost use Rattle.tokei_parts.specs.Places.{block_from, block_here, choice_here, text_from, text_of};
+ghost use Rattle.tokei_parts.specs.Places.{Begins, IsAt};
+ghost use Rattle.tokei_parts.specs.Places.{block_from, block_here, choice_here, text_of};
 ghost use Rattle.tokei_parts.specs.ReadingOf.{row_in, blocks_of};
-ghost use Rattle.tokei_parts.specs.Progress.{IsPart, IsClosable, Leads};
+ghost use Rattle.tokei_parts.specs.Progress.{IsClosable};
+ghost use Rattle.tokei_parts.specs.Reached.{Advances, BreaksOff, GoesOn, IsChildless, IsReached};
+ghost use Rattle.tokei_parts.specs.Reached.{Reaches, StepsTo, part_stop};
 ghost use Rattle.tokei_parts.specs.SeenChoices.{choice_of, mode_of};
 ghost use Rattle.tokei_parts.specs.Seen.{block_of, chain_of};
 ghost use Rattle.tokei_parts.specs.Walked.{Moves, Reads};
@@ -34,6 +36,17 @@ pub enum Move {
     Rest,
     /// A child opens.
     Child,
+}
+
+/// How far the walk of a part has come.
+#[derive(Clone, Copy)]
+pub struct Reach {
+    /// The place; a line comment leads behind the newline.
+    pub at: usize,
+    /// No child opens in plain text from there to before that place.
+    pub child: usize,
+    /// How many choices were made.
+    pub steps: usize,
 }
 
 /// What a part comes to.
@@ -142,40 +155,40 @@ fn choice_at<'a>(
     )
 }
 
-/// Takes the bytes from the place on to before `to`, if that lies ahead, and answers the place
-/// behind them. Nothing but the byte itself can begin at any, in the mode of the stack's items.
-/// Each is a choice, which `choice_at` makes.
+/// Takes the bytes from the place that the walk has come to on to before `to`, if that lies ahead.
+/// Nothing but the byte itself can begin at any, in the mode of the stack's items. Each is a
+/// choice, which `choice_at` makes.
 #[inline(always)]
 fn take_bytes<'a>(
-    place: &Place<'_, 'a>,
+    part: &Place<'_, 'a>,
     stack: &[Enclosure<'a>],
     mode: Option<Enclosure<'a>>,
     to: usize,
-    steps: &mut usize,
-) -> usize
+    reach: &mut Reach,
+)
     requires mode { mode_of mode ≡ innermost (chain_of stack.now) }
-    requires closable { IsClosable (chain_of stack.now) }
-    requires here { IsAt place.now }
-    requires few { steps.old ≤ place.now.at - place.now.start }
-    requires within { place.now.at < to → to ≤ place.now.end }
-    requires plain { (p : ℕ) → place.now.at ≤ p → p < to
-        → IsPlainByte place.now.reading.now.matchers.now (mode_of mode)
-        (slice_index (text_of place.now) p) }
-    requires childless { innermost (chain_of stack.now) ≡ None → Childless place.now to }
-    ensures low { place.now.at ≤ result }
-    ensures high { result ≤ place.now.end }
-    ensures part { IsPart (text_of place.now) place.now.behind_child place.now.start result }
-    ensures line { place.now.end ≡ result + line_len (text_from place.now result) }
-    ensures counted { steps.new ≡ steps.old + (result - place.now.at) }
-    ensures leads { LeadsTo place.now (chain_of stack.now) result }
+    requires reached { IsReached part.now (chain_of stack.now) reach.old }
+    requires some { reach.old.at < part.now.end }
+    requires within { reach.old.at < to → to ≤ part.now.end }
+    requires plain { (p : ℕ) → reach.old.at ≤ p → p < to
+        → IsPlainByte part.now.reading.now.matchers.now (mode_of mode)
+        (slice_index (text_of part.now) p) }
+    requires childless { innermost (chain_of stack.now) ≡ None
+        → IsChildless part.now reach.old.at to }
+    ensures child { reach.new.child ≡ reach.old.child }
+    ensures low { reach.old.at ≤ reach.new.at }
+    ensures high { reach.new.at ≤ part.now.end }
+    ensures goes_on { GoesOn part.now (chain_of stack.now) reach.old
+        (chain_of stack.now) reach.new }
 {
-    let mut next = place.at;
-    while next < to {
-        let here = Place { at: next, ..*place };
-        let _byte = choice_at(&here, mode, false, true, steps);
-        next += 1;
+    while reach.at < to {
+        let here = Place {
+            at: reach.at,
+            ..*part
+        };
+        let _byte = choice_at(&here, mode, false, true, &mut reach.steps);
+        reach.at += 1;
     }
-    next
 }
 
 /// Takes the choice at a place, which `choice_at` makes, in the mode of the stack's items; `opens`
@@ -226,6 +239,42 @@ fn take_choice<'a>(
     }
 }
 
+/// Takes the choice at the place that the walk has come to, in the mode of the stack's items, and
+/// goes on behind what it takes; `opens` says whether a child can open there.
+#[inline(always)]
+fn take_step<'a>(
+    part: &Place<'_, 'a>,
+    stack: &mut Vec<Enclosure<'a>>,
+    mode: Option<Enclosure<'a>>,
+    opens: bool,
+    reach: &mut Reach,
+) -> Result<Move, AllocError>
+    requires mode { mode_of mode ≡ innermost (chain_of stack.old.items) }
+    requires reached { IsReached part.now (chain_of stack.old.items) reach.old }
+    requires some { reach.old.at < part.now.end }
+    requires child { opens ≡ true → is_some (block_from part.now reach.old.at) ≡ true }
+    requires childless { opens ≡ false → innermost (chain_of stack.old.items) ≡ None
+        → block_from part.now reach.old.at ≡ None }
+    ensures child { IfOk result (λ m. m ≡ Move.Child → opens ≡ true) }
+    ensures plain { IfOk result (λ m. m ≡ Move.Rest → innermost (chain_of stack.old.items) ≡ None) }
+    ensures kept { IfOk result (λ m. (n : ℕ) → m ≡ Move.On n → stack.new.items ≡ stack.old.items) }
+    ensures same { reach.new.child ≡ reach.old.child }
+    ensures steps { IfOk result (StepsTo part.now (chain_of stack.old.items) reach.old
+        (chain_of stack.new.items) reach.new) }
+{
+    let here = Place {
+        at: reach.at,
+        ..*part
+    };
+    let taken = take_choice(&here, stack, mode, opens, &mut reach.steps)?;
+    match taken {
+        Move::On(len) | Move::Turn(len) => reach.at += len,
+        Move::Rest => reach.at = line_stop(part.reading.text, part.end),
+        Move::Child => {}
+    }
+    Ok(taken)
+}
+
 /// Takes the choice at the newline that ends a line in that mode. No child opens there.
 #[inline(always)]
 fn take_newline<'a>(place: &Place<'_, 'a>, mode: Option<Enclosure<'a>>, steps: &mut usize)
@@ -239,51 +288,147 @@ fn take_newline<'a>(place: &Place<'_, 'a>, mode: Option<Enclosure<'a>>, steps: &
     let _newline = choice_at(place, mode, false, plain, steps);
 }
 
-/// Takes the choices from the place on within the item that encloses it, up to behind its closer or
-/// another item's opener, or to the line's end, and answers the place behind them.
+/// Takes the choices from the place that the walk has come to within the item that encloses it, up
+/// to behind its closer or another item's opener, or to the line's end.
 #[inline(always)]
 fn take_within<'a>(
-    place: &Place<'_, 'a>,
+    part: &Place<'_, 'a>,
     stack: &mut Vec<Enclosure<'a>>,
     item: Enclosure<'a>,
-    steps: &mut usize,
-) -> Result<usize, AllocError>
+    reach: &mut Reach,
+) -> Result<(), AllocError>
     requires within { mode_of (Some item) ≡ innermost (chain_of stack.old.items) }
-    requires closable { IsClosable (chain_of stack.old.items) }
-    requires here { IsAt place.now }
-    requires some { place.now.at < place.now.end }
-    requires few { steps.old ≤ place.now.at - place.now.start }
-    ensures on { IfOk result (λ at. place.now.at < at) }
-    ensures closable { IfOk result (λ at. IsClosable (chain_of stack.new.items)) }
-    ensures part { IfOk result (λ at. IsPart (text_of place.now) place.now.behind_child
-        place.now.start at) }
-    ensures line { IfOk result (λ at. place.now.end ≡ at + line_len (text_from place.now at)) }
-    ensures more { steps.old ≤ steps.new }
-    ensures few { IfOk result (λ at. steps.new ≤ at - place.now.start) }
-    ensures leads { IfOk result (λ at. Leads (row_in place.now.reading.now)
-        (blocks_of place.now.reading.now) place.now.behind_child (chain_of stack.old.items)
-        (at - place.now.at) (steps.new - steps.old) (chain_of stack.new.items)
-        (text_from place.now place.now.at)) }
+    requires reached { IsReached part.now (chain_of stack.old.items) reach.old }
+    requires some { reach.old.at < part.now.end }
+    ensures child { IfOk result (λ _. reach.new.child ≡ reach.old.child) }
+    ensures advances { IfOk result (λ _. Advances part.now (chain_of stack.old.items) reach.old
+        (chain_of stack.new.items) reach.new) }
 {
-    let reading = place.reading;
+    let reading = part.reading;
     let mode = Some(item);
-    let end = place.end;
-    let mut at = place.at;
-    while at < end {
-        let here = Place { at, ..*place };
-        let plain = item_end(reading.matchers, item, reading.text, at, end);
-        at = take_bytes(&here, stack, mode, plain, steps);
-        if end <= at {
-            return Ok(at);
+    while reach.at < part.end {
+        let plain = item_end(reading.matchers, item, reading.text, reach.at, part.end);
+        take_bytes(part, stack, mode, plain, reach);
+        if part.end <= reach.at {
+            return Ok(());
         }
-        let there = Place { at, ..*place };
-        match take_choice(&there, stack, mode, false, steps)? {
-            Move::On(len) => at += len,
-            Move::Turn(len) => return Ok(at + len),
+        match take_step(part, stack, mode, false, reach)? {
+            Move::On(_) => {}
+            Move::Turn(_) => return Ok(()),
             Move::Rest | Move::Child => unreachable!(),
         }
     }
-    Ok(at)
+    Ok(())
+}
+
+/// Takes the bytes of plain text from the place that the walk has come to, up to where a choice or
+/// a child can begin. Where the reading skips, it looks for the part's children ahead. The line
+/// stops at `stop`.
+#[inline(always)]
+fn take_plain<'a>(
+    part: &Place<'_, 'a>,
+    search: &mut BlockSearch<'a>,
+    stack: &[Enclosure<'a>],
+    stop: usize,
+    reach: &mut Reach,
+)
+    requires plain { innermost (chain_of stack.now) ≡ None }
+    requires reached { IsReached part.now (chain_of stack.now) reach.old }
+    requires some { reach.old.at < part.now.end }
+    requires stop { stop ≡ part_stop part.now }
+    requires childless { IsChildless part.now reach.old.at reach.old.child }
+    requires searched { search.old ≡ text_of part.now }
+    ensures same { search.new ≡ search.old }
+    ensures childless { IsChildless part.now reach.new.at reach.new.child }
+    ensures low { reach.old.at ≤ reach.new.at }
+    ensures goes_on { GoesOn part.now (chain_of stack.now) reach.old
+        (chain_of stack.now) reach.new }
+{
+    let reading = part.reading;
+    let here = Place {
+        at: reach.at,
+        ..*part
+    };
+    reach.child = next_child(&here, search, stop, reach.child);
+    let end = part.end;
+    let plain = plain_end(
+        reading.matchers,
+        reading.text,
+        reach.at,
+        end.min(reach.child),
+    );
+    take_bytes(part, stack, None, plain, reach);
+}
+
+/// Takes the choice at the place of plain text that the walk has come to, and answers whether a
+/// child opens there and breaks the part off. The child is put into `found`.
+#[inline(always)]
+fn breaks_off<'a>(
+    part: &Place<'_, 'a>,
+    search: &mut BlockSearch<'a>,
+    stack: &mut Vec<Enclosure<'a>>,
+    found: &mut Block<'a>,
+    reach: &mut Reach,
+) -> Result<bool, AllocError>
+    requires plain { innermost (chain_of stack.old.items) ≡ None }
+    requires reached { IsReached part.now (chain_of stack.old.items) reach.old }
+    requires some { reach.old.at < part.now.end }
+    requires childless { IsChildless part.now reach.old.at reach.old.child }
+    requires searched { search.old ≡ text_of part.now }
+    ensures same { search.new ≡ search.old }
+    ensures childless { IfOk result (λ _. IsChildless part.now reach.new.at reach.new.child) }
+    ensures found { IfOk result (λ breaks. breaks ≡ true
+        → block_from part.now reach.new.at ≡ Some (block_of found.new)) }
+    ensures breaks { IfOk result (λ breaks. breaks ≡ true → BreaksOff part.now
+        (chain_of stack.old.items) reach.old (chain_of stack.new.items) reach.new) }
+    ensures advances { IfOk result (λ breaks. breaks ≡ false → Advances part.now
+        (chain_of stack.old.items) reach.old (chain_of stack.new.items) reach.new) }
+{
+    let here = Place {
+        at: reach.at,
+        ..*part
+    };
+    let opens = finds_child(&here, reach.child, search, found);
+    match take_step(part, stack, None, opens, reach)? {
+        Move::Child => Ok(true),
+        _ => Ok(false),
+    }
+}
+
+/// What a part comes to whose line, which stops at `stop`, was walked to its end. It began in an
+/// item of the kind `begun`, or in plain text.
+#[inline(always)]
+fn end_line<'a>(
+    part: &Place<'_, 'a>,
+    begun: Option<ItemKind>,
+    stack: &[Enclosure<'a>],
+    stop: usize,
+    reach: Reach,
+) -> PartRead
+    requires reached { IsReached part.now (chain_of stack.now) reach }
+    requires ended { part.now.end ≤ reach.at }
+    requires some { part.now.start < length (text_of part.now) }
+    requires within { stop ≤ length (text_of part.now) }
+    requires stop { stop ≡ part_stop part.now }
+    ensures reads { (chain : Chain) → kind_in (innermost chain) ≡ begun
+        → Reaches part.now chain (chain_of stack.now) reach.at reach.steps
+        → Reads (row_in part.now.reading.now) (blocks_of part.now.reading.now)
+        part.now.behind_child part.now.reading.now.docs_are_comments chain (chain_of stack.now)
+        part.now.start (text_of part.now) result }
+    ensures line { (at : ℕ) → result.end ≡ PartEnd.Broken at → ⊥ }
+{
+    let ended = innermost(stack);
+    let mut steps = reach.steps;
+    if reach.at < stop {
+        let newline = Place {
+            at: reach.at,
+            ..*part
+        };
+        take_newline(&newline, ended, &mut steps);
+    }
+    let class = class_by(part.reading, begun, part.start, stop, ended);
+    let end = PartEnd::Line(class, stop);
+    PartRead { end, steps }
 }
 
 /// Reads the part that begins at the place. Where the reading skips, it looks for the part's
@@ -307,42 +452,27 @@ pub fn read_part<'a>(
     ensures found { IfOk result (λ r. (at : ℕ) → r.end ≡ PartEnd.Broken at
         → block_from part.now at ≡ Some (block_of found.new)) }
 {
-    let reading = part.reading;
-    let start = part.start;
-    let end = part.end;
     let begun = kind_of(innermost(stack));
-    let stop = line_stop(reading.text, end);
-    let mut steps = 0;
-    let mut child = start;
-    let mut at = start;
-    while at < end {
-        let here = Place { at, ..*part };
+    let stop = line_stop(part.reading.text, part.end);
+    let mut reach = Reach {
+        at: part.start,
+        child: part.start,
+        steps: 0,
+    };
+    while reach.at < part.end {
         if let Some(item) = innermost(stack) {
-            at = take_within(&here, stack, item, &mut steps)?;
+            take_within(part, stack, item, &mut reach)?;
             continue;
         }
-        child = next_child(&here, search, stop, child);
-        let plain = plain_end(reading.matchers, reading.text, at, end.min(child));
-        at = take_bytes(&here, stack, None, plain, &mut steps);
-        if end <= at {
+        take_plain(part, search, stack, stop, &mut reach);
+        if part.end <= reach.at {
             continue;
         }
-        let there = Place { at, ..*part };
-        let opens = finds_child(&there, child, search, found);
-        match take_choice(&there, stack, None, opens, &mut steps)? {
-            Move::On(len) | Move::Turn(len) => at += len,
-            Move::Rest => at = stop,
-            Move::Child => {
-                let end = PartEnd::Broken(at);
-                return Ok(PartRead { end, steps });
-            }
+        if breaks_off(part, search, stack, found, &mut reach)? {
+            let end = PartEnd::Broken(reach.at);
+            let steps = reach.steps;
+            return Ok(PartRead { end, steps });
         }
     }
-    if at < stop {
-        let newline = Place { at, ..*part };
-        take_newline(&newline, innermost(stack), &mut steps);
-    }
-    let class = class_by(reading, begun, start, stop, innermost(stack));
-    let end = PartEnd::Line(class, stop);
-    Ok(PartRead { end, steps })
+    Ok(end_line(part, begun, stack, stop, reach))
 }

@@ -1,0 +1,55 @@
+use Rattle.std.proofs.Common.{◌≡◌, ◌∙◌, ℕ, ◌+◌, ◌⊎◌, inl, inr, refl, sym, subst}
+use Rattle.tokei_parts.specs.Modes.{Chain}
+use Rattle.tokei_parts.specs.Places.{text_of}
+use Rattle.tokei_parts.specs.Reached.{StepsTo}
+use Rattle.tokei_parts.specs.Seen.{chain_of}
+use Rattle.tokei_parts.specs.declared.place.Place.{Place}
+use Rattle.tokei_parts.specs.declared.walk.Move.{Move}
+use Rattle.tokei_parts.specs.declared.walk.Move.TheVariants.{On, Turn}
+use Rattle.tokei_parts.specs.declared.walk.Reach.{Reach}
+use Rattle.tokei_parts.proofs.LineEnds.{end_is}
+use Rattle.tokei_parts.proofs.Reaching.{advance_goes, advance_rest, child_breaks, end_in_text}
+use Rattle.tokei_parts.proofs.Walking.{MovesIn}
+use Rattle.tokei_parts.proofs.walk.take_step.Goals as goal
+
+pub line_stop-reach-requires : goal.line_stop-reach-requires
+line_stop-reach-requires c = end_in_text c.args.part.now c.requires.reached.1.begins
+
+pub returns-in-On-clause-steps : goal.returns-in-On-clause-steps
+returns-in-On-clause-steps c =
+    let p : Place = c.args.part.now in
+    let before : Chain = chain_of c.args.stack.now.items in
+    let behind : Chain = chain_of c.take_choice.new.stack.items in
+    let reach : Reach = c.args.reach.now in
+    let further : Reach = record { at = reach.at + c.in-On.len; child = reach.child; steps = c.take_choice.new.steps } in
+    let same : c.in_ok-taken.taken ≡ c.in-On.taken = cc in
+    let steps : (m : Move) → c.in_ok-taken.taken ≡ m → (MovesIn p before behind reach.at m → StepsTo p before reach behind further m) → StepsTo p before reach behind further c.in-On.taken =
+    λ m e step. subst (StepsTo p before reach behind further) (sym e ∙ same) (step (subst (MovesIn p before behind reach.at) e c.in_ok-taken.ensures.takes)) in
+    elim c.in-On.is [
+      | inl e ↦ steps (On c.in-On.len) e (λ moves. advance_goes p before behind reach further c.requires.some c.in_ok-taken.ensures.counted c.in-On.len moves refl)
+      | inr e ↦ steps (Turn c.in-On.len) e (λ moves. advance_goes p before behind reach further c.requires.some c.in_ok-taken.ensures.counted c.in-On.len moves refl)
+    ]
+
+pub returns-in-Rest-clause-steps : goal.returns-in-Rest-clause-steps
+returns-in-Rest-clause-steps c =
+    let p : Place = c.args.part.now in
+    let before : Chain = chain_of c.args.stack.now.items in
+    let behind : Chain = chain_of c.take_choice.new.stack.items in
+    let reach : Reach = c.args.reach.now in
+    let further : Reach = record { at = c.line_stop-reach.result; child = reach.child; steps = c.take_choice.new.steps } in
+    let begins = c.requires.reached.1.begins in
+    subst (StepsTo p before reach behind further) (sym c.in-Rest.is)
+    (advance_rest p before behind reach further c.requires.some c.in_ok-taken.ensures.counted
+    (subst (MovesIn p before behind reach.at) c.in-Rest.is c.in_ok-taken.ensures.takes)
+    c.requires.reached (end_is (text_of p) p.start p.end c.line_stop-reach.result begins.part.high begins.line c.line_stop-reach.ensures.more c.line_stop-reach.ensures.last))
+
+pub returns-in-Child-clause-steps : goal.returns-in-Child-clause-steps
+returns-in-Child-clause-steps c =
+    let p : Place = c.args.part.now in
+    let before : Chain = chain_of c.args.stack.now.items in
+    let behind : Chain = chain_of c.take_choice.new.stack.items in
+    let reach : Reach = c.args.reach.now in
+    let further : Reach = record { at = reach.at; child = reach.child; steps = c.take_choice.new.steps } in
+    let opens = subst (MovesIn p before behind reach.at) c.in-Child.is c.in_ok-taken.ensures.takes in
+    subst (StepsTo p before reach behind further) (sym c.in-Child.is)
+    (child_breaks p before behind reach further c.requires.some c.in_ok-taken.ensures.counted opens.0 opens.1 refl)
