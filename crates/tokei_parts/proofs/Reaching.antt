@@ -1,6 +1,5 @@
 -- The walk of a part goes on from the place that it has come to.
 use Rattle.std.proofs.Common.{◌≡◌, ◌∙◌, ℕ, ◌+◌, ◌-◌, ◌<◌, ◌≤◌, ◌⊎◌, inl, inr, sym, ap, subst, List, length, drop, arith, length-drop}
-use Rattle.std.proofs.lemmas.List.{drop-drop}
 use Rattle.tokei_parts.specs.Items.{Block}
 use Rattle.tokei_parts.specs.Lines.{first_line, line_len}
 use Rattle.tokei_parts.specs.Class.{class_of}
@@ -17,7 +16,7 @@ use Rattle.tokei_parts.specs.declared.place.Place.{Place}
 use Rattle.tokei_parts.specs.declared.walk.PartEnd.TheVariants.{Broken}
 use Rattle.tokei_parts.specs.declared.walk.Reach.{Reach}
 use Rattle.tokei_parts.proofs.Blocks.{blocks_fit}
-use Rattle.tokei_parts.proofs.Leading.{lead_none, line_len-drop}
+use Rattle.tokei_parts.proofs.Leading.{lead_none}
 use Rattle.tokei_parts.proofs.LineEnds.{end_later, end_within, first_line-low, first_line-high, below_or}
 use Rattle.tokei_parts.proofs.Lines.{length-whole, length-broken, line_reads}
 use Rattle.tokei_parts.proofs.PartFronts.{part_anew, part_on}

@@ -1,7 +1,7 @@
-use Rattle.std.proofs.Common.{◌≡◌, true, false, ◌∙◌, ℕ, ◌+◌, ◌<◌, ◌≤◌, List, length, drop, refl, sym, subst, arith}
+use Rattle.std.proofs.Common.{◌≡◌, true, false, ◌∙◌, ℕ, ◌+◌, ◌<◌, ◌≤◌, length, drop, refl, sym, subst, arith}
 use Rattle.tokei_parts.specs.Choice.{choice}
 use Rattle.tokei_parts.specs.Choice.Choice.{takes_byte}
-use Rattle.tokei_parts.specs.Modes.{Chain, innermost}
+use Rattle.tokei_parts.specs.Modes.{Chain}
 use Rattle.tokei_parts.specs.Places.{block_from, text_of}
 use Rattle.tokei_parts.specs.Reached.{Reaches}
 use Rattle.tokei_parts.specs.ReadingOf.{row_in}

@@ -1,7 +1,15 @@
-use Rattle.std.proofs.Common.{◌∙◌, arith}
+use Rattle.std.proofs.Common.{◌∙◌, sym, arith}
 use Rattle.tokei_parts.specs.Seen.{chain_of}
-use Rattle.tokei_parts.proofs.Reaching.{end_in_text, stop_low, stops_here}
+use Rattle.tokei_parts.proofs.Reaching.{end_in_text, reach_here, stop_low, stops_here}
 use Rattle.tokei_parts.proofs.walk.take_plain.Goals as goal
+
+pub next_child-reach-requires-clause-here : goal.next_child-reach-requires-clause-here
+next_child-reach-requires-clause-here c =
+    let begun = c.requires.reached in
+    reach_here c.args.part.now begun.0 (chain_of c.args.stack.now) c.args.reach.now.at c.args.reach.now.steps begun.1 c.requires.some
+
+pub next_child-reach-requires-clause-childless : goal.next_child-reach-requires-clause-childless
+next_child-reach-requires-clause-childless c = c.requires.childless
 
 pub next_child-reach-requires-clause-inside : goal.next_child-reach-requires-clause-inside
 next_child-reach-requires-clause-inside c =
@@ -15,3 +23,16 @@ next_child-reach-requires-clause-line c =
 
 pub plain_end-plain-requires : goal.plain_end-plain-requires
 plain_end-plain-requires c = omega (arith, end_in_text c.args.part.now c.requires.reached.1.begins, c.min.ensures)
+
+pub take_bytes-requires-clause-mode : goal.take_bytes-requires-clause-mode
+take_bytes-requires-clause-mode c = sym c.requires.plain
+
+pub take_bytes-requires-clause-childless : goal.take_bytes-requires-clause-childless
+take_bytes-requires-clause-childless c = λ _ q low high.
+    c.next_child-reach.ensures.childless q low (omega (arith, low, high, c.min.ensures, c.plain_end-plain.ensures.high))
+
+pub take_bytes-requires-clause-plain : goal.take_bytes-requires-clause-plain
+take_bytes-requires-clause-plain c = c.plain_end-plain.ensures.plain
+
+pub returns-clause-childless : goal.returns-clause-childless
+returns-clause-childless c = λ q low high. c.next_child-reach.ensures.childless q (omega (arith, low, c.take_bytes.ensures.low)) (omega (arith, high, c.take_bytes.ensures.child))

@@ -1,4 +1,4 @@
-use Rattle.std.proofs.Common.{◌≡◌, ◌∙◌, ℕ, ◌+◌, ◌⊎◌, inl, inr, refl, sym, subst}
+use Rattle.std.proofs.Common.{◌≡◌, ◌∙◌, ◌+◌, inl, inr, refl, sym, subst, arith}
 use Rattle.tokei_parts.specs.Modes.{Chain}
 use Rattle.tokei_parts.specs.Places.{text_of}
 use Rattle.tokei_parts.specs.Reached.{StepsTo}
@@ -8,9 +8,21 @@ use Rattle.tokei_parts.specs.declared.walk.Move.{Move}
 use Rattle.tokei_parts.specs.declared.walk.Move.TheVariants.{On, Turn}
 use Rattle.tokei_parts.specs.declared.walk.Reach.{Reach}
 use Rattle.tokei_parts.proofs.LineEnds.{end_is}
-use Rattle.tokei_parts.proofs.Reaching.{advance_goes, advance_rest, child_breaks, end_in_text}
+use Rattle.tokei_parts.proofs.Reaching.{advance_goes, advance_rest, child_breaks, end_in_text, reach_here}
 use Rattle.tokei_parts.proofs.Walking.{MovesIn}
 use Rattle.tokei_parts.proofs.walk.take_step.Goals as goal
+
+pub take_choice-requires-clause-closable : goal.take_choice-requires-clause-closable
+take_choice-requires-clause-closable c = c.requires.reached.1.closable
+
+pub take_choice-requires-clause-here : goal.take_choice-requires-clause-here
+take_choice-requires-clause-here c =
+    let begun = c.requires.reached in
+    reach_here c.args.part.now begun.0 (chain_of c.args.stack.now.items) c.args.reach.now.at c.args.reach.now.steps begun.1 c.requires.some
+
+pub take_choice-requires-clause-room : goal.take_choice-requires-clause-room
+take_choice-requires-clause-room c =
+    omega (arith, c.requires.reached.1.few, c.requires.some, end_in_text c.args.part.now c.requires.reached.1.begins)
 
 pub line_stop-reach-requires : goal.line_stop-reach-requires
 line_stop-reach-requires c = end_in_text c.args.part.now c.requires.reached.1.begins

@@ -1,0 +1,40 @@
+use Rattle.std.proofs.Common.{◌≡◌, sym, ap, subst, is_some, Some, arith}
+use Rattle.tokei_parts.specs.Places.{block_from}
+use Rattle.tokei_parts.specs.Reached.{BreaksOff, StepsTo}
+use Rattle.tokei_parts.specs.Seen.{block_of, chain_of}
+use Rattle.tokei_parts.proofs.Reaching.{reach_here}
+use Rattle.tokei_parts.proofs.walk.breaks_off.Goals as goal
+use Rattle.tokei_parts.proofs.walk.breaks_off.Goals.{In-Child}
+
+-- a child that is chosen breaks the part off
+breaks : (c : In-Child) → BreaksOff c.args.part.now (chain_of c.args.stack.now.items) c.args.reach.now (chain_of c.take_step.new.stack.items) c.take_step.new.reach
+breaks c = subst (StepsTo c.args.part.now (chain_of c.args.stack.now.items) c.args.reach.now (chain_of c.take_step.new.stack.items) c.take_step.new.reach) c.in-Child.is c.in_ok-take_step.ensures.steps
+
+pub finds_child-opens-requires-clause-here : goal.finds_child-opens-requires-clause-here
+finds_child-opens-requires-clause-here c =
+    let begun = c.requires.reached in
+    reach_here c.args.part.now begun.0 (chain_of c.args.stack.now.items) c.args.reach.now.at c.args.reach.now.steps begun.1 c.requires.some
+
+pub finds_child-opens-requires-clause-childless : goal.finds_child-opens-requires-clause-childless
+finds_child-opens-requires-clause-childless c = λ low. c.requires.childless c.args.reach.now.at (omega arith) low
+
+pub take_step-requires-clause-mode : goal.take_step-requires-clause-mode
+take_step-requires-clause-mode c = sym c.requires.plain
+
+pub take_step-requires-clause-child : goal.take_step-requires-clause-child
+take_step-requires-clause-child c = λ some. ap is_some (c.finds_child-opens.ensures.found some)
+
+pub take_step-requires-clause-childless : goal.take_step-requires-clause-childless
+take_step-requires-clause-childless c = λ none _. c.finds_child-opens.ensures.none none
+
+pub returns-in-Child-clause-breaks : goal.returns-in-Child-clause-breaks
+returns-in-Child-clause-breaks c = λ _. breaks (goal.at.returns-in-Child-clause-breaks c).In-Child
+
+pub returns-in-Child-clause-found : goal.returns-in-Child-clause-found
+returns-in-Child-clause-found c = λ _.
+    subst (λ m. block_from c.args.part.now m ≡ Some (block_of c.finds_child-opens.new.found)) (sym (breaks (goal.at.returns-in-Child-clause-found c).In-Child).same)
+    (c.finds_child-opens.ensures.found (c.in_ok-take_step.ensures.child c.in-Child.is))
+
+pub returns-in-Child-clause-childless : goal.returns-in-Child-clause-childless
+returns-in-Child-clause-childless c = λ q low high.
+    c.requires.childless q (omega (arith, low, (breaks (goal.at.returns-in-Child-clause-childless c).In-Child).same)) (omega (arith, high, c.in_ok-take_step.ensures.same))
