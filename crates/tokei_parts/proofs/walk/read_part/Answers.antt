@@ -102,5 +102,6 @@ returns-clause-reads c =
     let begun = chain_of c.args.stack.now.items in
     let kind = sym (c.kind_of-begun.ensures ∙ ap kind_in (c.innermost.ensures ∙ ap (λ es. innermost (chain_of es)) c.deref.ensures.value)) in
     let reaches = subst (λ es. Reaches p begun (chain_of es) c.loop-reach.reach.at c.loop-reach.reach.steps) (sym c.deref-2.ensures.value) c.loop-reach.invariant.reaches in
-    subst (λ es. Reads (row_in p.reading.now) (blocks_of p.reading.now) p.behind_child p.reading.now.docs_are_comments begun (chain_of es) p.start (text_of p) c.end_line.result) c.deref-2.ensures.value
+    subst (λ es. Reads (row_in p.reading.now) (blocks_of p.reading.now) p.behind_child p.reading.now.docs_are_comments
+    begun (chain_of es) p.start (text_of p) c.end_line.result) c.deref-2.ensures.value
     (c.end_line.ensures.reads begun kind reaches)

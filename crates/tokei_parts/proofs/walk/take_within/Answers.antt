@@ -39,7 +39,8 @@ take_step-requires-clause-reached c =
 pub loop-reach-preserved : goal.loop-reach-preserved
 loop-reach-preserved c =
     let led = reached (goal.at.loop-reach-preserved c).After-take_bytes in
-    let step = subst (StepsTo c.args.part.now (chain_of c.loop-reach.stack.items) c.take_bytes.new.reach (chain_of c.take_step.new.stack.items) c.take_step.new.reach) c.in-On.is c.in_ok-take_step.ensures.steps in
+    let step = subst (StepsTo c.args.part.now (chain_of c.loop-reach.stack.items) c.take_bytes.new.reach
+    (chain_of c.take_step.new.stack.items) c.take_step.new.reach) c.in-On.is c.in_ok-take_step.ensures.steps in
     record {
       child = c.in_ok-take_step.ensures.same ∙ c.take_bytes.ensures.child ∙ c.loop-reach.invariant.child;
       same = c.in_ok-take_step.ensures.kept c.in-On.field-0 c.in-On.is ∙ c.loop-reach.invariant.same;
@@ -50,7 +51,8 @@ loop-reach-preserved c =
 pub returns-in-Turn-clause-advances : goal.returns-in-Turn-clause-advances
 returns-in-Turn-clause-advances c =
     let led = reached (goal.at.returns-in-Turn-clause-advances c).After-take_bytes in
-    let step = subst (StepsTo c.args.part.now (chain_of c.loop-reach.stack.items) c.take_bytes.new.reach (chain_of c.take_step.new.stack.items) c.take_step.new.reach) c.in-Turn.is c.in_ok-take_step.ensures.steps in
+    let step = subst (StepsTo c.args.part.now (chain_of c.loop-reach.stack.items) c.take_bytes.new.reach
+    (chain_of c.take_step.new.stack.items) c.take_step.new.reach) c.in-Turn.is c.in_ok-take_step.ensures.steps in
     record {
       on = omega (arith, c.loop-reach.invariant.low, c.take_bytes.ensures.low, step.on);
       goes_on = λ chain reaches. step.goes_on chain (led chain reaches);
