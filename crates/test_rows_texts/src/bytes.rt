@@ -81,25 +81,15 @@ fn of_four(row: &Row, text: &[u8], answers: &mut Answers) -> Result<(), RowError
     }
 }
 
-/// For each byte whether it is one of some.
-fn flags(alloc: Global, bytes: &[u8]) -> Result<Vec<bool>, AllocError> {
-    let mut flags = Vec::new(alloc);
-    for byte in 0..256usize {
-        flags.push(bytes.contains(&(byte as u8)))?;
-    }
-    Ok(flags)
-}
-
 /// The answers of a set.
 fn of_set(row: &Row, text: &[u8], answers: &mut Answers) -> Result<(), RowError> {
-    let flags = flags(answers.alloc, row.text("set")?.as_bytes())?;
+    let mut set = ByteSet::empty();
+    for byte in row.text("set")?.as_bytes() {
+        set.insert(*byte);
+    }
     let [other] = row.text("other")?.as_bytes() else {
         return Err(RowError::Words("the other one isn't one byte"));
     };
-    if flags.len() != 256 {
-        return Err(RowError::Words("there are other than 256 bytes"));
-    }
-    let set = ByteSet::new(flags);
     answers.say(
         "clear_end",
         Said::Number(set.clear_end(text, 0, text.len()) as u128),

@@ -1,5 +1,5 @@
 -- The counts of lines add up from block to block, and each line has one front at most.
-use Rattle.std.proofs.Common.{◌≡◌, ℕ, zero, suc, ◌+◌, ◌-◌, ◌<◌, ◌≤◌, ◌==◌, ◌&&◌, ◌||◌, not, cond, Bool, true, false, List, [], ◌∷◌, ◌++◌, map, drop, length, get_or, count_ones, refl, sym, ap, ap₂, ◌∙◌, arith, length-drop, get_or-drop}
+use Rattle.std.proofs.Common.{◌≡◌, ℕ, zero, suc, ◌+◌, ◌-◌, ◌<◌, ◌≤◌, ◌==◌, ◌&&◌, ◌||◌, not, Bool, true, false, List, [], ◌∷◌, ◌++◌, map, drop, length, get_or, count_ones, refl, ap, ◌∙◌, arith, length-drop, get_or-drop}
 use Rattle.std.proofs.lemmas.Simd.{ones-mask_l_cons, chunk-drop}
 use Rattle.std.proofs.lemmas.List.{drop_all}
 use Rattle.std.proofs.lemmas.Bool.Decides.{Decides-eqb}

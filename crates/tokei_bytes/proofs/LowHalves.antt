@@ -1,5 +1,5 @@
 -- What a look-up in slots gives, lane by lane.
-use Rattle.std.proofs.Common.{◌≡◌, ℕ, ◌+◌, ◌*◌, ◌/◌, ◌%◌, ◌^◌, ◌<◌, ◌≤◌, List, [], ◌∷◌, Bool, cond, eqb, length, get_or, map, replicate, bit_and, bit_or, min, max, set, ap₂, ◌&&◌, ◌||◌, false, ◌==◌, true, ◌⊎◌, inl, inr, refl, sym, ap, ◌∙◌, arith, w8, get_or-set_same, get_or-set_other}
+use Rattle.std.proofs.Common.{◌≡◌, ℕ, zero, suc, ◌+◌, ◌*◌, ◌/◌, ◌%◌, ◌^◌, ◌<◌, ◌≤◌, List, [], ◌∷◌, Bool, cond, eqb, length, get_or, map, replicate, bit_and, bit_or, min, max, set, ap₂, ◌&&◌, ◌||◌, false, ◌==◌, true, ◌⊎◌, inl, inr, refl, sym, ap, ◌∙◌, arith, w8, get_or-set_same, get_or-set_other}
 use Rattle.std.proofs.lemmas.Bool.{cases_eq}
 use Rattle.std.proofs.lemmas.Bool.Decides.{Decides-eqb}
 use lib.Lanes.{chunk, zip2, mask_l, top}
@@ -74,6 +74,35 @@ put_stays slots byte x free h = elim (cases_eq (x % 16) (byte % 16)) [
 -- and stands there itself
 pub put_there : (slots : List ℕ) (byte : ℕ) → byte % 16 < length slots → is_slotted (set slots (byte % 16) byte) byte ≡ true
 put_there slots byte l = (Decides-eqb (get_or (set slots (byte % 16) byte) (byte % 16) 0) byte).1 (get_or-set_same slots (byte % 16) byte 0 l)
+
+-- and the slots have no other byte more
+pub put_only : (slots : List ℕ) (byte x : ℕ) → is_slotted (set slots (byte % 16) byte) x ≡ true → byte % 16 < length slots
+    → (is_slotted slots x ≡ true) ⊎ (x ≡ byte)
+put_only slots byte x h l = elim (cases_eq (x % 16) (byte % 16)) [
+  | inl same ↦
+      let there : get_or (set slots (byte % 16) byte) (x % 16) 0 ≡ x = (Decides-eqb (get_or (set slots (byte % 16) byte) (x % 16) 0) x).0 h in
+      let put : get_or (set slots (byte % 16) byte) (x % 16) 0 ≡ byte =
+      ap (λ k. get_or (set slots (byte % 16) byte) k 0) same ∙ get_or-set_same slots (byte % 16) byte 0 l in
+      inr (sym there ∙ put)
+  | inr other ↦ inl (ap (λ y. y == x) (sym (get_or-set_other slots (byte % 16) (x % 16) byte 0 other)) ∙ h)
+]
+
+-- a slot of no byte has a byte with another low half
+pub no_slot : (b : ℕ) → is_slotted (1 ∷ replicate 15 0) b ≡ false
+no_slot b = by_test (is_slotted (1 ∷ replicate 15 0) b) refl
+  where
+    other : (k : ℕ) → b % 16 ≡ k → get_or (1 ∷ replicate 15 0) (b % 16) 0 ≡ b → ⊥
+    other zero e h =
+        let there : 1 ≡ b = ap (λ j. get_or (1 ∷ replicate 15 0) j 0) (sym e) ∙ h in
+        omega (arith, there, e)
+    other (suc k) e h =
+        let within : k < 15 = omega (arith, e) in
+        let there : 0 ≡ b = sym (get_or-replicate 15 k 0 0 within) ∙ ap (λ j. get_or (1 ∷ replicate 15 0) j 0) (sym e) ∙ h in
+        omega (arith, there, e)
+
+    by_test : (y : Bool) → is_slotted (1 ∷ replicate 15 0) b ≡ y → y ≡ false
+    by_test false e = refl
+    by_test true e = absurd (other (b % 16) refl ((Decides-eqb (get_or (1 ∷ replicate 15 0) (b % 16) 0) b).0 e))
 
 told_by_tests : (x y z : Bool) → max (cond x 1 0) (min (cond y 1 0) (cond z 1 0)) ≡ cond (x || (y && z)) 1 0
 told_by_tests true true true = refl
@@ -162,24 +191,16 @@ in_second : (a b : Bool) → b ≡ true → (a || b) ≡ true
 in_second true b h = refl
 in_second false b h = h
 
-pub first_stays : (slots new others : List ℕ) → ((x : ℕ) → is_slotted slots x ≡ true → is_slotted new x ≡ true)
-    → (x : ℕ) → in_slots slots others x ≡ true → in_slots new others x ≡ true
-first_stays slots new others stays x h = elim (either (is_slotted slots x) (is_slotted others x) h) [
-  | inl one ↦ in_first (is_slotted new x) (is_slotted others x) (stays x one)
-  | inr two ↦ in_second (is_slotted new x) (is_slotted others x) two
+pub in_both : (slots others new new_others : List ℕ) (x : ℕ) → (is_slotted slots x ≡ true → is_slotted new x ≡ true)
+    → (is_slotted others x ≡ true → is_slotted new_others x ≡ true)
+    → in_slots slots others x ≡ true → in_slots new new_others x ≡ true
+in_both slots others new new_others x one two h = elim (either (is_slotted slots x) (is_slotted others x) h) [
+  | inl there ↦ in_first (is_slotted new x) (is_slotted new_others x) (one there)
+  | inr there ↦ in_second (is_slotted new x) (is_slotted new_others x) (two there)
 ]
 
-pub first_put : (new others : List ℕ) (x : ℕ) → is_slotted new x ≡ true → in_slots new others x ≡ true
-first_put new others x h = in_first (is_slotted new x) (is_slotted others x) h
+pub put_first : (new others : List ℕ) (x : ℕ) → is_slotted new x ≡ true → in_slots new others x ≡ true
+put_first new others x h = in_first (is_slotted new x) (is_slotted others x) h
 
-pub second_stays : (slots same others new : List ℕ) → same ≡ slots
-    → ((x : ℕ) → is_slotted others x ≡ true → is_slotted new x ≡ true)
-    → (x : ℕ) → in_slots slots others x ≡ true → in_slots same new x ≡ true
-second_stays slots same others new is stays x h =
-    ap (λ s. in_slots s new x) is ∙ (elim (either (is_slotted slots x) (is_slotted others x) h) [
-      | inl one ↦ in_first (is_slotted slots x) (is_slotted new x) one
-      | inr two ↦ in_second (is_slotted slots x) (is_slotted new x) (stays x two)
-    ])
-
-pub second_put : (slots new : List ℕ) (x : ℕ) → is_slotted new x ≡ true → in_slots slots new x ≡ true
-second_put slots new x h = in_second (is_slotted slots x) (is_slotted new x) h
+pub put_second : (slots new : List ℕ) (x : ℕ) → is_slotted new x ≡ true → in_slots slots new x ≡ true
+put_second slots new x h = in_second (is_slotted slots x) (is_slotted new x) h

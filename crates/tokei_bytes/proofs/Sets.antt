@@ -3,9 +3,10 @@ use Rattle.std.proofs.Common.{◌≡◌, ◌≢◌, ℕ, zero, suc, ◌+◌, ◌
 use Rattle.std.proofs.lemmas.Bool.Decides.{Decides-eqb}
 use Rattle.std.proofs.lemmas.List.{get_or-replicate}
 use Rattle.tokei_bytes.specs.OneOf.{is_one_of}
-use Rattle.tokei_bytes.specs.ByteSets.{AreSlotted, HasFew, is_in, with_one}
-use Rattle.tokei_bytes.specs.Slots.{in_slots}
+use Rattle.tokei_bytes.specs.ByteSets.{AreSlotted, AreSlottedAlone, HasFew, is_in, with_one}
+use Rattle.tokei_bytes.specs.Slots.{in_slots, is_slotted}
 use Rattle.tokei_bytes.proofs.Blocks.{the_one}
+use Rattle.tokei_bytes.proofs.LowHalves.{in_both, no_slot, put_first, put_second}
 
 one_more : (y : Bool) (r : Bool) → r ≡ true → cond y true r ≡ true
 one_more true r h = refl
@@ -139,10 +140,10 @@ stays_in : (flags : List Bool) (b x : ℕ) → b < length flags → is_in flags 
 stays_in flags b x l h = put_in flags b x l ∙ left_of (is_in flags x) (x == b) h
 
 -- no byte is in the set
-pub none_in : (flags : List Bool) → flags ≡ replicate 256 false → HasFew flags (0 ∷ 0 ∷ 0 ∷ 0 ∷ []) 0
-none_in flags is = record {
+pub none_in : HasFew (replicate 256 false) (0 ∷ 0 ∷ 0 ∷ 0 ∷ []) 0
+none_in = record {
   four = refl;
-  holds = λ small b fits h. absurd (true≢false (sym h ∙ ap (λ fs. is_in fs b) is ∙ get_or-replicate 256 b false false fits));
+  holds = λ small b fits h. absurd (true≢false (sym h ∙ get_or-replicate 256 b false false fits));
   held = λ some b h. absurd (omega (arith, some));
 }
 
@@ -164,19 +165,61 @@ few_with_one flags few n b l has small = record {
 }
 
 -- none of no bytes is without a slot
-pub none_slotted : (flags : List Bool) (slots others : List ℕ) (have : Bool) → flags ≡ replicate 256 false → AreSlotted flags slots others have
-none_slotted flags slots others have is = λ all b fits h. absurd (true≢false (sym h ∙ ap (λ fs. is_in fs b) is ∙ get_or-replicate 256 b false false fits))
+pub none_slotted : (slots others : List ℕ) (have : Bool) → AreSlotted (replicate 256 false) slots others have
+none_slotted slots others have = λ all b fits h. absurd (true≢false (sym h ∙ get_or-replicate 256 b false false fits))
 
--- a byte more, and its slot
-pub stay_slotted : (flags : List Bool) (slots others new new_others : List ℕ) (have all : Bool) (b : ℕ) → b < length flags
+-- nor has a slot of no byte one
+pub none_alone : AreSlottedAlone (replicate 256 false) (1 ∷ replicate 15 0) true
+none_alone = λ so b fits. no_slot b ∙ sym (get_or-replicate 256 b false false fits)
+
+-- a byte was put into a slot of its own, or wasn't; the others stay in theirs
+pub record IsPut (slots new : List ℕ) (done : Bool) (byte : ℕ) : Type 0 where
+  pub stays : done ≡ true → (x : ℕ) → is_slotted slots x ≡ true → is_slotted new x ≡ true
+  pub put : done ≡ true → is_slotted new byte ≡ true
+  pub only : (x : ℕ) → is_slotted new x ≡ true → (is_slotted slots x ≡ true) ⊎ (x ≡ byte)
+  pub kept : done ≡ false → new ≡ slots
+
+stays_put : (slots new : List ℕ) (alone : Bool) (b x : ℕ) → IsPut slots new alone b → is_slotted slots x ≡ true → is_slotted new x ≡ true
+stays_put slots new true b x is h = is.stays refl x h
+stays_put slots new false b x is h = ap (λ s. is_slotted s x) (is.kept refl) ∙ h
+
+-- a byte more, and its slot: of the first, or else of the others
+pub stay_slotted : (flags : List Bool) (slots others new new_others : List ℕ) (have all alone : Bool) (b : ℕ) → b < length flags
     → AreSlotted flags slots others have
+    → IsPut slots new alone b
     → (all ≡ true → have ≡ true)
-    → (all ≡ true → (x : ℕ) → in_slots slots others x ≡ true → in_slots new new_others x ≡ true)
-    → (all ≡ true → in_slots new new_others b ≡ true) → AreSlotted (set flags b true) new new_others all
-stay_slotted flags slots others new new_others have all b l are before stays put = λ so x fits h. elim (either_of (is_in flags x) (x == b) (sym (put_in flags b x l) ∙ h)) [
-  | inl old ↦ stays so x (are (before so) x fits old)
-  | inr same ↦ subst (λ y. in_slots new new_others y ≡ true) (sym ((Decides-eqb x b).0 same)) (put so)
+    → (all ≡ true → (x : ℕ) → is_slotted others x ≡ true → is_slotted new_others x ≡ true)
+    → (all ≡ true → alone ≡ false → is_slotted new_others b ≡ true) → AreSlotted (set flags b true) new new_others all
+stay_slotted flags slots others new new_others have all alone b l are is before stays put = λ so x fits h. elim (either_of (is_in flags x) (x == b) (sym (put_in flags b x l) ∙ h)) [
+  | inl old ↦ in_both slots others new new_others x (stays_put slots new alone b x is) (stays so x) (are (before so) x fits old)
+  | inr same ↦ subst (λ y. in_slots new new_others y ≡ true) (sym ((Decides-eqb x b).0 same)) (by_side so alone refl)
 ]
+  where
+    by_side : all ≡ true → (y : Bool) → alone ≡ y → in_slots new new_others b ≡ true
+    by_side so true e = put_first new new_others b (is.put e)
+    by_side so false e = put_second new new_others b (put so e)
+
+same_flag : (a c : Bool) → (a ≡ true → c ≡ true) → (c ≡ true → a ≡ true) → a ≡ c
+same_flag true c to from = sym (to refl)
+same_flag false true to from = from refl
+same_flag false false to from = refl
+
+-- a byte more among those that stand in slots alone
+pub stay_alone : (flags : List Bool) (slots new : List ℕ) (have alone all : Bool) (b : ℕ) → b < length flags
+    → AreSlottedAlone flags slots have
+    → IsPut slots new alone b
+    → (all ≡ true → (have ≡ true) × (alone ≡ true)) → AreSlottedAlone (set flags b true) new all
+stay_alone flags slots new have alone all b l are is each = λ so x fits.
+    let both = each so in
+    same_flag (is_slotted new x) (is_in (set flags b true) x)
+    (λ h. put_in flags b x l ∙ (elim (is.only x h) [
+      | inl old ↦ left_of (is_in flags x) (x == b) (sym (are both.0 x fits) ∙ old)
+      | inr same ↦ right_of (is_in flags x) (x == b) ((Decides-eqb x b).1 same)
+    ]))
+    (λ h. elim (either_of (is_in flags x) (x == b) (sym (put_in flags b x l) ∙ h)) [
+      | inl old ↦ is.stays both.1 x (are both.0 x fits ∙ old)
+      | inr same ↦ subst (λ y. is_slotted new y ≡ true) (sym ((Decides-eqb x b).0 same)) (is.put both.1)
+    ])
 
 -- a byte that is in no slot isn't in the set
 pub outside_slots : (flags : List Bool) (slots others : List ℕ) (have : Bool) (b : ℕ) → AreSlotted flags slots others have → have ≡ true → b < 256

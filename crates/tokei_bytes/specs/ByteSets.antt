@@ -2,7 +2,7 @@
 use Rattle.std.specs.Prelude.{◌≡◌, ℕ, zero, suc, ◌<◌, ◌≤◌, Bool, true, false, List, [], ◌∷◌, length, take}
 use Rattle.std.specs.Prelude.{slice_index, slice_index_or}
 use Rattle.tokei_bytes.specs.OneOf.{is_one_of}
-use Rattle.tokei_bytes.specs.Slots.{in_slots}
+use Rattle.tokei_bytes.specs.Slots.{in_slots, is_slotted}
 
 -- whether the byte is in the set
 abbrev pub is_in : List Bool → ℕ → Bool
@@ -25,3 +25,8 @@ with_one few (suc n) byte = byte ∷ slice_index few 0 ∷ slice_index few 1 ∷
 abbrev pub AreSlotted : List Bool → List ℕ → List ℕ → Bool → Type 0
 AreSlotted flags slots others have =
     have ≡ true → (b : ℕ) → b < 256 → is_in flags b ≡ true → in_slots slots others b ≡ true
+
+-- where the slots are those of the set alone, a byte stands in the slot of its low half if it is in the set
+abbrev pub AreSlottedAlone : List Bool → List ℕ → Bool → Type 0
+AreSlottedAlone flags slots alone =
+    alone ≡ true → (b : ℕ) → b < 256 → is_slotted slots b ≡ is_in flags b

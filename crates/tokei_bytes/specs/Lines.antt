@@ -1,6 +1,6 @@
 -- The lines of a text by their fronts. A line runs up to and including its newline, and a last one
 -- without a newline is a line; its front is its first byte that isn't blank.
-use Rattle.std.specs.Prelude.{ℕ, ◌+◌, ◌==◌, ◌&&◌, ◌||◌, not, nat_le, Bool, true, false, List, [], ◌∷◌, if◌then◌else◌}
+use Rattle.std.specs.Prelude.{ℕ, ◌+◌, ◌==◌, ◌&&◌, ◌||◌, not, nat_le, Bool, false, List, [], ◌∷◌, if◌then◌else◌}
 
 -- the byte that ends a line
 abbrev pub newline : ℕ

@@ -1,14 +1,13 @@
 //! Sets of bytes that a text is searched for.
 ghost use Rattle.std.specs.Prelude.{◌≡◌, ℕ, ◌<◌, ◌≤◌, ◌==◌, ◌||◌, true, false, length, replicate, IfOk, IfSome};
 ghost use Rattle.std.specs.Prelude.{slice_index};
-ghost use Rattle.tokei_bytes.specs.ByteSets.{AreSlotted, HasFew, is_in, with_one};
+ghost use Rattle.tokei_bytes.specs.ByteSets.{AreSlotted, AreSlottedAlone, HasFew, is_in, with_one};
 ghost use Rattle.tokei_bytes.specs.FirstPlace.{IsFirstPlace};
 ghost use Rattle.tokei_bytes.specs.OneOf.{is_one_of};
-ghost use Rattle.tokei_bytes.specs.Slots.{in_slots};
+ghost use Rattle.tokei_bytes.specs.Slots.{is_slotted};
 
 use crate::one_of::first_of_four;
-use crate::slots::{NO_SLOTS, put_slot, slotted_end};
-use std::alloc::{AllocError, Global};
+use crate::slots::{NO_SLOTS, first_slotted, put_slot, slotted_end};
 use std::marker::Model;
 
 /// How many bytes are searched for at once.
@@ -17,27 +16,30 @@ const FEW: usize = 4;
 /// A set of bytes. Contracts see a flag for each byte, which says whether it is in the set.
 #[derive(Drop)]
 pub struct ByteSet {
-    flags: Vec<bool>,
+    flags: [bool; 256],
     /// The first `count` of them are the bytes of the set, where those are at most four, and each
     /// is one where there are any.
     few: [u8; 4],
     count: usize,
-    /// Each byte of the set in the slot of its low half, where `has_slots`, here or in `others`.
+    /// Each byte of the set in the slot of its low half, where `has_slots`, here or in `others`;
+    /// here alone, and no other byte, where `is_slotted`.
     slots: [u8; 16],
     others: [u8; 16],
     has_slots: bool,
+    is_slotted: bool,
 }
 
 impl Model for ByteSet {
     ghost use Rattle.std.specs.Prelude.{◌≡◌, Bool, List, length};
-    ghost use Rattle.tokei_bytes.specs.ByteSets.{AreSlotted, HasFew};
+    ghost use Rattle.tokei_bytes.specs.ByteSets.{AreSlotted, AreSlottedAlone, HasFew};
 
     ghost Value = { List Bool };
 
-    ghost view = { λ s. s.flags.items };
+    ghost view = { λ s. s.flags };
 
-    ghost invariant = { λ s. (length s.flags.items ≡ 256) × (HasFew s.flags.items s.few s.count
-        × AreSlotted s.flags.items s.slots s.others s.has_slots) };
+    ghost invariant = { λ s. (length s.flags ≡ 256) × (HasFew s.flags s.few s.count
+        × (AreSlotted s.flags s.slots s.others s.has_slots
+        × AreSlottedAlone s.flags s.slots s.is_slotted)) };
 }
 
 /// The byte in front of the first three of some few, or that byte alone where there are none.
@@ -51,63 +53,30 @@ fn with_one(few: [u8; 4], count: usize, byte: u8) -> [u8; 4]
     }
 }
 
-/// Puts the byte into its slot, one of two, where the others have theirs; whether all have.
-fn put_beside(slots: &mut [u8; 16], others: &mut [u8; 16], have_slots: bool, byte: u8) -> bool
+/// Puts the byte that isn't `put` yet into its slot, where the others have theirs; whether all have.
+fn put_beside(put: bool, others: &mut [u8; 16], have_slots: bool, byte: u8) -> bool
     ensures before { result ≡ true → have_slots ≡ true }
-    ensures stays { result ≡ true → (x : ℕ) → in_slots slots.old others.old x ≡ true
-        → in_slots slots.new others.new x ≡ true }
-    ensures put { result ≡ true → in_slots slots.new others.new byte ≡ true }
+    ensures stays { result ≡ true → (x : ℕ) → is_slotted others.old x ≡ true
+        → is_slotted others.new x ≡ true }
+    ensures put { result ≡ true → put ≡ false → is_slotted others.new byte ≡ true }
 {
-    if !have_slots {
-        return false;
-    }
-    if put_slot(slots, byte) {
-        return true;
-    }
-    put_slot(others, byte)
+    have_slots && (put || put_slot(others, byte))
 }
 
 impl ByteSet {
-    /// The set of the bytes whose flags are set.
-    pub fn new(flags: Vec<bool>) -> ByteSet
-        requires { length flags.items ≡ 256 }
-        ensures { result ≡ flags.items }
+    /// The set of no bytes.
+    pub fn empty() -> ByteSet
+        ensures { result ≡ replicate 256 false }
     {
-        let mut few = [0; 4];
-        let mut count = 0;
-        for byte in 0..256usize {
-            if flags[byte] && count <= FEW {
-                few = if count == 0 {
-                    [byte as u8; 4]
-                } else {
-                    [byte as u8, few[0], few[1], few[2]]
-                };
-                count += 1;
-            }
-        }
         ByteSet {
-            flags,
-            few,
-            count,
-            slots: NO_SLOTS,
-            others: NO_SLOTS,
-            has_slots: false,
-        }
-    }
-
-    /// The set of no bytes. It fails where memory runs out.
-    pub fn empty(alloc: Global) -> Result<ByteSet, AllocError>
-        ensures { IfOk result (λ s. s ≡ replicate 256 false) }
-    {
-        let flags = Vec::from_array(alloc, [false; 256])?;
-        Ok(ByteSet {
-            flags,
+            flags: [false; 256],
             few: [0; 4],
             count: 0,
             slots: NO_SLOTS,
             others: NO_SLOTS,
             has_slots: true,
-        })
+            is_slotted: true,
+        }
     }
 
     /// Puts the byte into the set.
@@ -119,7 +88,9 @@ impl ByteSet {
             return;
         }
         self.flags[byte as usize] = true;
-        self.has_slots = put_beside(&mut self.slots, &mut self.others, self.has_slots, byte);
+        let alone = put_slot(&mut self.slots, byte);
+        self.is_slotted = self.is_slotted && alone;
+        self.has_slots = put_beside(alone, &mut self.others, self.has_slots, byte);
         if self.count <= FEW {
             self.few = with_one(self.few, self.count, byte);
             self.count += 1;
@@ -130,10 +101,11 @@ impl ByteSet {
     pub fn fill(&mut self)
         ensures { self.new ≡ replicate 256 true }
     {
-        self.flags.fill(true);
+        self.flags = [true; 256];
         self.few = [0; 4];
         self.count = FEW + 1;
         self.has_slots = false;
+        self.is_slotted = false;
     }
 
     /// Whether the byte is in the set.
@@ -166,13 +138,13 @@ impl ByteSet {
         requires within { to ≤ length text.now }
         ensures { IsFirstPlace (is_in self.now) text.now from to result }
     {
-        if self.count == 0 {
-            return to;
+        if self.is_slotted {
+            return first_slotted(self.slots, text, from, to);
         }
-        if self.count <= FEW {
-            return first_of_four(self.few, text, from, to);
+        match self.few() {
+            Some(few) => first_of_four(few, text, from, to),
+            None => self.clear_end_of_many(text, from, to),
         }
-        self.clear_end_of_many(text, from, to)
     }
 
     /// The same where the set has more bytes. It stands in no caller's code, which mostly has few.

@@ -24,4 +24,4 @@ pub use one_of::{
     BLOCK, SHORT_BLOCK, first_in_block, first_not_of_four, first_of_four, first_other_in_block,
 };
 pub use pairs::next_pair;
-pub use slots::{NO_SLOTS, is_slotted, put_slot, told_end};
+pub use slots::{NO_SLOTS, first_slotted, is_slotted, put_slot, told_end};

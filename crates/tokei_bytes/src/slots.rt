@@ -1,6 +1,7 @@
 //! Sets of bytes that one look-up tests, 32 at a time: no two bytes of one have the same low half.
-ghost use Rattle.std.specs.Prelude.{◌≡◌, ℕ, ◌+◌, ◌%◌, ◌<◌, ◌≤◌, true, false, length, map, slice_index};
+ghost use Rattle.std.specs.Prelude.{◌≡◌, ℕ, ◌+◌, ◌%◌, ◌<◌, ◌≤◌, ◌⊎◌, true, false, length, map, slice_index};
 ghost use Rattle.std.specs.Simd.Lanes.{mask_l};
+ghost use Rattle.tokei_bytes.specs.FirstPlace.{IsFirstPlace};
 ghost use Rattle.tokei_bytes.specs.Slots.{HasSlots, in_slots, is_slotted, is_told};
 
 use crate::one_of::BLOCK;
@@ -14,6 +15,8 @@ pub fn put_slot(slots: &mut [u8; 16], byte: u8) -> bool
     ensures stays { result ≡ true → (x : ℕ) → is_slotted slots.old x ≡ true
         → is_slotted slots.new x ≡ true }
     ensures put { result ≡ true → is_slotted slots.new byte ≡ true }
+    ensures only { (x : ℕ) → is_slotted slots.new x ≡ true
+        → (is_slotted slots.old x ≡ true) ⊎ (x ≡ byte) }
     ensures kept { result ≡ false → slots.new ≡ slots.old }
 {
     let half = (byte % 16) as usize;
@@ -60,6 +63,58 @@ pub fn is_slotted(slots: [u8; 16], byte: u8) -> bool
     ensures { result ≡ is_slotted slots byte }
 {
     slots[(byte % 16) as usize] == byte
+}
+
+/// The first place of the `BLOCK` places of the text from `from` on whose byte stands in the slot of
+/// its low half, or the place behind them where none does.
+#[inline(always)]
+fn first_in_slots(slots: [u8; 16], text: &[u8], from: usize) -> usize
+    requires { from + BLOCK ≤ length text.now }
+    ensures { IsFirstPlace (is_slotted slots) text.now from (from + BLOCK) result }
+{
+    let marked = slotted_marks(slots, u8x32::from_slice(&text[from..]));
+    if marked == 0 {
+        return from + BLOCK;
+    }
+    from + marked.trailing_zeros() as usize
+}
+
+/// The same search one place at a time, where the text has no block from there on.
+#[inline(never)]
+fn slotted_by_one(slots: [u8; 16], text: &[u8], from: usize, to: usize) -> usize
+    requires order { from ≤ to }
+    requires within { to ≤ length text.now }
+    ensures { IsFirstPlace (is_slotted slots) text.now from to result }
+{
+    let mut at = from;
+    while at < to && !is_slotted(slots, text[at]) {
+        at += 1;
+    }
+    at
+}
+
+/// The first place of the text, from `from` to before `to`, whose byte stands in the slot of its
+/// low half, or `to` where there is none. A place counts the bytes of the text before it. One
+/// look-up tests 32 bytes, where up to four would be as many comparisons.
+#[inline(always)]
+pub fn first_slotted(slots: [u8; 16], text: &[u8], from: usize, to: usize) -> usize
+    requires order { from ≤ to }
+    requires within { to ≤ length text.now }
+    ensures { IsFirstPlace (is_slotted slots) text.now from to result }
+{
+    let mut at = from;
+    while at < to {
+        if text.len() - at < BLOCK {
+            return slotted_by_one(slots, text, at, to);
+        }
+        // The block may go on past `to`, where a hit is none.
+        let place = first_in_slots(slots, text, at);
+        if place < at + BLOCK {
+            return to.min(place);
+        }
+        at += BLOCK;
+    }
+    to
 }
 
 /// The first place of the `BLOCK` places of the text from `from` on whose byte stands in one of two

@@ -6,7 +6,6 @@ ghost use Rattle.tokei_table.specs.FirstOpener.{is_first_of};
 ghost use Rattle.tokei_table.specs.RowOf.{row_of, pairs_of, tokens_of};
 ghost use Rattle.tokei_parts.specs.Matchers.{begins_opener, begins_choice, begins_in_comment, flags};
 
-use std::alloc::{AllocError, Global};
 use tokei_bytes::ByteSet;
 use tokei_table_row::Syntax;
 
@@ -45,11 +44,11 @@ fn add_tokens(begins: &mut ByteSet, tokens: &[String])
 }
 
 /// The bytes at which a choice other than the byte itself, a closer and a child can begin in plain
-/// text. It fails where memory runs out.
-pub fn beginnings(alloc: Global, syntax: &Syntax) -> Result<ByteSet, AllocError>
-    ensures { IfOk result (λ s. s ≡ flags (begins_choice (row_of syntax.now)) 256) }
+/// text.
+pub fn beginnings(syntax: &Syntax) -> ByteSet
+    ensures { result ≡ flags (begins_choice (row_of syntax.now)) 256 }
 {
-    let mut begins = ByteSet::empty(alloc)?;
+    let mut begins = ByteSet::empty();
     begins.insert(b'\\');
     add_openers(&mut begins, &syntax.quotes);
     add_openers(&mut begins, &syntax.verbatim_quotes);
@@ -57,16 +56,16 @@ pub fn beginnings(alloc: Global, syntax: &Syntax) -> Result<ByteSet, AllocError>
     add_openers(&mut begins, &syntax.multi_line_comments);
     add_openers(&mut begins, &syntax.nested_comments);
     add_tokens(&mut begins, &syntax.line_comment);
-    Ok(begins)
+    begins
 }
 
 /// The same in a comment.
-pub fn beginnings_in_comment(alloc: Global, syntax: &Syntax) -> Result<ByteSet, AllocError>
-    ensures { IfOk result (λ s. s ≡ flags (begins_in_comment (row_of syntax.now)) 256) }
+pub fn beginnings_in_comment(syntax: &Syntax) -> ByteSet
+    ensures { result ≡ flags (begins_in_comment (row_of syntax.now)) 256 }
 {
-    let mut begins = ByteSet::empty(alloc)?;
+    let mut begins = ByteSet::empty();
     begins.insert(b'\\');
     add_openers(&mut begins, &syntax.multi_line_comments);
     add_openers(&mut begins, &syntax.nested_comments);
-    Ok(begins)
+    begins
 }

@@ -50,8 +50,8 @@ impl LanguageMatchers {
     {
         let shared = SharedMatchers::new(alloc, table, language)?;
         let syntax = table.syntax(language);
-        let begins = beginnings(alloc, syntax)?;
-        let begins_in_comment = beginnings_in_comment(alloc, syntax)?;
+        let begins = beginnings(syntax);
+        let begins_in_comment = beginnings_in_comment(syntax);
         let family = Family::of_key(syntax.key.as_str());
         Ok(LanguageMatchers {
             shared,

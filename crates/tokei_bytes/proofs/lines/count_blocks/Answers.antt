@@ -1,4 +1,4 @@
-use Rattle.std.proofs.Common.{◌≡◌, ℕ, ◌+◌, ◌==◌, List, count_ones, drop, ap, ◌∙◌, arith}
+use Rattle.std.proofs.Common.{ℕ, ◌+◌, ◌==◌, List, count_ones, drop, ap, ◌∙◌, arith}
 use lib.Lanes.{chunk}
 use Rattle.tokei_bytes.specs.Lines.{blank_after, front_count, newline_count}
 use Rattle.tokei_bytes.proofs.LineSums.{told, flag_small, ones_fronts, ones_newlines, block_fronts, block_newlines, newlines_fit, fronts_fit_in}

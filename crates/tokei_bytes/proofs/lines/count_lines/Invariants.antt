@@ -1,4 +1,4 @@
-use Rattle.std.proofs.Common.{◌≡◌, ℕ, ◌+◌, ◌-◌, ◌≤◌, true, drop, length}
+use Rattle.std.proofs.Common.{◌≡◌, ◌+◌, ◌-◌, ◌≤◌, true, drop, length}
 use Rattle.tokei_bytes.specs.Lines.{front_count, newline_count}
 use Rattle.tokei_bytes.proofs.lines.count_lines.Given as goal
 

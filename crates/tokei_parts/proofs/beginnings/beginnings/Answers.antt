@@ -11,7 +11,7 @@ use Rattle.tokei_parts.proofs.beginnings.beginnings.Goals as goal
 pub returns : goal.returns
 returns c =
     let r = row_of c.args.syntax.now in
-    let none = c.in_ok-begins.ensures in
+    let none = c.empty-begins.ensures in
     let long =
     c.add_tokens.ensures.long ∙ c.add_openers-5.ensures.long ∙ c.add_openers-4.ensures.long ∙ c.add_openers-3.ensures.long
     ∙ c.add_openers-2.ensures.long ∙ c.add_openers.ensures.long ∙ c.insert.ensures.long ∙ ap length none ∙ length-replicate 256 false in

@@ -9,7 +9,7 @@ use Rattle.tokei_parts.proofs.beginnings.beginnings_in_comment.Goals as goal
 pub returns : goal.returns
 returns c =
     let r = row_of c.args.syntax.now in
-    let none = c.in_ok-begins.ensures in
+    let none = c.empty-begins.ensures in
     let long =
     c.add_openers-2.ensures.long ∙ c.add_openers.ensures.long ∙ c.insert.ensures.long ∙ ap length none ∙ length-replicate 256 false in
     are_flags c.add_openers-2.new.begins (begins_in_comment r) 256 long (λ x lt.

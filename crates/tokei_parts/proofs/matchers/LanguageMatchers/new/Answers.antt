@@ -11,15 +11,15 @@ returns c =
     let g : Row = row_at c.args.table.now c.args.language in
     let row_is = c.syntax-syntax.ensures.row in
     let family_is = c.of_key-family.ensures ∙ ap family_of c.as_str.ensures.value ∙ ap (λ (r : Row). family_of r.key) row_is in
-    ap (λ os. record { openers = os; begins = c.in_ok-begins.begins; begins_in_comment = c.in_ok-begins_in_comment.begins_in_comment; family = c.of_key-family.result }) c.in_ok-shared.ensures
+    ap (λ os. record { openers = os; begins = c.beginnings-begins.result; begins_in_comment = c.beginnings_in_comment-begins_in_comment.result; family = c.of_key-family.result }) c.in_ok-shared.ensures
     ∙ ap
     (λ bs. record {
       openers = openers g;
       begins = bs;
-      begins_in_comment = c.in_ok-begins_in_comment.begins_in_comment;
+      begins_in_comment = c.beginnings_in_comment-begins_in_comment.result;
       family = c.of_key-family.result;
     })
-    (c.in_ok-begins.ensures ∙ ap (λ (r : Row). flags (begins_choice r) 256) row_is)
+    (c.beginnings-begins.ensures ∙ ap (λ (r : Row). flags (begins_choice r) 256) row_is)
     ∙ ap
     (λ bs. record {
       openers = openers g;
@@ -27,6 +27,6 @@ returns c =
       begins_in_comment = bs;
       family = c.of_key-family.result;
     })
-    (c.in_ok-begins_in_comment.ensures
+    (c.beginnings_in_comment-begins_in_comment.ensures
     ∙ ap (λ (r : Row). flags (begins_in_comment r) 256) row_is)
     ∙ ap (λ f. record { openers = openers g; begins = flags (begins_choice g) 256; begins_in_comment = flags (begins_in_comment g) 256; family = f }) family_is
