@@ -1,7 +1,7 @@
 -- A search for some bytes by searches for up to three bytes, and the first bytes of openers.
 use Rattle.std.proofs.Common.{◌≡◌, ℕ, ◌+◌, ◌-◌, ◌<◌, ◌≤◌, Bool, true, false, ◌||◌, ◌==◌, cond, List, [], ◌∷◌, ◌++◌}
 use Rattle.std.proofs.Common.{length, take, drop, get_or, Option, None, Some, refl, sym, ◌∙◌, ap, arith, inl, inr}
-use Rattle.std.proofs.Common.{String, Global, string_bytes}
+use Rattle.std.proofs.Common.{String, Global, string_bytes, ◌⊎◌}
 use Rattle.std.proofs.lemmas.Bool.{cases_lt}
 use Rattle.std.proofs.lemmas.Bool.Decides.{Decides-eqb}
 use Rattle.std.proofs.lemmas.List.{take_rest, take_more, map-append, get_or-take, get_or-drop, length-take, length-drop}
@@ -9,6 +9,7 @@ use Rattle.memchr.specs.Find.{IsFirstByte, is_byte, is_byte2, is_byte3}
 use Rattle.tokei_table_row.specs.RowOf.{tokens_of}
 use Rattle.tokei_table_row.specs.FirstOpener.{is_first_of, is_first}
 use Rattle.tokei_bytes.specs.OneOf.{is_one_of}
+use Rattle.tokei_bytes.specs.Slots.{is_slotted}
 
 -- a search for another test, which answers the same at each byte of the text
 pub same_first : (p q : ℕ → Bool) (t : List ℕ) (r : Option ℕ)
@@ -225,20 +226,26 @@ is_one_of-push [] a x = sym (as_cond (x == a))
 is_one_of-push (b ∷ bs) a x =
     push_step (x == b) (is_one_of (bs ++ a ∷ []) x) (is_one_of bs x) (x == a) (is_one_of-push bs a x)
 
-pub is_one_of-already : (bs : List ℕ) (a x : ℕ) → is_one_of bs a ≡ true → is_one_of bs x ≡ (is_one_of bs x || (x == a))
-is_one_of-already bs a x h = by (x == a) ((Decides-eqb x a).0)
-  where
-    absorb : (b : Bool) → b ≡ true → b ≡ (b || true)
-    absorb true e = refl
-    absorb false e = e
+-- the bytes in slots after one more
+or_either : (a b c : Bool) → (a ≡ true → c ≡ true) → (b ≡ true → c ≡ true) → (c ≡ true → (a ≡ true) ⊎ (b ≡ true)) → c ≡ (a || b)
+or_either true b c f g h = f refl
+or_either false true c f g h = g refl
+or_either false false true f g h = elim (h refl) [ inl e ↦ absurd (cc) | inr e ↦ absurd (cc) ]
+or_either false false false f g h = refl
 
-    drop_false : (b : Bool) → b ≡ (b || false)
-    drop_false true = refl
-    drop_false false = refl
-
-    by : (c : Bool) → (c ≡ true → x ≡ a) → is_one_of bs x ≡ (is_one_of bs x || c)
-    by true e = absorb (is_one_of bs x) (ap (is_one_of bs) (e refl) ∙ h)
-    by false e = drop_false (is_one_of bs x)
+pub slotted_more : (slots new bytes : List ℕ) (i byte : ℕ) → i < length bytes → byte ≡ get_or bytes i 0
+    → ((x : ℕ) → is_slotted slots x ≡ true → is_slotted new x ≡ true) → is_slotted new byte ≡ true
+    → ((x : ℕ) → is_slotted new x ≡ true → (is_slotted slots x ≡ true) ⊎ (x ≡ byte))
+    → ((x : ℕ) → is_slotted slots x ≡ is_one_of (take i bytes) x)
+    → (x : ℕ) → is_slotted new x ≡ is_one_of (take (i + 1) bytes) x
+slotted_more slots new bytes i byte l here stays put only so_far x =
+    or_either (is_slotted slots x) (x == byte) (is_slotted new x) (stays x)
+    (λ e. ap (is_slotted new) ((Decides-eqb x byte).0 e) ∙ put)
+    (λ h. elim (only x h) [ inl e ↦ inl e | inr e ↦ inr ((Decides-eqb x byte).1 e) ])
+    ∙ ap (λ a. a || (x == byte)) (so_far x)
+    ∙ ap (λ b. is_one_of (take i bytes) x || (x == b)) here
+    ∙ sym (is_one_of-push (take i bytes) (get_or bytes i 0) x)
+    ∙ ap (λ bs. is_one_of bs x) (sym (take_more bytes i 0 l))
 
 pub first_equals : (o : List ℕ) (x : ℕ) → 1 ≤ length o → (x == get_or o 0 0) ≡ is_first_of x o
 first_equals [] x l = absurd (omega (arith, l))

@@ -1,21 +1,23 @@
 -- Which openers can stand at the front of a text: by its first byte those of a group, by its second one fewer.
-use Rattle.std.proofs.Common.{◌≡◌, ℕ, suc, zero, ◌+◌, ◌-◌, ◌<◌, ◌≤◌, Bool, true, false, ◌&&◌, ◌||◌, ◌==◌, cond}
+use Rattle.std.proofs.Common.{◌≡◌, ℕ, suc, zero, ◌+◌, ◌-◌, ◌<◌, ◌≤◌, Bool, true, false, ◌&&◌, ◌||◌, ◌==◌}
 use Rattle.std.proofs.Common.{nat_eq, List, [], ◌∷◌, length, take, drop, get_or, None, Some, refl, sym, ◌∙◌, ap}
-use Rattle.std.proofs.Common.{subst, arith, inl, inr, not, replicate, IfSome, Option}
+use Rattle.std.proofs.Common.{subst, arith, inl, inr, not, replicate, String, Global, string_bytes}
 use Rattle.std.specs.List.{list_any, list_all}
 use Rattle.std.proofs.lemmas.Bool.Decides.{Decides-eqb}
 use Rattle.std.proofs.lemmas.Bool.{cases_lt}
-use Rattle.std.proofs.lemmas.List.{get_or_default, get_or-map, get_or-replicate, drop_all}
+use Rattle.std.proofs.lemmas.List.{get_or-replicate, drop_all, drop_more}
 use Rattle.memchr.specs.Find.{IsFirstByte}
 use Rattle.tokei_table_search.proofs.FirstBytes.{part_reads, part_len}
-use Rattle.tokei_table_row.specs.Bytes.{begins}
+use Rattle.tokei_table_row.specs.Bytes.{begins, begins_with_one}
+use Rattle.tokei_table_row.specs.RowOf.{tokens_of}
 use Rattle.tokei_table_row.specs.FirstOpener.{is_nonempty, is_first_of, is_first}
 use Rattle.tokei_bytes.specs.OneOf.{is_one_of}
 use Rattle.tokei_bytes.specs.ByteSets.{is_in}
 use Rattle.tokei_bytes.specs.Pairs.{counts_at}
 use Rattle.tokei_table_search.specs.NearBytes.{SameBytes}
-use Rattle.tokei_table_search.specs.OpenerGroups.{with_first, goes_on_with, HasFlags, IsIndexOf, is_whole_with}
-use Rattle.tokei_table_row.specs.Bytes.{begins_with_one}
+use Rattle.tokei_table_search.specs.OpenerGroups.{goes_on_with, is_whole_with, goes_on_behind, is_whole_behind}
+use Rattle.tokei_table_search.specs.OpenerGroups.{IsGroupOf, IsIndexOf}
+use Rattle.tokei_table_search.specs.declared.opener_group.OpenerGroup.{OpenerGroup}
 
 pub not_true : (b : Bool) → (b ≡ true → ⊥) → b ≡ false
 not_true true un = absurd (un refl)
@@ -58,42 +60,44 @@ starts_first (o ∷ os) b t all h =
     (starts_first os b t (and_right (is_nonempty o) (list_all is_nonempty os) all))
     h
 
--- where no opener goes on with the second byte, none stands at the text's front
-or_parts : (a b : Bool) → (a || b) ≡ false → (a ≡ false) × (b ≡ false)
-or_parts true b h = absurd (cc)
-or_parts false b h = (refl, h)
-
-and_false : (a b c : Bool) → b ≡ false → (a && (b && c)) ≡ false
-and_false true b c h = ap (λ x. x && c) h
-and_false false b c h = refl
-
-other_second : (o : List ℕ) (x y : ℕ) (t : List ℕ) → goes_on_with y o ≡ false → begins o (x ∷ y ∷ t) ≡ false
-other_second [] x y t h = absurd (cc)
-other_second (a ∷ []) x y t h = absurd (cc)
-other_second (a ∷ b ∷ o) x y t h = and_false (nat_eq a x) (nat_eq b y) (begins o t) h
-
-no_second : (os : List (List ℕ)) (x y : ℕ) (t : List ℕ) → list_any (goes_on_with y) os ≡ false
-    → begins_with_one os (x ∷ y ∷ t) ≡ false
-unfolding begins_with_one
-no_second [] x y t h = refl
-no_second (o ∷ os) x y t h =
-    let p = or_parts (goes_on_with y o) (list_any (goes_on_with y) os) h in
-    ap (λ b. b || begins_with_one os (x ∷ y ∷ t)) (other_second o x y t p.0) ∙ no_second os x y t p.1
-
-pub second_apart : (os : List (List ℕ)) (t : List ℕ) (n : ℕ) → n + 1 < length t
-    → list_any (goes_on_with (get_or t (n + 1) 0)) os ≡ false → begins_with_one os (drop n t) ≡ false
-second_apart os [] n l h = absurd (omega (arith, l))
-second_apart os (x ∷ []) n l h = absurd (omega (arith, l))
-second_apart os (x ∷ y ∷ t) zero l h = no_second os x y t h
-second_apart os (x ∷ y ∷ t) (suc n) l h =
-    let at : suc (n + 1) ≡ suc n + 1 = omega arith in
-    second_apart os (y ∷ t) n (omega (arith, l)) (ap (λ k. list_any (goes_on_with (get_or (x ∷ y ∷ t) k 0)) os) at ∙ h)
-
--- where an opener is whole with the second byte, it stands at the text's front
 both : (a b : Bool) → a ≡ true → b ≡ true → (a && b) ≡ true
 both true b e f = f
 both false b e f = e
 
+contrary : false ≡ true → ⊥
+contrary h = absurd (cc)
+
+-- where no opener with the first byte goes on with the second one, none stands at the text's front
+goes_on : (o : List ℕ) (x y : ℕ) (t : List ℕ) → begins o (x ∷ y ∷ t) ≡ true → goes_on_with y o ≡ true
+goes_on [] x y t h = refl
+goes_on (a ∷ []) x y t h = refl
+goes_on (a ∷ b ∷ o) x y t h =
+    and_left (nat_eq b y) (begins o t) (and_right (nat_eq a x) (nat_eq b y && begins o t) h)
+
+some_goes_on : (os : List (List ℕ)) (x y : ℕ) (t : List ℕ) → list_all is_nonempty os ≡ true
+    → begins_with_one os (x ∷ y ∷ t) ≡ true → list_any (goes_on_behind x y) os ≡ true
+unfolding begins_with_one
+some_goes_on [] x y t all h = h
+some_goes_on (o ∷ os) x y t all h =
+    either (begins o (x ∷ y ∷ t)) (begins_with_one os (x ∷ y ∷ t)) (goes_on_behind x y o)
+    (list_any (goes_on_behind x y) os)
+    (λ e. both (is_first_of x o) (goes_on_with y o)
+    (begins_first o (y ∷ t) x (and_left (is_nonempty o) (list_all is_nonempty os) all) e) (goes_on o x y t e))
+    (some_goes_on os x y t (and_right (is_nonempty o) (list_all is_nonempty os) all))
+    h
+
+second_apart : (os : List (List ℕ)) (t : List ℕ) (n : ℕ) → list_all is_nonempty os ≡ true → n + 1 < length t
+    → list_any (goes_on_behind (get_or t n 0) (get_or t (n + 1) 0)) os ≡ false → begins_with_one os (drop n t) ≡ false
+second_apart os [] n all l h = absurd (omega (arith, l))
+second_apart os (x ∷ []) n all l h = absurd (omega (arith, l))
+second_apart os (x ∷ y ∷ t) zero all l h =
+    not_true (begins_with_one os (x ∷ y ∷ t)) (λ e. contrary (sym h ∙ some_goes_on os x y t all e))
+second_apart os (x ∷ y ∷ t) (suc n) all l h =
+    let at : suc (n + 1) ≡ suc n + 1 = omega arith in
+    second_apart os (y ∷ t) n all (omega (arith, l))
+    (ap (λ k. list_any (goes_on_behind (get_or (y ∷ t) n 0) (get_or (x ∷ y ∷ t) k 0)) os) at ∙ h)
+
+-- where an opener with the first byte is whole with the second one, it stands at the text's front
 turned : (x a : ℕ) → (x == a) ≡ true → nat_eq a x ≡ true
 turned x a e = (Decides-eqb a x).1 (sym ((Decides-eqb x a).0 e))
 
@@ -104,64 +108,60 @@ whole_one (a ∷ []) x y t f h = both (nat_eq a x) true (turned x a f) refl
 whole_one (a ∷ b ∷ []) x y t f h = both (nat_eq a x) (nat_eq b y && true) (turned x a f) (both (nat_eq b y) true h refl)
 whole_one (a ∷ b ∷ c ∷ o) x y t f h = absurd (cc)
 
-whole : (os : List (List ℕ)) (x y : ℕ) (t : List ℕ) → list_all (is_first_of x) os ≡ true
-    → list_any (is_whole_with y) os ≡ true → begins_with_one os (x ∷ y ∷ t) ≡ true
+whole : (os : List (List ℕ)) (x y : ℕ) (t : List ℕ) → list_any (is_whole_behind x y) os ≡ true
+    → begins_with_one os (x ∷ y ∷ t) ≡ true
 unfolding begins_with_one
-whole [] x y t f h = h
-whole (o ∷ os) x y t f h =
-    either (is_whole_with y o) (list_any (is_whole_with y) os) (begins o (x ∷ y ∷ t)) (begins_with_one os (x ∷ y ∷ t))
-    (whole_one o x y t (and_left (is_first_of x o) (list_all (is_first_of x) os) f))
-    (whole os x y t (and_right (is_first_of x o) (list_all (is_first_of x) os) f))
+whole [] x y t h = h
+whole (o ∷ os) x y t h =
+    either (is_whole_behind x y o) (list_any (is_whole_behind x y) os) (begins o (x ∷ y ∷ t))
+    (begins_with_one os (x ∷ y ∷ t))
+    (λ e. whole_one o x y t (and_left (is_first_of x o) (is_whole_with y o) e)
+    (and_right (is_first_of x o) (is_whole_with y o) e))
+    (whole os x y t)
     h
 
-pub whole_at : (os : List (List ℕ)) (t : List ℕ) (n : ℕ) → n + 1 < length t
-    → list_all (is_first_of (get_or t n 0)) os ≡ true → list_any (is_whole_with (get_or t (n + 1) 0)) os ≡ true
-    → begins_with_one os (drop n t) ≡ true
-whole_at os [] n l f h = absurd (omega (arith, l))
-whole_at os (x ∷ []) n l f h = absurd (omega (arith, l))
-whole_at os (x ∷ y ∷ t) zero l f h = whole os x y t f h
-whole_at os (x ∷ y ∷ t) (suc n) l f h =
+whole_at : (os : List (List ℕ)) (t : List ℕ) (n : ℕ) → n + 1 < length t
+    → list_any (is_whole_behind (get_or t n 0) (get_or t (n + 1) 0)) os ≡ true → begins_with_one os (drop n t) ≡ true
+whole_at os [] n l h = absurd (omega (arith, l))
+whole_at os (x ∷ []) n l h = absurd (omega (arith, l))
+whole_at os (x ∷ y ∷ t) zero l h = whole os x y t h
+whole_at os (x ∷ y ∷ t) (suc n) l h =
     let at : suc (n + 1) ≡ suc n + 1 = omega arith in
-    whole_at os (y ∷ t) n (omega (arith, l)) f (ap (λ k. list_any (is_whole_with (get_or (x ∷ y ∷ t) k 0)) os) at ∙ h)
+    whole_at os (y ∷ t) n (omega (arith, l))
+    (ap (λ k. list_any (is_whole_behind (get_or (y ∷ t) n 0) (get_or (x ∷ y ∷ t) k 0)) os) at ∙ h)
 
--- what a byte's flag tells
-pub flag_is : (test : ℕ → List ℕ → Bool) (os : List (List ℕ)) (flags : List Bool) → HasFlags test os flags → (y : ℕ)
-    → y < 256 → (d : Bool) → get_or flags y d ≡ list_any (test y) os
-flag_is test os flags s y r d =
-    let inside : y < length flags = omega (arith, r, s.all) in
-    sym (get_or_default flags y false d inside) ∙ s.each y r
+-- what the flags of a group tell at a place with its byte
+module _ (os : List (List ℕ)) (x : ℕ) (g : OpenerGroup) (group : IsGroupOf x os g) (t : List ℕ) (k : ℕ)
+    (inside : k + 1 < length t) (fits : get_or t (k + 1) 0 < 256) (here : get_or t k 0 ≡ x) where
+  pub flag_apart : is_in g.seconds (get_or t (k + 1) 0) ≡ false → begins_with_one os (drop k t) ≡ false
+  flag_apart h =
+      second_apart os t k group.nonempty inside
+      (ap (λ b. list_any (goes_on_behind b (get_or t (k + 1) 0)) os) here
+      ∙ sym (group.seconds.each (get_or t (k + 1) 0) fits) ∙ h)
 
--- the group of the text's first byte has all openers that can stand at its front
-pub in_group : (os : List (List ℕ)) (x : ℕ) (t : List ℕ) → list_all is_nonempty os ≡ true
-    → begins_with_one (with_first x os) (x ∷ t) ≡ begins_with_one os (x ∷ t)
-unfolding begins_with_one
-in_group [] x t all = refl
-in_group (o ∷ os) x t all =
-    by (is_first_of x o) refl (in_group os x t (and_right (is_nonempty o) (list_all is_nonempty os) all))
-  where
-    clash : is_first_of x o ≡ false → is_first_of x o ≡ true → ⊥
-    clash e f = absurd (cc)
+  pub flag_stands : is_in g.wholes (get_or t (k + 1) 0) ≡ true → begins_with_one os (drop k t) ≡ true
+  flag_stands h =
+      whole_at os t k inside
+      (ap (λ b. list_any (is_whole_behind b (get_or t (k + 1) 0)) os) here
+      ∙ sym (group.wholes.each (get_or t (k + 1) 0) fits) ∙ h)
 
-    by : (b : Bool) → is_first_of x o ≡ b → begins_with_one (with_first x os) (x ∷ t) ≡ begins_with_one os (x ∷ t)
-        → begins_with_one (cond b (o ∷ with_first x os) (with_first x os)) (x ∷ t)
-        ≡ (begins o (x ∷ t) || begins_with_one os (x ∷ t))
-    by true e rest = ap (λ r. begins o (x ∷ t) || r) rest
-    by false e rest =
-        rest ∙ sym (ap (λ b. b || begins_with_one os (x ∷ t))
-        (not_true (begins o (x ∷ t)) (λ h. clash e
-        (begins_first o t x (and_left (is_nonempty o) (list_all is_nonempty os) all) h))))
+-- one of some openers passes a test: the one at a place has been added to those before it
+or_assoc : (a b c : Bool) → ((a || b) || c) ≡ (a || (b || c))
+or_assoc true b c = refl
+or_assoc false b c = refl
 
-all_first : (os : List (List ℕ)) (x : ℕ) → list_all (is_first_of x) (with_first x os) ≡ true
-all_first [] x = refl
-all_first (o ∷ os) x = by (is_first_of x o) refl (all_first os x)
-  where
-    by : (b : Bool) → is_first_of x o ≡ b → list_all (is_first_of x) (with_first x os) ≡ true
-        → list_all (is_first_of x) (cond b (o ∷ with_first x os) (with_first x os)) ≡ true
-    by true e rest = ap (λ y. y && list_all (is_first_of x) (with_first x os)) e ∙ rest
-    by false e rest = rest
+pub any_more : (test : List ℕ → Bool) (os : List (String Global)) (i : ℕ) (d : String Global) → i < length os
+    → (o : List ℕ) → o ≡ string_bytes (get_or os i d) → (before after all : Bool) → after ≡ (before || test o)
+    → (before || list_any test (tokens_of (drop i os))) ≡ all → (after || list_any test (tokens_of (drop (i + 1) os))) ≡ all
+any_more test os i d l o here before after all added so_far =
+    let rest = list_any test (tokens_of (drop (i + 1) os)) in
+    ap (λ b. b || rest) (added ∙ ap (λ p. before || test p) here)
+    ∙ or_assoc before (test (string_bytes (get_or os i d))) rest
+    ∙ sym (ap (λ s. before || list_any test (tokens_of s)) (drop_more os i d l))
+    ∙ so_far
 
--- what the search asks of a group
-module _ (os : List (List ℕ)) (firsts : List ℕ) (groups : List (List (List ℕ))) (x : IsIndexOf os firsts groups) where
+-- where no first byte stands
+module _ (os : List (List ℕ)) (firsts : List ℕ) (groups : List OpenerGroup) (x : IsIndexOf os firsts groups) where
   pub apart : (b : ℕ) (t : List ℕ) → (is_one_of firsts b ≡ true → ⊥) → begins_with_one os (b ∷ t) ≡ false
   apart b t none = not_true (begins_with_one os (b ∷ t)) (λ h. none (x.firsts_are b ∙ starts_first os b t x.nonempty h))
 
@@ -170,20 +170,6 @@ module _ (os : List (List ℕ)) (firsts : List ℕ) (groups : List (List (List �
   apart_at [] n l none = absurd (omega (arith, l))
   apart_at (b ∷ t) zero l none = apart b t none
   apart_at (b ∷ t) (suc n) l none = apart_at t n (omega (arith, l)) none
-
-  pub of_group : (i : ℕ) (d : List (List ℕ)) → i < length firsts → (t : List ℕ)
-      → begins_with_one (get_or groups i d) (get_or firsts i 0 ∷ t) ≡ begins_with_one os (get_or firsts i 0 ∷ t)
-  of_group i d l t =
-      ap (λ g. begins_with_one g (get_or firsts i 0 ∷ t))
-      (ap (λ gs. get_or gs i d) x.grouped ∙ get_or-map (λ y. with_first y os) firsts i 0 d l)
-      ∙ in_group os (get_or firsts i 0) t x.nonempty
-
-  pub first_of_group : (i : ℕ) (d : List (List ℕ)) → i < length firsts
-      → list_all (is_first_of (get_or firsts i 0)) (get_or groups i d) ≡ true
-  first_of_group i d l =
-      ap (list_all (is_first_of (get_or firsts i 0)))
-      (ap (λ gs. get_or gs i d) x.grouped ∙ get_or-map (λ y. with_first y os) firsts i 0 d l)
-      ∙ all_first os (get_or firsts i 0)
 
   -- from a place on, up to the next first byte of an opener
   pub none_passed : (t : List ℕ) (i j : ℕ) → j ≤ length t
@@ -214,15 +200,6 @@ module _ (p : ℕ → Bool) (t : List ℕ) (i : ℕ) (l : i ≤ length t) where
   without_hit f k a h =
       unhit (length t - i) (omega (arith, l))
       (λ j m. f j (omega arith) (omega (arith, m, part_len t i (length t) (omega arith)))) k a (omega (arith, l, h))
-
--- where a group has all openers with a byte, they stand where it does at a place with that byte
-pub group_at : (g os : List (List ℕ)) (x : ℕ) → ((s : List ℕ) → begins_with_one g (x ∷ s) ≡ begins_with_one os (x ∷ s))
-    → (t : List ℕ) (n : ℕ) → n < length t → get_or t n 0 ≡ x
-    → begins_with_one g (drop n t) ≡ begins_with_one os (drop n t)
-group_at g os x same [] n l e = absurd (omega (arith, l))
-group_at g os x same (b ∷ t) zero l e =
-    ap (λ y. begins_with_one g (y ∷ t)) e ∙ same t ∙ sym (ap (λ y. begins_with_one os (y ∷ t)) e)
-group_at g os x same (b ∷ t) (suc n) l e = group_at g os x same t n (omega (arith, l)) e
 
 -- up to a place, and at it
 pub one_more : (P : ℕ → Type 0) (i j : ℕ) → ((k : ℕ) → i ≤ k → k < j → P k) → P j → (k : ℕ) → i ≤ k → k < j + 1 → P k
@@ -279,13 +256,6 @@ no_byte bs i x l e y = clash (sym (ap (λ s. is_one_of s x) (drop_all i bs l)) �
     clash : false ≡ true → ⊥
     clash h = absurd (cc)
 
--- few bytes that have all of a set have those with which an opener goes on
-pub few_tell : (few : Option (List ℕ)) (os : List (List ℕ)) (flags : List Bool) → HasFlags goes_on_with os flags
-    → IfSome few (λ f. (y : ℕ) → y < 256 → is_in flags y ≡ true → is_one_of f y ≡ true)
-    → IfSome few (λ f. (y : ℕ) → y < 256 → list_any (goes_on_with y) os ≡ true → is_one_of f y ≡ true)
-few_tell None os flags s h = h
-few_tell (Some f) os flags s h = λ y l e. h y l (s.each y l ∙ e)
-
 -- a byte of a list that counts only before some others stands before another
 parts : (x y z : Bool) → (x && (not y || z)) ≡ false → x ≡ true → (y ≡ true) × (z ≡ false)
 parts true true false h e = (refl, refl)
@@ -293,17 +263,13 @@ parts true true true h e = absurd (cc)
 parts true false z h e = absurd (cc)
 parts false y z h e = absurd (cc)
 
-contrary : false ≡ true → ⊥
-contrary h = absurd (cc)
-
--- where no byte stands that can begin an opener, or one of a group with a byte behind it with which none of them goes on
-pub pair_apart : (os g : List (List ℕ)) (firsts : List ℕ) (groups : List (List (List ℕ))) → IsIndexOf os firsts groups
-    → (near seconds : List ℕ) (byte : ℕ) → SameBytes near firsts
-    → ((y : ℕ) → y < 256 → list_any (goes_on_with y) g ≡ true → is_one_of seconds y ≡ true)
-    → ((s : List ℕ) → begins_with_one g (byte ∷ s) ≡ begins_with_one os (byte ∷ s))
+-- where no byte stands that can begin an opener, or that of a group with one behind it with which none goes on
+pub pair_apart : (os : List (List ℕ)) (firsts : List ℕ) (groups : List OpenerGroup) → IsIndexOf os firsts groups
+    → (g : OpenerGroup) (near seconds : List ℕ) (byte : ℕ) → SameBytes near firsts
+    → ((y : ℕ) → y < 256 → is_in g.seconds y ≡ true → is_one_of seconds y ≡ true) → IsGroupOf byte os g
     → (t : List ℕ) (k : ℕ) → k + 1 < length t → get_or t (k + 1) 0 < 256 → counts_at near byte seconds t k ≡ false
     → begins_with_one os (drop k t) ≡ false
-pair_apart os g firsts groups index near seconds byte same has group t k inside fits none =
+pair_apart os firsts groups index g near seconds byte same has group t k inside fits none =
     by (is_one_of near (get_or t k 0)) refl
   where
     x : ℕ
@@ -316,8 +282,8 @@ pair_apart os g firsts groups index near seconds byte same has group t k inside 
     by false e = apart_at os firsts groups index t k (omega (arith, inside)) (λ h. contrary (sym e ∙ same x ∙ h))
     by true e =
         let p = parts (is_one_of near x) (x == byte) (is_one_of seconds y) none e in
-        sym (group_at g os byte group t k (omega (arith, inside)) ((Decides-eqb x byte).0 p.0))
-        ∙ second_apart g t k inside (not_true (list_any (goes_on_with y) g) (λ h. contrary (sym p.1 ∙ has y fits h)))
+        flag_apart os byte g group t k inside fits ((Decides-eqb x byte).0 p.0)
+        (not_true (is_in g.seconds y) (λ h. contrary (sym p.1 ∙ has y fits h)))
 
 -- a set of all bytes has each that a test finds
 or_all : (a : Bool) → true ≡ (a || true)

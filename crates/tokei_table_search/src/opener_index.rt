@@ -5,9 +5,10 @@ ghost use Rattle.std.specs.Prelude.{IfOk, IfSome, IsSome, OnOk, MatchOption};
 ghost use Rattle.std.specs.List.{list_all};
 ghost use Rattle.tokei_table_row.specs.FirstOpener.{first_opener, is_first, is_first_of, is_nonempty};
 ghost use Rattle.tokei_bytes.specs.OneOf.{is_one_of};
-ghost use Rattle.tokei_table_search.specs.OpenerGroups.{with_first, IsIndexOf};
+ghost use Rattle.tokei_table_search.specs.OpenerGroups.{IsGroupOf, AreGroupsOf};
 ghost use Rattle.tokei_table_row.specs.Bytes.{begins_with_one};
 ghost use Rattle.tokei_table_search.specs.NearBytes.{SameBytes, AreNear};
+ghost use Rattle.tokei_table_search.specs.NearBytes.{SameSlotted, AreSlots};
 ghost use Rattle.tokei_table_search.specs.Told.{AllTold};
 ghost use Rattle.memchr.specs.Find.{IsFirstByte};
 ghost use Rattle.tokei_table_row.specs.RowOf.{tokens_of};
@@ -17,7 +18,8 @@ use crate::told::{Told, told_of};
 use memchr::{memchr, memchr2, memchr3};
 use std::alloc::{AllocError, Global};
 use std::marker::Model;
-use tokei_bytes::{BLOCK, first_of_four, next_pair, told_end};
+use tokei_bytes::{BLOCK, NO_SLOTS, first_of_four, first_slotted, next_pair, put_slot, told_end};
+use tokei_table_row::ext::begins_with_one;
 
 /// How many bytes are searched at first for more than three bytes.
 const FIRST_BLOCK: usize = 64;
@@ -36,17 +38,20 @@ const FIRST_WIDTH: usize = 32;
 /// How many bytes are close by. Further ahead the searches of `memchr` are quicker.
 const NEAR: usize = 256;
 
-/// The openers of a language in groups of one first byte. Contracts see it as the list of its
-/// openers.
+/// The openers of a language, and what can follow each first byte of theirs. Contracts see it as
+/// the list of the openers.
 #[derive(Drop)]
 pub struct OpenerIndex {
-    /// As they were given. The search goes by the groups.
+    /// As they were given.
     openers: Vec<String>,
     firsts: Vec<u8>,
     /// The first bytes, where they are one to four; those that are fewer than four are named more
     /// than once.
     near: Option<[u8; 4]>,
-    /// For each of the first bytes the openers that begin with it.
+    /// The first bytes, each in the slot of its low half, where there are some and no two of them
+    /// have the same.
+    slots: Option<[u8; 16]>,
+    /// For each of the first bytes what can follow it.
     groups: Vec<OpenerGroup>,
     /// The bytes that tell its openers, where it is searched by those.
     told: Option<Told>,
@@ -57,7 +62,7 @@ impl Model for OpenerIndex {
 
     ghost Value = { List (List ℕ) };
 
-    ghost use Rattle.tokei_table_search.specs.NearBytes.{AreNear};
+    ghost use Rattle.tokei_table_search.specs.NearBytes.{AreNear, AreSlots};
     ghost use Rattle.tokei_table_search.specs.OpenerGroups.{IsIndexOf};
     ghost use Rattle.tokei_table_search.specs.Told.{AreTold};
     ghost use Rattle.tokei_table_row.specs.RowOf.{tokens_of};
@@ -65,7 +70,8 @@ impl Model for OpenerIndex {
     ghost view = { λ x. tokens_of x.openers.items };
 
     ghost invariant = { λ x. IsIndexOf (tokens_of x.openers.items) x.firsts.items x.groups.items
-        × (AreNear x.near x.firsts.items × AreTold x.told (tokens_of x.openers.items)) };
+        × (AreNear x.near x.firsts.items × (AreSlots x.slots x.firsts.items
+        × AreTold x.told (tokens_of x.openers.items))) };
 }
 
 #[inline(always)]
@@ -101,7 +107,7 @@ fn first_bytes(alloc: Global, openers: &[String]) -> Result<Vec<u8>, AllocError>
     ensures { IfOk result (λ v. (x : ℕ)
         → is_one_of v.items x ≡ is_first (tokens_of openers.now) x) }
 {
-    let mut firsts = Vec::new(alloc);
+    let mut firsts = Vec::with_capacity(alloc, openers.len())?;
     for opener in openers {
         add_first(&mut firsts, opener.as_bytes())?;
     }
@@ -122,41 +128,34 @@ fn near_of(firsts: &[u8]) -> Option<[u8; 4]>
     }
 }
 
-fn is_first_of(byte: u8, opener: &[u8]) -> bool
-    ensures { result ≡ is_first_of byte opener.now }
+/// The bytes of the list in their slots, where there are some and each has one of its own.
+fn slots_of(firsts: &[u8]) -> Option<[u8; 16]>
+    ensures { AreSlots result firsts.now }
 {
-    match opener {
-        [] => false,
-        [first, ..] => byte == *first,
+    if firsts.is_empty() {
+        return None;
     }
-}
-
-/// Those of the openers that begin with the byte.
-fn with_first(alloc: Global, byte: u8, openers: &[String]) -> Result<Vec<String>, AllocError>
-    ensures { IfOk result (λ v. tokens_of v.items ≡ with_first byte (tokens_of openers.now)) }
-{
-    let mut out = Vec::new(alloc);
-    for opener in openers {
-        if is_first_of(byte, opener.as_bytes()) {
-            out.push(String::from_str(alloc, opener.as_str())?)?;
+    let mut slots = NO_SLOTS;
+    for first in firsts {
+        if !put_slot(&mut slots, *first) {
+            return None;
         }
     }
-    Ok(out)
+    Some(slots)
 }
 
-/// For each of the first bytes the openers that begin with it.
+/// For each of the first bytes what can follow it.
 fn groups_of(
     alloc: Global,
     firsts: &[u8],
     openers: &[String],
 ) -> Result<Vec<OpenerGroup>, AllocError>
-    ensures { IfOk result (λ v. v.items
-        ≡ map (λ x. with_first x (tokens_of openers.now)) firsts.now) }
+    requires { list_all is_nonempty (tokens_of openers.now) ≡ true }
+    ensures { IfOk result (λ v. AreGroupsOf (tokens_of openers.now) firsts.now v.items) }
 {
-    let mut groups = Vec::new(alloc);
+    let mut groups = Vec::with_capacity(alloc, firsts.len())?;
     for byte in firsts {
-        let group = OpenerGroup::new(alloc, with_first(alloc, *byte, openers)?)?;
-        match groups.push(group) {
+        match groups.push(OpenerGroup::new(*byte, openers)) {
             Ok(()) => {}
             Err(_refused) => return Err(AllocError),
         }
@@ -268,6 +267,26 @@ fn first_near(near: [u8; 4], bytes: &[u8], text: &[u8], from: usize) -> usize
     first_among(bytes, text, end)
 }
 
+/// The same by the slots of the bytes: one look-up tests for all of them.
+#[inline(always)]
+fn first_slotted_near(slots: [u8; 16], bytes: &[u8], text: &[u8], from: usize) -> usize
+    requires order { from ≤ length text.now }
+    requires same { SameSlotted slots bytes.now }
+    ensures low { from ≤ result }
+    ensures within { result ≤ length text.now }
+    ensures passed { (k : ℕ) → from ≤ k → k < result
+        → is_one_of bytes.now (slice_index text.now k) ≡ false }
+    ensures found { result < length text.now
+        → is_one_of bytes.now (slice_index text.now result) ≡ true }
+{
+    let end = from + NEAR.min(text.len() - from);
+    let at = first_slotted(slots, text, from, end);
+    if at < end {
+        return at;
+    }
+    first_among(bytes, text, end)
+}
+
 /// Whether openers are searched by two bytes: where more than four first bytes, or a letter or a
 /// digit, can begin one. Such stand often where no opener does.
 fn goes_by_two(firsts: &[u8]) -> bool {
@@ -300,7 +319,7 @@ impl OpenerIndex {
         requires { list_all is_nonempty (map (λ o. o.now) openers.now) ≡ true }
         ensures { IfOk result (λ x. x ≡ map (λ o. o.now) openers.now) }
     {
-        let mut owned = Vec::new(alloc);
+        let mut owned = Vec::with_capacity(alloc, openers.len())?;
         for opener in openers {
             owned.push(String::from_str(alloc, *opener)?)?;
         }
@@ -314,6 +333,7 @@ impl OpenerIndex {
     {
         let firsts = first_bytes(alloc, &openers)?;
         let near = near_of(&firsts);
+        let slots = slots_of(&firsts);
         let groups = groups_of(alloc, &firsts, &openers)?;
         let told = if goes_by_two(&firsts) {
             told_of(&openers)
@@ -324,19 +344,18 @@ impl OpenerIndex {
             openers,
             firsts,
             near,
+            slots,
             groups,
             told,
         })
     }
 
-    /// The openers that begin with the byte, where there are any.
+    /// What can follow the byte in the openers that begin with it, where there are any.
     #[inline(always)]
     fn group_of(&self, byte: u8) -> Option<&OpenerGroup>
-        ensures firsts { IfSome result (λ g. list_all (is_first_of byte) g.now ≡ true) }
-        ensures group { MatchOption result
+        ensures { MatchOption result
             ((t : List ℕ) → begins_with_one self.entry.now (byte ∷ t) ≡ false)
-            (λ g. (t : List ℕ)
-            → begins_with_one g.now (byte ∷ t) ≡ begins_with_one self.entry.now (byte ∷ t)) }
+            (λ g. IsGroupOf byte self.entry.now g.now) }
     {
         for (i, first) in self.firsts.iter().enumerate() {
             if byte == *first {
@@ -356,14 +375,15 @@ impl OpenerIndex {
         ensures none { (k : ℕ) → from ≤ k → k < result
             → begins_with_one self.now (drop k text.now) ≡ false }
     {
-        match self.near {
-            Some(near) => first_near(near, &self.firsts, text, from),
-            None => first_among(&self.firsts, text, from),
+        match (self.slots, self.near) {
+            (Some(slots), _) => first_slotted_near(slots, &self.firsts, text, from),
+            (None, Some(near)) => first_near(near, &self.firsts, text, from),
+            (None, None) => first_among(&self.firsts, text, from),
         }
     }
 
-    /// The same by the bytes that tell an opener; in the text's last block by first bytes. It stands
-    /// in no caller's code, since few languages are searched so.
+    /// The same by the bytes that tell an opener; in the text's last block by first bytes. It
+    /// stands in no caller's code, since few languages are searched so.
     #[inline(never)]
     fn next_told(&self, told: &Told, text: &[u8], from: usize) -> usize
         requires order { from ≤ length text.now }
@@ -403,6 +423,26 @@ impl OpenerIndex {
         }
     }
 
+    /// Whether an opener stands at the place, with whose byte those of the group begin. Mostly the
+    /// second byte tells.
+    #[inline(always)]
+    fn stands(&self, group: &OpenerGroup, text: &[u8], at: usize) -> bool
+        requires inside { at < length text.now }
+        requires group { IsGroupOf (slice_index text.now at) self.now group.now }
+        ensures { result ≡ begins_with_one self.now (drop at text.now) }
+    {
+        if at + 1 < text.len() {
+            let second = text[at + 1];
+            if group.wholes.has(second) {
+                return true;
+            }
+            if !group.seconds.has(second) {
+                return false;
+            }
+        }
+        begins_with_one(&self.openers, &text[at..])
+    }
+
     /// Whether an opener stands at the place.
     #[inline(always)]
     fn stands_at(&self, text: &[u8], at: usize) -> bool
@@ -410,7 +450,7 @@ impl OpenerIndex {
         ensures { result ≡ begins_with_one self.now (drop at text.now) }
     {
         match self.group_of(text[at]) {
-            Some(group) => group.stands(text, at),
+            Some(group) => self.stands(group, text, at),
             None => false,
         }
     }
@@ -429,15 +469,14 @@ impl OpenerIndex {
     ) -> usize
         requires order { from ≤ to }
         requires inside { to ≤ length text.now }
-        requires group { (t : List ℕ)
-            → begins_with_one group.now (byte ∷ t) ≡ begins_with_one self.now (byte ∷ t) }
+        requires group { IsGroupOf byte self.now group.now }
         ensures low { from ≤ result }
         ensures within { result ≤ length text.now }
         ensures none { (k : ℕ) → from ≤ k → k < result
             → begins_with_one self.now (drop k text.now) ≡ false }
     {
         let mut at = from;
-        if let (Some(near), Some(seconds)) = (self.near, group.few_seconds()) {
+        if let (Some(near), Some(seconds)) = (self.near, group.seconds.few()) {
             while at < to {
                 at = next_pair(near, byte, seconds, text, at, to);
                 if to <= at || self.stands_at(text, at) {
@@ -455,8 +494,7 @@ impl OpenerIndex {
     #[inline(always)]
     fn passed(&self, group: &OpenerGroup, text: &[u8], at: usize, width: usize) -> usize
         requires inside { at < length text.now }
-        requires group { (t : List ℕ) → begins_with_one group.now (slice_index text.now at ∷ t)
-            ≡ begins_with_one self.now (slice_index text.now at ∷ t) }
+        requires group { IsGroupOf (slice_index text.now at) self.now group.now }
         ensures low { at < result }
         ensures within { result ≤ length text.now }
         ensures none { (k : ℕ) → at + 1 ≤ k → k < result
@@ -490,7 +528,7 @@ impl OpenerIndex {
             };
             from = match self.group_of(text[at]) {
                 Some(group) => {
-                    if group.stands(text, at) {
+                    if self.stands(group, text, at) {
                         return Some(at);
                     }
                     self.passed(group, text, at, width)

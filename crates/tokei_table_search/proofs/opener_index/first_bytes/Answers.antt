@@ -6,7 +6,7 @@ use Rattle.tokei_table_search.proofs.FirstBytes.{is_first-none, is_first-push, t
 use Rattle.tokei_table_search.proofs.opener_index.first_bytes.Goals as goal
 
 pub loop-opener-init : goal.loop-opener-init
-loop-opener-init c = λ x. ap (λ l. is_one_of l x) c.new-firsts.ensures.items ∙ sym (is_first-none x)
+loop-opener-init c = λ x. ap (λ l. is_one_of l x) c.in_ok-firsts.ensures.items ∙ sym (is_first-none x)
 
 pub loop-opener-preserved : goal.loop-opener-preserved
 loop-opener-preserved c = λ x.

@@ -1,16 +1,19 @@
-use Rattle.std.proofs.Common.{◌≡◌, false, drop, get_or, sym, ◌∙◌, arith}
-use Rattle.tokei_table_row.specs.Bytes.{begins_with_one}
-use Rattle.tokei_table_search.proofs.OpenerGroups.{second_apart, one_more}
+use Rattle.std.proofs.Common.{◌≡◌, ◌+◌, false, get_or, sym, ◌∙◌, arith}
+use Rattle.tokei_bytes.specs.ByteSets.{is_in}
+use Rattle.tokei_table_search.proofs.OpenerGroups.{one_more}
 use Rattle.tokei_table_search.proofs.opener_group.OpenerGroup.passed.Goals as goal
 
 pub loop-at-preserved : goal.loop-at-preserved
 loop-at-preserved c =
     let at = c.loop-at.at in
-    let i = c.loop-at.invariant in (
-      omega (arith, i.0),
-      omega (arith, c.loop-at-test.true),
-      one_more (λ k. get_or c.args.text.now k 0 ≡ c.args.byte) c.args.from at i.2 c.if-text-at.true,
-      one_more (λ k. begins_with_one c.args.self.now (drop k c.args.text.now) ≡ false) c.args.from at i.3
-          (second_apart c.args.self.now c.args.text.now at c.loop-at-test.true
-          (sym c.goes_on.ensures ∙ c.if-not-goes_on.true)),
-    )
+    let i = c.loop-at.invariant in
+    let text = c.args.text.now in
+    record {
+      low = omega (arith, i.low);
+      within = omega (arith, c.loop-at-test.true);
+      inside = λ h. c.loop-at-test.true;
+      run = one_more (λ k. get_or text k 0 ≡ c.args.byte) c.args.from at i.run c.if-text-at.true;
+      none =
+          one_more (λ k. is_in c.args.self.now.seconds (get_or text (k + 1) 0) ≡ false) c.args.from at i.none
+          (sym c.has.ensures ∙ c.if-not-has.true);
+    }

@@ -1,6 +1,6 @@
-use Rattle.std.proofs.Common.{◌<◌, length, get_or, sym, refl, ◌∙◌, arith}
+use Rattle.std.proofs.Common.{◌<◌, length, sym, ◌∙◌, arith}
 use Rattle.tokei_table_search.proofs.FirstPlaces.{first_at, first_none}
-use Rattle.tokei_table_search.proofs.OpenerGroups.{group_at, none_up_to, none_behind}
+use Rattle.tokei_table_search.proofs.OpenerGroups.{none_up_to, none_behind}
 use Rattle.tokei_table_search.proofs.opener_index.OpenerIndex.first_in.Goals as goal
 use Rattle.tokei_table_search.proofs.opener_index.OpenerIndex.first_in.Goals.{then-at-from-lt-CLOSE, else-at-from-lt-CLOSE}
 
@@ -17,22 +17,18 @@ returns-then-stands c =
     first_at c.args.self.now c.args.text.now at inside
     (none_up_to c.args.self.now c.args.text.now c.loop-from.from at c.loop-from.invariant.none
     c.next_first-at.ensures.none)
-    (sym (group_at c.in-Some.group.now c.args.self.now
-    (get_or c.args.text.now at 0) c.in-Some.ensures.group c.args.text.now at inside refl)
-    ∙ sym c.stands.ensures ∙ c.if-stands.true)
+    (sym c.stands.ensures ∙ c.if-stands.true)
 
 pub loop-from-preserved-else-stands : goal.loop-from-preserved-else-stands
 loop-from-preserved-else-stands c =
     let at = c.next_first-at.result in
     let text = c.args.text.now in
     let os = c.args.self.now in
-    let inside : at < length text = omega (arith, c.next_first-at.ensures.within, c.if-at-text.false) in
     record {
       within = c.passed-from.ensures.within;
       none = none_behind os text at c.passed-from.result
           (none_up_to os text c.loop-from.from at c.loop-from.invariant.none c.next_first-at.ensures.none)
-          (sym (group_at c.in-Some.group.now os (get_or text at 0) c.in-Some.ensures.group text at inside refl)
-          ∙ sym c.stands.ensures ∙ c.if-stands.false)
+          (sym c.stands.ensures ∙ c.if-stands.false)
           c.passed-from.ensures.none;
       narrow = elim c.if-at-from-lt-CLOSE.branch [
         | then-at-from-lt-CLOSE w ↦ omega (arith, w.min-width.ensures, w.width-is)

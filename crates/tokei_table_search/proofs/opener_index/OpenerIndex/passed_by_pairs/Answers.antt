@@ -11,8 +11,8 @@ returns-then-to-at-clause-none c =
     let index = subst (λ os. IsIndexOf os firsts groups) c.self.view_is c.self.invariant.0 in
     let near = subst (λ n. AreNear n firsts) c.in-Some-Some.is-0 c.self.invariant.1.0 in
     none_on c.args.self.now c.args.text.now c.args.from c.loop-at.at c.next_pair-at.result c.loop-at.invariant.none
-    (λ k a h. pair_apart c.args.self.now c.args.group.now firsts groups index c.in-Some-Some.near c.in-Some-Some.seconds c.args.byte
-    near c.in-Some-Some.ensures c.requires.group
+    (λ k a h. pair_apart c.args.self.now firsts groups index c.args.group.now c.in-Some-Some.near c.in-Some-Some.seconds c.args.byte
+    near c.in-Some-Some.ensures.holds c.requires.group
     c.args.text.now k (omega (arith, h, c.next_pair-at.ensures.inside (omega (arith, a, h)))) ((c.type_inv.text (k + 1)).fits) (c.next_pair-at.ensures.passed k a h))
 
 pub loop-at-preserved : goal.loop-at-preserved
@@ -22,8 +22,8 @@ loop-at-preserved c =
     let index = subst (λ os. IsIndexOf os firsts groups) c.self.view_is c.self.invariant.0 in
     let near = subst (λ n. AreNear n firsts) c.in-Some-Some.is-0 c.self.invariant.1.0 in
     let before = none_on c.args.self.now c.args.text.now c.args.from c.loop-at.at c.next_pair-at.result c.loop-at.invariant.none
-    (λ k a h. pair_apart c.args.self.now c.args.group.now firsts groups index c.in-Some-Some.near c.in-Some-Some.seconds c.args.byte
-    near c.in-Some-Some.ensures c.requires.group
+    (λ k a h. pair_apart c.args.self.now firsts groups index c.args.group.now c.in-Some-Some.near c.in-Some-Some.seconds c.args.byte
+    near c.in-Some-Some.ensures.holds c.requires.group
     c.args.text.now k (omega (arith, h, c.next_pair-at.ensures.inside (omega (arith, a, h)))) ((c.type_inv.text (k + 1)).fits) (c.next_pair-at.ensures.passed k a h)) in
     record {
       low = omega (arith, c.loop-at.invariant.low, c.next_pair-at.ensures.low);

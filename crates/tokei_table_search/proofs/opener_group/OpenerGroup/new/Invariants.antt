@@ -1,0 +1,18 @@
+use Rattle.std.proofs.Common.{◌≡◌, ◌<◌, ◌||◌, ℕ, drop, length}
+use Rattle.std.specs.List.{list_any}
+use Rattle.tokei_bytes.specs.ByteSets.{is_in}
+use Rattle.tokei_table_search.specs.OpenerGroups.{goes_on_behind, is_whole_behind}
+use Rattle.tokei_table_row.specs.RowOf.{tokens_of}
+use Rattle.tokei_table_search.proofs.opener_group.OpenerGroup.new.Given as goal
+
+abbrev pub invariant-loop-opener : goal.invariant-loop-opener
+invariant-loop-opener l = record {
+  seconds_long : length l.seconds ≡ 256;
+  wholes_long : length l.wholes ≡ 256;
+  seconds_each : (y : ℕ) → y < 256
+      → (is_in l.seconds y || list_any (goes_on_behind l.byte y) (tokens_of (drop l.opener-index l.openers)))
+      ≡ list_any (goes_on_behind l.byte y) (tokens_of l.openers);
+  wholes_each : (y : ℕ) → y < 256
+      → (is_in l.wholes y || list_any (is_whole_behind l.byte y) (tokens_of (drop l.opener-index l.openers)))
+      ≡ list_any (is_whole_behind l.byte y) (tokens_of l.openers);
+}
