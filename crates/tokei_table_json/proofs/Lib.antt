@@ -2,6 +2,7 @@ pub mod Backslashes
 pub mod Characters
 pub mod FilledRows
 pub mod KeyOrder
+pub mod MemberKeys
 pub mod MemberTests
 pub mod MembersOnce
 pub mod NoPairs

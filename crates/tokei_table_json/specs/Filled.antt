@@ -1,5 +1,5 @@
 -- A new row into which a member of `languages` is read, one of its members after the other.
-use Rattle.std.specs.Prelude.{ℕ, Bool, List, Some, if◌then◌else◌, ◌||◌, bytes_eq, codes}
+use Rattle.std.specs.Prelude.{ℕ, Bool, List, Some, if◌then◌else◌, bytes_eq, codes}
 use Rattle.serde_json.specs.Data.{Data, boolean, string, array, Members, no_members, member}
 use Rattle.tokei_table_json.specs.Escapes.{unescaped_text}
 use Rattle.tokei_table_json.specs.Rows.{texts_of, pairs_in, tags_at, name_or}
@@ -38,19 +38,6 @@ put_tags html tags value = tags
 -- What is put in place of a member's value where the key is that member's.
 abbrev pub put_at : {X : Type 0} → List ℕ → (X → Data → X) → List ℕ → Data → X → X
 put_at name put k detail value = if bytes_eq k name then put value detail else value
-
--- Whether a member's list is one of texts.
-abbrev pub holds_texts : List ℕ → Bool
-holds_texts key = bytes_eq key (codes "extensions") || (bytes_eq key (codes "line_comment")
-    || (bytes_eq key (codes "filenames") || (bytes_eq key (codes "shebangs")
-    || (bytes_eq key (codes "env") || (bytes_eq key (codes "path_suffixes")
-    || (bytes_eq key (codes "mime") || bytes_eq key (codes "important_syntax")))))))
-
--- Whether a member's list is one of pairs.
-abbrev pub holds_pairs : List ℕ → Bool
-holds_pairs key = bytes_eq key (codes "multi_line_comments") || (bytes_eq key (codes "quotes")
-    || (bytes_eq key (codes "verbatim_quotes") || (bytes_eq key (codes "doc_quotes")
-    || bytes_eq key (codes "nested_comments"))))
 
 -- The row into which one more member is read, of a language that is of kind `html` or not.
 abbrev pub with_member : Bool → List ℕ → Data → Row → Row

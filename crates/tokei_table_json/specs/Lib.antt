@@ -6,5 +6,6 @@ pub mod KeyOrder
 pub mod Layout
 pub mod MemberEscapes
 pub mod MemberLayout
+pub mod Members
 pub mod RowLaws
 pub mod Rows

@@ -6,11 +6,13 @@ ghost use Rattle.tokei_table_json.specs.Escaped.{is_escaped_value, is_escaped_li
 ghost use Rattle.tokei_table_json.specs.Escaped.{are_escaped_contexts, is_escaped_language, are_escaped_languages};
 ghost use Rattle.tokei_table_json.specs.Escaped.{is_escaped_table};
 ghost use Rattle.tokei_table_json.specs.KeyOrder.{AreInOrder};
-ghost use Rattle.tokei_table_json.specs.MemberEscapes.{keeps_tokens, keeps_finders, keeps_traits, keeps_escapes};
+ghost use Rattle.tokei_table_json.specs.MemberEscapes.{keeps_escapes};
 ghost use Rattle.tokei_table_json.specs.MemberLayout.{all_members};
+ghost use Rattle.tokei_table_json.specs.Members.{member_keeps_escapes};
 
 use crate::escapes::is_escaped;
 use crate::layout::is_html_kind;
+use crate::members::{Member, member_of};
 use serde_json::{Map, Value};
 
 fn is_escaped_value(value: &Value) -> bool
@@ -91,67 +93,23 @@ fn are_escaped_contexts(value: &Value) -> bool
     }
 }
 
-/// Whether a member that holds comments or string literals has but the known escapes.
-fn keeps_tokens(key: &str, value: &Value) -> bool
-    ensures { result ≡ keeps_tokens key.now (view value.now) }
+/// Whether a member has but the known escapes in a language, which is of kind `html` or not.
+fn member_keeps_escapes(html: bool, member: Member, value: &Value) -> bool
+    ensures { result ≡ member_keeps_escapes html member (view value.now) }
 {
-    if key == "line_comment" {
-        is_escaped_list(value)
-    } else if key == "multi_line_comments" {
-        are_escaped_pairs(value)
-    } else if key == "nested_comments" {
-        are_escaped_pairs(value)
-    } else if key == "quotes" {
-        are_escaped_pairs(value)
-    } else if key == "verbatim_quotes" {
-        are_escaped_pairs(value)
-    } else if key == "doc_quotes" {
-        are_escaped_pairs(value)
-    } else {
-        true
-    }
-}
-
-/// Whether a member by which a language is found has but the known escapes.
-fn keeps_finders(key: &str, value: &Value) -> bool
-    ensures { result ≡ keeps_finders key.now (view value.now) }
-{
-    if key == "extensions" {
-        is_escaped_list(value)
-    } else if key == "filenames" {
-        is_escaped_list(value)
-    } else if key == "path_suffixes" {
-        is_escaped_list(value)
-    } else if key == "mime" {
-        is_escaped_list(value)
-    } else if key == "shebangs" {
-        is_escaped_list(value)
-    } else if key == "env" {
-        is_escaped_list(value)
-    } else {
-        true
-    }
-}
-
-/// Whether another member has but the known escapes.
-fn keeps_traits(html: bool, key: &str, value: &Value) -> bool
-    ensures { result ≡ keeps_traits html key.now (view value.now) }
-{
-    if key == "name" {
-        is_escaped_value(value)
-    } else if key == "important_syntax" {
-        is_escaped_list(value)
-    } else if key == "contexts" {
-        !html || are_escaped_contexts(value)
-    } else {
-        true
+    match member {
+        Member::Texts(_) => is_escaped_list(value),
+        Member::Pairs(_) => are_escaped_pairs(value),
+        Member::Name => is_escaped_value(value),
+        Member::Contexts => !html || are_escaped_contexts(value),
+        Member::Truth(_) | Member::Kind | Member::Other => true,
     }
 }
 
 pub(crate) fn keeps_escapes(html: bool, key: &str, value: &Value) -> bool
     ensures { result ≡ keeps_escapes html key.now (view value.now) }
 {
-    keeps_tokens(key, value) && keeps_finders(key, value) && keeps_traits(html, key, value)
+    member_keeps_escapes(html, member_of(key), value)
 }
 
 fn all_keep_escapes(html: bool, members: &Map<String, Value>) -> bool

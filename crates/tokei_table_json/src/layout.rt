@@ -3,9 +3,11 @@ ghost use Rattle.std.specs.Prelude.{◌≡◌, option_map, codes};
 ghost use Rattle.serde_json.specs.View.{view, items_view, members_view};
 ghost use Rattle.tokei_table_json.specs.Layout.{all_items, is_list, is_text, are_two_texts};
 ghost use Rattle.tokei_table_json.specs.Layout.{is_text_pair, is_html_kind, is_context, is_language, are_languages, has_layout};
-ghost use Rattle.tokei_table_json.specs.MemberLayout.{all_members, fits_comments, fits_literals, fits_finders, fits_traits, fits};
+ghost use Rattle.tokei_table_json.specs.MemberLayout.{all_members, fits};
+ghost use Rattle.tokei_table_json.specs.Members.{fits_member};
 ghost use Rattle.tokei_table_json.specs.KeyOrder.{AreInOrder};
 
+use crate::members::{Member, member_of};
 use crate::values::{all_texts, has_float, is_text, is_truth_value};
 use serde_json::{Map, Value};
 
@@ -101,87 +103,24 @@ fn is_context_list(html: bool, value: &Value) -> bool
     }
 }
 
-/// Whether a member that holds comments may have the value.
-fn fits_comments(key: &str, value: &Value) -> bool
-    ensures { result ≡ fits_comments key.now (view value.now) }
+/// Whether a member may have the value in a language, which is of kind `html` or not.
+fn fits_member(html: bool, member: Member, value: &Value) -> bool
+    ensures { result ≡ fits_member html member (view value.now) }
 {
-    if key == "line_comment" {
-        is_text_list(value)
-    } else if key == "multi_line_comments" {
-        is_pair_list(value)
-    } else if key == "nested" {
-        is_truth_value(value)
-    } else if key == "nested_comments" {
-        is_pair_list(value)
-    } else {
-        true
-    }
-}
-
-/// Whether a member that holds string literals may have the value.
-fn fits_literals(key: &str, value: &Value) -> bool
-    ensures { result ≡ fits_literals key.now (view value.now) }
-{
-    if key == "quotes" {
-        is_pair_list(value)
-    } else if key == "verbatim_quotes" {
-        is_pair_list(value)
-    } else if key == "doc_quotes" {
-        is_pair_list(value)
-    } else {
-        true
-    }
-}
-
-/// Whether a member by which a language is found may have the value.
-fn fits_finders(key: &str, value: &Value) -> bool
-    ensures { result ≡ fits_finders key.now (view value.now) }
-{
-    if key == "extensions" {
-        is_text_list(value)
-    } else if key == "filenames" {
-        is_text_list(value)
-    } else if key == "path_suffixes" {
-        is_text_list(value)
-    } else if key == "mime" {
-        is_text_list(value)
-    } else if key == "shebangs" {
-        is_text_list(value)
-    } else if key == "env" {
-        is_text_list(value)
-    } else {
-        true
-    }
-}
-
-/// Whether another member may have the value in a language, which is of kind `html` or not.
-fn fits_traits(html: bool, key: &str, value: &Value) -> bool
-    ensures { result ≡ fits_traits html key.now (view value.now) }
-{
-    if key == "name" {
-        is_text(value)
-    } else if key == "kind" {
-        is_text(value)
-    } else if key == "literate" {
-        is_truth_value(value)
-    } else if key == "blank" {
-        is_truth_value(value)
-    } else if key == "important_syntax" {
-        is_text_list(value)
-    } else if key == "contexts" {
-        is_context_list(html, value)
-    } else {
-        true
+    match member {
+        Member::Texts(_) => is_text_list(value),
+        Member::Pairs(_) => is_pair_list(value),
+        Member::Truth(_) => is_truth_value(value),
+        Member::Name | Member::Kind => is_text(value),
+        Member::Contexts => is_context_list(html, value),
+        Member::Other => true,
     }
 }
 
 pub(crate) fn fits(html: bool, key: &str, value: &Value) -> bool
     ensures { result ≡ fits html key.now (view value.now) }
 {
-    fits_comments(key, value)
-        && fits_literals(key, value)
-        && fits_finders(key, value)
-        && fits_traits(html, key, value)
+    fits_member(html, member_of(key), value)
 }
 
 fn all_fit(html: bool, members: &Map<String, Value>) -> bool

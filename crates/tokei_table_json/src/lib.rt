@@ -6,6 +6,7 @@ pub mod escaped;
 pub mod escapes;
 pub mod laws;
 pub mod layout;
+pub mod members;
 pub mod misfits;
 pub mod rows;
 pub mod values;

@@ -1,5 +1,5 @@
 //! The rows of a table that has its layout and but the known escapes.
-ghost use Rattle.std.specs.Prelude.{◌≡◌, Bool, Some, codes, map, true, IfOk, OnOk, string_bytes};
+ghost use Rattle.std.specs.Prelude.{◌≡◌, Bool, Some, codes, map, IfOk, OnOk, string_bytes};
 ghost use Rattle.serde_json.specs.Data.{Items, string, boolean, array};
 ghost use Rattle.serde_json.specs.Find.{get, get_member};
 ghost use Rattle.serde_json.specs.View.{view, items_view, members_view};
@@ -7,15 +7,16 @@ ghost use Rattle.tokei_table_row.specs.NewRow.{new_row};
 ghost use Rattle.tokei_table_row.specs.RowOf.{pair_of, pairs_of, tokens_of, row_of};
 ghost use Rattle.tokei_table_json.specs.Escapes.{unescaped_text};
 ghost use Rattle.tokei_table_json.specs.Filled.{with_member, filled};
-ghost use Rattle.tokei_table_json.specs.Filled.{holds_pairs, holds_texts};
 ghost use Rattle.tokei_table_json.specs.KeyOrder.{AreInOrder, IsInKeyOrder};
 ghost use Rattle.tokei_table_json.specs.Layout.{is_html_kind};
+ghost use Rattle.tokei_table_json.specs.Members.{text_list_key, pair_list_key, truth_key, key_of};
 ghost use Rattle.tokei_table_json.specs.Rows.{text_of, text_at, texts_of, name_or};
 ghost use Rattle.tokei_table_json.specs.Rows.{two_texts, pair_in, pairs_in, tags_in, tags_at};
 ghost use Rattle.tokei_table_json.specs.Rows.{row_in, rows_in, rows_at};
 
 use crate::escapes::{has_backslash, unescaped};
 use crate::layout::is_html_kind;
+use crate::members::{Member, PairList, TextList, TruthValue, member_of};
 use serde_json::{Map, Value};
 use std::alloc::{AllocError, Global};
 use tokei_table_row::Syntax;
@@ -92,7 +93,7 @@ fn tag(alloc: Global, context: &Value) -> Result<String, AllocError>
 fn tags(alloc: Global, items: &Vec<Value>) -> Result<Vec<String>, AllocError>
     ensures { IfOk result (λ v. tokens_of v.items ≡ tags_in (items_view items.now.items)) }
 {
-    let mut out = Vec::new(alloc);
+    let mut out = Vec::with_capacity(alloc, items.len())?;
     for item in items {
         out.push(tag(alloc, item)?)?;
     }
@@ -100,46 +101,45 @@ fn tags(alloc: Global, items: &Vec<Value>) -> Result<Vec<String>, AllocError>
 }
 
 /// Puts the texts in place of those of the member.
-fn put_texts(row: &mut Syntax, key: &str, texts: Vec<String>)
-    requires { holds_texts key.now ≡ true }
+fn put_texts(row: &mut Syntax, list: TextList, texts: Vec<String>)
     ensures { (html : Bool) (ds : Items) → tokens_of texts.items ≡ texts_of ds
-        → row_of row.new ≡ with_member html key.now (array ds) (row_of row.old) }
+        → row_of row.new ≡ with_member html (text_list_key list) (array ds) (row_of row.old) }
 {
-    if key == "extensions" {
-        row.extensions = texts;
-    } else if key == "line_comment" {
-        row.line_comment = texts;
-    } else if key == "filenames" {
-        row.filenames = texts;
-    } else if key == "shebangs" {
-        row.shebangs = texts;
-    } else if key == "env" {
-        row.env = texts;
-    } else if key == "path_suffixes" {
-        row.path_suffixes = texts;
-    } else if key == "mime" {
-        row.mime = texts;
-    } else {
-        row.important_syntax = texts;
+    match list {
+        TextList::Extensions => row.extensions = texts,
+        TextList::LineComment => row.line_comment = texts,
+        TextList::Env => row.env = texts,
+        TextList::Filenames => row.filenames = texts,
+        TextList::Shebangs => row.shebangs = texts,
+        TextList::PathSuffixes => row.path_suffixes = texts,
+        TextList::Mime => row.mime = texts,
+        TextList::ImportantSyntax => row.important_syntax = texts,
     }
 }
 
 /// Puts the pairs in place of those of the member.
-fn put_pairs(row: &mut Syntax, key: &str, pairs: Vec<(String, String)>)
-    requires { holds_pairs key.now ≡ true }
+fn put_pairs(row: &mut Syntax, list: PairList, pairs: Vec<(String, String)>)
     ensures { (html : Bool) (ds : Items) → pairs_of pairs.items ≡ pairs_in ds
-        → row_of row.new ≡ with_member html key.now (array ds) (row_of row.old) }
+        → row_of row.new ≡ with_member html (pair_list_key list) (array ds) (row_of row.old) }
 {
-    if key == "multi_line_comments" {
-        row.multi_line_comments = pairs;
-    } else if key == "quotes" {
-        row.quotes = pairs;
-    } else if key == "verbatim_quotes" {
-        row.verbatim_quotes = pairs;
-    } else if key == "doc_quotes" {
-        row.doc_quotes = pairs;
-    } else {
-        row.nested_comments = pairs;
+    match list {
+        PairList::MultiLineComments => row.multi_line_comments = pairs,
+        PairList::Quotes => row.quotes = pairs,
+        PairList::VerbatimQuotes => row.verbatim_quotes = pairs,
+        PairList::DocQuotes => row.doc_quotes = pairs,
+        PairList::NestedComments => row.nested_comments = pairs,
+    }
+}
+
+/// Puts the truth value in place of that of the member.
+fn put_truth(row: &mut Syntax, member: TruthValue, truth: bool)
+    ensures { (html : Bool)
+        → row_of row.new ≡ with_member html (truth_key member) (boolean truth) (row_of row.old) }
+{
+    match member {
+        TruthValue::Nested => row.nested = truth,
+        TruthValue::Literate => row.literate = truth,
+        TruthValue::Blank => row.blank = truth,
     }
 }
 
@@ -173,48 +173,22 @@ fn put_name(alloc: Global, name: &mut String, text: String) -> Result<(), AllocE
     Ok(())
 }
 
-/// Whether a member's list is one of texts.
-fn holds_texts(key: &str) -> bool
-    ensures { result ≡ holds_texts key.now }
-{
-    key == "extensions"
-        || key == "line_comment"
-        || key == "filenames"
-        || key == "shebangs"
-        || key == "env"
-        || key == "path_suffixes"
-        || key == "mime"
-        || key == "important_syntax"
-}
-
-/// Whether a member's list is one of pairs.
-fn holds_pairs(key: &str) -> bool
-    ensures { result ≡ holds_pairs key.now }
-{
-    key == "multi_line_comments"
-        || key == "quotes"
-        || key == "verbatim_quotes"
-        || key == "doc_quotes"
-        || key == "nested_comments"
-}
-
 /// Reads a member whose value is a list.
 fn read_list(
     alloc: Global,
     row: &mut Syntax,
     html: bool,
-    key: &str,
+    member: Member,
     items: Vec<Value>,
 ) -> Result<(), AllocError>
     ensures { OnOk result (row_of row.new
-        ≡ with_member html key.now (array (items_view items.items)) (row_of row.old)) }
+        ≡ with_member html (key_of member) (array (items_view items.items)) (row_of row.old)) }
 {
-    if holds_texts(key) {
-        put_texts(row, key, texts(alloc, items)?);
-    } else if holds_pairs(key) {
-        put_pairs(row, key, pairs(alloc, items)?);
-    } else if key == "contexts" {
-        put_tags(alloc, &mut row.contexts, html, &items)?;
+    match member {
+        Member::Texts(list) => put_texts(row, list, texts(alloc, items)?),
+        Member::Pairs(list) => put_pairs(row, list, pairs(alloc, items)?),
+        Member::Contexts => put_tags(alloc, &mut row.contexts, html, &items)?,
+        Member::Truth(_) | Member::Name | Member::Kind | Member::Other => {}
     }
     Ok(())
 }
@@ -224,32 +198,28 @@ fn read_text_member(
     alloc: Global,
     row: &mut Syntax,
     html: bool,
-    key: &str,
+    member: Member,
     text: String,
 ) -> Result<(), AllocError>
     ensures { OnOk result (row_of row.new
-        ≡ with_member html key.now (string (string_bytes text)) (row_of row.old)) }
+        ≡ with_member html (key_of member) (string (string_bytes text)) (row_of row.old)) }
 {
-    if key == "name" {
-        put_name(alloc, &mut row.name, text)
-    } else if key == "kind" {
-        row.kind = text;
-        Ok(())
-    } else {
-        Ok(())
+    match member {
+        Member::Name => put_name(alloc, &mut row.name, text)?,
+        Member::Kind => row.kind = text,
+        _ => {}
     }
+    Ok(())
 }
 
 /// Reads a member whose value is a truth value.
-fn read_truth(row: &mut Syntax, html: bool, key: &str, truth: bool)
-    ensures { row_of row.new ≡ with_member html key.now (boolean truth) (row_of row.old) }
+fn read_truth(row: &mut Syntax, html: bool, member: Member, truth: bool)
+    ensures { row_of row.new
+        ≡ with_member html (key_of member) (boolean truth) (row_of row.old) }
 {
-    if key == "nested" {
-        row.nested = truth;
-    } else if key == "literate" {
-        row.literate = truth;
-    } else if key == "blank" {
-        row.blank = truth;
+    match member {
+        Member::Truth(member) => put_truth(row, member, truth),
+        _ => {}
     }
 }
 
@@ -265,10 +235,10 @@ fn read_member(
         ≡ with_member html key.now (view value) (row_of row.old)) }
 {
     match value {
-        Value::Array(items) => read_list(alloc, row, html, key, items),
-        Value::String(text) => read_text_member(alloc, row, html, key, text),
+        Value::Array(items) => read_list(alloc, row, html, member_of(key), items),
+        Value::String(text) => read_text_member(alloc, row, html, member_of(key), text),
         Value::Bool(truth) => {
-            read_truth(row, html, key, truth);
+            read_truth(row, html, member_of(key), truth);
             Ok(())
         }
         _ => Ok(()),
