@@ -18,6 +18,7 @@ use crate::reasons::{ended, run_ended};
 use crate::saying::say;
 use crate::shown::shown_notes;
 use std::alloc::Global;
+use std::mem::forget;
 use tokei::{Folders, Sink, Source, put, run};
 use tokei_cli::{Cli, CliError, print_supported_languages};
 
@@ -48,6 +49,8 @@ fn write_counts<F: Folders, S: Source, W: Sink>(
         Ok(notes) => {
             let shown = shown_notes(alloc, folders, &notes)?;
             let text = passed_text(alloc, &table, cli, &shown, &prepared.flaws)?;
+            // the program ends next: to free each text of the table would be a tenth of a short run
+            forget(table);
             Ok(text)
         }
         Err(error) => Err(run_ended(alloc, error, folders, out)),

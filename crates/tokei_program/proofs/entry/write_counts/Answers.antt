@@ -8,8 +8,8 @@ use Rattle.tokei_program.specs.Shown.{AreShown, shown_note}
 use Rattle.tokei_walk.specs.declared.kept_file.Note.{Note}
 use Rattle.tokei_program.proofs.entry.write_counts.Goals as goal
 
-pub returns-in-Ok-clause-told : goal.returns-in-Ok-clause-told
-returns-in-Ok-clause-told g c t told = record {
+pub returns-in_ok-text-in-Ok-clause-told : goal.returns-in_ok-text-in-Ok-clause-told
+returns-in_ok-text-in-Ok-clause-told g c t told = record {
   rows = c.in_ok-table.table;
   table = c.in_ok-table.ensures.told t told;
   job = c.in_ok-prepared.prepared.job;
@@ -17,8 +17,8 @@ returns-in-Ok-clause-told g c t told = record {
   outputs = c.in-Ok.ensures.told t (c.prepare.ensures.same ∙ (c.table_of.ensures.same ∙ told));
 }
 
-pub returns-in-Ok-clause-beside : goal.returns-in-Ok-clause-beside
-returns-in-Ok-clause-beside g c =
+pub returns-in_ok-text-in-Ok-clause-beside : goal.returns-in_ok-text-in-Ok-clause-beside
+returns-in_ok-text-in-Ok-clause-beside g c =
     let flaws = c.in_ok-prepared.prepared.flaws.items in
     let notes = c.in-Ok.notes.items in
     let as_shown = c.in_ok-shown-in-Ok.shown.items in
@@ -29,8 +29,8 @@ returns-in-Ok-clause-beside g c =
     (subst (λ (ns : List Note). AreShown ns as_shown) these c.in_ok-shown-in-Ok.ensures.some)
     c.in_ok-prepared.ensures.excludes c.in-Ok.ensures.notes shown
 
-pub returns-in-Ok-clause-noted : goal.returns-in-Ok-clause-noted
-returns-in-Ok-clause-noted g c t told =
+pub returns-in_ok-text-in-Ok-clause-noted : goal.returns-in_ok-text-in-Ok-clause-noted
+returns-in_ok-text-in-Ok-clause-noted g c t told =
     let flaws = c.in_ok-prepared.prepared.flaws.items in
     let notes = c.in-Ok.notes.items in
     let as_shown = c.in_ok-shown-in-Ok.shown.items in
