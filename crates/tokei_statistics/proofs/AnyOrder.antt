@@ -11,7 +11,7 @@ use Rattle.tokei_files.specs.Files.{Counting}
 use Rattle.tokei_folders.specs.Tree.{Tree}
 use Rattle.tokei_languages.specs.Maps.{put_at, merged}
 use Rattle.tokei_languages.specs.Merging.{merged_language, merged_languages}
-use Rattle.tokei_languages.specs.Renewing.{own_sum, renewed, renewed_languages}
+use Rattle.tokei_languages.specs.Renewing.{own_sum, renewed_languages}
 use Rattle.tokei_languages.specs.Values.{ReportValue, LanguageValue}
 use Rattle.tokei_stats.specs.Statistics.{Counts, plus, own}
 use Rattle.tokei_walk.specs.declared.kept_file.KeptFile.{KeptFile}

@@ -1,5 +1,5 @@
 -- The languages of a run, one file at a time.
-use Rattle.std.proofs.Common.{◌≡◌, ℕ, ◌+◌, List, [], ◌∷◌, ◌++◌, Bool, true, false, ◌||◌, Option, Some, None, option_map, Result, Ok, Err, OnOk, OnErr, refl, sym, ◌∙◌, ap, subst, arith, append_assoc, append-nil, length, take}
+use Rattle.std.proofs.Common.{◌≡◌, ℕ, ◌+◌, List, [], ◌∷◌, ◌++◌, Bool, true, false, ◌||◌, Option, Some, None, option_map, Result, Ok, Err, OnOk, OnErr, IfOk, IfErr, refl, sym, ◌∙◌, ap, subst, arith, append_assoc, append-nil, length, take}
 use Rattle.std.proofs.Math.Bool.{or_assoc}
 use Rattle.std.proofs.Math.Seq.{take-append_seam}
 use Rattle.std.specs.Bool.{⊤}
@@ -12,6 +12,13 @@ use Rattle.tokei_folders.specs.Tree.{Tree}
 use Rattle.tokei_files.specs.Contents.{content_at}
 use Rattle.tokei_files.specs.ContentStatistics.{stats_at, stats_in}
 use Rattle.tokei_files.specs.Files.{Counting, language_of_file, FileFits, ReadingsFit}
+use Rattle.tokei_files.specs.declared.error.ParseFault.{ParseFault}
+use Rattle.tokei_files.specs.declared.error.ParseFault.TheVariants.{Refused}
+use Rattle.tokei_files.specs.Unread.{unread_note, unread_of_file}
+use Rattle.tokei_files.proofs.UnreadNotes.{none_more, read_unnoted, refused_noted}
+use Rattle.tokei_walk.specs.declared.kept_file.Note.{Note}
+use Rattle.tokei_stats.specs.Seen.{stats_of}
+use Rattle.tokei_stats.specs.declared.stats.CodeStats.{CodeStats}
 use Rattle.tokei_statistics.specs.Runs.{language_from, languages_in, languages_of_file, languages_of_run, AddsFiles, AddsFirst}
 use Rattle.tokei_statistics.proofs.Merges.{Ascends, AllMeet, Associates, merged_assoc, ascends_merged, meet_merged, same_put}
 
@@ -98,14 +105,28 @@ marked-merged s = λ i. record {
 }
 
 -- a report that is put
-pub report_put : (old : List (ℕ × LanguageValue)) (l : ℕ) (r : ReportValue)
-    → put_at (λ s. with_report s r) (with_report empty_language r) old l
-    ≡ merged_languages old ((l, with_report empty_language r) ∷ [])
-report_put old l r = same_put (λ s. with_report s r) (λ s. merged_language s (with_report empty_language r)) (with_report empty_language r) old l (with_report-merged r)
+pub report_put : {E F : Type 0} (q : Result (Unit {0}) E) (counted : Result CodeStats F) (c : CodeStats)
+    (old new : List (ℕ × LanguageValue)) (l : ℕ) (path : List ℕ) (r : ReportValue)
+    → counted ≡ Ok c → r ≡ record { name = path; stats = stats_of c }
+    → OnOk q (new ≡ put_at (λ x. with_report x r) (with_report empty_language r) old l)
+    → IfOk counted (λ s. OnOk q (new ≡ merged_languages old ((l, language_from path (Some (stats_of s))) ∷ [])))
+report_put (Ok u) counted c old new l path r was is put =
+    subst (λ (w : Result CodeStats _). IfOk w (λ s. new ≡ merged_languages old ((l, language_from path (Some (stats_of s))) ∷ []))) (sym was)
+    (put
+    ∙ same_put (λ x. with_report x r) (λ x. merged_language x (with_report empty_language r)) (with_report empty_language r) old l (with_report-merged r)
+    ∙ ap (λ (r : ReportValue). merged_languages old ((l, with_report empty_language r) ∷ [])) is)
+report_put (Err e) counted c old new l path r was is put =
+    subst (λ (w : Result CodeStats _). IfOk w (λ s. ⊤)) (sym was) tt
 
 -- a mark that is put
-pub mark_put : (old : List (ℕ × LanguageValue)) (l : ℕ) → put_at marked (marked empty_language) old l ≡ merged_languages old ((l, marked empty_language) ∷ [])
-mark_put old l = same_put marked (λ s. merged_language s (marked empty_language)) (marked empty_language) old l marked-merged
+pub mark_put : {E F : Type 0} (q : Result (Unit {0}) E) (counted : Result CodeStats F)
+    (old new : List (ℕ × LanguageValue)) (l : ℕ) (path : List ℕ)
+    → OnOk q (new ≡ put_at marked (marked empty_language) old l)
+    → OnErr counted (OnOk q (new ≡ merged_languages old ((l, language_from path None) ∷ [])))
+mark_put q (Ok s) old new l path put = tt
+mark_put (Ok u) (Err e) old new l path put =
+    put ∙ same_put marked (λ s. merged_language s (marked empty_language)) (marked empty_language) old l marked-merged
+mark_put (Err f) (Err e) old new l path put = tt
 
 -- runs
 
@@ -199,34 +220,44 @@ module _ (c : Counting) (t : Tree) where
   unfolding languages_of_file
   file_passed k o a is none = sym (ap (λ (q : Option ℕ). merged_languages a (languages_in c t k q)) (sym is ∙ none))
 
-  -- a file that was read
-  pub file_reported : {E : Type 0} (q : Result (Unit {0}) E) (k : KeptFile) (o : Option ℕ) (l : ℕ)
-      (s : Statistics) (r : ReportValue) (a b : List (ℕ × LanguageValue))
-      → o ≡ language_of_file c t k → o ≡ Some l → Some s ≡ stats_at t c.rows c.docs l k.place
-      → r ≡ record { name = k.path; stats = s }
-      → OnOk q (b ≡ put_at (λ x. with_report x r) (with_report empty_language r) a l)
+  -- a file that counts in a language: its report where it was read, else its mark
+  pub file_added : {E : Type 0} (q : Result (Unit {0}) E) (counted : Result CodeStats ParseFault) (k : KeptFile) (o : Option ℕ) (l : ℕ)
+      (place : List ℕ) (a b : List (ℕ × LanguageValue))
+      → o ≡ language_of_file c t k → o ≡ Some l → place ≡ k.place
+      → IfOk counted (λ s. Some (stats_of s) ≡ stats_at t c.rows c.docs l place)
+      → (counted ≡ Err Refused → content_at t place ≡ None)
+      → IfErr counted (λ e. OnOk q (e ≡ Refused))
+      → IfOk counted (λ s. OnOk q (b ≡ merged_languages a ((l, language_from k.path (Some (stats_of s))) ∷ [])))
+      → OnErr counted (OnOk q (b ≡ merged_languages a ((l, language_from k.path None) ∷ [])))
       → OnOk q (b ≡ merged_languages a (languages_of_file c t k))
   unfolding languages_of_file
-  file_reported (Ok u) k o l s r a b is some read named put =
-      put
-      ∙ report_put a l r
-      ∙ ap (λ (v : LanguageValue). merged_languages a ((l, v) ∷ [])) (ap (with_report empty_language) named ∙ ap (language_from k.path) read)
+  file_added (Ok u) (Ok s) k o l place a b is some there read none refused reported marks =
+      reported
+      ∙ ap (λ (d : Option Statistics). merged_languages a ((l, language_from k.path d) ∷ [])) (read ∙ ap (stats_at t c.rows c.docs l) there)
       ∙ ap (λ (q : Option ℕ). merged_languages a (languages_in c t k q)) (sym some ∙ is)
-  file_reported (Err e) k o l s r a b is some read named put = tt
+  file_added (Ok u) (Err e) k o l place a b is some there read none refused reported marks =
+      marks
+      ∙ ap (λ (d : Option (List ℕ)). merged_languages a ((l, language_from k.path (option_map (stats_in c.rows c.docs l) d)) ∷ []))
+      (sym (none (ap (λ (x : ParseFault). Err x) refused)) ∙ ap (content_at t) there)
+      ∙ ap (λ (q : Option ℕ). merged_languages a (languages_in c t k q)) (sym some ∙ is)
+  file_added (Err f) counted k o l place a b is some there read none refused reported marks = tt
 
-  -- a file that couldn't be read
-  pub file_marked : {E : Type 0} (q : Result (Unit {0}) E) (k : KeptFile) (o : Option ℕ) (l : ℕ)
-      (a b : List (ℕ × LanguageValue))
-      → o ≡ language_of_file c t k → o ≡ Some l → content_at t k.place ≡ None
-      → OnOk q (b ≡ put_at marked (marked empty_language) a l)
-      → OnOk q (b ≡ merged_languages a (languages_of_file c t k))
-  unfolding languages_of_file
-  file_marked (Ok u) k o l a b is some none put =
-      put
-      ∙ mark_put a l
-      ∙ ap (λ (d : Option (List ℕ)). merged_languages a ((l, language_from k.path (option_map (stats_in c.rows c.docs l) d)) ∷ [])) (sym none)
-      ∙ ap (λ (q : Option ℕ). merged_languages a (languages_in c t k q)) (sym some ∙ is)
-  file_marked (Err e) k o l a b is some none put = tt
+  -- the note that it leaves where it wasn't read
+  pub file_noted : {E : Type 0} (q : Result (Unit {0}) E) (counted : Result CodeStats ParseFault) (k : KeptFile) (o : Option ℕ) (l : ℕ)
+      (place : List ℕ) (a b : List Note)
+      → o ≡ language_of_file c t k → o ≡ Some l → place ≡ k.place
+      → IfOk counted (λ s. Some (stats_of s) ≡ stats_at t c.rows c.docs l place)
+      → (counted ≡ Err Refused → content_at t place ≡ None)
+      → IfErr counted (λ e. OnOk q (e ≡ Refused))
+      → OnOk counted (b ≡ a)
+      → OnErr counted (OnOk q (b ≡ a ++ unread_note k ∷ []))
+      → OnOk q (b ≡ a ++ unread_of_file c t k)
+  file_noted (Ok u) (Ok s) k o l place a b is some there read none refused stays noted =
+      stays ∙ none_more a _ (read_unnoted c t k o is l (stats_of s) some (read ∙ ap (stats_at t c.rows c.docs l) there))
+  file_noted (Ok u) (Err e) k o l place a b is some there read none refused stays noted =
+      noted ∙ ap (λ (q : List Note). a ++ q)
+      (sym (refused_noted c t k o is l some (sym (ap (content_at t) there) ∙ none (ap (λ (x : ParseFault). Err x) refused))))
+  file_noted (Err f) counted k o l place a b is some there read none refused stays noted = tt
 
 pub always_err : {T E A : Type 0} (q : Result T E) → A → OnErr q A
 always_err (Ok x) a = tt

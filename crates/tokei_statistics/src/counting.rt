@@ -1,22 +1,62 @@
 //! The statistics of all files that a walk gives, counted one at a time as they come.
-ghost use Rattle.std.specs.Prelude.{◌≡◌, ◌≢◌, ◌<◌, ◌++◌, Err, OnOk, OnErr, IfOk, IsErrOf};
+ghost use Rattle.std.specs.Prelude.{◌≡◌, ◌≢◌, ◌<◌, ◌++◌, ◌∷◌, [], Some, None, Err, OnOk, OnErr, IfOk, IfErr, IsErrOf};
 ghost use Rattle.tokei_languages.specs.Merging.{merged_languages};
 ghost use Rattle.tokei_languages.specs.Seen.{languages_of};
 ghost use Rattle.tokei_files.specs.Files.{FileFits, ReadingsFit};
 ghost use Rattle.tokei_files.specs.Seen.{counting_of};
-ghost use Rattle.tokei_files.specs.Unread.{EndsIn, unread_of, unread_of_file};
+ghost use Rattle.tokei_files.specs.Unread.{EndsIn, unread_note, unread_of, unread_of_file};
+ghost use Rattle.tokei_files.specs.declared.error.ParseFault.TheVariants.{Refused as NotRead, Memory as OutOfMemory, Overflow as TooMany};
+ghost use Rattle.tokei_stats.specs.Seen.{stats_of};
 ghost use Rattle.tokei_folders.specs.Answers.{Told};
 ghost use Rattle.tokei_walk.specs.Kept.{kept_in};
 ghost use Rattle.tokei_walk.specs.Notes.{Grows, notes_of, notes_of_excludes};
 ghost use Rattle.tokei_walk.specs.Walks.{to_come, excludes_of, texts_of};
-ghost use Rattle.tokei_statistics.specs.Runs.{AddsFiles, AddsFirst, languages_of_file};
+ghost use Rattle.tokei_statistics.specs.Runs.{AddsFiles, AddsFirst, language_from, languages_of_file};
 ghost use Rattle.tokei_folders.specs.AsTheyWere.{SameTree, NoFault, FaultsStay};
 
 use tokei_files::{Counting, ParseFault, note_unread};
 use tokei_folders::Folders;
 use tokei_languages::Languages;
-use tokei_stats::{CountError, Report};
+use tokei_stats::{CodeStats, CountError, Report};
+use tokei_table::LanguageType;
 use tokei_walk::{KeptFile, Note, Rules, Walk};
+
+/// Puts what was counted of a file into its language: its report, or a mark where it couldn't be
+/// read, of which a note is added. A refusal changes nothing of the languages.
+fn add_counted(
+    languages: &mut Languages,
+    unread: &mut Vec<Note>,
+    language: LanguageType,
+    file: KeptFile,
+    counted: Result<CodeStats, ParseFault>,
+) -> Result<(), CountError>
+    ensures reported { IfOk counted (λ s. OnOk result (languages_of languages.new
+        ≡ merged_languages (languages_of languages.old)
+        ((language, language_from file.path (Some (stats_of s))) ∷ []))) }
+    ensures marked { OnErr counted (OnOk result (languages_of languages.new
+        ≡ merged_languages (languages_of languages.old)
+        ((language, language_from file.path None) ∷ []))) }
+    ensures refused { IfErr counted (λ e. OnOk result (e ≡ NotRead)) }
+    ensures stays { OnErr result (languages_of languages.new ≡ languages_of languages.old) }
+    ensures overflow { IsErrOf result CountError.Overflow → counted ≡ Err TooMany }
+    ensures unnoted { OnOk counted (unread.new.items ≡ unread.old.items) }
+    ensures noted { OnErr counted (OnOk result (unread.new.items
+        ≡ unread.old.items ++ unread_note file ∷ [])) }
+    ensures honest { result ≢ Err CountError.Memory → counted ≢ Err OutOfMemory }
+{
+    match counted {
+        Ok(stats) => {
+            let name = file.path.into_string();
+            languages.add_report(language, Report { stats, name })
+        }
+        Err(ParseFault::Refused) => {
+            note_unread(unread, file)?;
+            languages.mark_inaccurate(language)
+        }
+        Err(ParseFault::Memory) => Err(CountError::Memory),
+        Err(ParseFault::Overflow) => Err(CountError::Overflow),
+    }
+}
 
 /// Counts one file: its report goes to its language, or a mark where it can't be read, of which a
 /// note is added. A refusal changes nothing of the languages.
@@ -43,18 +83,8 @@ pub fn add_file<F: Folders>(
         Some(language) => language,
         None => return Ok(()),
     };
-    match counting.count_file(folders, language, file.place.as_str(), true) {
-        Ok(stats) => {
-            let name = file.path.into_string();
-            languages.add_report(language, Report { stats, name })
-        }
-        Err(ParseFault::Refused) => {
-            note_unread(unread, file)?;
-            languages.mark_inaccurate(language)
-        }
-        Err(ParseFault::Memory) => Err(CountError::Memory),
-        Err(ParseFault::Overflow) => Err(CountError::Overflow),
-    }
+    let counted = counting.count_file(folders, language, file.place.as_str(), true);
+    add_counted(languages, unread, language, file, counted)
 }
 
 /// Counts the files that a walk still gives, as it gives them, and adds a note of each whose
@@ -119,8 +149,9 @@ pub fn count_roots<F: Folders>(
 {
     let mut walk = Walk::new(counting.alloc, roots, excludes, rules)?;
     let mut unread = Vec::new(counting.alloc);
-    count_files(counting, folders, &mut walk, languages, &mut unread)?;
+    let counted = count_files(counting, folders, &mut walk, languages, &mut unread);
     let mut notes = walk.into_notes();
+    counted?;
     notes.append(&mut unread)?;
     Ok(notes)
 }

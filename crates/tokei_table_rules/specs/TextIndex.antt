@@ -5,6 +5,11 @@ use Rattle.std.specs.Prelude.{slice_index_or, Option, Some, None}
 use Rattle.std.specs.Str.{str_to_ascii_lowercase}
 use Rattle.tokei_table_row.specs.Row.{Row}
 use Rattle.tokei_table_rules.specs.Lookups.{row_at}
+use Rattle.tokei_table_rules.specs.PathSuffixes.{suffix_tails}
+use Rattle.tokei_table_rules.specs.declared.text_index.TextKind.{TextKind}
+use Rattle.tokei_table_rules.specs.declared.text_index.TextKind.TheVariants.{Names, LoweredNames}
+use Rattle.tokei_table_rules.specs.declared.text_index.TextKind.TheVariants.{Extensions, Filenames}
+use Rattle.tokei_table_rules.specs.declared.text_index.TextKind.TheVariants.{SuffixTails}
 
 -- The number of a text's group, by its first two bytes.
 abbrev pub group_of : List ℕ → ℕ
@@ -29,6 +34,14 @@ names row = row.key ∷ row.name ∷ []
 -- Its name in ASCII lower case, alone in a list.
 abbrev pub lowered_name : Row → List (List ℕ)
 lowered_name row = str_to_ascii_lowercase row.name ∷ []
+
+-- The texts of a row that an index of that kind goes by.
+abbrev pub texts_of : TextKind → Row → List (List ℕ)
+texts_of Names = names
+texts_of LoweredNames = lowered_name
+texts_of Extensions = λ r. r.extensions
+texts_of Filenames = λ r. r.filenames
+texts_of SuffixTails = suffix_tails
 
 -- The places that stand beside that group.
 abbrev pub in_group : ℕ → List (ℕ × ℕ) → List ℕ

@@ -8,7 +8,7 @@ ghost use Rattle.tokei_table_rules.specs.TextIndex.{entries_from, group_of, in_g
 ghost use Rattle.tokei_table_row.specs.RowOf.{row_of};
 
 use crate::path_suffixes::{has_short_suffix, tail};
-use crate::text_index::TextIndex;
+use crate::text_index::{TextIndex, TextKind};
 use std::alloc::{AllocError, Global};
 use std::marker::Model;
 use tokei_table_row::Syntax;
@@ -47,11 +47,11 @@ impl IndexedRows {
     pub fn new(alloc: Global, rows: Vec<Syntax>) -> Result<IndexedRows, AllocError>
         ensures { IfOk result (λ t. t ≡ map row_of rows.items) }
     {
-        let by_name = TextIndex::of_names(alloc, &rows)?;
-        let by_lowered_name = TextIndex::of_lowered_names(alloc, &rows)?;
-        let by_extension = TextIndex::of_extensions(alloc, &rows)?;
-        let by_filename = TextIndex::of_filenames(alloc, &rows)?;
-        let by_suffix_tail = TextIndex::of_suffix_tails(alloc, &rows)?;
+        let by_name = TextIndex::of(alloc, &rows, TextKind::Names)?;
+        let by_lowered_name = TextIndex::of(alloc, &rows, TextKind::LoweredNames)?;
+        let by_extension = TextIndex::of(alloc, &rows, TextKind::Extensions)?;
+        let by_filename = TextIndex::of(alloc, &rows, TextKind::Filenames)?;
+        let by_suffix_tail = TextIndex::of(alloc, &rows, TextKind::SuffixTails)?;
         let short_suffix = has_short_suffix(&rows);
         Ok(IndexedRows {
             rows,

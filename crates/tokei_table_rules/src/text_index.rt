@@ -3,13 +3,28 @@ ghost use Rattle.std.specs.Prelude.{◌≡◌, ◌<◌, ◌++◌, [], ◌∷◌,
 ghost use Rattle.std.specs.Str.{str_to_ascii_lowercase};
 ghost use Rattle.tokei_table_row.specs.RowOf.{row_of, tokens_of};
 ghost use Rattle.tokei_table_rules.specs.TextIndex.{group_of, entries_of, entries_from, AddsEntries, AreGroups};
-ghost use Rattle.tokei_table_rules.specs.TextIndex.{names, lowered_name};
-ghost use Rattle.tokei_table_rules.specs.PathSuffixes.{tail_of, suffix_tails};
+ghost use Rattle.tokei_table_rules.specs.TextIndex.{texts_of};
+ghost use Rattle.tokei_table_rules.specs.PathSuffixes.{tail_of};
 
 use crate::path_suffixes::tail;
 use std::alloc::{AllocError, Global};
 use std::marker::Model;
 use tokei_table_row::Syntax;
+
+/// By which of its texts a row is found in an index.
+#[derive(Clone, Copy)]
+pub(crate) enum TextKind {
+    /// Its key and its name.
+    Names,
+    /// Its name in ASCII lower case.
+    LoweredNames,
+    /// Its extensions.
+    Extensions,
+    /// Its whole names of files.
+    Filenames,
+    /// The last two bytes of each of its path suffixes.
+    SuffixTails,
+}
 
 /// How many groups of texts there are.
 const GROUPS: usize = 256;
@@ -142,108 +157,46 @@ fn no_groups(alloc: Global) -> Result<Vec<Group>, AllocError>
     Ok(groups)
 }
 
-/// The groups of the rows' extensions.
-fn extension_groups(alloc: Global, rows: &[Syntax]) -> Result<Vec<Group>, AllocError>
-    ensures { IfOk result (λ v. AreGroups
-        (entries_from (λ r. r.extensions) 0 (map row_of rows.now)) v.items) }
+/// Puts the place at the end of the group of each of the row's texts of that kind.
+fn add_row(
+    groups: &mut Vec<Group>,
+    place: usize,
+    row: &Syntax,
+    kind: TextKind,
+) -> Result<(), AllocError>
+    requires { length groups.old.items ≡ 256 }
+    ensures len { length groups.new.items ≡ 256 }
+    ensures added { OnOk result (AddsEntries (entries_of place (texts_of kind (row_of row.now)))
+        groups.old.items groups.new.items) }
 {
-    let mut groups = no_groups(alloc)?;
-    for (place, row) in rows.iter().enumerate() {
-        add_entries(&mut groups, place, &row.extensions)?;
+    match kind {
+        TextKind::Names => {
+            add_place(groups, group_of(row.key.as_bytes()), place)?;
+            add_place(groups, group_of(row.name.as_bytes()), place)
+        }
+        TextKind::LoweredNames => {
+            add_place(groups, lowered_group_of(row.name.as_bytes()), place)
+        }
+        TextKind::Extensions => add_entries(groups, place, &row.extensions),
+        TextKind::Filenames => add_entries(groups, place, &row.filenames),
+        TextKind::SuffixTails => add_tails(groups, place, &row.path_suffixes),
     }
-    Ok(groups)
-}
-
-/// The groups of the rows' whole names of files.
-fn filename_groups(alloc: Global, rows: &[Syntax]) -> Result<Vec<Group>, AllocError>
-    ensures { IfOk result (λ v. AreGroups
-        (entries_from (λ r. r.filenames) 0 (map row_of rows.now)) v.items) }
-{
-    let mut groups = no_groups(alloc)?;
-    for (place, row) in rows.iter().enumerate() {
-        add_entries(&mut groups, place, &row.filenames)?;
-    }
-    Ok(groups)
-}
-
-/// The groups of the last two bytes of the rows' path suffixes.
-fn suffix_groups(alloc: Global, rows: &[Syntax]) -> Result<Vec<Group>, AllocError>
-    ensures { IfOk result (λ v. AreGroups
-        (entries_from suffix_tails 0 (map row_of rows.now)) v.items) }
-{
-    let mut groups = no_groups(alloc)?;
-    for (place, row) in rows.iter().enumerate() {
-        add_tails(&mut groups, place, &row.path_suffixes)?;
-    }
-    Ok(groups)
-}
-
-/// The groups of the rows' keys and names.
-fn name_groups(alloc: Global, rows: &[Syntax]) -> Result<Vec<Group>, AllocError>
-    ensures { IfOk result (λ v. AreGroups (entries_from names 0 (map row_of rows.now)) v.items) }
-{
-    let mut groups = no_groups(alloc)?;
-    for (place, row) in rows.iter().enumerate() {
-        add_place(&mut groups, group_of(row.key.as_bytes()), place)?;
-        add_place(&mut groups, group_of(row.name.as_bytes()), place)?;
-    }
-    Ok(groups)
-}
-
-/// The groups of the names in ASCII lower case.
-fn lowered_name_groups(alloc: Global, rows: &[Syntax]) -> Result<Vec<Group>, AllocError>
-    ensures { IfOk result (λ v. AreGroups
-        (entries_from lowered_name 0 (map row_of rows.now)) v.items) }
-{
-    let mut groups = no_groups(alloc)?;
-    for (place, row) in rows.iter().enumerate() {
-        add_place(&mut groups, lowered_group_of(row.name.as_bytes()), place)?;
-    }
-    Ok(groups)
 }
 
 impl TextIndex {
-    /// The index of the rows' extensions. It fails where memory runs out.
-    pub(crate) fn of_extensions(alloc: Global, rows: &[Syntax]) -> Result<TextIndex, AllocError>
+    /// The index of the rows' texts of that kind. It fails where memory runs out.
+    pub(crate) fn of(
+        alloc: Global,
+        rows: &[Syntax],
+        kind: TextKind,
+    ) -> Result<TextIndex, AllocError>
         ensures { IfOk result (λ x. AreGroups
-            (entries_from (λ r. r.extensions) 0 (map row_of rows.now)) x) }
+            (entries_from (texts_of kind) 0 (map row_of rows.now)) x) }
     {
-        let groups = extension_groups(alloc, rows)?;
-        Ok(TextIndex { groups })
-    }
-
-    /// The index of the whole names of files. It fails where memory runs out.
-    pub(crate) fn of_filenames(alloc: Global, rows: &[Syntax]) -> Result<TextIndex, AllocError>
-        ensures { IfOk result (λ x. AreGroups
-            (entries_from (λ r. r.filenames) 0 (map row_of rows.now)) x) }
-    {
-        let groups = filename_groups(alloc, rows)?;
-        Ok(TextIndex { groups })
-    }
-
-    /// The index of the last two bytes of path suffixes. It fails where memory runs out.
-    pub(crate) fn of_suffix_tails(alloc: Global, rows: &[Syntax]) -> Result<TextIndex, AllocError>
-        ensures { IfOk result (λ x. AreGroups (entries_from suffix_tails 0 (map row_of rows.now))
-            x) }
-    {
-        let groups = suffix_groups(alloc, rows)?;
-        Ok(TextIndex { groups })
-    }
-
-    /// The index of the rows' keys and names. It fails where memory runs out.
-    pub(crate) fn of_names(alloc: Global, rows: &[Syntax]) -> Result<TextIndex, AllocError>
-        ensures { IfOk result (λ x. AreGroups (entries_from names 0 (map row_of rows.now)) x) }
-    {
-        let groups = name_groups(alloc, rows)?;
-        Ok(TextIndex { groups })
-    }
-
-    /// The index of the names in ASCII lower case. It fails where memory runs out.
-    pub(crate) fn of_lowered_names(alloc: Global, rows: &[Syntax]) -> Result<TextIndex, AllocError>
-        ensures { IfOk result (λ x. AreGroups (entries_from lowered_name 0 (map row_of rows.now))
-            x) }
-    {
-        let groups = lowered_name_groups(alloc, rows)?;
+        let mut groups = no_groups(alloc)?;
+        for (place, row) in rows.iter().enumerate() {
+            add_row(&mut groups, place, row, kind)?;
+        }
         Ok(TextIndex { groups })
     }
 

@@ -1,4 +1,4 @@
-use Rattle.std.proofs.Common.{◌≡◌, Option, Err, refl, ap, sym, ◌∙◌, subst, rules, List, ℕ}
+use Rattle.std.proofs.Common.{◌≡◌, ◌<◌, ◌++◌, append-nil, Option, Err, refl, ap, sym, ◌∙◌, subst, rules, List, ℕ}
 use Rattle.tokei_languages.specs.Seen.{languages_of}
 use Rattle.tokei_languages.specs.Values.{LanguageValue}
 use Rattle.tokei_stats.specs.declared.error.CountError.TheVariants.{Overflow}
@@ -7,9 +7,14 @@ use Rattle.tokei_walk.specs.Walks.{to_come, Advances}
 use Rattle.tokei_walk.proofs.Growing.{grows_same, grows_on}
 use Rattle.tokei_statistics.specs.Runs.{AddsFirst}
 use Rattle.tokei_files.specs.Seen.{counting_of}
+use Rattle.tokei_files.specs.Unread.{unread_of}
 use Rattle.tokei_files.proofs.UnreadNotes.{noted_more}
-use Rattle.tokei_statistics.proofs.Running.{none_yet, one_more, first_done, one_over, always_err}
+use Rattle.tokei_statistics.proofs.Running.{none_yet, one_more, all_done, first_done, one_over, always_err}
 use Rattle.tokei_statistics.proofs.counting.count_files.Goals as goal
+
+-- a count that two steps leave where it was below its greatest value
+faults_on : (a b d most : ℕ) → (a < most → b ≡ a) → (b < most → d ≡ b) → a < most → d ≡ a
+faults_on a b d most first next low = next (subst (λ (n : ℕ). n < most) (sym (first low)) low) ∙ first low
 
 pub loop-file-init : goal.loop-file-init
 loop-file-init g c = record {
@@ -28,7 +33,7 @@ loop-file-preserved g c =
     let inv = c.loop-file.invariant in record {
       same = c.add_file.ensures.same ∙ c.next.ensures.same ∙ inv.same;
       notes = grows_on _ _ _ inv.notes c.next.ensures.notes;
-      honest = search rules;
+      honest = faults_on _ _ _ _ (faults_on _ _ _ _ inv.honest c.in_ok-file.ensures.honest) (c.in_ok-add_file.ensures.honest (λ q. cc));
       told = λ t e.
           let here = inv.same ∙ e in
           let given = subst (λ (o : Option KeptFile). Advances (to_come t c.loop-file.walk) (to_come t c.next.new.self) o) c.in-Some.is (c.in_ok-file.ensures.told t here) in
@@ -54,3 +59,28 @@ returns-in_err-add_file-clause-overflow g c = λ q t e.
     let given = subst (λ (o : Option KeptFile). Advances (to_come t c.loop-file.walk) (to_come t c.next.new.self) o) c.in-Some.is (c.in_ok-file.ensures.told t here) in
     let same : c.in_err-add_file.field-0.0 ≡ Overflow = search rules in
     one_over (counting_of c.args.counting.now) t _ _ _ c.in-Some.file _ _ (inv.told t e) given (c.in_err-add_file.ensures.overflow (ap (λ x. Err x) same) t (c.next.ensures.same ∙ here))
+
+pub returns-clause-told : goal.returns-clause-told
+returns-clause-told g c = λ t e.
+    let inv = c.loop-file.invariant in let here = inv.same ∙ e in
+    let none = subst (λ (o : Option KeptFile). Advances (to_come t c.loop-file.walk) (to_come t c.next.new.self) o) c.in_default.is (c.in_ok-file.ensures.told t here) in
+    all_done (counting_of c.args.counting.now) t _ _ _ _ (inv.told t e) none
+
+pub returns-clause-unread : goal.returns-clause-unread
+returns-clause-unread g c = λ t e.
+    let by = counting_of c.args.counting.now in
+    let inv = c.loop-file.invariant in let here = inv.same ∙ e in
+    let none = subst (λ (o : Option KeptFile). Advances (to_come t c.loop-file.walk) (to_come t c.next.new.self) o) c.in_default.is (c.in_ok-file.ensures.told t here) in
+    sym (append-nil c.loop-file.unread.items) ∙ ap (λ (ks : List KeptFile). c.loop-file.unread.items ++ unread_of by t ks) (sym none) ∙ inv.unread t e
+
+pub returns-clause-notes : goal.returns-clause-notes
+returns-clause-notes g c = grows_on _ _ _ c.loop-file.invariant.notes c.next.ensures.notes
+
+pub returns-in_err-file-clause-notes : goal.returns-in_err-file-clause-notes
+returns-in_err-file-clause-notes g c = grows_on _ _ _ c.loop-file.invariant.notes c.next.ensures.notes
+
+pub returns-in_err-add_file-clause-notes : goal.returns-in_err-add_file-clause-notes
+returns-in_err-add_file-clause-notes g c = grows_on _ _ _ c.loop-file.invariant.notes c.next.ensures.notes
+
+pub returns-clause-honest : goal.returns-clause-honest
+returns-clause-honest g c = faults_on _ _ _ _ c.loop-file.invariant.honest c.in_ok-file.ensures.honest

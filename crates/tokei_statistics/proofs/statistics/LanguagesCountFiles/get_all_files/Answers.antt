@@ -1,8 +1,7 @@
-use Rattle.std.proofs.Common.{◌≡◌, ℕ, false, unwrap_or, List, option_map, IfOk, OnOk, OnErr, ◌∙◌}
+use Rattle.std.proofs.Common.{◌≡◌, false, unwrap_or, option_map, IfOk, OnOk, OnErr, ◌∙◌}
 use Rattle.tokei_config.specs.Seen.{settings_of}
 use Rattle.tokei_count.specs.Seen.{docs_of}
 use Rattle.tokei_languages.specs.Seen.{languages_of}
-use Rattle.tokei_walk.specs.declared.kept_file.KeptFile.{KeptFile}
 use Rattle.tokei_walk.specs.Kept.{kept_in}
 use Rattle.tokei_walk.specs.Walks.{excludes_of, texts_of}
 use Rattle.tokei_files.specs.Configs.{rules_of, counting_by, kept_by}
