@@ -4,7 +4,7 @@ use crate::layout::Layout;
 use crate::names::name_of;
 use std::alloc::{AllocError, Global};
 use std::collections::BTreeMap;
-use tokei_stats::{CodeStats, CountError, Report};
+use tokei_stats::{CodeStats, CountError, CountsCells, ReportRow};
 use tokei_table::{LanguageTable, LanguageType};
 
 impl Layout {
@@ -37,11 +37,12 @@ impl Layout {
         ensures { IfOk result (λ s. string_bytes s
             ≡ own_row self.now name.now (stats_of stats.now)) }
     {
-        let mut report = Report::new(alloc, String::from_str(alloc, name)?);
-        report.stats.blanks = stats.blanks;
-        report.stats.code = stats.code;
-        report.stats.comments = stats.comments;
-        let row = report.display_in(self.columns - 59);
+        let counts = CountsCells {
+            blanks: stats.blanks,
+            code: stats.code,
+            comments: stats.comments,
+        };
+        let row = ReportRow::new(name, counts, self.columns - 59);
         format!(in alloc; " |-{row}\n")
     }
 

@@ -24,8 +24,8 @@ pub(crate) fn children_block(
     ensures overflow { IsErrOf result CountError.Overflow
         → ¬ ChildrenBlockFits (language_of language.now) }
 {
-    let rows = child_rows(layout, alloc, table, &language.children)?;
-    let subtotal = layout.subtotal(alloc, "(Total)", language.summary_counts()?)?;
-    let (rows, subtotal) = (rows.as_str(), subtotal.as_str());
-    Ok(format!(in alloc; "{rows}{subtotal}")?)
+    let counts = language.summary_counts()?;
+    let mut rows = child_rows(layout, alloc, table, &language.children)?;
+    rows.push_str(&layout.subtotal(alloc, "(Total)", counts)?)?;
+    Ok(rows)
 }

@@ -140,8 +140,8 @@ pub fn listed_files(
     ensures overflow { IsErrOf result CountError.Overflow
         → ¬ FileBlocksFit (filter (λ r. not (has_row_alone compact r)) (reports_in reports.now)) }
 {
-    let alone = file_rows(layout, alloc, reports, compact)?;
-    let blocks = file_blocks(layout, alloc, language, compact, alone.is_empty(), reports)?;
-    let (alone, blocks) = (alone.as_str(), blocks.as_str());
-    Ok(format!(in alloc; "{alone}{blocks}")?)
+    let mut rows = file_rows(layout, alloc, reports, compact)?;
+    let first = rows.is_empty();
+    rows.push_str(&file_blocks(layout, alloc, language, compact, first, reports)?)?;
+    Ok(rows)
 }

@@ -42,14 +42,12 @@ fn child_row(
     ensures overflow { IsErrOf result CountError.Overflow
         → ¬ LinesFit (reports_summary (map report_of reports.now)) }
 {
-    let section = layout.name_section(alloc, false, name, " |-")?;
-    if reports.is_empty() {
-        return Ok(section);
+    let mut row = layout.name_section(alloc, false, name, " |-")?;
+    if !reports.is_empty() {
+        let sums = summaries(reports)?;
+        row.push_str(&files_and_counts(alloc, layout.format, reports.len(), sums)?)?;
     }
-    let sums = summaries(reports)?;
-    let rest = files_and_counts(alloc, layout.format, reports.len(), sums)?;
-    let (section, rest) = (section.as_str(), rest.as_str());
-    Ok(format!(in alloc; "{section}{rest}")?)
+    Ok(row)
 }
 
 /// A row for each language inside.

@@ -29,8 +29,8 @@ pub(crate) fn language_row(
         code: language.code,
         comments: language.comments,
     };
-    let section = layout.name_section(alloc, language.inaccurate, name, "")?;
-    let rest = files_and_counts(alloc, layout.format, language.reports.len(), counts)?;
-    let (section, rest) = (section.as_str(), rest.as_str());
-    Ok(format!(in alloc; "{section}{rest}")?)
+    let mut row = layout.name_section(alloc, language.inaccurate, name, "")?;
+    let files = language.reports.len();
+    row.push_str(&files_and_counts(alloc, layout.format, files, counts)?)?;
+    Ok(row)
 }

@@ -1,9 +1,10 @@
 //! The printed report of languages.
-ghost use Rattle.std.specs.Prelude.{◌≡◌, ◌≢◌, ◌≤◌, ◌++◌, Err, IfOk, OnOk};
+ghost use Rattle.std.specs.Prelude.{◌≡◌, ◌≢◌, ◌≤◌, ◌++◌, [], Err, IfOk, OnOk};
 ghost use Rattle.tokei_languages.specs.Seen.{languages_of};
 ghost use Rattle.tokei_languages.specs.Sorting.{sorted_languages};
 ghost use Rattle.tokei_print.specs.ListedLanguages.{languages_in};
-ghost use Rattle.tokei_print.specs.PrintedReports.{columns_of, warning_of, IsReport, IsPrintedReport};
+ghost use Rattle.tokei_print.specs.PrintedReports.{columns_of, report_text, warning_of};
+ghost use Rattle.tokei_print.specs.PrintedReports.{IsReport, IsPrintedReport};
 ghost use Rattle.tokei_print.specs.Sorted.{listed_by};
 ghost use Rattle.tokei_print.specs.ReportSums.{ReportFits, PrintedReportFits};
 ghost use Rattle.tokei_stats.specs.declared.error.CountError.TheVariants.{Overflow};
@@ -41,6 +42,31 @@ fn warn(printer: &mut Printer<Counted<Vec<u8>>>, languages: &Languages) -> Resul
     Ok(())
 }
 
+/// Writes the report of languages, of which these are listed in this order, by a printer that has
+/// written nothing.
+fn print_report(
+    printer: &mut Printer<Counted<Vec<u8>>>,
+    table: &LanguageTable,
+    style: ReportStyle,
+    listed: &[(LanguageType, &Language)],
+    languages: &Languages,
+) -> Result<(), OutputError>
+    requires empty { printer.old.writer.inner.items ≡ [] }
+    requires files { printer.old.layout.list_files ≡ style.files }
+    ensures text { OnOk result (printer.new.writer.inner.items
+        ≡ report_text printer.old.layout table.now style (languages_in listed.now)
+        (languages_of languages.now)) }
+    ensures overflow { result ≡ Err OutputError.Overflow
+        → ¬ ReportFits style (languages_in listed.now) (languages_of languages.now) }
+{
+    let sorted = style.sort.is_some();
+    warn(printer, languages)?;
+    printer.print_header()?;
+    printer.print_results(table, listed, style.compact, sorted)?;
+    printer.print_total(languages)?;
+    Ok(())
+}
+
 /// The report of languages, of which these are listed in this order. It is made in memory.
 fn printed(
     alloc: Global,
@@ -56,12 +82,8 @@ fn printed(
 {
     let buffer = Counted::new(Vec::new(alloc));
     let format = style.numbers.get_format();
-    let sorted = style.sort.is_some();
     let mut printer = Printer::new(alloc, columns(style.columns), style.files, buffer, format)?;
-    warn(&mut printer, languages)?;
-    printer.print_header()?;
-    printer.print_results(table, listed, style.compact, sorted)?;
-    printer.print_total(languages)?;
+    print_report(&mut printer, table, style, listed, languages)?;
     Ok(printer.writer.inner)
 }
 

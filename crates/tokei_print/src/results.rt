@@ -93,13 +93,11 @@ fn counts_block(
         → ¬ LanguageFits layout.now.list_files showing.entry.compact showing.entry.sorted
         (language_of language.now) }
 {
-    let row = language_row(layout, alloc, language, name)?;
-    if !shows_children(language, showing.compact) {
-        return Ok(row);
+    let mut rows = language_row(layout, alloc, language, name)?;
+    if shows_children(language, showing.compact) {
+        rows.push_str(&children_block(layout, alloc, showing.table, language)?)?;
     }
-    let children = children_block(layout, alloc, showing.table, language)?;
-    let (row, children) = (row.as_str(), children.as_str());
-    Ok(format!(in alloc; "{row}{children}")?)
+    Ok(rows)
 }
 
 /// The rows of a language's files, where they are listed.
@@ -127,8 +125,9 @@ fn files_block(
         inaccurate: language.inaccurate,
     };
     let files = listed_files(layout, alloc, listed, showing.compact, &reports)?;
-    let (subrow, files) = (layout.subrow(), files.as_str());
-    Ok(format!(in alloc; "{subrow}{files}")?)
+    let mut rows = String::from_str(alloc, layout.subrow())?;
+    rows.push_str(&files)?;
+    Ok(rows)
 }
 
 /// All rows of a language.
@@ -201,12 +200,11 @@ pub(crate) fn results(
         with_children: false,
         first: true,
     };
-    let alone = group_rows(layout, alloc, showing, alone, languages)?;
+    let mut rows = group_rows(layout, alloc, showing, alone, languages)?;
     let others = Group {
         with_children: true,
-        first: alone.is_empty(),
+        first: rows.is_empty(),
     };
-    let others = group_rows(layout, alloc, showing, others, languages)?;
-    let (alone, others) = (alone.as_str(), others.as_str());
-    Ok(format!(in alloc; "{alone}{others}")?)
+    rows.push_str(&group_rows(layout, alloc, showing, others, languages)?)?;
+    Ok(rows)
 }

@@ -1,8 +1,10 @@
 use Rattle.std.proofs.Common.{ap, ◌∙◌}
-use Rattle.tokei_languages.specs.Seen.{languages_of}
-use Rattle.tokei_print.specs.ListedLanguages.{languages_in}
-use Rattle.tokei_print.proofs.Reports.{report_of_steps}
 use Rattle.tokei_print.proofs.report.printed.Goals as goal
+
+pub print_report-requires-clause-empty : goal.print_report-requires-clause-empty
+print_report-requires-clause-empty c =
+    ap (λ w. w.inner.items) c.in_ok-printer.ensures.writer ∙ ap (λ v. v.items) c.new-buffer.ensures.inner
+    ∙ c.new.ensures.items
 
 pub returns-clause-text : goal.returns-clause-text
 returns-clause-text c = record {
@@ -10,17 +12,5 @@ returns-clause-text c = record {
   columns = c.in_ok-printer.ensures.columns ∙ c.columns.ensures.value;
   files = c.in_ok-printer.ensures.files;
   format = ap (λ f. f.separator) c.in_ok-printer.ensures.format ∙ c.get_format-format.ensures;
-  shown = report_of_steps c.args.table.now c.args.style
-      (languages_in c.args.listed.now) (languages_of c.args.languages.now)
-      c.in_ok-printer.printer.layout c.warn.new.printer.layout
-      c.print_header.new.self.layout c.print_results.new.self.layout c.is_some-sorted.result
-      c.in_ok-printer.printer.writer.inner.items c.warn.new.printer.writer.inner.items
-      c.print_header.new.self.writer.inner.items
-      c.print_results.new.self.writer.inner.items c.print_total.new.self.writer.inner.items
-      (ap (λ w. w.inner.items) c.in_ok-printer.ensures.writer ∙ ap (λ v. v.items) c.new-buffer.ensures.inner
-      ∙ c.new.ensures.items)
-      c.in_ok-warn.ensures.layout c.in_ok-print_header.ensures.layout c.in_ok-print_results.ensures.layout
-      c.is_some-sorted.ensures
-      c.in_ok-warn.ensures.bytes c.in_ok-print_header.ensures.bytes
-      c.in_ok-print_results.ensures.bytes c.in_ok-print_total.ensures.bytes;
+  shown = c.in_ok-print_report.ensures.text;
 }
