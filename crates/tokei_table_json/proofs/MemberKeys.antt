@@ -69,7 +69,10 @@ by_member F key other =
 
 -- so it is with the layout of a member
 fits_by_member : (html : Bool) (key : List ℕ) (d : Data) → fits html key d ≡ fits html (key_of (member_of key)) d
-fits_by_member html key d = by_member (λ k. fits html k d) key (λ e0 e1 e2 e3 e4 e5 e6 e7 e8 e9 e10 e11 e12 e13 e14 e15 e16 e17 e18. rw (e0, e1, e2, e3, e4, e5, e6, e7, e8, e9, e10, e11, e12, e13, e14, e15, e16, e17, e18))
+fits_by_member html key d =
+    by_member (λ k. fits html k d) key
+    (λ e0 e1 e2 e3 e4 e5 e6 e7 e8 e9 e10 e11 e12 e13 e14 e15 e16 e17 e18.
+    rw (e0, e1, e2, e3, e4, e5, e6, e7, e8, e9, e10, e11, e12, e13, e14, e15, e16, e17, e18))
 
 -- at its own key, a member may have what its kind says
 fits_at_key : (html : Bool) (m : Member) (d : Data) → fits html (key_of m) d ≡ fits_member html m d
@@ -100,7 +103,10 @@ fits_tells html key d = sym (fits_by_member html key d ∙ fits_at_key html (mem
 
 -- so it is with the escapes of a member
 keeps_by_member : (html : Bool) (key : List ℕ) (d : Data) → keeps_escapes html key d ≡ keeps_escapes html (key_of (member_of key)) d
-keeps_by_member html key d = by_member (λ k. keeps_escapes html k d) key (λ e0 e1 e2 e3 e4 e5 e6 e7 e8 e9 e10 e11 e12 e13 e14 e15 e16 e17 e18. rw (e0, e1, e2, e3, e4, e5, e7, e8, e9, e10, e11, e13, e16, e17, e18))
+keeps_by_member html key d =
+    by_member (λ k. keeps_escapes html k d) key
+    (λ e0 e1 e2 e3 e4 e5 e6 e7 e8 e9 e10 e11 e12 e13 e14 e15 e16 e17 e18.
+    rw (e0, e1, e2, e3, e4, e5, e7, e8, e9, e10, e11, e13, e16, e17, e18))
 
 -- at its own key, a member keeps the escapes that its kind says
 keeps_at_key : (html : Bool) (m : Member) (d : Data) → keeps_escapes html (key_of m) d ≡ member_keeps_escapes html m d
@@ -132,7 +138,10 @@ keeps_tells html key d = sym (keeps_by_member html key d ∙ keeps_at_key html (
 -- so it is with the row into which a member is read
 filled_by_member : (html : Bool) (key : List ℕ) (d : Data) (row : Row)
     → with_member html key d row ≡ with_member html (key_of (member_of key)) d row
-filled_by_member html key d row = by_member (λ k. with_member html k d row) key (λ e0 e1 e2 e3 e4 e5 e6 e7 e8 e9 e10 e11 e12 e13 e14 e15 e16 e17 e18. rw (e0, e1, e2, e3, e4, e5, e6, e7, e8, e9, e10, e11, e12, e13, e14, e15, e16, e17, e18))
+filled_by_member html key d row =
+    by_member (λ k. with_member html k d row) key
+    (λ e0 e1 e2 e3 e4 e5 e6 e7 e8 e9 e10 e11 e12 e13 e14 e15 e16 e17 e18.
+    rw (e0, e1, e2, e3, e4, e5, e6, e7, e8, e9, e10, e11, e12, e13, e14, e15, e16, e17, e18))
 
 -- the row into which the member that the key names is read
 pub row_by_key : (html : Bool) (key : List ℕ) (d : Data) (m : Member) (old new : Row) → m ≡ member_of key

@@ -11,7 +11,14 @@ returns c =
     let g : Row = row_at c.args.table.now c.args.language in
     let row_is = c.syntax-syntax.ensures.row in
     let family_is = c.of_key-family.ensures ∙ ap family_of c.as_str.ensures.value ∙ ap (λ (r : Row). family_of r.key) row_is in
-    ap (λ os. record { openers = os; begins = c.beginnings-begins.result; begins_in_comment = c.beginnings_in_comment-begins_in_comment.result; family = c.of_key-family.result }) c.in_ok-shared.ensures
+    ap
+    (λ os. record {
+      openers = os;
+      begins = c.beginnings-begins.result;
+      begins_in_comment = c.beginnings_in_comment-begins_in_comment.result;
+      family = c.of_key-family.result;
+    })
+    c.in_ok-shared.ensures
     ∙ ap
     (λ bs. record {
       openers = openers g;
