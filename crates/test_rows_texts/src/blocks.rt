@@ -13,20 +13,6 @@ pub const MEMBERS: Members = Members {
     by_table: false,
 };
 
-/// A text, and the places of a row.
-#[derive(Clone, Copy)]
-struct Places<'a> {
-    text: &'a [u8],
-    from: usize,
-    place: usize,
-    to: usize,
-}
-
-/// That no block opens.
-fn no_block(answers: &mut Answers) {
-    answers.say("opens", Said::Flag(false));
-}
-
 /// The answers that contents and their size are.
 fn block(contents: &[u8], size: usize, answers: &mut Answers) {
     answers.say("contents", Said::Bytes(contents));
@@ -40,7 +26,7 @@ fn fence(text: &[u8], from: usize, place: usize, to: usize, answers: &mut Answer
     requires ends { to ≤ length text.now }
 {
     let Some(found) = fence_at(text, from, place, to) else {
-        no_block(answers);
+        answers.say("opens", Said::Flag(false));
         return;
     };
     block(found.contents, found.size, answers);
@@ -56,43 +42,24 @@ fn target_block(text: &[u8], from: usize, place: usize, to: usize, answers: &mut
 {
     match target_at(text, from, place, to) {
         Some(found) => block(found.contents, found.size, answers),
-        None => no_block(answers),
+        None => answers.say("opens", Said::Flag(false)),
     }
 }
 
 /// The answers of the search for an element.
-fn element(tag: Tag, places: &Places<'_>, answers: &mut Answers) -> Result<(), RowError> {
-    if places.place < places.from || places.to <= places.place || places.text.len() < places.to {
-        return Err(RowError::Words("the places aren't within the text"));
-    }
-    let mut search = BlockSearch::new(places.text);
-    let Some(found) = search.tag_at(tag, places.from, places.place, places.to) else {
-        no_block(answers);
-        return Ok(());
+fn element(tag: Tag, text: &[u8], from: usize, place: usize, to: usize, answers: &mut Answers)
+    requires order { from ≤ place }
+    requires inside { place < to }
+    requires ends { to ≤ length text.now }
+{
+    let mut search = BlockSearch::new(text);
+    let Some(found) = search.tag_at(tag, from, place, to) else {
+        answers.say("opens", Said::Flag(false));
+        return;
     };
     block(found.contents, found.size, answers);
     if let Some(value) = found.value {
         answers.say("value", Said::Bytes(value));
-    }
-    Ok(())
-}
-
-/// The answers that a doc comment of a size is.
-fn doc_of_size(
-    text: &[u8],
-    place: usize,
-    size: usize,
-    answers: &mut Answers,
-) -> Result<(), RowError> {
-    let Some(behind) = text.get(place..) else {
-        return Err(RowError::Words("the place isn't within the text"));
-    };
-    match behind.get(..size) {
-        Some(comment) => {
-            block(&doc_text(answers.alloc, comment)?, size, answers);
-            Ok(())
-        }
-        None => Err(RowError::Words("the doc comment is longer than the text")),
     }
 }
 
@@ -101,66 +68,58 @@ fn doc_comment(text: &[u8], place: usize, answers: &mut Answers) -> Result<(), R
     if text.len() <= place {
         return Err(RowError::Words("the place isn't within the text"));
     }
-    match BlockSearch::new(text).doc_at(place) {
-        Some(size) => doc_of_size(text, place, size, answers),
-        None => {
-            no_block(answers);
+    let Some(size) = BlockSearch::new(text).doc_at(place) else {
+        answers.say("opens", Said::Flag(false));
+        return Ok(());
+    };
+    match text[place..].get(..size) {
+        Some(comment) => {
+            block(&doc_text(answers.alloc, comment)?, size, answers);
             Ok(())
         }
+        None => Err(RowError::Words("the doc comment is longer than the text")),
     }
 }
 
 /// The answers of the search for the target, which is asked twice.
-fn target(text: &[u8], answers: &mut Answers) -> Result<(), RowError> {
+fn target(text: &[u8], answers: &mut Answers) {
     let mut search = BlockSearch::new(text);
     let first = search.target();
     if search.target() != first {
-        return Err(RowError::Words("the second question is answered otherwise"));
+        answers.fail(RowError::Words("the second question is answered otherwise"));
+    } else if let Some(found) = first {
+        answers.say("contents", Said::Bytes(found));
+    } else {
+        answers.say("opens", Said::Flag(false));
     }
-    let Some(found) = first else {
-        no_block(answers);
-        return Ok(());
-    };
-    answers.say("contents", Said::Bytes(found));
-    Ok(())
 }
 
 /// The answers of a search between places.
-fn between(name: &str, places: &Places<'_>, answers: &mut Answers) -> Result<(), RowError> {
-    if places.place < places.from || places.to <= places.place || places.text.len() < places.to {
+fn between(name: &str, row: &Row, text: &[u8], answers: &mut Answers) -> Result<(), RowError> {
+    let (from, place, to) = (row.place("from")?, row.place("place")?, row.place("to")?);
+    if place < from || to <= place || text.len() < to {
         return Err(RowError::Words("the places aren't within the text"));
     }
     match name {
-        "fence" => {
-            fence(places.text, places.from, places.place, places.to, answers);
-            Ok(())
-        }
-        "target block" => {
-            target_block(places.text, places.from, places.place, places.to, answers);
-            Ok(())
-        }
-        "script" => element(Tag::Script, places, answers),
-        "style" => element(Tag::Style, places, answers),
-        "template" => element(Tag::Template, places, answers),
-        _ => Err(RowError::Words("there is no such block")),
+        "fence" => fence(text, from, place, to, answers),
+        "target block" => target_block(text, from, place, to, answers),
+        "script" => element(Tag::Script, text, from, place, to, answers),
+        "style" => element(Tag::Style, text, from, place, to, answers),
+        "template" => element(Tag::Template, text, from, place, to, answers),
+        _ => answers.fail(RowError::Words("there is no such block")),
     }
+    Ok(())
 }
 
 /// The answers of a search in a text.
 fn came_in(name: &str, row: &Row, text: &[u8], answers: &mut Answers) -> Result<(), RowError> {
     match name {
-        "target" => target(text, answers),
+        "target" => {
+            target(text, answers);
+            Ok(())
+        }
         "doc comment" => doc_comment(text, row.place("place")?, answers),
-        _ => between(
-            name,
-            &Places {
-                text,
-                from: row.place("from")?,
-                place: row.place("place")?,
-                to: row.place("to")?,
-            },
-            answers,
-        ),
+        _ => between(name, row, text, answers),
     }
 }
 

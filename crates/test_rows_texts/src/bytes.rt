@@ -1,7 +1,6 @@
 //! Rows of searches for one of a few bytes.
 ghost use Rattle.std.specs.Prelude.{◌≤◌, length};
 
-use std::alloc::{AllocError, Global};
 use test_rows::{Answers, Asked, Members, Row, RowError, Said};
 use tokei_bytes::{ByteSet, first_of_four};
 
@@ -17,15 +16,6 @@ pub const MEMBERS: Members = Members {
     by_table: false,
 };
 
-/// The text with another byte in a place.
-fn with_byte(alloc: Global, text: &[u8], hit: usize, byte: u8) -> Result<Vec<u8>, AllocError> {
-    let mut made = Vec::new(alloc);
-    for (place, old) in text.iter().enumerate() {
-        made.push(if place == hit { byte } else { *old })?;
-    }
-    Ok(made)
-}
-
 /// What the search answers, where the places are in order and within the text.
 fn search(four: [u8; 4], text: &[u8], from: usize, to: usize) -> Option<usize> {
     if from <= to && to <= text.len() {
@@ -37,36 +27,35 @@ fn search(four: [u8; 4], text: &[u8], from: usize, to: usize) -> Option<usize> {
 
 /// What the search answers where each of the four stands in that place in turn; none where it answers otherwise of two.
 fn search_each(
-    alloc: Global,
     four: [u8; 4],
-    text: &[u8],
+    text: &mut [u8],
     hit: usize,
-    places: (usize, usize),
-) -> Result<Option<usize>, RowError> {
-    let (from, to) = places;
-    let first = search(four, &with_byte(alloc, text, hit, four[0])?, from, to);
+    from: usize,
+    to: usize,
+) -> Option<usize> {
+    let mut first = None;
     for byte in four {
-        if search(four, &with_byte(alloc, text, hit, byte)?, from, to) != first {
-            return Ok(None);
+        if hit < text.len() {
+            text[hit] = byte;
         }
+        let found = search(four, text, from, to);
+        if first.is_some() && found != first {
+            return None;
+        }
+        first = found;
     }
-    Ok(first)
-}
-
-/// Four bytes of a text that has just these.
-fn four_of(text: &str) -> Result<[u8; 4], RowError> {
-    match text.as_bytes() {
-        [one, two, three, four] => Ok([*one, *two, *three, *four]),
-        _ => Err(RowError::Words("these aren't four bytes")),
-    }
+    first
 }
 
 /// The answers of a search for one of four.
-fn of_four(row: &Row, text: &[u8], answers: &mut Answers) -> Result<(), RowError> {
-    let four = four_of(row.text("four")?)?;
+fn of_four(row: &Row, text: &mut [u8], answers: &mut Answers) -> Result<(), RowError> {
+    let [one, two, three, four] = row.text("four")?.as_bytes() else {
+        return Err(RowError::Words("these aren't four bytes"));
+    };
+    let four = [*one, *two, *three, *four];
     let (from, to) = (row.place("from")?, row.place("to")?);
     let first = if row.has("hit") {
-        search_each(answers.alloc, four, text, row.place("hit")?, (from, to))?
+        search_each(four, text, row.place("hit")?, from, to)
     } else {
         search(four, text, from, to)
     };
@@ -102,10 +91,10 @@ fn of_set(row: &Row, text: &[u8], answers: &mut Answers) -> Result<(), RowError>
 
 /// What the calls answer.
 pub fn came(_asked: &Asked, row: &Row, answers: &mut Answers) -> Result<(), RowError> {
-    let text = row.bytes(answers.alloc, "text", "text_hex")?;
+    let mut text = row.bytes(answers.alloc, "text", "text_hex")?;
     if row.has("set") {
         of_set(row, &text, answers)
     } else {
-        of_four(row, &text, answers)
+        of_four(row, &mut text, answers)
     }
 }

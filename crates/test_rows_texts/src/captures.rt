@@ -35,29 +35,6 @@ fn single<'a>(call: &str, text: &'a [u8], from: usize, to: usize) -> Option<Opti
     }
 }
 
-/// What a call with a value answers; none where there is no such call, or no such tag.
-fn tagged<'a>(
-    call: &str,
-    text: &'a [u8],
-    from: usize,
-    to: usize,
-) -> Option<[Option<Capture<'a>>; 2]>
-    requires order { from ≤ to }
-    requires ends { to ≤ length text.now }
-{
-    match call {
-        "start_script" => start_script(text, from, to),
-        "start_style" => start_style(text, from, to),
-        "start_template" => start_template(text, from, to),
-        _ => None,
-    }
-}
-
-/// Whether a call of that name has a value.
-fn has_value(call: &str) -> bool {
-    call == "start_script" || call == "start_style" || call == "start_template"
-}
-
 /// Answers by a capture's place and its text.
 fn say_capture(
     answers: &mut Answers,
@@ -99,18 +76,34 @@ fn of_tag(found: Option<&[Option<Capture<'_>>]>, answers: &mut Answers) -> Resul
     }
 }
 
-/// The answers of a call with a value, in a range.
-fn of_range(
+/// The answers of a call with a value, in a range where a row has one.
+fn of_tagged(
     call: &str,
-    html: &HtmlLike<'_>,
-    starts: usize,
-    ends: usize,
+    text: &[u8],
+    part: (usize, usize),
+    range: Option<(usize, usize)>,
     answers: &mut Answers,
-) -> Result<(), RowError> {
-    match call {
-        "start_script" => of_tag(html.start_script_in_range(starts, ends), answers),
-        "start_style" => of_tag(html.start_style_in_range(starts, ends), answers),
-        _ => of_tag(html.start_template_in_range(starts, ends), answers),
+) -> Result<(), RowError>
+    requires order { part.0 ≤ part.1 }
+    requires ends { part.1 ≤ length text.now }
+{
+    let (from, to) = part;
+    if let Some((starts, ends)) = range {
+        let html = HtmlLike::new(text, from, to);
+        return match call {
+            "start_script" => of_tag(html.start_script_in_range(starts, ends), answers),
+            "start_style" => of_tag(html.start_style_in_range(starts, ends), answers),
+            _ => of_tag(html.start_template_in_range(starts, ends), answers),
+        };
+    }
+    let found = match call {
+        "start_script" => start_script(text, from, to),
+        "start_style" => start_style(text, from, to),
+        _ => start_template(text, from, to),
+    };
+    match found {
+        Some(found) => of_tag(Some(&found[..]), answers),
+        None => of_tag(None, answers),
     }
 }
 
@@ -126,55 +119,24 @@ fn of_single(found: Option<Capture<'_>>, range: Option<(usize, usize)>, answers:
     }
 }
 
-/// The range in which a capture has to start, where a row has one.
-fn range_of(row: &Row) -> Result<Option<(usize, usize)>, RowError> {
-    if !row.has("starts") {
-        return Ok(None);
-    }
-    Ok(Some((row.place("starts")?, row.place("ends")?)))
-}
-
-/// The answers of a call.
-fn of_call(
-    call: &str,
-    text: &[u8],
-    part: (usize, usize),
-    range: Option<(usize, usize)>,
-    answers: &mut Answers,
-) -> Result<(), RowError> {
-    let (from, to) = part;
+/// What the calls answer.
+pub fn came(_asked: &Asked, row: &Row, answers: &mut Answers) -> Result<(), RowError> {
+    let (from, to) = (row.place("from")?, row.place("to")?);
+    let range = if row.has("starts") {
+        Some((row.place("starts")?, row.place("ends")?))
+    } else {
+        None
+    };
+    let (call, text) = (row.text("call")?, row.text("text")?.as_bytes());
     if to < from || text.len() < to {
         return Err(RowError::Words("the part isn't within the text"));
     }
-    if has_value(call) {
-        return match range {
-            Some((starts, ends)) => {
-                of_range(call, &HtmlLike::new(text, from, to), starts, ends, answers)
-            }
-            None => match tagged(call, text, from, to) {
-                Some(found) => of_tag(Some(&found[..]), answers),
-                None => of_tag(None, answers),
-            },
-        };
+    if call == "start_script" || call == "start_style" || call == "start_template" {
+        return of_tagged(call, text, (from, to), range, answers);
     }
     match single(call, text, from, to) {
-        Some(found) => {
-            of_single(found, range, answers);
-            Ok(())
-        }
-        None => Err(RowError::Words("there is no such call")),
+        Some(found) => of_single(found, range, answers),
+        None => answers.fail(RowError::Words("there is no such call")),
     }
-}
-
-/// What the calls answer.
-pub fn came(_asked: &Asked, row: &Row, answers: &mut Answers) -> Result<(), RowError> {
-    let part = (row.place("from")?, row.place("to")?);
-    let range = range_of(row)?;
-    of_call(
-        row.text("call")?,
-        row.text("text")?.as_bytes(),
-        part,
-        range,
-        answers,
-    )
+    Ok(())
 }

@@ -1,9 +1,8 @@
 //! Rows of the debug texts of rules by which a text of another language opens, and of such a text.
 use crate::made::stats_of;
-use std::alloc::Global;
-use test_rows::{Answers, Asked, Members, Row, RowError, Said};
+use test_rows::{Answers, Asked, Members, Row, RowError};
 use tokei_count::{FileContext, LanguageContext};
-use tokei_table::{LanguageTable, LanguageType};
+use tokei_table::LanguageType;
 
 /// The members of these rows: a rule and its members, and where a text inside is shown too where it ends and its
 /// statistics.
@@ -33,23 +32,9 @@ fn rule(name: &str, language: LanguageType, balanced: bool) -> Option<LanguageCo
     }
 }
 
-/// The debug text of a rule, or of a text that opened by it.
-fn debug_of(
-    alloc: Global,
-    table: &LanguageTable,
-    row: &Row,
-    rule: LanguageContext,
-) -> Result<String, RowError> {
-    if !row.has("end") {
-        return Ok(format!(in alloc; "{rule:?}")?);
-    }
-    let stats = stats_of(alloc, table, row)?;
-    let context = FileContext::new(rule, row.place("end")?, stats);
-    Ok(format!(in alloc; "{context:?}")?)
-}
-
-/// The answers by a table.
-fn came_by(table: &LanguageTable, row: &Row, answers: &mut Answers) -> Result<(), RowError> {
+/// What the calls answer.
+pub fn came(asked: &Asked, row: &Row, answers: &mut Answers) -> Result<(), RowError> {
+    let table = asked.table()?;
     let (name, balanced) = (row.text("rule")?, row.flag("balanced")?);
     let Some(language) = LanguageType::from_name(table, row.text("language")?) else {
         return Err(RowError::Words("the table hasn't the language"));
@@ -57,12 +42,12 @@ fn came_by(table: &LanguageTable, row: &Row, answers: &mut Answers) -> Result<()
     let Some(rule) = rule(name, language, balanced) else {
         return Err(RowError::Words("there is no such rule"));
     };
-    let debug = debug_of(answers.alloc, table, row, rule)?;
-    answers.say("debug", Said::Text(debug.as_str()));
+    if row.has("end") {
+        let stats = stats_of(answers.alloc, table, row)?;
+        let context = FileContext::new(rule, row.place("end")?, stats);
+        answers.say_debug("debug", &context);
+    } else {
+        answers.say_debug("debug", &rule);
+    }
     Ok(())
-}
-
-/// What the calls answer.
-pub fn came(asked: &Asked, row: &Row, answers: &mut Answers) -> Result<(), RowError> {
-    came_by(asked.table()?, row, answers)
 }

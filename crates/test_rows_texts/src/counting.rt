@@ -32,26 +32,6 @@ struct Text<'a, 't> {
     text: &'t [u8],
 }
 
-/// Answers by what all calls tell by a table.
-fn say(table: &LanguageTable, text: &Text, answers: &mut Answers) -> Result<(), RowError> {
-    match told(
-        text.alloc,
-        table,
-        text.language,
-        text.doc_strings,
-        text.text,
-    ) {
-        Ok(Some((stats, steps))) => {
-            answers.say("steps", Said::Number(steps));
-            answers_of(table, &stats, answers)
-        }
-        Ok(None) => Err(RowError::Words(
-            "the table hasn't the language, or two calls count otherwise",
-        )),
-        Err(cause) => Err(refused(cause)),
-    }
-}
-
 /// Statistics as one text: their lines, and those of all texts inside.
 fn shown(alloc: Global, table: &LanguageTable, stats: &CodeStats) -> Result<String, RowError> {
     let mut text = String::new(alloc);
@@ -78,43 +58,50 @@ fn told_by(counter: &Counter, text: &Text, beginning: &[u8]) -> Result<String, R
     }
 }
 
-/// Whether two tables tell the same of the beginning of a text.
-fn tell_same(
-    one: &Counter,
-    other: &Counter,
-    text: &Text,
-    beginning: &[u8],
-) -> Result<bool, RowError> {
+/// Tells that two tables tell otherwise of a beginning of a text, where they do.
+fn compare(one: &Counter, other: &Counter, text: &Text, beginning: &[u8]) -> Result<(), RowError> {
     let told = told_by(one, text, beginning)?;
-    Ok(told.as_str() == told_by(other, text, beginning)?.as_str())
+    if told.as_str() == told_by(other, text, beginning)?.as_str() {
+        Ok(())
+    } else {
+        Err(RowError::Words("the two tables tell otherwise of a beginning of the text"))
+    }
 }
 
-/// Tells that two tables tell otherwise of a beginning of a text, where they do.
-fn compare_each(one: &Counter, other: &Counter, text: &Text) -> Result<(), RowError> {
+/// The same of each beginning; each table is made ready once.
+fn compare_each(one: &LanguageTable, other: &LanguageTable, text: &Text) -> Result<(), RowError> {
+    let one = Counter::new(text.alloc, one)?;
+    let other = Counter::new(text.alloc, other)?;
     for end in 0..text.text.len() {
-        if !tell_same(one, other, text, &text.text[..end])? {
-            return Err(RowError::Words("the two tables tell otherwise of a beginning of the text"));
-        }
+        compare(&one, &other, text, &text.text[..end])?;
     }
     Ok(())
 }
 
-/// The same; each table is made ready once.
-fn compare(one: &LanguageTable, other: &LanguageTable, text: &Text) -> Result<(), RowError> {
-    let one = Counter::new(text.alloc, one)?;
-    let other = Counter::new(text.alloc, other)?;
-    compare_each(&one, &other, text)
-}
-
 /// Answers by what all calls tell. Where the table isn't the bench table, both have to tell the same of each beginning of
 /// the text too, but for the steps, which may be others.
-fn say_both(asked: &Asked, text: &Text, answers: &mut Answers) -> Result<(), RowError> {
+fn say(asked: &Asked, text: &Text, answers: &mut Answers) -> Result<(), RowError> {
     let table = asked.table()?;
     if let Some(bench) = asked.bench {
         answers.leave("steps")?;
-        compare(bench, table, text)?;
+        compare_each(bench, table, text)?;
     }
-    say(table, text, answers)
+    match told(
+        text.alloc,
+        table,
+        text.language,
+        text.doc_strings,
+        text.text,
+    ) {
+        Ok(Some((stats, steps))) => {
+            answers.say("steps", Said::Number(steps));
+            answers_of(table, &stats, answers)
+        }
+        Ok(None) => Err(RowError::Words(
+            "the table hasn't the language, or two calls count otherwise",
+        )),
+        Err(cause) => Err(refused(cause)),
+    }
 }
 
 /// What the calls answer.
@@ -128,5 +115,5 @@ pub fn came(asked: &Asked, row: &Row, answers: &mut Answers) -> Result<(), RowEr
         doc_strings,
         text: &text,
     };
-    say_both(asked, &text, answers)
+    say(asked, &text, answers)
 }

@@ -24,35 +24,26 @@ fn key_of<'a>(table: &'a LanguageTable, found: Option<LanguageType>) -> &'a str 
     }
 }
 
-/// The language that a text finds without a copy of it; none where it is to be looked up as something else.
-fn found_by(table: &LanguageTable, by: &str, text: &str) -> Option<Option<LanguageType>> {
-    match by {
-        "name" => Some(LanguageType::from_name(table, text)),
-        "word" => Some(LanguageType::from_str(table, text)),
-        "media type" => Some(LanguageType::from_mime(table, text)),
-        "extension" => Some(LanguageType::from_file_extension(table, text)),
-        _ => None,
-    }
-}
-
-/// Says the key of the language that the name of a file finds.
-fn say_of_name(table: &LanguageTable, name: &str, answers: &mut Answers) {
-    match LanguageType::from_file_name(answers.alloc, table, name) {
-        Ok(found) => answers.say("found", Said::Text(key_of(table, found))),
-        Err(_) => answers.fail(RowError::Memory),
-    }
-}
-
 /// Says the key of the language that a text finds.
 fn say_found(table: &LanguageTable, by: &str, text: &str, answers: &mut Answers) {
-    if by == "file name" {
-        say_of_name(table, text, answers);
-        return;
-    }
-    match found_by(table, by, text) {
-        Some(found) => answers.say("found", Said::Text(key_of(table, found))),
-        None => answers.fail(RowError::Words("nothing is looked up by that")),
-    }
+    let found = match by {
+        "name" => LanguageType::from_name(table, text),
+        "word" => LanguageType::from_str(table, text),
+        "media type" => LanguageType::from_mime(table, text),
+        "extension" => LanguageType::from_file_extension(table, text),
+        "file name" => match LanguageType::from_file_name(answers.alloc, table, text) {
+            Ok(found) => found,
+            Err(_) => {
+                answers.fail(RowError::Memory);
+                return;
+            }
+        },
+        _ => {
+            answers.fail(RowError::Words("nothing is looked up by that"));
+            return;
+        }
+    };
+    answers.say("found", Said::Text(key_of(table, found)));
 }
 
 /// Says the key of the language that bytes find.
@@ -69,29 +60,28 @@ fn look_up(table: &LanguageTable, by: &str, asked: &[u8], answers: &mut Answers)
 }
 
 /// The answers by a table.
-fn found(table: &LanguageTable, row: &Row, answers: &mut Answers) -> Result<(), RowError> {
-    let by = row.text("by")?;
+fn found(
+    table: &LanguageTable,
+    by: &str,
+    row: &Row,
+    answers: &mut Answers,
+) -> Result<(), RowError> {
     let asked = row.bytes(answers.alloc, "asked", "asked_hex")?;
     look_up(table, by, &asked, answers);
     Ok(())
 }
 
-/// The answers by a table in which languages may gain extensions.
-fn came_by(table: &LanguageTable, row: &Row, answers: &mut Answers) -> Result<(), RowError> {
-    if row.has("gains") {
-        return found(&gained(answers.alloc, table, row)?, row, answers);
-    }
-    found(table, row, answers)
-}
-
-/// What the calls answer.
+/// What the calls answer, by a table in which languages may gain extensions.
 pub fn came(asked: &Asked, row: &Row, answers: &mut Answers) -> Result<(), RowError> {
-    if row.text("by")? == "no table" {
-        answers.say(
-            "has_extension",
-            Said::Flag(has_extension(row.text("asked")?)),
-        );
+    let by = row.text("by")?;
+    if by == "no table" {
+        let has = has_extension(row.text("asked")?);
+        answers.say("has_extension", Said::Flag(has));
         return Ok(());
     }
-    came_by(asked.table()?, row, answers)
+    let table = asked.table()?;
+    if row.has("gains") {
+        return found(&gained(answers.alloc, table, row)?, by, row, answers);
+    }
+    found(table, by, row, answers)
 }

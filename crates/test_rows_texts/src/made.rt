@@ -42,15 +42,7 @@ pub fn stats_of(alloc: Global, table: &LanguageTable, row: &Row) -> Result<CodeS
 /// A text inside another one: the keys of its language and of those around it, and its statistics.
 type Inside<'a> = (String, &'a CodeStats);
 
-/// The key of a language, behind those of the languages around it.
-fn path(alloc: Global, around: &str, key: &str) -> Result<String, RowError> {
-    if around.is_empty() {
-        return Ok(String::from_str(alloc, key)?);
-    }
-    Ok(format!(in alloc; "{around}/{key}")?)
-}
-
-/// Adds the texts right inside one.
+/// Adds the texts right inside one, the keys of the languages around which are `around`.
 fn put_inside<'a>(
     alloc: Global,
     table: &LanguageTable,
@@ -60,7 +52,8 @@ fn put_inside<'a>(
 ) -> Result<(), RowError> {
     for (language, blob) in &stats.blobs {
         if table.has(*language) {
-            let keys = path(alloc, around, language.key(table))?;
+            let key = language.key(table);
+            let keys = format!(in alloc; "{around}{key}")?;
             found.push((keys, blob))?;
         }
     }
@@ -82,8 +75,8 @@ pub fn inside<'a>(
         let Some((keys, stats)) = found.get(place) else {
             break;
         };
-        let (keys, stats) = (keys.clone()?, *stats);
-        put_inside(alloc, table, keys.as_str(), stats, &mut found)?;
+        let (around, stats) = (format!(in alloc; "{keys}/")?, *stats);
+        put_inside(alloc, table, around.as_str(), stats, &mut found)?;
     }
     Ok(found)
 }
@@ -115,27 +108,20 @@ fn say_blobs(
     Ok(())
 }
 
-/// Answers by the lines of a text and of all texts inside it, or by `Overflow`.
-fn say_summary(stats: &CodeStats, answers: &mut Answers) {
-    match stats.summarise() {
-        Ok(all) => {
-            answers.say(
-                "summary",
-                Said::Numbers(&[all.blanks, all.code, all.comments]),
-            );
-        }
-        Err(CountError::Memory) => answers.fail(RowError::Memory),
-        Err(CountError::Overflow) => answers.say("summary", Said::Text("Overflow")),
+/// Answers for a member by why a call refuses.
+pub fn say_refused(member: &'static str, cause: CountError, answers: &mut Answers) {
+    match cause {
+        CountError::Memory => answers.fail(RowError::Memory),
+        CountError::Overflow => answers.say(member, Said::Text("Overflow")),
     }
 }
 
-/// Answers by all lines of a text, or by `Overflow`.
-fn say_lines(stats: &CodeStats, answers: &mut Answers) {
-    match stats.lines() {
-        Ok(lines) => answers.say("lines", Said::Number(lines as u128)),
-        Err(CountError::Memory) => answers.fail(RowError::Memory),
-        Err(CountError::Overflow) => answers.say("lines", Said::Text("Overflow")),
-    }
+/// Answers for a member by lines.
+fn say_counts(member: &'static str, stats: &CodeStats, answers: &mut Answers) {
+    answers.say(
+        member,
+        Said::Numbers(&[stats.blanks, stats.code, stats.comments]),
+    );
 }
 
 /// Answers by statistics: `counts`, and `blobs` where there are texts inside; `summary` and `lines`.
@@ -144,11 +130,14 @@ pub fn answers_of(
     stats: &CodeStats,
     answers: &mut Answers,
 ) -> Result<(), RowError> {
-    answers.say(
-        "counts",
-        Said::Numbers(&[stats.blanks, stats.code, stats.comments]),
-    );
-    say_summary(stats, answers);
-    say_lines(stats, answers);
+    say_counts("counts", stats, answers);
+    match stats.summarise() {
+        Ok(all) => say_counts("summary", &all, answers),
+        Err(cause) => say_refused("summary", cause, answers),
+    }
+    match stats.lines() {
+        Ok(lines) => answers.say("lines", Said::Number(lines as u128)),
+        Err(cause) => say_refused("lines", cause, answers),
+    }
     say_blobs(table, stats, answers)
 }

@@ -32,32 +32,19 @@ fn next(name: &str, text: &[u8], start: usize, at: usize, to: usize) -> Option<u
     Some(search.next_tag(tag, start, at, to))
 }
 
-/// The next place of a doc comment in the line of a place.
-fn doc_behind(text: &[u8], at: usize) -> Option<usize> {
-    if at > text.len() {
-        return None;
-    }
-    let to = at + first_line(&text[at..]).len();
-    Some(next_doc(text, at, to))
-}
-
-/// The next place of a doc comment in no bytes at all.
-fn doc_nowhere(text: &[u8], at: usize) -> Option<usize> {
-    if at > text.len() {
-        return None;
-    }
-    Some(next_doc(text, at, at))
-}
-
 /// The next place that a row asks for; none where its places aren't within the text.
 fn next_of(name: &str, row: &Row, text: &[u8]) -> Result<Option<usize>, RowError> {
     let at = row.place("at")?;
     if name == "doc comment" {
-        return Ok(if row.has("to") {
-            doc_nowhere(text, at)
+        if at > text.len() {
+            return Ok(None);
+        }
+        let to = if row.has("to") {
+            at
         } else {
-            doc_behind(text, at)
-        });
+            at + first_line(&text[at..]).len()
+        };
+        return Ok(Some(next_doc(text, at, to)));
     }
     let (start, to) = (row.place("start")?, row.place("to")?);
     if at < start || to < at || text.len() < to {

@@ -1,6 +1,6 @@
 //! Rows of reports: how they are shown, and which are equal.
 use crate::made::{refused, stats_of};
-use std::alloc::{AllocError, Global};
+use std::alloc::Global;
 use test_rows::{Answers, Asked, Members, Row, RowError, Said};
 use tokei_stats::Report;
 use tokei_table::LanguageTable;
@@ -23,49 +23,28 @@ fn report_of(alloc: Global, table: &LanguageTable, row: &Row) -> Result<Report, 
     Ok(report)
 }
 
-/// How a report is shown in a width, or in the one that it is shown in where none is said.
-fn shown(alloc: Global, report: &Report, width: Option<u16>) -> Result<String, AllocError> {
-    match width {
-        Some(width) => format!(in alloc; "{}", report.display_in(usize::from(width))),
-        None => format!(in alloc; "{report}"),
+/// How a report is shown in the width that a row says, or in its own where the row says none.
+fn shown(alloc: Global, report: &Report, row: &Row) -> Result<String, RowError> {
+    let Some(width) = row.number_if("width")? else {
+        return Ok(format!(in alloc; "{report}")?);
+    };
+    match u16::try_from(width) {
+        Ok(width) => Ok(format!(in alloc; "{}", report.display_in(usize::from(width)))?),
+        Err(_) => Err(RowError::Words("the width is above 65535")),
     }
 }
 
-/// The width that a row says, where it says one.
-fn width_of(row: &Row) -> Result<Option<u16>, RowError> {
-    match row.number_if("width")? {
-        Some(width) => match u16::try_from(width) {
-            Ok(width) => Ok(Some(width)),
-            Err(_) => Err(RowError::Words("the width is above 65535")),
-        },
-        None => Ok(None),
-    }
-}
-
-/// Answers by how a report is shown.
-fn say_shown(report: &Report, width: Option<u16>, answers: &mut Answers) -> Result<(), RowError> {
-    let shown = shown(answers.alloc, report, width)?;
-    answers.say("shown", Said::Text(shown.as_str()));
-    answers.say("length", Said::Number(shown.len() as u128));
-    answers.say_debug("debug", report);
-    Ok(())
-}
-
-/// Answers by whether a report equals a copy of it.
-fn say_copied(report: &Report, answers: &mut Answers) {
-    match report.try_clone() {
-        Ok(copy) => answers.say("equals_copy", Said::Flag(copy == *report)),
-        Err(cause) => answers.fail(refused(cause)),
-    }
-}
-
-/// Answers by whether a report equals the other one of a row.
+/// Answers by whether a report equals a copy of it, and whether it equals the row's other one.
 fn say_equal(
     table: &LanguageTable,
     report: &Report,
     row: &Row,
     answers: &mut Answers,
 ) -> Result<(), RowError> {
+    match report.try_clone() {
+        Ok(copy) => answers.say("equals_copy", Said::Flag(copy == *report)),
+        Err(cause) => answers.fail(refused(cause)),
+    }
     let Some(other) = row.table_if("other")? else {
         return Ok(());
     };
@@ -75,15 +54,13 @@ fn say_equal(
     Ok(())
 }
 
-/// The answers by a table.
-fn came_by(table: &LanguageTable, row: &Row, answers: &mut Answers) -> Result<(), RowError> {
-    let report = report_of(answers.alloc, table, row)?;
-    say_shown(&report, width_of(row)?, answers)?;
-    say_copied(&report, answers);
-    say_equal(table, &report, row, answers)
-}
-
 /// What the calls answer.
 pub fn came(asked: &Asked, row: &Row, answers: &mut Answers) -> Result<(), RowError> {
-    came_by(asked.table()?, row, answers)
+    let table = asked.table()?;
+    let report = report_of(answers.alloc, table, row)?;
+    let shown = shown(answers.alloc, &report, row)?;
+    answers.say("shown", Said::Text(shown.as_str()));
+    answers.say("length", Said::Number(shown.len() as u128));
+    answers.say_debug("debug", &report);
+    say_equal(table, &report, row, answers)
 }

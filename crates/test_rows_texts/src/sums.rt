@@ -1,8 +1,7 @@
 //! Rows of sums of statistics, and of what stands after a refused one.
-use crate::made::{answers_of, refused, stats_of};
+use crate::made::{answers_of, refused, say_refused, stats_of};
 use std::alloc::Global;
-use std::mem;
-use test_rows::{Answers, Asked, Members, Row, RowError, Said};
+use test_rows::{Answers, Asked, Members, Row, RowError, has_word};
 use test_texts::every_call::counted;
 use tokei_stats::{CodeStats, CountError, Report, add_blob};
 use tokei_table::LanguageTable;
@@ -40,96 +39,46 @@ fn summands(alloc: Global, table: &LanguageTable, row: &Row) -> Result<Vec<CodeS
     Ok(all)
 }
 
-/// Adds all statistics to one; why the first that is refused is.
-fn sum_up(sum: &mut CodeStats, all: Vec<CodeStats>) -> Option<CountError> {
-    for more in all {
-        if let Err(cause) = sum.add(&more) {
-            return Some(cause);
-        }
-    }
-    None
-}
-
-/// Adds all statistics to a report; why the first that is refused is.
-fn report_all(report: &mut Report, all: Vec<CodeStats>) -> Option<CountError> {
-    for more in all {
-        if let Err(cause) = report.add(more) {
-            return Some(cause);
-        }
-    }
-    None
-}
-
-/// Adds all statistics to those of a report; why the first that is refused is.
-fn sum_up_report(alloc: Global, sum: &mut CodeStats, all: Vec<CodeStats>) -> Option<CountError> {
-    let mut report = Report::new(alloc, String::new(alloc));
-    mem::swap(&mut report.stats, sum);
-    let cause = report_all(&mut report, all);
-    mem::swap(&mut report.stats, sum);
-    cause
-}
-
-/// Adds the blobs of some statistics to those of others; why the first that is refused is.
-fn add_blobs(sum: &mut CodeStats, more: CodeStats) -> Option<CountError> {
+/// Adds the blobs of some statistics to those of others.
+fn add_blobs(sum: &mut CodeStats, more: CodeStats) -> Result<(), CountError> {
     for (language, blob) in more.blobs {
-        if let Err(cause) = add_blob(&mut sum.blobs, language, blob) {
-            return Some(cause);
-        }
+        add_blob(&mut sum.blobs, language, blob)?;
     }
-    None
+    Ok(())
 }
 
-/// Adds the blobs of all statistics to those of one; why the first that is refused is.
-fn sum_up_blobs(sum: &mut CodeStats, all: Vec<CodeStats>) -> Option<CountError> {
-    for more in all {
-        if let Some(cause) = add_blobs(sum, more) {
-            return Some(cause);
-        }
-    }
-    None
-}
-
-/// Adds all statistics to one, in one of three ways; why the first that is refused is.
-fn added(
-    alloc: Global,
-    to: &str,
-    sum: &mut CodeStats,
-    all: Vec<CodeStats>,
-) -> Result<Option<CountError>, RowError> {
+/// Adds statistics to a report, to its statistics, or their blobs to its blobs.
+fn add(to: &str, sum: &mut Report, more: CodeStats) -> Result<(), CountError> {
     match to {
-        "statistics" => Ok(sum_up(sum, all)),
-        "report" => Ok(sum_up_report(alloc, sum, all)),
-        "blobs" => Ok(sum_up_blobs(sum, all)),
-        _ => Err(RowError::Words("nothing is added to that")),
+        "report" => sum.add(more),
+        "blobs" => add_blobs(&mut sum.stats, more),
+        _ => sum.stats.add(&more),
     }
 }
 
-/// Says why a sum was refused, where it was.
-fn say_cause(cause: Option<CountError>, answers: &mut Answers) -> Result<(), RowError> {
-    match cause {
-        Some(CountError::Memory) => Err(RowError::Memory),
-        Some(CountError::Overflow) => {
-            answers.say("error", Said::Text("Overflow"));
-            Ok(())
-        }
-        None => Ok(()),
+/// Adds all statistics in the same way, up to the first that is refused.
+fn add_all(to: &str, sum: &mut Report, all: Vec<CodeStats>) -> Result<(), CountError> {
+    for more in all {
+        add(to, sum, more)?;
     }
-}
-
-/// The answers by a table.
-fn came_by(table: &LanguageTable, row: &Row, answers: &mut Answers) -> Result<(), RowError> {
-    let to = row.text("to")?;
-    let mut all = summands(answers.alloc, table, row)?;
-    if all.is_empty() {
-        return Err(RowError::Words("there is nothing to be added"));
-    }
-    let mut sum = all.remove(0);
-    let cause = added(answers.alloc, to, &mut sum, all)?;
-    say_cause(cause, answers)?;
-    answers_of(table, &sum, answers)
+    Ok(())
 }
 
 /// What the calls answer.
 pub fn came(asked: &Asked, row: &Row, answers: &mut Answers) -> Result<(), RowError> {
-    came_by(asked.table()?, row, answers)
+    let table = asked.table()?;
+    let to = row.text("to")?;
+    if !has_word(&["statistics", "report", "blobs"], to) {
+        return Err(RowError::Words("nothing is added to that"));
+    }
+    let mut all = summands(answers.alloc, table, row)?;
+    if all.is_empty() {
+        return Err(RowError::Words("there is nothing to be added"));
+    }
+    let mut sum = Report::new(answers.alloc, String::new(answers.alloc));
+    sum.stats = all.remove(0);
+    if let Err(cause) = add_all(to, &mut sum, all) {
+        say_refused("error", cause, answers);
+    }
+    answers_of(table, &sum.stats, answers)
 }

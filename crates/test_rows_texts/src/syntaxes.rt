@@ -46,8 +46,8 @@ fn say_kind(table: &LanguageTable, language: LanguageType, answers: &mut Answers
     answers.say_debug("family", &family);
 }
 
-/// Answers by the pairs that open and close something in the language.
-fn say_pairs(table: &LanguageTable, language: LanguageType, answers: &mut Answers)
+/// Answers by the texts of the language, and by the pairs that open and close something in it.
+fn say_texts(table: &LanguageTable, language: LanguageType, answers: &mut Answers)
     requires { language < length table.now }
 {
     answers.say(
@@ -64,12 +64,6 @@ fn say_pairs(table: &LanguageTable, language: LanguageType, answers: &mut Answer
         Said::Pairs(language.verbatim_quotes(table)),
     );
     answers.say("doc_quotes", Said::Pairs(language.doc_quotes(table)));
-}
-
-/// Answers by the texts of the language.
-fn say_texts(table: &LanguageTable, language: LanguageType, answers: &mut Answers)
-    requires { language < length table.now }
-{
     answers.say("line_comments", Said::Texts(language.line_comments(table)));
     answers.say("shebangs", Said::Texts(language.shebangs(table)));
     answers.say_debug("debug", &language);
@@ -104,19 +98,14 @@ fn say_listed(
     Ok(())
 }
 
-/// The answers by a table.
-fn came_by(table: &LanguageTable, row: &Row, answers: &mut Answers) -> Result<(), RowError> {
+/// What the calls answer.
+pub fn came(asked: &Asked, row: &Row, answers: &mut Answers) -> Result<(), RowError> {
+    let table = asked.table()?;
     let Some(language) = LanguageType::from_name(table, row.text("language")?) else {
         return Err(RowError::Words("the table hasn't the language"));
     };
     say_kind(table, language, answers);
-    say_pairs(table, language, answers);
     say_texts(table, language, answers);
     say_made(table, language, answers)?;
     say_listed(table, language, answers)
-}
-
-/// What the calls answer.
-pub fn came(asked: &Asked, row: &Row, answers: &mut Answers) -> Result<(), RowError> {
-    came_by(asked.table()?, row, answers)
 }

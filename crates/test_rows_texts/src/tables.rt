@@ -13,23 +13,18 @@ pub const MEMBERS: Members = Members {
     by_table: true,
 };
 
-/// Answers by where a refused text goes wrong.
-fn say_flaw(text: &[u8], answers: &mut Answers) {
-    match TableFlaw::find(answers.alloc, text) {
-        Ok(Some(flaw)) => answers.say_shown("flaw", &flaw),
-        Ok(None) => answers.say_shown("flaw", &"none"),
-        Err(_) => answers.fail(RowError::Memory),
-    }
-}
-
-/// Answers by why a text is refused.
+/// Answers by why a text is refused, and by where it goes wrong.
 fn refused(cause: TableError, text: &[u8], answers: &mut Answers) {
     if cause == TableError::Memory {
         answers.fail(RowError::Memory);
-    } else {
-        answers.say_debug("error", &cause);
-        answers.say_shown("words", &cause);
-        say_flaw(text, answers);
+        return;
+    }
+    answers.say_debug("error", &cause);
+    answers.say_shown("words", &cause);
+    match TableFlaw::find(answers.alloc, text) {
+        Ok(Some(flaw)) => answers.say_shown("flaw", &flaw),
+        Ok(None) => answers.say("flaw", Said::Text("none")),
+        Err(_) => answers.fail(RowError::Memory),
     }
 }
 
@@ -41,55 +36,39 @@ fn read(text: &[u8], answers: &mut Answers) {
     }
 }
 
-/// The answers that the bench table gives, in which languages may gain extensions.
-fn bench(asked: &Asked, row: &Row, answers: &mut Answers) -> Result<(), RowError> {
-    let table = gained(answers.alloc, asked.table()?, row)?;
-    if !table.is_empty() {
-        answers.say("languages", Said::Number(table.len() as u128));
-    }
-    Ok(())
-}
-
-/// The cause of that name.
-fn cause_of(name: &str) -> Option<TableError> {
-    match name {
-        "NotJson" => Some(TableError::NotJson),
-        "Layout" => Some(TableError::Layout),
-        "Escape" => Some(TableError::Escape),
-        "Token" => Some(TableError::Token),
-        "NamedTwice" => Some(TableError::NamedTwice),
-        "NamedTotal" => Some(TableError::NamedTotal),
-        "Fallback" => Some(TableError::Fallback),
-        "Memory" => Some(TableError::Memory),
-        _ => None,
-    }
-}
-
 /// The answers that a cause alone gives: its words.
 fn words(name: &str, answers: &mut Answers) {
-    match cause_of(name) {
-        Some(cause) => answers.say_shown("words", &cause),
-        None => answers.fail(RowError::Words("there is no such cause")),
-    }
+    let cause = match name {
+        "NotJson" => TableError::NotJson,
+        "Layout" => TableError::Layout,
+        "Escape" => TableError::Escape,
+        "Token" => TableError::Token,
+        "NamedTwice" => TableError::NamedTwice,
+        "NamedTotal" => TableError::NamedTotal,
+        "Fallback" => TableError::Fallback,
+        "Memory" => TableError::Memory,
+        _ => {
+            answers.fail(RowError::Words("there is no such cause"));
+            return;
+        }
+    };
+    answers.say_shown("words", &cause);
 }
 
-/// The answers that a table of one language with these members gives.
-fn read_members(members: &str, answers: &mut Answers) -> Result<(), RowError> {
-    let text = format!(in answers.alloc; "{{\"languages\":{{\"X\":{{{members}}}}}}}")?;
-    read(text.as_bytes(), answers);
-    Ok(())
-}
-
-/// What the calls answer.
+/// What the calls answer. In the bench table languages may gain extensions.
 pub fn came(asked: &Asked, row: &Row, answers: &mut Answers) -> Result<(), RowError> {
     if let Some(name) = row.text_if("cause")? {
         words(name, answers);
     } else if let Some(members) = row.text_if("members")? {
-        read_members(members, answers)?;
+        let text = format!(in answers.alloc; "{{\"languages\":{{\"X\":{{{members}}}}}}}")?;
+        read(text.as_bytes(), answers);
     } else if row.has("json") || row.has("json_hex") {
         read(&row.bytes(answers.alloc, "json", "json_hex")?, answers);
     } else {
-        bench(asked, row, answers)?;
+        let table = gained(answers.alloc, asked.table()?, row)?;
+        if !table.is_empty() {
+            answers.say("languages", Said::Number(table.len() as u128));
+        }
     }
     Ok(())
 }

@@ -25,16 +25,6 @@ pub const MEMBERS: Members = Members {
     by_table: false,
 };
 
-/// The answers of both trims.
-fn trims(text: &[u8], answers: &mut Answers) {
-    answers.say("front_trimmed", Said::Bytes(trim_start(text)));
-    answers.say("trimmed", Said::Bytes(trim(text)));
-    answers.say(
-        "blanks_end",
-        Said::Number(blanks_end(text, 0, text.len()) as u128),
-    );
-}
-
 /// The answers of the tests of one byte.
 fn kinds(text: &[u8], answers: &mut Answers) -> Result<(), RowError> {
     let [byte] = text else {
@@ -73,7 +63,10 @@ fn put(call: &str, row: &Row, text: &[u8], answers: &mut Answers) -> Result<(), 
         }
         "find_char_boundary" => boundary(row, answers),
         "trim" => {
-            trims(text, answers);
+            answers.say("front_trimmed", Said::Bytes(trim_start(text)));
+            answers.say("trimmed", Said::Bytes(trim(text)));
+            let end = blanks_end(text, 0, text.len());
+            answers.say("blanks_end", Said::Number(end as u128));
             Ok(())
         }
         "trim_lines" => {
