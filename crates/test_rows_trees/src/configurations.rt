@@ -20,13 +20,18 @@ const SWITCHES: [&str; 5] = [
 fn switched(row: &Row) -> Result<Config, RowError> {
     known_words(row, "switches", &SWITCHES, "a list of switches")?;
     let doc_strings = row.flag_if("doc_strings_are_comments")?;
+    let hidden = says(row, "switches", "hidden")?;
+    let no_ignore = says(row, "switches", "no_ignore")?;
+    let no_ignore_parent = says(row, "switches", "no_ignore_parent")?;
+    let no_ignore_dot = says(row, "switches", "no_ignore_dot")?;
+    let no_ignore_vcs = says(row, "switches", "no_ignore_vcs")?;
     let mut config = Config::new();
     config.treat_doc_strings_as_comments = doc_strings;
-    config.hidden = Some(says(row, "switches", "hidden")?);
-    config.no_ignore = Some(says(row, "switches", "no_ignore")?);
-    config.no_ignore_parent = Some(says(row, "switches", "no_ignore_parent")?);
-    config.no_ignore_dot = Some(says(row, "switches", "no_ignore_dot")?);
-    config.no_ignore_vcs = Some(says(row, "switches", "no_ignore_vcs")?);
+    config.hidden = Some(hidden);
+    config.no_ignore = Some(no_ignore);
+    config.no_ignore_parent = Some(no_ignore_parent);
+    config.no_ignore_dot = Some(no_ignore_dot);
+    config.no_ignore_vcs = Some(no_ignore_vcs);
     Ok(config)
 }
 

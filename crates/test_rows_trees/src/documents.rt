@@ -35,48 +35,35 @@ fn say_cause(answers: &mut Answers, cause: InputError) {
     }
 }
 
-/// Whether languages are those of a text.
-fn is_read(
-    alloc: Global,
-    table: &LanguageTable,
-    text: &str,
+/// Tells that what was read isn't these languages: where nothing was, by the first words, else by the
+/// second ones.
+fn check(
+    read: Result<Languages, InputError>,
     languages: &Languages,
-) -> Result<bool, RowError> {
-    match Format::parse(alloc, table, text) {
-        Ok(read) => Ok(read == *languages),
+    unread: &'static str,
+    other: &'static str,
+) -> Result<(), RowError> {
+    match read {
+        Ok(read) if read == *languages => Ok(()),
+        Ok(_) => Err(RowError::Words(other)),
         Err(InputError::Memory) => Err(RowError::Memory),
-        Err(_) => Err(RowError::Words("what is printed isn't read")),
+        Err(_) => Err(RowError::Words(unread)),
     }
 }
 
-/// Whether languages are those of their own value.
-fn is_value_read(
+/// Tells that languages aren't those of their own value.
+fn check_value(
     alloc: Global,
     table: &LanguageTable,
-    languages: &Languages,
-) -> Result<bool, RowError> {
-    let value = to_value(alloc, table, languages)?;
-    match from_value(alloc, table, &value) {
-        Ok(read) => Ok(read == *languages),
-        Err(InputError::Memory) => Err(RowError::Memory),
-        Err(_) => Err(RowError::Words("the value of the languages isn't read")),
-    }
-}
-
-/// Tells that languages aren't read back as they are, from their text or from their value.
-fn read_back(
-    alloc: Global,
-    table: &LanguageTable,
-    text: &str,
     languages: &Languages,
 ) -> Result<(), RowError> {
-    if !is_read(alloc, table, text, languages)? {
-        return Err(RowError::Words("what is printed is read as other languages"));
-    }
-    if !is_value_read(alloc, table, languages)? {
-        return Err(RowError::Words("their value is read as other languages"));
-    }
-    Ok(())
+    let value = to_value(alloc, table, languages)?;
+    check(
+        from_value(alloc, table, &value),
+        languages,
+        "the value of the languages isn't read",
+        "their value is read as other languages",
+    )
 }
 
 /// The document of languages, which is read as these, as their value is.
@@ -86,7 +73,13 @@ fn printed(
     languages: &Languages,
 ) -> Result<String, RowError> {
     let text = Format::Json.print(alloc, table, languages)?;
-    read_back(alloc, table, text.as_str(), languages)?;
+    check(
+        Format::parse(alloc, table, text.as_str()),
+        languages,
+        "what is printed isn't read",
+        "what is printed is read as other languages",
+    )?;
+    check_value(alloc, table, languages)?;
     Ok(text)
 }
 
@@ -99,17 +92,23 @@ fn came_of_print(table: &LanguageTable, row: &Row, answers: &mut Answers) -> Res
     Ok(())
 }
 
-/// What is read from a text. What is then printed of the languages is read as these.
-fn came_of_text(table: &LanguageTable, text: &str, answers: &mut Answers) -> Result<(), RowError> {
-    let alloc = answers.alloc;
-    match Format::parse(alloc, table, text) {
+/// What is read from a text, where it isn't refused. What is then printed of the languages is read as
+/// these.
+fn read(
+    table: &LanguageTable,
+    text: &str,
+    answers: &mut Answers,
+) -> Result<Option<Languages>, RowError> {
+    match Format::parse(answers.alloc, table, text) {
         Ok(languages) => {
-            let _text = printed(alloc, table, &languages)?;
-            say_languages("stand", table, &languages, answers);
+            let _text = printed(answers.alloc, table, &languages)?;
+            Ok(Some(languages))
         }
-        Err(cause) => say_cause(answers, cause),
+        Err(cause) => {
+            say_cause(answers, cause);
+            Ok(None)
+        }
     }
-    Ok(())
 }
 
 /// A document of one report whose texts inside texts are so many levels deep.
@@ -129,30 +128,13 @@ fn came_of_levels(
     answers: &mut Answers,
 ) -> Result<(), RowError> {
     let text = nested(answers.alloc, levels as usize)?;
-    match Format::parse(answers.alloc, table, text.as_str()) {
-        Ok(languages) => {
-            let _text = printed(answers.alloc, table, &languages)?;
-            answers.say("read_back", Said::Flag(true));
-        }
-        Err(cause) => say_cause(answers, cause),
+    if read(table, text.as_str(), answers)?.is_some() {
+        answers.say("read_back", Said::Flag(true));
     }
     Ok(())
 }
 
-/// Adds earlier results to languages, and says why they are refused where they are.
-fn add_earlier(
-    table: &LanguageTable,
-    bytes: &[u8],
-    languages: &mut Languages,
-    answers: &mut Answers,
-) {
-    let mut reader = Counted::new(bytes);
-    if let Err(cause) = add_input(answers.alloc, table, &mut reader, languages) {
-        say_cause(answers, cause);
-    }
-}
-
-/// What earlier results add to languages.
+/// What earlier results add to languages, and why they are refused where they are.
 fn came_of_earlier(
     table: &LanguageTable,
     row: &Row,
@@ -160,15 +142,22 @@ fn came_of_earlier(
 ) -> Result<(), RowError> {
     let bytes = row.bytes(answers.alloc, "earlier", "earlier_hex")?;
     let mut languages = given(answers.alloc, table, row, "languages")?;
-    add_earlier(table, &bytes, &mut languages, answers);
+    let mut reader = Counted::new(bytes.as_slice());
+    if let Err(cause) = add_input(answers.alloc, table, &mut reader, &mut languages) {
+        say_cause(answers, cause);
+    }
     say_languages("stand", table, &languages, answers);
     Ok(())
 }
 
-/// What the calls answer by a table.
-fn came_by(table: &LanguageTable, row: &Row, answers: &mut Answers) -> Result<(), RowError> {
+/// What the calls answer.
+pub fn came(asked: &Asked, row: &Row, answers: &mut Answers) -> Result<(), RowError> {
+    let table = asked.table()?;
     if let Some(text) = row.text_if("text")? {
-        return came_of_text(table, text, answers);
+        if let Some(languages) = read(table, text, answers)? {
+            say_languages("stand", table, &languages, answers);
+        }
+        return Ok(());
     }
     if let Some(levels) = row.number_if("levels")? {
         return came_of_levels(table, levels, answers);
@@ -177,9 +166,4 @@ fn came_by(table: &LanguageTable, row: &Row, answers: &mut Answers) -> Result<()
         return came_of_earlier(table, row, answers);
     }
     came_of_print(table, row, answers)
-}
-
-/// What the calls answer.
-pub fn came(asked: &Asked, row: &Row, answers: &mut Answers) -> Result<(), RowError> {
-    came_by(asked.table()?, row, answers)
 }

@@ -1,8 +1,8 @@
 //! Rows of one file: its report, or the language of its path or of its head.
 use crate::configurations::configuration;
 use crate::given_languages::NO_LANGUAGE;
-use crate::shown_languages::put_report;
-use std::alloc::{AllocError, Global};
+use crate::shown_languages::put_stats;
+use std::alloc::Global;
 use test_rows::{Answers, Asked, Members, Page, Row, RowError, Said, folders_of};
 use tokei_count::Counter;
 use tokei_files::{ParseFault, from_path, from_shebang, parse_file};
@@ -35,13 +35,6 @@ pub const MEMBERS: Members = Members {
     by_table: true,
 };
 
-/// Says a report.
-fn say_report(table: &LanguageTable, answers: &mut Answers, report: &Report) {
-    let mut page = Page::new(answers.alloc);
-    put_report(table, report, &mut page);
-    answers.say_page("report", &page);
-}
-
 /// Says why a file has no report, and the path that comes back.
 fn say_fault(answers: &mut Answers, fault: ParseFault, path: &str) {
     if fault == ParseFault::Memory {
@@ -63,10 +56,9 @@ fn parsed(
     let Some(language) = LanguageType::from_name(table, language) else {
         return Err(NO_LANGUAGE);
     };
-    let path = row.text("path")?;
+    let path = String::from_str(alloc, row.text("path")?)?;
     let config = configuration(alloc, table, row)?;
     let counter = Counter::new(alloc, table)?;
-    let path = String::from_str(alloc, path)?;
     Ok(parse_file(alloc, &counter, language, folders, path, &config))
 }
 
@@ -77,59 +69,52 @@ fn came_of_report(
     language: &str,
     answers: &mut Answers,
 ) -> Result<(), RowError> {
-    let alloc = answers.alloc;
-    let mut folders = folders_of(alloc, row)?;
-    match parsed(alloc, table, &mut folders, row, language)? {
-        Ok(report) => say_report(table, answers, &report),
+    let mut folders = folders_of(answers.alloc, row)?;
+    match parsed(answers.alloc, table, &mut folders, row, language)? {
+        Ok(report) => {
+            let mut page = Page::new(answers.alloc);
+            put_stats(&report.stats, table, 0, report.name.as_str(), &mut page);
+            answers.say_page("report", &page);
+        }
         Err((fault, path)) => say_fault(answers, fault, path.as_str()),
     }
     Ok(())
 }
 
-/// Says the language that was found, where one was.
-fn say_found(
-    table: &LanguageTable,
-    found: Result<Option<LanguageType>, AllocError>,
-    answers: &mut Answers,
-) {
+/// The word for the language that was found, where one was.
+fn word(table: &LanguageTable, found: Option<LanguageType>) -> &str {
     match found {
-        Ok(Some(language)) => answers.say("found", Said::Text(name_of(table, language))),
-        Ok(None) => answers.say("found", Said::Text("no language")),
-        Err(AllocError) => answers.fail(RowError::Memory),
+        Some(language) => name_of(table, language),
+        None => "no language",
     }
 }
 
 /// The language of the head alone of the file at a path, where it has one.
-fn came_of_head(table: &LanguageTable, row: &Row, answers: &mut Answers) -> Result<(), RowError> {
+fn of_head<'t>(alloc: Global, table: &'t LanguageTable, row: &Row) -> Result<&'t str, RowError> {
     let path = row.text("path")?;
-    let mut folders = folders_of(answers.alloc, row)?;
-    let found = from_shebang(answers.alloc, table, &mut folders, path);
-    say_found(table, found, answers);
-    Ok(())
+    let mut folders = folders_of(alloc, row)?;
+    Ok(word(table, from_shebang(alloc, table, &mut folders, path)?))
 }
 
 /// The language of a path, where it has one.
-fn came_of_path(table: &LanguageTable, row: &Row, answers: &mut Answers) -> Result<(), RowError> {
+fn of_path<'t>(alloc: Global, table: &'t LanguageTable, row: &Row) -> Result<&'t str, RowError> {
     let path = row.text("path")?;
-    let config = configuration(answers.alloc, table, row)?;
-    let mut folders = folders_of(answers.alloc, row)?;
-    let found = from_path(answers.alloc, table, &mut folders, path, &config);
-    say_found(table, found, answers);
-    Ok(())
-}
-
-/// What the calls answer by a table.
-fn came_by(table: &LanguageTable, row: &Row, answers: &mut Answers) -> Result<(), RowError> {
-    if let Some(language) = row.text_if("language")? {
-        return came_of_report(table, row, language, answers);
-    }
-    if row.flag("head_alone")? {
-        return came_of_head(table, row, answers);
-    }
-    came_of_path(table, row, answers)
+    let config = configuration(alloc, table, row)?;
+    let mut folders = folders_of(alloc, row)?;
+    Ok(word(table, from_path(alloc, table, &mut folders, path, &config)?))
 }
 
 /// What the calls answer.
 pub fn came(asked: &Asked, row: &Row, answers: &mut Answers) -> Result<(), RowError> {
-    came_by(asked.table()?, row, answers)
+    let table = asked.table()?;
+    if let Some(language) = row.text_if("language")? {
+        return came_of_report(table, row, language, answers);
+    }
+    let found = if row.flag("head_alone")? {
+        of_head(answers.alloc, table, row)?
+    } else {
+        of_path(answers.alloc, table, row)?
+    };
+    answers.say("found", Said::Text(found));
+    Ok(())
 }

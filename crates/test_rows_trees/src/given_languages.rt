@@ -67,18 +67,13 @@ fn add_reports(
     Ok(())
 }
 
-/// Puts the reports that a row tells to some.
-fn put_reports(
-    alloc: Global,
-    table: &LanguageTable,
-    row: &Row,
-    reports: &mut Vec<Report>,
-) -> Result<(), RowError> {
+/// The reports that a row tells, of a language inside another one.
+fn reports(alloc: Global, table: &LanguageTable, row: &Row) -> Result<Vec<Report>, RowError> {
+    let mut reports = Vec::new(alloc);
     for value in row.list("reports")? {
-        let told = row.inner("reports", value)?;
-        reports.push(report(alloc, table, &told)?)?;
+        reports.push(report(alloc, table, &row.inner("reports", value)?)?)?;
     }
-    Ok(())
+    Ok(reports)
 }
 
 /// Puts the reports of a language inside a language.
@@ -92,8 +87,7 @@ fn put_child(
     let Some(inside) = LanguageType::from_name(table, told.text("language")?) else {
         return Err(NO_LANGUAGE);
     };
-    let mut reports = Vec::new(alloc);
-    put_reports(alloc, table, told, &mut reports)?;
+    let reports = reports(alloc, table, told)?;
     let _none = language.children.insert(inside, reports)?;
     Ok(())
 }

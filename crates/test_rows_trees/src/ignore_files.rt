@@ -12,22 +12,17 @@ pub const MEMBERS: Members = Members {
     by_table: false,
 };
 
-/// The word for a verdict.
-fn word(verdict: Option<Verdict>) -> &'static str {
-    match verdict {
-        Some(Verdict::Ignore) => "ignored",
-        Some(Verdict::Keep) => "kept",
-        None => "not decided",
-    }
-}
-
-/// What an ignore file decides about a file.
+/// The word for what an ignore file decides about a file.
 fn verdict(alloc: Global, file: &IgnoreFile, path: &str) -> Result<&'static str, RowError> {
     let names = names(alloc, path)?;
     if names.is_empty() {
         return Err(RowError::Kind("path", "a path of one name at least"));
     }
-    Ok(word(file.verdict(names.as_slice(), false)))
+    match file.verdict(names.as_slice(), false) {
+        Some(Verdict::Ignore) => Ok("ignored"),
+        Some(Verdict::Keep) => Ok("kept"),
+        None => Ok("not decided"),
+    }
 }
 
 /// What the calls answer.

@@ -26,13 +26,21 @@ struct Of<'t, 'r> {
     row: Row<'r>,
 }
 
-/// The word for an answer.
-fn word(answer: Result<(), CountError>) -> Result<&'static str, RowError> {
+/// What a row calls: all its languages, or one with its name.
+#[derive(Drop)]
+enum Called<'r> {
+    All(Languages),
+    One(&'r str, Language),
+}
+
+/// Adds the line of an answer.
+fn put_answer(answer: Result<(), CountError>, page: &mut Page) -> Result<(), RowError> {
     match answer {
-        Ok(()) => Ok("done"),
-        Err(CountError::Overflow) => Ok("a sum passes the greatest usize"),
-        Err(CountError::Memory) => Err(RowError::Memory),
+        Ok(()) => page.put("done\n"),
+        Err(CountError::Overflow) => page.put("a sum passes the greatest usize\n"),
+        Err(CountError::Memory) => return Err(RowError::Memory),
     }
+    Ok(())
 }
 
 /// The column of that word.
@@ -43,50 +51,23 @@ fn column(word: &str) -> Result<Sort, RowError> {
     }
 }
 
-/// Adds how many lines a language made of others has, and the language under a name.
+/// Adds how many lines a language made of others has, and the language under a name; or why none was
+/// made.
 fn put_made(
     table: &LanguageTable,
     name: &str,
-    language: &Language,
+    made: Result<Language, CountError>,
     page: &mut Page,
 ) -> Result<(), RowError> {
-    let lines = language.lines()?;
-    page.put_shown(&lines);
-    page.put(" lines\n");
-    put_language(table, name, language, page);
-    Ok(())
-}
-
-/// Adds the line of a word.
-fn put_word(word: &str, page: &mut Page) {
-    page.put(word);
-    page.put("\n");
-}
-
-/// Adds the total of languages.
-fn put_total(
-    table: &LanguageTable,
-    languages: &Languages,
-    page: &mut Page,
-) -> Result<(), RowError> {
-    match languages.total() {
-        Ok(total) => put_made(table, "Total", &total, page)?,
-        Err(refused) => put_word(word(Err(refused))?, page),
+    match made {
+        Ok(language) => {
+            page.put_shown(&language.lines()?);
+            page.put(" lines\n");
+            put_language(table, name, &language, page);
+            Ok(())
+        }
+        Err(refused) => put_answer(Err(refused), page),
     }
-    Ok(())
-}
-
-/// Adds the summary of a language.
-fn put_summary(
-    table: &LanguageTable,
-    language: &Language,
-    page: &mut Page,
-) -> Result<(), RowError> {
-    match language.summarise() {
-        Ok(summary) => put_made(table, "Summary", &summary, page)?,
-        Err(refused) => put_word(word(Err(refused))?, page),
-    }
-    Ok(())
 }
 
 /// Sorts the reports of all languages.
@@ -106,51 +87,38 @@ fn is_empty(table: &LanguageTable, languages: &Languages, name: &str) -> bool {
     }
 }
 
-/// Marks the language of that name.
-fn mark(
-    table: &LanguageTable,
-    languages: &mut Languages,
-    name: &str,
-) -> Result<Result<(), CountError>, RowError> {
-    match LanguageType::from_name(table, name) {
-        Some(language) => Ok(languages.mark_inaccurate(language)),
-        None => Err(NO_LANGUAGE),
-    }
-}
-
-/// A call with what follows it.
-fn parts(call: &str) -> (&str, &str) {
-    match call.split_once(' ') {
-        Some(parts) => parts,
-        None => (call, ""),
-    }
-}
-
-/// What a call of languages that changes them answers; none where there is no such call.
-fn changed(
+/// Makes a call of languages, and adds what it answers.
+fn put_of_all(
     of: &Of,
     languages: &mut Languages,
-    call: &str,
-) -> Result<Option<&'static str>, RowError> {
-    let (call, argument) = parts(call);
+    (call, argument): (&str, &str),
+    page: &mut Page,
+) -> Result<(), RowError> {
     let answer = match call {
         "add" => languages.add(given(of.alloc, of.table, &of.row, "other")?),
-        "mark_inaccurate" => mark(of.table, languages, argument)?,
+        "mark_inaccurate" => match LanguageType::from_name(of.table, argument) {
+            Some(language) => languages.mark_inaccurate(language),
+            None => return Err(NO_LANGUAGE),
+        },
         "renew_counts" => languages.renew_counts(),
         "with_sorted_reports" => {
             sort_all(of.alloc, languages, column(argument)?)?;
             Ok(())
         }
-        _ => return Ok(None),
+        _ => return put_told_of_all(of, languages, (call, argument), page),
     };
-    Ok(Some(word(answer)?))
+    put_answer(answer, page)
 }
 
-/// Adds what a call of languages that only asks answers.
-fn put_told(of: &Of, languages: &Languages, call: &str, page: &mut Page) -> Result<(), RowError> {
-    let (call, argument) = parts(call);
+/// Makes a call of languages that only asks, and adds what it answers.
+fn put_told_of_all(
+    of: &Of,
+    languages: &Languages,
+    (call, argument): (&str, &str),
+    page: &mut Page,
+) -> Result<(), RowError> {
     match call {
-        "total" => return put_total(of.table, languages, page),
+        "total" => return put_made(of.table, "Total", languages.total(), page),
         "is_empty" => page.put_shown(&is_empty(of.table, languages, argument)),
         "debug" => page.put_debug(languages),
         _ => return Err(RowError::Kind("calls", "a list of calls of languages")),
@@ -159,37 +127,10 @@ fn put_told(of: &Of, languages: &Languages, call: &str, page: &mut Page) -> Resu
     Ok(())
 }
 
-/// Adds a call.
-fn put_call(call: &str, page: &mut Page) {
-    page.put(call);
-    page.put(": ");
-}
-
-/// Adds a call of languages and what it answers.
-fn put(of: &Of, languages: &mut Languages, call: &str, page: &mut Page) -> Result<(), RowError> {
-    put_call(call, page);
-    match changed(of, languages, call)? {
-        Some(word) => put_word(word, page),
-        None => put_told(of, languages, call, page)?,
-    }
-    Ok(())
-}
-
-/// Adds the calls of languages, each with what it answers.
-fn put_all(of: &Of, languages: &mut Languages, page: &mut Page) -> Result<(), RowError> {
-    for call in of.row.list("calls")? {
-        put(of, languages, text_of("calls", call)?, page)?;
-    }
-    Ok(())
-}
-
-/// A copy of the language of that name.
-fn language(
-    table: &LanguageTable,
-    languages: &Languages,
-    name: &str,
-) -> Result<Language, RowError> {
-    let Some(language) = LanguageType::from_name(table, name) else {
+/// The language of that name that a member has.
+fn language_of(of: &Of, member: &'static str, name: &str) -> Result<Language, RowError> {
+    let languages = given(of.alloc, of.table, &of.row, member)?;
+    let Some(language) = LanguageType::from_name(of.table, name) else {
         return Err(NO_LANGUAGE);
     };
     match languages.get(language) {
@@ -198,80 +139,67 @@ fn language(
     }
 }
 
-/// The language of that name that a member has.
-fn language_of(of: &Of, member: &'static str, name: &str) -> Result<Language, RowError> {
-    let languages = given(of.alloc, of.table, &of.row, member)?;
-    language(of.table, &languages, name)
-}
-
-/// What a call of one language that changes it answers; none where there is no such call.
-fn one_changed(of: &Of, one: &mut Language, call: &str) -> Result<Option<&'static str>, RowError> {
-    let (call, argument) = parts(call);
+/// Makes a call of one language, and adds what it answers.
+fn put_of_one(
+    of: &Of,
+    name: &str,
+    one: &mut Language,
+    (call, argument): (&str, &str),
+    page: &mut Page,
+) -> Result<(), RowError> {
     let answer = match call {
-        "add" => one.add(language_of(of, "other", of.row.text("of")?)?),
+        "add" => one.add(language_of(of, "other", name)?),
         "sort_by" => one.sort_by(column(argument)?),
         "total" => one.total(),
-        _ => return Ok(None),
-    };
-    Ok(Some(word(answer)?))
-}
-
-/// Adds what a call of one language that only asks answers.
-fn put_one_told(of: &Of, one: &Language, call: &str, page: &mut Page) -> Result<(), RowError> {
-    match call {
-        "summarise" => put_summary(of.table, one, page),
-        "lines" => {
+        "summarise" if argument.is_empty() => return put_made(
+            of.table,
+            "Summary",
+            one.summarise(),
+            page,
+        ),
+        "lines" if argument.is_empty() => {
             page.put_shown(&one.lines()?);
             page.put("\n");
-            Ok(())
+            return Ok(());
         }
-        _ => Err(RowError::Kind("calls", "a list of calls of a language")),
-    }
+        _ => return Err(RowError::Kind("calls", "a list of calls of a language")),
+    };
+    put_answer(answer, page)
 }
 
-/// Adds a call of one language and what it answers.
-fn put_one(of: &Of, one: &mut Language, call: &str, page: &mut Page) -> Result<(), RowError> {
-    put_call(call, page);
-    match one_changed(of, one, call)? {
-        Some(word) => put_word(word, page),
-        None => put_one_told(of, one, call, page)?,
-    }
-    Ok(())
-}
-
-/// Adds the calls of one language, each with what it answers.
-fn put_all_of_one(of: &Of, one: &mut Language, page: &mut Page) -> Result<(), RowError> {
-    for call in of.row.list("calls")? {
-        put_one(of, one, text_of("calls", call)?, page)?;
+/// Makes the calls of a row, and adds each with what it answers.
+fn put_all(of: &Of, called: &mut Called, page: &mut Page) -> Result<(), RowError> {
+    for value in of.row.list("calls")? {
+        let call = text_of("calls", value)?;
+        page.put(call);
+        page.put(": ");
+        let parts = call.split_once(' ').unwrap_or((call, ""));
+        match called {
+            Called::All(languages) => put_of_all(of, languages, parts, page)?,
+            Called::One(name, one) => put_of_one(of, *name, one, parts, page)?,
+        }
     }
     Ok(())
 }
 
-/// Says how one language stands.
-fn say_one(of: &Of, name: &str, one: &Language, answers: &mut Answers) {
-    let mut page = Page::new(of.alloc);
-    put_language(of.table, name, one, &mut page);
-    answers.say_page("stand", &page);
+/// What a row calls.
+fn called_of<'r>(of: &Of<'_, 'r>) -> Result<Called<'r>, RowError> {
+    match of.row.text_if("of")? {
+        Some(name) => Ok(Called::One(name, language_of(of, "languages", name)?)),
+        None => Ok(Called::All(given(of.alloc, of.table, &of.row, "languages")?)),
+    }
 }
 
-/// What the calls of one language answer.
-fn came_of_one(of: &Of, name: &str, answers: &mut Answers) -> Result<(), RowError> {
-    let mut one = language_of(of, "languages", name)?;
-    let mut page = Page::new(of.alloc);
-    put_all_of_one(of, &mut one, &mut page)?;
-    answers.say_page("answers", &page);
-    say_one(of, name, &one, answers);
-    Ok(())
-}
-
-/// What the calls of languages answer.
-fn came_of_all(of: &Of, answers: &mut Answers) -> Result<(), RowError> {
-    let mut languages = given(of.alloc, of.table, &of.row, "languages")?;
-    let mut page = Page::new(of.alloc);
-    put_all(of, &mut languages, &mut page)?;
-    answers.say_page("answers", &page);
-    say_languages("stand", of.table, &languages, answers);
-    Ok(())
+/// Says how it stands.
+fn say_standing(of: &Of, called: &Called, answers: &mut Answers) {
+    match called {
+        Called::All(languages) => say_languages("stand", of.table, languages, answers),
+        Called::One(name, one) => {
+            let mut page = Page::new(of.alloc);
+            put_language(of.table, *name, one, &mut page);
+            answers.say_page("stand", &page);
+        }
+    }
 }
 
 /// What the calls answer.
@@ -281,8 +209,10 @@ pub fn came(asked: &Asked, row: &Row, answers: &mut Answers) -> Result<(), RowEr
         table: asked.table()?,
         row: *row,
     };
-    match row.text_if("of")? {
-        Some(name) => came_of_one(&of, name, answers),
-        None => came_of_all(&of, answers),
-    }
+    let mut called = called_of(&of)?;
+    let mut page = Page::new(of.alloc);
+    put_all(&of, &mut called, &mut page)?;
+    answers.say_page("answers", &page);
+    say_standing(&of, &called, answers);
+    Ok(())
 }

@@ -34,21 +34,16 @@ fn fitting(pattern: &Pattern, names: &[Text], folder: bool) -> &'static str {
     }
 }
 
-/// What the pattern of the row's line answers.
-fn answer(alloc: Global, row: &Row) -> Result<&'static str, RowError> {
-    let folder = row.flag("folder")?;
-    let names = names(alloc, row.text("path")?)?;
-    match parsed(alloc, row)? {
-        Ok(Some(pattern)) => Ok(fitting(&pattern, names.as_slice(), folder)),
-        Ok(None) => Ok("no pattern"),
-        Err(PatternError::Bad) => Ok("bad line"),
-        Err(PatternError::Memory) => Err(RowError::Memory),
-    }
-}
-
-/// What the calls answer.
+/// What the pattern of the row's line or exclude answers.
 pub fn came(_asked: &Asked, row: &Row, answers: &mut Answers) -> Result<(), RowError> {
-    let answer = answer(answers.alloc, row)?;
+    let folder = row.flag("folder")?;
+    let names = names(answers.alloc, row.text("path")?)?;
+    let answer = match parsed(answers.alloc, row)? {
+        Ok(Some(pattern)) => fitting(&pattern, names.as_slice(), folder),
+        Ok(None) => "no pattern",
+        Err(PatternError::Bad) => "bad line",
+        Err(PatternError::Memory) => return Err(RowError::Memory),
+    };
     answers.say("answer", Said::Text(answer));
     Ok(())
 }

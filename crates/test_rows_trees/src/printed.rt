@@ -64,18 +64,6 @@ struct Of<'t, 'r, 'l> {
     languages: &'l Languages,
 }
 
-/// Adds a language to a list.
-fn add<'l>(
-    list: &mut Vec<(LanguageType, &'l Language)>,
-    language: LanguageType,
-    value: &'l Language,
-) -> Result<(), RowError> {
-    match list.push((language, value)) {
-        Ok(()) => Ok(()),
-        Err(_) => Err(RowError::Memory),
-    }
-}
-
 /// The languages in the order of the table, as they are printed.
 fn listed(
     alloc: Global,
@@ -83,7 +71,9 @@ fn listed(
 ) -> Result<Vec<(LanguageType, &Language)>, RowError> {
     let mut list = Vec::new(alloc);
     for (language, value) in languages.iter() {
-        add(&mut list, *language, value)?;
+        if list.push((*language, value)).is_err() {
+            return Err(RowError::Memory);
+        }
     }
     Ok(list)
 }
@@ -141,14 +131,6 @@ fn say(page: &[u8], printed: Printed, answers: &mut Answers) {
     }
 }
 
-/// What the calls of a row print.
-fn came_of_calls(of: &Of, answers: &mut Answers) -> Result<(), RowError> {
-    let mut page = page(of.alloc, &of.row)?;
-    let printed = print_all(of, &mut page)?;
-    say(page.writer.inner.as_slice(), printed, answers);
-    Ok(())
-}
-
 /// What the calls of a row print of its languages.
 fn came_of_languages(
     table: &LanguageTable,
@@ -162,7 +144,10 @@ fn came_of_languages(
         row: *row,
         languages: &languages,
     };
-    came_of_calls(&of, answers)
+    let mut page = page(of.alloc, row)?;
+    let printed = print_all(&of, &mut page)?;
+    say(page.writer.inner.as_slice(), printed, answers);
+    Ok(())
 }
 
 /// What is printed of a language's name alone.
@@ -213,8 +198,9 @@ fn came_of_stream(table: &LanguageTable, row: &Row, answers: &mut Answers) -> Re
     Ok(())
 }
 
-/// What the calls answer by a table.
-fn came_by(table: &LanguageTable, row: &Row, answers: &mut Answers) -> Result<(), RowError> {
+/// What the calls answer.
+pub fn came(asked: &Asked, row: &Row, answers: &mut Answers) -> Result<(), RowError> {
+    let table = asked.table()?;
     if let Some(name) = row.text_if("language_name")? {
         return came_of_name(row, name, answers);
     }
@@ -222,9 +208,4 @@ fn came_by(table: &LanguageTable, row: &Row, answers: &mut Answers) -> Result<()
         return came_of_stream(table, row, answers);
     }
     came_of_languages(table, row, answers)
-}
-
-/// What the calls answer.
-pub fn came(asked: &Asked, row: &Row, answers: &mut Answers) -> Result<(), RowError> {
-    came_by(asked.table()?, row, answers)
 }

@@ -1,12 +1,11 @@
 //! Rows of documents that are read back: what trees count, and languages that a row has.
 use crate::given_languages::given;
+use crate::statistics::{Tree, run};
 use std::alloc::Global;
 use test_rows::{Answers, Asked, Members, Row, RowError, Said, folders_of};
 use tokei_config::Config;
 use tokei_earlier::{Format, InputError};
-use tokei_folders::MemoryFolders;
 use tokei_languages::Languages;
-use tokei_statistics::CountFiles;
 use tokei_table::LanguageTable;
 
 /// The members of these rows. A row has a tree, and how many reports there are of it; or languages.
@@ -43,84 +42,25 @@ fn is_read_back(
     }
 }
 
-/// Which ignore files are obeyed.
-#[derive(Clone, Copy)]
-enum Obeyed {
-    All,
-    OfGit,
-    /// None, and names that begin with a dot are counted.
-    None,
+/// Adds a text to a list.
+fn add(alloc: Global, list: &mut Vec<String>, text: &str) -> Result<(), RowError> {
+    list.push(String::from_str(alloc, text)?)?;
+    Ok(())
 }
 
-/// The configuration by which these are obeyed.
-fn obeying(obeyed: Obeyed) -> Config {
-    let mut config = Config::new();
-    match obeyed {
-        Obeyed::All => {}
-        Obeyed::OfGit => config.no_ignore_dot = Some(true),
-        Obeyed::None => {
-            config.no_ignore = Some(true);
-            config.hidden = Some(true);
-        }
-    }
-    config
-}
-
-/// A list of one text.
-fn only(alloc: Global, text: &str) -> Result<Vec<String>, RowError> {
-    let text = String::from_str(alloc, text)?;
-    let mut texts = Vec::new(alloc);
-    texts.push(text)?;
-    Ok(texts)
-}
-
-/// A row's tree, its root, what is excluded, and by which configuration it is counted.
-#[derive(Drop)]
-struct Tree {
-    folders: MemoryFolders,
-    roots: Vec<String>,
-    excludes: Vec<String>,
-    config: Config,
-}
-
-/// The tree of a row.
-fn tree_of(alloc: Global, row: &Row, obeyed: Obeyed) -> Result<Tree, RowError> {
+/// The tree of a row, of which all ignore files are obeyed.
+fn tree_of(alloc: Global, row: &Row) -> Result<Tree, RowError> {
     let root = row.text_if("root")?.unwrap_or(".");
     let exclude = row.text_if("exclude")?.unwrap_or("");
     let mut tree = Tree {
         folders: folders_of(alloc, row)?,
         roots: Vec::new(alloc),
         excludes: Vec::new(alloc),
-        config: obeying(obeyed),
+        config: Config::new(),
     };
-    tree.roots = only(alloc, root)?;
-    tree.excludes = only(alloc, exclude)?;
+    add(alloc, &mut tree.roots, root)?;
+    add(alloc, &mut tree.excludes, exclude)?;
     Ok(tree)
-}
-
-/// Adds the files of a tree to languages.
-fn count(
-    table: &LanguageTable,
-    tree: &mut Tree,
-    languages: &mut Languages,
-) -> Result<(), RowError> {
-    let (roots, excludes) = (tree.roots.as_slice(), tree.excludes.as_slice());
-    let config = &tree.config;
-    let _notes = languages.get_statistics(table, &mut tree.folders, roots, excludes, config)?;
-    Ok(())
-}
-
-/// The languages of a row's tree.
-fn counted(
-    alloc: Global,
-    table: &LanguageTable,
-    row: &Row,
-    obeyed: Obeyed,
-) -> Result<Languages, RowError> {
-    let mut tree = tree_of(alloc, row, obeyed)?;
-    let mut languages = Languages::new(alloc);
-    count(table, &mut tree, &mut languages)?;
-    Ok(languages)
 }
 
 /// How many reports there are.
@@ -132,47 +72,43 @@ fn reports(languages: &Languages) -> usize {
     reports
 }
 
-/// How many reports the languages of a row's tree have, which have to be read back.
-fn reports_of(
-    alloc: Global,
+/// Answers how many reports the languages of a tree have, which have to be read back.
+fn say_reports(
+    member: &'static str,
     table: &LanguageTable,
-    row: &Row,
-    obeyed: Obeyed,
-) -> Result<usize, RowError> {
-    let languages = counted(alloc, table, row, obeyed)?;
-    if is_read_back(alloc, table, &languages)? {
-        Ok(reports(&languages))
-    } else {
-        Err(RowError::Kind("files", "a tree whose document is read back"))
+    tree: &mut Tree,
+    answers: &mut Answers,
+) -> Result<(), RowError> {
+    let mut languages = Languages::new(answers.alloc);
+    let _notes = run(table, tree, &mut languages)?;
+    if !is_read_back(answers.alloc, table, &languages)? {
+        return Err(RowError::Kind("files", "a tree whose document is read back"));
     }
-}
-
-/// Answers how many reports there are of a row's tree.
-fn say_reports(table: &LanguageTable, row: &Row, answers: &mut Answers) -> Result<(), RowError> {
-    let alloc = answers.alloc;
-    let all = reports_of(alloc, table, row, Obeyed::All)?;
-    answers.say("reports", Said::Number(all as u128));
-    let of_git = reports_of(alloc, table, row, Obeyed::OfGit)?;
-    answers.say("reports_by_git_alone", Said::Number(of_git as u128));
-    let none = reports_of(alloc, table, row, Obeyed::None)?;
-    answers.say("reports_of_all_files", Said::Number(none as u128));
+    answers.say(member, Said::Number(reports(&languages) as u128));
     Ok(())
 }
 
-/// Answers whether a row's languages are read back.
-fn say_read_back(table: &LanguageTable, row: &Row, answers: &mut Answers) -> Result<(), RowError> {
-    let alloc = answers.alloc;
-    let languages = given(alloc, table, row, "languages")?;
-    let is_read_back = is_read_back(alloc, table, &languages)?;
-    answers.say("is_read_back", Said::Flag(is_read_back));
-    Ok(())
+/// Answers how many reports there are of a row's tree: where all ignore files are obeyed, where only
+/// those of git are, and where none is and names that begin with a dot are counted.
+fn came_of_tree(table: &LanguageTable, row: &Row, answers: &mut Answers) -> Result<(), RowError> {
+    let mut tree = tree_of(answers.alloc, row)?;
+    say_reports("reports", table, &mut tree, answers)?;
+    tree.config.no_ignore_dot = Some(true);
+    say_reports("reports_by_git_alone", table, &mut tree, answers)?;
+    tree.config.no_ignore_dot = None;
+    tree.config.no_ignore = Some(true);
+    tree.config.hidden = Some(true);
+    say_reports("reports_of_all_files", table, &mut tree, answers)
 }
 
 /// What is answered of a row's tree, or of its languages.
 pub fn came(asked: &Asked, row: &Row, answers: &mut Answers) -> Result<(), RowError> {
-    if row.has("languages") {
-        say_read_back(asked.table()?, row, answers)
-    } else {
-        say_reports(asked.table()?, row, answers)
+    let table = asked.table()?;
+    if !row.has("languages") {
+        return came_of_tree(table, row, answers);
     }
+    let languages = given(answers.alloc, table, row, "languages")?;
+    let is_read_back = is_read_back(answers.alloc, table, &languages)?;
+    answers.say("is_read_back", Said::Flag(is_read_back));
+    Ok(())
 }

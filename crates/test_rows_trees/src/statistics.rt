@@ -36,11 +36,11 @@ pub const MEMBERS: Members = Members {
 
 /// What is counted: a tree, and how.
 #[derive(Drop)]
-struct Tree {
-    folders: MemoryFolders,
-    roots: Vec<String>,
-    excludes: Vec<String>,
-    config: Config,
+pub struct Tree {
+    pub folders: MemoryFolders,
+    pub roots: Vec<String>,
+    pub excludes: Vec<String>,
+    pub config: Config,
 }
 
 /// What a row has counted.
@@ -58,7 +58,7 @@ fn tree_of(alloc: Global, table: &LanguageTable, row: &Row) -> Result<Tree, RowE
 }
 
 /// Counts the files below the roots once; how many notes that leaves.
-fn run(
+pub fn run(
     table: &LanguageTable,
     tree: &mut Tree,
     languages: &mut Languages,
@@ -67,20 +67,6 @@ fn run(
     let config = &tree.config;
     let notes = languages.get_statistics(table, &mut tree.folders, roots, excludes, config)?;
     Ok(notes.len())
-}
-
-/// Counts the files so many times; how many notes the last one leaves.
-fn run_all(
-    table: &LanguageTable,
-    tree: &mut Tree,
-    languages: &mut Languages,
-    runs: u64,
-) -> Result<usize, RowError> {
-    let mut notes = 0;
-    for _ in 0..runs {
-        notes = run(table, tree, languages)?;
-    }
-    Ok(notes)
 }
 
 /// Adds what a row has counted to languages; how many notes the last run leaves.
@@ -92,19 +78,19 @@ fn count(
 ) -> Result<usize, RowError> {
     let runs = row.number_if("runs")?.unwrap_or(1);
     let mut tree = tree_of(alloc, table, row)?;
-    run_all(table, &mut tree, languages, runs)
+    let mut notes = 0;
+    for _ in 0..runs {
+        notes = run(table, &mut tree, languages)?;
+    }
+    Ok(notes)
 }
 
-/// What the calls answer by a table.
-fn came_by(table: &LanguageTable, row: &Row, answers: &mut Answers) -> Result<(), RowError> {
+/// What the calls answer.
+pub fn came(asked: &Asked, row: &Row, answers: &mut Answers) -> Result<(), RowError> {
+    let table = asked.table()?;
     let mut languages = given(answers.alloc, table, row, "languages")?;
     let notes = count(answers.alloc, table, row, &mut languages)?;
     answers.say("notes", Said::Number(notes as u128));
     say_languages("counted", table, &languages, answers);
     Ok(())
-}
-
-/// What the calls answer.
-pub fn came(asked: &Asked, row: &Row, answers: &mut Answers) -> Result<(), RowError> {
-    came_by(asked.table()?, row, answers)
 }

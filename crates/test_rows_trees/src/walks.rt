@@ -1,5 +1,5 @@
 //! Rows of walks: the files that are kept of a tree, and what is noted.
-use crate::odd_folders::{Unnamed, Watched};
+use crate::odd_folders::Watched;
 use std::alloc::{AllocError, Global};
 use test_rows::{
     Answers, Asked, KINDS, Members, Page, Row, RowError, Said, folders_of, known_words, owned,
@@ -95,19 +95,20 @@ fn put_notes(page: &mut Page, notes: &[Note]) {
     }
 }
 
-/// Adds the files and notes that `kept_files` answers.
-fn put_kept<F: Folders>(
-    alloc: Global,
+/// Says the files and notes that `kept_files` answers.
+fn say_kept<F: Folders>(
     folders: &mut F,
     wanted: &Wanted,
-    page: &mut Page,
-) -> Result<(), AllocError> {
+    answers: &mut Answers,
+) -> Result<(), RowError> {
     let (roots, excludes) = (wanted.roots.as_slice(), wanted.excludes.as_slice());
-    let kept = kept_files(alloc, folders, roots, excludes, &wanted.rules)?;
+    let kept = kept_files(answers.alloc, folders, roots, excludes, &wanted.rules)?;
+    let mut page = Page::new(answers.alloc);
     for file in kept.files.as_slice() {
-        put_file(page, file);
+        put_file(&mut page, file);
     }
-    put_notes(page, kept.notes.as_slice());
+    put_notes(&mut page, kept.notes.as_slice());
+    answers.say_page("kept", &page);
     Ok(())
 }
 
@@ -127,67 +128,32 @@ fn put_steps<F: Folders>(
     Ok(())
 }
 
-/// Adds the files and notes that a walk answers.
-fn put_walked<F: Folders>(
-    alloc: Global,
-    folders: &mut F,
-    wanted: &Wanted,
-    page: &mut Page,
-) -> Result<(), AllocError> {
-    let (roots, excludes) = (wanted.roots.as_slice(), wanted.excludes.as_slice());
-    let mut walk = Walk::new(alloc, roots, excludes, &wanted.rules)?;
-    put_steps(folders, &mut walk, page)
-}
-
-/// Says the files and notes that `kept_files` answers.
-fn say_kept<F: Folders>(
-    folders: &mut F,
-    wanted: &Wanted,
-    answers: &mut Answers,
-) -> Result<(), RowError> {
-    let mut page = Page::new(answers.alloc);
-    put_kept(answers.alloc, folders, wanted, &mut page)?;
-    answers.say_page("kept", &page);
-    Ok(())
-}
-
 /// Says the files and notes that a walk answers, which have to be the same.
 fn say_walked<F: Folders>(
     folders: &mut F,
     wanted: &Wanted,
     answers: &mut Answers,
 ) -> Result<(), RowError> {
+    let (roots, excludes) = (wanted.roots.as_slice(), wanted.excludes.as_slice());
+    let mut walk = Walk::new(answers.alloc, roots, excludes, &wanted.rules)?;
     let mut page = Page::new(answers.alloc);
-    put_walked(answers.alloc, folders, wanted, &mut page)?;
+    put_steps(folders, &mut walk, &mut page)?;
     answers.say_page("kept", &page);
     Ok(())
-}
-
-/// What is kept of folders whose calls are counted.
-fn came_watched(wanted: &Wanted, row: &Row, answers: &mut Answers) -> Result<(), RowError> {
-    let mut folders = Watched::new(folders_of(answers.alloc, row)?);
-    say_kept(&mut folders, wanted, answers)?;
-    answers.say("calls", Said::Number(folders.calls as u128));
-    answers.say("reads", Said::Number(folders.reads as u128));
-    say_walked(&mut folders, wanted, answers)
-}
-
-/// What is kept of folders of which each has a name that isn't UTF-8.
-fn came_unnamed(wanted: &Wanted, row: &Row, answers: &mut Answers) -> Result<(), RowError> {
-    let mut folders = Unnamed {
-        inner: folders_of(answers.alloc, row)?,
-    };
-    say_kept(&mut folders, wanted, answers)?;
-    say_walked(&mut folders, wanted, answers)
 }
 
 /// What the calls answer.
 pub fn came(_asked: &Asked, row: &Row, answers: &mut Answers) -> Result<(), RowError> {
     let unnamed = row.flag("unnamed")?;
     let wanted = wanted_of(answers.alloc, row)?;
-    if unnamed {
-        came_unnamed(&wanted, row, answers)
-    } else {
-        came_watched(&wanted, row, answers)
-    }
+    let mut folders = Watched {
+        inner: folders_of(answers.alloc, row)?,
+        unnamed,
+        calls: 0,
+        reads: 0,
+    };
+    say_kept(&mut folders, &wanted, answers)?;
+    answers.say("calls", Said::Number(folders.calls as u128));
+    answers.say("reads", Said::Number(folders.reads as u128));
+    say_walked(&mut folders, &wanted, answers)
 }

@@ -1,4 +1,5 @@
 //! Rows of words: of formats, of styles of numbers, of streams and of columns.
+use std::fmt::{Debug, Display};
 use test_rows::{Answers, Asked, Members, Page, Row, RowError, Said};
 use tokei_earlier::Format;
 use tokei_options::{NumberFormatStyle, Sort, Streaming};
@@ -20,10 +21,10 @@ pub const MEMBERS: Members = Members {
     by_table: false,
 };
 
-/// Says what the word of a format stands for.
-fn say_format(word: &str, answers: &mut Answers) {
-    match word.parse::<Format>() {
-        Ok(format) => answers.say_debug("answer", &format),
+/// Says what a word stands for, or why it stands for nothing.
+fn say_read<T: Debug + Drop, E: Display + Drop>(read: Result<T, E>, answers: &mut Answers) {
+    match read {
+        Ok(value) => answers.say_debug("answer", &value),
         Err(cause) => answers.say_shown("answer", &cause),
     }
 }
@@ -65,33 +66,16 @@ fn say_number(
 /// Says what the word of a style stands for, or a number in it.
 fn say_style(word: &str, number: Option<u64>, answers: &mut Answers) -> Result<(), RowError> {
     match (word.parse::<NumberFormatStyle>(), number) {
-        (Ok(style), Some(number)) => say_number(style, number, answers)?,
-        (Ok(style), None) => answers.say_debug("answer", &style),
-        (Err(cause), _) => answers.say_shown("answer", &cause),
+        (Ok(style), Some(number)) => return say_number(style, number, answers),
+        (read, _) => say_read(read, answers),
     }
     Ok(())
-}
-
-/// Says what the word of a stream stands for.
-fn say_stream(word: &str, answers: &mut Answers) {
-    match word.parse::<Streaming>() {
-        Ok(stream) => answers.say_debug("answer", &stream),
-        Err(cause) => answers.say_shown("answer", &cause),
-    }
-}
-
-/// Says which column a word names.
-fn say_column(word: &str, answers: &mut Answers) {
-    match word.parse::<Sort>() {
-        Ok(sort) => answers.say_debug("answer", &sort),
-        Err(cause) => answers.say_shown("answer", &cause),
-    }
 }
 
 /// What the row's word stands for.
 pub fn came(_asked: &Asked, row: &Row, answers: &mut Answers) -> Result<(), RowError> {
     if let Some(word) = row.text_if("format")? {
-        say_format(word, answers);
+        say_read(word.parse::<Format>(), answers);
     } else if let Some(list) = row.text_if("formats")? {
         say_words(formats(list)?, answers);
     } else if let Some(word) = row.text_if("style")? {
@@ -99,9 +83,9 @@ pub fn came(_asked: &Asked, row: &Row, answers: &mut Answers) -> Result<(), RowE
     } else if row.flag("default_style")? {
         answers.say_debug("answer", &NumberFormatStyle::default());
     } else if let Some(word) = row.text_if("column")? {
-        say_column(word, answers);
+        say_read(word.parse::<Sort>(), answers);
     } else {
-        say_stream(row.text("stream")?, answers);
+        say_read(row.text("stream")?.parse::<Streaming>(), answers);
     }
     Ok(())
 }
