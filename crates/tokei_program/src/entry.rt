@@ -153,7 +153,8 @@ fn answer_words<F: Folders, S: Source, W: Sink>(
 /// as many as the command line shows. A refused
 /// command line is seen before anything is read or written. Any other status than 1 says that
 /// neither writer had a fault. Where the status is 1 and `err` had no fault, one message stands in
-/// it.
+/// it. Where counts were written, the memory of their table isn't given back, since the process
+/// mostly ends next.
 #[tactic(auto, using(tokei_io::proofs::Printing::printing_counts))]
 pub fn program<F: Folders, S: Source, W: Sink, E: Sink>(
     alloc: Global,
