@@ -1,22 +1,60 @@
 //! The languages of a document, as a value, a text or bytes.
-ghost use Rattle.std.specs.Prelude.{◌≡◌, ◌≢◌, IfErr, IfOk, None, Some, Ok, Err};
-ghost use Rattle.serde_json.specs.Read.{read};
+ghost use Rattle.std.specs.Prelude.{◌≡◌, ◌≢◌, IfErr, IfOk, None, Ok, Err, false};
+ghost use Rattle.json.specs.Value.{value_view};
+ghost use Rattle.serde_json.specs.Read.{read as read_data};
 ghost use Rattle.serde_json.specs.View.{view};
+ghost use Rattle.serde_json.specs.Written.{has_float};
 ghost use Rattle.tokei_earlier.specs.Outcome.{outcome_of_bytes, outcome_of_text, outcome_of_value};
+ghost use Rattle.tokei_json_tree.specs.Ordered.{IsOrdered};
+ghost use Rattle.tokei_json_tree.specs.Reading.{IsReadingOf};
+ghost use Rattle.tokei_json_tree.specs.TreeData.{data_of};
 ghost use Rattle.tokei_languages.specs.Seen.{languages_of};
 
 use crate::error::InputError;
 use crate::read::languages_in;
+use bumpalo::Bump;
 use serde_json::Value;
 use std::alloc::Global;
 use tokei_json::{NamedTable, all_known, all_once, has_layout};
+use tokei_json_tree::converted::converted;
+use tokei_json_tree::{ReadError, Reading, Room, Tree, has_float, read};
 use tokei_languages::Languages;
 use tokei_table::LanguageTable;
+
+/// The languages of a tree without other numbers than whole ones of 64 bits, refused as a value is.
+#[tactic(auto, unfolding(crate::specs::Outcome::outcome_of_value))]
+fn from_tree(alloc: Global, table: &LanguageTable, tree: &Tree<'_>) -> Result<Languages, InputError>
+    requires ordered { IsOrdered (value_view tree.now) }
+    requires whole { has_float (data_of (value_view tree.now)) ≡ false }
+    ensures languages { IfOk result
+        (λ ls. outcome_of_value table.now (data_of (value_view tree.now))
+        ≡ Ok (languages_of ls)) }
+    ensures refused { IfErr result (λ e. e ≢ InputError.Memory
+        → outcome_of_value table.now (data_of (value_view tree.now)) ≡ Err e) }
+    ensures not_unreadable { result ≢ Err InputError.Unreadable }
+    ensures not_too_long { result ≢ Err InputError.TooLong }
+    ensures not_overflow { result ≢ Err InputError.Overflow }
+{
+    if !has_layout(tree) {
+        return Err(InputError::Layout);
+    }
+    let table = NamedTable::new(alloc, table)?;
+    if !all_known(&table, tree) {
+        return Err(InputError::UnknownLanguage);
+    }
+    if !all_once(&table, tree) {
+        return Err(InputError::NamedTwice);
+    }
+    match languages_in(alloc, &table, tree) {
+        Ok(languages) => Ok(languages),
+        Err(_) => Err(InputError::Memory),
+    }
+}
 
 /// The languages of a value. Refused is exactly what has a cause of `InputError` from `Layout` to
 /// `NamedTwice`, and of those that apply the first is answered; `Memory` comes only where an
 /// allocation failed.
-#[tactic(auto, unfolding(crate::specs::Outcome::outcome_of_value))]
+#[tactic(auto, unfolding(crate::specs::Outcome::outcome_of_value, tokei_json::specs::Layout::has_layout))]
 pub fn from_value(
     alloc: Global,
     table: &LanguageTable,
@@ -30,40 +68,37 @@ pub fn from_value(
     ensures not_too_long { result ≢ Err InputError.TooLong }
     ensures not_overflow { result ≢ Err InputError.Overflow }
 {
-    if !has_layout(value) {
+    if has_float(value) {
         return Err(InputError::Layout);
     }
-    let table = NamedTable::new(alloc, table)?;
-    if !all_known(&table, value) {
-        return Err(InputError::UnknownLanguage);
-    }
-    if !all_once(&table, value) {
-        return Err(InputError::NamedTwice);
-    }
-    match languages_in(alloc, &table, value) {
-        Ok(languages) => Ok(languages),
-        Err(_) => Err(InputError::Memory),
-    }
+    let bump = Bump::new(alloc);
+    let tree = converted(alloc, &bump, value)?;
+    from_tree(alloc, table, &tree)
 }
 
-fn read(alloc: Global, text: &str) -> Result<Value, InputError>
-    ensures value { IfOk result (λ v. read text.now ≡ Some (view v)) }
+/// Reads a text as a tree. One that has no reading is `NotJson`.
+fn read_tree<'t>(
+    alloc: Global,
+    room: &'t mut Room,
+    text: &'t str,
+) -> Result<Reading<'t>, InputError>
+    ensures tree { IfOk result (λ r. IsReadingOf text.now (value_view r.tree)) }
+    ensures fraction { IfOk result
+        (λ r. r.has_fraction ≡ has_float (data_of (value_view r.tree))) }
     ensures refused { IfErr result (λ e. e ≢ InputError.Memory
-        → (e ≡ InputError.NotJson) × (read text.now ≡ None)) }
+        → (e ≡ InputError.NotJson) × (read_data text.now ≡ None)) }
 {
-    match Value::from_str(alloc, text) {
-        Ok(value) => Ok(value),
-        Err(e) => if e.is_memory() {
-            Err(InputError::Memory)
-        } else {
-            Err(InputError::NotJson)
-        },
+    match read(alloc, room, text) {
+        Ok(reading) => Ok(reading),
+        Err(ReadError::NotJson) => Err(InputError::NotJson),
+        Err(ReadError::Memory) => Err(InputError::Memory),
     }
 }
 
 /// The languages of a text. Refused is exactly what has a cause of `InputError` from `Empty` to
 /// `NamedTwice`, and of those that apply the first is answered; `Memory` comes only where an
 /// allocation failed.
+#[tactic(auto, unfolding(crate::specs::Outcome::outcome_of_value, tokei_json::specs::Layout::has_layout))]
 pub fn from_text(alloc: Global, table: &LanguageTable, text: &str) -> Result<Languages, InputError>
     ensures languages { IfOk result (λ ls. outcome_of_text table.now text.now
         ≡ Ok (languages_of ls)) }
@@ -76,8 +111,12 @@ pub fn from_text(alloc: Global, table: &LanguageTable, text: &str) -> Result<Lan
     match text.as_bytes() {
         [] => Err(InputError::Empty),
         _ => {
-            let value = read(alloc, text)?;
-            from_value(alloc, table, &value)
+            let mut room = Room::new(alloc);
+            let reading = read_tree(alloc, &mut room, text)?;
+            if reading.has_fraction {
+                return Err(InputError::Layout);
+            }
+            from_tree(alloc, table, &reading.tree)
         }
     }
 }

@@ -1,6 +1,6 @@
 //! The statistics and reports of a document that has its layout.
-ghost use Rattle.std.specs.Prelude.{◌≡◌, map, option_map, string_bytes, [], IfOk, OnOk};
-ghost use Rattle.serde_json.specs.View.{view, items_view, members_view};
+ghost use Rattle.std.specs.Prelude.{◌≡◌, map, option_map, string_bytes, [], Some, IfOk, IfSome, OnOk};
+ghost use Rattle.json.specs.Value.{value_view, items_view, members_view};
 ghost use Rattle.tokei_earlier.specs.ReadReports.{count_in, counts_in, put_blob, put_named, statistics_in};
 ghost use Rattle.tokei_earlier.specs.ReadReports.{blobs_at, blobs_in, with_blobs, text_in, statistics_at};
 ghost use Rattle.tokei_earlier.specs.ReadReports.{report_in, all_reports_in, reports_in, with_children};
@@ -8,38 +8,48 @@ ghost use Rattle.tokei_earlier.specs.ReadReports.{children_in, truth_in};
 ghost use Rattle.tokei_stats.specs.Reports.{children_of, report_of, reports_of};
 ghost use Rattle.tokei_stats.specs.Seen.{blobs_of, entries_of, stats_of, sums_of};
 ghost use Rattle.tokei_stats.specs.Statistics.Blobs.{none};
+ghost use Rattle.tokei_json_tree.specs.Ordered.{IsOrdered, AreItemsOrdered, AreMembersOrdered};
+ghost use Rattle.tokei_json_tree.specs.TreeData.{data_of, items_data, members_data};
 
-use serde_json::{Map, Value};
+use json::Value;
 use std::alloc::{AllocError, Global};
 use std::collections::BTreeMap;
 use tokei_json::NamedTable;
+use tokei_json_tree::{Tree, TreeItems, TreeMembers, count, member};
 use tokei_stats::{CodeStats, Report, Sums};
 use tokei_table::LanguageType;
 
 /// The number of a member; 0 where it is none, or too large.
-pub fn count_in(member: Option<&Value>) -> usize
-    ensures { result ≡ count_in (option_map (λ v. view v.now) member.entry) }
+pub fn count_in(member: Option<&Tree<'_>>) -> usize
+    ensures { result ≡ count_in (option_map (λ v. data_of (value_view v.now)) member.entry) }
 {
     match member {
-        Some(value) => value.as_u64().unwrap_or(0) as usize,
-        None => 0,
+        Some(Value::Number(text)) => count(text).unwrap_or(0) as usize,
+        _ => 0,
     }
 }
 
 #[tactic(auto, unfolding(crate::specs::ReadReports::counts_in))]
-fn counts_in(value: &Value) -> Sums
-    ensures { sums_of result ≡ counts_in (view value.now) }
+fn counts_in(value: &Tree<'_>) -> Sums
+    requires { IsOrdered (value_view value.now) }
+    ensures { sums_of result ≡ counts_in (data_of (value_view value.now)) }
 {
     Sums {
-        blanks: count_in(value.get("blanks")),
-        code: count_in(value.get("code")),
-        comments: count_in(value.get("comments")),
+        blanks: count_in(member(value, "blanks")),
+        code: count_in(member(value, "code")),
+        comments: count_in(member(value, "comments")),
     }
 }
 
 #[cycle(statistics)]
-fn statistics_in(alloc: Global, table: &NamedTable, value: &Value) -> Result<CodeStats, AllocError>
-    ensures { IfOk result (λ s. stats_of s ≡ statistics_in table.now (view value.now)) }
+fn statistics_in(
+    alloc: Global,
+    table: &NamedTable,
+    value: &Tree<'_>,
+) -> Result<CodeStats, AllocError>
+    requires { IsOrdered (value_view value.now) }
+    ensures { IfOk result
+        (λ s. stats_of s ≡ statistics_in table.now (data_of (value_view value.now))) }
 {
     match value {
         Value::Object(members) => {
@@ -55,14 +65,15 @@ fn statistics_in(alloc: Global, table: &NamedTable, value: &Value) -> Result<Cod
 fn blobs_at(
     alloc: Global,
     table: &NamedTable,
-    members: &Map<String, Value>,
+    members: &TreeMembers<'_>,
 ) -> Result<BTreeMap<LanguageType, CodeStats>, AllocError>
+    requires { AreMembersOrdered (members_view members.now.items) }
     ensures { IfOk result (λ m. blobs_of (entries_of m.entries)
-        ≡ blobs_at table.now (members_view members.now.entries)) }
+        ≡ blobs_at table.now (members_data (members_view members.now.items))) }
 {
-    for (key, member) in members.iter() {
-        if key.as_str() == "blobs" {
-            return blobs_in(alloc, table, member);
+    for member in members {
+        if member.0 == "blobs" {
+            return blobs_in(alloc, table, &member.1);
         }
     }
     Ok(BTreeMap::new(alloc))
@@ -72,10 +83,11 @@ fn blobs_at(
 fn blobs_in(
     alloc: Global,
     table: &NamedTable,
-    value: &Value,
+    value: &Tree<'_>,
 ) -> Result<BTreeMap<LanguageType, CodeStats>, AllocError>
+    requires { IsOrdered (value_view value.now) }
     ensures { IfOk result (λ m. blobs_of (entries_of m.entries)
-        ≡ blobs_in table.now (view value.now)) }
+        ≡ blobs_in table.now (data_of (value_view value.now))) }
 {
     match value {
         Value::Object(members) => blobs_of_members(alloc, table, members),
@@ -87,15 +99,16 @@ fn blobs_in(
 fn blobs_of_members(
     alloc: Global,
     table: &NamedTable,
-    members: &Map<String, Value>,
+    members: &TreeMembers<'_>,
 ) -> Result<BTreeMap<LanguageType, CodeStats>, AllocError>
+    requires { AreMembersOrdered (members_view members.now.items) }
     ensures { IfOk result (λ m. blobs_of (entries_of m.entries)
-        ≡ with_blobs table.now (members_view members.now.entries) none) }
+        ≡ with_blobs table.now (members_data (members_view members.now.items)) none) }
 {
     let mut blobs = BTreeMap::new(alloc);
-    for (name, member) in members.iter() {
-        let stats = statistics_in(alloc, table, member)?;
-        put_blob(&mut blobs, table.language(name.as_str()), stats)?;
+    for member in members {
+        let stats = statistics_in(alloc, table, &member.1)?;
+        put_blob(&mut blobs, table.language(member.0), stats)?;
     }
     Ok(blobs)
 }
@@ -115,12 +128,12 @@ fn put_blob(
     Ok(())
 }
 
-fn text_in(alloc: Global, member: Option<&Value>) -> Result<String, AllocError>
+fn text_in(alloc: Global, member: Option<&Tree<'_>>) -> Result<String, AllocError>
     ensures { IfOk result (λ s. string_bytes s
-        ≡ text_in (option_map (λ v. view v.now) member.entry)) }
+        ≡ text_in (option_map (λ v. data_of (value_view v.now)) member.entry)) }
 {
     match member {
-        Some(Value::String(text)) => text.clone(),
+        Some(Value::String(text)) => String::from_str(alloc, text),
         _ => Ok(String::new(alloc)),
     }
 }
@@ -128,10 +141,11 @@ fn text_in(alloc: Global, member: Option<&Value>) -> Result<String, AllocError>
 fn statistics_at(
     alloc: Global,
     table: &NamedTable,
-    member: Option<&Value>,
+    member: Option<&Tree<'_>>,
 ) -> Result<CodeStats, AllocError>
+    requires { IfSome member (λ v. IsOrdered (value_view v.now)) }
     ensures { IfOk result (λ s. stats_of s
-        ≡ statistics_at table.now (option_map (λ v. view v.now) member.entry)) }
+        ≡ statistics_at table.now (option_map (λ v. data_of (value_view v.now)) member.entry)) }
 {
     match member {
         Some(value) => statistics_in(alloc, table, value),
@@ -139,22 +153,25 @@ fn statistics_at(
     }
 }
 
-fn report_in(alloc: Global, table: &NamedTable, value: &Value) -> Result<Report, AllocError>
-    ensures { IfOk result (λ r. report_of r ≡ report_in table.now (view value.now)) }
+fn report_in(alloc: Global, table: &NamedTable, value: &Tree<'_>) -> Result<Report, AllocError>
+    requires { IsOrdered (value_view value.now) }
+    ensures { IfOk result
+        (λ r. report_of r ≡ report_in table.now (data_of (value_view value.now))) }
 {
     Ok(Report {
-        name: text_in(alloc, value.get("name"))?,
-        stats: statistics_at(alloc, table, value.get("stats"))?,
+        name: text_in(alloc, member(value, "name"))?,
+        stats: statistics_at(alloc, table, member(value, "stats"))?,
     })
 }
 
 fn all_reports_in(
     alloc: Global,
     table: &NamedTable,
-    items: &Vec<Value>,
+    items: &TreeItems<'_>,
 ) -> Result<Vec<Report>, AllocError>
+    requires { AreItemsOrdered (items_view items.now.items) }
     ensures { IfOk result (λ v. map report_of v.items
-        ≡ all_reports_in table.now (items_view items.now.items)) }
+        ≡ all_reports_in table.now (items_data (items_view items.now.items))) }
 {
     let mut reports = Vec::with_capacity(alloc, items.len())?;
     for item in items {
@@ -168,10 +185,11 @@ fn all_reports_in(
 pub fn reports_in(
     alloc: Global,
     table: &NamedTable,
-    member: Option<&Value>,
+    member: Option<&Tree<'_>>,
 ) -> Result<Vec<Report>, AllocError>
+    requires { IfSome member (λ v. IsOrdered (value_view v.now)) }
     ensures { IfOk result (λ v. reports_of v
-        ≡ reports_in table.now (option_map (λ w. view w.now) member.entry)) }
+        ≡ reports_in table.now (option_map (λ w. data_of (value_view w.now)) member.entry)) }
 {
     match member {
         Some(Value::Array(items)) => all_reports_in(alloc, table, items),
@@ -197,15 +215,16 @@ fn put_children(
 fn with_children(
     alloc: Global,
     table: &NamedTable,
-    members: &Map<String, Value>,
+    members: &TreeMembers<'_>,
 ) -> Result<BTreeMap<LanguageType, Vec<Report>>, AllocError>
+    requires { AreMembersOrdered (members_view members.now.items) }
     ensures { IfOk result (λ m. children_of m.entries
-        ≡ with_children table.now (members_view members.now.entries) []) }
+        ≡ with_children table.now (members_data (members_view members.now.items)) []) }
 {
     let mut children = BTreeMap::new(alloc);
-    for (name, member) in members.iter() {
-        let reports = reports_in(alloc, table, Some(member))?;
-        put_children(&mut children, table.language(name.as_str()), reports)?;
+    for member in members {
+        let reports = reports_in(alloc, table, Some(&member.1))?;
+        put_children(&mut children, table.language(member.0), reports)?;
     }
     Ok(children)
 }
@@ -215,10 +234,11 @@ fn with_children(
 pub fn children_in(
     alloc: Global,
     table: &NamedTable,
-    member: Option<&Value>,
+    member: Option<&Tree<'_>>,
 ) -> Result<BTreeMap<LanguageType, Vec<Report>>, AllocError>
+    requires { IfSome member (λ v. IsOrdered (value_view v.now)) }
     ensures { IfOk result (λ m. children_of m.entries
-        ≡ children_in table.now (option_map (λ v. view v.now) member.entry)) }
+        ≡ children_in table.now (option_map (λ v. data_of (value_view v.now)) member.entry)) }
 {
     match member {
         Some(Value::Object(members)) => with_children(alloc, table, members),
@@ -227,8 +247,8 @@ pub fn children_in(
 }
 
 /// Whether a member is `true`.
-pub fn truth_in(member: Option<&Value>) -> bool
-    ensures { result ≡ truth_in (option_map (λ v. view v.now) member.entry) }
+pub fn truth_in(member: Option<&Tree<'_>>) -> bool
+    ensures { result ≡ truth_in (option_map (λ v. data_of (value_view v.now)) member.entry) }
 {
     match member {
         Some(Value::Bool(truth)) => *truth,

@@ -1,3 +1,4 @@
+pub mod FewNames
 pub mod Measured
 pub mod Members
 pub mod Names

@@ -1,51 +1,61 @@
-//! Whether a JSON value has the layout of a document.
-ghost use Rattle.std.specs.Prelude.{◌≡◌, option_map};
-ghost use Rattle.serde_json.specs.View.{view, items_view, members_view};
+//! Whether a tree has the layout of a document.
+ghost use Rattle.std.specs.Prelude.{◌≡◌, false, option_map, IfSome};
+ghost use Rattle.json.specs.Value.{value_view, items_view, members_view};
+ghost use Rattle.serde_json.specs.Written.{has_float};
 ghost use Rattle.tokei_table.specs.Layout.{all_items, is_text, is_truth_value, stands_and};
+ghost use Rattle.tokei_json_tree.specs.Ordered.{IsOrdered, AreItemsOrdered, AreMembersOrdered};
+ghost use Rattle.tokei_json_tree.specs.TreeData.{data_of, items_data, members_data};
 ghost use Rattle.tokei_json.specs.Layout.{is_count, has_counts, is_statistics, blobs_stand, are_blobs, all_statistics};
 ghost use Rattle.tokei_json.specs.Layout.{is_report, are_reports, all_reports, are_children, is_language};
 ghost use Rattle.tokei_json.specs.Layout.{are_languages, is_document, has_layout};
 
-use serde_json::{Map, Value};
-use tokei_table_json::values::has_float;
+use json::Value;
+use tokei_json_tree::{Tree, TreeItems, TreeMembers, count, member};
 
-fn is_count(member: Option<&Value>) -> bool
-    ensures { result ≡ stands_and is_count (option_map (λ v. view v.now) member.entry) }
+fn is_count(member: Option<&Tree<'_>>) -> bool
+    ensures { result
+        ≡ stands_and is_count (option_map (λ v. data_of (value_view v.now)) member.entry) }
 {
     match member {
-        Some(value) => value.is_u64(),
-        None => false,
+        Some(Value::Number(text)) => count(text).is_some(),
+        _ => false,
     }
 }
 
-fn is_text(member: Option<&Value>) -> bool
-    ensures { result ≡ stands_and is_text (option_map (λ v. view v.now) member.entry) }
+fn is_text(member: Option<&Tree<'_>>) -> bool
+    ensures { result
+        ≡ stands_and is_text (option_map (λ v. data_of (value_view v.now)) member.entry) }
 {
     match member {
-        Some(value) => value.is_string(),
-        None => false,
+        Some(Value::String(_)) => true,
+        _ => false,
     }
 }
 
-fn is_truth_value(member: Option<&Value>) -> bool
-    ensures { result ≡ stands_and is_truth_value (option_map (λ v. view v.now) member.entry) }
+fn is_truth_value(member: Option<&Tree<'_>>) -> bool
+    ensures { result
+        ≡ stands_and is_truth_value (option_map (λ v. data_of (value_view v.now)) member.entry) }
 {
     match member {
-        Some(value) => value.is_boolean(),
-        None => false,
+        Some(Value::Bool(_)) => true,
+        _ => false,
     }
 }
 
 #[tactic(auto, unfolding(crate::specs::Layout::has_counts))]
-fn has_counts(value: &Value) -> bool
-    ensures { result ≡ has_counts (view value.now) }
+fn has_counts(value: &Tree<'_>) -> bool
+    requires { IsOrdered (value_view value.now) }
+    ensures { result ≡ has_counts (data_of (value_view value.now)) }
 {
-    is_count(value.get("blanks")) && is_count(value.get("code")) && is_count(value.get("comments"))
+    is_count(member(value, "blanks"))
+        && is_count(member(value, "code"))
+        && is_count(member(value, "comments"))
 }
 
 #[cycle(statistics)]
-fn is_statistics(value: &Value) -> bool
-    ensures { result ≡ is_statistics (view value.now) }
+fn is_statistics(value: &Tree<'_>) -> bool
+    requires { IsOrdered (value_view value.now) }
+    ensures { result ≡ is_statistics (data_of (value_view value.now)) }
 {
     match value {
         Value::Object(members) => has_counts(value) && blobs_stand(members),
@@ -55,20 +65,22 @@ fn is_statistics(value: &Value) -> bool
 
 /// Whether the blobs stand among the members, and are blobs.
 #[cycle(statistics)]
-fn blobs_stand(members: &Map<String, Value>) -> bool
-    ensures { result ≡ blobs_stand (members_view members.now.entries) }
+fn blobs_stand(members: &TreeMembers<'_>) -> bool
+    requires { AreMembersOrdered (members_view members.now.items) }
+    ensures { result ≡ blobs_stand (members_data (members_view members.now.items)) }
 {
-    for (key, member) in members.iter() {
-        if key.as_str() == "blobs" {
-            return are_blobs(member);
+    for member in members {
+        if member.0 == "blobs" {
+            return are_blobs(&member.1);
         }
     }
     false
 }
 
 #[cycle(statistics)]
-fn are_blobs(value: &Value) -> bool
-    ensures { result ≡ are_blobs (view value.now) }
+fn are_blobs(value: &Tree<'_>) -> bool
+    requires { IsOrdered (value_view value.now) }
+    ensures { result ≡ are_blobs (data_of (value_view value.now)) }
 {
     match value {
         Value::Object(members) => all_statistics(members),
@@ -77,31 +89,34 @@ fn are_blobs(value: &Value) -> bool
 }
 
 #[cycle(statistics)]
-fn all_statistics(members: &Map<String, Value>) -> bool
-    ensures { result ≡ all_statistics (members_view members.now.entries) }
+fn all_statistics(members: &TreeMembers<'_>) -> bool
+    requires { AreMembersOrdered (members_view members.now.items) }
+    ensures { result ≡ all_statistics (members_data (members_view members.now.items)) }
 {
-    for (_key, member) in members.iter() {
-        if !is_statistics(member) {
+    for member in members {
+        if !is_statistics(&member.1) {
             return false;
         }
     }
     true
 }
 
-fn is_report(value: &Value) -> bool
-    ensures { result ≡ is_report (view value.now) }
+fn is_report(value: &Tree<'_>) -> bool
+    requires { IsOrdered (value_view value.now) }
+    ensures { result ≡ is_report (data_of (value_view value.now)) }
 {
-    if !is_text(value.get("name")) {
+    if !is_text(member(value, "name")) {
         return false;
     }
-    match value.get("stats") {
+    match member(value, "stats") {
         Some(stats) => is_statistics(stats),
         None => false,
     }
 }
 
-fn all_items(items: &Vec<Value>) -> bool
-    ensures { result ≡ all_items is_report (items_view items.now.items) }
+fn all_items(items: &TreeItems<'_>) -> bool
+    requires { AreItemsOrdered (items_view items.now.items) }
+    ensures { result ≡ all_items is_report (items_data (items_view items.now.items)) }
 {
     for item in items {
         if !is_report(item) {
@@ -111,8 +126,9 @@ fn all_items(items: &Vec<Value>) -> bool
     true
 }
 
-fn are_reports(value: &Value) -> bool
-    ensures { result ≡ are_reports (view value.now) }
+fn are_reports(value: &Tree<'_>) -> bool
+    requires { IsOrdered (value_view value.now) }
+    ensures { result ≡ are_reports (data_of (value_view value.now)) }
 {
     match value {
         Value::Array(items) => all_items(items),
@@ -120,19 +136,22 @@ fn are_reports(value: &Value) -> bool
     }
 }
 
-fn all_reports(members: &Map<String, Value>) -> bool
-    ensures { result ≡ all_reports (members_view members.now.entries) }
+fn all_reports(members: &TreeMembers<'_>) -> bool
+    requires { AreMembersOrdered (members_view members.now.items) }
+    ensures { result ≡ all_reports (members_data (members_view members.now.items)) }
 {
-    for (_key, member) in members.iter() {
-        if !are_reports(member) {
+    for member in members {
+        if !are_reports(&member.1) {
             return false;
         }
     }
     true
 }
 
-fn reports_stand(member: Option<&Value>) -> bool
-    ensures { result ≡ stands_and are_reports (option_map (λ v. view v.now) member.entry) }
+fn reports_stand(member: Option<&Tree<'_>>) -> bool
+    requires { IfSome member (λ v. IsOrdered (value_view v.now)) }
+    ensures { result
+        ≡ stands_and are_reports (option_map (λ v. data_of (value_view v.now)) member.entry) }
 {
     match member {
         Some(value) => are_reports(value),
@@ -140,8 +159,10 @@ fn reports_stand(member: Option<&Value>) -> bool
     }
 }
 
-fn children_stand(member: Option<&Value>) -> bool
-    ensures { result ≡ stands_and are_children (option_map (λ v. view v.now) member.entry) }
+fn children_stand(member: Option<&Tree<'_>>) -> bool
+    requires { IfSome member (λ v. IsOrdered (value_view v.now)) }
+    ensures { result
+        ≡ stands_and are_children (option_map (λ v. data_of (value_view v.now)) member.entry) }
 {
     match member {
         Some(Value::Object(members)) => all_reports(members),
@@ -150,39 +171,44 @@ fn children_stand(member: Option<&Value>) -> bool
 }
 
 #[tactic(auto, unfolding(crate::specs::Layout::is_language))]
-fn is_language(value: &Value) -> bool
-    ensures { result ≡ is_language (view value.now) }
+fn is_language(value: &Tree<'_>) -> bool
+    requires { IsOrdered (value_view value.now) }
+    ensures { result ≡ is_language (data_of (value_view value.now)) }
 {
     has_counts(value)
-        && reports_stand(value.get("reports"))
-        && children_stand(value.get("children"))
-        && is_truth_value(value.get("inaccurate"))
+        && reports_stand(member(value, "reports"))
+        && children_stand(member(value, "children"))
+        && is_truth_value(member(value, "inaccurate"))
 }
 
-fn are_languages(members: &Map<String, Value>) -> bool
-    ensures { result ≡ are_languages (members_view members.now.entries) }
+fn are_languages(members: &TreeMembers<'_>) -> bool
+    requires { AreMembersOrdered (members_view members.now.items) }
+    ensures { result ≡ are_languages (members_data (members_view members.now.items)) }
 {
-    for (key, member) in members.iter() {
-        if key.as_str() != "Total" && !is_language(member) {
+    for member in members {
+        if member.0 != "Total" && !is_language(&member.1) {
             return false;
         }
     }
     true
 }
 
-fn is_document(value: &Value) -> bool
-    ensures { result ≡ is_document (view value.now) }
+fn is_document(value: &Tree<'_>) -> bool
+    requires { IsOrdered (value_view value.now) }
+    ensures { result ≡ is_document (data_of (value_view value.now)) }
 {
     match value {
-        Value::Object(members) => value.get("Total").is_some() && are_languages(members),
+        Value::Object(members) => member(value, "Total").is_some() && are_languages(members),
         _ => false,
     }
 }
 
-/// Whether the value has the layout of a document.
+/// Whether a tree whose numbers are whole ones of 64 bits has the layout of a document.
 #[tactic(auto, unfolding(crate::specs::Layout::has_layout))]
-pub fn has_layout(value: &Value) -> bool
-    ensures { result ≡ has_layout (view value.now) }
+pub fn has_layout(value: &Tree<'_>) -> bool
+    requires ordered { IsOrdered (value_view value.now) }
+    requires whole { has_float (data_of (value_view value.now)) ≡ false }
+    ensures { result ≡ has_layout (data_of (value_view value.now)) }
 {
-    !has_float(value) && is_document(value)
+    is_document(value)
 }

@@ -5,7 +5,6 @@ ghost use Rattle.tokei_table.specs.Layout.{all_items, is_list, is_text, stands_a
 ghost use Rattle.tokei_notebook.specs.Layout.{is_markdown, is_code, is_cell, has_metadata, has_notebook_layout};
 
 use serde_json::Value;
-use tokei_table_json::values::all_texts;
 
 /// Whether the member reads `markdown`.
 pub(crate) fn is_markdown(member: Option<&Value>) -> bool
@@ -25,6 +24,17 @@ fn is_kind(member: Option<&Value>) -> bool
         Some(Value::String(text)) => text.as_str() == "markdown" || text.as_str() == "code",
         _ => false,
     }
+}
+
+fn all_texts(items: &Vec<Value>) -> bool
+    ensures { result ≡ all_items is_text (items_view items.now.items) }
+{
+    for item in items {
+        if !item.is_string() {
+            return false;
+        }
+    }
+    true
 }
 
 fn is_source(member: Option<&Value>) -> bool

@@ -1,5 +1,6 @@
 -- A part at whose head nothing but code can begin is code, and a part of blanks is blank.
-use Rattle.std.proofs.Common.{◌≡◌, ℕ, zero, suc, ◌+◌, ◌-◌, ◌<◌, ◌≤◌, ◌==◌, Bool, true, false, ◌&&◌, ◌||◌, not, cond, List, [], ◌∷◌, None, Some, drop, take, length, length-drop, get_or, slice_index_or, refl, sym, ◌∙◌, ap, subst, arith, inl, inr}
+use Rattle.std.proofs.Common.{◌≡◌, ℕ, zero, suc, ◌+◌, ◌-◌, ◌<◌, ◌≤◌, ◌==◌, Bool, true, false, ◌&&◌, ◌||◌, not, cond, List}
+use Rattle.std.proofs.Common.{[], ◌∷◌, None, Some, drop, take, length, length-drop, get_or, slice_index_or, refl, sym, ◌∙◌, ap, subst, arith, inl, inr}
 use Rattle.std.proofs.lemmas.Bool.{cases_lt}
 use Rattle.std.proofs.lemmas.List.{length-take-le, get_or-take, get_or-drop}
 use Rattle.std.proofs.Math.ListN.{drop_of_length-le}
@@ -11,16 +12,16 @@ use Rattle.tokei_table.specs.Row.{Pair, Row}
 use Rattle.tokei_table.specs.Sound.{is_token, is_pair, IsSound}
 use Rattle.tokei_parts.specs.Choice.{any_begins}
 use Rattle.tokei_parts.specs.Class.{class_of, encloses, opens_with, head_of, is_comment, is_doc_string, keeps_columns, in_string, in_doc_string, in_comment, ends_opened}
-use Rattle.tokei_parts.specs.CodeHeads.{FrontBeginsNone, HasCodeHead}
+use Rattle.tokei_parts.specs.CodeHeads.{BeginsNoComment, FrontBeginsNone, HasCodeHead, HasSolid}
 use Rattle.tokei_parts.specs.PlainBytes.{BeginsNone}
 use Rattle.tokei_parts.specs.Derivation.{closer_of}
 use Rattle.tokei_parts.specs.Items.{Mode}
-use Rattle.tokei_parts.specs.Matchers.{Matchers, matchers_of, begins_opener, begins_choice}
+use Rattle.tokei_parts.specs.Matchers.{Matchers, matchers_of, begins_in_comment, begins_opener, begins_choice}
 use Rattle.tokei_parts.specs.declared.class.Class.TheVariants.{Blank, Code, Comment}
 use Rattle.tokei_parts.specs.declared.items.ItemKind.{ItemKind}
 use Rattle.tokei_parts.specs.declared.items.ItemKind.TheVariants.{DocString, VerbatimString, OrdinaryString, MultiLineComment}
 use Rattle.tokei_parts.proofs.Fits.{and_left, and_right}
-use Rattle.tokei_parts.proofs.PlainBytes.{flag_at, not_begun, token_some, none_begins, or_left, or_right}
+use Rattle.tokei_parts.proofs.PlainBytes.{flag_at, none_begun_in_comment, not_begun, token_some, none_begins, or_left, or_right}
 
 not_enclosed : (ps : List Pair) (b : ℕ) (t : List ℕ) → list_all is_pair ps ≡ true → begins_opener ps b ≡ false → encloses ps (b ∷ t) ≡ false
 not_enclosed [] b t s h = refl
@@ -168,6 +169,38 @@ module _ (g : Row) (s : IsSound g) (m : Matchers) (is : m ≡ matchers_of g) (do
           let trimmed : trim t ≡ b ∷ trim_end w = ap trim_end f ∙ trimmed_by (is_blank b) (all_blank w) b w (front_solid t b w f) in
           by_rules t a u b (trim_end w) e trimmed (front_not_blank t b w f) (starts_nothing g s m a u is i) (starts_nothing g s m b (trim_end w) is k)
 
+-- the same where no comment can begin at these bytes
+quiet_nothing : (g : Row) (s : IsSound g) (m : Matchers) (b : ℕ) (t : List ℕ) → m ≡ matchers_of g → BeginsNoComment g m b → StartsNothing g b t
+quiet_nothing g s m b t is h =
+    let none : begins_in_comment g b ≡ false = none_begun_in_comment g b m is h.within in
+    let h1 = or_right (b == 92) _ none in
+    let multi : begins_opener g.multi_line_comments b ≡ false = or_left (begins_opener g.multi_line_comments b) _ h1 in
+    let nested : begins_opener g.nested_comments b ≡ false = or_right (begins_opener g.multi_line_comments b) _ h1 in
+    record {
+      line = none_begins g.line_comment b t s.line_comment h.line;
+      multi_line = not_enclosed g.multi_line_comments b t s.multi_line_comments multi;
+      nested = not_enclosed g.nested_comments b t s.nested_comments nested;
+      opens_multi_line = λ c. not_opened g.multi_line_comments c b t s.multi_line_comments multi;
+      opens_nested = λ c. not_opened g.nested_comments c b t s.nested_comments nested;
+    }
+
+-- the byte at a place of a list
+byte_there : (u : List ℕ) (h : ℕ) → h < length u → drop h u ≡ get_or u h 0 ∷ drop (suc h) u
+byte_there [] h l = absurd (omega arith)
+byte_there (a ∷ u) zero l = refl
+byte_there (a ∷ u) (suc h) l = byte_there u h (omega arith)
+
+module _ (g : Row) (s : IsSound g) (m : Matchers) (is : m ≡ matchers_of g) (docs_are_comments : Bool) (ended : Mode) (plain : g.literate ≡ false) (no_doc : in_doc_string ended ≡ false) where
+  pub quiet_head : (t : List ℕ) (h : ℕ) → h < length t → trim_start t ≡ drop h t → BeginsNoComment g m (get_or t 0 0) → BeginsNoComment g m (get_or t h 0)
+      → class_of g docs_are_comments (record { begun = None; bytes = t; ended = ended }) ≡ Code
+  quiet_head t h l e first head =
+      let b : ℕ = get_or t h 0 in
+      let w : List ℕ = drop (suc h) t in
+      let f : trim_start t ≡ b ∷ w = e ∙ byte_there t h l in
+      let trimmed : trim t ≡ b ∷ trim_end w = ap trim_end f ∙ trimmed_by (is_blank b) (all_blank w) b w (front_solid t b w f) in
+      by_rules g s m is docs_are_comments ended plain no_doc t (get_or t 0 0) (drop 1 t) b (trim_end w) (byte_there t 0 (omega (arith, l))) trimmed (front_not_blank t b w f)
+      (quiet_nothing g s m (get_or t 0 0) (drop 1 t) is first) (quiet_nothing g s m b (trim_end w) is head)
+
 pub no_head : (t : List ℕ) → trim_start t ≡ [] → all_blank t ≡ true
 no_head [] e = refl
 no_head (a ∷ t) e = by_test (is_blank a) e (no_head t)
@@ -241,6 +274,85 @@ module _ (t : List ℕ) (i j h : ℕ) (low : i ≤ h) (high : h ≤ j) (within :
         (subst (BeginsNone m)
         (ap (λ p. get_or t p 0) (omega arith) ∙ sym (byte_at (h - i) (omega arith))) b));
   }
+
+-- where no comment can begin at a part's first byte and at its head, it is code
+pub quiet_part : (g : Row) (s : IsSound g) (m : Matchers) → m ≡ matchers_of g → (docs_are_comments : Bool) (ended : Mode) → g.literate ≡ false → in_doc_string ended ≡ false
+    → (t : List ℕ) (i j h : ℕ) → i ≤ h → h < j → j ≤ length t → ((p : ℕ) → i ≤ p → p < h → is_blank (get_or t p 0) ≡ true) → is_blank (get_or t h 0) ≡ false
+    → BeginsNoComment g m (get_or t i 0) → BeginsNoComment g m (get_or t h 0)
+    → class_of g docs_are_comments (record { begun = None; bytes = take (j - i) (drop i t); ended = ended }) ≡ Code
+quiet_part g s m is docs_are_comments ended plain no_doc t i j h low high within blank solid first head =
+    let u : List ℕ = take (j - i) (drop i t) in
+    let long : length u ≡ j - i = length-take-le (j - i) (drop i t) (omega (arith, length-drop i t, within)) in
+    let there : (k : ℕ) → k < j - i → get_or u k 0 ≡ get_or t (i + k) 0 = λ k l. get_or-take (j - i) (drop i t) k 0 l ∙ get_or-drop i t k 0 in
+    let at_first : get_or t i 0 ≡ get_or u 0 0 = ap (λ p. get_or t p 0) (omega arith) ∙ sym (there 0 (omega (arith, low, high))) in
+    let at_head : get_or t h 0 ≡ get_or u (h - i) 0 = ap (λ p. get_or t p 0) (omega (arith, low)) ∙ sym (there (h - i) (omega (arith, low, high))) in
+    quiet_head g s m is docs_are_comments ended plain no_doc u (h - i) (omega (arith, long, low, high))
+    (front_is t i j h low (omega (arith, high)) within blank (λ _. solid))
+    (subst (BeginsNoComment g m) at_first first) (subst (BeginsNoComment g m) at_head head)
+
+-- the first byte from a place on that isn't blank
+record FirstSolid (t : List ℕ) (i e : ℕ) : Type 0 where
+  head : ℕ
+  low : i ≤ head
+  high : head ≤ e
+  blank : (p : ℕ) → i ≤ p → p < head → is_blank (get_or t p 0) ≡ true
+  solid : is_blank (get_or t head 0) ≡ false
+
+first_solid : (t : List ℕ) (i n e : ℕ) → e ≡ i + n → (b : Bool) → is_blank (get_or t i 0) ≡ b → is_blank (get_or t e 0) ≡ false → FirstSolid t i e
+first_solid t i n e is false b s = record { head = i; low = omega arith; high = omega (arith, is); blank = λ p l h. absurd (omega (arith, l, h)); solid = b }
+first_solid t i zero e is true b s =
+    let same : e ≡ i = omega (arith, is) in
+    let blank : is_blank (get_or t e 0) ≡ true = ap (λ p. is_blank (get_or t p 0)) same ∙ b in
+    absurd (cc)
+first_solid t i (suc n) e is true b s =
+    let rest : FirstSolid t (i + 1) e = first_solid t (i + 1) n e (omega (arith, is)) (is_blank (get_or t (i + 1) 0)) refl s in
+    record {
+      head = rest.head;
+      low = omega (arith, rest.low);
+      high = rest.high;
+      blank = λ p l h. elim (cases_lt i p) [
+        | inl behind ↦ rest.blank p (omega (arith, behind)) h
+        | inr here ↦ ap (λ q. is_blank (get_or t q 0)) (omega (arith, l, here)) ∙ b
+      ];
+      solid = rest.solid;
+    }
+
+-- where no choice can begin at any byte of a front that isn't blank, the part has such a head
+pub solid_front : (t : List ℕ) (i e j : ℕ) (m : Matchers) → e ≤ j → j ≤ length t
+    → ((p : ℕ) → i ≤ p → p < e → BeginsNone m (get_or t p 0)) → HasSolid t i e → HasCodeHead m (take (j - i) (drop i t))
+solid_front t i e j m high within plain s =
+    let f : FirstSolid t i s.place = first_solid t i (s.place - i) s.place (omega (arith, s.low)) (is_blank (get_or t i 0)) refl s.solid in
+    code_front t i j f.head f.low (omega (arith, f.high, s.high, high)) within f.blank (λ _. f.solid) m (omega (arith, f.high, s.high, high))
+    (plain i (omega arith) (omega (arith, s.low, s.high))) (plain f.head f.low (omega (arith, f.high, s.high)))
+
+-- a part with a byte that isn't blank isn't blank
+not_all_blank : (u : List ℕ) (k : ℕ) → k < length u → is_blank (get_or u k 0) ≡ false → all_blank u ≡ false
+not_all_blank [] k l s = absurd (omega arith)
+not_all_blank (a ∷ u) zero l s = ap (λ x. x && all_blank u) s
+not_all_blank (a ∷ u) (suc k) l s = by_test (is_blank a) (all_blank u) (not_all_blank u k (omega arith) s)
+  where
+    by_test : (x y : Bool) → y ≡ false → (x && y) ≡ false
+    by_test true y e = e
+    by_test false y e = refl
+
+pub solid_part : (t : List ℕ) (i j h : ℕ) → i ≤ h → h < j → j ≤ length t → is_blank (get_or t h 0) ≡ false → all_blank (take (j - i) (drop i t)) ≡ false
+solid_part t i j h low high within solid =
+    let u : List ℕ = take (j - i) (drop i t) in
+    let long : length u ≡ j - i = length-take-le (j - i) (drop i t) (omega (arith, length-drop i t, within)) in
+    let there : get_or u (h - i) 0 ≡ get_or t h 0 =
+    get_or-take (j - i) (drop i t) (h - i) 0 (omega (arith, low, high)) ∙ get_or-drop i t (h - i) 0 ∙ ap (λ p. get_or t p 0) (omega (arith, low)) in
+    not_all_blank u (h - i) (omega (arith, long, low, high)) (ap is_blank there ∙ solid)
+
+-- a part that ends in a string is code, where doc strings are
+pub ends_in_string : (g : Row) (t : List ℕ) (ended : Mode)
+    → g.literate ≡ false → all_blank t ≡ false → in_string ended ≡ true
+    → class_of g false (record { begun = None; bytes = t; ended = ended }) ≡ Code
+unfolding class_of
+ends_in_string g t ended plain solid e = rw solid (rw plain (rw e (by_doc (in_doc_string ended))))
+  where
+    by_doc : (a : Bool) → cond (a && false) Comment Code ≡ Code
+    by_doc true = refl
+    by_doc false = refl
 
 -- a part that began in a comment and doesn't end in a string is a comment
 not_doc : (ended : Mode) → in_string ended ≡ false → in_doc_string ended ≡ false

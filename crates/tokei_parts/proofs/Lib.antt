@@ -14,6 +14,7 @@ pub mod LineEnd
 pub mod LineEnds
 pub mod Lines
 pub mod ListedLanguages
+pub mod NewlineHere
 pub mod OpenersInLines
 pub mod PartFronts
 pub mod PartReading

@@ -1,6 +1,8 @@
 -- The first newline of a text, as the searches find it.
-use Rattle.std.proofs.Common.{◌≡◌, ℕ, suc, zero, ◌+◌, ◌-◌, ◌<◌, ◌≤◌, ◌==◌, Bool, true, false, List, [], ◌∷◌, drop, length, get_or, refl, ap, ◌∙◌, arith, length-drop}
+use Rattle.std.proofs.Common.{◌≡◌, ℕ, suc, zero, ◌+◌, ◌-◌, ◌<◌, ◌≤◌, ◌==◌, Bool, true, false, List, [], ◌∷◌, drop, length, get_or, refl, ap, sym, ◌∙◌, arith, length-drop}
 use Rattle.std.proofs.lemmas.List.{drop-drop, get_or-drop}
+use Rattle.tokei_bytes.proofs.Blocks.{other_than}
+use Rattle.tokei_bytes.specs.OneOf.{is_one_of}
 use Rattle.tokei_parts.specs.Lines.{line_len}
 
 -- each byte before the place is no newline
@@ -49,3 +51,12 @@ newline_behind text at end low high before =
 pub drop_none : {A : Type 0} (xs : List A) → drop 0 xs ≡ xs
 drop_none [] = refl
 drop_none (x ∷ xs) = refl
+
+-- no newline stands before the place to which the block was searched
+pub sought : (text : List ℕ) (at near : ℕ) → at ≤ near → near ≤ length text → ((p : ℕ) → at ≤ p → p < near → is_one_of (10 ∷ 10 ∷ 10 ∷ 10 ∷ []) (get_or text p 0) ≡ false)
+    → near + line_len (drop near text) ≡ at + line_len (drop at text)
+sought text at near low within passed = newline_behind text at near low within (λ k i j. other_than _ 10 (passed k i j))
+
+-- so where none stands in it, the line ends as it does from the block's end on
+pub ended : (text : List ℕ) (at near end : ℕ) → near ≡ end → near + line_len (drop near text) ≡ at + line_len (drop at text) → end + line_len (drop end text) ≡ at + line_len (drop at text)
+ended text at near end is behind = ap (λ m. m + line_len (drop m text)) (sym is) ∙ behind

@@ -1,5 +1,6 @@
 -- At a byte at which no choice can begin none but the byte is made.
-use Rattle.std.proofs.Common.{◌≡◌, ℕ, zero, suc, ◌+◌, ◌<◌, ◌≤◌, ◌⊎◌, inl, inr, ◌==◌, nat_eq, Bool, true, false, ◌&&◌, ◌||◌, cond, List, [], ◌∷◌, ◌++◌, length, drop, get_or, drop-cons, length-append, Option, None, Some, is_some, slice_index_or, refl, sym, ◌∙◌, ap, arith}
+use Rattle.std.proofs.Common.{◌≡◌, ℕ, zero, suc, ◌+◌, ◌<◌, ◌≤◌, ◌⊎◌, inl, inr, ◌==◌, nat_eq, Bool, true, false, ◌&&◌, ◌||◌, cond}
+use Rattle.std.proofs.Common.{List, [], ◌∷◌, ◌++◌, length, drop, get_or, drop-cons, length-append, Option, None, Some, is_some, slice_index_or, refl, sym, ◌∙◌, ap, arith}
 use Rattle.std.specs.List.{list_all, list_any}
 use Rattle.std.proofs.lemmas.Bool.Decides.{Decides-eqb}
 use Rattle.std.proofs.lemmas.List.{drop-drop}
@@ -174,7 +175,7 @@ in_string r b t h false closer e =
 none_begun : (r : Row) (b : ℕ) (m : Matchers) → m ≡ matchers_of r → BeginsNone m b → begins_choice r b ≡ false
 none_begun r b m is h = sym (flag_at (begins_choice r) 256 b h.small) ∙ ap (λ (n : Matchers). slice_index_or n.begins b false) (sym is) ∙ h.outside
 
-none_begun_in_comment : (r : Row) (b : ℕ) (m : Matchers) → m ≡ matchers_of r → IsOutside m.begins_in_comment b → begins_in_comment r b ≡ false
+pub none_begun_in_comment : (r : Row) (b : ℕ) (m : Matchers) → m ≡ matchers_of r → IsOutside m.begins_in_comment b → begins_in_comment r b ≡ false
 none_begun_in_comment r b m is h = sym (flag_at (begins_in_comment r) 256 b h.small) ∙ ap (λ (n : Matchers). slice_index_or n.begins_in_comment b false) (sym is) ∙ h.outside
 
 -- in an item, where nothing but its closer can begin at the byte, and that doesn't stand there

@@ -1,6 +1,7 @@
 -- The walk of a part goes on from the place that it has come to.
-use Rattle.std.proofs.Common.{◌≡◌, ◌∙◌, ℕ, ◌+◌, ◌-◌, ◌<◌, ◌≤◌, ◌⊎◌, inl, inr, sym, ap, subst, List, length, drop, arith, length-drop}
+use Rattle.std.proofs.Common.{◌≡◌, ◌∙◌, ℕ, ◌+◌, ◌-◌, ◌<◌, ◌≤◌, ◌⊎◌, inl, inr, sym, ap, subst, List, length, drop, slice_index, arith, length-drop}
 use Rattle.tokei_parts.specs.Items.{Block}
+use Rattle.tokei_parts.specs.PlainBytes.{BeginsNone}
 use Rattle.tokei_parts.specs.Lines.{first_line, line_len}
 use Rattle.tokei_parts.specs.Class.{class_of}
 use Rattle.tokei_parts.specs.Choice.{choice}
@@ -8,7 +9,7 @@ use Rattle.tokei_parts.specs.Choice.Choice.{takes_byte}
 use Rattle.tokei_parts.specs.Modes.{Chain, innermost}
 use Rattle.tokei_parts.specs.Places.{Begins, IsAt, block_from, text_of}
 use Rattle.tokei_parts.specs.Progress.{IsClosable, IsPart, OpensChild, ReadsLine, newlines}
-use Rattle.tokei_parts.specs.Reached.{Advances, BreaksOff, IsReached, Reaches, part_stop, read_to}
+use Rattle.tokei_parts.specs.Reached.{Advances, BreaksOff, IsFront, IsReached, Reaches, part_stop, read_to}
 use Rattle.tokei_parts.specs.ReadingOf.{row_in, blocks_of}
 use Rattle.tokei_parts.specs.Walked.{IsLine, ReadsTo}
 use Rattle.tokei_parts.specs.declared.class.Class.{Class}
@@ -37,6 +38,10 @@ place_at p at = record {
 -- its line ends in the text
 pub end_in_text : (p : Place) → Begins p → p.end ≤ length (text_of p)
 end_in_text p begins = end_within (text_of p) p.start p.end begins.part.high begins.line
+
+-- and stops there or behind the newline
+pub line_stops : (p : Place) → Begins p → p.end ≤ part_stop p
+line_stops p begins = omega (arith, begins.line, first_line-low (drop p.start (text_of p)))
 
 -- where a part begins
 pub reach_none : (p : Place) (c : Chain) → Begins p → IsClosable c → Reaches p c c p.start 0
@@ -280,3 +285,22 @@ module _ (p : Place) (b c : Chain) (at steps : ℕ) (r : Reaches p b c at steps)
           let broken : length (first_line (ahead p)) ≡ line_len (ahead p) + 1 = length-broken (ahead p) (omega (arith, h, r.begins.line, length-drop p.start (text_of p))) in
           omega (arith, broken, r.begins.line)
       by_end (inr h) more = absurd (omega (arith, h, more, low, r.begins.line))
+
+-- bytes behind its front at which no choice can begin are of the front too
+pub front_on : (p : Place) (front from plain : ℕ) → from ≡ front → IsFront p front → from ≤ plain → plain ≤ p.end
+    → ((q : ℕ) → from ≤ q → q < plain → BeginsNone p.reading.now.matchers.now (slice_index (text_of p) q)) → IsFront p plain
+front_on p front from plain is f low high none = record {
+  low = omega (arith, f.low, is, low);
+  high = high;
+  plain = λ q first last. elim (below_or q front) [
+    | inl h ↦ f.plain q first h
+    | inr h ↦ none q (omega (arith, is, h)) last
+  ];
+}
+
+pub front_none : (p : Place) → Begins p → IsFront p p.start
+front_none p begins = record {
+  low = omega arith;
+  high = omega (arith, begins.line);
+  plain = λ q low high. absurd (omega (arith, low, high));
+}

@@ -1,8 +1,11 @@
 -- Parts at whose head nothing but code can begin.
-use Rattle.std.specs.Prelude.{ℕ, List, [], ◌∷◌}
-use Rattle.tokei_table.specs.Bytes.{trim_start}
+use Rattle.std.specs.Prelude.{◌≡◌, ℕ, ◌<◌, ◌≤◌, false, List, [], ◌∷◌, slice_index}
+use Rattle.std.specs.List.{list_any}
+use Rattle.tokei_table.specs.Bytes.{is_blank, trim_start}
+use Rattle.tokei_table.specs.FirstOpener.{is_first_of}
+use Rattle.tokei_table.specs.Row.{Row}
 use Rattle.tokei_parts.specs.Matchers.{Matchers}
-use Rattle.tokei_parts.specs.PlainBytes.{BeginsNone}
+use Rattle.tokei_parts.specs.PlainBytes.{BeginsNone, IsOutside}
 
 -- no choice can begin at the first byte, and there is one
 abbrev pub FrontBeginsNone : Matchers → List ℕ → Type 0
@@ -13,3 +16,15 @@ FrontBeginsNone matchers (b ∷ t) = BeginsNone matchers b
 pub record HasCodeHead (matchers : Matchers) (text : List ℕ) : Type 0 where
   pub first : FrontBeginsNone matchers text
   pub head : FrontBeginsNone matchers (trim_start text)
+
+-- a byte that isn't blank stands in the text from the place `start` to before `end`
+pub record HasSolid (text : List ℕ) (start end : ℕ) : Type 0 where
+  pub place : ℕ
+  pub low : start ≤ place
+  pub high : place < end
+  pub solid : is_blank (slice_index text place) ≡ false
+
+-- no multi-line, nested or line comment begins at the byte
+pub record BeginsNoComment (row : Row) (matchers : Matchers) (byte : ℕ) : Type 0 where
+  pub within : IsOutside matchers.begins_in_comment byte
+  pub line : list_any (is_first_of byte) row.line_comment ≡ false

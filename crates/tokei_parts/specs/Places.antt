@@ -27,10 +27,14 @@ block_from place at = blocks_of place.reading.now place.behind_child (text_from 
 abbrev pub block_here : Place → Option Block
 block_here place = block_from place place.at
 
--- the choice at the place, in a mode
+-- the choice at another place of the part, in a mode
+abbrev pub choice_from : Place → ℕ → Mode → Choice
+choice_from place at mode = choice (row_in place.reading.now) mode (block_from place at)
+    (text_from place at)
+
+-- the choice at the place itself
 abbrev pub choice_here : Place → Mode → Choice
-choice_here place mode = choice (row_in place.reading.now) mode (block_here place)
-    (text_from place place.at)
+choice_here place mode = choice_from place place.at mode
 
 -- the part is under way at the place, whose line goes to its end
 pub record IsAt (place : Place) : Type 0 where

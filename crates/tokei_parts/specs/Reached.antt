@@ -1,7 +1,8 @@
 -- How far the walk of a part has come, and where a step of it leads.
-use Rattle.std.specs.Prelude.{◌≡◌, ℕ, ◌+◌, ◌-◌, ◌<◌, ◌≤◌, None, length}
+use Rattle.std.specs.Prelude.{◌≡◌, ℕ, ◌+◌, ◌-◌, ◌<◌, ◌≤◌, None, length, slice_index}
 use Rattle.tokei_parts.specs.Lines.{first_line, line_len}
 use Rattle.tokei_parts.specs.Modes.{Chain}
+use Rattle.tokei_parts.specs.PlainBytes.{BeginsNone}
 use Rattle.tokei_parts.specs.Places.{Begins, block_from, text_from, text_of}
 use Rattle.tokei_parts.specs.Progress.{IsClosable, IsPart, Leads}
 use Rattle.tokei_parts.specs.ReadingOf.{row_in, blocks_of}
@@ -68,3 +69,10 @@ StepsTo part last reach next further Child = BreaksOff part last reach next furt
 -- from the place `at` to before `to` no child opens in plain text
 abbrev pub IsChildless : Place → ℕ → ℕ → Type 0
 IsChildless part at to = (q : ℕ) → at ≤ q → q < to → block_from part q ≡ None
+
+-- at no byte of the part before the place can a choice begin
+pub record IsFront (part : Place) (front : ℕ) : Type 0 where
+  pub low : part.start ≤ front
+  pub high : front ≤ part.end
+  pub plain : (p : ℕ) → part.start ≤ p → p < front
+      → BeginsNone part.reading.now.matchers.now (slice_index (text_of part) p)

@@ -72,7 +72,7 @@ fn calm_end_ahead(reading: &Reading, item: Enclosure, at: usize) -> usize
 }
 
 /// The same. Where an escape or an opener can begin at the place itself, nothing is searched.
-#[inline(never)]
+#[inline(always)]
 pub fn calm_end(reading: &Reading, item: Enclosure, at: usize) -> usize
     requires { at ≤ length reading.now.text.now }
     ensures low { at ≤ result }

@@ -1,11 +1,11 @@
 //! The choice at one place.
-ghost use Rattle.std.specs.Prelude.{◌≡◌, ◌≢◌, true, false, Option, option_map, is_some};
+ghost use Rattle.std.specs.Prelude.{◌≡◌, ◌≢◌, true, false, None, Some, Option, option_map, is_some};
 ghost use Rattle.std.specs.Option.{option_copied};
 ghost use Rattle.tokei_table_row.specs.Bytes.{begins};
 ghost use Rattle.tokei_table_row.specs.RowOf.{pair_of, pairs_of, tokens_of, row_of};
 ghost use Rattle.tokei_parts.specs.Items.{Block};
 ghost use Rattle.tokei_parts.specs.Choice.{opened, any_begins, is_escape, has_pair, met_in_comment};
-ghost use Rattle.tokei_parts.specs.Choice.{choice_in_string, choice_in_comment, choice_in_plain, choice};
+ghost use Rattle.tokei_parts.specs.Choice.{choice_in_string, choice_in_comment, choice};
 ghost use Rattle.tokei_parts.specs.Choice.{comment_in_plain, opening_in_plain};
 ghost use Rattle.tokei_parts.specs.SeenChoices.{choice_of, mode_of};
 
@@ -31,8 +31,8 @@ pub enum Choice<'a> {
     TakesByte,
 }
 
-/// Whether the token stands at the front of the text. One or two bytes, as most tokens have, are
-/// compared in place.
+/// Whether the token stands at the front of the text. One to three bytes, as most tokens have, are
+/// compared in place, and of a longer one the first two are first.
 #[inline(always)]
 pub fn stands(token: &[u8], text: &[u8]) -> bool
     ensures { result ≡ begins token.now text.now }
@@ -40,7 +40,9 @@ pub fn stands(token: &[u8], text: &[u8]) -> bool
     match (token, text) {
         ([first, ..], [byte, ..]) if *first != *byte => false,
         ([_], [_, ..]) => true,
-        ([_, second], [_, byte, ..]) => *second == *byte,
+        ([_, second, ..], [_, byte, ..]) if *second != *byte => false,
+        ([_, _], [_, _, ..]) => true,
+        ([_, _, third], [_, _, byte, ..]) => *third == *byte,
         _ => text.starts_with(token),
     }
 }
@@ -104,7 +106,8 @@ fn is_escape(syntax: &Syntax, text: &[u8]) -> bool
     }
 }
 
-/// Whether the pair is in the list.
+/// Whether the pair is in the list. It stands in no caller's code, since few languages have some.
+#[inline(never)]
 fn has_pair(pairs: &[(String, String)], pair: &(String, String)) -> bool
     ensures { result ≡ has_pair (pairs_of pairs.now) (pair_of pair.now) }
 {
@@ -117,6 +120,7 @@ fn has_pair(pairs: &[(String, String)], pair: &(String, String)) -> bool
 }
 
 /// The choice for a multi-line opener that is met inside a comment.
+#[inline(always)]
 fn met_in_comment<'a>(syntax: &Syntax, pair: &'a (String, String)) -> Choice<'a>
     ensures choice { (block : Option Block)
         → choice_of block result ≡ met_in_comment (row_of syntax.now) (pair_of pair.now) }
@@ -200,10 +204,13 @@ fn opening_in_plain<'a>(syntax: &'a Syntax, text: &[u8]) -> Choice<'a>
     }
 }
 
+/// The first choice that fits at the front of the text in plain text; `opens` says whether a child
+/// can open there.
+#[tactic(auto, unfolding(crate::specs::Choice::choice))]
 #[inline(always)]
-fn in_plain<'a>(syntax: &'a Syntax, opens: bool, text: &[u8]) -> Choice<'a>
+pub fn choose_in_plain<'a>(syntax: &'a Syntax, opens: bool, text: &[u8]) -> Choice<'a>
     ensures choice { (block : Option Block) → is_some block ≡ opens
-        → choice_of block result ≡ choice_in_plain (row_of syntax.now) block text.now }
+        → choice_of block result ≡ choice (row_of syntax.now) None block text.now }
     ensures child { result ≡ Choice.ChildOpens → opens ≡ true }
 {
     if is_escape(syntax, text) {
@@ -215,31 +222,23 @@ fn in_plain<'a>(syntax: &'a Syntax, opens: bool, text: &[u8]) -> Choice<'a>
     }
 }
 
-/// The first choice that fits at the front of the text; `opens` says whether a child can open
-/// there.
+/// The first choice that fits at the front of the text in the item.
 #[tactic(auto, unfolding(crate::specs::Choice::choice))]
 #[inline(always)]
-pub fn choose<'a>(
-    syntax: &'a Syntax,
-    mode: Option<Enclosure<'a>>,
-    opens: bool,
-    text: &[u8],
-) -> Choice<'a>
-    ensures choice { (block : Option Block) → is_some block ≡ opens
-        → choice_of block result ≡ choice (row_of syntax.now) (mode_of mode.entry) block text.now }
-    ensures child { result ≡ Choice.ChildOpens → opens ≡ true }
+pub fn choose_within<'a>(syntax: &'a Syntax, item: Enclosure<'a>, text: &[u8]) -> Choice<'a>
+    ensures choice { (block : Option Block)
+        → choice_of block result
+        ≡ choice (row_of syntax.now) (mode_of (Some item.entry)) block text.now }
+    ensures no_child { result ≢ Choice.ChildOpens }
 {
-    match mode {
-        None => in_plain(syntax, opens, text),
-        Some(inner) => match inner.kind {
-            ItemKind::DocString | ItemKind::OrdinaryString => in_string(
-                syntax,
-                false,
-                inner.closer,
-                text,
-            ),
-            ItemKind::VerbatimString => in_string(syntax, true, inner.closer, text),
-            ItemKind::MultiLineComment => in_comment(syntax, inner.closer, text),
-        },
+    match item.kind {
+        ItemKind::DocString | ItemKind::OrdinaryString => in_string(
+            syntax,
+            false,
+            item.closer,
+            text,
+        ),
+        ItemKind::VerbatimString => in_string(syntax, true, item.closer, text),
+        ItemKind::MultiLineComment => in_comment(syntax, item.closer, text),
     }
 }

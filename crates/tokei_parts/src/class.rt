@@ -1,21 +1,28 @@
 //! What a part counts as.
-ghost use Rattle.std.specs.Prelude.{◌≡◌, ℕ, List, ◌-◌, ◌<◌, ◌≤◌, true, None, Some, [], drop, length, slice_index, take};
-ghost use Rattle.tokei_table.specs.Bytes.{is_blank, trim, trim_start};
+ghost use Rattle.std.specs.Prelude.{◌≡◌, ℕ, List, ◌-◌, ◌<◌, ◌≤◌, true};
+ghost use Rattle.std.specs.Prelude.{false, None, Some, [], drop, length, slice_index, take};
+ghost use Rattle.tokei_table.specs.Bytes.{all_blank, is_blank, trim, trim_start};
+ghost use Rattle.std.specs.List.{list_any};
+ghost use Rattle.tokei_table.specs.FirstOpener.{is_first_of};
 ghost use Rattle.tokei_table.specs.RowOf.{pairs_of, row_of, tokens_of};
 ghost use Rattle.tokei_parts.specs.Items.{kind_in};
 ghost use Rattle.tokei_parts.specs.Class.{encloses, opens_with, class_of, head_of};
 ghost use Rattle.tokei_parts.specs.Items.{Mode};
 ghost use Rattle.tokei_parts.specs.Class.{in_comment, in_string, in_doc_string, ends_opened};
 ghost use Rattle.tokei_parts.specs.Class.{keeps_columns};
-ghost use Rattle.tokei_parts.specs.CodeHeads.{HasCodeHead};
+ghost use Rattle.tokei_parts.specs.CodeHeads.{BeginsNoComment, HasCodeHead, HasSolid};
 ghost use Rattle.tokei_parts.specs.CommentHeads.{HasCommentHead, any_solid_begins, ends_solid};
+ghost use Rattle.tokei_parts.specs.Modes.{innermost};
+ghost use Rattle.tokei_parts.specs.PlainBytes.{BeginsNone};
 ghost use Rattle.tokei_parts.specs.ReadingOf.{row_in};
 ghost use Rattle.tokei_parts.specs.SeenChoices.{mode_of};
+ghost use Rattle.tokei_parts.specs.Seen.{chain_of};
 
 use crate::choice::{any_begins, begins};
 use crate::items::{Enclosure, ItemKind};
 use crate::matchers::LanguageMatchers;
 use crate::reading::Reading;
+use crate::walk::innermost;
 use tokei_table_row::Syntax;
 use tokei_table_row::ext::{is_blank_text, is_whitespace, trim};
 use tokei_table_search::blanks_end;
@@ -173,6 +180,8 @@ fn class_by_front(
         → trim_start (take (stop - start) (drop start text.now)) ≡ [] }
     ensures code { result ≡ Some Class.Code
         → HasCodeHead matchers.now (take (stop - start) (drop start text.now)) }
+    ensures solid { result ≡ None
+        → all_blank (take (stop - start) (drop start text.now)) ≡ false }
 {
     if stop <= solid {
         return Some(Class::Blank);
@@ -187,6 +196,27 @@ fn class_by_front(
     Some(Class::Code)
 }
 
+/// How many bytes before an opener are looked at for one that is no blank.
+const NEAR: usize = 4;
+
+/// Whether a byte that is no blank stands in the text from `start` to before `end`, and close to
+/// the end, where it mostly does.
+#[inline(always)]
+fn has_solid(text: &[u8], start: usize, end: usize) -> bool
+    requires { end ≤ length text.now }
+    ensures { result ≡ true → HasSolid text.now start end }
+{
+    let least = start.max(end.saturating_sub(NEAR));
+    let mut at = end;
+    while least < at {
+        at -= 1;
+        if !is_whitespace(text[at]) {
+            return true;
+        }
+    }
+    false
+}
+
 /// Whether an item of that kind is a comment.
 fn is_comment(kind: Option<ItemKind>) -> bool
     ensures { (m : Mode) → kind_in m ≡ kind → result ≡ in_comment m }
@@ -197,42 +227,131 @@ fn is_comment(kind: Option<ItemKind>) -> bool
     }
 }
 
+/// Whether a token begins with the byte.
+fn any_first(tokens: &[String], byte: u8) -> bool
+    ensures { result ≡ list_any (is_first_of byte) (tokens_of tokens.now) }
+{
+    for token in tokens {
+        match token.as_bytes() {
+            [first, ..] if *first == byte => return true,
+            _ => {}
+        }
+    }
+    false
+}
+
+/// Whether no comment can begin at the byte.
+fn begins_no_comment(reading: &Reading, byte: u8) -> bool
+    ensures { result ≡ true
+        → BeginsNoComment (row_in reading.now) reading.now.matchers.now byte }
+{
+    !reading.matchers.begins_in_comment(byte) && !any_first(&reading.syntax.line_comment, byte)
+}
+
+/// The class of the part of the reading's text from `start` to before `stop`, which began in plain
+/// text and ended in the stack's items, as `class_of` has it. It stands in no caller's code, which
+/// mostly tells the class by less, and looks up the mode at the end itself, so that the caller's
+/// stands in no memory. Where a string opens at the head, `class_of` isn't asked.
+#[inline(never)]
+fn class_begun_plain(reading: &Reading, start: usize, stop: usize, stack: &[Enclosure]) -> Class
+    requires order { start ≤ stop }
+    requires within { stop ≤ length reading.now.text.now }
+    ensures { result ≡ class_of (row_in reading.now) reading.now.docs_are_comments (record {
+      begun = None;
+      bytes = take (stop - start) (drop start reading.now.text.now);
+      ended = innermost (chain_of stack.now);
+    }) }
+{
+    let text = reading.text;
+    let ended = innermost(stack);
+    let head = blanks_end(text, start, stop);
+    if head < stop
+        && !reading.syntax.literate
+        && !in_doc_string(ended)
+        && begins_no_comment(reading, text[start])
+        && begins_no_comment(reading, text[head])
+    {
+        return Class::Code;
+    }
+    class_of(
+        reading.syntax,
+        reading.docs_are_comments,
+        None,
+        &text[start..stop],
+        ended,
+    )
+}
+
+/// The same of a part that began in an item of that kind, of which nothing else counts.
+#[inline(never)]
+fn class_begun_within(
+    reading: &Reading,
+    kind: ItemKind,
+    start: usize,
+    stop: usize,
+    stack: &[Enclosure],
+) -> Class
+    requires order { start ≤ stop }
+    requires within { stop ≤ length reading.now.text.now }
+    ensures { result ≡ class_of (row_in reading.now) reading.now.docs_are_comments (record {
+      begun = Some (record { kind = kind; closer = [] });
+      bytes = take (stop - start) (drop start reading.now.text.now);
+      ended = innermost (chain_of stack.now);
+    }) }
+{
+    let closer = &reading.text[..0];
+    let mode = Some(Enclosure { kind, closer });
+    class_of(
+        reading.syntax,
+        reading.docs_are_comments,
+        mode,
+        &reading.text[start..stop],
+        innermost(stack),
+    )
+}
+
 /// The class of the part of the reading's text from `start` to before `stop`, which began in an
-/// item of that kind, or in plain text, and ended in that mode, as `class_of` has it. That is asked
-/// only where neither the part's front nor the kind and the mode tell.
+/// item of that kind, or in plain text, and ended in the stack's items, as `class_of` has it. That
+/// is asked only where neither the part's front nor the kinds of the items tell. At no byte before
+/// `front` can a choice begin.
 #[inline(always)]
 pub fn class_by(
     reading: &Reading,
     begun: Option<ItemKind>,
     start: usize,
+    front: usize,
     stop: usize,
-    ended: Option<Enclosure>,
+    stack: &[Enclosure],
 ) -> Class
-    requires order { start ≤ stop }
+    requires low { start ≤ front }
+    requires high { front ≤ stop }
     requires within { stop ≤ length reading.now.text.now }
+    requires plain { (p : ℕ) → start ≤ p → p < front
+        → BeginsNone reading.now.matchers.now (slice_index reading.now.text.now p) }
     ensures { (m : Mode) → kind_in m ≡ begun
         → result ≡ class_of (row_in reading.now) reading.now.docs_are_comments (record {
           begun = m;
           bytes = take (stop - start) (drop start reading.now.text.now);
-          ended = mode_of ended.entry;
+          ended = innermost (chain_of stack.now);
         }) }
 {
     let syntax = reading.syntax;
+    let text = reading.text;
     let docs_are_comments = reading.docs_are_comments;
-    let bytes = &reading.text[start..stop];
+    let ended = innermost(stack);
     match begun {
-        None => match class_by_front(reading.matchers, reading.text, start, start, stop) {
+        None if !syntax.literate && !in_doc_string(ended) && has_solid(text, start, front) => {
+            Class::Code
+        }
+        None => match class_by_front(reading.matchers, text, start, start, stop) {
             Some(Class::Blank) => Class::Blank,
             Some(Class::Code) if !syntax.literate && !in_doc_string(ended) => Class::Code,
-            _ => class_of(syntax, docs_are_comments, None, bytes, ended),
+            None if !syntax.literate && !docs_are_comments && in_string(ended) => Class::Code,
+            _ => class_begun_plain(reading, start, stop, stack),
         },
         Some(_) if is_comment(begun) && !in_string(ended) => Class::Comment,
         Some(_) if !is_comment(begun) && !docs_are_comments && !syntax.literate => Class::Code,
-        Some(kind) => {
-            let closer = &reading.text[..0];
-            let mode = Some(Enclosure { kind, closer });
-            class_of(syntax, docs_are_comments, mode, bytes, ended)
-        }
+        Some(kind) => class_begun_within(reading, kind, start, stop, stack),
     }
 }
 

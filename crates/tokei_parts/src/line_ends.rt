@@ -6,7 +6,7 @@ ghost use Rattle.tokei_parts.specs.Lines.{line_len};
 use tokei_bytes::{BLOCK, first_in_block, first_of_one, first_other_in_block};
 
 /// The first newline of the text from the place `at` on, or `to` where none stands before that. It
-/// is mostly near.
+/// is mostly near: then one look at a block finds it.
 #[inline(always)]
 pub fn newline_before(text: &[u8], at: usize, to: usize) -> usize
     requires order { at ≤ to }
@@ -15,7 +15,17 @@ pub fn newline_before(text: &[u8], at: usize, to: usize) -> usize
     ensures line { result ≤ at + line_len (drop at text.now) }
     ensures found { result < to → result ≡ at + line_len (drop at text.now) }
 {
-    first_of_one(b'\n', text, at, to)
+    if text.len() - at < BLOCK {
+        return first_of_one(b'\n', text, at, to);
+    }
+    let near = first_in_block([b'\n'; 4], text, at);
+    if near < at + BLOCK {
+        return to.min(near);
+    }
+    if to <= at + BLOCK {
+        return to;
+    }
+    first_of_one(b'\n', text, at + BLOCK, to)
 }
 
 /// What one look at the front of a line shows.

@@ -1,21 +1,21 @@
 //! A part is walked with a stack of the items that enclose the place.
-ghost use Rattle.std.specs.Prelude.{◌≡◌, ℕ, ◌+◌, ◌<◌, ◌≤◌, true, false, None, Some};
+ghost use Rattle.std.specs.Prelude.{◌≡◌, ◌≢◌, ℕ, ◌+◌, ◌<◌, ◌≤◌, true, false, None, Some};
 ghost use Rattle.std.specs.Prelude.{is_some, IfOk, length, slice_index};
 ghost use Rattle.tokei_parts.specs.Choice.Choice.{takes_byte};
 ghost use Rattle.tokei_parts.specs.Items.{kind_in};
 ghost use Rattle.tokei_parts.specs.Modes.{Chain, innermost};
-ghost use Rattle.tokei_parts.specs.PlainBytes.{IsPlainByte};
+ghost use Rattle.tokei_parts.specs.PlainBytes.{BeginsNone, IsPlainByte};
 ghost use Rattle.tokei_parts.specs.Places.{Begins, IsAt};
-ghost use Rattle.tokei_parts.specs.Places.{block_from, block_here, choice_here, text_of};
+ghost use Rattle.tokei_parts.specs.Places.{block_from, block_here, choice_from, choice_here, text_of};
 ghost use Rattle.tokei_parts.specs.ReadingOf.{row_in, blocks_of};
 ghost use Rattle.tokei_parts.specs.Progress.{IsClosable};
-ghost use Rattle.tokei_parts.specs.Reached.{Advances, BreaksOff, GoesOn, IsChildless, IsReached};
+ghost use Rattle.tokei_parts.specs.Reached.{Advances, BreaksOff, GoesOn, IsChildless, IsFront, IsReached};
 ghost use Rattle.tokei_parts.specs.Reached.{Reaches, StepsTo, part_stop};
 ghost use Rattle.tokei_parts.specs.SeenChoices.{choice_of, mode_of};
 ghost use Rattle.tokei_parts.specs.Seen.{block_of, chain_of};
 ghost use Rattle.tokei_parts.specs.Walked.{Moves, Reads};
 
-use crate::choice::{Choice, choose};
+use crate::choice::{Choice, choose_in_plain, choose_within};
 use crate::class::{Class, class_by};
 use crate::items::{Enclosure, ItemKind, kind_of};
 use crate::line_ends::line_stop;
@@ -122,42 +122,45 @@ fn finds_child<'a>(
     finds_block(&here, search, found)
 }
 
-/// The choice at the place, which is one step; `opens` says whether a child can open there, and
-/// `plain` that nothing but the byte itself can begin.
+/// The choice at the place in plain text; `opens` says whether a child can open there.
 #[inline(always)]
-fn choice_at<'a>(
-    place: &Place<'_, 'a>,
-    mode: Option<Enclosure<'a>>,
-    opens: bool,
-    plain: bool,
-    steps: &mut usize,
-) -> Choice<'a>
+fn choice_in_plain<'a>(place: &Place<'_, 'a>, opens: bool) -> Choice<'a>
     requires here { IsAt place.now }
-    requires room { steps.old < length (text_of place.now) }
-    requires child { plain ≡ false → opens ≡ true → is_some (block_here place.now) ≡ true }
-    requires childless { plain ≡ false → opens ≡ false → mode_of mode ≡ None
-        → block_here place.now ≡ None }
-    requires plain { plain ≡ true → choice_here place.now (mode_of mode) ≡ takes_byte }
-    ensures counted { steps.new ≡ steps.old + 1 }
+    requires child { opens ≡ true → is_some (block_here place.now) ≡ true }
+    requires childless { opens ≡ false → block_here place.now ≡ None }
     ensures child { result ≡ Choice.ChildOpens → opens ≡ true }
-    ensures choice { choice_of (block_here place.now) result
-        ≡ choice_here place.now (mode_of mode.entry) }
+    ensures choice { choice_of (block_here place.now) result ≡ choice_here place.now None }
 {
+    choose_in_plain(place.reading.syntax, opens, &place.reading.text[place.at..])
+}
+
+/// The choice at the place in the item.
+#[inline(always)]
+fn choice_within<'a>(place: &Place<'_, 'a>, item: Enclosure<'a>) -> Choice<'a>
+    requires here { IsAt place.now }
+    ensures no_child { result ≢ Choice.ChildOpens }
+    ensures choice { choice_of (block_here place.now) result
+        ≡ choice_here place.now (mode_of (Some item.entry)) }
+{
+    choose_within(place.reading.syntax, item, &place.reading.text[place.at..])
+}
+
+/// Takes the byte at a place at which nothing but the byte itself can begin: a choice, which is one
+/// step.
+#[inline(always)]
+fn take_byte<'a>(place: &Place<'_, 'a>, mode: Option<Enclosure<'a>>, steps: &mut usize)
+    requires room { steps.old < length (text_of place.now) }
+    requires plain { choice_here place.now (mode_of mode) ≡ takes_byte }
+    ensures { steps.new ≡ steps.old + 1 }
+{
+    // there are no more steps than bytes, and so many can be counted
+    let _length = place.reading.text.len();
     *steps += 1;
-    if plain {
-        return Choice::TakesByte;
-    }
-    choose(
-        place.reading.syntax,
-        mode,
-        opens,
-        &place.reading.text[place.at..],
-    )
 }
 
 /// Takes the bytes from the place that the walk has come to on to before `to`, if that lies ahead.
 /// Nothing but the byte itself can begin at any, in the mode of the stack's items. Each is a
-/// choice, which `choice_at` makes.
+/// choice.
 #[inline(always)]
 fn take_bytes<'a>(
     part: &Place<'_, 'a>,
@@ -186,38 +189,37 @@ fn take_bytes<'a>(
             at: reach.at,
             ..*part
         };
-        let _byte = choice_at(&here, mode, false, true, &mut reach.steps);
+        take_byte(&here, mode, &mut reach.steps);
         reach.at += 1;
     }
 }
 
-/// Takes the choice at a place, which `choice_at` makes, in the mode of the stack's items; `opens`
-/// says whether a child can open there.
+/// Takes the choice at a place, which is one step, in the mode of the stack's items.
 #[inline(always)]
 fn take_choice<'a>(
     place: &Place<'_, 'a>,
     stack: &mut Vec<Enclosure<'a>>,
-    mode: Option<Enclosure<'a>>,
-    opens: bool,
+    choice: Choice<'a>,
     steps: &mut usize,
 ) -> Result<Move, AllocError>
-    requires mode { mode_of mode ≡ innermost (chain_of stack.old.items) }
     requires closable { IsClosable (chain_of stack.old.items) }
     requires here { IsAt place.now }
     requires some { place.now.at < place.now.end }
     requires room { steps.old < length (text_of place.now) }
-    requires child { opens ≡ true → is_some (block_here place.now) ≡ true }
-    requires childless { opens ≡ false → innermost (chain_of stack.old.items) ≡ None
-        → block_here place.now ≡ None }
+    requires choice { choice_of (block_here place.now) choice
+        ≡ choice_here place.now (innermost (chain_of stack.old.items)) }
+    requires child { choice ≡ Choice.ChildOpens → is_some (block_here place.now) ≡ true }
     ensures counted { steps.new ≡ steps.old + 1 }
-    ensures child { IfOk result (λ m. m ≡ Move.Child → opens ≡ true) }
+    ensures child { IfOk result (λ m. m ≡ Move.Child → choice.entry ≡ Choice.ChildOpens) }
     ensures plain { IfOk result (λ m. m ≡ Move.Rest → innermost (chain_of stack.old.items) ≡ None) }
     ensures kept { IfOk result (λ m. (n : ℕ) → m ≡ Move.On n → stack.new.items ≡ stack.old.items) }
     ensures takes { IfOk result (Moves (row_in place.now.reading.now)
         (blocks_of place.now.reading.now) place.now.behind_child (chain_of stack.old.items)
         (chain_of stack.new.items) (text_of place.now) place.now.at) }
 {
-    match choice_at(place, mode, opens, false, steps) {
+    let _length = place.reading.text.len();
+    *steps += 1;
+    match choice {
         Choice::Closes => match stack.pop() {
             Some(enclosure) => Ok(Move::Turn(enclosure.closer.len())),
             None => unreachable!(),
@@ -240,22 +242,21 @@ fn take_choice<'a>(
 }
 
 /// Takes the choice at the place that the walk has come to, in the mode of the stack's items, and
-/// goes on behind what it takes; `opens` says whether a child can open there.
+/// goes on behind what it takes.
 #[inline(always)]
 fn take_step<'a>(
     part: &Place<'_, 'a>,
     stack: &mut Vec<Enclosure<'a>>,
-    mode: Option<Enclosure<'a>>,
-    opens: bool,
+    choice: Choice<'a>,
     reach: &mut Reach,
 ) -> Result<Move, AllocError>
-    requires mode { mode_of mode ≡ innermost (chain_of stack.old.items) }
     requires reached { IsReached part.now (chain_of stack.old.items) reach.old }
     requires some { reach.old.at < part.now.end }
-    requires child { opens ≡ true → is_some (block_from part.now reach.old.at) ≡ true }
-    requires childless { opens ≡ false → innermost (chain_of stack.old.items) ≡ None
-        → block_from part.now reach.old.at ≡ None }
-    ensures child { IfOk result (λ m. m ≡ Move.Child → opens ≡ true) }
+    requires choice { choice_of (block_from part.now reach.old.at) choice
+        ≡ choice_from part.now reach.old.at (innermost (chain_of stack.old.items)) }
+    requires child { choice ≡ Choice.ChildOpens
+        → is_some (block_from part.now reach.old.at) ≡ true }
+    ensures child { IfOk result (λ m. m ≡ Move.Child → choice.entry ≡ Choice.ChildOpens) }
     ensures plain { IfOk result (λ m. m ≡ Move.Rest → innermost (chain_of stack.old.items) ≡ None) }
     ensures kept { IfOk result (λ m. (n : ℕ) → m ≡ Move.On n → stack.new.items ≡ stack.old.items) }
     ensures same { reach.new.child ≡ reach.old.child }
@@ -266,7 +267,7 @@ fn take_step<'a>(
         at: reach.at,
         ..*part
     };
-    let taken = take_choice(&here, stack, mode, opens, &mut reach.steps)?;
+    let taken = take_choice(&here, stack, choice, &mut reach.steps)?;
     match taken {
         Move::On(len) | Move::Turn(len) => reach.at += len,
         Move::Rest => reach.at = line_stop(part.reading.text, part.end),
@@ -275,21 +276,51 @@ fn take_step<'a>(
     Ok(taken)
 }
 
-/// Takes the choice at the newline that ends a line in that mode. No child opens there.
+/// Makes the choice at the newline that ends a line behind which the stack's items go on, where
+/// more than the newline itself can begin, and answers how many steps there were with it. No child
+/// opens there. It stands in no caller's code, since few newlines come to it.
+#[inline(never)]
+fn choose_at_newline<'a>(place: &Place<'_, 'a>, stack: &[Enclosure<'a>], steps: usize) -> usize
+    requires here { IsAt place.now }
+    requires last { place.now.at ≡ place.now.end }
+    requires some { place.now.at < length (text_of place.now) }
+    requires room { steps < length (text_of place.now) }
+    ensures { result ≡ steps + 1 }
+{
+    let _newline = match innermost(stack) {
+        Some(item) => choice_within(place, item),
+        None => choice_in_plain(place, false),
+    };
+    let _length = place.reading.text.len();
+    steps + 1
+}
+
+/// Takes the choice at the newline that ends a line behind which the stack's items go on, the
+/// innermost of which is that of the mode: one step.
 #[inline(always)]
-fn take_newline<'a>(place: &Place<'_, 'a>, mode: Option<Enclosure<'a>>, steps: &mut usize)
+fn take_newline<'a>(
+    place: &Place<'_, 'a>,
+    stack: &[Enclosure<'a>],
+    mode: Option<Enclosure<'a>>,
+    steps: &mut usize,
+)
     requires here { IsAt place.now }
     requires last { place.now.at ≡ place.now.end }
     requires some { place.now.at < length (text_of place.now) }
     requires room { steps.old < length (text_of place.now) }
     ensures { steps.new ≡ steps.old + 1 }
 {
-    let plain = is_plain_byte(place.reading.matchers, mode, b'\n');
-    let _newline = choice_at(place, mode, false, plain, steps);
+    if is_plain_byte(place.reading.matchers, mode, b'\n') {
+        take_byte(place, mode, steps);
+        return;
+    }
+    // a place of its own, so that the walk's stands in no memory
+    let here = Place { ..*place };
+    *steps = choose_at_newline(&here, stack, *steps);
 }
 
-/// Takes the choices from the place that the walk has come to within the item that encloses it, up
-/// to behind its closer or another item's opener, or to the line's end.
+/// Takes the bytes from the place that the walk has come to, which the item encloses, up to where a
+/// choice can begin, and that choice, if the line goes on.
 #[inline(always)]
 fn take_within<'a>(
     part: &Place<'_, 'a>,
@@ -305,25 +336,25 @@ fn take_within<'a>(
         (chain_of stack.new.items) reach.new) }
 {
     let reading = part.reading;
-    let mode = Some(item);
-    while reach.at < part.end {
-        let plain = item_end(reading.matchers, item, reading.text, reach.at, part.end);
-        take_bytes(part, stack, mode, plain, reach);
-        if part.end <= reach.at {
-            return Ok(());
-        }
-        match take_step(part, stack, mode, false, reach)? {
-            Move::On(_) => {}
-            Move::Turn(_) => return Ok(()),
-            Move::Rest | Move::Child => unreachable!(),
-        }
+    let plain = item_end(reading.matchers, item, reading.text, reach.at, part.end);
+    take_bytes(part, stack, Some(item), plain, reach);
+    if part.end <= reach.at {
+        return Ok(());
     }
-    Ok(())
+    let here = Place {
+        at: reach.at,
+        ..*part
+    };
+    let choice = choice_within(&here, item);
+    match take_step(part, stack, choice, reach)? {
+        Move::On(_) | Move::Turn(_) => Ok(()),
+        Move::Rest | Move::Child => unreachable!(),
+    }
 }
 
 /// Takes the bytes of plain text from the place that the walk has come to, up to where a choice or
-/// a child can begin. Where the reading skips, it looks for the part's children ahead. The line
-/// stops at `stop`.
+/// a child can begin, and answers that place. Where the reading skips, it looks for the part's
+/// children ahead. The line stops at `stop`.
 #[inline(always)]
 fn take_plain<'a>(
     part: &Place<'_, 'a>,
@@ -331,7 +362,7 @@ fn take_plain<'a>(
     stack: &[Enclosure<'a>],
     stop: usize,
     reach: &mut Reach,
-)
+) -> usize
     requires plain { innermost (chain_of stack.now) ≡ None }
     requires reached { IsReached part.now (chain_of stack.now) reach.old }
     requires some { reach.old.at < part.now.end }
@@ -340,6 +371,10 @@ fn take_plain<'a>(
     requires searched { search.old ≡ text_of part.now }
     ensures same { search.new ≡ search.old }
     ensures childless { IsChildless part.now reach.new.at reach.new.child }
+    ensures plain_low { reach.old.at ≤ result }
+    ensures plain_high { result ≤ part.now.end }
+    ensures plain { (p : ℕ) → reach.old.at ≤ p → p < result
+        → BeginsNone part.now.reading.now.matchers.now (slice_index (text_of part.now) p) }
     ensures low { reach.old.at ≤ reach.new.at }
     ensures goes_on { GoesOn part.now (chain_of stack.now) reach.old
         (chain_of stack.now) reach.new }
@@ -358,6 +393,21 @@ fn take_plain<'a>(
         end.min(reach.child),
     );
     take_bytes(part, stack, None, plain, reach);
+    plain
+}
+
+/// Up to where no choice can begin at any byte of the part: so it is before `front`, and from the
+/// place `from` to before `plain`.
+#[inline(always)]
+fn front_behind(part: &Place, front: usize, from: usize, plain: usize) -> usize
+    requires front { IsFront part.now front }
+    requires low { from ≤ plain }
+    requires high { plain ≤ part.now.end }
+    requires plain { (p : ℕ) → from ≤ p → p < plain
+        → BeginsNone part.now.reading.now.matchers.now (slice_index (text_of part.now) p) }
+    ensures { IsFront part.now result }
+{
+    if from == front { plain } else { front }
 }
 
 /// Takes the choice at the place of plain text that the walk has come to, and answers whether a
@@ -389,22 +439,26 @@ fn breaks_off<'a>(
         ..*part
     };
     let opens = finds_child(&here, reach.child, search, found);
-    match take_step(part, stack, None, opens, reach)? {
+    let choice = choice_in_plain(&here, opens);
+    match take_step(part, stack, choice, reach)? {
         Move::Child => Ok(true),
         _ => Ok(false),
     }
 }
 
 /// What a part comes to whose line, which stops at `stop`, was walked to its end. It began in an
-/// item of the kind `begun`, or in plain text.
+/// item of the kind `begun`, or in plain text, and at no byte of it before `front` can a choice
+/// begin.
 #[inline(always)]
 fn end_line<'a>(
     part: &Place<'_, 'a>,
     begun: Option<ItemKind>,
+    front: usize,
     stack: &[Enclosure<'a>],
     stop: usize,
     reach: Reach,
 ) -> PartRead
+    requires front { IsFront part.now front }
     requires reached { IsReached part.now (chain_of stack.now) reach }
     requires ended { part.now.end ≤ reach.at }
     requires some { part.now.start < length (text_of part.now) }
@@ -424,9 +478,9 @@ fn end_line<'a>(
             at: reach.at,
             ..*part
         };
-        take_newline(&newline, ended, &mut steps);
+        take_newline(&newline, stack, ended, &mut steps);
     }
-    let class = class_by(part.reading, begun, part.start, stop, ended);
+    let class = class_by(part.reading, begun, part.start, front, stop, stack);
     let end = PartEnd::Line(class, stop);
     PartRead { end, steps }
 }
@@ -454,6 +508,8 @@ pub fn read_part<'a>(
 {
     let begun = kind_of(innermost(stack));
     let stop = line_stop(part.reading.text, part.end);
+    // at no byte of the part before that place can a choice begin
+    let mut front = part.start;
     let mut reach = Reach {
         at: part.start,
         child: part.start,
@@ -464,7 +520,9 @@ pub fn read_part<'a>(
             take_within(part, stack, item, &mut reach)?;
             continue;
         }
-        take_plain(part, search, stack, stop, &mut reach);
+        let from = reach.at;
+        let plain = take_plain(part, search, stack, stop, &mut reach);
+        front = front_behind(part, front, from, plain);
         if part.end <= reach.at {
             continue;
         }
@@ -474,5 +532,5 @@ pub fn read_part<'a>(
             return Ok(PartRead { end, steps });
         }
     }
-    Ok(end_line(part, begun, stack, stop, reach))
+    Ok(end_line(part, begun, front, stack, stop, reach))
 }

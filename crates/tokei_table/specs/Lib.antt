@@ -25,5 +25,6 @@ pub use Rattle.tokei_table_rules.specs.declared.family.Family
 pub mod Flaws
 pub mod Listed
 pub mod Outcome
+pub mod ReadErrors
 pub mod TableLaws
 pub mod WellFormed

@@ -2,6 +2,7 @@
 
 use std::alloc::{AllocError, AllocFailed};
 use thiserror::Error;
+use tokei_json_tree::ReadError;
 
 /// Why a table is refused. Of the causes that apply the first in this order is answered, but
 /// `Memory` may come before any.
@@ -52,5 +53,19 @@ impl From<AllocError> for TableError {
 
     fn from(_refused: AllocError) -> TableError {
         TableError::Memory
+    }
+}
+
+impl From<ReadError> for TableError {
+    ghost use Rattle.tokei_table.specs.ReadErrors.{table_error};
+    ghost use Rattle.std.specs.Prelude.{◌≡◌};
+
+    ghost from_gives = { λ refused e. e ≡ table_error refused };
+
+    fn from(refused: ReadError) -> TableError {
+        match refused {
+            ReadError::NotJson => TableError::NotJson,
+            ReadError::Memory => TableError::Memory,
+        }
     }
 }

@@ -1,17 +1,21 @@
 //! Where the text of a refused table goes wrong.
 ghost use Rattle.std.specs.Prelude.{◌≡◌, Err, map, string_bytes, IfOk, IfSome};
-ghost use Rattle.serde_json.specs.View.{view};
-ghost use Rattle.tokei_table.specs.Flaws.{TellsToken, rows_in, rows_in_value};
-ghost use Rattle.tokei_table.specs.Outcome.{outcome, outcome_of_value, tested};
+ghost use Rattle.json.specs.Value.{value_view};
+ghost use Rattle.serde_json.specs.Read.{read as read_text};
+ghost use Rattle.serde_json.specs.Written.{has_float};
+ghost use Rattle.tokei_json_tree.specs.Ordered.{IsOrdered};
+ghost use Rattle.tokei_json_tree.specs.TreeData.{data_of as tree_data};
+ghost use Rattle.tokei_table.specs.Flaws.{TellsToken, rows_in, rows_in_data, rows_in_value};
+ghost use Rattle.tokei_table.specs.Outcome.{outcome, outcome_of, outcome_of_value, tested};
 ghost use Rattle.tokei_table_row.specs.RowOf.{row_of};
 ghost use Rattle.tokei_table.specs.declared.error.TableError.TheVariants.{Layout, Escape, Token};
 ghost use Rattle.tokei_table.specs.declared.error.TableError.TheVariants.{NamedTwice, NamedTotal, Fallback};
 
 use crate::error::TableError;
-use crate::table::data;
-use serde_json::Value;
+use crate::table::text_of;
 use std::alloc::{AllocError, Global};
 use std::fmt;
+use tokei_json_tree::{ReadError, Reading, Room, Tree, read};
 use tokei_table_json::{
     has_layout, is_escaped_table, misescaped_language, rows_of, unfit_language,
 };
@@ -130,26 +134,18 @@ fn misfit(
     }
 }
 
-fn layout_flaw(alloc: Global, value: &Value) -> Result<Option<TableFlaw>, AllocError>
+fn layout_flaw(alloc: Global, table: &Tree<'_>) -> Result<Option<TableFlaw>, AllocError>
+    requires { IsOrdered (value_view table.now) }
     ensures { IfOk result (λ o. IfSome o (λ f. f.cause ≡ Layout)) }
 {
-    match value.get("languages") {
-        Some(Value::Object(languages)) => {
-            misfit(alloc, TableError::Layout, unfit_language(languages))
-        }
-        _ => Ok(None),
-    }
+    misfit(alloc, TableError::Layout, unfit_language(table))
 }
 
-fn escape_flaw(alloc: Global, value: &Value) -> Result<Option<TableFlaw>, AllocError>
+fn escape_flaw(alloc: Global, table: &Tree<'_>) -> Result<Option<TableFlaw>, AllocError>
+    requires { IsOrdered (value_view table.now) }
     ensures { IfOk result (λ o. IfSome o (λ f. f.cause ≡ Escape)) }
 {
-    match value.get("languages") {
-        Some(Value::Object(languages)) => {
-            misfit(alloc, TableError::Escape, misescaped_language(languages))
-        }
-        _ => Ok(None),
-    }
+    misfit(alloc, TableError::Escape, misescaped_language(table))
 }
 
 fn token_flaw(alloc: Global, rows: &[Syntax]) -> Result<Option<TableFlaw>, AllocError>
@@ -230,21 +226,39 @@ fn row_flaw(alloc: Global, rows: &[Syntax]) -> Result<Option<TableFlaw>, AllocEr
     Ok(None)
 }
 
-/// What of a JSON value keeps it from being a table.
-#[tactic(auto, unfolding(crate::specs::Outcome::outcome_of_value))]
-fn value_flaw(alloc: Global, value: Value) -> Result<Option<TableFlaw>, AllocError>
-    ensures cause { IfOk result
-        (λ o. IfSome o (λ f. outcome_of_value (view value) ≡ Err f.cause)) }
-    ensures token { IfOk result (λ o. IfSome o (TellsToken (rows_in_value (view value)))) }
+/// What of a text's JSON keeps it from being a table.
+#[tactic(auto, unfolding(crate::specs::Outcome::outcome_of_value, tokei_table_json::specs::Layout::has_layout))]
+fn reading_flaw(alloc: Global, read: &Reading<'_>) -> Result<Option<TableFlaw>, AllocError>
+    requires ordered { IsOrdered (value_view read.now.tree) }
+    requires fraction { read.now.has_fraction ≡ has_float (tree_data (value_view read.now.tree)) }
+    ensures cause { IfOk result (λ o. IfSome o
+        (λ f. outcome_of_value (tree_data (value_view read.now.tree)) ≡ Err f.cause)) }
+    ensures token { IfOk result
+        (λ o. IfSome o (TellsToken (rows_in_value (tree_data (value_view read.now.tree))))) }
 {
-    if !has_layout(&value) {
-        return layout_flaw(alloc, &value);
+    if read.has_fraction || !has_layout(&read.tree) {
+        return layout_flaw(alloc, &read.tree);
     }
-    if !is_escaped_table(value.get("languages")) {
-        return escape_flaw(alloc, &value);
+    if !is_escaped_table(&read.tree) {
+        return escape_flaw(alloc, &read.tree);
     }
-    let rows = rows_of(alloc, value)?;
+    let rows = rows_of(alloc, &read.tree)?;
     row_flaw(alloc, &rows)
+}
+
+/// What of a text keeps it from being a table.
+fn text_flaw(alloc: Global, text: &str) -> Result<Option<TableFlaw>, AllocError>
+    ensures cause { IfOk result
+        (λ o. IfSome o (λ f. outcome_of (read_text text.now) ≡ Err f.cause)) }
+    ensures token { IfOk result
+        (λ o. IfSome o (TellsToken (rows_in_data (read_text text.now)))) }
+{
+    let mut room = Room::new(alloc);
+    match read(alloc, &mut room, text) {
+        Ok(read) => reading_flaw(alloc, &read),
+        Err(ReadError::Memory) => Err(AllocError),
+        Err(ReadError::NotJson) => Ok(None),
+    }
 }
 
 impl TableFlaw {
@@ -255,9 +269,8 @@ impl TableFlaw {
         ensures cause { IfOk result (λ o. IfSome o (λ f. outcome bytes.now ≡ Err f.cause)) }
         ensures token { IfOk result (λ o. IfSome o (TellsToken (rows_in bytes.now))) }
     {
-        match data(alloc, bytes) {
-            Ok(value) => value_flaw(alloc, value),
-            Err(TableError::Memory) => Err(AllocError),
+        match text_of(bytes) {
+            Ok(text) => text_flaw(alloc, text),
             Err(_) => Ok(None),
         }
     }

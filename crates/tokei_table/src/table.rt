@@ -1,10 +1,14 @@
 //! The table of languages.
 ghost use Rattle.std.specs.Prelude.{◌≡◌, ◌≢◌, ◌<◌, ◌==◌, Ok, Err, Some, None, length, map, nat_lt, true};
 ghost use Rattle.std.specs.Prelude.{IfOk, OnOk, MatchResult};
-ghost use Rattle.serde_json.specs.View.{view};
+ghost use Rattle.json.specs.Value.{value_view};
+ghost use Rattle.serde_json.specs.Read.{read as read_text};
+ghost use Rattle.serde_json.specs.Written.{has_float};
+ghost use Rattle.tokei_json_tree.specs.Ordered.{IsOrdered};
+ghost use Rattle.tokei_json_tree.specs.TreeData.{data_of as tree_data};
 ghost use Rattle.tokei_table_rules.specs.Extended.{addition_of, extended};
 ghost use Rattle.tokei_table_json.specs.KeyOrder.{IsInKeyOrder};
-ghost use Rattle.tokei_table.specs.Outcome.{data_of, outcome, outcome_of_value, tested};
+ghost use Rattle.tokei_table.specs.Outcome.{data_of, outcome, outcome_of, outcome_of_value, tested};
 ghost use Rattle.tokei_table_rules.specs.Tokens.{has_tokens};
 ghost use Rattle.tokei_table.specs.WellFormed.{IsWellFormed};
 ghost use Rattle.tokei_table_row.specs.Sound.{IsSound};
@@ -16,10 +20,10 @@ ghost use Rattle.tokei_table.specs.declared.error.TableError.TheVariants.{Memory
 use crate::error::TableError;
 use crate::extend::extended_rows;
 use crate::language_type::LanguageType;
-use serde_json::Value;
 use std::alloc::{AllocError, Global};
 use std::marker::Model;
 use std::rc::Rc;
+use tokei_json_tree::{Reading, Room, read};
 use tokei_table_json::{has_layout, is_escaped_table, rows_of};
 use tokei_table_row::Syntax;
 use tokei_table_rules::IndexedRows;
@@ -45,39 +49,46 @@ impl Model for LanguageTable {
     ghost invariant = { λ t. IsWellFormed t.rows.value };
 }
 
-#[tactic(auto, unfolding(crate::specs::Outcome::data_of))]
-pub(crate) fn data(alloc: Global, bytes: &[u8]) -> Result<Value, TableError>
-    ensures { result ≢ Err MemoryFault → MatchResult result (λ v. data_of bytes.now ≡ Some (view v))
+/// The text of a table's bytes.
+pub(crate) fn text_of(bytes: &[u8]) -> Result<&str, TableError>
+    ensures { MatchResult result (λ s. data_of bytes.now ≡ read_text s.now)
         (λ e. (e ≡ NotJsonFault) × (data_of bytes.now ≡ None)) }
 {
     match std::str::from_utf8(bytes) {
-        Ok(text) => match Value::from_str(alloc, text) {
-            Ok(value) => Ok(value),
-            Err(e) => if e.is_memory() {
-                Err(TableError::Memory)
-            } else {
-                Err(TableError::NotJson)
-            },
-        },
+        Ok(text) => Ok(text),
         Err(_) => Err(TableError::NotJson),
     }
 }
 
-/// The rows of a table's JSON value, in the order of their keys.
-#[tactic(auto, unfolding(crate::specs::Outcome::outcome_of_value))]
-fn rows_in(alloc: Global, value: Value) -> Result<Vec<Syntax>, TableError>
-    ensures value { result ≢ Err MemoryFault
-        → MatchResult result (λ v. outcome_of_value (view value) ≡ tested (map row_of v.items))
-        (λ e. outcome_of_value (view value) ≡ Err e) }
+/// The rows of a table's JSON, in the order of their keys.
+#[tactic(auto, unfolding(crate::specs::Outcome::outcome_of_value, tokei_table_json::specs::Layout::has_layout))]
+fn rows_in(alloc: Global, read: &Reading<'_>) -> Result<Vec<Syntax>, TableError>
+    requires ordered { IsOrdered (value_view read.now.tree) }
+    requires fraction { read.now.has_fraction ≡ has_float (tree_data (value_view read.now.tree)) }
+    ensures value { result ≢ Err MemoryFault → MatchResult result
+        (λ v. outcome_of_value (tree_data (value_view read.now.tree)) ≡ tested (map row_of v.items))
+        (λ e. outcome_of_value (tree_data (value_view read.now.tree)) ≡ Err e) }
     ensures ordered { IfOk result (λ v. IsInKeyOrder (map row_of v.items)) }
 {
-    if !has_layout(&value) {
+    if read.has_fraction || !has_layout(&read.tree) {
         return Err(TableError::Layout);
     }
-    if !is_escaped_table(value.get("languages")) {
+    if !is_escaped_table(&read.tree) {
         return Err(TableError::Escape);
     }
-    Ok(rows_of(alloc, value)?)
+    Ok(rows_of(alloc, &read.tree)?)
+}
+
+/// The rows of a table's text, in the order of their keys.
+fn rows_of_text(alloc: Global, text: &str) -> Result<Vec<Syntax>, TableError>
+    ensures value { result ≢ Err MemoryFault → MatchResult result
+        (λ v. outcome_of (read_text text.now) ≡ tested (map row_of v.items))
+        (λ e. outcome_of (read_text text.now) ≡ Err e) }
+    ensures ordered { IfOk result (λ v. IsInKeyOrder (map row_of v.items)) }
+{
+    let mut room = Room::new(alloc);
+    let read = read(alloc, &mut room, text)?;
+    rows_in(alloc, &read)
 }
 
 /// Tests whether rows in the order of their keys can be counted with.
@@ -119,8 +130,7 @@ impl LanguageTable {
     pub fn from_json(alloc: Global, bytes: &[u8]) -> Result<LanguageTable, TableError>
         ensures { result ≢ Err MemoryFault → result ≡ outcome bytes.now }
     {
-        let value = data(alloc, bytes)?;
-        let rows = rows_in(alloc, value)?;
+        let rows = rows_of_text(alloc, text_of(bytes)?)?;
         test(alloc, &rows)?;
         Ok(indexed(alloc, rows)?)
     }

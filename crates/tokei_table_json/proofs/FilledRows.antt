@@ -1,15 +1,13 @@
 -- A row into which the members of an object were read, one after the other, has what stands at each key.
-use Rattle.std.proofs.Common.{◌≡◌, ℕ, List, [], ◌∷◌, Bool, true, false, cond, Option, Some, None, bytes_eq, codes, string_bytes}
+use Rattle.std.proofs.Common.{◌≡◌, ℕ, List, [], Bool, true, false, cond, Option, Some, None, bytes_eq, codes}
 use Rattle.std.proofs.Common.{refl, sym, ap, ◌∙◌}
 use Rattle.serde_json.specs.Data.{Data, null, boolean, number, string, array, object, Members, no_members, member}
 use Rattle.serde_json.specs.Find.{get_member}
-use Rattle.serde_json.specs.View.{view, members_view}
 use Rattle.tokei_table_json.specs.Filled.{put_name, put_text, put_truth, put_texts, put_pairs, put_tags, put_at}
 use Rattle.tokei_table_json.specs.Filled.{with_member, filled}
-use Rattle.tokei_table_json.specs.KeyOrder.{AreInOrder}
 use Rattle.tokei_table_json.specs.Layout.{is_html_kind}
 use Rattle.tokei_table_json.specs.Rows.{text_of, text_at, kind_at, texts_at, pairs_at, truth_at, tags_at, name_or, row_in}
-use Rattle.tokei_table_json.proofs.MembersOnce.{Entry, Others, others_behind, order_behind, found_here, found_behind}
+use Rattle.tokei_table_json.proofs.MembersOnce.{AreInOrder, Others, others_behind, order_behind, found_here, found_behind}
 use Rattle.tokei_table_row.specs.NewRow.{new_row}
 use Rattle.tokei_table_row.specs.Row.{Pair, Row}
 
@@ -18,30 +16,29 @@ abbrev pick : {X : Type 0} (c : List ℕ) (put : X → Data → X) → X → Mem
 pick c put x no_members = x
 pick c put x (member k d ms) = pick c put (put_at c put k d x) ms
 
-pick_none : {X : Type 0} (c : List ℕ) (put : X → Data → X) (x : X) (es : List Entry) → Others c es
-    → pick c put x (members_view es) ≡ x
-pick_none c put x [] h = refl
-pick_none c put x (e ∷ es) h =
-    ap (λ b. pick c put (cond b (put x (view e.1)) x) (members_view es)) h.0 ∙ pick_none c put x es h.1
+pick_none : {X : Type 0} (c : List ℕ) (put : X → Data → X) (x : X) (ms : Members) → Others c ms
+    → pick c put x ms ≡ x
+pick_none c put x no_members h = refl
+pick_none c put x (member k d ms) h =
+    ap (λ b. pick c put (cond b (put x d) x) ms) h.0 ∙ pick_none c put x ms h.1
 
 module _ {X : Type 0} (c : List ℕ) (put : X → Data → X) (g : Option Data → X)
     (same : (d : Data) → put (g None) d ≡ g (Some d)) where
-  one_more : (e : Entry) (es : List Entry) → AreInOrder (e ∷ es)
-      → pick c put (g None) (members_view es) ≡ g (get_member c (members_view es))
-      → (b : Bool) → bytes_eq (string_bytes e.0) c ≡ b
-      → pick c put (g None) (members_view (e ∷ es)) ≡ g (get_member c (members_view (e ∷ es)))
-  one_more e es s later true b =
-      ap (λ t. pick c put (cond t (put (g None) (view e.1)) (g None)) (members_view es)) b
-      ∙ pick_none c put (put (g None) (view e.1)) es (others_behind e es c s b)
-      ∙ same (view e.1) ∙ ap g (sym (found_here c e es b))
-  one_more e es s later false b =
-      ap (λ t. pick c put (cond t (put (g None) (view e.1)) (g None)) (members_view es)) b
-      ∙ later ∙ ap g (sym (found_behind c e es b))
+  one_more : (k : List ℕ) (d : Data) (ms : Members) → AreInOrder (member k d ms)
+      → pick c put (g None) ms ≡ g (get_member c ms)
+      → (b : Bool) → bytes_eq k c ≡ b
+      → pick c put (g None) (member k d ms) ≡ g (get_member c (member k d ms))
+  one_more k d ms s later true b =
+      ap (λ t. pick c put (cond t (put (g None) d) (g None)) ms) b
+      ∙ pick_none c put (put (g None) d) ms (others_behind c k d ms s b)
+      ∙ same d ∙ ap g (sym (found_here c k d ms b))
+  one_more k d ms s later false b =
+      ap (λ t. pick c put (cond t (put (g None) d) (g None)) ms) b
+      ∙ later ∙ ap g (sym (found_behind c k d ms b))
 
-  picked : (es : List Entry) → AreInOrder es
-      → pick c put (g None) (members_view es) ≡ g (get_member c (members_view es))
-  picked [] s = refl
-  picked (e ∷ es) s = one_more e es s (picked es (order_behind e es s)) (bytes_eq (string_bytes e.0) c) refl
+  picked : (ms : Members) → AreInOrder ms → pick c put (g None) ms ≡ g (get_member c ms)
+  picked no_members s = refl
+  picked (member k d ms) s = one_more k d ms s (picked ms (order_behind k d ms s)) (bytes_eq k c) refl
 
 abbrev picked_row : Bool → Members → Row → Row
 picked_row html ms r = record {
@@ -137,12 +134,10 @@ same_made : (key : List ℕ) (a0 b0 : List ℕ) (a1 b1 : List ℕ) (a2 b2 : List
 same_made key a0 b0 a1 b1 a2 b2 a3 b3 a4 b4 a5 b5 a6 b6 a7 b7 a8 b8 a9 b9 a10 b10 a11 b11 a12 b12 a13 b13 a14 b14 a15 b15 a16 b16 a17 b17 a18 b18 e0
     e1 e2 e3 e4 e5 e6 e7 e8 e9 e10 e11 e12 e13 e14 e15 e16 e17 e18 = cc
 
-pub row_of_members : (key : List ℕ) (es : List Entry) → AreInOrder es
-    → filled (is_html_kind (get_member (codes "kind") (members_view es))) (members_view es) (new_row key)
-    ≡ row_in key (object (members_view es))
+pub row_of_members : (key : List ℕ) (ms : Members) → AreInOrder ms
+    → filled (is_html_kind (get_member (codes "kind") ms)) ms (new_row key) ≡ row_in key (object ms)
 unfolding row_in made
-row_of_members key es s =
-    let ms = members_view es in
+row_of_members key ms s =
     let html = is_html_kind (get_member (codes "kind") ms) in
     each_picked html ms (new_row key)
     ∙ same_made key
@@ -165,26 +160,26 @@ row_of_members key es s =
     _ _
     _ _
     _ _
-    (picked (codes "name") put_name (λ o. name_or key (text_at o)) (name_same key) es s)
-    (picked (codes "kind") put_text (kind_at) (kind_same) es s)
-    (picked (codes "line_comment") put_texts (texts_at) (texts_same) es s)
-    (picked (codes "multi_line_comments") put_pairs (pairs_at) (pairs_same) es s)
-    (picked (codes "nested") put_truth (truth_at) (truth_same) es s)
-    (picked (codes "nested_comments") put_pairs (pairs_at) (pairs_same) es s)
-    (picked (codes "quotes") put_pairs (pairs_at) (pairs_same) es s)
-    (picked (codes "verbatim_quotes") put_pairs (pairs_at) (pairs_same) es s)
-    (picked (codes "doc_quotes") put_pairs (pairs_at) (pairs_same) es s)
-    (picked (codes "literate") put_truth (truth_at) (truth_same) es s)
-    (picked (codes "blank") put_truth (truth_at) (truth_same) es s)
-    (picked (codes "important_syntax") put_texts (texts_at) (texts_same) es s)
-    (picked (codes "extensions") put_texts (texts_at) (texts_same) es s)
-    (picked (codes "filenames") put_texts (texts_at) (texts_same) es s)
-    (picked (codes "path_suffixes") put_texts (texts_at) (texts_same) es s)
-    (picked (codes "mime") put_texts (texts_at) (texts_same) es s)
-    (picked (codes "shebangs") put_texts (texts_at) (texts_same) es s)
-    (picked (codes "env") put_texts (texts_at) (texts_same) es s)
+    (picked (codes "name") put_name (λ o. name_or key (text_at o)) (name_same key) ms s)
+    (picked (codes "kind") put_text (kind_at) (kind_same) ms s)
+    (picked (codes "line_comment") put_texts (texts_at) (texts_same) ms s)
+    (picked (codes "multi_line_comments") put_pairs (pairs_at) (pairs_same) ms s)
+    (picked (codes "nested") put_truth (truth_at) (truth_same) ms s)
+    (picked (codes "nested_comments") put_pairs (pairs_at) (pairs_same) ms s)
+    (picked (codes "quotes") put_pairs (pairs_at) (pairs_same) ms s)
+    (picked (codes "verbatim_quotes") put_pairs (pairs_at) (pairs_same) ms s)
+    (picked (codes "doc_quotes") put_pairs (pairs_at) (pairs_same) ms s)
+    (picked (codes "literate") put_truth (truth_at) (truth_same) ms s)
+    (picked (codes "blank") put_truth (truth_at) (truth_same) ms s)
+    (picked (codes "important_syntax") put_texts (texts_at) (texts_same) ms s)
+    (picked (codes "extensions") put_texts (texts_at) (texts_same) ms s)
+    (picked (codes "filenames") put_texts (texts_at) (texts_same) ms s)
+    (picked (codes "path_suffixes") put_texts (texts_at) (texts_same) ms s)
+    (picked (codes "mime") put_texts (texts_at) (texts_same) ms s)
+    (picked (codes "shebangs") put_texts (texts_at) (texts_same) ms s)
+    (picked (codes "env") put_texts (texts_at) (texts_same) ms s)
     (ap (λ x. pick (codes "contexts") (put_tags html) x ms) (no_tags html)
-    ∙ picked (codes "contexts") (put_tags html) (tags_at html) (tags_same html) es s)
+    ∙ picked (codes "contexts") (put_tags html) (tags_at html) (tags_same html) ms s)
 
 pub no_members_row : (key : List ℕ) (d : Data) → ((ms : Members) → d ≡ object ms → ⊥) → new_row key ≡ row_in key d
 unfolding row_in

@@ -6,5 +6,6 @@ pub mod MemberKeys
 pub mod MemberTests
 pub mod MembersOnce
 pub mod NoPairs
+pub mod NumberData
 pub mod Pairs
 pub mod RowKinds

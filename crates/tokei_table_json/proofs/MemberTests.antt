@@ -1,16 +1,14 @@
 -- A language's layout and its escapes, asked of one member after the other.
-use Rattle.std.proofs.Common.{◌≡◌, List, Bool, true, false, ◌&&◌, ◌||◌, not, cond, bytes_eq, codes, Option, Some, None, refl, ap, ◌∙◌}
-use Rattle.serde_json.specs.Data.{Data, object}
+use Rattle.std.proofs.Common.{◌≡◌, Bool, true, false, ◌&&◌, ◌||◌, not, cond, bytes_eq, codes, Option, Some, None, refl, ap, ◌∙◌}
+use Rattle.serde_json.specs.Data.{Data, Members, object}
 use Rattle.serde_json.specs.Find.{get_member}
-use Rattle.serde_json.specs.View.{members_view}
 use Rattle.tokei_table_json.specs.Escaped.{is_escaped_value, is_escaped_list, are_escaped_pairs, are_escaped_contexts}
 use Rattle.tokei_table_json.specs.Escaped.{has_escaped_tokens, has_escaped_finders, has_escaped_traits, is_escaped_language}
-use Rattle.tokei_table_json.specs.KeyOrder.{AreInOrder}
 use Rattle.tokei_table_json.specs.Layout.{absent_or, is_text, is_truth_value, is_list, is_text_pair, is_context}
 use Rattle.tokei_table_json.specs.Layout.{has_comments, has_literals, has_finders, has_traits, is_language, is_html_kind}
 use Rattle.tokei_table_json.specs.MemberEscapes.{keeps_tokens, keeps_finders, keeps_traits, keeps_escapes}
 use Rattle.tokei_table_json.specs.MemberLayout.{all_members, fits_comments, fits_literals, fits_finders, fits_traits, fits}
-use Rattle.tokei_table_json.proofs.MembersOnce.{Entry, at_key, last_key, all_both}
+use Rattle.tokei_table_json.proofs.MembersOnce.{AreInOrder, at_key, last_key, all_both}
 
 -- the same tests, joined from the left
 regroup3 : (a b c : Bool) → (a && (b && c)) ≡ ((a && b) && c)
@@ -29,180 +27,179 @@ regroup6 : (a b c d e f : Bool) → (a && (b && (c && (d && (e && f))))) ≡ (((
 regroup6 true b c d e f = regroup5 b c d e f
 regroup6 false b c d e f = refl
 
-pub comments_fit : (es : List Entry) → AreInOrder es → all_members fits_comments (members_view es)
-    ≡ has_comments (object (members_view es))
+pub comments_fit : (ms : Members) → AreInOrder ms → all_members fits_comments ms
+    ≡ has_comments (object ms)
 unfolding has_comments
-comments_fit es s =
+comments_fit ms s =
     at_key (codes "line_comment") (is_list is_text) (λ k d. cond (bytes_eq k (codes "multi_line_comments")) (is_list is_text_pair d)
     (cond (bytes_eq k (codes "nested")) (is_truth_value d) (cond (bytes_eq k (codes "nested_comments")) (is_list is_text_pair d) true)))
-    (λ d. refl) es s
-    ∙ ap (λ b. absent_or (is_list is_text) (get_member (codes "line_comment") (members_view es)) && b)
+    (λ d. refl) ms s
+    ∙ ap (λ b. absent_or (is_list is_text) (get_member (codes "line_comment") ms) && b)
     (at_key (codes "multi_line_comments") (is_list is_text_pair)
     (λ k d. cond (bytes_eq k (codes "nested")) (is_truth_value d) (cond (bytes_eq k (codes "nested_comments")) (is_list is_text_pair d) true))
-    (λ d. refl) es s
-    ∙ ap (λ b. absent_or (is_list is_text_pair) (get_member (codes "multi_line_comments") (members_view es)) && b)
-    (at_key (codes "nested") (is_truth_value) (λ k d. cond (bytes_eq k (codes "nested_comments")) (is_list is_text_pair d) true) (λ d. refl) es
+    (λ d. refl) ms s
+    ∙ ap (λ b. absent_or (is_list is_text_pair) (get_member (codes "multi_line_comments") ms) && b)
+    (at_key (codes "nested") (is_truth_value) (λ k d. cond (bytes_eq k (codes "nested_comments")) (is_list is_text_pair d) true) (λ d. refl) ms
     s
-    ∙ ap (λ b. absent_or (is_truth_value) (get_member (codes "nested") (members_view es)) && b) (last_key (codes "nested_comments") (is_list is_text_pair) es s)))
-    ∙ regroup4 (absent_or (is_list is_text) (get_member (codes "line_comment") (members_view es)))
-    (absent_or (is_list is_text_pair) (get_member (codes "multi_line_comments") (members_view es)))
-    (absent_or (is_truth_value) (get_member (codes "nested") (members_view es)))
-    (absent_or (is_list is_text_pair) (get_member (codes "nested_comments") (members_view es)))
+    ∙ ap (λ b. absent_or (is_truth_value) (get_member (codes "nested") ms) && b) (last_key (codes "nested_comments") (is_list is_text_pair) ms s)))
+    ∙ regroup4 (absent_or (is_list is_text) (get_member (codes "line_comment") ms))
+    (absent_or (is_list is_text_pair) (get_member (codes "multi_line_comments") ms))
+    (absent_or (is_truth_value) (get_member (codes "nested") ms))
+    (absent_or (is_list is_text_pair) (get_member (codes "nested_comments") ms))
 
-pub literals_fit : (es : List Entry) → AreInOrder es → all_members fits_literals (members_view es)
-    ≡ has_literals (object (members_view es))
+pub literals_fit : (ms : Members) → AreInOrder ms → all_members fits_literals ms
+    ≡ has_literals (object ms)
 unfolding has_literals
-literals_fit es s =
+literals_fit ms s =
     at_key (codes "quotes") (is_list is_text_pair) (λ k d. cond (bytes_eq k (codes "verbatim_quotes")) (is_list is_text_pair d)
-    (cond (bytes_eq k (codes "doc_quotes")) (is_list is_text_pair d) true)) (λ d. refl) es s
-    ∙ ap (λ b. absent_or (is_list is_text_pair) (get_member (codes "quotes") (members_view es)) && b)
+    (cond (bytes_eq k (codes "doc_quotes")) (is_list is_text_pair d) true)) (λ d. refl) ms s
+    ∙ ap (λ b. absent_or (is_list is_text_pair) (get_member (codes "quotes") ms) && b)
     (at_key (codes "verbatim_quotes") (is_list is_text_pair) (λ k d. cond (bytes_eq k (codes "doc_quotes")) (is_list is_text_pair d) true)
-    (λ d. refl) es s
-    ∙ ap (λ b. absent_or (is_list is_text_pair) (get_member (codes "verbatim_quotes") (members_view es)) && b) (last_key (codes "doc_quotes") (is_list is_text_pair) es s))
-    ∙ regroup3 (absent_or (is_list is_text_pair) (get_member (codes "quotes") (members_view es)))
-    (absent_or (is_list is_text_pair) (get_member (codes "verbatim_quotes") (members_view es)))
-    (absent_or (is_list is_text_pair) (get_member (codes "doc_quotes") (members_view es)))
+    (λ d. refl) ms s
+    ∙ ap (λ b. absent_or (is_list is_text_pair) (get_member (codes "verbatim_quotes") ms) && b) (last_key (codes "doc_quotes") (is_list is_text_pair) ms s))
+    ∙ regroup3 (absent_or (is_list is_text_pair) (get_member (codes "quotes") ms))
+    (absent_or (is_list is_text_pair) (get_member (codes "verbatim_quotes") ms))
+    (absent_or (is_list is_text_pair) (get_member (codes "doc_quotes") ms))
 
-pub finders_fit : (es : List Entry) → AreInOrder es → all_members fits_finders (members_view es)
-    ≡ has_finders (object (members_view es))
+pub finders_fit : (ms : Members) → AreInOrder ms → all_members fits_finders ms
+    ≡ has_finders (object ms)
 unfolding has_finders
-finders_fit es s =
+finders_fit ms s =
     at_key (codes "extensions") (is_list is_text) (λ k d. cond (bytes_eq k (codes "filenames")) (is_list is_text d)
     (cond (bytes_eq k (codes "path_suffixes")) (is_list is_text d)
     (cond (bytes_eq k (codes "mime")) (is_list is_text d)
-    (cond (bytes_eq k (codes "shebangs")) (is_list is_text d) (cond (bytes_eq k (codes "env")) (is_list is_text d) true))))) (λ d. refl) es s
-    ∙ ap (λ b. absent_or (is_list is_text) (get_member (codes "extensions") (members_view es)) && b)
+    (cond (bytes_eq k (codes "shebangs")) (is_list is_text d) (cond (bytes_eq k (codes "env")) (is_list is_text d) true))))) (λ d. refl) ms s
+    ∙ ap (λ b. absent_or (is_list is_text) (get_member (codes "extensions") ms) && b)
     (at_key (codes "filenames") (is_list is_text) (λ k d. cond (bytes_eq k (codes "path_suffixes")) (is_list is_text d)
     (cond (bytes_eq k (codes "mime")) (is_list is_text d)
-    (cond (bytes_eq k (codes "shebangs")) (is_list is_text d) (cond (bytes_eq k (codes "env")) (is_list is_text d) true)))) (λ d. refl) es s
-    ∙ ap (λ b. absent_or (is_list is_text) (get_member (codes "filenames") (members_view es)) && b)
+    (cond (bytes_eq k (codes "shebangs")) (is_list is_text d) (cond (bytes_eq k (codes "env")) (is_list is_text d) true)))) (λ d. refl) ms s
+    ∙ ap (λ b. absent_or (is_list is_text) (get_member (codes "filenames") ms) && b)
     (at_key (codes "path_suffixes") (is_list is_text) (λ k d. cond (bytes_eq k (codes "mime")) (is_list is_text d)
-    (cond (bytes_eq k (codes "shebangs")) (is_list is_text d) (cond (bytes_eq k (codes "env")) (is_list is_text d) true))) (λ d. refl) es s
-    ∙ ap (λ b. absent_or (is_list is_text) (get_member (codes "path_suffixes") (members_view es)) && b)
+    (cond (bytes_eq k (codes "shebangs")) (is_list is_text d) (cond (bytes_eq k (codes "env")) (is_list is_text d) true))) (λ d. refl) ms s
+    ∙ ap (λ b. absent_or (is_list is_text) (get_member (codes "path_suffixes") ms) && b)
     (at_key (codes "mime") (is_list is_text) (λ k d. cond (bytes_eq k (codes "shebangs")) (is_list is_text d)
-    (cond (bytes_eq k (codes "env")) (is_list is_text d) true)) (λ d. refl) es s
-    ∙ ap (λ b. absent_or (is_list is_text) (get_member (codes "mime") (members_view es)) && b)
-    (at_key (codes "shebangs") (is_list is_text) (λ k d. cond (bytes_eq k (codes "env")) (is_list is_text d) true) (λ d. refl) es s
-    ∙ ap (λ b. absent_or (is_list is_text) (get_member (codes "shebangs") (members_view es)) && b) (last_key (codes "env") (is_list is_text) es s)))))
-    ∙ regroup6 (absent_or (is_list is_text) (get_member (codes "extensions") (members_view es)))
-    (absent_or (is_list is_text) (get_member (codes "filenames") (members_view es)))
-    (absent_or (is_list is_text) (get_member (codes "path_suffixes") (members_view es)))
-    (absent_or (is_list is_text) (get_member (codes "mime") (members_view es)))
-    (absent_or (is_list is_text) (get_member (codes "shebangs") (members_view es)))
-    (absent_or (is_list is_text) (get_member (codes "env") (members_view es)))
+    (cond (bytes_eq k (codes "env")) (is_list is_text d) true)) (λ d. refl) ms s
+    ∙ ap (λ b. absent_or (is_list is_text) (get_member (codes "mime") ms) && b)
+    (at_key (codes "shebangs") (is_list is_text) (λ k d. cond (bytes_eq k (codes "env")) (is_list is_text d) true) (λ d. refl) ms s
+    ∙ ap (λ b. absent_or (is_list is_text) (get_member (codes "shebangs") ms) && b) (last_key (codes "env") (is_list is_text) ms s)))))
+    ∙ regroup6 (absent_or (is_list is_text) (get_member (codes "extensions") ms))
+    (absent_or (is_list is_text) (get_member (codes "filenames") ms))
+    (absent_or (is_list is_text) (get_member (codes "path_suffixes") ms))
+    (absent_or (is_list is_text) (get_member (codes "mime") ms))
+    (absent_or (is_list is_text) (get_member (codes "shebangs") ms))
+    (absent_or (is_list is_text) (get_member (codes "env") ms))
 
-pub traits_fit : (es : List Entry) → AreInOrder es → all_members (fits_traits (is_html_kind (get_member (codes "kind") (members_view es)))) (members_view es)
-    ≡ has_traits (object (members_view es))
+pub traits_fit : (ms : Members) → AreInOrder ms → all_members (fits_traits (is_html_kind (get_member (codes "kind") ms))) ms
+    ≡ has_traits (object ms)
 unfolding has_traits
-traits_fit es s =
-    let html = is_html_kind (get_member (codes "kind") (members_view es)) in
+traits_fit ms s =
+    let html = is_html_kind (get_member (codes "kind") ms) in
     at_key (codes "name") (is_text) (λ k d. cond (bytes_eq k (codes "kind")) (is_text d)
     (cond (bytes_eq k (codes "literate")) (is_truth_value d)
     (cond (bytes_eq k (codes "blank")) (is_truth_value d)
     (cond (bytes_eq k (codes "important_syntax")) (is_list is_text d)
-    (cond (bytes_eq k (codes "contexts")) (is_list (is_context html) d) true))))) (λ d. refl) es s
-    ∙ ap (λ b. absent_or (is_text) (get_member (codes "name") (members_view es)) && b)
+    (cond (bytes_eq k (codes "contexts")) (is_list (is_context html) d) true))))) (λ d. refl) ms s
+    ∙ ap (λ b. absent_or (is_text) (get_member (codes "name") ms) && b)
     (at_key (codes "kind") (is_text) (λ k d. cond (bytes_eq k (codes "literate")) (is_truth_value d)
     (cond (bytes_eq k (codes "blank")) (is_truth_value d)
     (cond (bytes_eq k (codes "important_syntax")) (is_list is_text d)
-    (cond (bytes_eq k (codes "contexts")) (is_list (is_context html) d) true)))) (λ d. refl) es s
-    ∙ ap (λ b. absent_or (is_text) (get_member (codes "kind") (members_view es)) && b)
+    (cond (bytes_eq k (codes "contexts")) (is_list (is_context html) d) true)))) (λ d. refl) ms s
+    ∙ ap (λ b. absent_or (is_text) (get_member (codes "kind") ms) && b)
     (at_key (codes "literate") (is_truth_value) (λ k d. cond (bytes_eq k (codes "blank")) (is_truth_value d)
     (cond (bytes_eq k (codes "important_syntax")) (is_list is_text d)
-    (cond (bytes_eq k (codes "contexts")) (is_list (is_context html) d) true))) (λ d. refl) es s
-    ∙ ap (λ b. absent_or (is_truth_value) (get_member (codes "literate") (members_view es)) && b)
+    (cond (bytes_eq k (codes "contexts")) (is_list (is_context html) d) true))) (λ d. refl) ms s
+    ∙ ap (λ b. absent_or (is_truth_value) (get_member (codes "literate") ms) && b)
     (at_key (codes "blank") (is_truth_value) (λ k d. cond (bytes_eq k (codes "important_syntax")) (is_list is_text d)
-    (cond (bytes_eq k (codes "contexts")) (is_list (is_context html) d) true)) (λ d. refl) es s
-    ∙ ap (λ b. absent_or (is_truth_value) (get_member (codes "blank") (members_view es)) && b)
+    (cond (bytes_eq k (codes "contexts")) (is_list (is_context html) d) true)) (λ d. refl) ms s
+    ∙ ap (λ b. absent_or (is_truth_value) (get_member (codes "blank") ms) && b)
     (at_key (codes "important_syntax") (is_list is_text) (λ k d. cond (bytes_eq k (codes "contexts")) (is_list (is_context html) d) true)
-    (λ d. refl) es s
-    ∙ ap (λ b. absent_or (is_list is_text) (get_member (codes "important_syntax") (members_view es)) && b) (last_key (codes "contexts") (is_list (is_context html)) es s)))))
-    ∙ regroup6 (absent_or (is_text) (get_member (codes "name") (members_view es)))
-    (absent_or (is_text) (get_member (codes "kind") (members_view es)))
-    (absent_or (is_truth_value) (get_member (codes "literate") (members_view es)))
-    (absent_or (is_truth_value) (get_member (codes "blank") (members_view es)))
-    (absent_or (is_list is_text) (get_member (codes "important_syntax") (members_view es)))
-    (absent_or (is_list (is_context html)) (get_member (codes "contexts") (members_view es)))
+    (λ d. refl) ms s
+    ∙ ap (λ b. absent_or (is_list is_text) (get_member (codes "important_syntax") ms) && b) (last_key (codes "contexts") (is_list (is_context html)) ms s)))))
+    ∙ regroup6 (absent_or (is_text) (get_member (codes "name") ms))
+    (absent_or (is_text) (get_member (codes "kind") ms))
+    (absent_or (is_truth_value) (get_member (codes "literate") ms))
+    (absent_or (is_truth_value) (get_member (codes "blank") ms))
+    (absent_or (is_list is_text) (get_member (codes "important_syntax") ms))
+    (absent_or (is_list (is_context html)) (get_member (codes "contexts") ms))
 
-pub members_fit : (es : List Entry) → AreInOrder es
-    → all_members (fits (is_html_kind (get_member (codes "kind") (members_view es)))) (members_view es)
-    ≡ is_language (object (members_view es))
-members_fit es s =
-    let html = is_html_kind (get_member (codes "kind") (members_view es)) in
-    let ms = members_view es in
-    all_both fits_comments (λ k d. fits_literals k d && (fits_finders k d && fits_traits html k d)) es
-    ∙ ap (λ b. all_members fits_comments ms && b) (all_both fits_literals (λ k d. fits_finders k d && fits_traits html k d) es
-    ∙ ap (λ b. all_members fits_literals ms && b) (all_both fits_finders (fits_traits html) es))
+pub members_fit : (ms : Members) → AreInOrder ms
+    → all_members (fits (is_html_kind (get_member (codes "kind") ms))) ms
+    ≡ is_language (object ms)
+members_fit ms s =
+    let html = is_html_kind (get_member (codes "kind") ms) in
+    all_both fits_comments (λ k d. fits_literals k d && (fits_finders k d && fits_traits html k d)) ms
+    ∙ ap (λ b. all_members fits_comments ms && b) (all_both fits_literals (λ k d. fits_finders k d && fits_traits html k d) ms
+    ∙ ap (λ b. all_members fits_literals ms && b) (all_both fits_finders (fits_traits html) ms))
     ∙ ap (λ b. b && (all_members fits_literals ms && (all_members fits_finders ms && all_members (fits_traits html) ms)))
-    (comments_fit es s)
+    (comments_fit ms s)
     ∙ ap (λ b. has_comments (object ms) && (b && (all_members fits_finders ms && all_members (fits_traits html) ms)))
-    (literals_fit es s)
+    (literals_fit ms s)
     ∙ ap (λ b. has_comments (object ms) && (has_literals (object ms) && (b && all_members (fits_traits html) ms)))
-    (finders_fit es s)
-    ∙ ap (λ b. has_comments (object ms) && (has_literals (object ms) && (has_finders (object ms) && b))) (traits_fit es s)
+    (finders_fit ms s)
+    ∙ ap (λ b. has_comments (object ms) && (has_literals (object ms) && (has_finders (object ms) && b))) (traits_fit ms s)
     ∙ regroup4 (has_comments (object ms)) (has_literals (object ms)) (has_finders (object ms)) (has_traits (object ms))
 
-pub tokens_keep : (es : List Entry) → AreInOrder es → all_members keeps_tokens (members_view es)
-    ≡ has_escaped_tokens (object (members_view es))
+pub tokens_keep : (ms : Members) → AreInOrder ms → all_members keeps_tokens ms
+    ≡ has_escaped_tokens (object ms)
 unfolding has_escaped_tokens
-tokens_keep es s =
+tokens_keep ms s =
     at_key (codes "line_comment") (is_escaped_list) (λ k d. cond (bytes_eq k (codes "multi_line_comments")) (are_escaped_pairs d)
     (cond (bytes_eq k (codes "nested_comments")) (are_escaped_pairs d)
     (cond (bytes_eq k (codes "quotes")) (are_escaped_pairs d)
     (cond (bytes_eq k (codes "verbatim_quotes")) (are_escaped_pairs d) (cond (bytes_eq k (codes "doc_quotes")) (are_escaped_pairs d) true)))))
-    (λ d. refl) es s
-    ∙ ap (λ b. absent_or (is_escaped_list) (get_member (codes "line_comment") (members_view es)) && b)
+    (λ d. refl) ms s
+    ∙ ap (λ b. absent_or (is_escaped_list) (get_member (codes "line_comment") ms) && b)
     (at_key (codes "multi_line_comments") (are_escaped_pairs)
     (λ k d. cond (bytes_eq k (codes "nested_comments")) (are_escaped_pairs d)
     (cond (bytes_eq k (codes "quotes")) (are_escaped_pairs d)
     (cond (bytes_eq k (codes "verbatim_quotes")) (are_escaped_pairs d) (cond (bytes_eq k (codes "doc_quotes")) (are_escaped_pairs d) true))))
-    (λ d. refl) es s
-    ∙ ap (λ b. absent_or (are_escaped_pairs) (get_member (codes "multi_line_comments") (members_view es)) && b)
+    (λ d. refl) ms s
+    ∙ ap (λ b. absent_or (are_escaped_pairs) (get_member (codes "multi_line_comments") ms) && b)
     (at_key (codes "nested_comments") (are_escaped_pairs)
     (λ k d. cond (bytes_eq k (codes "quotes")) (are_escaped_pairs d)
     (cond (bytes_eq k (codes "verbatim_quotes")) (are_escaped_pairs d) (cond (bytes_eq k (codes "doc_quotes")) (are_escaped_pairs d) true)))
-    (λ d. refl) es s
-    ∙ ap (λ b. absent_or (are_escaped_pairs) (get_member (codes "nested_comments") (members_view es)) && b)
+    (λ d. refl) ms s
+    ∙ ap (λ b. absent_or (are_escaped_pairs) (get_member (codes "nested_comments") ms) && b)
     (at_key (codes "quotes") (are_escaped_pairs) (λ k d. cond (bytes_eq k (codes "verbatim_quotes")) (are_escaped_pairs d)
-    (cond (bytes_eq k (codes "doc_quotes")) (are_escaped_pairs d) true)) (λ d. refl) es s
-    ∙ ap (λ b. absent_or (are_escaped_pairs) (get_member (codes "quotes") (members_view es)) && b)
+    (cond (bytes_eq k (codes "doc_quotes")) (are_escaped_pairs d) true)) (λ d. refl) ms s
+    ∙ ap (λ b. absent_or (are_escaped_pairs) (get_member (codes "quotes") ms) && b)
     (at_key (codes "verbatim_quotes") (are_escaped_pairs) (λ k d. cond (bytes_eq k (codes "doc_quotes")) (are_escaped_pairs d) true) (λ d. refl)
-    es s
-    ∙ ap (λ b. absent_or (are_escaped_pairs) (get_member (codes "verbatim_quotes") (members_view es)) && b) (last_key (codes "doc_quotes") (are_escaped_pairs) es s)))))
-    ∙ regroup6 (absent_or (is_escaped_list) (get_member (codes "line_comment") (members_view es)))
-    (absent_or (are_escaped_pairs) (get_member (codes "multi_line_comments") (members_view es)))
-    (absent_or (are_escaped_pairs) (get_member (codes "nested_comments") (members_view es)))
-    (absent_or (are_escaped_pairs) (get_member (codes "quotes") (members_view es)))
-    (absent_or (are_escaped_pairs) (get_member (codes "verbatim_quotes") (members_view es)))
-    (absent_or (are_escaped_pairs) (get_member (codes "doc_quotes") (members_view es)))
+    ms s
+    ∙ ap (λ b. absent_or (are_escaped_pairs) (get_member (codes "verbatim_quotes") ms) && b) (last_key (codes "doc_quotes") (are_escaped_pairs) ms s)))))
+    ∙ regroup6 (absent_or (is_escaped_list) (get_member (codes "line_comment") ms))
+    (absent_or (are_escaped_pairs) (get_member (codes "multi_line_comments") ms))
+    (absent_or (are_escaped_pairs) (get_member (codes "nested_comments") ms))
+    (absent_or (are_escaped_pairs) (get_member (codes "quotes") ms))
+    (absent_or (are_escaped_pairs) (get_member (codes "verbatim_quotes") ms))
+    (absent_or (are_escaped_pairs) (get_member (codes "doc_quotes") ms))
 
-pub finders_keep : (es : List Entry) → AreInOrder es → all_members keeps_finders (members_view es)
-    ≡ has_escaped_finders (object (members_view es))
+pub finders_keep : (ms : Members) → AreInOrder ms → all_members keeps_finders ms
+    ≡ has_escaped_finders (object ms)
 unfolding has_escaped_finders
-finders_keep es s =
+finders_keep ms s =
     at_key (codes "extensions") (is_escaped_list) (λ k d. cond (bytes_eq k (codes "filenames")) (is_escaped_list d)
     (cond (bytes_eq k (codes "path_suffixes")) (is_escaped_list d)
     (cond (bytes_eq k (codes "mime")) (is_escaped_list d)
-    (cond (bytes_eq k (codes "shebangs")) (is_escaped_list d) (cond (bytes_eq k (codes "env")) (is_escaped_list d) true))))) (λ d. refl) es s
-    ∙ ap (λ b. absent_or (is_escaped_list) (get_member (codes "extensions") (members_view es)) && b)
+    (cond (bytes_eq k (codes "shebangs")) (is_escaped_list d) (cond (bytes_eq k (codes "env")) (is_escaped_list d) true))))) (λ d. refl) ms s
+    ∙ ap (λ b. absent_or (is_escaped_list) (get_member (codes "extensions") ms) && b)
     (at_key (codes "filenames") (is_escaped_list) (λ k d. cond (bytes_eq k (codes "path_suffixes")) (is_escaped_list d)
     (cond (bytes_eq k (codes "mime")) (is_escaped_list d)
-    (cond (bytes_eq k (codes "shebangs")) (is_escaped_list d) (cond (bytes_eq k (codes "env")) (is_escaped_list d) true)))) (λ d. refl) es s
-    ∙ ap (λ b. absent_or (is_escaped_list) (get_member (codes "filenames") (members_view es)) && b)
+    (cond (bytes_eq k (codes "shebangs")) (is_escaped_list d) (cond (bytes_eq k (codes "env")) (is_escaped_list d) true)))) (λ d. refl) ms s
+    ∙ ap (λ b. absent_or (is_escaped_list) (get_member (codes "filenames") ms) && b)
     (at_key (codes "path_suffixes") (is_escaped_list) (λ k d. cond (bytes_eq k (codes "mime")) (is_escaped_list d)
-    (cond (bytes_eq k (codes "shebangs")) (is_escaped_list d) (cond (bytes_eq k (codes "env")) (is_escaped_list d) true))) (λ d. refl) es s
-    ∙ ap (λ b. absent_or (is_escaped_list) (get_member (codes "path_suffixes") (members_view es)) && b)
+    (cond (bytes_eq k (codes "shebangs")) (is_escaped_list d) (cond (bytes_eq k (codes "env")) (is_escaped_list d) true))) (λ d. refl) ms s
+    ∙ ap (λ b. absent_or (is_escaped_list) (get_member (codes "path_suffixes") ms) && b)
     (at_key (codes "mime") (is_escaped_list) (λ k d. cond (bytes_eq k (codes "shebangs")) (is_escaped_list d)
-    (cond (bytes_eq k (codes "env")) (is_escaped_list d) true)) (λ d. refl) es s
-    ∙ ap (λ b. absent_or (is_escaped_list) (get_member (codes "mime") (members_view es)) && b)
-    (at_key (codes "shebangs") (is_escaped_list) (λ k d. cond (bytes_eq k (codes "env")) (is_escaped_list d) true) (λ d. refl) es s
-    ∙ ap (λ b. absent_or (is_escaped_list) (get_member (codes "shebangs") (members_view es)) && b) (last_key (codes "env") (is_escaped_list) es s)))))
-    ∙ regroup6 (absent_or (is_escaped_list) (get_member (codes "extensions") (members_view es)))
-    (absent_or (is_escaped_list) (get_member (codes "filenames") (members_view es)))
-    (absent_or (is_escaped_list) (get_member (codes "path_suffixes") (members_view es)))
-    (absent_or (is_escaped_list) (get_member (codes "mime") (members_view es)))
-    (absent_or (is_escaped_list) (get_member (codes "shebangs") (members_view es)))
-    (absent_or (is_escaped_list) (get_member (codes "env") (members_view es)))
+    (cond (bytes_eq k (codes "env")) (is_escaped_list d) true)) (λ d. refl) ms s
+    ∙ ap (λ b. absent_or (is_escaped_list) (get_member (codes "mime") ms) && b)
+    (at_key (codes "shebangs") (is_escaped_list) (λ k d. cond (bytes_eq k (codes "env")) (is_escaped_list d) true) (λ d. refl) ms s
+    ∙ ap (λ b. absent_or (is_escaped_list) (get_member (codes "shebangs") ms) && b) (last_key (codes "env") (is_escaped_list) ms s)))))
+    ∙ regroup6 (absent_or (is_escaped_list) (get_member (codes "extensions") ms))
+    (absent_or (is_escaped_list) (get_member (codes "filenames") ms))
+    (absent_or (is_escaped_list) (get_member (codes "path_suffixes") ms))
+    (absent_or (is_escaped_list) (get_member (codes "mime") ms))
+    (absent_or (is_escaped_list) (get_member (codes "shebangs") ms))
+    (absent_or (is_escaped_list) (get_member (codes "env") ms))
 
 or_absent : (html : Bool) (o : Option Data)
     → absent_or (λ d. not html || are_escaped_contexts d) o ≡ (not html || absent_or are_escaped_contexts o)
@@ -211,33 +208,32 @@ or_absent true (Some d) = refl
 or_absent false None = refl
 or_absent false (Some d) = refl
 
-pub traits_keep : (es : List Entry) → AreInOrder es
-    → all_members (keeps_traits (is_html_kind (get_member (codes "kind") (members_view es)))) (members_view es)
-    ≡ has_escaped_traits (object (members_view es))
+pub traits_keep : (ms : Members) → AreInOrder ms
+    → all_members (keeps_traits (is_html_kind (get_member (codes "kind") ms))) ms
+    ≡ has_escaped_traits (object ms)
 unfolding has_escaped_traits
-traits_keep es s =
-    let html = is_html_kind (get_member (codes "kind") (members_view es)) in
+traits_keep ms s =
+    let html = is_html_kind (get_member (codes "kind") ms) in
     at_key (codes "name") is_escaped_value (λ k d. cond (bytes_eq k (codes "important_syntax")) (is_escaped_list d)
-    (cond (bytes_eq k (codes "contexts")) (not html || are_escaped_contexts d) true)) (λ d. refl) es s
-    ∙ ap (λ b. absent_or is_escaped_value (get_member (codes "name") (members_view es)) && b) (
+    (cond (bytes_eq k (codes "contexts")) (not html || are_escaped_contexts d) true)) (λ d. refl) ms s
+    ∙ ap (λ b. absent_or is_escaped_value (get_member (codes "name") ms) && b) (
     at_key (codes "important_syntax") is_escaped_list
-    (λ k d. cond (bytes_eq k (codes "contexts")) (not html || are_escaped_contexts d) true) (λ d. refl) es s
-    ∙ ap (λ b. absent_or is_escaped_list (get_member (codes "important_syntax") (members_view es)) && b) (
-    last_key (codes "contexts") (λ d. not html || are_escaped_contexts d) es s
-    ∙ or_absent html (get_member (codes "contexts") (members_view es))))
-    ∙ regroup3 (absent_or is_escaped_value (get_member (codes "name") (members_view es)))
-    (absent_or is_escaped_list (get_member (codes "important_syntax") (members_view es)))
-    (not html || absent_or are_escaped_contexts (get_member (codes "contexts") (members_view es)))
+    (λ k d. cond (bytes_eq k (codes "contexts")) (not html || are_escaped_contexts d) true) (λ d. refl) ms s
+    ∙ ap (λ b. absent_or is_escaped_list (get_member (codes "important_syntax") ms) && b) (
+    last_key (codes "contexts") (λ d. not html || are_escaped_contexts d) ms s
+    ∙ or_absent html (get_member (codes "contexts") ms)))
+    ∙ regroup3 (absent_or is_escaped_value (get_member (codes "name") ms))
+    (absent_or is_escaped_list (get_member (codes "important_syntax") ms))
+    (not html || absent_or are_escaped_contexts (get_member (codes "contexts") ms))
 
-pub members_keep : (es : List Entry) → AreInOrder es
-    → all_members (keeps_escapes (is_html_kind (get_member (codes "kind") (members_view es)))) (members_view es)
-    ≡ is_escaped_language (object (members_view es))
-members_keep es s =
-    let html = is_html_kind (get_member (codes "kind") (members_view es)) in
-    let ms = members_view es in
-    all_both keeps_tokens (λ k d. keeps_finders k d && keeps_traits html k d) es
-    ∙ ap (λ b. all_members keeps_tokens ms && b) (all_both keeps_finders (keeps_traits html) es)
-    ∙ ap (λ b. b && (all_members keeps_finders ms && all_members (keeps_traits html) ms)) (tokens_keep es s)
-    ∙ ap (λ b. has_escaped_tokens (object ms) && (b && all_members (keeps_traits html) ms)) (finders_keep es s)
-    ∙ ap (λ b. has_escaped_tokens (object ms) && (has_escaped_finders (object ms) && b)) (traits_keep es s)
+pub members_keep : (ms : Members) → AreInOrder ms
+    → all_members (keeps_escapes (is_html_kind (get_member (codes "kind") ms))) ms
+    ≡ is_escaped_language (object ms)
+members_keep ms s =
+    let html = is_html_kind (get_member (codes "kind") ms) in
+    all_both keeps_tokens (λ k d. keeps_finders k d && keeps_traits html k d) ms
+    ∙ ap (λ b. all_members keeps_tokens ms && b) (all_both keeps_finders (keeps_traits html) ms)
+    ∙ ap (λ b. b && (all_members keeps_finders ms && all_members (keeps_traits html) ms)) (tokens_keep ms s)
+    ∙ ap (λ b. has_escaped_tokens (object ms) && (b && all_members (keeps_traits html) ms)) (finders_keep ms s)
+    ∙ ap (λ b. has_escaped_tokens (object ms) && (has_escaped_finders (object ms) && b)) (traits_keep ms s)
     ∙ regroup3 (has_escaped_tokens (object ms)) (has_escaped_finders (object ms)) (has_escaped_traits (object ms))

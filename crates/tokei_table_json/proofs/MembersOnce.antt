@@ -1,28 +1,42 @@
 -- An object has each key once, so a test of the member at a key is one of all members at that key.
-use Rattle.std.proofs.Common.{◌≡◌, ℕ, List, [], ◌∷◌, map, Bool, true, false, ◌&&◌, cond, Some, String, string_bytes}
-use Rattle.std.proofs.Common.{Global, Less, bytes_eq, refl, sym, ap, ◌∙◌, true≢false, is_eq}
+use Rattle.std.proofs.Common.{◌≡◌, ℕ, List, [], ◌∷◌, Bool, true, false, ◌&&◌, cond, Option, Some, Ordering, Less, Equal, Greater}
+use Rattle.std.proofs.Common.{bytes_eq, refl, sym, ap, ◌∙◌, true≢false, is_eq, subst}
+use Rattle.std.proofs.lemmas.Cmp.{nat_list_cmp_total, tied_itself}
 use Rattle.std.proofs.lemmas.Map.Text.{is_eq-slice_cmp}
 use Rattle.std.proofs.lemmas.Slice.Eq.{bytes_eq-Decides}
 use Rattle.std.specs.Cmp.Lexicographic.{slice_cmp}
 use Rattle.std.specs.List.{AllByRecursion}
 use Rattle.std.specs.List.Sorted.{IsStrictlySortedBy}
-use Rattle.std.specs.Ordering.{nat_cmp}
-use Rattle.serde_json.proofs.Views.{member_here, member_later}
-use Rattle.serde_json.specs.Data.{Data}
+use Rattle.std.specs.Ordering.{nat_cmp, match_ordering}
+use Rattle.json.specs.Json as json
+use Rattle.serde_json.specs.Data.{Data, Members, no_members, member}
 use Rattle.serde_json.specs.Find.{get_member}
-use Rattle.serde_json.specs.View.{view, members_view}
-use Rattle.serde_json.specs.declared.value.Value.{Value}
-use Rattle.tokei_table_json.specs.KeyOrder.{AreInOrder, text_cmp}
+use Rattle.tokei_json_tree.specs.Ordered.{AreKeysInOrder, keys_of as keys_in}
+use Rattle.tokei_json_tree.specs.TreeData.{members_data}
 use Rattle.tokei_table_json.specs.Layout.{absent_or}
 use Rattle.tokei_table_json.specs.MemberLayout.{all_members}
 
-abbrev pub Entry : Type 0
-Entry = String Global × Value
+-- the keys of an object's members
+abbrev pub member_keys : Members → List (List ℕ)
+member_keys no_members = []
+member_keys (member k d ms) = k ∷ member_keys ms
+
+-- they ascend in byte order
+abbrev pub AreInOrder : Members → Type 0
+AreInOrder ms = IsStrictlySortedBy (slice_cmp nat_cmp) (member_keys ms)
 
 -- the key of a member stands at none of those behind it
-abbrev pub Others : List ℕ → List Entry → Type 0
-Others c [] = Unit {0}
-Others c (e ∷ es) = (bytes_eq (string_bytes e.0) c ≡ false) × Others c es
+abbrev pub Others : List ℕ → Members → Type 0
+Others c no_members = Unit {0}
+Others c (member k d ms) = (bytes_eq k c ≡ false) × Others c ms
+
+same_keys : (ms : json.Members) → keys_in ms ≡ member_keys (members_data ms)
+same_keys json.no_members = refl
+same_keys (json.member k j ms) = ap (λ ks. k ∷ ks) (same_keys ms)
+
+-- the members that a tree's stand for
+pub in_order : (ms : json.Members) → AreKeysInOrder ms → AreInOrder (members_data ms)
+in_order ms s = subst (λ ks. IsStrictlySortedBy (slice_cmp nat_cmp) ks) (same_keys ms) s
 
 not_true : (b : Bool) → (b ≡ true → ⊥) → b ≡ false
 not_true true un = absurd (un refl)
@@ -39,28 +53,37 @@ other k l c less e =
     not_true (bytes_eq l c) (λ t. true≢false (sym (itself k l (e ∙ sym (same l c t)))
     ∙ sym (is_eq-slice_cmp k l) ∙ ap is_eq less))
 
-others_of : (k : String Global) (c : List ℕ) (es : List Entry) → string_bytes k ≡ c
-    → AllByRecursion (λ y. text_cmp k y ≡ Less) (map (λ e. e.0) es) → Others c es
-others_of k c [] e h = tt
-others_of k c (x ∷ es) e h = (other (string_bytes k) (string_bytes x.0) c h.0 e, others_of k c es e h.1)
+others_of : (k c : List ℕ) (ms : Members) → k ≡ c
+    → AllByRecursion (λ y. slice_cmp nat_cmp k y ≡ Less) (member_keys ms) → Others c ms
+others_of k c no_members e h = tt
+others_of k c (member l d ms) e h = (other k l c h.0 e, others_of k c ms e h.1)
 
 -- what follows the first member, whose key is that one
-pub others_behind : (e : Entry) (es : List Entry) (c : List ℕ) → AreInOrder (e ∷ es)
-    → bytes_eq (string_bytes e.0) c ≡ true → Others c es
+pub others_behind : (c k : List ℕ) (d : Data) (ms : Members) → AreInOrder (member k d ms)
+    → bytes_eq k c ≡ true → Others c ms
 unfolding IsStrictlySortedBy
-others_behind e es c s b = others_of e.0 c es (same (string_bytes e.0) c b) s.0
+others_behind c k d ms s b = others_of k c ms (same k c b) s.0
 
-pub order_behind : (e : Entry) (es : List Entry) → AreInOrder (e ∷ es) → AreInOrder es
+pub order_behind : (k : List ℕ) (d : Data) (ms : Members) → AreInOrder (member k d ms) → AreInOrder ms
 unfolding IsStrictlySortedBy
-order_behind e es s = s.1
+order_behind k d ms s = s.1
 
-pub found_here : (c : List ℕ) (e : Entry) (es : List Entry) → bytes_eq (string_bytes e.0) c ≡ true
-    → get_member c (members_view (e ∷ es)) ≡ Some (view e.1)
-found_here c e es b = member_here c e es (sym (same (string_bytes e.0) c b))
+apart : (o : Ordering) (a b : Option Data) → is_eq o ≡ false → match_ordering o a b a ≡ a
+apart Less a b e = refl
+apart Equal a b e = absurd (true≢false e)
+apart Greater a b e = refl
 
-pub found_behind : (c : List ℕ) (e : Entry) (es : List Entry) → bytes_eq (string_bytes e.0) c ≡ false
-    → get_member c (members_view (e ∷ es)) ≡ get_member c (members_view es)
-found_behind c e es b = member_later c e es (λ q. true≢false (sym (itself (string_bytes e.0) c (sym q)) ∙ b))
+pub found_here : (c k : List ℕ) (d : Data) (ms : Members) → bytes_eq k c ≡ true
+    → get_member c (member k d ms) ≡ Some d
+found_here c k d ms b =
+    ap (λ o. match_ordering o (get_member c ms) (Some d) (get_member c ms))
+    (ap (slice_cmp nat_cmp c) (same k c b) ∙ tied_itself nat_list_cmp_total c)
+
+pub found_behind : (c k : List ℕ) (d : Data) (ms : Members) → bytes_eq k c ≡ false
+    → get_member c (member k d ms) ≡ get_member c ms
+found_behind c k d ms b =
+    apart (slice_cmp nat_cmp c k) (get_member c ms) (Some d) (is_eq-slice_cmp c k
+    ∙ not_true (bytes_eq c k) (λ t. true≢false (sym (itself k c (sym (same c k t))) ∙ b)))
 
 swap : (x y z : Bool) → (x && (y && z)) ≡ (y && (x && z))
 swap true y z = refl
@@ -77,65 +100,57 @@ pub and_true : (b : Bool) → (b && true) ≡ b
 and_true true = refl
 and_true false = refl
 
-pub all_true : (es : List Entry) → all_members (λ k d. true) (members_view es) ≡ true
-all_true [] = refl
-all_true (e ∷ es) = all_true es
+pub all_true : (ms : Members) → all_members (λ k d. true) ms ≡ true
+all_true no_members = refl
+all_true (member k d ms) = all_true ms
 
 -- two tests of all members
-pub all_both : (p q : List ℕ → Data → Bool) (es : List Entry)
-    → all_members (λ k d. p k d && q k d) (members_view es)
-    ≡ (all_members p (members_view es) && all_members q (members_view es))
-all_both p q [] = refl
-all_both p q (e ∷ es) =
-    ap (λ b. (p (string_bytes e.0) (view e.1) && q (string_bytes e.0) (view e.1)) && b) (all_both p q es)
-    ∙ both (p (string_bytes e.0) (view e.1)) (q (string_bytes e.0) (view e.1)) (all_members p (members_view es))
-    (all_members q (members_view es))
+pub all_both : (p q : List ℕ → Data → Bool) (ms : Members)
+    → all_members (λ k d. p k d && q k d) ms ≡ (all_members p ms && all_members q ms)
+all_both p q no_members = refl
+all_both p q (member k d ms) =
+    ap (λ b. (p k d && q k d) && b) (all_both p q ms)
+    ∙ both (p k d) (q k d) (all_members p ms) (all_members q ms)
 
 -- a test of the member at a key, and of all other members another one, which that key passes
 module _ (c : List ℕ) (t : Data → Bool) (q : List ℕ → Data → Bool) (clear : (d : Data) → q c d ≡ true) where
   abbrev first : List ℕ → Data → Bool
   first k d = cond (bytes_eq k c) (t d) (q k d)
 
-  none_here : (es : List Entry) → Others c es → all_members first (members_view es) ≡ all_members q (members_view es)
-  none_here [] h = refl
-  none_here (e ∷ es) h =
-      ap (λ b. cond b (t (view e.1)) (q (string_bytes e.0) (view e.1)) && all_members first (members_view es)) h.0
-      ∙ ap (λ b. q (string_bytes e.0) (view e.1) && b) (none_here es h.1)
+  none_here : (ms : Members) → Others c ms → all_members first ms ≡ all_members q ms
+  none_here no_members h = refl
+  none_here (member k d ms) h =
+      ap (λ b. cond b (t d) (q k d) && all_members first ms) h.0
+      ∙ ap (λ b. q k d && b) (none_here ms h.1)
 
-  step : (e : Entry) (es : List Entry) → AreInOrder (e ∷ es)
-      → all_members first (members_view es)
-      ≡ (absent_or t (get_member c (members_view es)) && all_members q (members_view es))
-      → (b : Bool) → bytes_eq (string_bytes e.0) c ≡ b
-      → all_members first (members_view (e ∷ es))
-      ≡ (absent_or t (get_member c (members_view (e ∷ es))) && all_members q (members_view (e ∷ es)))
-  step e es s later true b =
-      let key = string_bytes e.0 in
-      let d = view e.1 in
-      let rest = all_members q (members_view es) in
-      ap (λ x. cond x (t d) (q key d) && all_members first (members_view es)) b
-      ∙ ap (λ x. t d && x) (none_here es (others_behind e es c s b))
-      ∙ ap (λ x. t d && (x && rest)) (sym (ap (λ k. q k d) (same key c b) ∙ clear d))
-      ∙ ap (λ o. absent_or t o && (q key d && rest)) (sym (found_here c e es b))
-  step e es s later false b =
-      let key = string_bytes e.0 in
-      let d = view e.1 in
-      let rest = all_members q (members_view es) in
-      ap (λ x. cond x (t d) (q key d) && all_members first (members_view es)) b
-      ∙ ap (λ x. q key d && x) later
-      ∙ swap (q key d) (absent_or t (get_member c (members_view es))) rest
-      ∙ ap (λ o. absent_or t o && (q key d && rest)) (sym (found_behind c e es b))
+  step : (k : List ℕ) (d : Data) (ms : Members) → AreInOrder (member k d ms)
+      → all_members first ms ≡ (absent_or t (get_member c ms) && all_members q ms)
+      → (b : Bool) → bytes_eq k c ≡ b
+      → all_members first (member k d ms)
+      ≡ (absent_or t (get_member c (member k d ms)) && all_members q (member k d ms))
+  step k d ms s later true b =
+      let rest = all_members q ms in
+      ap (λ x. cond x (t d) (q k d) && all_members first ms) b
+      ∙ ap (λ x. t d && x) (none_here ms (others_behind c k d ms s b))
+      ∙ ap (λ x. t d && (x && rest)) (sym (ap (λ l. q l d) (same k c b) ∙ clear d))
+      ∙ ap (λ o. absent_or t o && (q k d && rest)) (sym (found_here c k d ms b))
+  step k d ms s later false b =
+      let rest = all_members q ms in
+      ap (λ x. cond x (t d) (q k d) && all_members first ms) b
+      ∙ ap (λ x. q k d && x) later
+      ∙ swap (q k d) (absent_or t (get_member c ms)) rest
+      ∙ ap (λ o. absent_or t o && (q k d && rest)) (sym (found_behind c k d ms b))
 
-  pub at_key : (es : List Entry) → AreInOrder es
-      → all_members (λ k d. cond (bytes_eq k c) (t d) (q k d)) (members_view es)
-      ≡ (absent_or t (get_member c (members_view es)) && all_members q (members_view es))
-  at_key [] s = refl
-  at_key (e ∷ es) s = step e es s (at_key es (order_behind e es s)) (bytes_eq (string_bytes e.0) c) refl
+  pub at_key : (ms : Members) → AreInOrder ms
+      → all_members (λ k d. cond (bytes_eq k c) (t d) (q k d)) ms
+      ≡ (absent_or t (get_member c ms) && all_members q ms)
+  at_key no_members s = refl
+  at_key (member k d ms) s = step k d ms s (at_key ms (order_behind k d ms s)) (bytes_eq k c) refl
 
 -- the same where all other members pass
-pub last_key : (c : List ℕ) (t : Data → Bool) (es : List Entry) → AreInOrder es
-    → all_members (λ k d. cond (bytes_eq k c) (t d) true) (members_view es)
-    ≡ absent_or t (get_member c (members_view es))
-last_key c t es s =
-    at_key c t (λ k d. true) (λ d. refl) es s
-    ∙ ap (λ b. absent_or t (get_member c (members_view es)) && b) (all_true es)
-    ∙ and_true (absent_or t (get_member c (members_view es)))
+pub last_key : (c : List ℕ) (t : Data → Bool) (ms : Members) → AreInOrder ms
+    → all_members (λ k d. cond (bytes_eq k c) (t d) true) ms ≡ absent_or t (get_member c ms)
+last_key c t ms s =
+    at_key c t (λ k d. true) (λ d. refl) ms s
+    ∙ ap (λ b. absent_or t (get_member c ms) && b) (all_true ms)
+    ∙ and_true (absent_or t (get_member c ms))

@@ -7,5 +7,6 @@ pub mod Layout
 pub mod MemberEscapes
 pub mod MemberLayout
 pub mod Members
+pub mod Misfits
 pub mod RowLaws
 pub mod Rows

@@ -1,31 +1,35 @@
 //! Whether the texts of a table have no escapes but the known ones.
-ghost use Rattle.std.specs.Prelude.{◌≡◌, option_map};
-ghost use Rattle.serde_json.specs.View.{view, items_view, members_view};
+ghost use Rattle.std.specs.Prelude.{◌≡◌, option_map, codes};
+ghost use Rattle.json.specs.Value.{value_view, items_view, members_view};
+ghost use Rattle.serde_json.specs.Find.{get};
+ghost use Rattle.tokei_json_tree.specs.Ordered.{IsOrdered, AreItemsOrdered, AreMembersOrdered};
+ghost use Rattle.tokei_json_tree.specs.TreeData.{data_of, items_data, members_data};
 ghost use Rattle.tokei_table_json.specs.Layout.{absent_or, all_items};
 ghost use Rattle.tokei_table_json.specs.Escaped.{is_escaped_value, is_escaped_list, are_escaped_pairs, is_escaped_context};
 ghost use Rattle.tokei_table_json.specs.Escaped.{are_escaped_contexts, is_escaped_language, are_escaped_languages};
 ghost use Rattle.tokei_table_json.specs.Escaped.{is_escaped_table};
-ghost use Rattle.tokei_table_json.specs.KeyOrder.{AreInOrder};
 ghost use Rattle.tokei_table_json.specs.MemberEscapes.{keeps_escapes};
 ghost use Rattle.tokei_table_json.specs.MemberLayout.{all_members};
 ghost use Rattle.tokei_table_json.specs.Members.{member_keeps_escapes};
 
 use crate::escapes::is_escaped;
-use crate::layout::is_html_kind;
+use crate::layout::is_html;
 use crate::members::{Member, member_of};
-use serde_json::{Map, Value};
+use json::Value;
+use tokei_json_tree::{Tree, TreeItems, TreeMembers, member};
 
-fn is_escaped_value(value: &Value) -> bool
-    ensures { result ≡ is_escaped_value (view value.now) }
+fn is_escaped_value(value: &Tree<'_>) -> bool
+    ensures { result ≡ is_escaped_value (data_of (value_view value.now)) }
 {
     match value {
-        Value::String(text) => is_escaped(text.as_str()),
+        Value::String(text) => is_escaped(*text),
         _ => true,
     }
 }
 
-fn is_escaped_text(member: Option<&Value>) -> bool
-    ensures { result ≡ absent_or is_escaped_value (option_map (λ v. view v.now) member.entry) }
+fn is_escaped_text(member: Option<&Tree<'_>>) -> bool
+    ensures { result ≡ absent_or is_escaped_value
+        (option_map (λ v. data_of (value_view v.now)) member.entry) }
 {
     match member {
         None => true,
@@ -33,8 +37,8 @@ fn is_escaped_text(member: Option<&Value>) -> bool
     }
 }
 
-fn all_escaped(items: &Vec<Value>) -> bool
-    ensures { result ≡ all_items is_escaped_value (items_view items.now.items) }
+fn all_escaped(items: &TreeItems<'_>) -> bool
+    ensures { result ≡ all_items is_escaped_value (items_data (items_view items.now.items)) }
 {
     for item in items {
         if !is_escaped_value(item) {
@@ -44,8 +48,8 @@ fn all_escaped(items: &Vec<Value>) -> bool
     true
 }
 
-fn is_escaped_list(value: &Value) -> bool
-    ensures { result ≡ is_escaped_list (view value.now) }
+fn is_escaped_list(value: &Tree<'_>) -> bool
+    ensures { result ≡ is_escaped_list (data_of (value_view value.now)) }
 {
     match value {
         Value::Array(items) => all_escaped(items),
@@ -53,8 +57,8 @@ fn is_escaped_list(value: &Value) -> bool
     }
 }
 
-fn all_escaped_lists(items: &Vec<Value>) -> bool
-    ensures { result ≡ all_items is_escaped_list (items_view items.now.items) }
+fn all_escaped_lists(items: &TreeItems<'_>) -> bool
+    ensures { result ≡ all_items is_escaped_list (items_data (items_view items.now.items)) }
 {
     for item in items {
         if !is_escaped_list(item) {
@@ -64,8 +68,8 @@ fn all_escaped_lists(items: &Vec<Value>) -> bool
     true
 }
 
-fn are_escaped_pairs(value: &Value) -> bool
-    ensures { result ≡ are_escaped_pairs (view value.now) }
+fn are_escaped_pairs(value: &Tree<'_>) -> bool
+    ensures { result ≡ are_escaped_pairs (data_of (value_view value.now)) }
 {
     match value {
         Value::Array(items) => all_escaped_lists(items),
@@ -73,19 +77,28 @@ fn are_escaped_pairs(value: &Value) -> bool
     }
 }
 
-fn all_escaped_contexts(items: &Vec<Value>) -> bool
-    ensures { result ≡ all_items is_escaped_context (items_view items.now.items) }
+fn is_escaped_context(context: &Tree<'_>) -> bool
+    requires { IsOrdered (value_view context.now) }
+    ensures { result ≡ is_escaped_context (data_of (value_view context.now)) }
+{
+    is_escaped_text(member(context, "tag"))
+}
+
+fn all_escaped_contexts(items: &TreeItems<'_>) -> bool
+    requires { AreItemsOrdered (items_view items.now.items) }
+    ensures { result ≡ all_items is_escaped_context (items_data (items_view items.now.items)) }
 {
     for item in items {
-        if !is_escaped_text(item.get("tag")) {
+        if !is_escaped_context(item) {
             return false;
         }
     }
     true
 }
 
-fn are_escaped_contexts(value: &Value) -> bool
-    ensures { result ≡ are_escaped_contexts (view value.now) }
+fn are_escaped_contexts(value: &Tree<'_>) -> bool
+    requires { IsOrdered (value_view value.now) }
+    ensures { result ≡ are_escaped_contexts (data_of (value_view value.now)) }
 {
     match value {
         Value::Array(items) => all_escaped_contexts(items),
@@ -94,8 +107,9 @@ fn are_escaped_contexts(value: &Value) -> bool
 }
 
 /// Whether a member has but the known escapes in a language, which is of kind `html` or not.
-fn member_keeps_escapes(html: bool, member: Member, value: &Value) -> bool
-    ensures { result ≡ member_keeps_escapes html member (view value.now) }
+fn member_keeps_escapes(html: bool, member: Member, value: &Tree<'_>) -> bool
+    requires { IsOrdered (value_view value.now) }
+    ensures { result ≡ member_keeps_escapes html member (data_of (value_view value.now)) }
 {
     match member {
         Member::Texts(_) => is_escaped_list(value),
@@ -106,39 +120,43 @@ fn member_keeps_escapes(html: bool, member: Member, value: &Value) -> bool
     }
 }
 
-pub(crate) fn keeps_escapes(html: bool, key: &str, value: &Value) -> bool
-    ensures { result ≡ keeps_escapes html key.now (view value.now) }
+pub(crate) fn keeps_escapes(html: bool, key: &str, value: &Tree<'_>) -> bool
+    requires { IsOrdered (value_view value.now) }
+    ensures { result ≡ keeps_escapes html key.now (data_of (value_view value.now)) }
 {
     member_keeps_escapes(html, member_of(key), value)
 }
 
-fn all_keep_escapes(html: bool, members: &Map<String, Value>) -> bool
-    ensures value { result ≡ all_members (keeps_escapes html) (members_view members.now.entries) }
-    ensures ordered { AreInOrder members.now.entries }
+fn all_keep_escapes(html: bool, members: &TreeMembers<'_>) -> bool
+    requires { AreMembersOrdered (members_view members.now.items) }
+    ensures { result
+        ≡ all_members (keeps_escapes html) (members_data (members_view members.now.items)) }
 {
-    for (key, member) in members.iter() {
-        if !keeps_escapes(html, key.as_str(), member) {
+    for entry in members {
+        if !keeps_escapes(html, entry.0, &entry.1) {
             return false;
         }
     }
     true
 }
 
-#[tactic(auto, unfolding(crate::specs::Escaped::has_escaped_tokens, crate::specs::Escaped::has_escaped_finders, crate::specs::Escaped::has_escaped_traits))]
-pub(crate) fn is_escaped_language(value: &Value) -> bool
-    ensures { result ≡ is_escaped_language (view value.now) }
+#[tactic(auto, using(crate::proofs::NumberData::number_is_escaped), unfolding(crate::specs::Escaped::has_escaped_tokens, crate::specs::Escaped::has_escaped_finders, crate::specs::Escaped::has_escaped_traits))]
+pub(crate) fn is_escaped_language(value: &Tree<'_>) -> bool
+    requires { IsOrdered (value_view value.now) }
+    ensures { result ≡ is_escaped_language (data_of (value_view value.now)) }
 {
     match value {
-        Value::Object(members) => all_keep_escapes(is_html_kind(value.get("kind")), members),
+        Value::Object(members) => all_keep_escapes(is_html(value), members),
         _ => true,
     }
 }
 
-fn are_escaped_languages(members: &Map<String, Value>) -> bool
-    ensures { result ≡ are_escaped_languages (members_view members.now.entries) }
+fn are_escaped_languages(members: &TreeMembers<'_>) -> bool
+    requires { AreMembersOrdered (members_view members.now.items) }
+    ensures { result ≡ are_escaped_languages (members_data (members_view members.now.items)) }
 {
-    for (_key, member) in members.iter() {
-        if !is_escaped_language(member) {
+    for entry in members {
+        if !is_escaped_language(&entry.1) {
             return false;
         }
     }
@@ -146,10 +164,12 @@ fn are_escaped_languages(members: &Map<String, Value>) -> bool
 }
 
 /// Whether the languages of a table have no escapes but the known ones.
-pub fn is_escaped_table(languages: Option<&Value>) -> bool
-    ensures { result ≡ is_escaped_table (option_map (λ v. view v.now) languages.entry) }
+pub fn is_escaped_table(value: &Tree<'_>) -> bool
+    requires ordered { IsOrdered (value_view value.now) }
+    ensures { result
+        ≡ is_escaped_table (get (codes "languages") (data_of (value_view value.now))) }
 {
-    match languages {
+    match member(value, "languages") {
         Some(Value::Object(members)) => are_escaped_languages(members),
         _ => true,
     }

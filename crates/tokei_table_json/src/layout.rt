@@ -1,18 +1,22 @@
 //! The layout of a table: which JSON values stand where.
-ghost use Rattle.std.specs.Prelude.{◌≡◌, option_map, codes};
-ghost use Rattle.serde_json.specs.View.{view, items_view, members_view};
-ghost use Rattle.tokei_table_json.specs.Layout.{all_items, is_list, is_text, are_two_texts};
+ghost use Rattle.std.specs.Prelude.{◌≡◌, false, option_map, codes};
+ghost use Rattle.json.specs.Value.{value_view, items_view, members_view};
+ghost use Rattle.serde_json.specs.Find.{get};
+ghost use Rattle.serde_json.specs.Written.{has_float};
+ghost use Rattle.tokei_json_tree.specs.Ordered.{IsOrdered, AreItemsOrdered, AreMembersOrdered};
+ghost use Rattle.tokei_json_tree.specs.TreeData.{data_of, items_data, members_data};
+ghost use Rattle.tokei_table_json.specs.Layout.{all_items, is_list, is_text, are_two_texts, stands_and};
 ghost use Rattle.tokei_table_json.specs.Layout.{is_text_pair, is_html_kind, is_context, is_language, are_languages, has_layout};
 ghost use Rattle.tokei_table_json.specs.MemberLayout.{all_members, fits};
 ghost use Rattle.tokei_table_json.specs.Members.{fits_member};
-ghost use Rattle.tokei_table_json.specs.KeyOrder.{AreInOrder};
 
 use crate::members::{Member, member_of};
-use crate::values::{all_texts, has_float, is_text, is_truth_value};
-use serde_json::{Map, Value};
+use crate::values::{all_texts, is_text, is_truth_value};
+use json::Value;
+use tokei_json_tree::{Tree, TreeItems, TreeMembers, member};
 
-fn is_text_list(value: &Value) -> bool
-    ensures { result ≡ is_list is_text (view value.now) }
+fn is_text_list(value: &Tree<'_>) -> bool
+    ensures { result ≡ is_list is_text (data_of (value_view value.now)) }
 {
     match value {
         Value::Array(items) => all_texts(items),
@@ -20,8 +24,8 @@ fn is_text_list(value: &Value) -> bool
     }
 }
 
-fn are_two_texts(items: &Vec<Value>) -> bool
-    ensures { result ≡ are_two_texts (items_view items.now.items) }
+fn are_two_texts(items: &TreeItems<'_>) -> bool
+    ensures { result ≡ are_two_texts (items_data (items_view items.now.items)) }
 {
     match items.as_slice() {
         [first, second] => is_text(first) && is_text(second),
@@ -29,8 +33,8 @@ fn are_two_texts(items: &Vec<Value>) -> bool
     }
 }
 
-fn is_text_pair(value: &Value) -> bool
-    ensures { result ≡ is_text_pair (view value.now) }
+fn is_text_pair(value: &Tree<'_>) -> bool
+    ensures { result ≡ is_text_pair (data_of (value_view value.now)) }
 {
     match value {
         Value::Array(items) => are_two_texts(items),
@@ -38,8 +42,8 @@ fn is_text_pair(value: &Value) -> bool
     }
 }
 
-fn all_pairs(items: &Vec<Value>) -> bool
-    ensures { result ≡ all_items is_text_pair (items_view items.now.items) }
+fn all_pairs(items: &TreeItems<'_>) -> bool
+    ensures { result ≡ all_items is_text_pair (items_data (items_view items.now.items)) }
 {
     for item in items {
         if !is_text_pair(item) {
@@ -49,8 +53,8 @@ fn all_pairs(items: &Vec<Value>) -> bool
     true
 }
 
-fn is_pair_list(value: &Value) -> bool
-    ensures { result ≡ is_list is_text_pair (view value.now) }
+fn is_pair_list(value: &Tree<'_>) -> bool
+    ensures { result ≡ is_list is_text_pair (data_of (value_view value.now)) }
 {
     match value {
         Value::Array(items) => all_pairs(items),
@@ -59,32 +63,47 @@ fn is_pair_list(value: &Value) -> bool
 }
 
 /// Whether the member `kind` reads `html`.
-pub fn is_html_kind(member: Option<&Value>) -> bool
-    ensures { result ≡ is_html_kind (option_map (λ v. view v.now) member.entry) }
+fn is_html_kind(member: Option<&Tree<'_>>) -> bool
+    ensures { result ≡ is_html_kind (option_map (λ v. data_of (value_view v.now)) member.entry) }
 {
     match member {
-        Some(Value::String(text)) => text.as_str() == "html",
+        Some(Value::String(text)) => *text == "html",
         _ => false,
     }
 }
 
-fn is_context(html: bool, value: &Value) -> bool
-    ensures { result ≡ is_context html (view value.now) }
+/// Whether the language is of kind `html`.
+pub(crate) fn is_html(language: &Tree<'_>) -> bool
+    requires { IsOrdered (value_view language.now) }
+    ensures { result ≡ is_html_kind (get (codes "kind") (data_of (value_view language.now))) }
 {
-    if !value.is_object() {
-        return false;
-    }
-    if !html {
-        return true;
-    }
-    match value.get("tag") {
+    is_html_kind(member(language, "kind"))
+}
+
+/// Whether the context has a text `tag`.
+fn has_tag(context: &Tree<'_>) -> bool
+    requires { IsOrdered (value_view context.now) }
+    ensures { result ≡ stands_and is_text (get (codes "tag") (data_of (value_view context.now))) }
+{
+    match member(context, "tag") {
         None => false,
         Some(tag) => is_text(tag),
     }
 }
 
-fn all_contexts(html: bool, items: &Vec<Value>) -> bool
-    ensures { result ≡ all_items (is_context html) (items_view items.now.items) }
+fn is_context(html: bool, value: &Tree<'_>) -> bool
+    requires { IsOrdered (value_view value.now) }
+    ensures { result ≡ is_context html (data_of (value_view value.now)) }
+{
+    match value {
+        Value::Object(_) => !html || has_tag(value),
+        _ => false,
+    }
+}
+
+fn all_contexts(html: bool, items: &TreeItems<'_>) -> bool
+    requires { AreItemsOrdered (items_view items.now.items) }
+    ensures { result ≡ all_items (is_context html) (items_data (items_view items.now.items)) }
 {
     for item in items {
         if !is_context(html, item) {
@@ -94,8 +113,9 @@ fn all_contexts(html: bool, items: &Vec<Value>) -> bool
     true
 }
 
-fn is_context_list(html: bool, value: &Value) -> bool
-    ensures { result ≡ is_list (is_context html) (view value.now) }
+fn is_context_list(html: bool, value: &Tree<'_>) -> bool
+    requires { IsOrdered (value_view value.now) }
+    ensures { result ≡ is_list (is_context html) (data_of (value_view value.now)) }
 {
     match value {
         Value::Array(items) => all_contexts(html, items),
@@ -104,8 +124,9 @@ fn is_context_list(html: bool, value: &Value) -> bool
 }
 
 /// Whether a member may have the value in a language, which is of kind `html` or not.
-fn fits_member(html: bool, member: Member, value: &Value) -> bool
-    ensures { result ≡ fits_member html member (view value.now) }
+fn fits_member(html: bool, member: Member, value: &Tree<'_>) -> bool
+    requires { IsOrdered (value_view value.now) }
+    ensures { result ≡ fits_member html member (data_of (value_view value.now)) }
 {
     match member {
         Member::Texts(_) => is_text_list(value),
@@ -117,53 +138,56 @@ fn fits_member(html: bool, member: Member, value: &Value) -> bool
     }
 }
 
-pub(crate) fn fits(html: bool, key: &str, value: &Value) -> bool
-    ensures { result ≡ fits html key.now (view value.now) }
+pub(crate) fn fits(html: bool, key: &str, value: &Tree<'_>) -> bool
+    requires { IsOrdered (value_view value.now) }
+    ensures { result ≡ fits html key.now (data_of (value_view value.now)) }
 {
     fits_member(html, member_of(key), value)
 }
 
-fn all_fit(html: bool, members: &Map<String, Value>) -> bool
-    ensures value { result ≡ all_members (fits html) (members_view members.now.entries) }
-    ensures ordered { AreInOrder members.now.entries }
+fn all_fit(html: bool, members: &TreeMembers<'_>) -> bool
+    requires { AreMembersOrdered (members_view members.now.items) }
+    ensures { result
+        ≡ all_members (fits html) (members_data (members_view members.now.items)) }
 {
-    for (key, member) in members.iter() {
-        if !fits(html, key.as_str(), member) {
+    for entry in members {
+        if !fits(html, entry.0, &entry.1) {
             return false;
         }
     }
     true
 }
 
-pub(crate) fn is_language(value: &Value) -> bool
-    ensures { result ≡ is_language (view value.now) }
+pub(crate) fn is_language(value: &Tree<'_>) -> bool
+    requires { IsOrdered (value_view value.now) }
+    ensures { result ≡ is_language (data_of (value_view value.now)) }
 {
     match value {
-        Value::Object(members) => all_fit(is_html_kind(value.get("kind")), members),
+        Value::Object(members) => all_fit(is_html(value), members),
         _ => false,
     }
 }
 
-fn are_languages(members: &Map<String, Value>) -> bool
-    ensures { result ≡ are_languages (members_view members.now.entries) }
+fn are_languages(members: &TreeMembers<'_>) -> bool
+    requires { AreMembersOrdered (members_view members.now.items) }
+    ensures { result ≡ are_languages (members_data (members_view members.now.items)) }
 {
-    for (_key, member) in members.iter() {
-        if !is_language(member) {
+    for entry in members {
+        if !is_language(&entry.1) {
             return false;
         }
     }
     true
 }
 
-/// Whether the value has the layout of a table.
+/// Whether the value, in which each number is a whole one of 64 bits, has the layout of a table.
 #[tactic(auto, unfolding(crate::specs::Layout::has_layout))]
-pub fn has_layout(value: &Value) -> bool
-    ensures { result ≡ has_layout (view value.now) }
+pub fn has_layout(value: &Tree<'_>) -> bool
+    requires ordered { IsOrdered (value_view value.now) }
+    requires whole { has_float (data_of (value_view value.now)) ≡ false }
+    ensures { result ≡ has_layout (data_of (value_view value.now)) }
 {
-    if has_float(value) {
-        return false;
-    }
-    match value.get("languages") {
+    match member(value, "languages") {
         Some(Value::Object(members)) => are_languages(members),
         _ => false,
     }

@@ -1,48 +1,51 @@
 //! The rows of a table that has its layout and but the known escapes.
 ghost use Rattle.std.specs.Prelude.{◌≡◌, Bool, Some, codes, map, IfOk, OnOk, string_bytes};
 ghost use Rattle.serde_json.specs.Data.{Items, string, boolean, array};
-ghost use Rattle.serde_json.specs.Find.{get, get_member};
-ghost use Rattle.serde_json.specs.View.{view, items_view, members_view};
+ghost use Rattle.serde_json.specs.Find.{get};
+ghost use Rattle.json.specs.Value.{value_view, items_view, members_view};
+ghost use Rattle.tokei_json_tree.specs.Ordered.{IsOrdered, AreItemsOrdered, AreKeysInOrder, AreMembersOrdered};
+ghost use Rattle.tokei_json_tree.specs.TreeData.{data_of, items_data, members_data};
 ghost use Rattle.tokei_table_row.specs.NewRow.{new_row};
 ghost use Rattle.tokei_table_row.specs.RowOf.{pair_of, pairs_of, tokens_of, row_of};
 ghost use Rattle.tokei_table_json.specs.Escapes.{unescaped_text};
 ghost use Rattle.tokei_table_json.specs.Filled.{with_member, filled};
-ghost use Rattle.tokei_table_json.specs.KeyOrder.{AreInOrder, IsInKeyOrder};
-ghost use Rattle.tokei_table_json.specs.Layout.{is_html_kind};
+ghost use Rattle.tokei_table_json.specs.KeyOrder.{IsInKeyOrder};
 ghost use Rattle.tokei_table_json.specs.Members.{text_list_key, pair_list_key, truth_key, key_of};
 ghost use Rattle.tokei_table_json.specs.Rows.{text_of, text_at, texts_of, name_or};
 ghost use Rattle.tokei_table_json.specs.Rows.{two_texts, pair_in, pairs_in, tags_in, tags_at};
 ghost use Rattle.tokei_table_json.specs.Rows.{row_in, rows_in, rows_at};
 
 use crate::escapes::{has_backslash, unescaped};
-use crate::layout::is_html_kind;
+use crate::layout::is_html;
 use crate::members::{Member, PairList, TextList, TruthValue, member_of};
-use serde_json::{Map, Value};
+use json::Value;
 use std::alloc::{AllocError, Global};
+use tokei_json_tree::{Tree, TreeItems, TreeMembers, member};
 use tokei_table_row::Syntax;
 
-/// The text after escapes; without a backslash it is the text itself.
-fn read_text(alloc: Global, text: String) -> Result<String, AllocError>
-    ensures { IfOk result (λ s. string_bytes s ≡ unescaped_text (string_bytes text)) }
+/// The text after escapes; without a backslash it is a copy of the text itself.
+fn read_text(alloc: Global, text: &str) -> Result<String, AllocError>
+    ensures { IfOk result (λ s. string_bytes s ≡ unescaped_text text.now) }
 {
-    if has_backslash(text.as_str()) {
-        unescaped(alloc, text.as_str())
+    if has_backslash(text) {
+        unescaped(alloc, text)
     } else {
-        Ok(text)
+        String::from_str(alloc, text)
     }
 }
 
-fn text(alloc: Global, value: Value) -> Result<String, AllocError>
-    ensures { IfOk result (λ s. string_bytes s ≡ text_of (view value)) }
+fn text(alloc: Global, value: &Tree<'_>) -> Result<String, AllocError>
+    ensures { IfOk result (λ s. string_bytes s ≡ text_of (data_of (value_view value.now))) }
 {
     match value {
-        Value::String(text) => read_text(alloc, text),
+        Value::String(text) => read_text(alloc, *text),
         _ => Ok(String::new(alloc)),
     }
 }
 
-fn texts(alloc: Global, items: Vec<Value>) -> Result<Vec<String>, AllocError>
-    ensures { IfOk result (λ v. tokens_of v.items ≡ texts_of (items_view items.items)) }
+fn texts(alloc: Global, items: &TreeItems<'_>) -> Result<Vec<String>, AllocError>
+    ensures { IfOk result
+        (λ v. tokens_of v.items ≡ texts_of (items_data (items_view items.now.items))) }
 {
     let mut out = Vec::with_capacity(alloc, items.len())?;
     for item in items {
@@ -51,19 +54,17 @@ fn texts(alloc: Global, items: Vec<Value>) -> Result<Vec<String>, AllocError>
     Ok(out)
 }
 
-fn two_texts(alloc: Global, mut items: Vec<Value>) -> Result<(String, String), AllocError>
-    ensures { IfOk result (λ p. pair_of p ≡ two_texts (items_view items.items)) }
+fn two_texts(alloc: Global, items: &TreeItems<'_>) -> Result<(String, String), AllocError>
+    ensures { IfOk result (λ p. pair_of p ≡ two_texts (items_data (items_view items.now.items))) }
 {
-    if items.as_slice().len() != 2 {
-        return Ok((String::new(alloc), String::new(alloc)));
+    match items.as_slice() {
+        [opener, closer] => Ok((text(alloc, opener)?, text(alloc, closer)?)),
+        _ => Ok((String::new(alloc), String::new(alloc))),
     }
-    let closer = items.remove(1);
-    let opener = items.remove(0);
-    Ok((text(alloc, opener)?, text(alloc, closer)?))
 }
 
-fn pair(alloc: Global, value: Value) -> Result<(String, String), AllocError>
-    ensures { IfOk result (λ p. pair_of p ≡ pair_in (view value)) }
+fn pair(alloc: Global, value: &Tree<'_>) -> Result<(String, String), AllocError>
+    ensures { IfOk result (λ p. pair_of p ≡ pair_in (data_of (value_view value.now))) }
 {
     match value {
         Value::Array(items) => two_texts(alloc, items),
@@ -71,8 +72,9 @@ fn pair(alloc: Global, value: Value) -> Result<(String, String), AllocError>
     }
 }
 
-fn pairs(alloc: Global, items: Vec<Value>) -> Result<Vec<(String, String)>, AllocError>
-    ensures { IfOk result (λ v. pairs_of v.items ≡ pairs_in (items_view items.items)) }
+fn pairs(alloc: Global, items: &TreeItems<'_>) -> Result<Vec<(String, String)>, AllocError>
+    ensures { IfOk result
+        (λ v. pairs_of v.items ≡ pairs_in (items_data (items_view items.now.items))) }
 {
     let mut out = Vec::with_capacity(alloc, items.len())?;
     for item in items {
@@ -81,17 +83,21 @@ fn pairs(alloc: Global, items: Vec<Value>) -> Result<Vec<(String, String)>, Allo
     Ok(out)
 }
 
-fn tag(alloc: Global, context: &Value) -> Result<String, AllocError>
-    ensures { IfOk result (λ s. string_bytes s ≡ text_at (get (codes "tag") (view context.now))) }
+fn tag(alloc: Global, context: &Tree<'_>) -> Result<String, AllocError>
+    requires { IsOrdered (value_view context.now) }
+    ensures { IfOk result (λ s. string_bytes s
+        ≡ text_at (get (codes "tag") (data_of (value_view context.now)))) }
 {
-    match context.get("tag") {
-        Some(Value::String(text)) => unescaped(alloc, text.as_str()),
-        _ => Ok(String::new(alloc)),
+    match member(context, "tag") {
+        Some(value) => text(alloc, value),
+        None => Ok(String::new(alloc)),
     }
 }
 
-fn tags(alloc: Global, items: &Vec<Value>) -> Result<Vec<String>, AllocError>
-    ensures { IfOk result (λ v. tokens_of v.items ≡ tags_in (items_view items.now.items)) }
+fn tags(alloc: Global, items: &TreeItems<'_>) -> Result<Vec<String>, AllocError>
+    requires { AreItemsOrdered (items_view items.now.items) }
+    ensures { IfOk result
+        (λ v. tokens_of v.items ≡ tags_in (items_data (items_view items.now.items))) }
 {
     let mut out = Vec::with_capacity(alloc, items.len())?;
     for item in items {
@@ -148,10 +154,11 @@ fn put_tags(
     alloc: Global,
     list: &mut Vec<String>,
     html: bool,
-    items: &Vec<Value>,
+    items: &TreeItems<'_>,
 ) -> Result<(), AllocError>
-    ensures { OnOk result
-        (tokens_of list.new.items ≡ tags_at html (Some (array (items_view items.now.items)))) }
+    requires { AreItemsOrdered (items_view items.now.items) }
+    ensures { OnOk result (tokens_of list.new.items
+        ≡ tags_at html (Some (array (items_data (items_view items.now.items))))) }
 {
     *list = if html {
         tags(alloc, items)?
@@ -162,9 +169,9 @@ fn put_tags(
 }
 
 /// Puts the name in place of the one that is there, where it isn't empty.
-fn put_name(alloc: Global, name: &mut String, text: String) -> Result<(), AllocError>
-    ensures { OnOk result (string_bytes name.new
-        ≡ name_or (string_bytes name.old) (unescaped_text (string_bytes text))) }
+fn put_name(alloc: Global, name: &mut String, text: &str) -> Result<(), AllocError>
+    ensures { OnOk result
+        (string_bytes name.new ≡ name_or (string_bytes name.old) (unescaped_text text.now)) }
 {
     let text = read_text(alloc, text)?;
     if !text.is_empty() {
@@ -179,15 +186,16 @@ fn read_list(
     row: &mut Syntax,
     html: bool,
     member: Member,
-    items: Vec<Value>,
+    items: &TreeItems<'_>,
 ) -> Result<(), AllocError>
-    ensures { OnOk result (row_of row.new
-        ≡ with_member html (key_of member) (array (items_view items.items)) (row_of row.old)) }
+    requires { AreItemsOrdered (items_view items.now.items) }
+    ensures { OnOk result (row_of row.new ≡ with_member html (key_of member)
+        (array (items_data (items_view items.now.items))) (row_of row.old)) }
 {
     match member {
         Member::Texts(list) => put_texts(row, list, texts(alloc, items)?),
         Member::Pairs(list) => put_pairs(row, list, pairs(alloc, items)?),
-        Member::Contexts => put_tags(alloc, &mut row.contexts, html, &items)?,
+        Member::Contexts => put_tags(alloc, &mut row.contexts, html, items)?,
         Member::Truth(_) | Member::Name | Member::Kind | Member::Other => {}
     }
     Ok(())
@@ -199,14 +207,14 @@ fn read_text_member(
     row: &mut Syntax,
     html: bool,
     member: Member,
-    text: String,
+    text: &str,
 ) -> Result<(), AllocError>
-    ensures { OnOk result (row_of row.new
-        ≡ with_member html (key_of member) (string (string_bytes text)) (row_of row.old)) }
+    ensures { OnOk result
+        (row_of row.new ≡ with_member html (key_of member) (string text.now) (row_of row.old)) }
 {
     match member {
         Member::Name => put_name(alloc, &mut row.name, text)?,
-        Member::Kind => row.kind = text,
+        Member::Kind => row.kind = String::from_str(alloc, text)?,
         _ => {}
     }
     Ok(())
@@ -229,16 +237,17 @@ fn read_member(
     row: &mut Syntax,
     html: bool,
     key: &str,
-    value: Value,
+    value: &Tree<'_>,
 ) -> Result<(), AllocError>
+    requires { IsOrdered (value_view value.now) }
     ensures { OnOk result (row_of row.new
-        ≡ with_member html key.now (view value) (row_of row.old)) }
+        ≡ with_member html key.now (data_of (value_view value.now)) (row_of row.old)) }
 {
     match value {
         Value::Array(items) => read_list(alloc, row, html, member_of(key), items),
-        Value::String(text) => read_text_member(alloc, row, html, member_of(key), text),
+        Value::String(text) => read_text_member(alloc, row, html, member_of(key), *text),
         Value::Bool(truth) => {
-            read_truth(row, html, member_of(key), truth);
+            read_truth(row, html, member_of(key), *truth);
             Ok(())
         }
         _ => Ok(()),
@@ -249,14 +258,14 @@ fn read_members(
     alloc: Global,
     row: &mut Syntax,
     html: bool,
-    members: Map<String, Value>,
+    members: &TreeMembers<'_>,
 ) -> Result<(), AllocError>
-    ensures value { OnOk result (row_of row.new
-        ≡ filled html (members_view members.entries) (row_of row.old)) }
-    ensures ordered { AreInOrder members.entries }
+    requires { AreMembersOrdered (members_view members.now.items) }
+    ensures { OnOk result (row_of row.new
+        ≡ filled html (members_data (members_view members.now.items)) (row_of row.old)) }
 {
-    for (key, member) in members {
-        read_member(alloc, row, html, key.as_str(), member)?;
+    for entry in members {
+        read_member(alloc, row, html, entry.0, &entry.1)?;
     }
     Ok(())
 }
@@ -266,75 +275,51 @@ fn read_members(
 fn read_language(
     alloc: Global,
     row: &mut Syntax,
-    html: bool,
     key: &str,
-    value: Value,
+    value: &Tree<'_>,
 ) -> Result<(), AllocError>
     requires new { row_of row.old ≡ new_row key.now }
-    requires kind { html ≡ is_html_kind (get (codes "kind") (view value)) }
-    ensures { OnOk result (row_of row.new ≡ row_in key.now (view value)) }
+    requires ordered { IsOrdered (value_view value.now) }
+    ensures { OnOk result (row_of row.new ≡ row_in key.now (data_of (value_view value.now))) }
 {
     match value {
-        Value::Object(members) => read_members(alloc, row, html, members),
+        Value::Object(members) => read_members(alloc, row, is_html(value), members),
         _ => Ok(()),
     }
 }
 
-fn is_html(value: &Value) -> bool
-    ensures { result ≡ is_html_kind (get (codes "kind") (view value.now)) }
-{
-    is_html_kind(value.get("kind"))
-}
-
-fn row(alloc: Global, key: &str, value: Value) -> Result<Syntax, AllocError>
-    ensures { IfOk result (λ s. row_of s ≡ row_in key.now (view value)) }
+fn row(alloc: Global, key: &str, value: &Tree<'_>) -> Result<Syntax, AllocError>
+    requires { IsOrdered (value_view value.now) }
+    ensures { IfOk result (λ s. row_of s ≡ row_in key.now (data_of (value_view value.now))) }
 {
     let mut row = Syntax::new(alloc, key)?;
-    let html = is_html(&value);
-    read_language(alloc, &mut row, html, key, value)?;
+    read_language(alloc, &mut row, key, value)?;
     Ok(row)
 }
 
-fn rows(alloc: Global, members: Map<String, Value>) -> Result<Vec<Syntax>, AllocError>
-    ensures value { IfOk result (λ v. map row_of v.items ≡ rows_in (members_view members.entries)) }
+fn rows(alloc: Global, members: &TreeMembers<'_>) -> Result<Vec<Syntax>, AllocError>
+    requires keys { AreKeysInOrder (members_view members.now.items) }
+    requires ordered { AreMembersOrdered (members_view members.now.items) }
+    ensures value { IfOk result
+        (λ v. map row_of v.items ≡ rows_in (members_data (members_view members.now.items))) }
     ensures ordered { IfOk result (λ v. IsInKeyOrder (map row_of v.items)) }
 {
     let mut out = Vec::with_capacity(alloc, members.len())?;
-    for (key, member) in members {
-        out.push(row(alloc, key.as_str(), member)?)?;
+    for entry in members {
+        out.push(row(alloc, entry.0, &entry.1)?)?;
     }
     Ok(out)
 }
 
-fn language_rows(alloc: Global, languages: Value) -> Result<Vec<Syntax>, AllocError>
-    ensures value { IfOk result (λ v. map row_of v.items ≡ rows_at (Some (view languages))) }
-    ensures ordered { IfOk result (λ v. IsInKeyOrder (map row_of v.items)) }
-{
-    match languages {
-        Value::Object(members) => rows(alloc, members),
-        _ => Ok(Vec::new(alloc)),
-    }
-}
-
-fn languages(alloc: Global, mut members: Map<String, Value>) -> Result<Vec<Syntax>, AllocError>
-    ensures value { IfOk result (λ v. map row_of v.items
-        ≡ rows_at (get_member (codes "languages") (members_view members.entries))) }
-    ensures ordered { IfOk result (λ v. IsInKeyOrder (map row_of v.items)) }
-{
-    match members.remove("languages") {
-        Some(languages) => language_rows(alloc, languages),
-        None => Ok(Vec::new(alloc)),
-    }
-}
-
 /// The rows of the object `languages` of a table. It fails where memory runs out.
-pub fn rows_of(alloc: Global, table: Value) -> Result<Vec<Syntax>, AllocError>
+pub fn rows_of(alloc: Global, table: &Tree<'_>) -> Result<Vec<Syntax>, AllocError>
+    requires ordered { IsOrdered (value_view table.now) }
     ensures value { IfOk result (λ v. map row_of v.items
-        ≡ rows_at (get (codes "languages") (view table))) }
+        ≡ rows_at (get (codes "languages") (data_of (value_view table.now)))) }
     ensures ordered { IfOk result (λ v. IsInKeyOrder (map row_of v.items)) }
 {
-    match table {
-        Value::Object(members) => languages(alloc, members),
+    match member(table, "languages") {
+        Some(Value::Object(members)) => rows(alloc, members),
         _ => Ok(Vec::new(alloc)),
     }
 }

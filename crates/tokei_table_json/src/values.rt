@@ -1,68 +1,35 @@
-//! What a JSON value is, as the layouts of tables, notebooks and documents ask it.
+//! What a JSON value is, as the layout of a table asks it.
 ghost use Rattle.std.specs.Prelude.{◌≡◌};
-ghost use Rattle.serde_json.specs.View.{view, items_view, members_view};
-ghost use Rattle.serde_json.specs.Written.{has_float as data_has_float, items_have_float as data_items_have_float};
-ghost use Rattle.serde_json.specs.Written.{members_have_float as data_members_have_float};
+ghost use Rattle.json.specs.Value.{value_view, items_view};
+ghost use Rattle.tokei_json_tree.specs.TreeData.{data_of, items_data};
 ghost use Rattle.tokei_table_json.specs.Layout.{is_text, is_truth_value, all_items};
 
-use serde_json::{Map, Value};
-
-/// Whether a number, wherever it stands in the value, is no whole one of 64 bits.
-#[cycle(has_float)]
-pub fn has_float(value: &Value) -> bool
-    ensures { result ≡ data_has_float (view value.now) }
-{
-    match value {
-        Value::Null => false,
-        Value::Bool(_) => false,
-        Value::Number(n) => n.is_f64(),
-        Value::String(_) => false,
-        Value::Array(items) => items_have_float(items),
-        Value::Object(members) => members_have_float(members),
-    }
-}
-
-#[cycle(has_float)]
-fn items_have_float(items: &Vec<Value>) -> bool
-    ensures { result ≡ data_items_have_float (items_view items.now.items) }
-{
-    for item in items {
-        if has_float(item) {
-            return true;
-        }
-    }
-    false
-}
-
-#[cycle(has_float)]
-fn members_have_float(members: &Map<String, Value>) -> bool
-    ensures { result ≡ data_members_have_float (members_view members.now.entries) }
-{
-    for (_key, member) in members.iter() {
-        if has_float(member) {
-            return true;
-        }
-    }
-    false
-}
+use json::Value;
+use tokei_json_tree::{Tree, TreeItems};
 
 /// Whether the value is a text.
-pub fn is_text(value: &Value) -> bool
-    ensures { result ≡ is_text (view value.now) }
+pub(crate) fn is_text(value: &Tree<'_>) -> bool
+    ensures { result ≡ is_text (data_of (value_view value.now)) }
 {
-    value.as_str().is_some()
+    match value {
+        Value::String(_) => true,
+        _ => false,
+    }
 }
 
 /// Whether the value is `true` or `false`.
-pub fn is_truth_value(value: &Value) -> bool
-    ensures { result ≡ is_truth_value (view value.now) }
+pub(crate) fn is_truth_value(value: &Tree<'_>) -> bool
+    ensures { result ≡ is_truth_value (data_of (value_view value.now)) }
 {
-    value.as_bool().is_some()
+    match value {
+        Value::Bool(_) => true,
+        _ => false,
+    }
 }
 
 /// Whether each of the values is a text.
-pub fn all_texts(items: &Vec<Value>) -> bool
-    ensures { result ≡ all_items is_text (items_view items.now.items) }
+pub(crate) fn all_texts(items: &TreeItems<'_>) -> bool
+    ensures { result ≡ all_items is_text (items_data (items_view items.now.items)) }
 {
     for item in items {
         if !is_text(item) {

@@ -6,4 +6,5 @@ pub mod Nonempty
 pub mod OfTable
 pub mod PathSuffixes
 pub mod RowSound
+pub mod SortedNames
 pub mod TextIndex

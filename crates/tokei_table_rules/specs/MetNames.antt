@@ -3,11 +3,9 @@ use Rattle.std.specs.Prelude.{◌≡◌, ℕ, Bool, ◌||◌, List, map, is_some
 use Rattle.std.specs.Borrow.{Bor}
 use Rattle.std.specs.BTreeMap.{BTreeMap, get_by}
 use Rattle.std.specs.Cmp.Lexicographic.{slice_cmp}
-use Rattle.std.specs.List.{list_any}
 use Rattle.std.specs.Ordering.{nat_cmp}
 use Rattle.tokei_table_row.specs.Bytes.{holds}
 use Rattle.tokei_table_row.specs.Row.{Row}
-use Rattle.tokei_table_rules.specs.RowNames.{names_twice}
 
 -- Whether the name was met.
 abbrev pub is_met : {X : Type 0} → BTreeMap (Bor (List ℕ)) X → List ℕ → Bool
@@ -16,10 +14,6 @@ is_met names name = is_some (get_by (λ k. slice_cmp nat_cmp name k.now) names)
 -- Whether the key or the name was met.
 abbrev pub was_met : (List ℕ → Bool) → Row → Bool
 was_met met row = met row.key || met row.name
-
--- Whether a name of the rows was met, or names two of them.
-abbrev pub clashes : (List ℕ → Bool) → List Row → Bool
-clashes met rs = list_any (was_met met) rs || names_twice rs
 
 -- The bytes of borrowed texts.
 abbrev pub words_of : List (Bor (List ℕ)) → List (List ℕ)

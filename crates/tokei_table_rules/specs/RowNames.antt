@@ -1,5 +1,5 @@
 -- When a text names two rows, or the rows' total.
-use Rattle.std.specs.Prelude.{Bool, false, ◌||◌, List, [], ◌∷◌, codes, bytes_eq}
+use Rattle.std.specs.Prelude.{ℕ, Bool, false, ◌||◌, List, [], ◌∷◌, map, codes, bytes_eq, if◌then◌else◌}
 use Rattle.std.specs.List.{list_any}
 use Rattle.tokei_table_row.specs.Row.{Row}
 
@@ -13,6 +13,16 @@ shares_name row s =
 abbrev pub names_twice : List Row → Bool
 names_twice [] = false
 names_twice (r ∷ rs) = list_any (shares_name r) rs || names_twice rs
+
+-- The keys of the languages.
+abbrev pub keys_of : List Row → List (List ℕ)
+keys_of rs = map (λ r. r.key) rs
+
+-- The names of the languages whose name isn't their key.
+abbrev pub other_names_of : List Row → List (List ℕ)
+other_names_of [] = []
+other_names_of (r ∷ rs) =
+    if bytes_eq r.name r.key then other_names_of rs else r.name ∷ other_names_of rs
 
 -- The key or the name is `Total`, under which results are totalled.
 abbrev pub is_total : Row → Bool

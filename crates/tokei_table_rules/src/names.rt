@@ -1,9 +1,12 @@
 //! Whether a text names two rows.
-ghost use Rattle.std.specs.Prelude.{◌≡◌, ◌||◌, ◌<◌, ℕ, List, length, true, map, bytes_eq, IfOk, IfSome, OnOk, OnErr};
+ghost use Rattle.std.specs.Prelude.{◌≡◌, ◌++◌, ◌||◌, ◌<◌, ℕ, List, length, true, map, bytes_eq, IfOk, IfSome, OnOk, OnErr};
+ghost use Rattle.std.specs.Cmp.Lexicographic.{slice_cmp};
+ghost use Rattle.std.specs.List.{IsAllAdjacentAnswer};
+ghost use Rattle.std.specs.Ordering.{is_lt, nat_cmp};
 ghost use Rattle.tokei_table_row.specs.RowOf.{row_of};
 ghost use Rattle.tokei_table_row.specs.FirstRows.{has_name};
-ghost use Rattle.tokei_table_rules.specs.MetNames.{is_met, was_met};
-ghost use Rattle.tokei_table_rules.specs.RowNames.{names_twice};
+ghost use Rattle.tokei_table_rules.specs.MetNames.{is_met, was_met, words_of};
+ghost use Rattle.tokei_table_rules.specs.RowNames.{names_twice, keys_of, other_names_of};
 
 use std::alloc::{AllocError, Global};
 use std::collections::BTreeMap;
@@ -77,15 +80,47 @@ pub fn shared_name<'a>(row: &'a Syntax, other: &Syntax) -> Option<&'a str>
     }
 }
 
+/// Adds the key of each row.
+fn add_keys<'a>(texts: &mut Vec<&'a str>, rows: &'a [Syntax]) -> Result<(), AllocError>
+    ensures { OnOk result
+        (words_of texts.new.items ≡ words_of texts.old.items ++ keys_of (map row_of rows.now)) }
+{
+    for row in rows {
+        texts.push(row.key.as_str())?;
+    }
+    Ok(())
+}
+
+/// Adds the name of each row whose name isn't its key.
+fn add_other_names<'a>(texts: &mut Vec<&'a str>, rows: &'a [Syntax]) -> Result<(), AllocError>
+    ensures { OnOk result (words_of texts.new.items
+        ≡ words_of texts.old.items ++ other_names_of (map row_of rows.now)) }
+{
+    for row in rows {
+        let name = row.name.as_str();
+        if name != row.key.as_str() {
+            texts.push(name)?;
+        }
+    }
+    Ok(())
+}
+
+/// Whether each text is below the next one, byte by byte.
+fn ascend(texts: &[&str]) -> bool
+    ensures { IsAllAdjacentAnswer (λ x y b. b ≡ is_lt (slice_cmp nat_cmp x.now y.now))
+        texts.now result }
+{
+    texts.is_sorted_by(|text, next| *text < *next)
+}
+
 /// Whether a text is key or name of two rows. It fails where memory runs out.
 pub fn names_twice(alloc: Global, rows: &[Syntax]) -> Result<bool, AllocError>
     ensures { IfOk result (λ twice. twice ≡ names_twice (map row_of rows.now)) }
 {
-    let mut names = BTreeMap::new(alloc);
-    for row in rows {
-        if add_names(&mut names, row)? {
-            return Ok(true);
-        }
-    }
-    Ok(false)
+    // The keys stand before the names, since a sort is quick where much is in order already.
+    let mut texts = Vec::with_capacity(alloc, rows.len())?;
+    add_keys(&mut texts, rows)?;
+    add_other_names(&mut texts, rows)?;
+    texts.sort()?;
+    Ok(!ascend(&texts))
 }

@@ -63,7 +63,12 @@ pub(crate) fn add_word(alloc: Global, out: &mut Vec<String>, word: &str) -> Resu
 pub fn important_syntax(alloc: Global, row: &Syntax) -> Result<Vec<String>, AllocError>
     ensures { IfOk result (λ v. tokens_of v.items ≡ important_syntax (row_of row.now)) }
 {
-    let mut out = Vec::new(alloc);
+    // The room for all of them at once, and for the string literals that `openers` adds.
+    let number = (row.quotes.len() + row.doc_quotes.len())
+        .saturating_add(row.multi_line_comments.len() + row.nested_comments.len())
+        .saturating_add(row.important_syntax.len() + row.contexts.len())
+        .saturating_add(row.verbatim_quotes.len());
+    let mut out = Vec::with_capacity(alloc, number)?;
     add_starts(alloc, &mut out, &row.quotes)?;
     add_starts(alloc, &mut out, &row.doc_quotes)?;
     add_starts(alloc, &mut out, &row.multi_line_comments)?;

@@ -1,10 +1,14 @@
 use Rattle.std.proofs.Common.{◌≡◌, drop}
-use Rattle.serde_json.specs.View.{items_view}
+use Rattle.json.specs.Value.{items_view}
+use Rattle.tokei_json_tree.specs.Ordered.{AreItemsOrdered}
+use Rattle.tokei_json_tree.specs.TreeData.{items_data}
 use Rattle.tokei_table.specs.Layout.{all_items}
 use Rattle.tokei_json.specs.LanguageMaps.{passes, report_passes}
 use Rattle.tokei_json.proofs.language_maps.all_items_pass.Given as goal
 
 abbrev pub invariant-loop-item : goal.invariant-loop-item
-invariant-loop-item l =
-    all_items (report_passes (passes l.table l.test)) (items_view l.item-items)
-    ≡ all_items (report_passes (passes l.table l.test)) (items_view (drop l.item-index l.item-items))
+invariant-loop-item l = record {
+  same : all_items (report_passes (passes l.table l.test)) (items_data (items_view l.item-items))
+      ≡ all_items (report_passes (passes l.table l.test)) (items_data (items_view (drop l.item-index l.item-items)));
+  ordered : AreItemsOrdered (items_view (drop l.item-index l.item-items));
+}

@@ -1,9 +1,13 @@
-use Rattle.std.proofs.Common.{◌≡◌}
-use Rattle.serde_json.specs.View.{members_view}
+use Rattle.std.proofs.Common.{◌≡◌, drop}
+use Rattle.json.specs.Value.{members_view}
+use Rattle.tokei_json_tree.specs.Ordered.{AreMembersOrdered}
+use Rattle.tokei_json_tree.specs.TreeData.{members_data}
 use Rattle.tokei_json.specs.LanguageMaps.{passes, lists_pass}
 use Rattle.tokei_json.proofs.language_maps.lists_pass.Given as goal
 
-abbrev pub invariant-loop-name : goal.invariant-loop-name
-invariant-loop-name l =
-    lists_pass (passes l.table l.test) (members_view l.members.entries)
-    ≡ lists_pass (passes l.table l.test) (members_view l._name-iterator)
+abbrev pub invariant-loop-member : goal.invariant-loop-member
+invariant-loop-member l = record {
+  same : lists_pass (passes l.table l.test) (members_data (members_view l.member-items))
+      ≡ lists_pass (passes l.table l.test) (members_data (members_view (drop l.member-index l.member-items)));
+  ordered : AreMembersOrdered (members_view (drop l.member-index l.member-items));
+}

@@ -1,7 +1,13 @@
-use Rattle.std.proofs.Common.{◌≡◌}
-use Rattle.serde_json.specs.View.{members_view}
+use Rattle.std.proofs.Common.{◌≡◌, drop}
+use Rattle.json.specs.Value.{members_view}
+use Rattle.tokei_json_tree.specs.Ordered.{AreMembersOrdered}
+use Rattle.tokei_json_tree.specs.TreeData.{members_data}
 use Rattle.tokei_json.specs.Layout.{all_reports}
 use Rattle.tokei_json.proofs.layout.all_reports.Given as goal
 
-abbrev pub invariant-loop-key : goal.invariant-loop-key
-invariant-loop-key l = all_reports (members_view l.members.entries) ≡ all_reports (members_view l._key-iterator)
+abbrev pub invariant-loop-member : goal.invariant-loop-member
+invariant-loop-member l = record {
+  same : all_reports (members_data (members_view l.member-items))
+      ≡ all_reports (members_data (members_view (drop l.member-index l.member-items)));
+  ordered : AreMembersOrdered (members_view (drop l.member-index l.member-items));
+}

@@ -1,6 +1,6 @@
-use Rattle.std.proofs.Common.{◌∙◌, refl, sym, slice_index, arith}
+use Rattle.std.proofs.Common.{◌<◌, ◌∙◌, refl, sym, slice_index, arith}
 use Rattle.tokei_parts.specs.PlainBytes.{BeginsNone}
-use Rattle.tokei_parts.proofs.CodeHeads.{blank_front, blanks, code_front}
+use Rattle.tokei_parts.proofs.CodeHeads.{blank_front, blanks, code_front, solid_part}
 use Rattle.tokei_parts.proofs.class.class_by_front.Goals as goal
 
 pub returns-then-stop-solid-clause-blank : goal.returns-then-stop-solid-clause-blank
@@ -35,3 +35,10 @@ returns-clause-code c _ =
     (blanks c.args.text.now c.args.start c.args.solid c.blanks_end-head.result c.requires.solid
     e.blank)
     e.found c.args.matchers.now (omega (arith, c.if-head-stop.false, e.high)) first head
+
+pub returns-then-begins-clause-solid : goal.returns-then-begins-clause-solid
+returns-then-begins-clause-solid c _ =
+    let e = c.blanks_end-head.ensures in
+    let below : c.blanks_end-head.result < c.args.stop = omega (arith, c.if-head-stop.false, e.high) in
+    solid_part c.args.text.now c.args.start c.args.stop c.blanks_end-head.result
+    (omega (arith, c.requires.low, e.low)) below c.requires.within (e.found below)

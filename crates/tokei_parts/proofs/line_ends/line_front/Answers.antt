@@ -1,18 +1,8 @@
-use Rattle.std.proofs.Common.{◌≡◌, ◌∙◌, ℕ, ◌+◌, ◌<◌, ◌≤◌, ◌==◌, List, [], ◌∷◌, false, drop, length, get_or, ap, sym, arith}
+use Rattle.std.proofs.Common.{◌≡◌, ◌+◌, ◌≤◌, ◌==◌, drop, length, ap, arith}
 use Rattle.tokei_bytes.proofs.Blocks.{other_than, the_one}
-use Rattle.tokei_bytes.specs.OneOf.{is_one_of}
 use Rattle.tokei_parts.specs.Lines.{line_len}
-use Rattle.tokei_parts.proofs.LineEnd.{newline_at, newline_behind}
+use Rattle.tokei_parts.proofs.LineEnd.{ended, newline_at, sought}
 use Rattle.tokei_parts.proofs.line_ends.line_front.Goals as goal
-
--- no newline stands before the place to which the block was searched
-sought : (text : List ℕ) (at near : ℕ) → at ≤ near → near ≤ length text → ((p : ℕ) → at ≤ p → p < near → is_one_of (10 ∷ 10 ∷ 10 ∷ 10 ∷ []) (get_or text p 0) ≡ false)
-    → near + line_len (drop near text) ≡ at + line_len (drop at text)
-sought text at near low within passed = newline_behind text at near low within (λ k i j. other_than _ 10 (passed k i j))
-
--- so where none stands in it, the line ends as it does from the block's end on
-ended : (text : List ℕ) (at near end : ℕ) → near ≡ end → near + line_len (drop near text) ≡ at + line_len (drop at text) → end + line_len (drop end text) ≡ at + line_len (drop at text)
-ended text at near end is behind = ap (λ m. m + line_len (drop m text)) (sym is) ∙ behind
 
 pub returns-then-near-at-clause-line : goal.returns-then-near-at-clause-line
 returns-then-near-at-clause-line c =

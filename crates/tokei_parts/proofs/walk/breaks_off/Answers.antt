@@ -1,5 +1,5 @@
-use Rattle.std.proofs.Common.{◌≡◌, sym, ap, subst, is_some, Some, arith}
-use Rattle.tokei_parts.specs.Places.{block_from}
+use Rattle.std.proofs.Common.{◌≡◌, ◌∙◌, sym, ap, subst, is_some, Some, arith}
+use Rattle.tokei_parts.specs.Places.{block_from, choice_from}
 use Rattle.tokei_parts.specs.Reached.{BreaksOff, StepsTo}
 use Rattle.tokei_parts.specs.Seen.{block_of, chain_of}
 use Rattle.tokei_parts.proofs.Reaching.{reach_here}
@@ -18,14 +18,24 @@ finds_child-opens-requires-clause-here c =
 pub finds_child-opens-requires-clause-childless : goal.finds_child-opens-requires-clause-childless
 finds_child-opens-requires-clause-childless c = λ low. c.requires.childless c.args.reach.now.at (omega arith) low
 
-pub take_step-requires-clause-mode : goal.take_step-requires-clause-mode
-take_step-requires-clause-mode c = sym c.requires.plain
+pub choice_in_plain-choice-requires-clause-here : goal.choice_in_plain-choice-requires-clause-here
+choice_in_plain-choice-requires-clause-here c =
+    let begun = c.requires.reached in
+    reach_here c.args.part.now begun.0 (chain_of c.args.stack.now.items) c.args.reach.now.at c.args.reach.now.steps begun.1 c.requires.some
+
+pub choice_in_plain-choice-requires-clause-child : goal.choice_in_plain-choice-requires-clause-child
+choice_in_plain-choice-requires-clause-child c = λ some. ap is_some (c.finds_child-opens.ensures.found some)
+
+pub choice_in_plain-choice-requires-clause-childless : goal.choice_in_plain-choice-requires-clause-childless
+choice_in_plain-choice-requires-clause-childless c = λ none. c.finds_child-opens.ensures.none none
+
+pub take_step-requires-clause-choice : goal.take_step-requires-clause-choice
+take_step-requires-clause-choice c =
+    c.choice_in_plain-choice.ensures.choice
+    ∙ ap (choice_from c.args.part.now c.args.reach.now.at) (sym c.requires.plain)
 
 pub take_step-requires-clause-child : goal.take_step-requires-clause-child
-take_step-requires-clause-child c = λ some. ap is_some (c.finds_child-opens.ensures.found some)
-
-pub take_step-requires-clause-childless : goal.take_step-requires-clause-childless
-take_step-requires-clause-childless c = λ none _. c.finds_child-opens.ensures.none none
+take_step-requires-clause-child c = λ is. ap is_some (c.finds_child-opens.ensures.found (c.choice_in_plain-choice.ensures.child is))
 
 pub returns-in-Child-clause-breaks : goal.returns-in-Child-clause-breaks
 returns-in-Child-clause-breaks c = λ _. breaks (goal.at.returns-in-Child-clause-breaks c).In-Child
@@ -33,7 +43,7 @@ returns-in-Child-clause-breaks c = λ _. breaks (goal.at.returns-in-Child-clause
 pub returns-in-Child-clause-found : goal.returns-in-Child-clause-found
 returns-in-Child-clause-found c = λ _.
     subst (λ m. block_from c.args.part.now m ≡ Some (block_of c.finds_child-opens.new.found)) (sym (breaks (goal.at.returns-in-Child-clause-found c).In-Child).same)
-    (c.finds_child-opens.ensures.found (c.in_ok-take_step.ensures.child c.in-Child.is))
+    (c.finds_child-opens.ensures.found (c.choice_in_plain-choice.ensures.child (c.in_ok-take_step.ensures.child c.in-Child.is)))
 
 pub returns-in-Child-clause-childless : goal.returns-in-Child-clause-childless
 returns-in-Child-clause-childless c = λ q low high.

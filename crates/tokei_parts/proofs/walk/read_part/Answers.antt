@@ -7,9 +7,9 @@ use Rattle.tokei_parts.specs.ReadingOf.{row_in, blocks_of}
 use Rattle.tokei_parts.specs.Seen.{chain_of}
 use Rattle.tokei_parts.specs.Walked.{Reads}
 use Rattle.tokei_parts.proofs.LineEnds.{end_is}
-use Rattle.tokei_parts.proofs.Reaching.{end_in_text, reach_none}
+use Rattle.tokei_parts.proofs.Reaching.{end_in_text, front_none, reach_none}
 use Rattle.tokei_parts.proofs.walk.read_part.Goals as goal
-use Rattle.tokei_parts.proofs.walk.read_part.Goals.{After-line_stop-stop, After-take_plain}
+use Rattle.tokei_parts.proofs.walk.read_part.Goals.{After-line_stop-stop, After-take_plain-plain}
 
 -- where the part's line stops
 stop_is : (c : After-line_stop-stop) → c.line_stop-stop.result ≡ part_stop c.args.part.now
@@ -18,13 +18,13 @@ stop_is c =
     end_is (text_of p) p.start p.end c.line_stop-stop.result c.requires.begins.part.high c.requires.begins.line c.line_stop-stop.ensures.more c.line_stop-stop.ensures.last
 
 -- how the part leads on behind bytes of plain text
-led : (c : After-take_plain)
-    → Reaches c.args.part.now (chain_of c.args.stack.now.items) (chain_of c.loop-reach.stack.items) c.take_plain.new.reach.at c.take_plain.new.reach.steps
+led : (c : After-take_plain-plain)
+    → Reaches c.args.part.now (chain_of c.args.stack.now.items) (chain_of c.loop-reach.stack.items) c.take_plain-plain.new.reach.at c.take_plain-plain.new.reach.steps
 led c =
     let p = c.args.part.now in
     let begun = chain_of c.args.stack.now.items in
-    subst (λ es. Reaches p begun (chain_of es) c.take_plain.new.reach.at c.take_plain.new.reach.steps) c.deref-in-loop-reach-2.ensures.value
-    (c.take_plain.ensures.goes_on begun
+    subst (λ es. Reaches p begun (chain_of es) c.take_plain-plain.new.reach.at c.take_plain-plain.new.reach.steps) c.deref-in-loop-reach-2.ensures.value
+    (c.take_plain-plain.ensures.goes_on begun
     (subst (λ es. Reaches p begun (chain_of es) c.loop-reach.reach.at c.loop-reach.reach.steps) (sym c.deref-in-loop-reach-2.ensures.value) c.loop-reach.invariant.reaches))
 
 pub line_stop-stop-requires : goal.line_stop-stop-requires
@@ -35,10 +35,11 @@ loop-reach-init c = record {
   same = refl;
   reaches = reach_none c.args.part.now (chain_of c.args.stack.now.items) c.requires.begins c.requires.closable;
   childless = λ q low high. absurd (omega (arith, low, high));
+  front = front_none c.args.part.now c.requires.begins;
 }
 
-pub take_plain-requires-clause-stop : goal.take_plain-requires-clause-stop
-take_plain-requires-clause-stop c = stop_is (goal.at.take_plain-requires-clause-stop c).After-line_stop-stop
+pub take_plain-plain-requires-clause-stop : goal.take_plain-plain-requires-clause-stop
+take_plain-plain-requires-clause-stop c = stop_is (goal.at.take_plain-plain-requires-clause-stop c).After-line_stop-stop
 
 pub end_line-requires-clause-stop : goal.end_line-requires-clause-stop
 end_line-requires-clause-stop c = stop_is (goal.at.end_line-requires-clause-stop c).After-line_stop-stop
@@ -46,23 +47,23 @@ end_line-requires-clause-stop c = stop_is (goal.at.end_line-requires-clause-stop
 pub take_within-requires-clause-reached : goal.take_within-requires-clause-reached
 take_within-requires-clause-reached c = (chain_of c.args.stack.now.items, c.loop-reach.invariant.reaches)
 
-pub take_plain-requires-clause-reached : goal.take_plain-requires-clause-reached
-take_plain-requires-clause-reached c =
+pub take_plain-plain-requires-clause-reached : goal.take_plain-plain-requires-clause-reached
+take_plain-plain-requires-clause-reached c =
     let begun = chain_of c.args.stack.now.items in
     (begun, subst (λ es. Reaches c.args.part.now begun (chain_of es) c.loop-reach.reach.at c.loop-reach.reach.steps) (sym c.deref-in-loop-reach-2.ensures.value) c.loop-reach.invariant.reaches)
 
-pub take_plain-requires-clause-plain : goal.take_plain-requires-clause-plain
-take_plain-requires-clause-plain c =
+pub take_plain-plain-requires-clause-plain : goal.take_plain-plain-requires-clause-plain
+take_plain-plain-requires-clause-plain c =
     ap (λ es. innermost (chain_of es)) (c.deref-in-loop-reach-2.ensures.value ∙ sym c.deref-in-loop-reach.ensures.value) ∙ sym c.in_default.ensures
 
 pub breaks_off-requires-clause-reached : goal.breaks_off-requires-clause-reached
-breaks_off-requires-clause-reached c = (chain_of c.args.stack.now.items, led (goal.at.breaks_off-requires-clause-reached c).After-take_plain)
+breaks_off-requires-clause-reached c = (chain_of c.args.stack.now.items, led (goal.at.breaks_off-requires-clause-reached c).After-take_plain-plain)
 
 pub breaks_off-requires-clause-plain : goal.breaks_off-requires-clause-plain
 breaks_off-requires-clause-plain c = ap (λ es. innermost (chain_of es)) (sym c.deref-in-loop-reach.ensures.value) ∙ sym c.in_default.ensures
 
 pub breaks_off-requires-clause-childless : goal.breaks_off-requires-clause-childless
-breaks_off-requires-clause-childless c = c.take_plain.ensures.childless
+breaks_off-requires-clause-childless c = c.take_plain-plain.ensures.childless
 
 pub end_line-requires-clause-reached : goal.end_line-requires-clause-reached
 end_line-requires-clause-reached c =
@@ -71,9 +72,10 @@ end_line-requires-clause-reached c =
 
 pub loop-reach-preserved-then-part-reach : goal.loop-reach-preserved-then-part-reach
 loop-reach-preserved-then-part-reach c = record {
-  same = c.take_plain.ensures.same ∙ c.loop-reach.invariant.same;
-  reaches = led (goal.at.loop-reach-preserved-then-part-reach c).After-take_plain;
-  childless = c.take_plain.ensures.childless;
+  same = c.take_plain-plain.ensures.same ∙ c.loop-reach.invariant.same;
+  reaches = led (goal.at.loop-reach-preserved-then-part-reach c).After-take_plain-plain;
+  childless = c.take_plain-plain.ensures.childless;
+  front = c.front_behind-front.ensures;
 }
 
 pub loop-reach-preserved-in-Some : goal.loop-reach-preserved-in-Some
@@ -83,18 +85,20 @@ loop-reach-preserved-in-Some c =
       same = c.loop-reach.invariant.same;
       reaches = e.advances.goes_on (chain_of c.args.stack.now.items) c.loop-reach.invariant.reaches;
       childless = λ q low high. c.loop-reach.invariant.childless q (omega (arith, low, e.advances.on)) (omega (arith, high, e.child));
+      front = c.loop-reach.invariant.front;
     }
 
 pub loop-reach-preserved : goal.loop-reach-preserved
 loop-reach-preserved c = record {
-  same = c.breaks_off.ensures.same ∙ c.take_plain.ensures.same ∙ c.loop-reach.invariant.same;
-  reaches = (c.in_ok-breaks_off.ensures.advances c.if-branch.false).goes_on (chain_of c.args.stack.now.items) (led (goal.at.loop-reach-preserved c).After-take_plain);
+  same = c.breaks_off.ensures.same ∙ c.take_plain-plain.ensures.same ∙ c.loop-reach.invariant.same;
+  reaches = (c.in_ok-breaks_off.ensures.advances c.if-branch.false).goes_on (chain_of c.args.stack.now.items) (led (goal.at.loop-reach-preserved c).After-take_plain-plain);
   childless = c.in_ok-breaks_off.ensures.childless;
+  front = c.front_behind-front.ensures;
 }
 
 pub returns-then-branch-clause-reads : goal.returns-then-branch-clause-reads
 returns-then-branch-clause-reads c =
-    (c.in_ok-breaks_off.ensures.breaks c.if-branch.true).reads (chain_of c.args.stack.now.items) (led (goal.at.returns-then-branch-clause-reads c).After-take_plain)
+    (c.in_ok-breaks_off.ensures.breaks c.if-branch.true).reads (chain_of c.args.stack.now.items) (led (goal.at.returns-then-branch-clause-reads c).After-take_plain-plain)
 
 pub returns-clause-reads : goal.returns-clause-reads
 returns-clause-reads c =
@@ -105,3 +109,6 @@ returns-clause-reads c =
     subst (λ es. Reads (row_in p.reading.now) (blocks_of p.reading.now) p.behind_child p.reading.now.docs_are_comments
     begun (chain_of es) p.start (text_of p) c.end_line.result) c.deref-2.ensures.value
     (c.end_line.ensures.reads begun kind reaches)
+
+pub end_line-requires-clause-front : goal.end_line-requires-clause-front
+end_line-requires-clause-front c = c.loop-reach.invariant.front

@@ -1,4 +1,4 @@
-use Rattle.std.proofs.Common.{◌≡◌, true, false, ◌∙◌, ℕ, ◌+◌, ◌<◌, ◌≤◌, length, drop, refl, sym, subst, arith}
+use Rattle.std.proofs.Common.{◌≡◌, ◌∙◌, ℕ, ◌+◌, ◌<◌, ◌≤◌, length, drop, refl, sym, subst, arith}
 use Rattle.tokei_parts.specs.Choice.{choice}
 use Rattle.tokei_parts.specs.Choice.Choice.{takes_byte}
 use Rattle.tokei_parts.specs.Modes.{Chain}
@@ -10,12 +10,9 @@ use Rattle.tokei_parts.specs.Seen.{chain_of}
 use Rattle.tokei_parts.specs.declared.place.Place.{Place}
 use Rattle.tokei_parts.proofs.LineEnds.{end_within}
 use Rattle.tokei_parts.proofs.PlainBytes.{plain_byte_at}
-use Rattle.tokei_parts.proofs.Reaching.{reach_byte, reach_here}
+use Rattle.tokei_parts.proofs.Reaching.{reach_byte}
 use Rattle.tokei_parts.proofs.walk.take_bytes.Goals as goal
 use Rattle.tokei_parts.proofs.walk.take_bytes.Goals.{In-loop-reach}
-
-not_false : true ≡ false → ⊥
-not_false h = cc
 
 -- the byte is one of the line
 inside : (c : In-loop-reach) → c.loop-reach.reach.at < c.args.part.now.end
@@ -50,21 +47,13 @@ loop-reach-init c = record {
   goes_on = λ chain reaches. reaches;
 }
 
-pub choice_at-byte-requires-clause-here : goal.choice_at-byte-requires-clause-here
-choice_at-byte-requires-clause-here c =
-    let d = (goal.at.choice_at-byte-requires-clause-here c).In-loop-reach in
-    reach_here c.args.part.now c.requires.reached.0 (chain_of c.args.stack.now) c.loop-reach.reach.at c.loop-reach.reach.steps (reached d) (inside d)
-
-pub choice_at-byte-requires-clause-room : goal.choice_at-byte-requires-clause-room
-choice_at-byte-requires-clause-room c =
-    let d = (goal.at.choice_at-byte-requires-clause-room c).In-loop-reach in
+pub take_byte-requires-clause-room : goal.take_byte-requires-clause-room
+take_byte-requires-clause-room c =
+    let d = (goal.at.take_byte-requires-clause-room c).In-loop-reach in
     omega (arith, within d, inside d, (reached d).few)
 
-pub choice_at-byte-requires-clause-childless : goal.choice_at-byte-requires-clause-childless
-choice_at-byte-requires-clause-childless c = λ other _ _. absurd (not_false other)
-
-pub choice_at-byte-requires-clause-plain : goal.choice_at-byte-requires-clause-plain
-choice_at-byte-requires-clause-plain c = λ _. plain (goal.at.choice_at-byte-requires-clause-plain c).In-loop-reach
+pub take_byte-requires-clause-plain : goal.take_byte-requires-clause-plain
+take_byte-requires-clause-plain c = plain (goal.at.take_byte-requires-clause-plain c).In-loop-reach
 
 pub loop-reach-preserved : goal.loop-reach-preserved
 loop-reach-preserved c =
@@ -77,7 +66,7 @@ loop-reach-preserved c =
       low = omega (arith, c.loop-reach.invariant.low);
       high = omega (arith, inside d);
       goes_on = λ chain reaches.
-          subst (Reaches p chain items (at + 1)) (sym c.choice_at-byte.ensures.counted)
+          subst (Reaches p chain items (at + 1)) (sym c.take_byte.ensures)
           (reach_byte p chain items at c.loop-reach.reach.steps (c.loop-reach.invariant.goes_on chain reaches) (inside d)
           (subst (λ m. choice (row_in p.reading.now) m (block_from p at) (drop at (text_of p)) ≡ takes_byte) c.requires.mode (plain d)));
     }

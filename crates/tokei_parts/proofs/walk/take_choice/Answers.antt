@@ -1,4 +1,4 @@
-use Rattle.std.proofs.Common.{◌≡◌, ◌<◌, ◌∙◌, ap, sym, ℕ, true, is_some, Option, List, [], ◌-◌, take, drop, arith}
+use Rattle.std.proofs.Common.{◌≡◌, ◌<◌, ◌∙◌, ap, sym, ℕ, true, is_some, List, [], ◌-◌, take, drop, arith}
 use Rattle.std.proofs.lemmas.List.{append-nil}
 use Rattle.tokei_table.specs.RowOf.{pair_of}
 use Rattle.tokei_parts.specs.Choice.{Choice, choice, or_else}
@@ -8,7 +8,7 @@ use Rattle.tokei_parts.specs.Modes.{innermost}
 use Rattle.tokei_parts.specs.ReadingOf.{row_in, blocks_of}
 use Rattle.tokei_parts.specs.Places.{block_here}
 use Rattle.tokei_parts.specs.Progress.{OpensInLine}
-use Rattle.tokei_parts.specs.SeenChoices.{choice_of, mode_of}
+use Rattle.tokei_parts.specs.SeenChoices.{choice_of}
 use Rattle.tokei_parts.specs.Seen.{chain_of}
 use Rattle.tokei_parts.specs.declared.items.Enclosure as Code
 use Rattle.tokei_parts.specs.declared.reading.Reading.{Reading}
@@ -21,29 +21,13 @@ use Rattle.tokei_parts.proofs.walk.take_choice.Goals as goal
 abbrev at_stack : Reading → ℕ → List ℕ → List Code.Enclosure → Choice
 at_stack r l u es = choice (row_in r) (innermost (chain_of es)) (blocks_of r l u) u
 
--- the same by the mode
-by_mode : (r : Reading) (l : ℕ) (u : List ℕ) (es : List Code.Enclosure)
-    (mode : Option Code.Enclosure)
-    → mode_of mode ≡ innermost (chain_of es)
-    → choice (row_in r) (mode_of mode) (blocks_of r l u) u ≡ at_stack r l u es
-by_mode r l u es mode is = ap (λ m. choice (row_in r) m (blocks_of r l u) u) is
-
-pub choice_at-requires-clause-child : goal.choice_at-requires-clause-child
-choice_at-requires-clause-child c = λ _ some. c.requires.child some
-
--- in an item no child is looked for
-pub choice_at-requires-clause-childless : goal.choice_at-requires-clause-childless
-choice_at-requires-clause-childless c = λ _ unseen plain. c.requires.childless unseen (sym c.requires.mode ∙ plain)
-
 pub returns-in-TakesByte-clause-takes : goal.returns-in-TakesByte-clause-takes
 returns-in-TakesByte-clause-takes c =
     let u : List ℕ = drop c.args.place.now.at c.args.place.now.reading.now.text.now in
     let here : at_stack c.args.place.now.reading.now c.args.place.now.behind_child u
     c.args.stack.now.items
     ≡ takes_byte =
-    sym (by_mode c.args.place.now.reading.now c.args.place.now.behind_child u c.args.stack.now.items
-    c.args.mode c.requires.mode)
-    ∙ sym c.choice_at.ensures.choice
+    sym c.requires.choice
     ∙ ap (choice_of (blocks_of c.args.place.now.reading.now c.args.place.now.behind_child u))
     c.in-TakesByte.is in
     let some : 0 < line_len u = omega (arith, c.requires.some, c.requires.here.line) in
@@ -58,9 +42,7 @@ returns-in-Escapes-clause-takes c =
     let here : at_stack c.args.place.now.reading.now c.args.place.now.behind_child u
     c.args.stack.now.items
     ≡ escapes =
-    sym (by_mode c.args.place.now.reading.now c.args.place.now.behind_child u c.args.stack.now.items
-    c.args.mode c.requires.mode)
-    ∙ sym c.choice_at.ensures.choice
+    sym c.requires.choice
     ∙ ap (choice_of (blocks_of c.args.place.now.reading.now c.args.place.now.behind_child u))
     c.in-Escapes.is in
     let some : 0 < line_len u = omega (arith, c.requires.some, c.requires.here.line) in
@@ -75,9 +57,7 @@ returns-in-BeginsLineComment-clause-takes c =
     let here : at_stack c.args.place.now.reading.now c.args.place.now.behind_child u
     c.args.stack.now.items
     ≡ begins_line_comment =
-    sym (by_mode c.args.place.now.reading.now c.args.place.now.behind_child u c.args.stack.now.items
-    c.args.mode c.requires.mode)
-    ∙ sym c.choice_at.ensures.choice
+    sym c.requires.choice
     ∙ ap (choice_of (blocks_of c.args.place.now.reading.now c.args.place.now.behind_child u))
     c.in-BeginsLineComment.is in
     let some : 0 < line_len u = omega (arith, c.requires.some, c.requires.here.line) in
@@ -92,9 +72,7 @@ returns-in-BeginsLineComment-clause-plain c = λ _.
     let here : at_stack c.args.place.now.reading.now c.args.place.now.behind_child u
     c.args.stack.now.items
     ≡ begins_line_comment =
-    sym (by_mode c.args.place.now.reading.now c.args.place.now.behind_child u c.args.stack.now.items
-    c.args.mode c.requires.mode)
-    ∙ sym c.choice_at.ensures.choice
+    sym c.requires.choice
     ∙ ap (choice_of (blocks_of c.args.place.now.reading.now c.args.place.now.behind_child u))
     c.in-BeginsLineComment.is in
     line_comment_plain (row_in c.args.place.now.reading.now) (blocks_of c.args.place.now.reading.now) c.args.place.now.behind_child (innermost (chain_of c.args.stack.now.items)) u here
@@ -105,9 +83,7 @@ returns-in-PassesOver-clause-takes c =
     let here : at_stack c.args.place.now.reading.now c.args.place.now.behind_child u
     c.args.stack.now.items
     ≡ passes_over (pair_of c.in-PassesOver.pair.now) =
-    sym (by_mode c.args.place.now.reading.now c.args.place.now.behind_child u c.args.stack.now.items
-    c.args.mode c.requires.mode)
-    ∙ sym c.choice_at.ensures.choice
+    sym c.requires.choice
     ∙ ap (choice_of (blocks_of c.args.place.now.reading.now c.args.place.now.behind_child u))
     c.in-PassesOver.is in
     let some : 0 < line_len u = omega (arith, c.requires.some, c.requires.here.line) in
@@ -125,16 +101,14 @@ returns-in-ChildOpens-clause-takes c =
     c.args.stack.now.items
     ≡ or_else (blocks_of c.args.place.now.reading.now c.args.place.now.behind_child u)
     child_opens takes_byte =
-    sym (by_mode c.args.place.now.reading.now c.args.place.now.behind_child u c.args.stack.now.items
-    c.args.mode c.requires.mode)
-    ∙ sym c.choice_at.ensures.choice
+    sym c.requires.choice
     ∙ ap (choice_of (blocks_of c.args.place.now.reading.now c.args.place.now.behind_child u))
     c.in-ChildOpens.is in
-    let some : is_some (block_here c.args.place.now) ≡ true = c.requires.child (c.choice_at.ensures.child c.in-ChildOpens.is) in
+    let some : is_some (block_here c.args.place.now) ≡ true = c.requires.child c.in-ChildOpens.is in
     child_opens-plain (row_in c.args.place.now.reading.now) (blocks_of c.args.place.now.reading.now) c.args.place.now.behind_child c.args.stack.now.items u some here
 
 pub returns-in-ChildOpens-clause-child : goal.returns-in-ChildOpens-clause-child
-returns-in-ChildOpens-clause-child c = λ _. c.choice_at.ensures.child c.in-ChildOpens.is
+returns-in-ChildOpens-clause-child c = λ _. c.in-ChildOpens.is
 
 pub returns-in_ok-push-in-Opens-clause-takes : goal.returns-in_ok-push-in-Opens-clause-takes
 returns-in_ok-push-in-Opens-clause-takes c =
@@ -142,9 +116,7 @@ returns-in_ok-push-in-Opens-clause-takes c =
     let here : at_stack c.args.place.now.reading.now c.args.place.now.behind_child u
     c.args.stack.now.items
     ≡ opens c.in-Opens.kind (pair_of c.in-Opens.pair.now) =
-    sym (by_mode c.args.place.now.reading.now c.args.place.now.behind_child u c.args.stack.now.items
-    c.args.mode c.requires.mode)
-    ∙ sym c.choice_at.ensures.choice
+    sym c.requires.choice
     ∙ ap (choice_of (blocks_of c.args.place.now.reading.now c.args.place.now.behind_child u))
     c.in-Opens.is in
     let some : 0 < line_len u = omega (arith, c.requires.some, c.requires.here.line) in
@@ -162,9 +134,7 @@ returns-in-Some-clause-takes c =
     let here : at_stack c.args.place.now.reading.now c.args.place.now.behind_child u
     c.args.stack.now.items
     ≡ closes =
-    sym (by_mode c.args.place.now.reading.now c.args.place.now.behind_child u c.args.stack.now.items
-    c.args.mode c.requires.mode)
-    ∙ sym c.choice_at.ensures.choice
+    sym c.requires.choice
     ∙ ap (choice_of (blocks_of c.args.place.now.reading.now c.args.place.now.behind_child u))
     c.in-Closes.is in
     let some : 0 < line_len u = omega (arith, c.requires.some, c.requires.here.line) in
@@ -180,9 +150,7 @@ unreachable-requires c =
     let here : at_stack c.args.place.now.reading.now c.args.place.now.behind_child u
     c.args.stack.now.items
     ≡ closes =
-    sym (by_mode c.args.place.now.reading.now c.args.place.now.behind_child u c.args.stack.now.items
-    c.args.mode c.requires.mode)
-    ∙ sym c.choice_at.ensures.choice
+    sym c.requires.choice
     ∙ ap (choice_of (blocks_of c.args.place.now.reading.now c.args.place.now.behind_child u))
     c.in-Closes.is in
     let some : 0 < line_len u = omega (arith, c.requires.some, c.requires.here.line) in

@@ -1,5 +1,6 @@
-use Rattle.std.proofs.Common.{◌∙◌, sym, arith}
+use Rattle.std.proofs.Common.{◌∙◌, inl, inr, sym, arith}
 use Rattle.tokei_parts.specs.Seen.{chain_of}
+use Rattle.tokei_parts.proofs.LineEnds.{below_or}
 use Rattle.tokei_parts.proofs.Reaching.{end_in_text, reach_here, stop_low, stops_here}
 use Rattle.tokei_parts.proofs.walk.take_plain.Goals as goal
 
@@ -36,3 +37,12 @@ take_bytes-requires-clause-plain c = c.plain_end-plain.ensures.plain
 
 pub returns-clause-childless : goal.returns-clause-childless
 returns-clause-childless c = λ q low high. c.next_child-reach.ensures.childless q (omega (arith, low, c.take_bytes.ensures.low)) (omega (arith, high, c.take_bytes.ensures.child))
+
+pub returns-clause-plain : goal.returns-clause-plain
+returns-clause-plain c = c.plain_end-plain.ensures.plain
+
+pub returns-clause-plain_high : goal.returns-clause-plain_high
+returns-clause-plain_high c = elim (below_or c.args.reach.now.at c.plain_end-plain.result) [
+  | inl h ↦ omega (arith, c.min.ensures, c.plain_end-plain.ensures.high h)
+  | inr h ↦ omega (arith, h, c.requires.some)
+]

@@ -1,4 +1,4 @@
-use Rattle.std.proofs.Common.{◌≡◌, ◌∙◌, ap, sym}
+use Rattle.std.proofs.Common.{◌∙◌}
 use Rattle.tokei_table_row.specs.RowOf.{row_of}
 use Rattle.tokei_table.proofs.Flaws.{token_told}
 use Rattle.tokei_table.proofs.flaw.token_flaw.Goals as goal

@@ -1,10 +1,11 @@
 use Rattle.std.proofs.Common.{◌≡◌, drop}
-use Rattle.serde_json.specs.View.{items_view}
+use Rattle.json.specs.Value.{items_view}
+use Rattle.tokei_json_tree.specs.TreeData.{items_data}
 use Rattle.tokei_table_json.specs.Layout.{all_items}
 use Rattle.tokei_table_json.specs.Escaped.{is_escaped_value}
 use Rattle.tokei_table_json.proofs.escaped.all_escaped.Given as goal
 
 abbrev pub invariant-loop-item : goal.invariant-loop-item
 invariant-loop-item l =
-    all_items is_escaped_value (items_view l.item-items)
-    ≡ all_items is_escaped_value (items_view (drop l.item-index l.item-items))
+    all_items is_escaped_value (items_data (items_view l.item-items))
+    ≡ all_items is_escaped_value (items_data (items_view (drop l.item-index l.item-items)))

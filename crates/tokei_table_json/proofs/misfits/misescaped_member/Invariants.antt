@@ -1,10 +1,14 @@
-use Rattle.std.proofs.Common.{◌≡◌}
-use Rattle.serde_json.specs.View.{members_view}
+use Rattle.std.proofs.Common.{◌≡◌, drop}
+use Rattle.json.specs.Value.{members_view}
+use Rattle.tokei_json_tree.specs.Ordered.{AreMembersOrdered}
+use Rattle.tokei_json_tree.specs.TreeData.{members_data}
 use Rattle.tokei_table_json.specs.MemberEscapes.{keeps_escapes}
 use Rattle.tokei_table_json.specs.MemberLayout.{all_members}
 use Rattle.tokei_table_json.proofs.misfits.misescaped_member.Given as goal
 
-abbrev pub invariant-loop-key : goal.invariant-loop-key
-invariant-loop-key l =
-    all_members (keeps_escapes l.html) (members_view l.members.entries)
-    ≡ all_members (keeps_escapes l.html) (members_view l.key-iterator)
+abbrev pub invariant-loop-entry : goal.invariant-loop-entry
+invariant-loop-entry l = record {
+  ordered : AreMembersOrdered (members_view (drop l.entry-index l.entry-items));
+  value : all_members (keeps_escapes l.html) (members_data (members_view l.entry-items))
+      ≡ all_members (keeps_escapes l.html) (members_data (members_view (drop l.entry-index l.entry-items)));
+}

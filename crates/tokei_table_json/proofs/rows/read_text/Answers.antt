@@ -1,12 +1,11 @@
-use Rattle.std.proofs.Common.{sym, ap, ◌∙◌, ◌==◌, subst}
-use Rattle.std.specs.List.{list_any}
-use Rattle.std.specs.Str.{IsUtf8}
-use Rattle.std.specs.Prelude.{string_bytes}
-use Rattle.tokei_table_json.specs.Escapes.{backslash}
+use Rattle.std.proofs.Common.{◌≡◌, ◌∙◌, sym, string_bytes}
+use Rattle.std.proofs.lemmas.Result.{IfOk-weaker}
+use Rattle.tokei_table_json.specs.Escapes.{unescaped_text}
 use Rattle.tokei_table_json.proofs.Backslashes.{stands_for_itself}
 use Rattle.tokei_table_json.proofs.rows.read_text.Goals as goal
 
 pub returns-else-has_backslash : goal.returns-else-has_backslash
 returns-else-has_backslash c =
-    stands_for_itself (string_bytes c.args.text) (subst IsUtf8 c.as_str.ensures.value c.as_str.utf8)
-    (sym (ap (list_any (λ b. b == backslash)) c.as_str.ensures.value) ∙ sym c.has_backslash.ensures ∙ c.if-has_backslash.false)
+    IfOk-weaker c.from_str.result (λ s. string_bytes s ≡ c.args.text.now) (λ s. string_bytes s ≡ unescaped_text c.args.text.now)
+    (λ s e. e ∙ stands_for_itself c.args.text.now c.utf8.text (sym c.has_backslash.ensures ∙ c.if-has_backslash.false))
+    c.from_str.ensures.ok

@@ -1,0 +1,4 @@
+pub mod Conversions
+pub mod NumberCounts
+pub mod Found
+pub mod Orderings

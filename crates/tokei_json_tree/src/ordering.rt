@@ -1,0 +1,118 @@
+//! Trees whose objects have their keys put in order.
+ghost use Rattle.std.specs.Prelude.{◌≡◌, ◌≤◌, true, IfOk, IfSome, take, vec_len};
+ghost use Rattle.json.specs.Value.{value_view, items_view, members_view};
+ghost use Rattle.tokei_json_tree.specs.Ordered.{AreBefore, AreKeysInOrder, keys_of};
+ghost use Rattle.tokei_json_tree.specs.Orderings.{IsPut, IsOrderingOf, AreItemsOrderingOf, AreMembersOrderingOf};
+
+use crate::counts::count;
+use crate::tree::{Tree, TreeItems, TreeMembers};
+use bumpalo::Bump;
+use json::Value;
+use std::alloc::AllocError;
+
+/// How many members that stand before one in a text may belong behind it, so that they are put in
+/// order here: it is compared with each of them.
+const MOST: usize = 64;
+
+/// Whether the key is behind all of that many first members, whose keys are in order.
+fn is_behind(members: &TreeMembers<'_>, count: usize, key: &str) -> bool
+    requires ordered { AreKeysInOrder (members_view members.now.items) }
+    requires within { count ≤ vec_len members.now }
+    ensures { result ≡ true
+        → AreBefore (keys_of (members_view (take count members.now.items))) key.now }
+{
+    if count == 0 {
+        return true;
+    }
+    members[count - 1].0 < key
+}
+
+/// Puts a member among others whose keys are in order, and tells whether it did: not where one of
+/// its key is there, or more than `MOST` are to stand behind it.
+fn put<'t>(members: &mut TreeMembers<'t>, key: &'t str, value: Tree<'t>) -> Result<bool, AllocError>
+    requires { AreKeysInOrder (members_view members.old.items) }
+    ensures { IfOk result (λ done. done ≡ true → IsPut key.now (value_view value.entry)
+        (members_view members.old.items) (members_view members.new.items)) }
+{
+    let mut place = members.len();
+    let first = place.saturating_sub(MOST);
+    while place > first && key < members[place - 1].0 {
+        place -= 1;
+    }
+    if !is_behind(members, place, key) {
+        return Ok(false);
+    }
+    members.insert(place, (key, value))?;
+    Ok(true)
+}
+
+/// The tree with the keys of its objects in order. None where it has a number that isn't a whole one
+/// of 64 bits from 0 on, a key twice in an object, or a member with more than `MOST` before it that
+/// belong behind it. It fails where memory runs out.
+#[cycle(ordered)]
+#[inline(always)]
+pub fn ordered<'t>(bump: &'t Bump, tree: &Tree<'t>) -> Result<Option<Tree<'t>>, AllocError>
+    ensures { IfOk result
+        (λ found. IfSome found (λ t. IsOrderingOf (value_view tree.entry.now) (value_view t))) }
+{
+    match tree {
+        Value::Null => Ok(Some(Value::Null)),
+        Value::Bool(truth) => Ok(Some(Value::Bool(*truth))),
+        Value::String(text) => Ok(Some(Value::String(*text))),
+        Value::Number(text) => {
+            if count(text).is_some() {
+                Ok(Some(Value::Number(*text)))
+            } else {
+                Ok(None)
+            }
+        }
+        Value::Array(items) => match items_ordered(bump, items)? {
+            Some(items) => Ok(Some(Value::Array(items))),
+            None => Ok(None),
+        },
+        Value::Object(members) => match members_ordered(bump, members)? {
+            Some(members) => Ok(Some(Value::Object(members))),
+            None => Ok(None),
+        },
+    }
+}
+
+#[cycle(ordered)]
+#[inline(never)]
+fn items_ordered<'t>(
+    bump: &'t Bump,
+    items: &TreeItems<'t>,
+) -> Result<Option<TreeItems<'t>>, AllocError>
+    ensures { IfOk result (λ found. IfSome found
+        (λ v. AreItemsOrderingOf (items_view items.entry.now.items) (items_view v.items))) }
+{
+    let mut made = Vec::with_capacity(bump, items.len())?;
+    for item in items {
+        match ordered(bump, item)? {
+            Some(item) => made.push(item)?,
+            None => return Ok(None),
+        }
+    }
+    Ok(Some(made))
+}
+
+#[cycle(ordered)]
+#[inline(never)]
+fn members_ordered<'t>(
+    bump: &'t Bump,
+    members: &TreeMembers<'t>,
+) -> Result<Option<TreeMembers<'t>>, AllocError>
+    ensures { IfOk result (λ found. IfSome found (λ v.
+        AreMembersOrderingOf (members_view members.entry.now.items) (members_view v.items))) }
+{
+    let mut made = Vec::with_capacity(bump, members.len())?;
+    for member in members {
+        match ordered(bump, &member.1)? {
+            Some(value) => if !put(&mut made, member.0, value)? {
+                return Ok(None);
+            },
+            None => return Ok(None),
+        }
+    }
+    Ok(Some(made))
+}

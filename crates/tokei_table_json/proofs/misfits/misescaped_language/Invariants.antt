@@ -1,8 +1,0 @@
-use Rattle.std.proofs.Common.{◌≡◌}
-use Rattle.serde_json.specs.View.{members_view}
-use Rattle.tokei_table_json.specs.Escaped.{are_escaped_languages}
-use Rattle.tokei_table_json.proofs.misfits.misescaped_language.Given as goal
-
-abbrev pub invariant-loop-key : goal.invariant-loop-key
-invariant-loop-key l =
-    are_escaped_languages (members_view l.languages.entries) ≡ are_escaped_languages (members_view l.key-iterator)

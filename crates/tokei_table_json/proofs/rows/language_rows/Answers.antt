@@ -1,8 +1,0 @@
-use Rattle.std.proofs.Common.{ap, map}
-use Rattle.tokei_table_row.specs.RowOf.{row_of}
-use Rattle.tokei_table_json.proofs.KeyOrder.{order_of_none}
-use Rattle.tokei_table_json.proofs.rows.language_rows.Goals as goal
-
-pub returns-clause-ordered : goal.returns-clause-ordered
-returns-clause-ordered c =
-    order_of_none (map row_of c.new.result.items) (ap (map row_of) c.new.ensures.items)
