@@ -2,3 +2,5 @@ pub mod Conversions
 pub mod NumberCounts
 pub mod Found
 pub mod Orderings
+pub mod Plain
+pub mod Steps

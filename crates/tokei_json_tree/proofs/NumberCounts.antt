@@ -8,7 +8,7 @@ use Rattle.std.specs.Option.{SomeIff}
 use Rattle.fast_float.specs.Text.{IsInteger, Parts, digits_of, minus, nearest, scan, with_sign}
 use Rattle.json.specs.Json as json
 use Rattle.serde_json.specs.Data.{Num, unsigned, negative, float, number}
-use Rattle.serde_json.specs.Find.{as_number, as_u64}
+use Rattle.serde_json.specs.Find.{as_u64}
 use Rattle.serde_json.specs.Read.{float_of, is_integer, number_from, number_of}
 use Rattle.serde_json.specs.Written.{has_float}
 use Rattle.tokei_json_tree.specs.Orderings.{IsOrderingOf}
@@ -85,8 +85,3 @@ count_stands s h =
       ordered = tt;
       whole = ap (λ o. has_float (number_data o)) n.1;
     }
-
--- the number that a number's text stands for is seen in it
-pub number_seen : (o : Option Num) → as_number (number_data o) ≡ o
-number_seen None = refl
-number_seen (Some n) = refl

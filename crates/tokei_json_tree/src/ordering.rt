@@ -1,5 +1,8 @@
 //! Trees whose objects have their keys put in order.
 ghost use Rattle.std.specs.Prelude.{◌≡◌, ◌≤◌, true, IfOk, IfSome, take, vec_len};
+ghost use Rattle.std.specs.Cmp.Lexicographic.{slice_cmp};
+ghost use Rattle.std.specs.Ordering.{nat_cmp};
+ghost use Rattle.std.specs.declared.cmp.Ordering.TheVariants.{Less};
 ghost use Rattle.json.specs.Value.{value_view, items_view, members_view};
 ghost use Rattle.tokei_json_tree.specs.Ordered.{AreBefore, AreKeysInOrder, keys_of};
 ghost use Rattle.tokei_json_tree.specs.Orderings.{IsPut, IsOrderingOf, AreItemsOrderingOf, AreMembersOrderingOf};
@@ -44,6 +47,64 @@ fn put<'t>(members: &mut TreeMembers<'t>, key: &'t str, value: Tree<'t>) -> Resu
     }
     members.insert(place, (key, value))?;
     Ok(true)
+}
+
+/// Whether the key is behind the last one, if there is one.
+#[inline(always)]
+fn ascends(last: Option<&str>, key: &str) -> bool
+    ensures { result ≡ true → IfSome last.entry (λ l. slice_cmp nat_cmp l.now key.now ≡ Less) }
+{
+    match last {
+        Some(last) => last < key,
+        None => true,
+    }
+}
+
+/// Whether the keys of the tree's objects are in order as they stand and its numbers are whole ones
+/// of 64 bits from 0 on: then it stands for what it reads as.
+#[cycle(is_plain)]
+#[inline(always)]
+pub fn is_plain(tree: &Tree<'_>) -> bool
+    ensures { result ≡ true → IsOrderingOf (value_view tree.now) (value_view tree.now) }
+{
+    match tree {
+        Value::Null => true,
+        Value::Bool(_) => true,
+        Value::String(_) => true,
+        Value::Number(text) => count(text).is_some(),
+        Value::Array(items) => are_items_plain(items),
+        Value::Object(members) => are_members_plain(members),
+    }
+}
+
+#[cycle(is_plain)]
+#[inline(never)]
+fn are_items_plain(items: &TreeItems<'_>) -> bool
+    ensures { result ≡ true
+        → AreItemsOrderingOf (items_view items.now.items) (items_view items.now.items) }
+{
+    for item in items {
+        if !is_plain(item) {
+            return false;
+        }
+    }
+    true
+}
+
+#[cycle(is_plain)]
+#[inline(never)]
+fn are_members_plain(members: &TreeMembers<'_>) -> bool
+    ensures { result ≡ true
+        → AreMembersOrderingOf (members_view members.now.items) (members_view members.now.items) }
+{
+    let mut last: Option<&str> = None;
+    for member in members {
+        if !ascends(last, member.0) || !is_plain(&member.1) {
+            return false;
+        }
+        last = Some(member.0);
+    }
+    true
 }
 
 /// The tree with the keys of its objects in order. None where it has a number that isn't a whole one

@@ -9,7 +9,7 @@ ghost use Rattle.tokei_json_tree.specs.TreeData.{data_of};
 
 use crate::converted::converted;
 use crate::fractions::has_float;
-use crate::ordering::ordered;
+use crate::ordering::{is_plain, ordered};
 use crate::tree::Tree;
 use bumpalo::Bump;
 use json::{Reader, Scratch};
@@ -117,6 +117,12 @@ pub fn read<'t>(alloc: Global, room: &'t mut Room, text: &'t str) -> Result<Read
 {
     let bump = &room.bump;
     let tree = tree_of(bump, &mut room.scratch, text)?;
+    if is_plain(&tree) {
+        return Ok(Reading {
+            tree,
+            has_fraction: false,
+        });
+    }
     if let Some(tree) = ordered(bump, &tree)? {
         return Ok(Reading {
             tree,

@@ -1,4 +1,4 @@
-use Rattle.std.proofs.Common.{Bor, ℕ, List, ◌≡◌, ◌≤◌, [], ◌∷◌, ◌++◌, Some, refl, sym, ap, ◌∙◌, subst, arith, append_assoc, drop-cons, suc, string_bytes, drop, ◌+◌}
+use Rattle.std.proofs.Common.{Bor, ℕ, List, ◌≡◌, ◌≤◌, [], ◌∷◌, ◌++◌, Some, refl, sym, ap, ◌∙◌, subst, arith, append_assoc, string_bytes, drop, ◌+◌}
 use Rattle.std.proofs.Math.ListN.{drop_of_length-le}
 use Rattle.std.proofs.lemmas.List.{append-nil}
 use Rattle.json.specs.Json as json
@@ -13,6 +13,7 @@ use Rattle.serde_json.specs.View.{members_view as data_members_view}
 use Rattle.serde_json.specs.Written.{IsInOrder}
 use Rattle.tokei_json_tree.specs.Converted.{AreItemsOf, AreMembersOf}
 use Rattle.tokei_json_tree.proofs.Conversions.{item_more, keys_in_order, member_more, number_converted}
+use Rattle.tokei_json_tree.proofs.Steps.{from_item}
 use Rattle.tokei_json_tree.proofs.converted.+converted.Goals as goal
 
 pub converted-returns-in_ok-try_alloc_str-in-Number :
@@ -32,9 +33,7 @@ items_converted-loop-item-preserved t c =
     let xs = c.deref-item-items.result.now in
     let x = c.item-item.result in
     let behind = drop (l.item-index + 1) xs in
-    let next : suc l.item-index ≡ l.item-index + 1 = omega arith in
-    let e : drop l.item-index xs ≡ x ∷ behind = drop-cons xs l.item-index x (omega arith)
-    ∙ ap (λ y. y ∷ drop (suc l.item-index) xs) (sym c.item-item.is) ∙ ap (λ k. x ∷ drop k xs) next in
+    let e = from_item xs l.item-index x (omega arith) c.item-item.is in
     let v = c.in_ok-converted.field-0 in
     let longer : c.push.new.self.items ≡ l.made.items ++ v ∷ [] = c.in_ok-push.ensures.items in
     λ rest h.

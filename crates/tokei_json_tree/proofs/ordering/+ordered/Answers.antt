@@ -1,10 +1,11 @@
-use Rattle.std.proofs.Common.{◌+◌, ◌≡◌, [], ◌∷◌, ◌++◌, refl, sym, ap, ◌∙◌, subst, arith, append_assoc, drop-cons, suc, drop, IfSome, rules}
+use Rattle.std.proofs.Common.{◌+◌, ◌≡◌, [], ◌∷◌, ◌++◌, refl, sym, ap, ◌∙◌, subst, arith, append_assoc, drop, IfSome, rules}
 use Rattle.std.proofs.Math.ListN.{drop_of_length-le}
 use Rattle.std.proofs.lemmas.List.{append-nil}
 use Rattle.json.specs.Json as json
 use Rattle.json.specs.Value.{value_view, items_view, members_view}
 use Rattle.tokei_json_tree.specs.Orderings.{AreItemsOrderingOf, IsOrderingOf}
 use Rattle.tokei_json_tree.proofs.Orderings.{IsOrderingSoFar, item_ordered, none_yet, one_more}
+use Rattle.tokei_json_tree.proofs.Steps.{from_item}
 use Rattle.tokei_json_tree.proofs.ordering.+ordered.Goals as goal
 
 pub items_ordered-loop-item-preserved : goal.items_ordered-loop-item-preserved
@@ -13,9 +14,7 @@ items_ordered-loop-item-preserved t c =
     let xs = c.deref-item-items.result.now in
     let x = c.item-item.result in
     let behind = drop (l.item-index + 1) xs in
-    let next : suc l.item-index ≡ l.item-index + 1 = omega arith in
-    let e : drop l.item-index xs ≡ x ∷ behind = drop-cons xs l.item-index x (omega arith)
-    ∙ ap (λ y. y ∷ drop (suc l.item-index) xs) (sym c.item-item.is) ∙ ap (λ k. x ∷ drop k xs) next in
+    let e = from_item xs l.item-index x (omega arith) c.item-item.is in
     let v = c.in-Some.item in
     let longer : c.push.new.self.items ≡ l.made.items ++ v ∷ [] = c.in_ok-push-in-Some.ensures.items in
     λ rest h.
@@ -46,9 +45,7 @@ members_ordered-loop-member-preserved t c =
     let xs = c.deref-member-items.result.now in
     let x = c.member-item.result in
     let behind = drop (l.member-index + 1) xs in
-    let next : suc l.member-index ≡ l.member-index + 1 = omega arith in
-    let e : drop l.member-index xs ≡ x ∷ behind = drop-cons xs l.member-index x (omega arith)
-    ∙ ap (λ y. y ∷ drop (suc l.member-index) xs) (sym c.member-item.is) ∙ ap (λ k. x ∷ drop k xs) next in
+    let e = from_item xs l.member-index x (omega arith) c.member-item.is in
     let made = members_view l.made.items in
     let so_far = subst (λ ys. IsOrderingSoFar (members_view xs) (members_view ys) made) e l.invariant in
     let value = value_view c.in-Some.value in

@@ -1,7 +1,20 @@
-use Rattle.std.proofs.Common.{IfSome, subst, sym, ◌∙◌}
+use Rattle.std.proofs.Common.{IfSome, subst, sym, ◌∙◌, rules}
 use Rattle.json.specs.Value.{value_view}
 use Rattle.tokei_json_tree.specs.Orderings.{IsOrderingOf}
 use Rattle.tokei_json_tree.proofs.reading.read.Goals as goal
+
+pub returns-then-is_plain-clause-tree : goal.returns-then-is_plain-clause-tree
+returns-then-is_plain-clause-tree c =
+    let h = c.is_plain.ensures (search rules) in
+    record {
+      reads = c.in_ok-tree.ensures.tree ∙ h.reads;
+      ordered = h.ordered;
+    }
+
+pub returns-then-is_plain-clause-fraction : goal.returns-then-is_plain-clause-fraction
+returns-then-is_plain-clause-fraction c =
+    let h = c.is_plain.ensures (search rules) in
+    sym h.whole
 
 pub returns-in-Some-clause-tree : goal.returns-in-Some-clause-tree
 returns-in-Some-clause-tree c =
