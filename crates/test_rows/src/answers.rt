@@ -11,8 +11,9 @@ use std::mem;
 use std::str::from_utf8;
 use toml::{Table, Value};
 
-/// What the public calls answer to a row, each under the member which says what is wanted. An answer is compared as soon
-/// as it is said. What goes wrong is kept until all is said, so that who says it needs no exit.
+/// What the public calls answer to a row, each under the member which says what is wanted. An
+/// answer is compared as soon as it is said. What goes wrong is kept until all is said, so that who
+/// says it needs no exit.
 #[derive(Drop)]
 pub struct Answers<'a> {
     /// What texts are made with.

@@ -3,8 +3,8 @@ use std::alloc::{AllocError, AllocFailed};
 use thiserror::Error;
 use tokei_stats::CountError;
 
-/// Why a row can't be asked. All but `Memory` is told of the row, which then doesn't hold. It owns nothing, so that each
-/// exit of a function that asks has nothing to let go for it.
+/// Why a row can't be asked. All but `Memory` is told of the row, which then doesn't hold. It owns
+/// nothing, so that each exit of a function that asks has nothing to let go for it.
 #[derive(Clone, Copy, Debug, Error)]
 pub enum RowError {
     /// An allocation failed: the program ends.

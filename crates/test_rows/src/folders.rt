@@ -79,8 +79,8 @@ pub fn add_files(alloc: Global, folders: &mut MemoryFolders, row: &Row) -> Resul
     Ok(())
 }
 
-/// The folders that a row's `files` and `files_hex` make. Those in `unread` refuse to be read, those in `headless` to have
-/// their heads read, and those in `unlisted` to be listed.
+/// The folders that a row's `files` and `files_hex` make. Those in `unread` refuse to be read,
+/// those in `headless` to have their heads read, and those in `unlisted` to be listed.
 pub fn folders_of(alloc: Global, row: &Row) -> Result<MemoryFolders, RowError> {
     let mut folders = MemoryFolders::new(alloc);
     add_files(alloc, &mut folders, row)?;

@@ -1,5 +1,5 @@
-//! Rows of data, and whether they hold: a row is read from TOML, public calls are asked, and what they answer is compared
-//! with what the row wants. What is asked is told by a `Subject`.
+//! Rows of data, and whether they hold: a row is read from TOML, public calls are asked, and what
+//! they answer is compared with what the row wants. What is asked is told by a `Subject`.
 #![tactic(auto)]
 
 mod answers;

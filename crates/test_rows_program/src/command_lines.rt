@@ -3,8 +3,8 @@ use crate::taken::taken;
 use test_rows::{Answers, Asked, Members, Row, RowError, Said};
 use tokei_cli::{Cli, CliError, HELP, VERSION_LINE, command, crate_version};
 
-/// The members of these rows. Words that are taken have `members`, `readers` or `options`; those that are refused, or ask
-/// for a text, a `status`.
+/// The members of these rows. Words that are taken have `members`, `readers` or `options`; those
+/// that are refused, or ask for a text, a `status`.
 pub const MEMBERS: Members = Members {
     given: &["words"],
     wanted: &[

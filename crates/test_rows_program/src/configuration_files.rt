@@ -7,8 +7,9 @@ use tokei::{
 };
 use toml::Value;
 
-/// The members of these rows. `configuration` has all members of a configuration as its `Debug` shows them; `languages` and
-/// `language` tell how many languages the table has by the configuration, and the one of an `extension`.
+/// The members of these rows. `configuration` has all members of a configuration as its `Debug`
+/// shows them; `languages` and `language` tell how many languages the table has by the
+/// configuration, and the one of an `extension`.
 pub const MEMBERS: Members = Members {
     given: &[
         "files",

@@ -7,10 +7,11 @@ use test_table::bench_json;
 use tokei::{Counted, Folders, MemoryFolders, Sink, Source};
 use tokei_program::{Env, program};
 
-/// The members of these rows. `languages.json` beside the row's files is the bench table, unless the row is `without_table`;
-/// with `hidden_table` or a table of its own, `table_json`, the table is `.table.json`, which isn't counted, and the program
-/// is told of it. `beside` are further files. `input` is what standard input holds, `xdg_config_home` and `home` are
-/// variables, and `table` is the place of the table that the program is told of; one that is left out isn't set.
+/// The members of these rows. `languages.json` beside the row's files is the bench table, unless
+/// the row is `without_table`; with `hidden_table` or a table of its own, `table_json`, the table
+/// is `.table.json`, which isn't counted, and the program is told of it. `beside` are further
+/// files. `input` is what standard input holds, `xdg_config_home` and `home` are variables, and
+/// `table` is the place of the table that the program is told of; one that is left out isn't set.
 pub const MEMBERS: Members = Members {
     given: &[
         "words",

@@ -52,8 +52,8 @@ fn behind_fills(text: &str, fill: char, many: u64) -> Option<&str> {
     }
 }
 
-/// Where a line of a report may be wider: behind its first bytes, and by which character. That is at the front of a line of
-/// `━`, and behind the first word of another.
+/// Where a line of a report may be wider: behind its first bytes, and by which character. That is
+/// at the front of a line of `━`, and behind the first word of another.
 fn filled(line: &str) -> (usize, char) {
     match line.strip_prefix(' ') {
         Some(row) => (

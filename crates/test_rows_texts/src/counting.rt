@@ -78,8 +78,8 @@ fn compare_each(one: &LanguageTable, other: &LanguageTable, text: &Text) -> Resu
     Ok(())
 }
 
-/// Answers by what all calls tell. Where the table isn't the bench table, both have to tell the same of each beginning of
-/// the text too, but for the steps, which may be others.
+/// Answers by what all calls tell. Where the table isn't the bench table, both have to tell the
+/// same of each beginning of the text too, but for the steps, which may be others.
 fn say(asked: &Asked, text: &Text, answers: &mut Answers) -> Result<(), RowError> {
     let table = asked.table()?;
     if let Some(bench) = asked.bench {

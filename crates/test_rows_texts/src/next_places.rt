@@ -4,9 +4,10 @@ ghost use Rattle.std.specs.Prelude.{◌≤◌, length};
 use test_rows::{Answers, Asked, Members, Row, RowError, Said};
 use tokei_embedding::{BlockSearch, Tag, first_line, next_doc, next_fence, next_target};
 
-/// The members of these rows. `block` is `fence`, `script`, `style`, `template`, `doc comment` or `target block`;
-/// reading begins at `start`, the search at `at`, whose line ends at `to`. That of a doc comment begins at `at`, and its
-/// line is read there, unless `to` says that it ends there too.
+/// The members of these rows. `block` is `fence`, `script`, `style`, `template`, `doc comment` or
+/// `target block`; reading begins at `start`, the search at `at`, whose line ends at `to`. That of
+/// a doc comment begins at `at`, and its line is read there, unless `to` says that it ends there
+/// too.
 pub const MEMBERS: Members = Members {
     given: &["block", "text", "start", "at", "to"],
     wanted: &["next"],

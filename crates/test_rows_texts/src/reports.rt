@@ -5,8 +5,9 @@ use test_rows::{Answers, Asked, Members, Row, RowError, Said};
 use tokei_stats::Report;
 use tokei_table::LanguageTable;
 
-/// The members of these rows. A report has a `name`, which is `called` here, `counts` and `blobs`. `shown` is its row in a
-/// `width`, or in the one that it is shown in where none is said; `equals_other` whether it equals a second report.
+/// The members of these rows. A report has a `name`, which is `called` here, `counts` and `blobs`.
+/// `shown` is its row in a `width`, or in the one that it is shown in where none is said;
+/// `equals_other` whether it equals a second report.
 pub const MEMBERS: Members = Members {
     given: &["called", "counts", "blobs", "width", "other", "table_json"],
     wanted: &["equals_other"],

@@ -6,9 +6,10 @@ use test_texts::every_call::counted;
 use tokei_stats::{CodeStats, CountError, Report, add_blob};
 use tokei_table::LanguageTable;
 
-/// The members of these rows. `sum` is a list of statistics, each of which has `counts` and may have `blobs`, or is that
-/// of a `text` in a `language`. They are added one after another: to `statistics`, to a `report`, or each of their blobs
-/// to `blobs`. After the first one that is refused `error` says why, and the other members what stands then.
+/// The members of these rows. `sum` is a list of statistics, each of which has `counts` and may
+/// have `blobs`, or is that of a `text` in a `language`. They are added one after another: to
+/// `statistics`, to a `report`, or each of their blobs to `blobs`. After the first one that is
+/// refused `error` says why, and the other members what stands then.
 pub const MEMBERS: Members = Members {
     given: &["to", "sum", "table_json"],
     wanted: &["counts", "blobs", "error"],

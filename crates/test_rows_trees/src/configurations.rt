@@ -77,8 +77,8 @@ fn gains(
     Ok(languages)
 }
 
-/// The configuration of a row: its `switches`, the `types` that are counted alone, the `extensions` that languages gain,
-/// and whether `doc_strings_are_comments`.
+/// The configuration of a row: its `switches`, the `types` that are counted alone, the `extensions`
+/// that languages gain, and whether `doc_strings_are_comments`.
 pub fn configuration(alloc: Global, table: &LanguageTable, row: &Row) -> Result<Config, RowError> {
     let mut config = switched(row)?;
     if row.has("types") {

@@ -9,9 +9,10 @@ use tokei_json::to_value;
 use tokei_languages::Languages;
 use tokei_table::LanguageTable;
 
-/// The members of these rows. `languages` are printed as `document`, or `earlier` results are added to them. A `text` is
-/// read, or one whose texts inside texts are so many `levels` deep. `stand` are the languages that are read, or those to
-/// which results were added, and `error` the cause of a refusal. A document that is so deep is `read_back` as it was.
+/// The members of these rows. `languages` are printed as `document`, or `earlier` results are added
+/// to them. A `text` is read, or one whose texts inside texts are so many `levels` deep. `stand`
+/// are the languages that are read, or those to which results were added, and `error` the cause of
+/// a refusal. A document that is so deep is `read_back` as it was.
 pub const MEMBERS: Members = Members {
     given: &[
         "table_json",

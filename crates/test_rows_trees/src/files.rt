@@ -11,9 +11,10 @@ use tokei_print::name_of;
 use tokei_stats::Report;
 use tokei_table::{LanguageTable, LanguageType};
 
-/// The members of these rows: a tree and a configuration, and of the file at a path its report in a `language`, where that
-/// is told, or its language by its path, or by its head alone. `report` is that report, `back` the path that comes back with
-/// an `error`, and `found` the language, where one is found.
+/// The members of these rows: a tree and a configuration, and of the file at a path its report in a
+/// `language`, where that is told, or its language by its path, or by its head alone. `report` is
+/// that report, `back` the path that comes back with an `error`, and `found` the language, where
+/// one is found.
 pub const MEMBERS: Members = Members {
     given: &[
         "table_json",

@@ -1,4 +1,5 @@
-//! Languages as rows tell them: each by its key or name, with its counts, its reports, and those of the languages inside it.
+//! Languages as rows tell them: each by its key or name, with its counts, its reports, and those of
+//! the languages inside it.
 use std::alloc::Global;
 use test_rows::{Row, RowError, three_of};
 use tokei_languages::{Language, Languages};

@@ -9,8 +9,9 @@ use tokei_options::Sort;
 use tokei_stats::CountError;
 use tokei_table::{LanguageTable, LanguageType};
 
-/// The members of these rows: languages, others that are added, and calls. Where `of` names a language, these are calls of
-/// that language alone. `answers` has a line for each call, `stand` how the languages stand then.
+/// The members of these rows: languages, others that are added, and calls. Where `of` names a
+/// language, these are calls of that language alone. `answers` has a line for each call, `stand`
+/// how the languages stand then.
 pub const MEMBERS: Members = Members {
     given: &["table_json", "languages", "other", "of", "calls"],
     wanted: &["answers", "stand"],

@@ -8,8 +8,9 @@ use tokei_options::NumberFormatStyle;
 use tokei_print::{Printer, print_stream_heading, print_stream_row};
 use tokei_table::{LanguageTable, LanguageType};
 
-/// The members of these rows. `calls` print languages in turn; a `language_name` is printed alone, behind a `prefix`; the
-/// reports of a `stream` are printed behind its heading. `rows` are what is printed, `error` why a call printed nothing.
+/// The members of these rows. `calls` print languages in turn; a `language_name` is printed alone,
+/// behind a `prefix`; the reports of a `stream` are printed behind its heading. `rows` are what is
+/// printed, `error` why a call printed nothing.
 pub const MEMBERS: Members = Members {
     given: &[
         "table_json",

@@ -1,5 +1,6 @@
-//! Languages as one text: each with its counts and its reports, and then those of the languages inside it. Three numbers
-//! are blank, code and comment lines, and `(!)` marks a language of which a file couldn't be read.
+//! Languages as one text: each with its counts and its reports, and then those of the languages
+//! inside it. Three numbers are blank, code and comment lines, and `(!)` marks a language of which
+//! a file couldn't be read.
 use test_rows::{Answers, Page};
 use tokei_languages::{Language, Languages};
 use tokei_print::name_of;

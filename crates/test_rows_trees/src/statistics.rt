@@ -10,8 +10,9 @@ use tokei_languages::Languages;
 use tokei_statistics::CountFiles;
 use tokei_table::LanguageTable;
 
-/// The members of these rows: a tree, roots, excludes, a configuration, the languages that are there before, and how many
-/// `runs` there are. `counted` are the languages behind them, `notes` how many notes the last run leaves.
+/// The members of these rows: a tree, roots, excludes, a configuration, the languages that are
+/// there before, and how many `runs` there are. `counted` are the languages behind them, `notes`
+/// how many notes the last run leaves.
 pub const MEMBERS: Members = Members {
     given: &[
         "table_json",

@@ -8,9 +8,10 @@ use test_rows::{
 use tokei_folders::Folders;
 use tokei_walk::{KeptFile, Note, NoteKind, Rules, Walk, kept_files};
 
-/// The members of these rows: a tree, roots, excludes, and the rules that aren't asked for. Where they are `unnamed`, each
-/// folder has a name more, which isn't UTF-8. `kept` are the files and then the notes, a line for each; `calls` and `reads`
-/// are how many calls reach the folders, and how many of these read a file.
+/// The members of these rows: a tree, roots, excludes, and the rules that aren't asked for. Where
+/// they are `unnamed`, each folder has a name more, which isn't UTF-8. `kept` are the files and
+/// then the notes, a line for each; `calls` and `reads` are how many calls reach the folders, and
+/// how many of these read a file.
 pub const MEMBERS: Members = Members {
     given: &[
         "files",

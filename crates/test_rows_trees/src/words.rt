@@ -4,8 +4,9 @@ use test_rows::{Answers, Asked, Members, Page, Row, RowError, Said};
 use tokei_earlier::Format;
 use tokei_options::{NumberFormatStyle, Sort, Streaming};
 
-/// The members of these rows: the word of a `format`, of a `style`, of a `stream` or of a `column`; a `number` that is written in the
-/// style; the name of a list of formats; or whether the style without a word is asked for.
+/// The members of these rows: the word of a `format`, of a `style`, of a `stream` or of a `column`;
+/// a `number` that is written in the style; the name of a list of formats; or whether the style
+/// without a word is asked for.
 pub const MEMBERS: Members = Members {
     given: &[
         "format",

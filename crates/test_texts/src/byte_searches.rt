@@ -162,8 +162,8 @@ fn plain_search_for_one(text: &[u8], from: usize, to: usize) -> Option<usize> {
     Some(to)
 }
 
-/// The first of many pairs of places between which the search and the plain loop differ in a text of 300 dots with `a` in
-/// that place, if there is one.
+/// The first of many pairs of places between which the search and the plain loop differ in a text
+/// of 300 dots with `a` in that place, if there is one.
 fn unlike_with_hit(alloc: Global, hit: usize) -> Result<Option<(usize, usize)>, Fail> {
     let text = text_with(alloc, 300, hit, b'a')?;
     for seventh in 0..44usize {

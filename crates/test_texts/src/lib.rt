@@ -1,7 +1,7 @@
-//! Texts that a test makes in a loop: each text of a few pieces, worked texts cut after each byte, texts many levels deep,
-//! and searches between each pair of places, which are compared with a plain loop. Of each text all calls that count texts
-//! have to return the same. They are here, above those crates, since the tests of a crate are proved together with the
-//! whole of it.
+//! Texts that a test makes in a loop: each text of a few pieces, worked texts cut after each byte,
+//! texts many levels deep, and searches between each pair of places, which are compared with a
+//! plain loop. Of each text all calls that count texts have to return the same. They are here,
+//! above those crates, since the tests of a crate are proved together with the whole of it.
 #![tactic(auto)]
 
 #[cfg(test)]
