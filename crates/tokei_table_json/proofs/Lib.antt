@@ -2,6 +2,8 @@ pub mod Backslashes
 pub mod Characters
 pub mod FilledRows
 pub mod KeyOrder
+pub mod Left
+pub mod Made
 pub mod MemberKeys
 pub mod MemberTests
 pub mod MembersOnce

@@ -1,10 +1,11 @@
--- Lists that are no pairs.
-use Rattle.std.proofs.Common.{◌≡◌, ◌<◌, ◌≤◌, List, [], ◌∷◌, length, false, refl, arith}
-use Rattle.json.specs.Value.{items_view}
+-- Lists that are pairs, and lists that are none.
+use Rattle.std.proofs.Common.{◌≡◌, ◌<◌, ◌≤◌, List, [], ◌∷◌, length, get_or, false, refl, ap, ◌∙◌, arith}
+use Rattle.json.specs.Value.{value_view, items_view}
 use Rattle.json.specs.declared.value.Value.{Value}
-use Rattle.tokei_json_tree.specs.TreeData.{items_data}
+use Rattle.tokei_json_tree.specs.TreeData.{data_of, items_data}
+use Rattle.tokei_table_row.specs.Row.{Pair}
 use Rattle.tokei_table_json.specs.Layout.{are_two_texts}
-use Rattle.tokei_table_json.specs.Rows.{two_texts, no_pair}
+use Rattle.tokei_table_json.specs.Rows.{text_of, two_texts, no_pair}
 
 module _ {A : Type 0} where
   pub too_few : (vs : List (Value A)) → length vs < 2 → are_two_texts (items_data (items_view vs)) ≡ false
@@ -23,3 +24,13 @@ module _ {A : Type 0} where
   not_two (v ∷ []) h = refl
   not_two (v ∷ w ∷ []) h = absurd (h refl)
   not_two (v ∷ w ∷ x ∷ vs) h = refl
+
+  abbrev pub texts_in : Value A → Value A → Pair
+  texts_in v w = record { opener = text_of (data_of (value_view v)); closer = text_of (data_of (value_view w)) }
+
+  pub just_two : (vs : List (Value A)) (v w : Value A) → 2 ≤ length vs → length vs < 3 → v ≡ get_or vs 0 v → w ≡ get_or vs 1 w
+      → texts_in v w ≡ two_texts (items_data (items_view vs))
+  just_two [] v w few many e f = absurd (omega (arith, few))
+  just_two (a ∷ []) v w few many e f = absurd (omega (arith, few))
+  just_two (a ∷ b ∷ []) v w few many e f = ap (λ x. texts_in x w) e ∙ ap (texts_in a) f
+  just_two (a ∷ b ∷ x ∷ vs) v w few many e f = absurd (omega (arith, many))

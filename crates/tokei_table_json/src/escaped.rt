@@ -1,11 +1,12 @@
 //! Whether the texts of a table have no escapes but the known ones.
-ghost use Rattle.std.specs.Prelude.{◌≡◌, option_map, codes};
+ghost use Rattle.std.specs.Prelude.{◌≡◌, is_some, not, option_map, codes};
 ghost use Rattle.json.specs.Value.{value_view, items_view, members_view};
 ghost use Rattle.serde_json.specs.Find.{get};
 ghost use Rattle.tokei_json_tree.specs.Ordered.{IsOrdered, AreItemsOrdered, AreMembersOrdered};
 ghost use Rattle.tokei_json_tree.specs.TreeData.{data_of, items_data, members_data};
 ghost use Rattle.tokei_table_json.specs.Layout.{absent_or, all_items};
-ghost use Rattle.tokei_table_json.specs.Escaped.{is_escaped_value, is_escaped_list, are_escaped_pairs, is_escaped_context};
+ghost use Rattle.tokei_table_json.specs.Escaped.{is_escaped_value, is_escaped_list};
+ghost use Rattle.tokei_table_json.specs.Escaped.{are_escaped_pairs, is_escaped_context};
 ghost use Rattle.tokei_table_json.specs.Escaped.{are_escaped_contexts, is_escaped_language, are_escaped_languages};
 ghost use Rattle.tokei_table_json.specs.Escaped.{is_escaped_table};
 ghost use Rattle.tokei_table_json.specs.MemberEscapes.{keeps_escapes};
@@ -120,47 +121,55 @@ fn member_keeps_escapes(html: bool, member: Member, value: &Tree<'_>) -> bool
     }
 }
 
-pub(crate) fn keeps_escapes(html: bool, key: &str, value: &Tree<'_>) -> bool
+fn keeps_escapes(html: bool, key: &str, value: &Tree<'_>) -> bool
     requires { IsOrdered (value_view value.now) }
     ensures { result ≡ keeps_escapes html key.now (data_of (value_view value.now)) }
 {
     member_keeps_escapes(html, member_of(key), value)
 }
 
-fn all_keep_escapes(html: bool, members: &TreeMembers<'_>) -> bool
+/// The name of the first member with an unknown escape.
+fn misescaped_member<'v, 't>(html: bool, members: &'v TreeMembers<'t>) -> Option<&'v str>
     requires { AreMembersOrdered (members_view members.now.items) }
-    ensures { result
-        ≡ all_members (keeps_escapes html) (members_data (members_view members.now.items)) }
+    ensures { is_some result
+        ≡ not (all_members (keeps_escapes html) (members_data (members_view members.now.items))) }
 {
     for entry in members {
         if !keeps_escapes(html, entry.0, &entry.1) {
-            return false;
+            return Some(entry.0);
         }
     }
-    true
+    None
 }
 
-#[tactic(auto, using(crate::proofs::NumberData::number_is_escaped), unfolding(crate::specs::Escaped::has_escaped_tokens, crate::specs::Escaped::has_escaped_finders, crate::specs::Escaped::has_escaped_traits))]
-pub(crate) fn is_escaped_language(value: &Tree<'_>) -> bool
+fn is_escaped_language(value: &Tree<'_>) -> bool
     requires { IsOrdered (value_view value.now) }
     ensures { result ≡ is_escaped_language (data_of (value_view value.now)) }
 {
     match value {
-        Value::Object(members) => all_keep_escapes(is_html(value), members),
+        Value::Object(members) => misescaped_member(is_html(value), members).is_none(),
         _ => true,
     }
 }
 
-fn are_escaped_languages(members: &TreeMembers<'_>) -> bool
-    requires { AreMembersOrdered (members_view members.now.items) }
-    ensures { result ≡ are_escaped_languages (members_data (members_view members.now.items)) }
+/// The key of the first of these languages with an unknown escape, and the member that has it.
+pub(crate) fn misescaped_entry<'v, 't>(
+    languages: &'v TreeMembers<'t>,
+) -> Option<(&'v str, Option<&'v str>)>
+    requires { AreMembersOrdered (members_view languages.now.items) }
+    ensures { is_some result
+        ≡ not (are_escaped_languages (members_data (members_view languages.now.items))) }
 {
-    for entry in members {
+    for entry in languages {
         if !is_escaped_language(&entry.1) {
-            return false;
+            let member = match &entry.1 {
+                Value::Object(members) => misescaped_member(is_html(&entry.1), members),
+                _ => None,
+            };
+            return Some((entry.0, member));
         }
     }
-    true
+    None
 }
 
 /// Whether the languages of a table have no escapes but the known ones.
@@ -170,7 +179,7 @@ pub fn is_escaped_table(value: &Tree<'_>) -> bool
         ≡ is_escaped_table (get (codes "languages") (data_of (value_view value.now))) }
 {
     match member(value, "languages") {
-        Some(Value::Object(members)) => are_escaped_languages(members),
+        Some(Value::Object(languages)) => misescaped_entry(languages).is_none(),
         _ => true,
     }
 }

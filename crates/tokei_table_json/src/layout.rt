@@ -1,5 +1,5 @@
 //! The layout of a table: which JSON values stand where.
-ghost use Rattle.std.specs.Prelude.{◌≡◌, false, option_map, codes};
+ghost use Rattle.std.specs.Prelude.{◌≡◌, false, is_some, not, option_map, codes};
 ghost use Rattle.json.specs.Value.{value_view, items_view, members_view};
 ghost use Rattle.serde_json.specs.Find.{get};
 ghost use Rattle.serde_json.specs.Written.{has_float};
@@ -138,46 +138,57 @@ fn fits_member(html: bool, member: Member, value: &Tree<'_>) -> bool
     }
 }
 
-pub(crate) fn fits(html: bool, key: &str, value: &Tree<'_>) -> bool
+fn fits(html: bool, key: &str, value: &Tree<'_>) -> bool
     requires { IsOrdered (value_view value.now) }
     ensures { result ≡ fits html key.now (data_of (value_view value.now)) }
 {
     fits_member(html, member_of(key), value)
 }
 
-fn all_fit(html: bool, members: &TreeMembers<'_>) -> bool
+/// The name of the first member with a value that it can't have in a language of kind `html` or
+/// not.
+fn unfit_member<'v, 't>(html: bool, members: &'v TreeMembers<'t>) -> Option<&'v str>
     requires { AreMembersOrdered (members_view members.now.items) }
-    ensures { result
-        ≡ all_members (fits html) (members_data (members_view members.now.items)) }
+    ensures { is_some result
+        ≡ not (all_members (fits html) (members_data (members_view members.now.items))) }
 {
     for entry in members {
         if !fits(html, entry.0, &entry.1) {
-            return false;
+            return Some(entry.0);
         }
     }
-    true
+    None
 }
 
-pub(crate) fn is_language(value: &Tree<'_>) -> bool
+fn is_language(value: &Tree<'_>) -> bool
     requires { IsOrdered (value_view value.now) }
     ensures { result ≡ is_language (data_of (value_view value.now)) }
 {
     match value {
-        Value::Object(members) => all_fit(is_html(value), members),
+        Value::Object(members) => unfit_member(is_html(value), members).is_none(),
         _ => false,
     }
 }
 
-fn are_languages(members: &TreeMembers<'_>) -> bool
-    requires { AreMembersOrdered (members_view members.now.items) }
-    ensures { result ≡ are_languages (members_data (members_view members.now.items)) }
+/// The key of the first of these languages that hasn't the layout of one, and its member that
+/// doesn't fit, where it has members.
+pub(crate) fn unfit_entry<'v, 't>(
+    languages: &'v TreeMembers<'t>,
+) -> Option<(&'v str, Option<&'v str>)>
+    requires { AreMembersOrdered (members_view languages.now.items) }
+    ensures { is_some result
+        ≡ not (are_languages (members_data (members_view languages.now.items))) }
 {
-    for entry in members {
+    for entry in languages {
         if !is_language(&entry.1) {
-            return false;
+            let member = match &entry.1 {
+                Value::Object(members) => unfit_member(is_html(&entry.1), members),
+                _ => None,
+            };
+            return Some((entry.0, member));
         }
     }
-    true
+    None
 }
 
 /// Whether the value, in which each number is a whole one of 64 bits, has the layout of a table.
@@ -188,7 +199,7 @@ pub fn has_layout(value: &Tree<'_>) -> bool
     ensures { result ≡ has_layout (data_of (value_view value.now)) }
 {
     match member(value, "languages") {
-        Some(Value::Object(members)) => are_languages(members),
+        Some(Value::Object(languages)) => unfit_entry(languages).is_none(),
         _ => false,
     }
 }

@@ -7,6 +7,7 @@ use Rattle.tokei_json_tree.specs.Ordered.{IsOrdered}
 use Rattle.tokei_json_tree.specs.TreeData.{data_of, members_data}
 use Rattle.tokei_table_json.specs.Layout.{is_html_kind, is_language}
 use Rattle.tokei_table_json.specs.MemberLayout.{all_members, fits}
+use Rattle.tokei_table_json.proofs.Left.{none_found}
 use Rattle.tokei_table_json.proofs.MembersOnce.{in_order}
 use Rattle.tokei_table_json.proofs.MemberTests.{members_fit}
 use Rattle.tokei_table_json.proofs.layout.is_language.Goals as goal
@@ -15,7 +16,7 @@ pub returns-in-Object : goal.returns-in-Object
 returns-in-Object c =
     let ms = members_view c.in-Object.members.items in
     let seen : value_view c.args.value.now ≡ json.object ms = ap value_view c.in-Object.is ∙ view-Object c.in-Object.members in
-    c.all_fit.ensures
+    none_found c.is_none.ensures c.unfit_member.ensures
     ∙ ap (λ html. all_members (fits html) (members_data ms))
     (c.is_html.ensures ∙ ap (λ j. is_html_kind (get (codes "kind") (data_of j))) seen)
     ∙ members_fit (members_data ms) (in_order ms (subst IsOrdered seen c.requires).0)

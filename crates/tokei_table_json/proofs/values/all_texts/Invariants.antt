@@ -1,10 +1,6 @@
-use Rattle.std.proofs.Common.{◌≡◌, drop}
-use Rattle.json.specs.Value.{items_view}
-use Rattle.tokei_json_tree.specs.TreeData.{items_data}
-use Rattle.tokei_table_json.specs.Layout.{all_items, is_text}
+use Rattle.tokei_table_json.specs.Layout.{is_text}
+use Rattle.tokei_table_json.proofs.Left.{ItemsLeft}
 use Rattle.tokei_table_json.proofs.values.all_texts.Given as goal
 
 abbrev pub invariant-loop-item : goal.invariant-loop-item
-invariant-loop-item l =
-    all_items is_text (items_data (items_view l.item-items))
-    ≡ all_items is_text (items_data (items_view (drop l.item-index l.item-items)))
+invariant-loop-item l = ItemsLeft is_text l.item-items l.item-index

@@ -1,0 +1,23 @@
+use Rattle.std.proofs.Common.{sym, ap, ◌∙◌}
+use Rattle.json.specs.Value.{items_view}
+use Rattle.tokei_json_tree.specs.TreeData.{items_data}
+use Rattle.tokei_table_json.specs.Escaped.{is_escaped_list}
+use Rattle.tokei_table_json.specs.Layout.{all_items}
+use Rattle.tokei_table_json.proofs.Left.{item_passes, item_fails, items_pass}
+use Rattle.tokei_table_json.proofs.escaped.all_escaped_lists.Goals as goal
+
+pub loop-item-preserved : goal.loop-item-preserved
+loop-item-preserved c =
+    item_passes is_escaped_list c.deref-item-items.result.now c.loop-item.item-index c.loop-item.invariant
+    c.item-item.result c.loop-item-test.true c.item-item.is c.is_escaped_list.result c.is_escaped_list.ensures c.if-not-is_escaped_list.false
+
+pub returns-then-not-is_escaped_list : goal.returns-then-not-is_escaped_list
+returns-then-not-is_escaped_list c =
+    sym (ap (λ xs. all_items is_escaped_list (items_data (items_view xs))) (sym c.deref-item-items.ensures.value)
+    ∙ item_fails is_escaped_list c.deref-item-items.result.now c.loop-item.item-index c.loop-item.invariant
+    c.item-item.result c.loop-item-test.true c.item-item.is c.is_escaped_list.result c.is_escaped_list.ensures c.if-not-is_escaped_list.true)
+
+pub returns : goal.returns
+returns c =
+    sym (ap (λ xs. all_items is_escaped_list (items_data (items_view xs))) (sym c.deref-item-items.ensures.value)
+    ∙ items_pass is_escaped_list c.deref-item-items.result.now c.loop-item.item-index c.loop-item.invariant c.loop-item-test.false)
