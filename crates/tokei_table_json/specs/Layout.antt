@@ -104,6 +104,11 @@ abbrev pub are_languages : Members → Bool
 are_languages no_members = true
 are_languages (member k d ms) = is_language d && are_languages ms
 
+-- The members of the object that stands there, if one does.
+abbrev pub object_in : Option Data → Option Members
+object_in (Some (object ms)) = Some ms
+object_in found = None
+
 -- An object each of whose members is a language.
 abbrev pub is_object_of_languages : Data → Bool
 is_object_of_languages (object ms) = are_languages ms

@@ -14,7 +14,7 @@ ghost use Rattle.tokei_table_json.specs.MemberLayout.{all_members};
 ghost use Rattle.tokei_table_json.specs.Members.{member_keeps_escapes};
 
 use crate::escapes::is_escaped;
-use crate::layout::is_html;
+use crate::layout::{is_html, languages_of};
 use crate::members::{Member, member_of};
 use json::Value;
 use tokei_json_tree::{Tree, TreeItems, TreeMembers, member};
@@ -178,8 +178,8 @@ pub fn is_escaped_table(value: &Tree<'_>) -> bool
     ensures { result
         ≡ is_escaped_table (get (codes "languages") (data_of (value_view value.now))) }
 {
-    match member(value, "languages") {
-        Some(Value::Object(languages)) => misescaped_entry(languages).is_none(),
-        _ => true,
+    match languages_of(value) {
+        Some(languages) => misescaped_entry(languages).is_none(),
+        None => true,
     }
 }

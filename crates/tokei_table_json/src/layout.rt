@@ -1,12 +1,13 @@
 //! The layout of a table: which JSON values stand where.
-ghost use Rattle.std.specs.Prelude.{◌≡◌, false, is_some, not, option_map, codes};
+ghost use Rattle.std.specs.Prelude.{◌≡◌, false, is_some, not, option_map, codes, IfSome};
 ghost use Rattle.json.specs.Value.{value_view, items_view, members_view};
 ghost use Rattle.serde_json.specs.Find.{get};
 ghost use Rattle.serde_json.specs.Written.{has_float};
-ghost use Rattle.tokei_json_tree.specs.Ordered.{IsOrdered, AreItemsOrdered, AreMembersOrdered};
+ghost use Rattle.tokei_json_tree.specs.Ordered.{IsOrdered, AreItemsOrdered, AreKeysInOrder, AreMembersOrdered};
 ghost use Rattle.tokei_json_tree.specs.TreeData.{data_of, items_data, members_data};
 ghost use Rattle.tokei_table_json.specs.Layout.{all_items, is_list, is_text, are_two_texts, stands_and};
-ghost use Rattle.tokei_table_json.specs.Layout.{is_text_pair, is_html_kind, is_context, is_language, are_languages, has_layout};
+ghost use Rattle.tokei_table_json.specs.Layout.{is_text_pair, is_html_kind, is_context};
+ghost use Rattle.tokei_table_json.specs.Layout.{is_language, are_languages, object_in, has_layout};
 ghost use Rattle.tokei_table_json.specs.MemberLayout.{all_members, fits};
 ghost use Rattle.tokei_table_json.specs.Members.{fits_member};
 
@@ -191,6 +192,20 @@ pub(crate) fn unfit_entry<'v, 't>(
     None
 }
 
+/// The object `languages` of a table, if it has one.
+pub(crate) fn languages_of<'v, 't>(table: &'v Tree<'t>) -> Option<&'v TreeMembers<'t>>
+    requires { IsOrdered (value_view table.now) }
+    ensures value { option_map (λ ms. members_data (members_view ms.now.items)) result
+        ≡ object_in (get (codes "languages") (data_of (value_view table.now))) }
+    ensures keys { IfSome result (λ ms. AreKeysInOrder (members_view ms.now.items)) }
+    ensures ordered { IfSome result (λ ms. AreMembersOrdered (members_view ms.now.items)) }
+{
+    match member(table, "languages") {
+        Some(Value::Object(languages)) => Some(languages),
+        _ => None,
+    }
+}
+
 /// Whether the value, in which each number is a whole one of 64 bits, has the layout of a table.
 #[tactic(auto, unfolding(crate::specs::Layout::has_layout))]
 pub fn has_layout(value: &Tree<'_>) -> bool
@@ -198,8 +213,8 @@ pub fn has_layout(value: &Tree<'_>) -> bool
     requires whole { has_float (data_of (value_view value.now)) ≡ false }
     ensures { result ≡ has_layout (data_of (value_view value.now)) }
 {
-    match member(value, "languages") {
-        Some(Value::Object(languages)) => unfit_entry(languages).is_none(),
-        _ => false,
+    match languages_of(value) {
+        Some(languages) => unfit_entry(languages).is_none(),
+        None => false,
     }
 }

@@ -8,9 +8,8 @@ ghost use Rattle.tokei_table_json.specs.Escaped.{is_escaped_table};
 ghost use Rattle.tokei_table_json.specs.Misfits.{has_unfit_language};
 
 use crate::escaped::misescaped_entry;
-use crate::layout::unfit_entry;
-use json::Value;
-use tokei_json_tree::{Tree, member};
+use crate::layout::{languages_of, unfit_entry};
+use tokei_json_tree::Tree;
 
 /// The key of the first language of a table that hasn't the layout of one, and the member that
 /// keeps it from that, where it has members.
@@ -19,9 +18,9 @@ pub fn unfit_language<'v, 't>(table: &'v Tree<'t>) -> Option<(&'v str, Option<&'
     ensures { is_some result
         ≡ has_unfit_language (get (codes "languages") (data_of (value_view table.now))) }
 {
-    match member(table, "languages") {
-        Some(Value::Object(languages)) => unfit_entry(languages),
-        _ => None,
+    match languages_of(table) {
+        Some(languages) => unfit_entry(languages),
+        None => None,
     }
 }
 
@@ -31,8 +30,8 @@ pub fn misescaped_language<'v, 't>(table: &'v Tree<'t>) -> Option<(&'v str, Opti
     ensures { is_some result
         ≡ not (is_escaped_table (get (codes "languages") (data_of (value_view table.now)))) }
 {
-    match member(table, "languages") {
-        Some(Value::Object(languages)) => misescaped_entry(languages),
-        _ => None,
+    match languages_of(table) {
+        Some(languages) => misescaped_entry(languages),
+        None => None,
     }
 }

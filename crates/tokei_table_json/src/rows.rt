@@ -16,7 +16,7 @@ ghost use Rattle.tokei_table_json.specs.Rows.{two_texts, pair_in, pairs_in, tags
 ghost use Rattle.tokei_table_json.specs.Rows.{row_in, rows_in, rows_at};
 
 use crate::escapes::{has_backslash, unescaped};
-use crate::layout::is_html;
+use crate::layout::{is_html, languages_of};
 use crate::members::{Member, PairList, TextList, TruthValue, member_of};
 use json::Value;
 use std::alloc::{AllocError, Global};
@@ -318,8 +318,8 @@ pub fn rows_of(alloc: Global, table: &Tree<'_>) -> Result<Vec<Syntax>, AllocErro
         ≡ rows_at (get (codes "languages") (data_of (value_view table.now)))) }
     ensures ordered { IfOk result (λ v. IsInKeyOrder (map row_of v.items)) }
 {
-    match member(table, "languages") {
-        Some(Value::Object(members)) => rows(alloc, members),
-        _ => Ok(Vec::new(alloc)),
+    match languages_of(table) {
+        Some(languages) => rows(alloc, languages),
+        None => Ok(Vec::new(alloc)),
     }
 }
