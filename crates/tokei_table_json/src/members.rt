@@ -1,7 +1,6 @@
 //! Which member of a language a key names.
 ghost use Rattle.std.specs.Prelude.{◌≡◌};
-ghost use Rattle.tokei_table_json.specs.Members.{rare_member, uncommon_member};
-ghost use Rattle.tokei_table_json.specs.Members.{less_common_member, member_of};
+ghost use Rattle.tokei_table_json.specs.Members.{member_of};
 
 /// A member whose value is a list of texts.
 #[derive(Clone, Copy)]
@@ -46,76 +45,30 @@ pub(crate) enum Member {
     Other,
 }
 
-/// Which of the four rarest members the key names, if any.
-fn rare_member(key: &str) -> Member
-    ensures { result ≡ rare_member key.now }
-{
-    if key == "kind" {
-        Member::Kind
-    } else if key == "contexts" {
-        Member::Contexts
-    } else if key == "important_syntax" {
-        Member::Texts(TextList::ImportantSyntax)
-    } else if key == "nested_comments" {
-        Member::Pairs(PairList::NestedComments)
-    } else {
-        Member::Other
-    }
-}
-
-/// Which of the nine least common members the key names, if any.
-fn uncommon_member(key: &str) -> Member
-    ensures { result ≡ uncommon_member key.now }
-{
-    if key == "doc_quotes" {
-        Member::Pairs(PairList::DocQuotes)
-    } else if key == "path_suffixes" {
-        Member::Texts(TextList::PathSuffixes)
-    } else if key == "literate" {
-        Member::Truth(TruthValue::Literate)
-    } else if key == "mime" {
-        Member::Texts(TextList::Mime)
-    } else if key == "blank" {
-        Member::Truth(TruthValue::Blank)
-    } else {
-        rare_member(key)
-    }
-}
-
-/// Which of the fourteen less common members the key names, if any.
-fn less_common_member(key: &str) -> Member
-    ensures { result ≡ less_common_member key.now }
-{
-    if key == "verbatim_quotes" {
-        Member::Pairs(PairList::VerbatimQuotes)
-    } else if key == "nested" {
-        Member::Truth(TruthValue::Nested)
-    } else if key == "env" {
-        Member::Texts(TextList::Env)
-    } else if key == "filenames" {
-        Member::Texts(TextList::Filenames)
-    } else if key == "shebangs" {
-        Member::Texts(TextList::Shebangs)
-    } else {
-        uncommon_member(key)
-    }
-}
-
 /// The member that the key names. The more languages have a member, the sooner it is looked for.
 pub(crate) fn member_of(key: &str) -> Member
     ensures { result ≡ member_of key.now }
 {
-    if key == "extensions" {
-        Member::Texts(TextList::Extensions)
-    } else if key == "line_comment" {
-        Member::Texts(TextList::LineComment)
-    } else if key == "multi_line_comments" {
-        Member::Pairs(PairList::MultiLineComments)
-    } else if key == "quotes" {
-        Member::Pairs(PairList::Quotes)
-    } else if key == "name" {
-        Member::Name
-    } else {
-        less_common_member(key)
+    match key {
+        "extensions" => Member::Texts(TextList::Extensions),
+        "line_comment" => Member::Texts(TextList::LineComment),
+        "multi_line_comments" => Member::Pairs(PairList::MultiLineComments),
+        "quotes" => Member::Pairs(PairList::Quotes),
+        "name" => Member::Name,
+        "verbatim_quotes" => Member::Pairs(PairList::VerbatimQuotes),
+        "nested" => Member::Truth(TruthValue::Nested),
+        "env" => Member::Texts(TextList::Env),
+        "filenames" => Member::Texts(TextList::Filenames),
+        "shebangs" => Member::Texts(TextList::Shebangs),
+        "doc_quotes" => Member::Pairs(PairList::DocQuotes),
+        "path_suffixes" => Member::Texts(TextList::PathSuffixes),
+        "literate" => Member::Truth(TruthValue::Literate),
+        "mime" => Member::Texts(TextList::Mime),
+        "blank" => Member::Truth(TruthValue::Blank),
+        "kind" => Member::Kind,
+        "contexts" => Member::Contexts,
+        "important_syntax" => Member::Texts(TextList::ImportantSyntax),
+        "nested_comments" => Member::Pairs(PairList::NestedComments),
+        _ => Member::Other,
     }
 }
