@@ -1,4 +1,5 @@
 pub mod Dots
+pub mod EarlierNames
 pub mod ExtendedRows
 pub mod IsUtf8
 pub mod MetNames

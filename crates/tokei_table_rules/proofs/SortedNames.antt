@@ -57,7 +57,7 @@ module _ {K : Type 0} (e : K → K → Bool) where
         (λ p. unrepeated ys (IsDistinct-IsPermutation e flips xs ys moved (distinct xs p)))
         (λ p. unrepeated xs (IsDistinct-IsPermutation e flips ys xs (IsPermutation-sym xs ys moved) (distinct ys p)))
 
-text_flips : (x y : List ℕ) → bytes_eq x y ≡ bytes_eq y x
+pub text_flips : (x y : List ℕ) → bytes_eq x y ≡ bytes_eq y x
 text_flips x y = nat_list_eq_equiv.symm x y
 
 -- ---- the keys and names of rows
@@ -67,10 +67,10 @@ abbrev all_names : List Row → List (List ℕ)
 all_names [] = []
 all_names (r ∷ rs) = r.key ∷ cond (bytes_eq r.name r.key) (all_names rs) (r.name ∷ all_names rs)
 
-abbrev has : List ℕ → Row → Bool
+abbrev pub has : List ℕ → Row → Bool
 has x s = bytes_eq x s.key || bytes_eq x s.name
 
-swap : (x y u v : Bool) → ((x || y) || (u || v)) ≡ ((x || u) || (y || v))
+pub swap : (x y u v : Bool) → ((x || y) || (u || v)) ≡ ((x || u) || (y || v))
 swap true y u v = refl
 swap false true true v = refl
 swap false true false v = refl
@@ -94,7 +94,7 @@ module _ (x : List ℕ) where
   any_named (r ∷ rs) = named r (all_names rs) (list_any (has x) rs) (bytes_eq r.name r.key) refl (any_named rs)
 
 -- a row shares its key or its name
-shared : (r : Row) (rs : List Row) → list_any (shares_name r) rs ≡ (list_any (has r.key) rs || list_any (has r.name) rs)
+pub shared : (r : Row) (rs : List Row) → list_any (shares_name r) rs ≡ (list_any (has r.key) rs || list_any (has r.name) rs)
 shared r [] = refl
 shared r (s ∷ rs) =
     ap (λ b. b || list_any (shares_name r) rs) (or_assoc (has r.key s) (bytes_eq r.name s.key) (bytes_eq r.name s.name))

@@ -1,7 +1,8 @@
 -- When a text names two rows, or the rows' total.
-use Rattle.std.specs.Prelude.{ℕ, Bool, false, ◌||◌, List, [], ◌∷◌, map, codes, bytes_eq, if◌then◌else◌}
+use Rattle.std.specs.Prelude.{◌≡◌, ◌<◌, ℕ, Bool, true, false, ◌||◌, List, [], ◌∷◌, length, take, map, codes, bytes_eq, if◌then◌else◌}
 use Rattle.std.specs.List.{list_any}
 use Rattle.tokei_table_row.specs.Row.{Row}
+use Rattle.tokei_table_rules.specs.Lookups.{has_name, row_at}
 
 -- A text is key or name of both.
 abbrev pub shares_name : Row → Row → Bool
@@ -13,6 +14,19 @@ shares_name row s =
 abbrev pub names_twice : List Row → Bool
 names_twice [] = false
 names_twice (r ∷ rs) = list_any (shares_name r) rs || names_twice rs
+
+-- A text is key or name of the language at that place and of one before it.
+abbrev pub shares_earlier : List Row → ℕ → Bool
+shares_earlier rows place = list_any (shares_name (row_at rows place)) (take place rows)
+
+-- The text is key or name of a language with the one key, and of a later one with the other key.
+pub record NamesBoth (rows : List Row) (word key other : List ℕ) : Type 0 where
+  pub place : ℕ
+  pub later : ℕ
+  pub in_order : place < later
+  pub inside : later < length rows
+  pub keys : ((row_at rows place).key ≡ key) × ((row_at rows later).key ≡ other)
+  pub names : (has_name word (row_at rows place) ≡ true) × (has_name word (row_at rows later) ≡ true)
 
 -- The keys of the languages.
 abbrev pub keys_of : List Row → List (List ℕ)

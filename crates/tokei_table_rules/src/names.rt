@@ -1,12 +1,13 @@
 //! Whether a text names two rows.
-ghost use Rattle.std.specs.Prelude.{◌≡◌, ◌++◌, ◌||◌, ◌<◌, ℕ, List, length, true, map, bytes_eq, IfOk, IfSome, OnOk, OnErr};
+ghost use Rattle.std.specs.Prelude.{◌≡◌, ◌++◌, ◌||◌, ◌<◌, ℕ, List, length, take, true, false, map, bytes_eq};
+ghost use Rattle.std.specs.Prelude.{is_some, IfOk, IfSome, OnOk, OnErr};
 ghost use Rattle.std.specs.Cmp.Lexicographic.{slice_cmp};
 ghost use Rattle.std.specs.List.{IsAllAdjacentAnswer};
 ghost use Rattle.std.specs.Ordering.{is_lt, nat_cmp};
 ghost use Rattle.tokei_table_row.specs.RowOf.{row_of};
 ghost use Rattle.tokei_table_row.specs.FirstRows.{has_name};
 ghost use Rattle.tokei_table_rules.specs.MetNames.{is_met, was_met, words_of};
-ghost use Rattle.tokei_table_rules.specs.RowNames.{names_twice, keys_of, other_names_of};
+ghost use Rattle.tokei_table_rules.specs.RowNames.{shares_name, names_twice, shares_earlier, keys_of, other_names_of};
 
 use std::alloc::{AllocError, Global};
 use std::collections::BTreeMap;
@@ -53,7 +54,12 @@ fn add_names<'a>(names: &mut BTreeMap<&'a str, ()>, row: &'a Syntax) -> Result<b
 
 /// The first row of which a name was met in the rows before it. It fails where memory runs out.
 pub fn second_of_name(alloc: Global, rows: &[Syntax]) -> Result<Option<usize>, AllocError>
-    ensures { IfOk result (λ o. IfSome o (λ place. place < length rows.now)) }
+    ensures within { IfOk result (λ o. IfSome o (λ place. place < length rows.now)) }
+    ensures found { IfOk result (λ o. is_some o ≡ names_twice (map row_of rows.now)) }
+    ensures shares { IfOk result (λ o. IfSome o
+        (λ place. shares_earlier (map row_of rows.now) place ≡ true)) }
+    ensures first { IfOk result (λ o. IfSome o
+        (λ place. names_twice (take place (map row_of rows.now)) ≡ false)) }
 {
     let mut names = BTreeMap::new(alloc);
     for (place, row) in rows.iter().enumerate() {
@@ -66,6 +72,7 @@ pub fn second_of_name(alloc: Global, rows: &[Syntax]) -> Result<Option<usize>, A
 
 /// The name of one row that is a name of the other one too.
 pub fn shared_name<'a>(row: &'a Syntax, other: &Syntax) -> Option<&'a str>
+    ensures found { is_some result ≡ shares_name (row_of row.now) (row_of other.now) }
     ensures shared { IfSome result (λ name. (has_name name.now (row_of row.now) ≡ true)
         × (has_name name.now (row_of other.now) ≡ true)) }
 {

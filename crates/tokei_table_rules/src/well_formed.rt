@@ -1,7 +1,9 @@
 //! Whether the rows of a table can be counted with.
-ghost use Rattle.std.specs.Prelude.{◌≡◌, false, map, IfSome};
+ghost use Rattle.std.specs.Prelude.{◌≡◌, true, false, not, map, is_some, IfSome};
 ghost use Rattle.std.specs.List.{list_all, list_any};
+ghost use Rattle.tokei_table_row.specs.Bytes.{holds};
 ghost use Rattle.tokei_table_row.specs.RowOf.{row_of};
+ghost use Rattle.tokei_table_rules.specs.Families.{family_of, needed_keys};
 ghost use Rattle.tokei_table_rules.specs.Fallbacks.{has_key, has_fallbacks};
 ghost use Rattle.tokei_table_rules.specs.RowNames.{is_total};
 ghost use Rattle.tokei_table_rules.specs.Tokens.{has_tokens, member_has_tokens};
@@ -25,8 +27,10 @@ fn has_tokens(row: &Syntax) -> bool
 }
 
 /// The member of the row that has a text which a count looks for and which is no token.
+#[tactic(auto, unfolding(crate::specs::Tokens::has_tokens))]
 pub fn bad_member(row: &Syntax) -> Option<&str>
-    ensures { IfSome result (λ m. member_has_tokens (row_of row.entry.now) m.now ≡ false) }
+    ensures found { is_some result ≡ not (has_tokens (row_of row.entry.now)) }
+    ensures bad { IfSome result (λ m. member_has_tokens (row_of row.entry.now) m.now ≡ false) }
 {
     if !are_tokens(&row.line_comment) {
         Some("line_comment")
@@ -107,14 +111,19 @@ fn has_fallbacks(rows: &[Syntax], row: &Syntax) -> bool
 
 /// The key, unless a row has it.
 fn absent<'a>(rows: &[Syntax], key: &'a str) -> Option<&'a str>
-    ensures { IfSome result (λ k. has_key (map row_of rows.now) k.now ≡ false) }
+    ensures found { is_some result ≡ not (has_key (map row_of rows.now) key.entry.now) }
+    ensures same { IfSome result (λ k. k.now ≡ key.entry.now) }
+    ensures absent { IfSome result (λ k. has_key (map row_of rows.now) k.now ≡ false) }
 {
     if has_key(rows, key) { None } else { Some(key) }
 }
 
 /// The key of a language that is missing, on which children of the row's language fall back.
 pub fn missing_key(rows: &[Syntax], row: &Syntax) -> Option<&'static str>
-    ensures { IfSome result (λ k. has_key (map row_of rows.now) k.now ≡ false) }
+    ensures found { is_some result ≡ not (has_fallbacks (map row_of rows.now) (row_of row.now)) }
+    ensures needed { IfSome result
+        (λ k. holds (needed_keys (family_of (row_of row.now).key)) k.now ≡ true) }
+    ensures missing { IfSome result (λ k. has_key (map row_of rows.now) k.now ≡ false) }
 {
     match Family::of_key(row.key.as_str()) {
         Family::Plain | Family::Markdown => None,
