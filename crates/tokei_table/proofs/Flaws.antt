@@ -1,7 +1,12 @@
--- A row whose member has a bad token is one of the table's.
-use Rattle.std.proofs.Common.{◌≡◌, ℕ, zero, suc, ◌<◌, false, List, [], ◌∷◌, map, length, get_or, ap, sym, ◌∙◌, arith}
-use Rattle.std.proofs.lemmas.List.{length-map}
+-- A row that a flaw tells of is one of the table's.
+use Rattle.std.proofs.Common.{◌≡◌, ℕ, zero, suc, ◌+◌, ◌<◌, ◌≤◌, Bool, true, false, not, ◌&&◌, List, [], ◌∷◌, map, length, take, drop, get_or, refl, ap, sym, ◌∙◌, add-one, drop-cons, arith}
+use Rattle.std.proofs.lemmas.List.{drop_all, length-map, length-take-le, take-map, get_or-map, get_or-take}
+use Rattle.std.proofs.lemmas.List.Folds.{list_any_at}
+use Rattle.std.specs.List.{Any, list_any, list_all}
+use Rattle.tokei_table_row.specs.NewRow.{new_row}
 use Rattle.tokei_table_row.specs.Row.{Row}
+use Rattle.tokei_table_rules.specs.Lookups.{row_at, has_name}
+use Rattle.tokei_table_rules.specs.RowNames.{shares_name, shares_earlier, NamesBoth}
 use Rattle.tokei_table_rules.specs.Tokens.{member_has_tokens, HasBadToken}
 
 module _ {X : Type 0} (view : X → Row) where
@@ -15,3 +20,72 @@ module _ {X : Type 0} (view : X → Row) where
       → HasBadToken (map view xs) language word
   token_told xs i x language word member l at e f bad =
       (i, view x, omega (arith, l, length-map xs view), at_map xs i x l at, (sym e, ap (member_has_tokens (view x)) f ∙ bad))
+
+  pub row_told : (P : Row → Type 0) (xs : List X) (i : ℕ) (x : X) → i < length xs → x ≡ get_or xs i x → P (view x) → Any P (map view xs)
+  row_told P xs i x l at p = (i, view x, omega (arith, l, length-map xs view), at_map xs i x l at, p)
+
+  drop_here : (xs : List X) (i : ℕ) (x : X) → i < length xs → x ≡ get_or xs i x → drop i xs ≡ x ∷ drop (i + 1) xs
+  drop_here xs i x l at = drop-cons xs i x l ∙ ap (λ y. y ∷ drop (suc i) xs) (sym at) ∙ ap (λ n. x ∷ drop n xs) (sym (add-one i))
+
+  row_here : (xs : List X) (i : ℕ) (x : X) → i < length xs → x ≡ get_or xs i x → row_at (map view xs) i ≡ view x
+  row_here xs i x l at = get_or-map view xs i x (new_row []) l ∙ ap view (sym at)
+
+  -- a step of a search for a row that fails the test
+  module _ (test : Row → Bool) (xs : List X) (i : ℕ) (x : X) (inside : i < length xs) (at : x ≡ get_or xs i x)
+      (kept : list_all test (map view (drop i xs)) ≡ list_all test (map view xs)) where
+    here_and_later : list_all test (map view (drop i xs)) ≡ (test (view x) && list_all test (map view (drop (i + 1) xs)))
+    here_and_later =
+        ap (λ ys. list_all test (map view ys)) (drop_here xs i x inside at)
+
+    pub row_passes : test (view x) ≡ true → list_all test (map view (drop (i + 1) xs)) ≡ list_all test (map view xs)
+    row_passes e = sym (here_and_later ∙ ap (λ b. b && list_all test (map view (drop (i + 1) xs))) e) ∙ kept
+
+    pub row_fails : test (view x) ≡ false → list_all test (map view xs) ≡ false
+    row_fails e = sym kept ∙ here_and_later ∙ ap (λ b. b && list_all test (map view (drop (i + 1) xs))) e
+
+  -- the row at a place, and those before it
+  module _ (xs : List X) (place : ℕ) (x : X) (inside : place < length xs) (at : x ≡ get_or xs place x) where
+    shares_viewed : shares_earlier (map view xs) place ≡ list_any (shares_name (view x)) (map view (take place xs))
+    shares_viewed =
+        ap (λ r. list_any (shares_name r) (take place (map view xs))) (row_here xs place x inside at)
+        ∙ ap (list_any (shares_name (view x))) (take-map view place xs)
+
+    pub none_shares : (i : ℕ) → length (take place xs) ≤ i
+        → list_any (shares_name (view x)) (map view (drop i (take place xs))) ≡ list_any (shares_name (view x)) (map view (take place xs))
+        → shares_earlier (map view xs) place ≡ false
+    none_shares i end kept =
+        shares_viewed ∙ sym kept ∙ ap (λ ys. list_any (shares_name (view x)) (map view ys)) (drop_all i (take place xs) end)
+
+    module _ (i : ℕ) (y : X) (before : i < length (take place xs)) (there : y ≡ get_or (take place xs) i y) where
+      earlier : i < place
+      earlier = omega (arith, before, length-take-le place xs (omega (arith, inside)))
+
+      pub one_shares : shares_name (view x) (view y) ≡ true → shares_earlier (map view xs) place ≡ true
+      one_shares e =
+          shares_viewed
+          ∙ list_any_at (shares_name (view x)) (map view (take place xs)) i (view y)
+          (omega (arith, before, length-map (take place xs) view))
+          (ap (shares_name (view x)) (at_map (take place xs) i y before there) ∙ e)
+
+      row_earlier : row_at (map view xs) i ≡ view y
+      row_earlier =
+          row_here xs i y (omega (arith, earlier, inside)) (there ∙ get_or-take place xs i y earlier)
+
+      pub name_told : (word key other : List ℕ) → key ≡ (view y).key → other ≡ (view x).key → has_name word (view y) ≡ true
+          → has_name word (view x) ≡ true → NamesBoth (map view xs) word key other
+      name_told word key other k o named named_too = record {
+        place = i;
+        later = place;
+        in_order = earlier;
+        inside = omega (arith, inside, length-map xs view);
+        keys = (ap (λ r. r.key) row_earlier ∙ sym k, ap (λ r. r.key) (row_here xs place x inside at) ∙ sym o);
+        names = (ap (has_name word) row_earlier ∙ named, ap (has_name word) (row_here xs place x inside at) ∙ named_too);
+      }
+
+pub unrefused : (b : Bool) → false ≡ not b → b ≡ true
+unrefused true e = refl
+unrefused false e = e
+
+pub refused : (b : Bool) → true ≡ not b → b ≡ false
+refused true e = e
+refused false e = refl

@@ -1,12 +1,20 @@
--- What is told of a refused table: the language and the member that go wrong.
-use Rattle.std.specs.Prelude.{◌≡◌, ℕ, List, [], Option, Some, None, codes, string_bytes}
+-- What is told of a refused table: which language goes wrong, and by what.
+use Rattle.std.specs.Prelude.{◌≡◌, ℕ, Bool, true, false, List, [], codes, string_bytes, if◌then◌else◌}
+use Rattle.std.specs.Prelude.{Option, Some, None, is_err}
+use Rattle.std.specs.List.{Any}
 use Rattle.serde_json.specs.Data.{Data}
 use Rattle.serde_json.specs.Find.{get}
+use Rattle.tokei_table_json.specs.Layout.{has_layout}
+use Rattle.tokei_table_json.specs.Misfits.{has_unfit_language}
 use Rattle.tokei_table_json.specs.Rows.{rows_at}
+use Rattle.tokei_table_row.specs.Bytes.{holds}
 use Rattle.tokei_table_row.specs.Row.{Row}
+use Rattle.tokei_table_rules.specs.Fallbacks.{has_key}
+use Rattle.tokei_table_rules.specs.Families.{family_of, needed_keys}
+use Rattle.tokei_table_rules.specs.RowNames.{NamesBoth, is_total}
 use Rattle.tokei_table_rules.specs.Tokens.{HasBadToken}
-use Rattle.tokei_table.specs.Outcome.{data_of}
-use Rattle.tokei_table.specs.declared.error.TableError.TheVariants.{Token}
+use Rattle.tokei_table.specs.Outcome.{data_of, outcome_of_value}
+use Rattle.tokei_table.specs.declared.error.TableError.TheVariants.{Token, NamedTwice, NamedTotal, Fallback}
 use Rattle.tokei_table.specs.declared.flaw.TableFlaw.{TableFlaw}
 
 -- The rows of a JSON value.
@@ -26,3 +34,38 @@ rows_in bytes = rows_in_data (data_of bytes)
 abbrev pub TellsToken : List Row → TableFlaw → Type 0
 TellsToken rows flaw = flaw.cause ≡ Token
     → HasBadToken rows (string_bytes flaw.language) (string_bytes flaw.word)
+
+-- Where the flaw is a name of two languages, its word is key or name of both, and the other one
+-- stands later.
+abbrev pub TellsName : List Row → TableFlaw → Type 0
+TellsName rows flaw = flaw.cause ≡ NamedTwice
+    → NamesBoth rows (string_bytes flaw.word) (string_bytes flaw.language) (string_bytes flaw.other)
+
+-- Where the flaw is the name `Total`, its language is one of the rows and is so named.
+abbrev pub TellsTotal : List Row → TableFlaw → Type 0
+TellsTotal rows flaw = flaw.cause ≡ NamedTotal
+    → Any (λ r. (r.key ≡ string_bytes flaw.language) × (is_total r ≡ true)) rows
+
+-- Where the flaw is a missing language, its language is one of the rows, and its word is the key of
+-- one that it needs and that no row has.
+abbrev pub TellsFallback : List Row → TableFlaw → Type 0
+TellsFallback rows flaw = flaw.cause ≡ Fallback
+    → Any (λ r. (r.key ≡ string_bytes flaw.language)
+    × (holds (needed_keys (family_of r.key)) (string_bytes flaw.word) ≡ true)) rows
+    × (has_key rows (string_bytes flaw.word) ≡ false)
+
+-- Whether a language keeps the value from being a table: where the value has no layout, one of its
+-- languages has none; else the table is refused.
+unfoldable pub is_flawed_value : Data → Bool
+is_flawed_value value =
+    if has_layout value then is_err (outcome_of_value value)
+    else has_unfit_language (get (codes "languages") value)
+
+-- Whether a language keeps a text from being a table; none does where it is no JSON text.
+abbrev pub is_flawed_data : Option Data → Bool
+is_flawed_data None = false
+is_flawed_data (Some d) = is_flawed_value d
+
+-- Whether a language keeps the bytes from being a table.
+abbrev pub is_flawed : List ℕ → Bool
+is_flawed bytes = is_flawed_data (data_of bytes)

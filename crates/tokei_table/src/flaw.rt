@@ -1,13 +1,23 @@
 //! Where the text of a refused table goes wrong.
-ghost use Rattle.std.specs.Prelude.{◌≡◌, Err, map, string_bytes, IfOk, IfSome};
+ghost use Rattle.std.specs.Prelude.{◌≡◌, ◌<◌, not, Err, map, [], length, codes, string_bytes};
+ghost use Rattle.std.specs.Prelude.{is_some, is_err, IfOk, IfSome};
+ghost use Rattle.std.specs.List.{list_all, list_any};
 ghost use Rattle.json.specs.Value.{value_view};
+ghost use Rattle.serde_json.specs.Find.{get};
 ghost use Rattle.serde_json.specs.Read.{read as read_text};
 ghost use Rattle.serde_json.specs.Written.{has_float};
 ghost use Rattle.tokei_json_tree.specs.Ordered.{IsOrdered};
 ghost use Rattle.tokei_json_tree.specs.TreeData.{data_of as tree_data};
-ghost use Rattle.tokei_table.specs.Flaws.{TellsToken, rows_in, rows_in_data, rows_in_value};
+ghost use Rattle.tokei_table.specs.Flaws.{TellsToken, TellsName, TellsTotal, TellsFallback};
+ghost use Rattle.tokei_table.specs.Flaws.{rows_in, rows_in_data, rows_in_value};
+ghost use Rattle.tokei_table.specs.Flaws.{is_flawed_value, is_flawed_data, is_flawed};
 ghost use Rattle.tokei_table.specs.Outcome.{outcome, outcome_of, outcome_of_value, tested};
+ghost use Rattle.tokei_table_json.specs.Escaped.{is_escaped_table};
+ghost use Rattle.tokei_table_json.specs.Misfits.{has_unfit_language};
 ghost use Rattle.tokei_table_row.specs.RowOf.{row_of};
+ghost use Rattle.tokei_table_rules.specs.Fallbacks.{has_fallbacks};
+ghost use Rattle.tokei_table_rules.specs.RowNames.{is_total, names_twice, shares_earlier};
+ghost use Rattle.tokei_table_rules.specs.Tokens.{has_tokens};
 ghost use Rattle.tokei_table.specs.declared.error.TableError.TheVariants.{Layout, Escape, Token};
 ghost use Rattle.tokei_table.specs.declared.error.TableError.TheVariants.{NamedTwice, NamedTotal, Fallback};
 
@@ -36,7 +46,7 @@ pub struct TableFlaw {
     /// the language isn't even an object. The name that stands for two languages where it is
     /// `NamedTwice`, the key of the missing language where it is `Fallback`, and else empty.
     pub word: String,
-    /// The other language of that name, or empty.
+    /// The other language of that name, which stands later, or empty.
     pub other: String,
 }
 
@@ -108,6 +118,7 @@ fn flaw(
     ensures cause { IfOk result (λ f. f.cause ≡ cause) }
     ensures language { IfOk result (λ f. string_bytes f.language ≡ language.now) }
     ensures word { IfOk result (λ f. string_bytes f.word ≡ word.now) }
+    ensures other { IfOk result (λ f. string_bytes f.other ≡ []) }
 {
     let language = String::from_str(alloc, language)?;
     let word = String::from_str(alloc, word)?;
@@ -125,7 +136,8 @@ fn misfit(
     cause: TableError,
     found: Option<(&str, Option<&str>)>,
 ) -> Result<Option<TableFlaw>, AllocError>
-    ensures { IfOk result (λ o. IfSome o (λ f. f.cause ≡ cause)) }
+    ensures cause { IfOk result (λ o. IfSome o (λ f. f.cause ≡ cause)) }
+    ensures found { IfOk result (λ o. is_some o ≡ is_some found.entry) }
 {
     match found {
         Some((language, Some(member))) => Ok(Some(flaw(alloc, cause, language, member)?)),
@@ -136,20 +148,25 @@ fn misfit(
 
 fn layout_flaw(alloc: Global, table: &Tree<'_>) -> Result<Option<TableFlaw>, AllocError>
     requires { IsOrdered (value_view table.now) }
-    ensures { IfOk result (λ o. IfSome o (λ f. f.cause ≡ Layout)) }
+    ensures cause { IfOk result (λ o. IfSome o (λ f. f.cause ≡ Layout)) }
+    ensures found { IfOk result (λ o. is_some o
+        ≡ has_unfit_language (get (codes "languages") (tree_data (value_view table.now)))) }
 {
     misfit(alloc, TableError::Layout, unfit_language(table))
 }
 
 fn escape_flaw(alloc: Global, table: &Tree<'_>) -> Result<Option<TableFlaw>, AllocError>
     requires { IsOrdered (value_view table.now) }
-    ensures { IfOk result (λ o. IfSome o (λ f. f.cause ≡ Escape)) }
+    ensures cause { IfOk result (λ o. IfSome o (λ f. f.cause ≡ Escape)) }
+    ensures found { IfOk result (λ o. is_some o
+        ≡ not (is_escaped_table (get (codes "languages") (tree_data (value_view table.now))))) }
 {
     misfit(alloc, TableError::Escape, misescaped_language(table))
 }
 
 fn token_flaw(alloc: Global, rows: &[Syntax]) -> Result<Option<TableFlaw>, AllocError>
     ensures cause { IfOk result (λ o. IfSome o (λ f. f.cause ≡ Token)) }
+    ensures found { IfOk result (λ o. is_some o ≡ not (list_all has_tokens (map row_of rows.now))) }
     ensures token { IfOk result (λ o. IfSome o (TellsToken (map row_of rows.now))) }
 {
     for row in rows {
@@ -161,10 +178,14 @@ fn token_flaw(alloc: Global, rows: &[Syntax]) -> Result<Option<TableFlaw>, Alloc
 }
 
 /// The flaw of a name that the row at that place shares with one before it.
-fn clash(alloc: Global, rows: &[Syntax], row: &Syntax) -> Result<Option<TableFlaw>, AllocError>
-    ensures { IfOk result (λ o. IfSome o (λ f. f.cause ≡ NamedTwice)) }
+fn clash(alloc: Global, rows: &[Syntax], place: usize) -> Result<Option<TableFlaw>, AllocError>
+    requires { place < length rows.now }
+    ensures cause { IfOk result (λ o. IfSome o (λ f. f.cause ≡ NamedTwice)) }
+    ensures found { IfOk result (λ o. is_some o ≡ shares_earlier (map row_of rows.now) place) }
+    ensures name { IfOk result (λ o. IfSome o (TellsName (map row_of rows.now))) }
 {
-    for earlier in rows {
+    let row = &rows[place];
+    for earlier in &rows[..place] {
         if let Some(name) = shared_name(row, earlier) {
             let mut found = flaw(alloc, TableError::NamedTwice, earlier.key.as_str(), name)?;
             found.other.push_str(row.key.as_str())?;
@@ -175,16 +196,20 @@ fn clash(alloc: Global, rows: &[Syntax], row: &Syntax) -> Result<Option<TableFla
 }
 
 fn name_flaw(alloc: Global, rows: &[Syntax]) -> Result<Option<TableFlaw>, AllocError>
-    ensures { IfOk result (λ o. IfSome o (λ f. f.cause ≡ NamedTwice)) }
+    ensures cause { IfOk result (λ o. IfSome o (λ f. f.cause ≡ NamedTwice)) }
+    ensures found { IfOk result (λ o. is_some o ≡ names_twice (map row_of rows.now)) }
+    ensures name { IfOk result (λ o. IfSome o (TellsName (map row_of rows.now))) }
 {
     match second_of_name(alloc, rows)? {
-        Some(place) => clash(alloc, &rows[..place], &rows[place]),
+        Some(place) => clash(alloc, rows, place),
         None => Ok(None),
     }
 }
 
 fn total_flaw(alloc: Global, rows: &[Syntax]) -> Result<Option<TableFlaw>, AllocError>
-    ensures { IfOk result (λ o. IfSome o (λ f. f.cause ≡ NamedTotal)) }
+    ensures cause { IfOk result (λ o. IfSome o (λ f. f.cause ≡ NamedTotal)) }
+    ensures found { IfOk result (λ o. is_some o ≡ list_any is_total (map row_of rows.now)) }
+    ensures total { IfOk result (λ o. IfSome o (TellsTotal (map row_of rows.now))) }
 {
     for row in rows {
         if is_total(row) {
@@ -195,7 +220,10 @@ fn total_flaw(alloc: Global, rows: &[Syntax]) -> Result<Option<TableFlaw>, Alloc
 }
 
 fn fallback_flaw(alloc: Global, rows: &[Syntax]) -> Result<Option<TableFlaw>, AllocError>
-    ensures { IfOk result (λ o. IfSome o (λ f. f.cause ≡ Fallback)) }
+    ensures cause { IfOk result (λ o. IfSome o (λ f. f.cause ≡ Fallback)) }
+    ensures found { IfOk result (λ o. is_some o
+        ≡ not (list_all (has_fallbacks (map row_of rows.now)) (map row_of rows.now))) }
+    ensures fallback { IfOk result (λ o. IfSome o (TellsFallback (map row_of rows.now))) }
 {
     for row in rows {
         if let Some(key) = missing_key(rows, row) {
@@ -209,7 +237,11 @@ fn fallback_flaw(alloc: Global, rows: &[Syntax]) -> Result<Option<TableFlaw>, Al
 #[tactic(auto, unfolding(crate::specs::Outcome::tested))]
 fn row_flaw(alloc: Global, rows: &[Syntax]) -> Result<Option<TableFlaw>, AllocError>
     ensures cause { IfOk result (λ o. IfSome o (λ f. tested (map row_of rows.now) ≡ Err f.cause)) }
+    ensures found { IfOk result (λ o. is_some o ≡ is_err (tested (map row_of rows.now))) }
     ensures token { IfOk result (λ o. IfSome o (TellsToken (map row_of rows.now))) }
+    ensures name { IfOk result (λ o. IfSome o (TellsName (map row_of rows.now))) }
+    ensures total { IfOk result (λ o. IfSome o (TellsTotal (map row_of rows.now))) }
+    ensures fallback { IfOk result (λ o. IfSome o (TellsFallback (map row_of rows.now))) }
 {
     if !all_have_tokens(rows) {
         return token_flaw(alloc, rows);
@@ -227,14 +259,21 @@ fn row_flaw(alloc: Global, rows: &[Syntax]) -> Result<Option<TableFlaw>, AllocEr
 }
 
 /// What of a text's JSON keeps it from being a table.
-#[tactic(auto, unfolding(crate::specs::Outcome::outcome_of_value, tokei_table_json::specs::Layout::has_layout))]
+#[tactic(auto, unfolding(crate::specs::Outcome::outcome_of_value, crate::specs::Flaws::is_flawed_value, tokei_table_json::specs::Layout::has_layout))]
 fn reading_flaw(alloc: Global, read: &Reading<'_>) -> Result<Option<TableFlaw>, AllocError>
     requires ordered { IsOrdered (value_view read.now.tree) }
     requires fraction { read.now.has_fraction ≡ has_float (tree_data (value_view read.now.tree)) }
     ensures cause { IfOk result (λ o. IfSome o
         (λ f. outcome_of_value (tree_data (value_view read.now.tree)) ≡ Err f.cause)) }
+    ensures found { IfOk result (λ o. is_some o ≡ is_flawed_value (tree_data (value_view read.now.tree))) }
     ensures token { IfOk result
         (λ o. IfSome o (TellsToken (rows_in_value (tree_data (value_view read.now.tree))))) }
+    ensures name { IfOk result
+        (λ o. IfSome o (TellsName (rows_in_value (tree_data (value_view read.now.tree))))) }
+    ensures total { IfOk result
+        (λ o. IfSome o (TellsTotal (rows_in_value (tree_data (value_view read.now.tree))))) }
+    ensures fallback { IfOk result
+        (λ o. IfSome o (TellsFallback (rows_in_value (tree_data (value_view read.now.tree))))) }
 {
     if read.has_fraction || !has_layout(&read.tree) {
         return layout_flaw(alloc, &read.tree);
@@ -250,8 +289,15 @@ fn reading_flaw(alloc: Global, read: &Reading<'_>) -> Result<Option<TableFlaw>, 
 fn text_flaw(alloc: Global, text: &str) -> Result<Option<TableFlaw>, AllocError>
     ensures cause { IfOk result
         (λ o. IfSome o (λ f. outcome_of (read_text text.now) ≡ Err f.cause)) }
+    ensures found { IfOk result (λ o. is_some o ≡ is_flawed_data (read_text text.now)) }
     ensures token { IfOk result
         (λ o. IfSome o (TellsToken (rows_in_data (read_text text.now)))) }
+    ensures name { IfOk result
+        (λ o. IfSome o (TellsName (rows_in_data (read_text text.now)))) }
+    ensures total { IfOk result
+        (λ o. IfSome o (TellsTotal (rows_in_data (read_text text.now)))) }
+    ensures fallback { IfOk result
+        (λ o. IfSome o (TellsFallback (rows_in_data (read_text text.now)))) }
 {
     let mut room = Room::new(alloc);
     match read(alloc, &mut room, text) {
@@ -267,7 +313,11 @@ impl TableFlaw {
     /// out.
     pub fn find(alloc: Global, bytes: &[u8]) -> Result<Option<TableFlaw>, AllocError>
         ensures cause { IfOk result (λ o. IfSome o (λ f. outcome bytes.now ≡ Err f.cause)) }
+        ensures found { IfOk result (λ o. is_some o ≡ is_flawed bytes.now) }
         ensures token { IfOk result (λ o. IfSome o (TellsToken (rows_in bytes.now))) }
+        ensures name { IfOk result (λ o. IfSome o (TellsName (rows_in bytes.now))) }
+        ensures total { IfOk result (λ o. IfSome o (TellsTotal (rows_in bytes.now))) }
+        ensures fallback { IfOk result (λ o. IfSome o (TellsFallback (rows_in bytes.now))) }
     {
         match text_of(bytes) {
             Ok(text) => text_flaw(alloc, text),
