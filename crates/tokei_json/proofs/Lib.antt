@@ -1,4 +1,5 @@
 pub mod FewNames
+pub mod Left
 pub mod Measured
 pub mod Members
 pub mod Names

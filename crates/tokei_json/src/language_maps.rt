@@ -1,18 +1,17 @@
 //! Whether each object of a document whose members are languages names known languages, and each of
 //! them once.
-ghost use Rattle.std.specs.Prelude.{◌≡◌, ◌||◌, bytes_eq, codes, is_some, not};
-ghost use Rattle.json.specs.Value.{value_view, items_view, members_view};
-ghost use Rattle.tokei_table.specs.Layout.{all_items};
-ghost use Rattle.tokei_json_tree.specs.Ordered.{IsOrdered, AreItemsOrdered, AreMembersOrdered};
-ghost use Rattle.tokei_json_tree.specs.TreeData.{data_of, items_data, members_data};
-ghost use Rattle.tokei_json.specs.LanguageMaps.{all_names, language_named, has_both, knows_names, names_once, passes};
-ghost use Rattle.tokei_json.specs.LanguageMaps.{statistics_pass, blobs_at_pass, blobs_pass, each_passes, report_passes};
-ghost use Rattle.tokei_json.specs.LanguageMaps.{reports_pass, lists_pass, children_pass, language_passes};
-ghost use Rattle.tokei_json.specs.LanguageMaps.{languages_pass, all_known, all_once};
+ghost use Rattle.std.specs.Prelude.{◌≡◌, ◌&&◌, ◌||◌, bytes_eq, codes, is_some, option_map, IfSome};
+ghost use Rattle.json.specs.Value.{value_view, members_view};
+ghost use Rattle.tokei_table.specs.Layout.{absent_or};
+ghost use Rattle.tokei_json_tree.specs.Ordered.{IsOrdered, AreMembersOrdered};
+ghost use Rattle.tokei_json_tree.specs.TreeData.{data_of, members_data};
+ghost use Rattle.tokei_json.specs.LanguageMaps.{all_names, language_named, has_both, names_once, passes};
+ghost use Rattle.tokei_json.specs.LanguageMaps.{statistics_pass, blobs_pass, report_passes, reports_pass};
+ghost use Rattle.tokei_json.specs.LanguageMaps.{children_pass, language_passes, languages_pass, all_known, all_once};
 
 use crate::named_table::NamedTable;
 use json::Value;
-use tokei_json_tree::{Tree, TreeItems, TreeMembers, member};
+use tokei_json_tree::{Tree, TreeMembers, member};
 
 /// What is asked of the names.
 #[derive(Clone, Copy)]
@@ -38,38 +37,15 @@ fn has_both(table: &NamedTable, value: &Tree<'_>, name: &str) -> bool
     }
 }
 
-fn all_are_known(table: &NamedTable, members: &TreeMembers<'_>) -> bool
-    ensures { result
-        ≡ all_names (λ k. is_some (language_named table.now k))
+/// Whether every name is that of a language, save `Total` among a document's own members.
+fn all_are_known(table: &NamedTable, members: &TreeMembers<'_>, of_document: bool) -> bool
+    ensures { result ≡ all_names (λ k. of_document && bytes_eq k (codes "Total")
+        || is_some (language_named table.now k))
         (members_data (members_view members.now.items)) }
 {
     for member in members {
-        if table.language(member.0).is_none() {
-            return false;
-        }
-    }
-    true
-}
-
-fn knows_names(table: &NamedTable, value: &Tree<'_>) -> bool
-    ensures { result ≡ knows_names table.now (data_of (value_view value.now)) }
-{
-    match value {
-        Value::Object(members) => all_are_known(table, members),
-        _ => true,
-    }
-}
-
-/// Whether none of the members' languages stands in the value by its key and by its name.
-fn none_has_both(table: &NamedTable, value: &Tree<'_>, members: &TreeMembers<'_>) -> bool
-    requires { IsOrdered (value_view value.now) }
-    ensures { result
-        ≡ all_names (λ k. not (has_both table.now (data_of (value_view value.now))
-        (language_named table.now k)))
-        (members_data (members_view members.now.items)) }
-{
-    for member in members {
-        if has_both(table, value, member.0) {
+        let is_total = of_document && member.0 == "Total";
+        if !is_total && table.language(member.0).is_none() {
             return false;
         }
     }
@@ -83,7 +59,17 @@ fn names_once(table: &NamedTable, value: &Tree<'_>) -> bool
     ensures { result ≡ names_once table.now (data_of (value_view value.now)) }
 {
     match value {
-        Value::Object(members) => members.len() < 2 || none_has_both(table, value, members),
+        Value::Object(members) => {
+            if members.len() < 2 {
+                return true;
+            }
+            for member in members {
+                if has_both(table, value, member.0) {
+                    return false;
+                }
+            }
+            true
+        }
         _ => true,
     }
 }
@@ -93,7 +79,10 @@ fn passes(table: &NamedTable, test: MapTest, value: &Tree<'_>) -> bool
     ensures { result ≡ passes table.now test (data_of (value_view value.now)) }
 {
     match test {
-        MapTest::Known => knows_names(table, value),
+        MapTest::Known => match value {
+            Value::Object(members) => all_are_known(table, members, false),
+            _ => true,
+        },
         MapTest::Once => names_once(table, value),
     }
 }
@@ -104,24 +93,16 @@ fn statistics_pass(table: &NamedTable, test: MapTest, value: &Tree<'_>) -> bool
     ensures { result ≡ statistics_pass (passes table.now test) (data_of (value_view value.now)) }
 {
     match value {
-        Value::Object(members) => blobs_at_pass(table, test, members),
+        Value::Object(members) => {
+            for member in members {
+                if member.0 == "blobs" {
+                    return blobs_pass(table, test, &member.1);
+                }
+            }
+            true
+        }
         _ => true,
     }
-}
-
-/// Whether the blobs pass that stand among the members.
-#[cycle(statistics)]
-fn blobs_at_pass(table: &NamedTable, test: MapTest, members: &TreeMembers<'_>) -> bool
-    requires { AreMembersOrdered (members_view members.now.items) }
-    ensures { result ≡ blobs_at_pass (passes table.now test)
-        (members_data (members_view members.now.items)) }
-{
-    for member in members {
-        if member.0 == "blobs" {
-            return blobs_pass(table, test, &member.1);
-        }
-    }
-    true
 }
 
 #[cycle(statistics)]
@@ -130,23 +111,19 @@ fn blobs_pass(table: &NamedTable, test: MapTest, value: &Tree<'_>) -> bool
     ensures { result ≡ blobs_pass (passes table.now test) (data_of (value_view value.now)) }
 {
     match value {
-        Value::Object(members) => passes(table, test, value) && each_passes(table, test, members),
+        Value::Object(members) => {
+            if !passes(table, test, value) {
+                return false;
+            }
+            for member in members {
+                if !statistics_pass(table, test, &member.1) {
+                    return false;
+                }
+            }
+            true
+        }
         _ => true,
     }
-}
-
-#[cycle(statistics)]
-fn each_passes(table: &NamedTable, test: MapTest, members: &TreeMembers<'_>) -> bool
-    requires { AreMembersOrdered (members_view members.now.items) }
-    ensures { result ≡ each_passes (passes table.now test)
-        (members_data (members_view members.now.items)) }
-{
-    for member in members {
-        if !statistics_pass(table, test, &member.1) {
-            return false;
-        }
-    }
-    true
 }
 
 fn report_passes(table: &NamedTable, test: MapTest, value: &Tree<'_>) -> bool
@@ -159,50 +136,50 @@ fn report_passes(table: &NamedTable, test: MapTest, value: &Tree<'_>) -> bool
     }
 }
 
-fn all_items_pass(table: &NamedTable, test: MapTest, items: &TreeItems<'_>) -> bool
-    requires { AreItemsOrdered (items_view items.now.items) }
-    ensures { result
-        ≡ all_items (report_passes (passes table.now test))
-        (items_data (items_view items.now.items)) }
+/// Whether the reports of a list pass, where it is there.
+fn reports_pass(table: &NamedTable, test: MapTest, member: Option<&Tree<'_>>) -> bool
+    requires { IfSome member (λ v. IsOrdered (value_view v.now)) }
+    ensures { result ≡ absent_or (reports_pass (passes table.now test))
+        (option_map (λ v. data_of (value_view v.now)) member.entry) }
 {
-    for item in items {
-        if !report_passes(table, test, item) {
-            return false;
-        }
-    }
-    true
-}
-
-fn reports_pass(table: &NamedTable, test: MapTest, value: &Tree<'_>) -> bool
-    requires { IsOrdered (value_view value.now) }
-    ensures { result ≡ reports_pass (passes table.now test) (data_of (value_view value.now)) }
-{
-    match value {
-        Value::Array(items) => all_items_pass(table, test, items),
-        _ => true,
+    match member {
+        Some(value) => match value {
+            Value::Array(items) => {
+                for item in items {
+                    if !report_passes(table, test, item) {
+                        return false;
+                    }
+                }
+                true
+            }
+            _ => true,
+        },
+        None => true,
     }
 }
 
-fn lists_pass(table: &NamedTable, test: MapTest, members: &TreeMembers<'_>) -> bool
-    requires { AreMembersOrdered (members_view members.now.items) }
-    ensures { result ≡ lists_pass (passes table.now test)
-        (members_data (members_view members.now.items)) }
+/// Whether the children of a language pass, where they are there.
+fn children_pass(table: &NamedTable, test: MapTest, member: Option<&Tree<'_>>) -> bool
+    requires { IfSome member (λ v. IsOrdered (value_view v.now)) }
+    ensures { result ≡ absent_or (children_pass (passes table.now test))
+        (option_map (λ v. data_of (value_view v.now)) member.entry) }
 {
-    for member in members {
-        if !reports_pass(table, test, &member.1) {
-            return false;
-        }
-    }
-    true
-}
-
-fn children_pass(table: &NamedTable, test: MapTest, value: &Tree<'_>) -> bool
-    requires { IsOrdered (value_view value.now) }
-    ensures { result ≡ children_pass (passes table.now test) (data_of (value_view value.now)) }
-{
-    match value {
-        Value::Object(members) => passes(table, test, value) && lists_pass(table, test, members),
-        _ => true,
+    match member {
+        Some(value) => match value {
+            Value::Object(members) => {
+                if !passes(table, test, value) {
+                    return false;
+                }
+                for member in members {
+                    if !reports_pass(table, test, Some(&member.1)) {
+                        return false;
+                    }
+                }
+                true
+            }
+            _ => true,
+        },
+        None => true,
     }
 }
 
@@ -210,15 +187,8 @@ fn language_passes(table: &NamedTable, test: MapTest, value: &Tree<'_>) -> bool
     requires { IsOrdered (value_view value.now) }
     ensures { result ≡ language_passes (passes table.now test) (data_of (value_view value.now)) }
 {
-    if let Some(reports) = member(value, "reports") {
-        if !reports_pass(table, test, reports) {
-            return false;
-        }
-    }
-    match member(value, "children") {
-        Some(children) => children_pass(table, test, children),
-        None => true,
-    }
+    reports_pass(table, test, member(value, "reports"))
+        && children_pass(table, test, member(value, "children"))
 }
 
 fn languages_pass(table: &NamedTable, test: MapTest, members: &TreeMembers<'_>) -> bool
@@ -227,20 +197,10 @@ fn languages_pass(table: &NamedTable, test: MapTest, members: &TreeMembers<'_>) 
         (members_data (members_view members.now.items)) }
 {
     for member in members {
-        if member.0 != "Total" && !language_passes(table, test, &member.1) {
-            return false;
+        if member.0 == "Total" {
+            continue;
         }
-    }
-    true
-}
-
-fn knows_languages(table: &NamedTable, members: &TreeMembers<'_>) -> bool
-    ensures { result
-        ≡ all_names (λ k. bytes_eq k (codes "Total") || is_some (language_named table.now k))
-        (members_data (members_view members.now.items)) }
-{
-    for member in members {
-        if member.0 != "Total" && table.language(member.0).is_none() {
+        if !language_passes(table, test, &member.1) {
             return false;
         }
     }
@@ -255,7 +215,7 @@ pub fn all_known(table: &NamedTable, value: &Tree<'_>) -> bool
 {
     match value {
         Value::Object(members) => {
-            knows_languages(table, members) && languages_pass(table, MapTest::Known, members)
+            all_are_known(table, members, true) && languages_pass(table, MapTest::Known, members)
         }
         _ => true,
     }

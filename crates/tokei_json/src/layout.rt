@@ -1,16 +1,15 @@
 //! Whether a tree has the layout of a document.
 ghost use Rattle.std.specs.Prelude.{◌≡◌, false, option_map, IfSome};
-ghost use Rattle.json.specs.Value.{value_view, items_view, members_view};
+ghost use Rattle.json.specs.Value.{value_view, members_view};
 ghost use Rattle.serde_json.specs.Written.{has_float};
-ghost use Rattle.tokei_table.specs.Layout.{all_items, is_text, is_truth_value, stands_and};
-ghost use Rattle.tokei_json_tree.specs.Ordered.{IsOrdered, AreItemsOrdered, AreMembersOrdered};
-ghost use Rattle.tokei_json_tree.specs.TreeData.{data_of, items_data, members_data};
-ghost use Rattle.tokei_json.specs.Layout.{is_count, has_counts, is_statistics, blobs_stand, are_blobs, all_statistics};
-ghost use Rattle.tokei_json.specs.Layout.{is_report, are_reports, all_reports, are_children, is_language};
-ghost use Rattle.tokei_json.specs.Layout.{are_languages, is_document, has_layout};
+ghost use Rattle.tokei_table.specs.Layout.{is_text, is_truth_value, stands_and};
+ghost use Rattle.tokei_json_tree.specs.Ordered.{IsOrdered, AreMembersOrdered};
+ghost use Rattle.tokei_json_tree.specs.TreeData.{data_of, members_data};
+ghost use Rattle.tokei_json.specs.Layout.{is_count, has_counts, is_statistics, are_blobs, is_report};
+ghost use Rattle.tokei_json.specs.Layout.{are_reports, are_children, is_language, are_languages, has_layout};
 
 use json::Value;
-use tokei_json_tree::{Tree, TreeItems, TreeMembers, count, member};
+use tokei_json_tree::{Tree, TreeMembers, count, member};
 
 fn is_count(member: Option<&Tree<'_>>) -> bool
     ensures { result
@@ -58,23 +57,19 @@ fn is_statistics(value: &Tree<'_>) -> bool
     ensures { result ≡ is_statistics (data_of (value_view value.now)) }
 {
     match value {
-        Value::Object(members) => has_counts(value) && blobs_stand(members),
+        Value::Object(members) => {
+            if !has_counts(value) {
+                return false;
+            }
+            for member in members {
+                if member.0 == "blobs" {
+                    return are_blobs(&member.1);
+                }
+            }
+            false
+        }
         _ => false,
     }
-}
-
-/// Whether the blobs stand among the members, and are blobs.
-#[cycle(statistics)]
-fn blobs_stand(members: &TreeMembers<'_>) -> bool
-    requires { AreMembersOrdered (members_view members.now.items) }
-    ensures { result ≡ blobs_stand (members_data (members_view members.now.items)) }
-{
-    for member in members {
-        if member.0 == "blobs" {
-            return are_blobs(&member.1);
-        }
-    }
-    false
 }
 
 #[cycle(statistics)]
@@ -83,22 +78,16 @@ fn are_blobs(value: &Tree<'_>) -> bool
     ensures { result ≡ are_blobs (data_of (value_view value.now)) }
 {
     match value {
-        Value::Object(members) => all_statistics(members),
+        Value::Object(members) => {
+            for member in members {
+                if !is_statistics(&member.1) {
+                    return false;
+                }
+            }
+            true
+        }
         _ => false,
     }
-}
-
-#[cycle(statistics)]
-fn all_statistics(members: &TreeMembers<'_>) -> bool
-    requires { AreMembersOrdered (members_view members.now.items) }
-    ensures { result ≡ all_statistics (members_data (members_view members.now.items)) }
-{
-    for member in members {
-        if !is_statistics(&member.1) {
-            return false;
-        }
-    }
-    true
 }
 
 fn is_report(value: &Tree<'_>) -> bool
@@ -114,47 +103,23 @@ fn is_report(value: &Tree<'_>) -> bool
     }
 }
 
-fn all_items(items: &TreeItems<'_>) -> bool
-    requires { AreItemsOrdered (items_view items.now.items) }
-    ensures { result ≡ all_items is_report (items_data (items_view items.now.items)) }
-{
-    for item in items {
-        if !is_report(item) {
-            return false;
-        }
-    }
-    true
-}
-
-fn are_reports(value: &Tree<'_>) -> bool
-    requires { IsOrdered (value_view value.now) }
-    ensures { result ≡ are_reports (data_of (value_view value.now)) }
-{
-    match value {
-        Value::Array(items) => all_items(items),
-        _ => false,
-    }
-}
-
-fn all_reports(members: &TreeMembers<'_>) -> bool
-    requires { AreMembersOrdered (members_view members.now.items) }
-    ensures { result ≡ all_reports (members_data (members_view members.now.items)) }
-{
-    for member in members {
-        if !are_reports(&member.1) {
-            return false;
-        }
-    }
-    true
-}
-
 fn reports_stand(member: Option<&Tree<'_>>) -> bool
     requires { IfSome member (λ v. IsOrdered (value_view v.now)) }
     ensures { result
         ≡ stands_and are_reports (option_map (λ v. data_of (value_view v.now)) member.entry) }
 {
     match member {
-        Some(value) => are_reports(value),
+        Some(value) => match value {
+            Value::Array(items) => {
+                for item in items {
+                    if !is_report(item) {
+                        return false;
+                    }
+                }
+                true
+            }
+            _ => false,
+        },
         None => false,
     }
 }
@@ -165,8 +130,18 @@ fn children_stand(member: Option<&Tree<'_>>) -> bool
         ≡ stands_and are_children (option_map (λ v. data_of (value_view v.now)) member.entry) }
 {
     match member {
-        Some(Value::Object(members)) => all_reports(members),
-        _ => false,
+        Some(value) => match value {
+            Value::Object(members) => {
+                for member in members {
+                    if !reports_stand(Some(&member.1)) {
+                        return false;
+                    }
+                }
+                true
+            }
+            _ => false,
+        },
+        None => false,
     }
 }
 
@@ -186,21 +161,14 @@ fn are_languages(members: &TreeMembers<'_>) -> bool
     ensures { result ≡ are_languages (members_data (members_view members.now.items)) }
 {
     for member in members {
-        if member.0 != "Total" && !is_language(&member.1) {
+        if member.0 == "Total" {
+            continue;
+        }
+        if !is_language(&member.1) {
             return false;
         }
     }
     true
-}
-
-fn is_document(value: &Tree<'_>) -> bool
-    requires { IsOrdered (value_view value.now) }
-    ensures { result ≡ is_document (data_of (value_view value.now)) }
-{
-    match value {
-        Value::Object(members) => member(value, "Total").is_some() && are_languages(members),
-        _ => false,
-    }
 }
 
 /// Whether a tree whose numbers are whole ones of 64 bits has the layout of a document.
@@ -210,5 +178,8 @@ pub fn has_layout(value: &Tree<'_>) -> bool
     requires whole { has_float (data_of (value_view value.now)) ≡ false }
     ensures { result ≡ has_layout (data_of (value_view value.now)) }
 {
-    is_document(value)
+    match value {
+        Value::Object(members) => member(value, "Total").is_some() && are_languages(members),
+        _ => false,
+    }
 }
