@@ -1,4 +1,4 @@
-use Rattle.std.proofs.Common.{◌≡◌, ◌∙◌, ap, sym, subst, Some, option_map, IfSome}
+use Rattle.std.proofs.Common.{◌≡◌, ◌∙◌, ap, sym, subst, Some, option_map}
 use Rattle.json.proofs.Trees.{view-Object}
 use Rattle.json.specs.Json as json
 use Rattle.json.specs.Value.{value_view, members_view}

@@ -1,4 +1,4 @@
-use Rattle.std.proofs.Common.{sym, ap, string_bytes, ◌∙◌, codes}
+use Rattle.std.proofs.Common.{ap, string_bytes, ◌∙◌, codes}
 use Rattle.std.proofs.lemmas.List.{drop_all}
 use Rattle.json.specs.Value.{value_view, items_view}
 use Rattle.serde_json.specs.Find.{get}
