@@ -56,7 +56,7 @@ TellsFallback rows flaw = flaw.cause ≡ Fallback
 
 -- Whether a language keeps the value from being a table: where the value has no layout, one of its
 -- languages has none; else the table is refused.
-unfoldable pub is_flawed_value : Data → Bool
+abbrev pub is_flawed_value : Data → Bool
 is_flawed_value value =
     if has_layout value then is_err (outcome_of_value value)
     else has_unfit_language (get (codes "languages") value)

@@ -259,7 +259,7 @@ fn row_flaw(alloc: Global, rows: &[Syntax]) -> Result<Option<TableFlaw>, AllocEr
 }
 
 /// What of a text's JSON keeps it from being a table.
-#[tactic(auto, unfolding(crate::specs::Outcome::outcome_of_value, crate::specs::Flaws::is_flawed_value, tokei_table_json::specs::Layout::has_layout))]
+#[tactic(auto, unfolding(crate::specs::Outcome::outcome_of_value, tokei_table_json::specs::Layout::has_layout))]
 fn reading_flaw(alloc: Global, read: &Reading<'_>) -> Result<Option<TableFlaw>, AllocError>
     requires ordered { IsOrdered (value_view read.now.tree) }
     requires fraction { read.now.has_fraction ≡ has_float (tree_data (value_view read.now.tree)) }
