@@ -39,7 +39,7 @@ pub(crate) fn language_object(
 {
     let mut members = count_members(alloc, counts)?;
     put(&mut members, alloc, "children", Value::Object(children))?;
-    put(&mut members, alloc, "inaccurate", Value::Bool(inaccurate))?;
     put(&mut members, alloc, "reports", reports)?;
+    put(&mut members, alloc, "inaccurate", Value::Bool(inaccurate))?;
     Ok(Value::Object(members))
 }

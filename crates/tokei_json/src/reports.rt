@@ -108,9 +108,8 @@ fn line_value(
 ) -> Result<Value, AllocError>
     ensures { IfOk result (λ v. view v ≡ line_data table.now language (report_of report.now)) }
 {
-    let name = String::from_str(alloc, name_of(table, language))?;
     let stats = report_value(alloc, table, report)?;
-    json!(in alloc; {"language": name, "stats": stats})
+    json!(in alloc; {"language": name_of(table, language), "stats": stats})
 }
 
 /// A file's report beside the name of its language, as one compact JSON text with no newline: a

@@ -67,8 +67,8 @@ fn reports_by_language_value(
     Ok(members)
 }
 
-/// The total as it would be shown with these counts and this mark.
-fn total_of_counts_value(
+/// The total with these counts.
+fn total_value(
     alloc: Global,
     table: &LanguageTable,
     languages: &Languages,
@@ -83,37 +83,6 @@ fn total_of_counts_value(
     language_object(alloc, counts, children, languages.is_inaccurate(), reports)
 }
 
-/// The total of the languages. `Overflow` only where one of its counts passes the greatest `usize`,
-/// or `Memory`.
-fn total_value(
-    alloc: Global,
-    table: &LanguageTable,
-    languages: &Languages,
-) -> Result<Value, CountError>
-    ensures value { IfOk result (λ v. view v
-        ≡ language_data table.now (total_of (languages_of languages.now))) }
-    ensures overflow { IsErrOf result CountError.Overflow
-        → ¬ CountsFit (languages_summary (languages_of languages.now)) }
-{
-    let counts = languages.summary_counts()?;
-    let value = total_of_counts_value(alloc, table, languages, counts)?;
-    Ok(value)
-}
-
-fn document_of_total(
-    alloc: Global,
-    table: &LanguageTable,
-    languages: &Languages,
-    total: Value,
-) -> Result<Value, AllocError>
-    requires { view total ≡ language_data table.now (total_of (languages_of languages.now)) }
-    ensures { IfOk result (λ v. view v ≡ document table.now (languages_of languages.now)) }
-{
-    let mut members = languages_value(alloc, table, languages)?;
-    put(&mut members, alloc, "Total", total)?;
-    Ok(Value::Object(members))
-}
-
 /// The languages by name beside their total, members in byte order; a language that isn't of the
 /// table has an empty name. `Overflow` only where a count of the total passes the greatest `usize`,
 /// or `Memory`.
@@ -126,7 +95,9 @@ pub fn to_value(
     ensures overflow { IsErrOf result CountError.Overflow
         → ¬ CountsFit (languages_summary (languages_of languages.now)) }
 {
-    let total = total_value(alloc, table, languages)?;
-    let value = document_of_total(alloc, table, languages, total)?;
-    Ok(value)
+    let counts = languages.summary_counts()?;
+    let total = total_value(alloc, table, languages, counts)?;
+    let mut members = languages_value(alloc, table, languages)?;
+    put(&mut members, alloc, "Total", total)?;
+    Ok(Value::Object(members))
 }
