@@ -265,7 +265,8 @@ fn reading_flaw(alloc: Global, read: &Reading<'_>) -> Result<Option<TableFlaw>, 
     requires fraction { read.now.has_fraction ≡ has_float (tree_data (value_view read.now.tree)) }
     ensures cause { IfOk result (λ o. IfSome o
         (λ f. outcome_of_value (tree_data (value_view read.now.tree)) ≡ Err f.cause)) }
-    ensures found { IfOk result (λ o. is_some o ≡ is_flawed_value (tree_data (value_view read.now.tree))) }
+    ensures found { IfOk result
+        (λ o. is_some o ≡ is_flawed_value (tree_data (value_view read.now.tree))) }
     ensures token { IfOk result
         (λ o. IfSome o (TellsToken (rows_in_value (tree_data (value_view read.now.tree))))) }
     ensures name { IfOk result
