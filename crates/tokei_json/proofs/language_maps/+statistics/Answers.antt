@@ -1,4 +1,4 @@
-use Rattle.std.proofs.Common.{◌≡◌, ◌&&◌, true, refl, sym, ap, ◌∙◌, subst, rules, bytes_eq, codes}
+use Rattle.std.proofs.Common.{◌&&◌, refl, sym, ap, ◌∙◌, subst, rules, bytes_eq, codes}
 use Rattle.json.specs.Value.{members_view, value_view}
 use Rattle.json.specs.declared.value.Value.{the_lemmas}
 use Rattle.tokei_json_tree.specs.Ordered.{IsOrdered}

@@ -1,4 +1,4 @@
-use Rattle.std.proofs.Common.{◌≡◌, ◌&&◌, refl, sym, ap, ◌∙◌, subst, option_map}
+use Rattle.std.proofs.Common.{◌&&◌, refl, sym, ap, ◌∙◌, subst, option_map}
 use Rattle.std.specs.Prelude.{IfSome}
 use Rattle.json.specs.Value.{members_view, value_view}
 use Rattle.tokei_json_tree.specs.Ordered.{IsOrdered}

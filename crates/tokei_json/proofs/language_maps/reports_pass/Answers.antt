@@ -1,8 +1,8 @@
-use Rattle.std.proofs.Common.{◌≡◌, ◌&&◌, refl, sym, ap, ◌∙◌, subst, option_map}
+use Rattle.std.proofs.Common.{refl, sym, ap, ◌∙◌, subst, option_map}
 use Rattle.std.specs.Prelude.{IfSome}
-use Rattle.json.specs.Value.{members_view, value_view}
+use Rattle.json.specs.Value.{value_view}
 use Rattle.tokei_json_tree.specs.Ordered.{IsOrdered}
-use Rattle.tokei_json_tree.specs.TreeData.{data_of, members_data}
+use Rattle.tokei_json_tree.specs.TreeData.{data_of}
 use Rattle.tokei_table.specs.Layout.{absent_or}
 use Rattle.tokei_json.specs.LanguageMaps.{passes, report_passes, reports_pass}
 use Rattle.tokei_json.proofs.Left.{array_seen, failed, from, none_left, passed}

@@ -1,5 +1,5 @@
-use Rattle.std.proofs.Common.{◌≡◌, ◌&&◌, true, refl, sym, ap, ◌∙◌, subst, rules, bytes_eq, codes}
-use Rattle.tokei_json_tree.specs.Ordered.{AreMembersOrdered, IsOrdered}
+use Rattle.std.proofs.Common.{◌&&◌, refl, sym, ap, ◌∙◌, subst, rules, bytes_eq, codes}
+use Rattle.tokei_json_tree.specs.Ordered.{IsOrdered}
 use Rattle.tokei_json_tree.specs.TreeData.{data_of, members_data}
 use Rattle.json.specs.Value.{members_view, value_view}
 use Rattle.json.specs.declared.value.Value.{the_lemmas}
