@@ -4,6 +4,7 @@ pub mod Groups
 pub mod Growing
 pub mod Inside
 pub mod KeptPlaces
+pub mod Lasting
 pub mod ListedFiles
 pub mod NearestFirst
 pub mod NeverRefused

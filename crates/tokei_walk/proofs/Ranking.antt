@@ -1,5 +1,5 @@
 -- How the measure of a walk falls.
-use Rattle.std.proofs.Common.{◌≡◌, ℕ, zero, suc, ◌+◌, ◌*◌, ◌-◌, ◌<◌, ◌≤◌, ◌^◌, List, [], ◌∷◌, ◌++◌, length, reverse, true, Some, Result, Ok, Err, OnOk, IfOk, sym, ap, ◌∙◌, arith}
+use Rattle.std.proofs.Common.{◌≡◌, ℕ, zero, suc, ◌+◌, ◌*◌, ◌-◌, ◌<◌, ◌≤◌, ◌^◌, List, [], ◌∷◌, ◌++◌, length, reverse, Bool, true, false, Some, Result, Ok, Err, OnOk, IfOk, sym, ap, ◌∙◌, arith, subst}
 use Rattle.std.proofs.Math.Nat.{mul-lt-mul_of_pos_right, mul-le-mul_right}
 use Rattle.std.proofs.lemmas.List.{reverse-append, length-reverse, length-append}
 use Rattle.tokei_walk.specs.declared.levels.Context.{Context}
@@ -10,7 +10,7 @@ use Rattle.tokei_walk.specs.declared.stack.Step.TheVariants.{Found, Passed, Ende
 use Rattle.std.specs.declared.alloc.AllocError.{AllocError}
 use Rattle.tokei_walk.specs.declared.stack.Stack.{Stack}
 use Rattle.tokei_walk.specs.Ranks.{weight, frames_rank, stack_rank, all_rank, FoundFalls}
-use Rattle.tokei_walk.specs.Stacks.{Pops, Leaves, Enters, Stays}
+use Rattle.tokei_walk.specs.Stacks.{Pops, Leaves, Enters, Stays, StepStays, file_kept}
 use Rattle.tokei_walk.proofs.StackSteps.{with_context}
 
 pub weight-pos : (n : ℕ) → 0 < weight n
@@ -41,6 +41,23 @@ popped s u entry h =
     let same = ap (λ (v : Stack). length u.left * weight (256 - length v.holders) + frames_rank (reverse v.holders)) h.1 in
     let product : length s.left * w ≡ length u.left * w + w = ap (λ n. n * w) one ∙ omega arith in
     omega arith
+
+-- and leaves the walked folder, with fewer entries left
+pub fewer_left : (s u : Stack) (entry : Entry) → Pops s u (Some entry) → StepStays s u Passed
+fewer_left s u entry h =
+    let one : length s.left ≡ suc (length u.left) = sym (length-reverse s.left) ∙ ap length h.0 ∙ ap suc (length-reverse u.left) in
+    ((ap (λ (v : Stack). v.context) h.1, ap (λ (v : Stack). v.place) h.1, ap (λ (v : Stack). v.holders) h.1), omega arith)
+
+stays_by : (s u v : Stack) (b : Bool) (place : List ℕ) → StepStays s u Passed → v ≡ u → StepStays s v (file_kept b place)
+stays_by s u v true place h same = subst (λ (w : Stack). StepStays s w Passed) (sym same) h
+stays_by s u v false place h same = tt
+
+-- so does a file that is met
+pub file_stays : (s u v : Stack) (entry : Entry) (b : Bool) (place : List ℕ) (q : Result Step AllocError)
+    → Pops s u (Some entry) → OnOk q (v ≡ u) → IfOk q (λ st. st ≡ file_kept b place)
+    → IfOk q (λ st. StepStays s v st)
+file_stays s u v entry b place (Ok st) h same is = subst (λ (x : Step). StepStays s v x) (sym is) (stays_by s u v b place (fewer_left s u entry h) same)
+file_stays s u v entry b place (Err x) h same is = tt
 
 -- the measure of frames that are turned round
 turned : (below front : List Frame) (f : Frame) → below ≡ front ++ f ∷ [] → frames_rank (reverse below) ≡ length f.left * weight (256 - length front) + frames_rank (reverse front)

@@ -1,11 +1,17 @@
 -- The rules of a folder, by the ignore files at its joined places.
-use Rattle.std.proofs.Common.{◌≡◌, ℕ, ◌&&◌, codes, List, [], ◌∷◌, ◌++◌, Bool, true, cond, Option, Some, None, is_some, Result, refl, sym, ap, ◌∙◌, subst, IfOk}
+use Rattle.std.proofs.Common.{◌≡◌, ℕ, ◌&&◌, codes, List, [], ◌∷◌, ◌++◌, Bool, true, false, cond, Option, Some, None, is_some, Result, Ok, Err, refl, sym, ap, ◌∙◌, subst, IfOk}
+use Rattle.tokei_folders.specs.declared.fs.Fault.TheVariants.{Refused}
+use Rattle.tokei_folders.specs.declared.fs.Kind.TheVariants.{File}
 use Rattle.tokei_folders.specs.declared.nodes.Node.{Node}
+use Rattle.tokei_folders.specs.declared.nodes.Node.TheVariants.{File as file, Folder as folder}
 use Rattle.tokei_folders.specs.Places.{joined}
-use Rattle.tokei_folders.specs.Answers.{node_kind}
+use Rattle.tokei_folders.specs.Answers.{node_kind, read_answer}
 use Rattle.tokei_folders.specs.Tree.{Names, Tree, node_at, names_of}
 use Rattle.tokei_folders.proofs.Joining.{names_of-joined}
+use Rattle.tokei_ignore.specs.IgnoreFiles.{patterns_of, bad_lines_of}
 use Rattle.tokei_walk.specs.Levels.{level_at, ignore_file_at, has_git, patterns_at}
+use Rattle.tokei_walk.specs.Notes.{bad_line_notes, ignore_notes}
+use Rattle.tokei_walk.specs.declared.kept_file.NoteKind.TheVariants.{UnreadIgnore}
 use Rattle.tokei_walk.specs.Sought.{level_of}
 use Rattle.tokei_walk.specs.declared.rules_files.Sought.{Sought}
 use Rattle.tokei_walk.specs.declared.levels.Level.{Level}
@@ -22,6 +28,33 @@ told_of_joined r f on none w p n is_on is h =
     let q : f (names_of w) ≡ cond on (f (names_of p ++ names_of n)) none = ap f same ∙ sym (ap (λ b. cond b (f (names_of p ++ names_of n)) none) is_on) in
     subst (λ (y : _). IfOk r (λ x. x ≡ y)) q h
 
+-- the patterns of a file that is read are those of its content
+pub file_read : (o : Option Node) (content : List ℕ) → Some File ≡ node_kind o → Ok content ≡ read_answer o → patterns_of content ≡ patterns_at o
+file_read None content k e = absurd (cc)
+file_read (Some (folder r)) content k e = absurd (cc)
+file_read (Some (file true h b)) content k e = absurd (cc)
+file_read (Some (file false h b)) content k e = let same : content ≡ b = cc in ap patterns_of same
+
+-- and its notes those of its bad lines
+pub lines_noted : (o : Option Node) (place content : List ℕ) → Some File ≡ node_kind o → Ok content ≡ read_answer o → bad_line_notes place (bad_lines_of content) ≡ ignore_notes place o
+lines_noted None place content k e = absurd (cc)
+lines_noted (Some (folder r)) place content k e = absurd (cc)
+lines_noted (Some (file true h b)) place content k e = absurd (cc)
+lines_noted (Some (file false h b)) place content k e = let same : content ≡ b = cc in ap (λ (x : List ℕ). bad_line_notes place (bad_lines_of x)) same
+
+-- one that can't be read has none, and leaves a note
+pub file_unread : (o : Option Node) → Some File ≡ node_kind o → Err Refused ≡ read_answer o → [] ≡ patterns_at o
+file_unread None k e = absurd (cc)
+file_unread (Some (folder r)) k e = absurd (cc)
+file_unread (Some (file true h b)) k e = refl
+file_unread (Some (file false h b)) k e = absurd (cc)
+
+pub unread_noted : (o : Option Node) (place : List ℕ) → Some File ≡ node_kind o → Err Refused ≡ read_answer o → record { kind = UnreadIgnore; place = place } ∷ [] ≡ ignore_notes place o
+unread_noted None place k e = absurd (cc)
+unread_noted (Some (folder r)) place k e = absurd (cc)
+unread_noted (Some (file true h b)) place k e = refl
+unread_noted (Some (file false h b)) place k e = absurd (cc)
+
 -- a kind stands exactly where a node does
 pub some_kind : (o : Option Node) → is_some (node_kind o) ≡ is_some o
 some_kind None = refl
@@ -32,11 +65,6 @@ level_with a b c d g = record { tokeignore = a; ignore = b; gitignore = c; git_e
 
 pub same_level : {a a' b b' c c' d d' : List Pattern} {g g' : Bool} → a ≡ a' → b ≡ b' → c ≡ c' → d ≡ d' → g ≡ g' → level_with a b c d g ≡ level_with a' b' c' d' g'
 same_level ea eb ec ed eg = λ i. level_with (ea i) (eb i) (ec i) (ed i) (eg i)
-
--- the patterns of a file are told by its parts
-pub file_told : {ps : List Pattern} {on on' : Bool} {p p' n n' : List ℕ} (t : Tree) → on ≡ on' → p ≡ p' → n ≡ n'
-    → ps ≡ cond on (patterns_at (node_at t (names_of p ++ names_of n))) [] → ps ≡ cond on' (patterns_at (node_at t (names_of p' ++ names_of n'))) []
-file_told t eo ep en h = h ∙ (λ i. cond (eo i) (patterns_at (node_at t (names_of (ep i) ++ names_of (en i)))) [])
 
 -- each file that is sought has its part of the rules
 pub tokeignore_told : (t : Tree) (s : Sought) (p : Names) (a : List Pattern)

@@ -47,20 +47,6 @@ fn note_lost(
     Ok(())
 }
 
-/// What a folder holds, where it can be listed.
-fn listed<F: Folders>(folders: &mut F, place: &str) -> Result<Option<Listing>, AllocError>
-    ensures folders { AsTheyWere F.tree F.memory_faults folders.old folders.new result }
-    ensures told { Told (F.tree folders.old) (λ t. IfOk result (λ o. MatchOption o
-        (list_answer t (names_of place.now) ≡ Err RefusedFault)
-        (λ l. list_answer t (names_of place.now) ≡ Ok l.entries.items))) }
-{
-    match folders.list(place) {
-        Ok(listing) => Ok(Some(listing)),
-        Err(Fault::Refused) => Ok(None),
-        Err(Fault::Memory) => Err(AllocError),
-    }
-}
-
 /// What a folder holds, where it can be listed, with notes of what is passed over.
 pub fn listing<F: Folders>(
     alloc: Global,
@@ -75,11 +61,16 @@ pub fn listing<F: Folders>(
         (list_answer t (names_of place.now) ≡ Err RefusedFault)
         (λ l. list_answer t (names_of place.now) ≡ Ok l.entries.items))) }
 {
-    let Some(listing) = listed(folders, place)? else {
-        note(alloc, notes, NoteKind::Unlisted, place)?;
-        return Ok(None);
-    };
-    note_unnamed(alloc, notes, listing.unnamed, place)?;
-    note_lost(alloc, notes, listing.lost.as_slice(), place)?;
-    Ok(Some(listing))
+    match folders.list(place) {
+        Ok(listing) => {
+            note_unnamed(alloc, notes, listing.unnamed, place)?;
+            note_lost(alloc, notes, listing.lost.as_slice(), place)?;
+            Ok(Some(listing))
+        }
+        Err(Fault::Refused) => {
+            note(alloc, notes, NoteKind::Unlisted, place)?;
+            Ok(None)
+        }
+        Err(Fault::Memory) => Err(AllocError),
+    }
 }

@@ -1,12 +1,12 @@
 //! The rules of a folder, read from its ignore files.
-ghost use Rattle.std.specs.Prelude.{◌≡◌, ◌++◌, ◌&&◌, [], ◌∷◌, OnOk, OnErr, IfOk, option_map, cond, is_some, codes};
+ghost use Rattle.std.specs.Prelude.{◌≡◌, ◌++◌, ◌&&◌, [], ◌∷◌, OnOk, OnErr, IfOk, cond, is_some, codes};
 ghost use Rattle.tokei_walk.specs.Notes.{Grows, bad_line_notes, ignore_notes};
-ghost use Rattle.tokei_folders.specs.Answers.{Told, node_kind, node_content};
+ghost use Rattle.tokei_folders.specs.Answers.{Told, node_kind};
 ghost use Rattle.tokei_folders.specs.AsTheyWere.{AsTheyWere};
 ghost use Rattle.tokei_folders.specs.Tree.{names_of, node_at};
 ghost use Rattle.tokei_walk.specs.Sought.{level_of, listed, lists as is_listed};
 ghost use Rattle.tokei_walk.specs.Levels.{patterns_at, level_at};
-ghost use Rattle.tokei_folders.specs.Places.{joined as joined_places};
+ghost use Rattle.tokei_ignore.specs.IgnoreFiles.{patterns_of, bad_lines_of};
 
 use crate::kept_file::{Note, NoteKind};
 use crate::levels::{Level, Rules};
@@ -58,34 +58,25 @@ fn kind_at<F: Folders>(
     }
 }
 
-/// The content of a file, where it can be read.
-fn content<F: Folders>(folders: &mut F, place: &str) -> Result<Option<Vec<u8>>, AllocError>
-    ensures folders { AsTheyWere F.tree F.memory_faults folders.old folders.new result }
-    ensures told { Told (F.tree folders.old) (λ t. IfOk result
-        (λ c. option_map (λ v. v.items) c ≡ node_content (node_at t (names_of place.now)))) }
-{
-    match folders.read(place) {
-        Ok(bytes) => Ok(Some(bytes)),
-        Err(Fault::Refused) => Ok(None),
-        Err(Fault::Memory) => Err(AllocError),
-    }
-}
-
-/// Leaves a note of each bad line of an ignore file.
+/// The patterns of an ignore file with this content. Leaves a note of each bad line.
 #[tactic(auto, using(crate::proofs::Growing::grows_same, crate::proofs::Growing::grows_on))]
-fn note_bad_lines(
+fn patterns_in(
     alloc: Global,
     notes: &mut Items<Note>,
-    bad_lines: usize,
+    content: &[u8],
     place: &str,
-) -> Result<(), AllocError>
-    ensures bad { OnOk result (notes.new ≡ notes.old ++ bad_line_notes place.now bad_lines) }
+) -> Result<IndexedPatterns, AllocError>
     ensures notes { Grows notes.old notes.new }
+    ensures patterns { IfOk result (λ ps. ps ≡ patterns_of content.now) }
+    ensures bad { OnOk result
+        (notes.new ≡ notes.old ++ bad_line_notes place.now (bad_lines_of content.now)) }
 {
+    let file = IgnoreFile::parse(alloc, content)?;
+    let bad_lines = file.bad_lines;
     for _ in 0..bad_lines {
         note(alloc, notes, NoteKind::BadLine, place)?;
     }
-    Ok(())
+    Ok(file.patterns)
 }
 
 /// The patterns of an ignore file, where it is there and can be read.
@@ -106,13 +97,14 @@ fn patterns_of_file<F: Folders>(
         Some(Kind::File) => {}
         _ => return Ok(IndexedPatterns::new(alloc)),
     }
-    let Some(bytes) = content(folders, place)? else {
-        note(alloc, notes, NoteKind::UnreadIgnore, place)?;
-        return Ok(IndexedPatterns::new(alloc));
-    };
-    let file = IgnoreFile::parse(alloc, bytes.as_slice())?;
-    note_bad_lines(alloc, notes, file.bad_lines, place)?;
-    Ok(file.patterns)
+    match folders.read(place) {
+        Ok(content) => patterns_in(alloc, notes, content.as_slice(), place),
+        Err(Fault::Refused) => {
+            note(alloc, notes, NoteKind::UnreadIgnore, place)?;
+            Ok(IndexedPatterns::new(alloc))
+        }
+        Err(Fault::Memory) => Err(AllocError),
+    }
 }
 
 /// An ignore file, by its folder's place and the path that leads to it from there.
@@ -122,16 +114,6 @@ struct IgnoreName<'a> {
     on: bool,
     place: &'a str,
     name: &'a str,
-}
-
-impl<'a> IgnoreName<'a> {
-    fn new(on: bool, place: &'a str, name: &'a str) -> IgnoreName<'a>
-        ensures on { result.on ≡ on }
-        ensures place { result.place.now ≡ place.now }
-        ensures name { result.name.now ≡ name.now }
-    {
-        IgnoreName { on, place, name }
-    }
 }
 
 /// The patterns of an ignore file; none where it is off.
@@ -153,6 +135,28 @@ fn patterns_of_name<F: Folders>(
     }
     let whole = joined(alloc, file.place, file.name)?;
     patterns_of_file(alloc, folders, notes, whole.as_str())
+}
+
+/// The patterns of two ignore files.
+fn patterns_of_two<F: Folders>(
+    alloc: Global,
+    folders: &mut F,
+    notes: &mut Items<Note>,
+    first: IgnoreName,
+    second: IgnoreName,
+) -> Result<(IndexedPatterns, IndexedPatterns), AllocError>
+    ensures folders { AsTheyWere F.tree F.memory_faults folders.old folders.new result }
+    ensures notes { Grows notes.old notes.new }
+    ensures first { Told (F.tree folders.old) (λ t. IfOk result (λ p. p.0
+        ≡ cond first.entry.on (patterns_at (node_at t
+        (names_of first.entry.place.now ++ names_of first.entry.name.now))) [])) }
+    ensures second { Told (F.tree folders.old) (λ t. IfOk result (λ p. p.1
+        ≡ cond second.entry.on (patterns_at (node_at t
+        (names_of second.entry.place.now ++ names_of second.entry.name.now))) [])) }
+{
+    let before = patterns_of_name(alloc, folders, notes, first)?;
+    let after = patterns_of_name(alloc, folders, notes, second)?;
+    Ok((before, after))
 }
 
 /// Whether a folder has an entry `.git`, where git's rules are on.
@@ -211,50 +215,6 @@ pub fn sought_among(rules: &Rules, entries: &[Entry]) -> Sought
     }
 }
 
-/// The patterns of `.tokeignore` and of `.ignore`, each where it is sought.
-fn dot_patterns<F: Folders>(
-    alloc: Global,
-    folders: &mut F,
-    notes: &mut Items<Note>,
-    sought: Sought,
-    place: &str,
-) -> Result<(IndexedPatterns, IndexedPatterns), AllocError>
-    ensures folders { AsTheyWere F.tree F.memory_faults folders.old folders.new result }
-    ensures notes { Grows notes.old notes.new }
-    ensures tokeignore { Told (F.tree folders.old) (λ t. IfOk result
-        (λ p. p.0 ≡ (level_of t sought (names_of place.now)).tokeignore)) }
-    ensures ignore { Told (F.tree folders.old) (λ t. IfOk result
-        (λ p. p.1 ≡ (level_of t sought (names_of place.now)).ignore)) }
-{
-    let tokeignore = IgnoreName::new(sought.tokeignore, place, ".tokeignore");
-    let tokeignore = patterns_of_name(alloc, folders, notes, tokeignore)?;
-    let ignore = IgnoreName::new(sought.ignore, place, ".ignore");
-    let ignore = patterns_of_name(alloc, folders, notes, ignore)?;
-    Ok((tokeignore, ignore))
-}
-
-/// The patterns of `.gitignore` and of `.git/info/exclude`, each where it is sought.
-fn git_patterns<F: Folders>(
-    alloc: Global,
-    folders: &mut F,
-    notes: &mut Items<Note>,
-    sought: Sought,
-    place: &str,
-) -> Result<(IndexedPatterns, IndexedPatterns), AllocError>
-    ensures folders { AsTheyWere F.tree F.memory_faults folders.old folders.new result }
-    ensures notes { Grows notes.old notes.new }
-    ensures gitignore { Told (F.tree folders.old) (λ t. IfOk result
-        (λ p. p.0 ≡ (level_of t sought (names_of place.now)).gitignore)) }
-    ensures git_exclude { Told (F.tree folders.old) (λ t. IfOk result
-        (λ p. p.1 ≡ (level_of t sought (names_of place.now)).git_exclude)) }
-{
-    let gitignore = IgnoreName::new(sought.gitignore, place, ".gitignore");
-    let gitignore = patterns_of_name(alloc, folders, notes, gitignore)?;
-    let git_exclude = IgnoreName::new(sought.git, place, ".git/info/exclude");
-    let git_exclude = patterns_of_name(alloc, folders, notes, git_exclude)?;
-    Ok((gitignore, git_exclude))
-}
-
 /// Reads the ignore files of a folder that are sought.
 pub fn read_sought<F: Folders>(
     alloc: Global,
@@ -268,8 +228,28 @@ pub fn read_sought<F: Folders>(
     ensures told { Told (F.tree folders.old) (λ t. IfOk result
         (λ l. l ≡ level_of t sought (names_of place.now))) }
 {
-    let (tokeignore, ignore) = dot_patterns(alloc, folders, notes, sought, place)?;
-    let (gitignore, git_exclude) = git_patterns(alloc, folders, notes, sought, place)?;
+    let named = IgnoreName {
+        on: sought.tokeignore,
+        place,
+        name: ".tokeignore",
+    };
+    let plain = IgnoreName {
+        on: sought.ignore,
+        place,
+        name: ".ignore",
+    };
+    let (tokeignore, ignore) = patterns_of_two(alloc, folders, notes, named, plain)?;
+    let listed = IgnoreName {
+        on: sought.gitignore,
+        place,
+        name: ".gitignore",
+    };
+    let excluded = IgnoreName {
+        on: sought.git,
+        place,
+        name: ".git/info/exclude",
+    };
+    let (gitignore, git_exclude) = patterns_of_two(alloc, folders, notes, listed, excluded)?;
     Ok(Level {
         tokeignore,
         ignore,
@@ -280,7 +260,6 @@ pub fn read_sought<F: Folders>(
 }
 
 /// Reads the rules of a folder that isn't listed.
-#[tactic(auto, using(crate::proofs::Growing::grows_same, crate::proofs::Growing::grows_on))]
 pub fn read_level<F: Folders>(
     alloc: Global,
     folders: &mut F,

@@ -4,6 +4,7 @@ use Rattle.tokei_folders.specs.Tree.{names_of}
 use Rattle.tokei_walk.specs.Walks.{names_over, levels_over}
 use Rattle.tokei_walk.proofs.RootSteps.{context_told, context_alone}
 use Rattle.tokei_walk.proofs.Growing.{grows_same, grows_on}
+use Rattle.tokei_walk.proofs.Lasting.{lasts, answers, refused}
 use Rattle.tokei_walk.proofs.parents.context_of_root.Goals as goal
 
 pub returns-clause-told : goal.returns-clause-told
@@ -27,3 +28,9 @@ returns-in_err-read_over-clause-notes g c = grows_on _ _ _ c.folders_over.ensure
 
 pub returns-clause-notes : goal.returns-clause-notes
 returns-clause-notes g c = grows_on _ _ _ c.folders_over.ensures.notes c.read_over.ensures.notes
+
+pub returns-in_err-read_over-clause-folders : goal.returns-in_err-read_over-clause-folders
+returns-in_err-read_over-clause-folders g c = refused c.from_residual-in_err-read_over.ensures.0 (c.read_over.ensures.folders.same ∙ c.folders_over.ensures.folders.same)
+
+pub returns-clause-folders : goal.returns-clause-folders
+returns-clause-folders g c = answers (lasts c.in_ok-found.ensures.folders c.in_ok-read_over.ensures.folders)

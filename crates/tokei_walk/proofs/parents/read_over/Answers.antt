@@ -4,6 +4,7 @@ use Rattle.tokei_walk.specs.Levels.{level_at}
 use Rattle.tokei_walk.specs.Walks.{names_over, levels_over}
 use Rattle.tokei_walk.proofs.Growing.{grows_on, grows_same}
 use Rattle.tokei_walk.proofs.RootSteps.{more, names_over_pop, levels_over_pop}
+use Rattle.tokei_walk.proofs.Lasting.{stay_on, refused}
 use Rattle.tokei_walk.proofs.parents.read_over.Goals as goal
 
 pub loop-above-preserved : goal.loop-above-preserved
@@ -12,7 +13,7 @@ loop-above-preserved g c =
     let found = c.loop-above.found in let front = c.pop.new.self in let a = c.in-Some.above in let r = c.args.settings.now.rules in record {
       notes = grows_on _ _ _ inv.notes c.read_above.ensures.notes;
       same = c.read_above.ensures.folders.same ∙ inv.same;
-      honest = search rules;
+      honest = stay_on g.F.Folders.memory_faults _ _ _ inv.honest c.in_ok-read_above.ensures.folders.honest;
       shown = c.in_ok-read_above.ensures.shown ∙ inv.shown;
       names =
           more old.names new.names (names_over found) (names_over front) _ a.name
@@ -35,3 +36,6 @@ loop-above-init g c = record {
   names = refl;
   levels = λ t e. refl;
 }
+
+pub returns-in_err-read_above-clause-folders : goal.returns-in_err-read_above-clause-folders
+returns-in_err-read_above-clause-folders g c = refused c.from_residual.ensures.0 (c.read_above.ensures.folders.same ∙ c.loop-above.invariant.same)

@@ -1,6 +1,7 @@
 use Rattle.std.proofs.Common.{◌∙◌}
 use Rattle.tokei_walk.proofs.RootSteps.{level_added}
 use Rattle.tokei_walk.proofs.Growing.{grows_on}
+use Rattle.tokei_walk.proofs.Lasting.{lasts, answers, refused}
 use Rattle.tokei_walk.proofs.roots.context_in_root.Goals as goal
 
 pub returns-clause-told : goal.returns-clause-told
@@ -16,3 +17,12 @@ returns-in_err-push-clause-notes g c = grows_on _ _ _ c.context_of_root.ensures.
 
 pub returns-clause-notes : goal.returns-clause-notes
 returns-clause-notes g c = grows_on _ _ _ c.context_of_root.ensures.notes c.read_sought.ensures.notes
+
+pub returns-in_err-level-clause-folders : goal.returns-in_err-level-clause-folders
+returns-in_err-level-clause-folders g c = refused c.from_residual-in_err-level.ensures.0 (c.read_sought.ensures.folders.same ∙ c.context_of_root.ensures.folders.same)
+
+pub returns-in_err-push-clause-folders : goal.returns-in_err-push-clause-folders
+returns-in_err-push-clause-folders g c = refused c.from_residual-in_err-push.ensures.0 (c.read_sought.ensures.folders.same ∙ c.context_of_root.ensures.folders.same)
+
+pub returns-clause-folders : goal.returns-clause-folders
+returns-clause-folders g c = answers (lasts c.in_ok-context.ensures.folders c.in_ok-level.ensures.folders)

@@ -10,6 +10,7 @@ use Rattle.tokei_walk.proofs.Ranking.{below_root, root_rank}
 use Rattle.tokei_walk.proofs.RootSteps.{root_walked}
 use Rattle.tokei_walk.proofs.StackSteps.{root_unlisted}
 use Rattle.tokei_walk.proofs.Growing.{grows_on}
+use Rattle.tokei_walk.proofs.Lasting.{lasts, answers, refused}
 use Rattle.tokei_walk.proofs.roots.enter_root.Goals as goal
 
 pub returns-in_default-clause-told : goal.returns-in_default-clause-told
@@ -49,3 +50,12 @@ returns-in_err-context-clause-notes g c = grows_on _ _ _ c.listing.ensures.notes
 
 pub returns-clause-notes : goal.returns-clause-notes
 returns-clause-notes g c = grows_on _ _ _ c.listing.ensures.notes c.context_in_root.ensures.notes
+
+pub returns-in_default-clause-folders : goal.returns-in_default-clause-folders
+returns-in_default-clause-folders g c = answers c.in_ok-listing.ensures.folders
+
+pub returns-in_err-context-clause-folders : goal.returns-in_err-context-clause-folders
+returns-in_err-context-clause-folders g c = refused c.from_residual-in_err-context.ensures.0 (c.context_in_root.ensures.folders.same ∙ c.listing.ensures.folders.same)
+
+pub returns-clause-folders : goal.returns-clause-folders
+returns-clause-folders g c = answers (lasts c.in_ok-listing.ensures.folders c.in_ok-context.ensures.folders)

@@ -2,6 +2,7 @@ use Rattle.std.proofs.Common.{◌≡◌, ◌&&◌, ◌++◌, codes, is_some, sym
 use Rattle.tokei_folders.specs.Places.{joined}
 use Rattle.tokei_folders.specs.Tree.{Names, names_of, node_at}
 use Rattle.tokei_folders.proofs.Joining.{names_of-joined}
+use Rattle.tokei_walk.proofs.Lasting.{answers}
 use Rattle.tokei_walk.proofs.RuleFiles.{some_kind}
 use Rattle.tokei_walk.proofs.rules_files.is_repository.Goals as goal
 
@@ -11,3 +12,9 @@ returns-clause-told g c = λ t e.
     let there = names_of-joined c.args.place.now (codes ".git") in
     c.is_some.ensures ∙ ap is_some (c.in_ok-kind.ensures.told t e) ∙ some_kind (node_at t (names_of c.as_str.result.now)) ∙ ap (λ (p : Names). is_some (node_at t p)) (ap names_of is ∙ there)
     ∙ ap (λ b. b && is_some (node_at t (names_of c.args.place.now ++ names_of (codes ".git")))) (sym c.if-not-on.false)
+
+pub returns-clause-folders : goal.returns-clause-folders
+returns-clause-folders g c = answers c.in_ok-kind.ensures.folders
+
+pub returns-clause-notes : goal.returns-clause-notes
+returns-clause-notes g c = c.kind_at.ensures.notes

@@ -1,6 +1,8 @@
 use Rattle.std.proofs.Common.{◌≡◌, IfOk, subst, ◌∙◌}
 use Rattle.tokei_folders.specs.Tree.{names_of}
 use Rattle.tokei_walk.specs.declared.levels.Level.{Level}
+use Rattle.tokei_walk.proofs.Growing.{grows_on}
+use Rattle.tokei_walk.proofs.Lasting.{lasts}
 use Rattle.tokei_walk.proofs.RuleFiles.{level_asked}
 use Rattle.tokei_walk.proofs.rules_files.read_level.Goals as goal
 
@@ -10,3 +12,9 @@ returns-clause-told g c = λ t e.
     (level_asked t c.args.rules.now (names_of c.args.place.now) c.in_ok-git.git
     (c.in_ok-git.ensures.told t e))
     (c.read_sought.ensures.told t (c.is_repository.ensures.folders.same ∙ e))
+
+pub returns-clause-folders : goal.returns-clause-folders
+returns-clause-folders g c = lasts c.in_ok-git.ensures.folders c.read_sought.ensures.folders
+
+pub returns-clause-notes : goal.returns-clause-notes
+returns-clause-notes g c = grows_on _ _ _ c.is_repository.ensures.notes c.read_sought.ensures.notes

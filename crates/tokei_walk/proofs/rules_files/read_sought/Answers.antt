@@ -1,18 +1,26 @@
 use Rattle.std.proofs.Common.{◌∙◌}
 use Rattle.tokei_folders.specs.Tree.{names_of}
-use Rattle.tokei_walk.proofs.RuleFiles.{level_told}
+use Rattle.tokei_walk.proofs.RuleFiles.{tokeignore_told, ignore_told, gitignore_told, git_exclude_told, level_told}
 use Rattle.tokei_walk.proofs.Growing.{grows_on}
+use Rattle.tokei_walk.proofs.Lasting.{lasts, answers, refused}
 use Rattle.tokei_walk.proofs.rules_files.read_sought.Goals as goal
 
 pub returns-clause-told : goal.returns-clause-told
 returns-clause-told g c = λ t e.
-    let second = c.dot_patterns.ensures.folders.same ∙ e in
-    level_told t c.args.sought (names_of c.args.place.now) _ _ _ _
-    (c.in_ok-tokeignore.ensures.tokeignore t e) (c.in_ok-tokeignore.ensures.ignore t e)
-    (c.in_ok-gitignore.ensures.gitignore t second) (c.in_ok-gitignore.ensures.git_exclude t second)
+    let s = c.args.sought in let p = names_of c.args.place.now in
+    let later = c.patterns_of_two.ensures.folders.same ∙ e in
+    level_told t s p _ _ _ _
+    (tokeignore_told t s p _ (c.in_ok-tokeignore.ensures.first t e)) (ignore_told t s p _ (c.in_ok-tokeignore.ensures.second t e))
+    (gitignore_told t s p _ (c.in_ok-gitignore.ensures.first t later)) (git_exclude_told t s p _ (c.in_ok-gitignore.ensures.second t later))
+
+pub returns-in_err-gitignore-clause-folders : goal.returns-in_err-gitignore-clause-folders
+returns-in_err-gitignore-clause-folders g c = refused c.from_residual-in_err-gitignore.ensures.0 (c.patterns_of_two-2.ensures.folders.same ∙ c.patterns_of_two.ensures.folders.same)
 
 pub returns-in_err-gitignore-clause-notes : goal.returns-in_err-gitignore-clause-notes
-returns-in_err-gitignore-clause-notes g c = grows_on _ _ _ c.dot_patterns.ensures.notes c.git_patterns.ensures.notes
+returns-in_err-gitignore-clause-notes g c = grows_on _ _ _ c.patterns_of_two.ensures.notes c.patterns_of_two-2.ensures.notes
+
+pub returns-clause-folders : goal.returns-clause-folders
+returns-clause-folders g c = answers (lasts c.in_ok-tokeignore.ensures.folders c.in_ok-gitignore.ensures.folders)
 
 pub returns-clause-notes : goal.returns-clause-notes
-returns-clause-notes g c = grows_on _ _ _ c.dot_patterns.ensures.notes c.git_patterns.ensures.notes
+returns-clause-notes g c = grows_on _ _ _ c.patterns_of_two.ensures.notes c.patterns_of_two-2.ensures.notes

@@ -8,11 +8,13 @@ use Rattle.tokei_walk.specs.declared.stack.Frame.{Frame}
 use Rattle.tokei_walk.specs.declared.stack.Stack.{Stack}
 use Rattle.tokei_walk.specs.Levels.{under}
 use Rattle.tokei_walk.specs.declared.stack.Step.{Step}
-use Rattle.tokei_walk.specs.Ranks.{weight, stack_rank}
+use Rattle.tokei_walk.specs.Ranks.{weight, stack_rank, FoundFalls}
 use Rattle.tokei_walk.specs.Stacks.{Pops, VisitTells, ExploreTells, NoneIsSame, NoneStays, StepStays, StepTells}
-use Rattle.tokei_walk.proofs.StackSteps.{top_ends, tells_other, file_told, tells_folder_some, tells_folder_none, stack_entered, visit_left}
+use Rattle.tokei_walk.proofs.StackSteps.{top_ends, tells_other, file_told, tells_folder_some, tells_folder_none, stack_entered, visit_left, same_stack}
 use Rattle.tokei_walk.proofs.Growing.{grows_on, grows_same}
-use Rattle.tokei_walk.proofs.Ranking.{popped, entered_rank, stays_rank, file_falls}
+use Rattle.tokei_walk.proofs.Ranking.{popped, entered_rank, stays_rank, file_falls, fewer_left, file_stays}
+use Rattle.tokei_walk.proofs.Lasting.{lasts, answers, refused, stay_on}
+use Rattle.tokei_walk.specs.declared.stack.Step.TheVariants.{Passed}
 use Rattle.tokei_walk.proofs.stack.+exploring.Goals as goal
 
 pub meet_next-returns-in_default-clause-told : goal.meet_next-returns-in_default-clause-told
@@ -59,7 +61,7 @@ explore-loop-file-preserved g t c =
     let fewer : length v.left ≤ length s.left = omega (arith, stays.1) in record {
       notes = grows_on _ _ _ inv.notes c.meet_next.ensures.notes;
       same = c.meet_next.ensures.folders.same ∙ inv.same;
-      honest = search rules;
+      honest = stay_on g.F.Folders.memory_faults _ _ _ inv.honest c.in_ok-file.ensures.folders.honest;
       stays = (stays.0.0 ∙ inv.stays.0, stays.0.1 ∙ inv.stays.1, stays.0.2 ∙ inv.stays.2);
       falls = omega (arith, stays_rank s v stays.0 fewer, inv.falls);
       told = λ t' e. inv.told t' e ∙ subst (λ (o : Step). StepTells x.excludes x.rules t' s v o) c.in-Passed.is (c.in_ok-file.ensures.told t' (inv.same ∙ e));
@@ -159,3 +161,73 @@ explore-loop-file-init g t c = record {
   falls = omega arith;
   told = λ t' e. refl;
 }
+
+pub visit-returns-then-not-branch-clause-folders : goal.visit-returns-then-not-branch-clause-folders
+visit-returns-then-not-branch-clause-folders g t c = answers c.in_ok-enter_entry.ensures.folders
+
+pub visit-returns-in_err-file-clause-folders : goal.visit-returns-in_err-file-clause-folders
+visit-returns-in_err-file-clause-folders g t c = refused c.from_residual-in_err-file.ensures.0 (c.explore.ensures.folders.same ∙ c.enter_entry.ensures.folders.same)
+
+pub visit-returns-in-Some-clause-folders : goal.visit-returns-in-Some-clause-folders
+visit-returns-in-Some-clause-folders g t c = answers (lasts c.in_ok-enter_entry.ensures.folders c.in_ok-file.ensures.folders)
+
+pub visit-returns-in-None-clause-folders : goal.visit-returns-in-None-clause-folders
+visit-returns-in-None-clause-folders g t c = answers (lasts c.in_ok-enter_entry.ensures.folders c.in_ok-file.ensures.folders)
+
+pub explore-returns-in_err-file-clause-folders : goal.explore-returns-in_err-file-clause-folders
+explore-returns-in_err-file-clause-folders g t c = refused c.from_residual.ensures.0 (c.meet_next.ensures.folders.same ∙ c.loop-file.invariant.same)
+
+pub explore-returns-in-Found-clause-folders : goal.explore-returns-in-Found-clause-folders
+explore-returns-in-Found-clause-folders g t c =
+    let inv = c.loop-file.invariant in record {
+      same = c.meet_next.ensures.folders.same ∙ inv.same;
+      honest = stay_on g.F.Folders.memory_faults _ _ _ inv.honest c.in_ok-file.ensures.folders.honest;
+    }
+
+pub explore-returns-in-Ended-clause-folders : goal.explore-returns-in-Ended-clause-folders
+explore-returns-in-Ended-clause-folders g t c =
+    let inv = c.loop-file.invariant in record {
+      same = c.meet_next.ensures.folders.same ∙ inv.same;
+      honest = stay_on g.F.Folders.memory_faults _ _ _ inv.honest c.in_ok-file.ensures.folders.honest;
+    }
+
+pub explore-returns-in-Found-clause-falls : goal.explore-returns-in-Found-clause-falls
+explore-returns-in-Found-clause-falls g t c =
+    let falls = subst (λ (o : Step). FoundFalls c.loop-file.stack c.meet_next.new.stack o) c.in-Found.is c.in_ok-file.ensures.falls in
+    omega (arith, falls, c.loop-file.invariant.falls)
+
+pub explore-returns-in-Found-clause-told : goal.explore-returns-in-Found-clause-told
+explore-returns-in-Found-clause-told g t c = λ t' e.
+    let inv = c.loop-file.invariant in let x = c.args.settings.now in let s = c.loop-file.stack in
+    let found = subst (λ (o : Step). StepTells x.excludes x.rules t' s c.meet_next.new.stack o) c.in-Found.is (c.in_ok-file.ensures.told t' (inv.same ∙ e)) in
+    same_stack x.excludes x.rules t' c.args.stack.now s inv.stays (inv.told t' e) ∙ found
+
+pub explore-returns-in-Ended-clause-stays : goal.explore-returns-in-Ended-clause-stays
+explore-returns-in-Ended-clause-stays g t c =
+    let inv = c.loop-file.invariant in
+    let stays = subst (λ (o : Step). StepStays c.loop-file.stack c.meet_next.new.stack o) c.in-Ended.is c.in_ok-file.ensures.stays in
+    ((stays.0.0 ∙ inv.stays.0, stays.0.1 ∙ inv.stays.1, stays.0.2 ∙ inv.stays.2), stays.1)
+
+pub explore-returns-in-Ended-clause-told : goal.explore-returns-in-Ended-clause-told
+explore-returns-in-Ended-clause-told g t c = λ t' e.
+    let inv = c.loop-file.invariant in let x = c.args.settings.now in
+    let ended = subst (λ (o : Step). StepTells x.excludes x.rules t' c.loop-file.stack c.meet_next.new.stack o) c.in-Ended.is (c.in_ok-file.ensures.told t' (inv.same ∙ e)) in
+    inv.told t' e ∙ ended
+
+pub meet_next-returns-in-Other-clause-stays : goal.meet_next-returns-in-Other-clause-stays
+meet_next-returns-in-Other-clause-stays g t c =
+    let s = c.args.stack.now in let u = c.next_entry.new.stack in
+    fewer_left s u c.in-Some.entry (subst (λ (o : Option Entry). Pops s u o) c.in-Some.is c.next_entry.ensures)
+
+pub meet_next-returns-in-File-clause-stays : goal.meet_next-returns-in-File-clause-stays
+meet_next-returns-in-File-clause-stays g t c =
+    let s = c.args.stack.now in let u = c.next_entry.new.stack in
+    let pops = subst (λ (o : Option Entry). Pops s u o) c.in-Some.is c.next_entry.ensures in
+    file_stays s u c.file_step.new.stack c.in-Some.entry _ _ c.file_step.result pops c.file_step.ensures.stays c.file_step.ensures.kept
+
+pub meet_next-returns-in-None-clause-stays : goal.meet_next-returns-in-None-clause-stays
+meet_next-returns-in-None-clause-stays g t c =
+    let s = c.args.stack.now in let u = c.next_entry.new.stack in let v = c.visit.new.stack in
+    let pops = subst (λ (o : Option Entry). Pops s u o) c.in-Some.is c.next_entry.ensures in
+    let same = subst (λ (o : Option KeptFile). NoneIsSame u v o) c.in-None.is c.in_ok-file-in-Folder.ensures.stays in
+    subst (λ (w : Stack). StepStays s w Passed) (sym same) (fewer_left s u c.in-Some.entry pops)

@@ -9,6 +9,7 @@ use Rattle.tokei_walk.specs.declared.levels.Level.{Level}
 use Rattle.tokei_walk.specs.Sought.{listed, level_of}
 use Rattle.tokei_walk.proofs.ListedFiles.{level_listed}
 use Rattle.tokei_walk.proofs.Growing.{grows_on}
+use Rattle.tokei_walk.proofs.Lasting.{lasts, answers, refused}
 use Rattle.tokei_walk.proofs.stack.enter.Goals as goal
 
 pub returns-clause-told : goal.returns-clause-told
@@ -39,3 +40,15 @@ returns-in_err-push_folder-clause-notes g c = grows_on _ _ _ c.listing.ensures.n
 
 pub returns-clause-notes : goal.returns-clause-notes
 returns-clause-notes g c = grows_on _ _ _ c.listing.ensures.notes c.read_sought.ensures.notes
+
+pub returns-in_default-clause-folders : goal.returns-in_default-clause-folders
+returns-in_default-clause-folders g c = answers c.in_ok-listing.ensures.folders
+
+pub returns-in_err-level-clause-folders : goal.returns-in_err-level-clause-folders
+returns-in_err-level-clause-folders g c = refused c.from_residual-in_err-level.ensures.0 (c.read_sought.ensures.folders.same ∙ c.listing.ensures.folders.same)
+
+pub returns-in_err-push_folder-clause-folders : goal.returns-in_err-push_folder-clause-folders
+returns-in_err-push_folder-clause-folders g c = refused c.from_residual-in_err-push_folder.ensures.0 (c.read_sought.ensures.folders.same ∙ c.listing.ensures.folders.same)
+
+pub returns-clause-folders : goal.returns-clause-folders
+returns-clause-folders g c = answers (lasts c.in_ok-listing.ensures.folders c.in_ok-level.ensures.folders)

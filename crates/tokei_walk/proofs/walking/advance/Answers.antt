@@ -1,13 +1,14 @@
-use Rattle.std.proofs.Common.{◌<◌, Option, OnSome, length, ap, ◌∙◌, subst, rules, arith, refl}
+use Rattle.std.proofs.Common.{◌<◌, Option, OnSome, length, ap, ◌∙◌, subst, rules, arith, refl, List, ◌++◌}
 use Rattle.tokei_walk.specs.declared.kept_file.KeptFile.{KeptFile}
 use Rattle.tokei_walk.specs.declared.stack.Step.{Step}
 use Rattle.tokei_walk.specs.Ranks.{stack_rank}
 use Rattle.tokei_walk.specs.Stacks.{NoneStays, ExploreTells}
 use Rattle.tokei_walk.specs.Turns.{TurnFalls, TurnTells}
-use Rattle.tokei_walk.specs.Walks.{of_all}
+use Rattle.tokei_walk.specs.Walks.{of_all, of_roots}
 use Rattle.tokei_walk.proofs.Growing.{grows_on, grows_same}
 use Rattle.tokei_walk.proofs.Ranking.{explored_rank, all_falls, all_stays}
 use Rattle.tokei_walk.proofs.RootSteps.{all_explored}
+use Rattle.tokei_walk.proofs.Lasting.{stay_on, refused}
 use Rattle.tokei_walk.proofs.walking.advance.Goals as goal
 
 pub go_on-requires : goal.go_on-requires
@@ -29,7 +30,7 @@ loop-file-preserved g c =
       notes = grows_on _ _ _ (grows_on _ _ _ inv.notes c.explore.ensures.notes) c.go_on.ensures.notes;
       falls = omega (arith, all_stays s v roots (explored_rank s v stays.0 stays.1), falls.0, inv.falls);
       same = c.go_on.ensures.folders.same ∙ c.explore.ensures.folders.same ∙ inv.same;
-      honest = search rules;
+      honest = stay_on g.F.Folders.memory_faults _ _ _ inv.honest (stay_on g.F.Folders.memory_faults _ _ _ c.in_ok-file.ensures.folders.honest c.in_ok-file-2.ensures.folders.honest);
       told = λ t e.
           let top = subst (λ (o : Option KeptFile). ExploreTells x.excludes x.rules t s v o) c.in-None.is (c.in_ok-file.ensures.told t (inv.same ∙ e)) in
           let turn =
@@ -98,3 +99,36 @@ loop-file-init g c = record {
   honest = λ h. refl;
   told = λ t e. refl;
 }
+
+pub returns-in_err-file-clause-folders : goal.returns-in_err-file-clause-folders
+returns-in_err-file-clause-folders g c = refused c.from_residual.ensures.0 (c.explore.ensures.folders.same ∙ c.loop-file.invariant.same)
+
+pub returns-in_err-file-2-clause-folders : goal.returns-in_err-file-2-clause-folders
+returns-in_err-file-2-clause-folders g c = refused c.from_residual-in_err-file-2.ensures.0 (c.go_on.ensures.folders.same ∙ c.explore.ensures.folders.same ∙ c.loop-file.invariant.same)
+
+pub returns-in-Some-clause-folders : goal.returns-in-Some-clause-folders
+returns-in-Some-clause-folders g c =
+    let inv = c.loop-file.invariant in record {
+      same = c.explore.ensures.folders.same ∙ inv.same;
+      honest = stay_on g.F.Folders.memory_faults _ _ _ inv.honest c.in_ok-file.ensures.folders.honest;
+    }
+
+pub returns-in-Found-clause-folders : goal.returns-in-Found-clause-folders
+returns-in-Found-clause-folders g c =
+    let inv = c.loop-file.invariant in record {
+      same = c.go_on.ensures.folders.same ∙ c.explore.ensures.folders.same ∙ inv.same;
+      honest = stay_on g.F.Folders.memory_faults _ _ _ inv.honest (stay_on g.F.Folders.memory_faults _ _ _ c.in_ok-file.ensures.folders.honest c.in_ok-file-2.ensures.folders.honest);
+    }
+
+pub returns-in-Ended-clause-folders : goal.returns-in-Ended-clause-folders
+returns-in-Ended-clause-folders g c =
+    let inv = c.loop-file.invariant in record {
+      same = c.go_on.ensures.folders.same ∙ c.explore.ensures.folders.same ∙ inv.same;
+      honest = stay_on g.F.Folders.memory_faults _ _ _ inv.honest (stay_on g.F.Folders.memory_faults _ _ _ c.in_ok-file.ensures.folders.honest c.in_ok-file-2.ensures.folders.honest);
+    }
+
+pub returns-in-Some-clause-told : goal.returns-in-Some-clause-told
+returns-in-Some-clause-told g c = λ t e.
+    let inv = c.loop-file.invariant in let x = c.args.settings.now in let s = c.loop-file.stack in let v = c.explore.new.stack in
+    let explored = subst (λ (o : Option KeptFile). ExploreTells x.excludes x.rules t s v o) c.in-Some.is (c.in_ok-file.ensures.told t (inv.same ∙ e)) in
+    inv.told t e ∙ ap (λ (q : List KeptFile). q ++ of_roots x.excludes x.rules t c.loop-file.roots) explored

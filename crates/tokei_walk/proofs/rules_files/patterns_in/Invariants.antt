@@ -1,7 +1,7 @@
 -- The lines so far have their notes.
 use Rattle.std.proofs.Common.{◌≡◌, ◌++◌}
 use Rattle.tokei_walk.specs.Notes.{Grows, bad_line_notes}
-use Rattle.tokei_walk.proofs.rules_files.note_bad_lines.Given as goal
+use Rattle.tokei_walk.proofs.rules_files.patterns_in.Given as goal
 
 abbrev pub invariant-loop : goal.invariant-loop
 invariant-loop l = record {

@@ -1,6 +1,6 @@
 -- One note more.
 use Rattle.tokei_walk.proofs.Growing.{grows_by, grows_on, one_note_more}
-use Rattle.tokei_walk.proofs.rules_files.note_bad_lines.Goals as goal
+use Rattle.tokei_walk.proofs.rules_files.patterns_in.Goals as goal
 
 pub loop-preserved : goal.loop-preserved
 loop-preserved c = record {
