@@ -56,9 +56,10 @@ pub fn kept_files<F: Folders>(
     ensures honest { NoFault F.memory_faults folders.old folders.new result }
 {
     let mut walk = Walk::new(alloc, roots, excludes, rules)?;
-    let files = files_to_come(alloc, folders, &mut walk)?;
+    let files = files_to_come(alloc, folders, &mut walk);
+    let notes = walk.into_notes();
     Ok(Kept {
-        files,
-        notes: walk.into_notes(),
+        files: files?,
+        notes,
     })
 }

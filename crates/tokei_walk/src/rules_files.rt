@@ -107,41 +107,42 @@ fn patterns_of_file<F: Folders>(
     }
 }
 
-/// An ignore file, by its folder's place and the path that leads to it from there.
+/// An ignore file of a folder, by the path that leads to it from there.
 #[derive(Clone, Copy)]
 struct IgnoreName<'a> {
     /// Whether it is read; one that isn't has no patterns.
     on: bool,
-    place: &'a str,
     name: &'a str,
 }
 
-/// The patterns of an ignore file; none where it is off.
+/// The patterns of a folder's ignore file; none where it is off.
 #[tactic(auto, using(crate::proofs::Growing::grows_same, crate::proofs::Growing::grows_on))]
 fn patterns_of_name<F: Folders>(
     alloc: Global,
     folders: &mut F,
     notes: &mut Items<Note>,
+    place: &str,
     file: IgnoreName,
 ) -> Result<IndexedPatterns, AllocError>
     ensures folders { AsTheyWere F.tree F.memory_faults folders.old folders.new result }
     ensures notes { Grows notes.old notes.new }
     ensures told { Told (F.tree folders.old) (λ t. IfOk result (λ ps. ps
         ≡ cond file.entry.on (patterns_at (node_at t
-        (names_of file.entry.place.now ++ names_of file.entry.name.now))) [])) }
+        (names_of place.now ++ names_of file.entry.name.now))) [])) }
 {
     if !file.on {
         return Ok(IndexedPatterns::new(alloc));
     }
-    let whole = joined(alloc, file.place, file.name)?;
+    let whole = joined(alloc, place, file.name)?;
     patterns_of_file(alloc, folders, notes, whole.as_str())
 }
 
-/// The patterns of two ignore files.
+/// The patterns of two ignore files of a folder.
 fn patterns_of_two<F: Folders>(
     alloc: Global,
     folders: &mut F,
     notes: &mut Items<Note>,
+    place: &str,
     first: IgnoreName,
     second: IgnoreName,
 ) -> Result<(IndexedPatterns, IndexedPatterns), AllocError>
@@ -149,13 +150,13 @@ fn patterns_of_two<F: Folders>(
     ensures notes { Grows notes.old notes.new }
     ensures first { Told (F.tree folders.old) (λ t. IfOk result (λ p. p.0
         ≡ cond first.entry.on (patterns_at (node_at t
-        (names_of first.entry.place.now ++ names_of first.entry.name.now))) [])) }
+        (names_of place.now ++ names_of first.entry.name.now))) [])) }
     ensures second { Told (F.tree folders.old) (λ t. IfOk result (λ p. p.1
         ≡ cond second.entry.on (patterns_at (node_at t
-        (names_of second.entry.place.now ++ names_of second.entry.name.now))) [])) }
+        (names_of place.now ++ names_of second.entry.name.now))) [])) }
 {
-    let before = patterns_of_name(alloc, folders, notes, first)?;
-    let after = patterns_of_name(alloc, folders, notes, second)?;
+    let before = patterns_of_name(alloc, folders, notes, place, first)?;
+    let after = patterns_of_name(alloc, folders, notes, place, second)?;
     Ok((before, after))
 }
 
@@ -230,26 +231,22 @@ pub fn read_sought<F: Folders>(
 {
     let named = IgnoreName {
         on: sought.tokeignore,
-        place,
         name: ".tokeignore",
     };
     let plain = IgnoreName {
         on: sought.ignore,
-        place,
         name: ".ignore",
     };
-    let (tokeignore, ignore) = patterns_of_two(alloc, folders, notes, named, plain)?;
+    let (tokeignore, ignore) = patterns_of_two(alloc, folders, notes, place, named, plain)?;
     let listed = IgnoreName {
         on: sought.gitignore,
-        place,
         name: ".gitignore",
     };
     let excluded = IgnoreName {
         on: sought.git,
-        place,
         name: ".git/info/exclude",
     };
-    let (gitignore, git_exclude) = patterns_of_two(alloc, folders, notes, listed, excluded)?;
+    let (gitignore, git_exclude) = patterns_of_two(alloc, folders, notes, place, listed, excluded)?;
     Ok(Level {
         tokeignore,
         ignore,

@@ -1,8 +1,10 @@
-use Rattle.std.proofs.Common.{◌≡◌, Some, sym, ◌∙◌, rules}
+use Rattle.std.proofs.Common.{◌≡◌, Some, sym, ◌∙◌, rules, refl}
 use Rattle.tokei_folders.specs.declared.fs.Kind.TheVariants.{File, Folder, Other}
 use Rattle.tokei_walk.proofs.Ranking.{below_root}
 use Rattle.tokei_walk.proofs.RootSteps.{known_missing, known_named, known_kind, root_file, root_folder, root_other, one_file}
 use Rattle.tokei_walk.proofs.StackSteps.{empty_gives}
+use Rattle.tokei_walk.proofs.Growing.{grows_same}
+use Rattle.tokei_walk.proofs.Lasting.{answers}
 use Rattle.tokei_walk.proofs.roots.begin_known.Goals as goal
 
 pub returns-in_ok-note-in-None-clause-told : goal.returns-in_ok-note-in-None-clause-told
@@ -41,3 +43,18 @@ returns-in_ok-path-in-Some-File-clause-bounded g c = below_root c.args.stack.now
 
 pub returns-in-Some-Other-clause-bounded : goal.returns-in-Some-Other-clause-bounded
 returns-in-Some-Other-clause-bounded g c = below_root c.args.stack.now
+
+pub returns-in_ok-note-in-None-clause-notes : goal.returns-in_ok-note-in-None-clause-notes
+returns-in_ok-note-in-None-clause-notes g c = c.note.ensures.grows
+
+pub returns-in_ok-path-in-Some-File-clause-notes : goal.returns-in_ok-path-in-Some-File-clause-notes
+returns-in_ok-path-in-Some-File-clause-notes g c = grows_same _ _ refl
+
+pub returns-in-Some-Other-clause-notes : goal.returns-in-Some-Other-clause-notes
+returns-in-Some-Other-clause-notes g c = grows_same _ _ refl
+
+pub returns-in_ok-enter_root-in-Some-Folder-clause-notes : goal.returns-in_ok-enter_root-in-Some-Folder-clause-notes
+returns-in_ok-enter_root-in-Some-Folder-clause-notes g c = c.enter_root.ensures.notes
+
+pub returns-in_ok-enter_root-in-Some-Folder-clause-folders : goal.returns-in_ok-enter_root-in-Some-Folder-clause-folders
+returns-in_ok-enter_root-in-Some-Folder-clause-folders g c = answers c.in_ok-enter_root-in-Some-Folder.ensures.folders

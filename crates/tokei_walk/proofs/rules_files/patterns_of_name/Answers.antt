@@ -7,7 +7,7 @@ use Rattle.tokei_walk.proofs.rules_files.patterns_of_name.Goals as goal
 
 pub returns-clause-told : goal.returns-clause-told
 returns-clause-told g c = λ t e.
-    let is : c.as_str.result.now ≡ joined c.args.file.place.now c.args.file.name.now = c.as_str.ensures ∙ c.in_ok-whole.ensures.place in
+    let is : c.as_str.result.now ≡ joined c.args.place.now c.args.file.name.now = c.as_str.ensures ∙ c.in_ok-whole.ensures.place in
     told_of_joined c.patterns_of_file.result (λ p. patterns_at (node_at t p)) c.args.file.on []
-    c.as_str.result.now c.args.file.place.now c.args.file.name.now c.if-not-file.false
+    c.as_str.result.now c.args.place.now c.args.file.name.now c.if-not-file.false
     is (c.patterns_of_file.ensures.told t e)

@@ -1,8 +1,9 @@
-use Rattle.std.proofs.Common.{◌≤◌, ℕ, List, length, sym, ap, ap₂, ◌∙◌, arith}
+use Rattle.std.proofs.Common.{◌≤◌, ℕ, List, length, sym, ap, ap₂, ◌∙◌, arith, refl}
 use Rattle.tokei_folders.specs.Places.{joined}
 use Rattle.tokei_walk.specs.declared.levels.Context.{Context}
 use Rattle.tokei_walk.specs.Levels.{under}
 use Rattle.tokei_walk.proofs.StackSteps.{with_context, visit_dropped, visit_deep}
+use Rattle.tokei_walk.proofs.Growing.{grows_same}
 use Rattle.tokei_walk.proofs.stack.push_folder_name.Goals as goal
 
 pub returns-then-dropped-clause-passed : goal.returns-then-dropped-clause-passed
@@ -30,3 +31,30 @@ returns-clause-shallow c = omega (arith, ap length c.as_slice.ensures)
 
 pub returns-clause-kept : goal.returns-clause-kept
 returns-clause-kept c = sym c.in_ok-dropped.ensures.dropped ∙ c.if-dropped.false
+
+pub returns-in_err-dropped-clause-notes : goal.returns-in_err-dropped-clause-notes
+returns-in_err-dropped-clause-notes c = grows_same _ _ refl
+
+pub returns-then-dropped-clause-notes : goal.returns-then-dropped-clause-notes
+returns-then-dropped-clause-notes c = grows_same _ _ refl
+
+pub returns-in_err-place-clause-notes : goal.returns-in_err-place-clause-notes
+returns-in_err-place-clause-notes c = grows_same _ _ refl
+
+pub returns-in_err-note-clause-notes : goal.returns-in_err-note-clause-notes
+returns-in_err-note-clause-notes c = c.note.ensures.grows
+
+pub returns-then-as_slice-ge256-clause-notes : goal.returns-then-as_slice-ge256-clause-notes
+returns-then-as_slice-ge256-clause-notes c = c.note.ensures.grows
+
+pub returns-in_err-push_name-clause-notes : goal.returns-in_err-push_name-clause-notes
+returns-in_err-push_name-clause-notes c = grows_same _ _ refl
+
+pub returns-clause-notes : goal.returns-clause-notes
+returns-clause-notes c = grows_same _ _ refl
+
+pub returns-then-dropped-clause-same : goal.returns-then-dropped-clause-same
+returns-then-dropped-clause-same c = λ q. ap (with_context c.args.stack.now) c.in_ok-dropped.ensures.context
+
+pub returns-then-as_slice-ge256-clause-same : goal.returns-then-as_slice-ge256-clause-same
+returns-then-as_slice-ge256-clause-same c = λ q. ap (with_context c.args.stack.now) c.in_ok-dropped.ensures.context

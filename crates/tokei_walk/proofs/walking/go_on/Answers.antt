@@ -1,4 +1,4 @@
-use Rattle.std.proofs.Common.{◌++◌, ◌∷◌, [], List, Bool, Option, length, reverse, ap, ◌∙◌, subst, arith}
+use Rattle.std.proofs.Common.{◌++◌, ◌∷◌, [], List, Bool, Option, length, reverse, ap, ◌∙◌, subst, arith, refl}
 use Rattle.std.proofs.lemmas.List.{length-append}
 use Rattle.tokei_walk.specs.declared.kept_file.KeptFile.{KeptFile}
 use Rattle.tokei_walk.specs.declared.stack.Frame.{Frame}
@@ -10,6 +10,8 @@ use Rattle.tokei_walk.specs.Walks.{of_roots, RootGives}
 use Rattle.tokei_walk.proofs.Ranking.{left_rank, all_stays, root_falls, root_passed}
 use Rattle.tokei_walk.proofs.RootSteps.{all_ended, root_begins}
 use Rattle.tokei_walk.proofs.StackSteps.{left_gives, top_ends}
+use Rattle.tokei_walk.proofs.Growing.{grows_same}
+use Rattle.tokei_walk.proofs.Lasting.{answers}
 use Rattle.tokei_walk.proofs.walking.go_on.Goals as goal
 
 pub returns-then-leave-clause-falls : goal.returns-then-leave-clause-falls
@@ -69,3 +71,21 @@ returns-in-None-clause-told g c = λ t e.
     (c.in_ok-file.ensures.told t e (ap (λ (u : Stack). u.left) left.1 ∙ c.requires) (ap (λ (u : Stack). u.holders) left.1 ∙ left.0)) in
     root_begins x.excludes x.rules t s c.args.roots.now front root c.requires left.0 c.in-Some.ensures
     ∙ ap (λ (q : List KeptFile). q ++ of_roots x.excludes x.rules t front) given
+
+pub returns-then-leave-clause-notes : goal.returns-then-leave-clause-notes
+returns-then-leave-clause-notes g c = grows_same _ _ refl
+
+pub returns-in_default-clause-notes : goal.returns-in_default-clause-notes
+returns-in_default-clause-notes g c = grows_same _ _ refl
+
+pub returns-in-Some-2-clause-notes : goal.returns-in-Some-2-clause-notes
+returns-in-Some-2-clause-notes g c = c.begin_root.ensures.notes
+
+pub returns-in-None-clause-notes : goal.returns-in-None-clause-notes
+returns-in-None-clause-notes g c = c.begin_root.ensures.notes
+
+pub returns-in-Some-2-clause-folders : goal.returns-in-Some-2-clause-folders
+returns-in-Some-2-clause-folders g c = answers c.in_ok-file.ensures.folders
+
+pub returns-in-None-clause-folders : goal.returns-in-None-clause-folders
+returns-in-None-clause-folders g c = answers c.in_ok-file.ensures.folders
