@@ -1,10 +1,11 @@
-use Rattle.std.proofs.Common.{◌∙◌, rules, refl}
+use Rattle.std.proofs.Common.{◌∙◌, rules, refl, List, ◌++◌, sym, ap, append-nil}
 use Rattle.tokei_folders.specs.Tree.{names_of}
 use Rattle.tokei_walk.specs.Levels.{level_at}
 use Rattle.tokei_walk.specs.Walks.{names_over, levels_over}
 use Rattle.tokei_walk.proofs.Growing.{grows_on, grows_same}
 use Rattle.tokei_walk.proofs.RootSteps.{more, names_over_pop, levels_over_pop}
 use Rattle.tokei_walk.proofs.Lasting.{stay_on, refused}
+use Rattle.tokei_folders.specs.declared.fs.Above.{Above}
 use Rattle.tokei_walk.proofs.parents.read_over.Goals as goal
 
 pub loop-above-preserved : goal.loop-above-preserved
@@ -39,3 +40,16 @@ loop-above-init g c = record {
 
 pub returns-in_err-read_above-clause-folders : goal.returns-in_err-read_above-clause-folders
 returns-in_err-read_above-clause-folders g c = refused c.from_residual.ensures.0 (c.read_above.ensures.folders.same ∙ c.loop-above.invariant.same)
+
+pub returns-clause-names : goal.returns-clause-names
+returns-clause-names g c =
+    let names = c.loop-above.context.names in
+    sym (append-nil names) ∙ ap (λ (q : List Above). names ++ names_over q) (sym c.in_default.ensures.0) ∙ c.loop-above.invariant.names
+
+pub returns-clause-levels : goal.returns-clause-levels
+returns-clause-levels g c = λ t e.
+    let levels = c.loop-above.context.levels in
+    sym (append-nil levels) ∙ ap (λ (q : List Above). levels ++ levels_over t c.args.settings.now.rules q) (sym c.in_default.ensures.0) ∙ c.loop-above.invariant.levels t e
+
+pub returns-clause-folders : goal.returns-clause-folders
+returns-clause-folders g c = record { same = c.loop-above.invariant.same; honest = c.loop-above.invariant.honest }

@@ -231,3 +231,26 @@ meet_next-returns-in-None-clause-stays g t c =
     let pops = subst (λ (o : Option Entry). Pops s u o) c.in-Some.is c.next_entry.ensures in
     let same = subst (λ (o : Option KeptFile). NoneIsSame u v o) c.in-None.is c.in_ok-file-in-Folder.ensures.stays in
     subst (λ (w : Stack). StepStays s w Passed) (sym same) (fewer_left s u c.in-Some.entry pops)
+
+pub visit-returns-then-not-branch-clause-stays : goal.visit-returns-then-not-branch-clause-stays
+visit-returns-then-not-branch-clause-stays g t c = c.in_ok-enter_entry.ensures.refused c.if-not-branch.true
+
+pub visit-returns-then-not-branch-clause-notes : goal.visit-returns-then-not-branch-clause-notes
+visit-returns-then-not-branch-clause-notes g t c = c.enter_entry.ensures.notes
+
+pub meet_next-returns-in-Some-2-clause-folders : goal.meet_next-returns-in-Some-2-clause-folders
+meet_next-returns-in-Some-2-clause-folders g t c = answers c.in_ok-file-in-Folder.ensures.folders
+
+pub meet_next-returns-in-None-clause-folders : goal.meet_next-returns-in-None-clause-folders
+meet_next-returns-in-None-clause-folders g t c = answers c.in_ok-file-in-Folder.ensures.folders
+
+pub meet_next-returns-in-Some-2-clause-notes : goal.meet_next-returns-in-Some-2-clause-notes
+meet_next-returns-in-Some-2-clause-notes g t c = c.visit.ensures.notes
+
+pub meet_next-returns-in-None-clause-notes : goal.meet_next-returns-in-None-clause-notes
+meet_next-returns-in-None-clause-notes g t c = c.visit.ensures.notes
+
+pub meet_next-returns-in_default-clause-stays : goal.meet_next-returns-in_default-clause-stays
+meet_next-returns-in_default-clause-stays g t c =
+    let pops = subst (λ (o : Option Entry). Pops c.args.stack.now c.next_entry.new.stack o) c.in_default.is c.next_entry.ensures in
+    ((ap (λ (u : Stack). u.context) pops.1, ap (λ (u : Stack). u.place) pops.1, ap (λ (u : Stack). u.holders) pops.1), ap (λ (u : Stack). u.left) pops.1 ∙ pops.0)

@@ -52,3 +52,16 @@ returns-in_err-push_folder-clause-folders g c = refused c.from_residual-in_err-p
 
 pub returns-clause-folders : goal.returns-clause-folders
 returns-clause-folders g c = answers (lasts c.in_ok-listing.ensures.folders c.in_ok-level.ensures.folders)
+
+pub returns-clause-entered : goal.returns-clause-entered
+returns-clause-entered g c = λ q. c.in_ok-push_folder.ensures.entered
+
+pub returns-in_default-clause-told : goal.returns-in_default-clause-told
+returns-in_default-clause-told g c = λ t e.
+    let at = c.as_str.result.now in
+    let told =
+    subst
+    (λ (o : Option Listing). MatchOption o (list_answer t (names_of at) ≡ Err Refused)
+    (λ l. list_answer t (names_of at) ≡ Ok l.entries.items))
+    c.in_default.is (c.in_ok-listing.ensures.told t e) in
+    ap (λ p. list_answer t (names_of p)) (sym c.as_str.ensures) ∙ told

@@ -6,6 +6,7 @@ use Rattle.tokei_walk.specs.Levels.{under, drops}
 use Rattle.tokei_walk.specs.Stacks.{Enters, at_entry}
 use Rattle.tokei_walk.proofs.StackSteps.{refused_stack, entered_told, refused_told}
 use Rattle.tokei_walk.proofs.Growing.{grows_on}
+use Rattle.tokei_walk.proofs.Lasting.{answers, refused}
 use Rattle.tokei_walk.proofs.stack.enter_entry.Goals as goal
 
 pub returns-in_default-clause-refused : goal.returns-in_default-clause-refused
@@ -53,3 +54,12 @@ returns-then-branch-clause-notes g c = grows_on _ _ _ c.push_folder_name.ensures
 
 pub returns-clause-notes : goal.returns-clause-notes
 returns-clause-notes g c = grows_on _ _ _ c.push_folder_name.ensures.notes c.enter.ensures.notes
+
+pub returns-in_err-enter-clause-folders : goal.returns-in_err-enter-clause-folders
+returns-in_err-enter-clause-folders g c = refused c.from_residual-in_err-enter.ensures.0 c.enter.ensures.folders.same
+
+pub returns-then-branch-clause-folders : goal.returns-then-branch-clause-folders
+returns-then-branch-clause-folders g c = answers c.in_ok-enter.ensures.folders
+
+pub returns-clause-folders : goal.returns-clause-folders
+returns-clause-folders g c = answers c.in_ok-enter.ensures.folders
