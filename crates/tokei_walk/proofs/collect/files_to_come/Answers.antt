@@ -1,4 +1,4 @@
-use Rattle.std.proofs.Common.{◌++◌, refl, List, Option, ◌∙◌, sym, ap, append-nil, subst, rules}
+use Rattle.std.proofs.Common.{◌++◌, refl, List, Option, ◌∙◌, sym, ap, append-nil, subst}
 use Rattle.tokei_walk.specs.declared.kept_file.KeptFile.{KeptFile}
 use Rattle.tokei_walk.specs.Walks.{to_come, Advances}
 use Rattle.tokei_walk.proofs.Growing.{grows_on, grows_same}

@@ -1,4 +1,4 @@
-use Rattle.std.proofs.Common.{◌≡◌, ap, ◌∙◌}
+use Rattle.std.proofs.Common.{ap, ◌∙◌}
 use Rattle.tokei_folders.specs.Places.{joined}
 use Rattle.tokei_walk.proofs.Growing.{grows_on, lost_more}
 use Rattle.tokei_walk.proofs.listings.note_lost.Goals as goal

@@ -1,4 +1,4 @@
-use Rattle.std.proofs.Common.{◌≡◌, Err, refl, ap, ◌∙◌}
+use Rattle.std.proofs.Common.{Err, refl, ap, ◌∙◌}
 use Rattle.tokei_walk.proofs.Growing.{grows_same}
 use Rattle.tokei_walk.proofs.Lasting.{unharmed, refused_stays}
 use Rattle.tokei_walk.proofs.parents.folders_over.Goals as goal

@@ -1,4 +1,4 @@
-use Rattle.std.proofs.Common.{◌∙◌, rules, refl, List, ◌++◌, sym, ap, append-nil}
+use Rattle.std.proofs.Common.{◌∙◌, refl, List, ◌++◌, sym, ap, append-nil}
 use Rattle.tokei_folders.specs.Tree.{names_of}
 use Rattle.tokei_walk.specs.Levels.{level_at}
 use Rattle.tokei_walk.specs.Walks.{names_over, levels_over}

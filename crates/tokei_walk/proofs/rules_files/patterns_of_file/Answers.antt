@@ -1,4 +1,4 @@
-use Rattle.std.proofs.Common.{◌≡◌, ◌++◌, ℕ, List, Some, Ok, Err, sym, ap, ap₂, ◌∙◌, subst, IfOk, OnOk}
+use Rattle.std.proofs.Common.{◌≡◌, ◌++◌, ℕ, List, Some, Err, sym, ap, ap₂, ◌∙◌, subst, IfOk, OnOk}
 use Rattle.tokei_folders.specs.declared.fs.Fault.TheVariants.{Refused}
 use Rattle.tokei_folders.specs.Answers.{bytes_of}
 use Rattle.tokei_folders.specs.Tree.{node_at, names_of}

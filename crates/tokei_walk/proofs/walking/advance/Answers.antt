@@ -1,4 +1,4 @@
-use Rattle.std.proofs.Common.{◌<◌, Option, OnSome, length, ap, ◌∙◌, subst, rules, arith, refl, List, ◌++◌}
+use Rattle.std.proofs.Common.{◌<◌, Option, OnSome, length, ap, ◌∙◌, subst, arith, refl, List, ◌++◌}
 use Rattle.tokei_walk.specs.declared.kept_file.KeptFile.{KeptFile}
 use Rattle.tokei_walk.specs.declared.stack.Step.{Step}
 use Rattle.tokei_walk.specs.Ranks.{stack_rank}
