@@ -1,3 +1,4 @@
+pub mod Behind
 pub mod Blocks
 pub mod Dashes
 pub mod EmptyLanguages

@@ -3,7 +3,7 @@ ghost use Rattle.std.specs.Prelude.{◌≡◌, ◌+◌, ◌≤◌, ◌∷◌, �
 ghost use Rattle.std.specs.Prelude.{IfOk, IfErr, IsErrOf, OnErr, OnOk};
 ghost use Rattle.tokei_stats.specs.Seen.{sums_of};
 ghost use Rattle.tokei_stats.specs.Statistics.{lines_of};
-ghost use Rattle.tokei_print.specs.Cells.{four_cells, number_cells, number_text, right_in};
+ghost use Rattle.tokei_print.specs.Cells.{number_cells, number_text, right_in};
 ghost use Rattle.tokei_print.specs.Cells.{subtotal_cells};
 ghost use Rattle.tokei_print.specs.LinesFit.{LinesFit};
 ghost use Rattle.tokei_stats.specs.ReportRow.{count_places};
@@ -30,23 +30,26 @@ fn lines(counts: Sums) -> Result<usize, CountError>
     }
 }
 
-/// Four texts, each behind a space and right in 12 places: lines, code, comments and blanks.
+/// Puts a number behind what stands in the row, behind a space and right in its places.
 #[tactic(auto, using(crate::proofs::Padding::styled_right))]
-pub(crate) fn four_cells(
+fn put_cell(
+    row: &mut String,
     alloc: Global,
-    lines: &str,
-    code: &str,
-    comments: &str,
-    blanks: &str,
-) -> Result<String, AllocError>
-    ensures { IfOk result (λ s. string_bytes s
-        ≡ four_cells lines.now code.now comments.now blanks.now) }
+    format: NumberFormat,
+    number: usize,
+    places: usize,
+) -> Result<(), AllocError>
+    requires { places ≤ 65535 }
+    ensures { OnOk result (string_bytes row.new
+        ≡ string_bytes row.old
+        ++ (space ∷ right_in places (number_text (separator_text format.separator) number))) }
 {
-    format!(in alloc; " {lines:>12} {code:>12} {comments:>12} {blanks:>12}")
+    let text = format.grouped(alloc, number)?;
+    let text = text.as_str();
+    write!(row, " {text:>places$}")
 }
 
 /// Lines, code, comments and blanks as numbers, with so many places for the lines.
-#[tactic(auto, using(crate::proofs::Padding::styled_right))]
 fn cells_with_lines_in(
     alloc: Global,
     format: NumberFormat,
@@ -66,13 +69,13 @@ fn cells_with_lines_in(
     ensures fits { OnOk result (LinesFit (sums_of counts)) }
     ensures overflow { IsErrOf result CountError.Overflow → ¬ LinesFit (sums_of counts) }
 {
-    let lines = format.grouped(alloc, lines(counts)?)?;
-    let code = format.grouped(alloc, counts.code)?;
-    let comments = format.grouped(alloc, counts.comments)?;
-    let blanks = format.grouped(alloc, counts.blanks)?;
-    let (lines, code) = (lines.as_str(), code.as_str());
-    let (comments, blanks) = (comments.as_str(), blanks.as_str());
-    Ok(format!(in alloc; " {lines:>places$} {code:>12} {comments:>12} {blanks:>12}")?)
+    let lines = lines(counts)?;
+    let mut row = String::new(alloc);
+    put_cell(&mut row, alloc, format, lines, places)?;
+    put_cell(&mut row, alloc, format, counts.code, 12)?;
+    put_cell(&mut row, alloc, format, counts.comments, 12)?;
+    put_cell(&mut row, alloc, format, counts.blanks, 12)?;
+    Ok(row)
 }
 
 /// Lines, code, comments and blanks as numbers. `Overflow` exactly where the lines pass the

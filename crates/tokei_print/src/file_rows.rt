@@ -84,8 +84,8 @@ fn file_block(
         (report_of report.now)) }
     ensures overflow { IsErrOf result CountError.Overflow → ¬ FileBlockFits (report_of report.now) }
 {
-    let name = shown(alloc, &report.name)?;
-    let line = layout.name_line(alloc, &name, first)?;
+    let sums = report.stats.summary_counts()?;
+    let line = layout.name_line(alloc, &shown(alloc, &report.name)?, first)?;
     let own = layout.own_row(alloc, language.name, &report.stats)?;
     let blobs = layout.blob_rows(
         alloc,
@@ -93,7 +93,7 @@ fn file_block(
         language.inaccurate,
         &report.stats.blobs,
     )?;
-    let subtotal = layout.subtotal(alloc, "|- (Total)", report.stats.summary_counts()?)?;
+    let subtotal = layout.subtotal(alloc, "|- (Total)", sums)?;
     let (line, own) = (line.as_str(), own.as_str());
     let (blobs, subtotal) = (blobs.as_str(), subtotal.as_str());
     Ok(format!(in alloc; "{line}{own}{blobs}{subtotal}")?)

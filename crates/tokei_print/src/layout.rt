@@ -39,14 +39,16 @@ impl Layout {
         ensures format { IfOk result (λ layout. layout.format ≡ format) }
         ensures memory { IfErr result (λ e. e ≡ OutputError.Memory) }
     {
-        let heavy = "━".repeat(alloc, columns)?;
-        let light = "─".repeat(alloc, columns)?;
+        let mut row = "━".repeat(alloc, columns)?;
+        row.push_str("\n")?;
+        let mut subrow = "─".repeat(alloc, columns)?;
+        subrow.push_str("\n")?;
         Ok(Layout {
             columns,
             list_files,
             format,
-            row: format!(in alloc; "{heavy}\n")?,
-            subrow: format!(in alloc; "{light}\n")?,
+            row,
+            subrow,
         })
     }
 

@@ -5,23 +5,7 @@ ghost use Rattle.tokei_print.specs.NameOrder.{by_name, in_order};
 ghost use Rattle.tokei_stats.specs.Reports.{report_of};
 
 use std::alloc::{AllocError, Global};
-use std::collections::BTreeMap;
 use tokei_stats::Report;
-
-/// The reports by name; those of one name stay in their order.
-fn by_name(alloc: Global, reports: &[Report]) -> Result<Vec<&Report>, AllocError>
-    ensures { IfOk result (λ v. reports_in v.items ≡ by_name (map report_of reports.entry.now)) }
-{
-    let mut places: BTreeMap<(&str, usize), &Report> = BTreeMap::new(alloc);
-    for (place, report) in reports.iter().enumerate() {
-        let _none = places.insert((report.name.as_str(), place), report)?;
-    }
-    let mut ordered = Vec::with_capacity(alloc, reports.len())?;
-    for report in places.values() {
-        ordered.push(*report)?;
-    }
-    Ok(ordered)
-}
 
 /// The reports in their order.
 fn as_they_stand(alloc: Global, reports: &[Report]) -> Result<Vec<&Report>, AllocError>
@@ -31,6 +15,15 @@ fn as_they_stand(alloc: Global, reports: &[Report]) -> Result<Vec<&Report>, Allo
     for report in reports {
         ordered.push(report)?;
     }
+    Ok(ordered)
+}
+
+/// The reports by name; those of one name stay in their order.
+fn by_name(alloc: Global, reports: &[Report]) -> Result<Vec<&Report>, AllocError>
+    ensures { IfOk result (λ v. reports_in v.items ≡ by_name (map report_of reports.entry.now)) }
+{
+    let mut ordered = as_they_stand(alloc, reports)?;
+    ordered.sort_by(|first, second| first.name.cmp(&second.name))?;
     Ok(ordered)
 }
 

@@ -118,16 +118,20 @@ fn files_block(
     if !layout.list_files {
         return Ok(String::new(alloc));
     }
-    let reports = in_order(alloc, &language.reports, showing.sorted)?;
     let listed = ListedLanguage {
         table: showing.table,
         name,
         inaccurate: language.inaccurate,
     };
-    let files = listed_files(layout, alloc, listed, showing.compact, &reports)?;
-    let mut rows = String::from_str(alloc, layout.subrow())?;
-    rows.push_str(&files)?;
-    Ok(rows)
+    let files = listed_files(
+        layout,
+        alloc,
+        listed,
+        showing.compact,
+        &in_order(alloc, &language.reports, showing.sorted)?,
+    )?;
+    let (subrow, files) = (layout.subrow(), files.as_str());
+    Ok(format!(in alloc; "{subrow}{files}")?)
 }
 
 /// All rows of a language.

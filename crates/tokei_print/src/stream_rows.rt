@@ -1,15 +1,14 @@
 //! The rows of a stream of columns.
 ghost use Rattle.std.specs.Prelude.{◌≡◌, ◌≢◌, ◌<◌, Err, IfOk, OnOk, string_bytes};
 ghost use Rattle.std.specs.Io.KnownBytes.{Appends};
-ghost use Rattle.tokei_stats.specs.ReportRow.{counts_cells};
-ghost use Rattle.tokei_stats.specs.Seen.{counts_of, sums_of};
+ghost use Rattle.tokei_stats.specs.Seen.{counts_of};
 ghost use Rattle.tokei_io.specs.Printing.{faults_after_printing};
 ghost use Rattle.tokei_print.specs.StreamRows.{stream_heading, stream_row};
 
 use std::alloc::{AllocError, Global};
 use tokei_io::{OutputError, Sink, put};
 use tokei_stats::shown::shown;
-use tokei_stats::{Report, Sums};
+use tokei_stats::{CountsCells, Report};
 
 /// The two rows above a stream of columns.
 const HEADING: &str =
@@ -27,26 +26,20 @@ pub fn print_stream_heading<W: Sink>(writer: &mut W) -> Result<(), OutputError>
     put(writer, HEADING.as_bytes())
 }
 
-/// Lines, code, comments and blanks, each behind a space and right in 12 places; the lines are
-/// their exact sum.
-#[tactic(auto, using(tokei_stats::proofs::Padding::padded_right))]
-fn plain_cells(alloc: Global, counts: Sums) -> Result<String, AllocError>
-    ensures { IfOk result (λ s. string_bytes s ≡ counts_cells (sums_of counts)) }
-{
-    let (blanks, code, comments) = (counts.blanks, counts.code, counts.comments);
-    let lines = blanks as u128 + code as u128 + comments as u128;
-    format!(in alloc; " {lines:>12} {code:>12} {comments:>12} {blanks:>12}")
-}
-
 /// A file's row in a stream of columns.
 #[tactic(auto, using(crate::proofs::Padding::styled_right, tokei_stats::proofs::Padding::styled_left))]
 fn stream_row(alloc: Global, language: &str, report: &Report) -> Result<String, AllocError>
     ensures { IfOk result (λ s. string_bytes s
         ≡ stream_row language.now (string_bytes report.now.name) (counts_of report.now.stats)) }
 {
-    let cells = plain_cells(alloc, report.stats.own_counts())?;
     let path = shown(alloc, &report.name)?;
-    let (path, cells) = (path.as_str(), cells.as_str());
+    let path = path.as_str();
+    let counts = report.stats.own_counts();
+    let cells = CountsCells {
+        blanks: counts.blanks,
+        code: counts.code,
+        comments: counts.comments,
+    };
     format!(in alloc; "{language:>10} {path:<80}{cells}\n")
 }
 
