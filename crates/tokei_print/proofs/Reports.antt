@@ -1,6 +1,7 @@
 -- A report that is written in four steps.
-use Rattle.std.proofs.Common.{◌≡◌, ℕ, List, [], ◌++◌, Bool, ◌∙◌, ap, append_assoc, is_some}
+use Rattle.std.proofs.Common.{◌≡◌, ℕ, List, [], ◌++◌, Bool, ◌∙◌, ap, is_some}
 use Rattle.tokei_languages.specs.Values.{LanguageValue}
+use Rattle.tokei_print.proofs.Behind.{four_behind}
 use Rattle.tokei_print.specs.Heading.{header}
 use Rattle.tokei_print.specs.declared.layout.Layout.{Layout}
 use Rattle.tokei_print.specs.Names.{name_in}
@@ -10,13 +11,6 @@ use Rattle.tokei_table.specs.Row.{Row}
 use Rattle.tokei_print.specs.PrintedReports.{report_text, warning_of}
 use Rattle.tokei_print.specs.declared.style.ReportStyle.{ReportStyle}
 
--- four texts, one behind the other
-four : (b0 b1 b2 b3 b4 w h r t : List ℕ)
-    → b0 ≡ [] → b1 ≡ b0 ++ w → b2 ≡ b1 ++ h → b3 ≡ b2 ++ r → b4 ≡ b3 ++ t → b4 ≡ w ++ (h ++ (r ++ t))
-four b0 b1 b2 b3 b4 w h r t z e1 e2 e3 e4 =
-    e4 ∙ ap (λ x. x ++ t) (e3 ∙ ap (λ x. x ++ r) (e2 ∙ ap (λ x. x ++ h) (e1 ∙ ap (λ x. x ++ w) z)))
-    ∙ append_assoc (w ++ h) r t ∙ append_assoc w h (r ++ t)
-
 -- the note, the header, the results and the total, while the layout stays
 pub report_of_steps : (rows : List Row) (style : ReportStyle) (listed languages : List (ℕ × LanguageValue))
     (l0 l1 l2 l3 : Layout) (sorted : Bool) (b0 b1 b2 b3 b4 : List ℕ)
@@ -25,7 +19,7 @@ pub report_of_steps : (rows : List Row) (style : ReportStyle) (listed languages 
     → b3 ≡ b2 ++ results_text l2 (name_in rows) style.compact sorted listed → b4 ≡ b3 ++ total_text l3 languages
     → b4 ≡ report_text l0 rows style listed languages
 report_of_steps rows style listed languages l0 l1 l2 l3 sorted b0 b1 b2 b3 b4 z k1 k2 k3 s e1 e2 e3 e4 =
-    four b0 b1 b2 b3 b4 _ _ _ _ z e1
+    four_behind b0 b1 b2 b3 b4 _ _ _ _ z e1
     (e2 ∙ ap (λ l. b1 ++ header l.columns) k1)
     (e3 ∙ ap (λ l. b2 ++ results_text l (name_in rows) style.compact sorted listed) (k2 ∙ k1)
     ∙ ap (λ b. b2 ++ results_text l0 (name_in rows) style.compact b listed) s)

@@ -1,5 +1,5 @@
 -- When the sums that a report shows are at most the greatest `usize`.
-use Rattle.std.specs.Prelude.{ℕ, Bool, List, Option, None, Some, is_some}
+use Rattle.std.specs.Prelude.{ℕ, List, Option, None, Some, is_some}
 use Rattle.tokei_languages.specs.Sorting.{sorted_languages}
 use Rattle.tokei_languages.specs.Values.{LanguageValue}
 use Rattle.tokei_options.specs.declared.sort.Sort.{Sort}

@@ -126,7 +126,6 @@ fn file_blocks(
 }
 
 /// The rows of files in this order: those with a row alone first.
-#[tactic(auto, using(crate::proofs::Files::no_rows))]
 pub fn listed_files(
     layout: &Layout,
     alloc: Global,

@@ -186,7 +186,6 @@ fn group_rows(
 }
 
 /// The rows of all languages.
-#[tactic(auto, using(crate::proofs::Blocks::no_blocks))]
 pub(crate) fn results(
     layout: &Layout,
     alloc: Global,

@@ -1,4 +1,4 @@
-use Rattle.std.proofs.Common.{◌≡◌, ℕ, map, reverse, ap, sym, ◌∙◌}
+use Rattle.std.proofs.Common.{ℕ, reverse, ap, sym, ◌∙◌}
 use Rattle.std.specs.Borrow.{Bor}
 use Rattle.std.specs.Prelude.{if◌then◌else◌}
 use Rattle.tokei_languages.specs.Seen.{language_of, languages_of}

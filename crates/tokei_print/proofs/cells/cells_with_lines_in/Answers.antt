@@ -1,0 +1,18 @@
+use Rattle.std.proofs.Common.{◌∷◌, ◌++◌, string_bytes, ap, ◌∙◌}
+use Rattle.tokei_options.specs.Grouping.{separator_text}
+use Rattle.tokei_stats.specs.ReportRow.{count_places}
+use Rattle.tokei_stats.specs.Seen.{sums_of}
+use Rattle.tokei_stats.specs.Statistics.{lines_of}
+use Rattle.tokei_table.specs.Bytes.{space}
+use Rattle.tokei_print.specs.Cells.{number_text, right_in}
+use Rattle.tokei_print.proofs.Behind.{four_behind}
+use Rattle.tokei_print.proofs.cells.cells_with_lines_in.Goals as goal
+
+pub returns-clause-ok : goal.returns-clause-ok
+returns-clause-ok c =
+    let text = number_text (separator_text c.args.format.separator) in
+    four_behind (string_bytes c.new-row.result) (string_bytes c.put_cell.new.row) (string_bytes c.put_cell-2.new.row) (string_bytes c.put_cell-3.new.row) (string_bytes c.put_cell-4.new.row)
+    (space ∷ right_in c.args.places (text (lines_of (sums_of c.args.counts)))) (space ∷ right_in count_places (text c.args.counts.code))
+    (space ∷ right_in count_places (text c.args.counts.comments)) (space ∷ right_in count_places (text c.args.counts.blanks))
+    c.new-row.ensures.bytes (c.in_ok-put_cell.ensures ∙ ap (λ n. string_bytes c.new-row.result ++ (space ∷ right_in c.args.places (text n))) c.in_ok-lines.ensures.sum)
+    c.in_ok-put_cell-2.ensures c.in_ok-put_cell-3.ensures c.in_ok-put_cell-4.ensures
