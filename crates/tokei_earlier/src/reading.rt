@@ -1,13 +1,12 @@
 //! The statistics and reports of a document that has its layout.
-ghost use Rattle.std.specs.Prelude.{◌≡◌, map, option_map, string_bytes, [], Some, IfOk, IfSome, OnOk};
+ghost use Rattle.std.specs.Prelude.{◌≡◌, map, option_map, string_bytes, [], IfOk, IfSome, OnOk};
 ghost use Rattle.json.specs.Value.{value_view, items_view, members_view};
 ghost use Rattle.tokei_earlier.specs.ReadReports.{count_in, counts_in, put_blob, put_named, statistics_in};
-ghost use Rattle.tokei_earlier.specs.ReadReports.{blobs_at, blobs_in, with_blobs, text_in, statistics_at};
+ghost use Rattle.tokei_earlier.specs.ReadReports.{blobs_in, text_in, statistics_at};
 ghost use Rattle.tokei_earlier.specs.ReadReports.{report_in, all_reports_in, reports_in, with_children};
 ghost use Rattle.tokei_earlier.specs.ReadReports.{children_in, truth_in};
 ghost use Rattle.tokei_stats.specs.Reports.{children_of, report_of, reports_of};
 ghost use Rattle.tokei_stats.specs.Seen.{blobs_of, entries_of, stats_of, sums_of};
-ghost use Rattle.tokei_stats.specs.Statistics.Blobs.{none};
 ghost use Rattle.tokei_json_tree.specs.Ordered.{IsOrdered, AreItemsOrdered, AreMembersOrdered};
 ghost use Rattle.tokei_json_tree.specs.TreeData.{data_of, items_data, members_data};
 
@@ -41,6 +40,7 @@ fn counts_in(value: &Tree<'_>) -> Sums
     }
 }
 
+/// The statistics of an object, whose blobs stand among its members; other values have none.
 #[cycle(statistics)]
 fn statistics_in(
     alloc: Global,
@@ -53,30 +53,16 @@ fn statistics_in(
 {
     match value {
         Value::Object(members) => {
-            let blobs = blobs_at(alloc, table, members)?;
-            Ok(CodeStats::assembled(alloc, counts_in(value), blobs))
+            for member in members {
+                if member.0 == "blobs" {
+                    let blobs = blobs_in(alloc, table, &member.1)?;
+                    return Ok(CodeStats::assembled(alloc, counts_in(value), blobs));
+                }
+            }
+            Ok(CodeStats::assembled(alloc, counts_in(value), BTreeMap::new(alloc)))
         }
         _ => Ok(CodeStats::new(alloc)),
     }
-}
-
-/// The blobs that stand among the members.
-#[cycle(statistics)]
-fn blobs_at(
-    alloc: Global,
-    table: &NamedTable,
-    members: &TreeMembers<'_>,
-) -> Result<BTreeMap<LanguageType, CodeStats>, AllocError>
-    requires { AreMembersOrdered (members_view members.now.items) }
-    ensures { IfOk result (λ m. blobs_of (entries_of m.entries)
-        ≡ blobs_at table.now (members_data (members_view members.now.items))) }
-{
-    for member in members {
-        if member.0 == "blobs" {
-            return blobs_in(alloc, table, &member.1);
-        }
-    }
-    Ok(BTreeMap::new(alloc))
 }
 
 #[cycle(statistics)]
@@ -90,27 +76,16 @@ fn blobs_in(
         ≡ blobs_in table.now (data_of (value_view value.now))) }
 {
     match value {
-        Value::Object(members) => blobs_of_members(alloc, table, members),
+        Value::Object(members) => {
+            let mut blobs = BTreeMap::new(alloc);
+            for member in members {
+                let stats = statistics_in(alloc, table, &member.1)?;
+                put_blob(&mut blobs, table.language(member.0), stats)?;
+            }
+            Ok(blobs)
+        }
         _ => Ok(BTreeMap::new(alloc)),
     }
-}
-
-#[cycle(statistics)]
-fn blobs_of_members(
-    alloc: Global,
-    table: &NamedTable,
-    members: &TreeMembers<'_>,
-) -> Result<BTreeMap<LanguageType, CodeStats>, AllocError>
-    requires { AreMembersOrdered (members_view members.now.items) }
-    ensures { IfOk result (λ m. blobs_of (entries_of m.entries)
-        ≡ with_blobs table.now (members_data (members_view members.now.items)) none) }
-{
-    let mut blobs = BTreeMap::new(alloc);
-    for member in members {
-        let stats = statistics_in(alloc, table, &member.1)?;
-        put_blob(&mut blobs, table.language(member.0), stats)?;
-    }
-    Ok(blobs)
 }
 
 /// Puts the statistics at the language, where there is one.
