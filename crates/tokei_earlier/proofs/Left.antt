@@ -1,5 +1,5 @@
 -- What is left of a list at each turn of a loop over it that reads each item.
-use Rattle.std.proofs.Common.{◌≡◌, ℕ, ◌+◌, ◌<◌, ◌≤◌, List, [], ◌∷◌, length, get_or, drop, Bool, true, false, cond, Bor, Vec, sym, ap, ◌∙◌, subst}
+use Rattle.std.proofs.Common.{◌≡◌, ℕ, ◌+◌, ◌<◌, ◌≤◌, List, [], ◌∷◌, ◌++◌, length, map, get_or, drop, Bool, true, false, cond, Bor, Vec, refl, sym, ap, ◌∙◌, subst}
 use Rattle.std.proofs.lemmas.List.{drop_all}
 use Rattle.json.proofs.Trees.{view-Object}
 use Rattle.json.specs.Json as json
@@ -39,3 +39,8 @@ module _ {X Y : Type 0} {whole : Y} {read : List X → Y} {Ordered : List X → 
 pub object_seen : {A : Type 0} (v : Value A) (vec : Vec (Bor (List ℕ) × Value A) A) (xs : List (Bor (List ℕ) × Value A)) → v ≡ Object vec → xs ≡ vec.items
     → value_view v ≡ json.object (members_view xs)
 object_seen v vec xs is same = ap value_view is ∙ view-Object vec ∙ ap (λ ys. json.object (members_view ys)) (sym same)
+
+-- what is read of an item goes behind what was read
+pub pushed : {A B : Type 0} (f : A → B) (xs : List A) (x : A) (more : List B) → map f (xs ++ x ∷ []) ++ more ≡ map f xs ++ f x ∷ more
+pushed f [] x more = refl
+pushed f (y ∷ ys) x more = ap (λ zs. f y ∷ zs) (pushed f ys x more)
