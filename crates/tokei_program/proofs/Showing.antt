@@ -1,7 +1,7 @@
 -- Notes that are shown, one by one.
-use Rattle.std.proofs.Common.{◌≡◌, ◌∙◌, ℕ, suc, ◌+◌, ◌<◌, ◌≤◌, List, [], ◌∷◌, ◌++◌, ap, arith, length, get_or, map, take, take_all, sym, subst}
+use Rattle.std.proofs.Common.{◌≡◌, ◌∙◌, ℕ, ◌+◌, ◌<◌, ◌≤◌, List, [], ◌∷◌, ◌++◌, ap, length, get_or, map, take, take_all, sym, subst}
 use Rattle.std.proofs.lemmas.List.{map-append}
-use Rattle.std.proofs.Math.Seq.{take-suc}
+use Rattle.tokei_program.proofs.Taken.{taken_next}
 use Rattle.tokei_program.specs.Shown.{AreShown, IsShown, shown_note}
 use Rattle.tokei_walk.specs.declared.kept_file.Note.{Note}
 
@@ -11,14 +11,6 @@ shown_more [] [] n s before this = (this, tt)
 shown_more [] (t ∷ ss) n s before this = absurd before
 shown_more (m ∷ ns) [] n s before this = absurd before
 shown_more (m ∷ ns) (t ∷ ss) n s before this = (before.0, shown_more ns ss n s before.1 this)
-
-more : (i : ℕ) → suc i ≡ i + 1
-more i = omega arith
-
--- the first notes and the next one
-taken_next : (ns : List Note) (i : ℕ) (n : Note) → i < length ns → n ≡ get_or ns i n → take i ns ++ n ∷ [] ≡ take (i + 1) ns
-taken_next ns i n within is =
-    ap (λ (m : Note). take i ns ++ m ∷ []) is ∙ sym (take-suc ns i n within) ∙ ap (λ (k : ℕ). take k ns) (more i)
 
 -- the next one is shown behind the first
 pub shown_next : (ns ss : List Note) (i : ℕ) (n s : Note) → AreShown (take i ns) ss → i < length ns → n ≡ get_or ns i n → IsShown n s → AreShown (take (i + 1) ns) (ss ++ s ∷ [])

@@ -13,7 +13,7 @@ use crate::choices::Choices;
 use crate::ending::Ending;
 use crate::environment::Env;
 use crate::notes::passed_text;
-use crate::preparing::{prepare, table_of};
+use crate::preparing::{Request, prepare, table_of};
 use crate::reasons::{ended, run_ended};
 use crate::saying::say;
 use crate::shown::shown_notes;
@@ -23,32 +23,34 @@ use tokei::{Folders, Sink, Source, put, run};
 use tokei_cli::{Cli, CliError, print_supported_languages};
 
 /// Counts what a command line names, and writes what it wants of that. What is to be said beside it
-/// is answer_words.
+/// is answered.
 fn write_counts<F: Folders, S: Source, W: Sink>(
     alloc: Global,
-    cli: &Cli,
+    request: &Request,
     choices: Choices,
-    env: &Env,
     folders: &mut F,
     input: &mut S,
     out: &mut W,
 ) -> Result<String, Ending>
-    requires chosen { Chooses cli.now choices.wanted choices.sort choices.numbers }
+    requires chosen { Chooses
+        request.now.cli.now choices.wanted choices.sort choices.numbers }
     ensures same { SameTree F.tree folders.old folders.new }
     ensures told { Told (F.tree folders.old) (λ t. OnOk result (WritesCounts
-        cli.now env.now t (S.remaining input.old) (W.contents out.old) (W.contents out.new))) }
-    ensures beside { IfOk result (λ text. ShowsNotes AnyMet cli.now (string_bytes text)) }
+        request.now.cli.now request.now.env.now t (S.remaining input.old)
+        (W.contents out.old) (W.contents out.new))) }
+    ensures beside { IfOk result (λ text.
+        ShowsNotes AnyMet request.now.cli.now (string_bytes text)) }
     ensures noted { Told (F.tree folders.old) (λ t. IfOk result (λ text.
-        ShowsNotes (MetIn env.now t) cli.now (string_bytes text))) }
+        ShowsNotes (MetIn request.now.env.now t) request.now.cli.now (string_bytes text))) }
     ensures fault { W.faults out.old < u64.MAX → OnOk result (W.faults out.new ≡ W.faults out.old) }
     ensures failed { IfErr result (λ e. status_of e ≡ 1) }
 {
-    let table = table_of(alloc, cli, env, folders)?;
-    let prepared = prepare(alloc, cli, choices, env, &table, folders, input)?;
+    let table = table_of(alloc, request.cli, request.env, folders)?;
+    let prepared = prepare(alloc, request, choices, &table, folders, input)?;
     match run(alloc, &table, folders, &prepared.job, out) {
         Ok(notes) => {
             let shown = shown_notes(alloc, folders, &notes)?;
-            let text = passed_text(alloc, &table, cli, &shown, &prepared.flaws)?;
+            let text = passed_text(alloc, &table, request.cli, &shown, &prepared.flaws)?;
             // the program ends next: to free each text of the table would be a tenth of a short run
             forget(table);
             Ok(text)
@@ -105,7 +107,7 @@ fn carry_out<F: Folders, S: Source, W: Sink>(
     if cli.print_languages {
         write_list(alloc, cli, env, folders, out)
     } else {
-        write_counts(alloc, cli, choices, env, folders, input, out)
+        write_counts(alloc, &Request { cli, env }, choices, folders, input, out)
     }
 }
 

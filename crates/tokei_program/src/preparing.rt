@@ -62,10 +62,11 @@ fn no_table<F: Folders>(alloc: Global, folders: &mut F, place: &str) -> Result<E
     ensures failed { IfErr result (λ e. status_of e ≡ 1) }
 {
     let words = folders.cause(alloc)?;
-    if !words.as_bytes().is_empty() {
-        return Ok(Ending::NoTable(format!(in alloc; "{place}: {words}")?));
-    }
-    let cause = cause_at(folders, place)?;
+    let cause = if words.as_bytes().is_empty() {
+        cause_at(folders, place)?
+    } else {
+        words.as_str()
+    };
     Ok(Ending::NoTable(format!(in alloc; "{place}: {cause}")?))
 }
 
@@ -280,6 +281,13 @@ fn job_of(
     })
 }
 
+/// What the program is asked for: a command line, and the surroundings that it is given in.
+#[derive(Clone, Copy)]
+pub struct Request<'a> {
+    pub cli: &'a Cli,
+    pub env: &'a Env,
+}
+
 /// What is counted, and what is said beside it.
 #[derive(Drop)]
 pub struct Preparation {
@@ -291,26 +299,27 @@ pub struct Preparation {
 /// What is counted, where all that the command line names is there.
 pub fn prepare<F: Folders, S: Source>(
     alloc: Global,
-    cli: &Cli,
+    request: &Request,
     choices: Choices,
-    env: &Env,
     table: &LanguageTable,
     folders: &mut F,
     input: &mut S,
 ) -> Result<Preparation, Ending>
-    requires chosen { Chooses cli.now choices.wanted choices.sort choices.numbers }
+    requires chosen { Chooses
+        request.now.cli.now choices.wanted choices.sort choices.numbers }
     ensures same { SameTree F.tree folders.old folders.new }
-    ensures excludes { IfOk result (λ p. texts_of p.job.ignored.items ≡ excludes_of cli.now) }
+    ensures excludes { IfOk result (λ p.
+        texts_of p.job.ignored.items ≡ excludes_of request.now.cli.now) }
     ensures told { Told (F.tree folders.old) (λ t. IfOk result (λ p. IsJobOf
-        table.now cli.now env.now t (S.remaining input.old) p.job)) }
+        table.now request.now.cli.now request.now.env.now t (S.remaining input.old) p.job)) }
     ensures flawed { Told (F.tree folders.old) (λ t. IfOk result (λ p.
-        AreFlaws table.now env.now t p.flaws.items)) }
+        AreFlaws table.now request.now.env.now t p.flaws.items)) }
     ensures failed { IfErr result (λ e. status_of e ≡ 1) }
 {
-    let read = configuration(alloc, cli, env, table, folders)?;
-    let earlier = earlier(alloc, table, cli, folders, input)?;
-    check_roots(alloc, folders, cli.input())?;
-    let job = job_of(alloc, cli, choices, read.config, earlier)?;
+    let read = configuration(alloc, request.cli, request.env, table, folders)?;
+    let earlier = earlier(alloc, table, request.cli, folders, input)?;
+    check_roots(alloc, folders, request.cli.input())?;
+    let job = job_of(alloc, request.cli, choices, read.config, earlier)?;
     Ok(Preparation {
         job,
         flaws: read.flaws,

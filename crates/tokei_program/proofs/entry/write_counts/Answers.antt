@@ -22,9 +22,9 @@ returns-in_ok-text-in-Ok-clause-beside g c =
     let flaws = c.in_ok-prepared.prepared.flaws.items in
     let notes = c.in-Ok.notes.items in
     let as_shown = c.in_ok-shown-in-Ok.shown.items in
-    let shown : string_bytes c.in_ok-text-in-Ok.text ≡ passed_text c.in_ok-table.table c.args.cli.now as_shown flaws = search rules in
+    let shown : string_bytes c.in_ok-text-in-Ok.text ≡ passed_text c.in_ok-table.table c.args.request.now.cli.now as_shown flaws = search rules in
     let these : c.deref.result.now ≡ notes = search rules in
-    notes_shown AnyMet c.args.cli.now c.in_ok-table.table flaws
+    notes_shown AnyMet c.args.request.now.cli.now c.in_ok-table.table flaws
     (texts_of c.in_ok-prepared.prepared.job.ignored.items) notes as_shown (string_bytes c.in_ok-text-in-Ok.text)
     (subst (λ (ns : List Note). AreShown ns as_shown) these c.in_ok-shown-in-Ok.ensures.some)
     c.in_ok-prepared.ensures.excludes c.in-Ok.ensures.notes shown
@@ -34,10 +34,10 @@ returns-in_ok-text-in-Ok-clause-noted g c t told =
     let flaws = c.in_ok-prepared.prepared.flaws.items in
     let notes = c.in-Ok.notes.items in
     let as_shown = c.in_ok-shown-in-Ok.shown.items in
-    let shown : string_bytes c.in_ok-text-in-Ok.text ≡ passed_text c.in_ok-table.table c.args.cli.now as_shown flaws = search rules in
+    let shown : string_bytes c.in_ok-text-in-Ok.text ≡ passed_text c.in_ok-table.table c.args.request.now.cli.now as_shown flaws = search rules in
     let these : c.deref.result.now ≡ notes = search rules in
     let same = c.run.ensures.same ∙ (c.prepare.ensures.same ∙ (c.table_of.ensures.same ∙ told)) in
-    notes_shown (MetIn c.args.env.now t) c.args.cli.now c.in_ok-table.table flaws
+    notes_shown (MetIn c.args.request.now.env.now t) c.args.request.now.cli.now c.in_ok-table.table flaws
     (texts_of c.in_ok-prepared.prepared.job.ignored.items) notes as_shown (string_bytes c.in_ok-text-in-Ok.text)
     (record {
       table = c.in_ok-table.ensures.told t told;

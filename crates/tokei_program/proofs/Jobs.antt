@@ -1,0 +1,31 @@
+-- The run of a command line, made of what was found for it.
+use Rattle.std.proofs.Common.{◌≡◌, ℕ, List, Option, subst, sym}
+use Rattle.tokei.specs.declared.job.Job.{Job}
+use Rattle.tokei.specs.declared.job.Wanted.{Wanted}
+use Rattle.tokei_cli.specs.CommandLines.{file_input_of, inputs_of}
+use Rattle.tokei_cli.specs.declared.cli.Cli.{Cli}
+use Rattle.tokei_config.specs.declared.config.Config.{Config}
+use Rattle.tokei_folders.specs.Tree.{Tree}
+use Rattle.tokei_languages.specs.declared.languages.Languages.{Languages}
+use Rattle.tokei_options.specs.declared.number_format.NumberFormatStyle.{NumberFormatStyle}
+use Rattle.tokei_options.specs.declared.sort.Sort.{Sort}
+use Rattle.tokei_program.specs.declared.environment.Env.{Env}
+use Rattle.tokei_program.specs.Choices.{Chooses}
+use Rattle.tokei_program.specs.Earlier.{AreEarlier}
+use Rattle.tokei_program.specs.Jobs.{IsConfig, IsJob, IsJobOf}
+use Rattle.tokei_program.specs.Roots.{AllStand}
+use Rattle.tokei_table.specs.Row.{Row}
+
+-- a run is that of the command line
+pub is_job_of : (rows : List Row) (line : Cli) (env : Env) (t : Tree) (input : Option (List ℕ)) (wanted : Wanted) (sort : Option Sort) (style : NumberFormatStyle)
+    (config : Config) (earlier : Option Languages) (job : Job) → IsJob line job → (job.wanted ≡ wanted) × (job.sort ≡ sort) × (job.numbers ≡ style)
+    → (job.config ≡ config) × (job.earlier ≡ earlier) → Chooses line wanted sort style → IsConfig rows line env t config
+    → AreEarlier rows t input (file_input_of line) earlier → (roots : List (List ℕ)) → AllStand t roots → roots ≡ inputs_of line → IsJobOf rows line env t input job
+is_job_of rows line env t input wanted sort style config earlier job members chosen found chooses is_config are_earlier roots stand are = record {
+  members = members;
+  chosen = subst (λ w. Chooses line w job.sort job.numbers) (sym chosen.0)
+      (subst (λ s. Chooses line wanted s job.numbers) (sym chosen.1) (subst (λ n. Chooses line wanted sort n) (sym chosen.2) chooses));
+  config = subst (λ c. IsConfig rows line env t c) (sym found.0) is_config;
+  earlier = subst (λ e. AreEarlier rows t input (file_input_of line) e) (sym found.1) are_earlier;
+  roots = subst (λ rs. AllStand t rs) are stand;
+}
