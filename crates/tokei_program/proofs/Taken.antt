@@ -1,8 +1,9 @@
 -- The items of a list that a loop has come by, and one more.
-use Rattle.std.proofs.Common.{◌≡◌, ◌∙◌, ℕ, suc, ◌+◌, ◌<◌, ◌≤◌, List, [], ◌∷◌, ◌++◌, All, String, ap, append_assoc, arith, flat_map, get_or, length, map, rules, string_bytes, sym, take, take_all, true}
-use Rattle.std.proofs.lemmas.List.{map-append}
+use Rattle.std.proofs.Common.{◌≡◌, ◌∙◌, ℕ, suc, ◌+◌, ◌<◌, ◌≤◌, List, [], ◌∷◌, ◌++◌, All, Bool, String, cond, false, filter, flat_map, get_or, length, map, string_bytes, take, true}
+use Rattle.std.proofs.Common.{ap, arith, rules, sym, take_all}
+use Rattle.std.proofs.lemmas.List.{append-nil, map-append}
 use Rattle.std.proofs.lemmas.List.Concat.{flat_map-append}
-use Rattle.std.proofs.lemmas.List.Elements.{All-push, All-same}
+use Rattle.std.proofs.lemmas.List.Elements.{All-push, All-same, filter-append}
 use Rattle.std.proofs.Math.Seq.{take-suc}
 use Rattle.std.specs.Global.{Global}
 use Rattle.tokei_folders.specs.Tree.{Tree}
@@ -46,3 +47,12 @@ joined_next f ts i r old new w within is before shown pushed =
     pushed ∙ ap (λ (xs : List ℕ). xs ++ f w) before
     ∙ ap (λ (xs : List ℕ). flat_map f (texts_of (take i ts)) ++ xs) (ap f shown ∙ whole)
     ∙ sym (flat_map-append f (texts_of (take i ts)) (string_bytes r ∷ [])) ∙ ap (flat_map f) (texts_next ts i r within is)
+
+-- of the texts so far those that pass a test, and the next one
+module _ (passes : List ℕ → Bool) (texts : List (List ℕ)) (text : List ℕ) where
+  pub filter_keeps : passes text ≡ true → filter passes (texts ++ text ∷ []) ≡ filter passes texts ++ text ∷ []
+  filter_keeps e = filter-append passes texts (text ∷ []) ∙ ap (λ (b : Bool). filter passes texts ++ cond b (text ∷ []) []) e
+
+  pub filter_drops : passes text ≡ false → filter passes (texts ++ text ∷ []) ≡ filter passes texts
+  filter_drops e =
+      filter-append passes texts (text ∷ []) ∙ ap (λ (b : Bool). filter passes texts ++ cond b (text ∷ []) []) e ∙ append-nil (filter passes texts)

@@ -45,3 +45,18 @@ returns-in_ok-text-in-Ok-clause-noted g c t told =
       plain = c.in_ok-shown-in-Ok.ensures.silent t same ∙ ap (λ (ns : List Note). map shown_note ns) these;
     })
     c.in_ok-prepared.ensures.excludes c.in-Ok.ensures.notes shown
+
+pub returns-in_ok-text-in-Ok-clause-same : goal.returns-in_ok-text-in-Ok-clause-same
+returns-in_ok-text-in-Ok-clause-same g c = c.run.ensures.same ∙ (c.prepare.ensures.same ∙ c.table_of.ensures.same)
+
+pub returns-in_err-text-in-Ok-clause-same : goal.returns-in_err-text-in-Ok-clause-same
+returns-in_err-text-in-Ok-clause-same g c = c.run.ensures.same ∙ (c.prepare.ensures.same ∙ c.table_of.ensures.same)
+
+pub returns-in_err-shown-in-Ok-clause-same : goal.returns-in_err-shown-in-Ok-clause-same
+returns-in_err-shown-in-Ok-clause-same g c = c.run.ensures.same ∙ (c.prepare.ensures.same ∙ c.table_of.ensures.same)
+
+pub returns-in-Err-clause-same : goal.returns-in-Err-clause-same
+returns-in-Err-clause-same g c = c.run.ensures.same ∙ (c.prepare.ensures.same ∙ c.table_of.ensures.same)
+
+pub returns-in_err-prepared-clause-same : goal.returns-in_err-prepared-clause-same
+returns-in_err-prepared-clause-same g c = c.prepare.ensures.same ∙ c.table_of.ensures.same
