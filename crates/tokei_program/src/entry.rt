@@ -32,14 +32,12 @@ fn write_counts<F: Folders, S: Source, W: Sink>(
     input: &mut S,
     out: &mut W,
 ) -> Result<String, Ending>
-    requires chosen { Chooses
-        request.now.cli.now choices.wanted choices.sort choices.numbers }
+    requires chosen { Chooses request.now.cli.now choices.wanted choices.sort choices.numbers }
     ensures same { SameTree F.tree folders.old folders.new }
     ensures told { Told (F.tree folders.old) (λ t. OnOk result (WritesCounts
         request.now.cli.now request.now.env.now t (S.remaining input.old)
         (W.contents out.old) (W.contents out.new))) }
-    ensures beside { IfOk result (λ text.
-        ShowsNotes AnyMet request.now.cli.now (string_bytes text)) }
+    ensures beside { IfOk result (λ text. ShowsNotes AnyMet request.now.cli.now (string_bytes text)) }
     ensures noted { Told (F.tree folders.old) (λ t. IfOk result (λ text.
         ShowsNotes (MetIn request.now.env.now t) request.now.cli.now (string_bytes text))) }
     ensures fault { W.faults out.old < u64.MAX → OnOk result (W.faults out.new ≡ W.faults out.old) }

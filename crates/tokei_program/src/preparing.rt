@@ -305,8 +305,7 @@ pub fn prepare<F: Folders, S: Source>(
     folders: &mut F,
     input: &mut S,
 ) -> Result<Preparation, Ending>
-    requires chosen { Chooses
-        request.now.cli.now choices.wanted choices.sort choices.numbers }
+    requires chosen { Chooses request.now.cli.now choices.wanted choices.sort choices.numbers }
     ensures same { SameTree F.tree folders.old folders.new }
     ensures excludes { IfOk result (λ p.
         texts_of p.job.ignored.items ≡ excludes_of request.now.cli.now) }

@@ -15,3 +15,15 @@ returns-clause-told g c t told =
 
 pub returns-clause-flawed : goal.returns-clause-flawed
 returns-clause-flawed g c t told = c.in_ok-read.ensures.flawed t told
+
+pub returns-clause-same : goal.returns-clause-same
+returns-clause-same g c = c.check_roots.ensures.same ∙ (c.earlier.ensures.same ∙ c.configuration.ensures.same)
+
+pub returns-in_err-job-clause-same : goal.returns-in_err-job-clause-same
+returns-in_err-job-clause-same g c = c.check_roots.ensures.same ∙ (c.earlier.ensures.same ∙ c.configuration.ensures.same)
+
+pub returns-in_err-check_roots-clause-same : goal.returns-in_err-check_roots-clause-same
+returns-in_err-check_roots-clause-same g c = c.check_roots.ensures.same ∙ (c.earlier.ensures.same ∙ c.configuration.ensures.same)
+
+pub returns-in_err-earlier-clause-same : goal.returns-in_err-earlier-clause-same
+returns-in_err-earlier-clause-same g c = c.earlier.ensures.same ∙ c.configuration.ensures.same
