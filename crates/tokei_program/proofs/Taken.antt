@@ -1,5 +1,5 @@
 -- The items of a list that a loop has come by, and one more.
-use Rattle.std.proofs.Common.{◌≡◌, ◌∙◌, ℕ, suc, ◌+◌, ◌<◌, ◌≤◌, List, [], ◌∷◌, ◌++◌, All, Bool, String, cond, false, filter, flat_map, get_or, length, map, string_bytes, take, true}
+use Rattle.std.proofs.Common.{◌≡◌, ◌∙◌, ℕ, suc, ◌+◌, ◌<◌, ◌≤◌, List, [], ◌∷◌, ◌++◌, Bool, String, cond, false, filter, flat_map, get_or, length, string_bytes, take, true}
 use Rattle.std.proofs.Common.{ap, arith, rules, sym, take_all}
 use Rattle.std.proofs.lemmas.List.{append-nil, map-append}
 use Rattle.std.proofs.lemmas.List.Concat.{flat_map-append}
