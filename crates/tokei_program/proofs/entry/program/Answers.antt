@@ -22,3 +22,9 @@ returns-in-Ok-put-clause-noted g c t told done = record {
 
 pub returns-in-Ok-say-clause-said : goal.returns-in-Ok-say-clause-said
 returns-in-Ok-say-clause-said g c below same failed = c.in-Ok-say.ensures.said (sym c.status.ensures.is ∙ failed)
+
+pub returns-in-Ok-say-clause-refused : goal.returns-in-Ok-say-clause-refused
+returns-in-Ok-say-clause-refused g c two = c.in-Err.ensures.unwritten (sym c.status.ensures.is ∙ two)
+
+pub returns-in-Ok-say-clause-unread : goal.returns-in-Ok-say-clause-unread
+returns-in-Ok-say-clause-unread g c two = c.in-Err.ensures.unread (sym c.status.ensures.is ∙ two)
