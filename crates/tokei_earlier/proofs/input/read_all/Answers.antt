@@ -14,8 +14,7 @@ loop-preserved g c =
     let buffer = c.pull.new.buffer in
     let all = c.extend_from_slice.new.self.items in
     let joined = c.in_ok-extend_from_slice-in-Ok-2.ensures.items in
-    let more : length all ≡ length had + c.in-Ok.n = longer had buffer all c.in-Ok.n joined read.bound.0 in
-    (
+    let more : length all ≡ length had + c.in-Ok.n = longer had buffer all c.in-Ok.n joined read.bound.0 in (
       (λ small. read.counts (subst (λ n. n < 18446744073709551615) (sym (before.0 small)) small) ∙ before.0 small),
       taken_more had buffer all c.in-Ok.n joined (left c.args.source.now) (left c.loop.source) (left c.pull.new.self) before.1 read.bytes.0,
       omega (arith, more, c.loop.bytes.ok.0, c.len.ensures),

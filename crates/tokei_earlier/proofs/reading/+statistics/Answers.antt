@@ -1,4 +1,4 @@
-use Rattle.std.proofs.Common.{◌≡◌, ◌+◌, true, false, refl, sym, ap, ◌∙◌, subst, drop, rules, bytes_eq, codes}
+use Rattle.std.proofs.Common.{◌+◌, refl, sym, ap, ◌∙◌, subst, drop, rules, bytes_eq, codes}
 use Rattle.json.specs.Json as json
 use Rattle.json.specs.Value.{members_view, value_view}
 use Rattle.json.specs.declared.value.Value.{the_lemmas}
@@ -68,8 +68,8 @@ blobs_in-loop-member-preserved t c =
     let n = from c.loop-member.invariant x c.loop-member-test.true c.member-item.is in
     let behind = members_data (members_view (drop (c.loop-member.member-index + 1) c.deref-member-items.result.now)) in
     let put = c.in_ok-put_blob-in-Object.ensures
-        ∙ ap (λ o. put_blob o before (stats_of c.in_ok-stats-in-Object.stats)) c.language.ensures.value
-        ∙ ap (λ s. put_blob (language_named rows x.0.now) before s) c.in_ok-stats-in-Object.ensures in
+    ∙ ap (λ o. put_blob o before (stats_of c.in_ok-stats-in-Object.stats)) c.language.ensures.value
+    ∙ ap (λ s. put_blob (language_named rows x.0.now) before s) c.in_ok-stats-in-Object.ensures in
     record { same = n.same ∙ ap (λ bs. with_blobs rows behind bs) (sym put); ordered = n.ordered.1 }
 
 pub blobs_in-returns-after-loop-member : goal.blobs_in-returns-after-loop-member

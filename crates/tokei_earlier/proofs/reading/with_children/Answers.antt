@@ -19,8 +19,8 @@ loop-member-preserved c =
     let n = from c.loop-member.invariant x c.loop-member-test.true c.member-item.is in
     let behind = members_data (members_view (drop (c.loop-member.member-index + 1) c.deref-member-items.result.now)) in
     let put = c.in_ok-put_children.ensures
-        ∙ ap (λ o. put_named o before (reports_of read.reports)) c.language.ensures.value
-        ∙ ap (λ rs. put_named (language_named rows x.0.now) before rs) read.ensures in
+    ∙ ap (λ o. put_named o before (reports_of read.reports)) c.language.ensures.value
+    ∙ ap (λ rs. put_named (language_named rows x.0.now) before rs) read.ensures in
     record { same = n.same ∙ ap (λ es. with_children rows behind es) (sym put); ordered = n.ordered.1 }
 
 pub returns : goal.returns
