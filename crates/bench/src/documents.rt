@@ -1,10 +1,11 @@
 //! Prints languages as a JSON document and parses them back, and has `serde_json` alone print and parse the same
 //! text. It prints a line for each of these ways: its name and how many bytes the text has.
 //!
-//! The first two words are how many languages there are, and how many reports each of them has; each report holds
-//! statistics of one more language. Behind them may stand a word: with `times` each line ends in the nanoseconds of
-//! the quickest run; with `make` the languages are only made, with `print` they are printed too, with `parse` the
-//! text is parsed too. Where what is parsed differs from what was printed, it refuses.
+//! The first two words are how many languages there are, and how many files each of them has; each file holds a
+//! text of one more language, and so has two reports. Behind them may stand a word: with `times` each line ends in
+//! the nanoseconds of the quickest run; with `make` the languages are only made, with `print` they are printed too,
+//! with `parse` the text is parsed too. Behind that may stand `alone`: then each file is of one language, and has
+//! one report. Where what is parsed differs from what was printed, it refuses.
 use crate::document_times::{Measured, time};
 use crate::document_ways::{Input, Way};
 use crate::making::{made_languages, made_table};
@@ -103,11 +104,22 @@ fn print_once(
     Ok(())
 }
 
-/// Makes so many languages of so many reports each, and does that with them.
-pub fn show(rt: &HostRuntime, languages: usize, reports: usize, task: Task) -> anyhow::Result<()> {
+/// What documents are made of.
+#[derive(Clone, Copy)]
+pub struct Made {
+    /// How many languages there are.
+    pub languages: usize,
+    /// How many files each of them has.
+    pub files: usize,
+    /// Whether no file holds a text of another language.
+    pub alone: bool,
+}
+
+/// Makes these languages, and does that with them.
+pub fn show(rt: &HostRuntime, made: Made, task: Task) -> anyhow::Result<()> {
     let alloc = rt.alloc();
-    let table = made_table(alloc, languages)?;
-    let languages = made_languages(alloc, &table, reports)?;
+    let table = made_table(alloc, made.languages)?;
+    let languages = made_languages(alloc, &table, made.files, made.alone)?;
     match task {
         Task::Make => Ok(()),
         Task::Print => print_once(alloc, &table, &languages, false),
@@ -136,17 +148,31 @@ fn named_task(word: &str) -> anyhow::Result<Task> {
     }
 }
 
+/// Whether files are of one language alone, as a word says. It fails at another word.
+fn is_alone(word: &str) -> anyhow::Result<bool> {
+    match word {
+        "alone" => Ok(true),
+        _ => bail!("{word} isn't alone"),
+    }
+}
+
 /// Does what the words ask for. It fails where a number is missing, and at a word that isn't known.
 pub fn measure(rt: &HostRuntime, words: &[String]) -> anyhow::Result<()> {
-    let (languages, reports, task) = match words {
-        [languages, reports] => (languages, reports, Task::Compare),
-        [languages, reports, word] => (languages, reports, named_task(word.as_str())?),
-        _ => bail!("behind documents stand numbers of languages and of reports, and a task"),
+    let (languages, files, task, alone) = match words {
+        [languages, files] => (languages, files, Task::Compare, false),
+        [languages, files, word] => (languages, files, named_task(word.as_str())?, false),
+        [languages, files, word, alone] => (
+            languages,
+            files,
+            named_task(word.as_str())?,
+            is_alone(alone.as_str())?,
+        ),
+        _ => bail!("behind documents stand numbers of languages and of files, a task, and alone"),
     };
-    show(
-        rt,
-        number(languages.as_str())?,
-        number(reports.as_str())?,
-        task,
-    )
+    let made = Made {
+        languages: number(languages.as_str())?,
+        files: number(files.as_str())?,
+        alone,
+    };
+    show(rt, made, task)
 }

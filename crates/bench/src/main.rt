@@ -3,7 +3,7 @@
 //!     bench count KEY [times] [without-plain]          counts standard input in a language of the bench table
 //!     bench search KEY [times]                         searches it for the openers of the language
 //!     bench files NUMBER.. [times]                     counts so many made files
-//!     bench documents LANGUAGES REPORTS [TASK]         prints a made document and parses it
+//!     bench documents LANGUAGES FILES [TASK [alone]]   prints a made document and parses it
 //!     bench example                                    each of them once, of standard input and of few files
 //!
 //! Each module says what it prints. Where `times` stands, the quickest of five runs is printed in nanoseconds.
@@ -38,7 +38,12 @@ fn show_example(rt: &HostRuntime) -> anyhow::Result<()> {
     count::show(rt, "Rust", &text, false, true)?;
     search::show(rt, "Rust", &text, false)?;
     files::show(rt, &[400, 800], false)?;
-    documents::show(rt, 3, 2, documents::Task::Compare)
+    let made = documents::Made {
+        languages: 3,
+        files: 2,
+        alone: false,
+    };
+    documents::show(rt, made, documents::Task::Compare)
 }
 
 /// Measures what the first word says.

@@ -16,31 +16,42 @@ pub fn made_table(alloc: Global, languages: usize) -> anyhow::Result<LanguageTab
     Ok(LanguageTable::from_json(alloc, text.as_bytes())?)
 }
 
-/// The report of a file that holds a text of another language.
-fn made_report(alloc: Global, number: usize, inside: LanguageType) -> anyhow::Result<Report> {
+/// The report of a file, which holds a text of another language where one is given.
+fn made_report(
+    alloc: Global,
+    number: usize,
+    inside: Option<LanguageType>,
+) -> anyhow::Result<Report> {
     let name = format!(in alloc; "./src/folder/file_{number}.txt")?;
     let mut report = Report::new(alloc, name);
     report.stats.blanks = number % 100;
     report.stats.code = number;
     report.stats.comments = number % 10;
-    let mut blob = CodeStats::new(alloc);
-    blob.code = number;
-    drop(report.stats.blobs.insert(inside, blob)?);
+    if let Some(inside) = inside {
+        let mut blob = CodeStats::new(alloc);
+        blob.code = number;
+        drop(report.stats.blobs.insert(inside, blob)?);
+    }
     Ok(report)
 }
 
 /// All languages of the table with so many reports each. Inside each file stands a text of the language listed before
-/// its own.
+/// its own, so that it has a report there too, or none where files are to be of one language alone.
 pub fn made_languages(
     alloc: Global,
     table: &LanguageTable,
     reports: usize,
+    alone: bool,
 ) -> anyhow::Result<Languages> {
     let mut languages = Languages::new(alloc);
     let listed = LanguageType::list(alloc, table)?;
     let mut before = None;
     for (language, _extensions) in &listed {
-        let inside = before.unwrap_or(*language);
+        let inside = if alone {
+            None
+        } else {
+            Some(before.unwrap_or(*language))
+        };
         for number in 0..reports {
             languages.add_report(*language, made_report(alloc, number, inside)?)?;
         }
