@@ -1,5 +1,4 @@
 pub mod FewNames
-pub mod Left
 pub mod Measured
 pub mod Members
 pub mod Names

@@ -1,7 +1,7 @@
 -- A row into which the members of an object were read, one after the other, has what stands at each key.
 use Rattle.std.proofs.Common.{◌≡◌, ℕ, List, [], Bool, true, false, cond, Option, Some, None, bytes_eq, codes}
 use Rattle.std.proofs.Common.{refl, sym, ap, ◌∙◌}
-use Rattle.serde_json.specs.Data.{Data, null, boolean, number, string, array, object, Members, no_members, member}
+use Rattle.serde_json.specs.Data.{Data, boolean, string, array, object, Members, no_members, member}
 use Rattle.serde_json.specs.Find.{get_member}
 use Rattle.tokei_table_json.specs.Filled.{put_name, put_text, put_truth, put_texts, put_pairs, put_tags, put_at}
 use Rattle.tokei_table_json.specs.Filled.{with_member, filled}
@@ -180,12 +180,3 @@ row_of_members key ms s =
     (picked (codes "env") put_texts (texts_at) (texts_same) ms s)
     (ap (λ x. pick (codes "contexts") (put_tags html) x ms) (no_tags html)
     ∙ picked (codes "contexts") (put_tags html) (tags_at html) (tags_same html) ms s)
-
-pub no_members_row : (key : List ℕ) (d : Data) → ((ms : Members) → d ≡ object ms → ⊥) → new_row key ≡ row_in key d
-unfolding row_in
-no_members_row key null h = refl
-no_members_row key (boolean b) h = refl
-no_members_row key (number n) h = refl
-no_members_row key (string t) h = refl
-no_members_row key (array ds) h = refl
-no_members_row key (object ms) h = absurd (h ms refl)

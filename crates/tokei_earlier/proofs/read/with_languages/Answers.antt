@@ -3,7 +3,7 @@ use Rattle.json.specs.Value.{members_view}
 use Rattle.tokei_earlier.specs.Reading.{with_languages}
 use Rattle.tokei_json_tree.specs.TreeData.{members_data}
 use Rattle.tokei_languages.specs.Seen.{languages_of}
-use Rattle.tokei_earlier.proofs.Left.{from, none_left}
+use Rattle.tokei_json_tree.proofs.Left.{from, none_left}
 use Rattle.tokei_earlier.proofs.read.with_languages.Goals as goal
 
 pub put_language-requires : goal.put_language-requires

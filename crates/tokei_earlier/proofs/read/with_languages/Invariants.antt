@@ -4,7 +4,7 @@ use Rattle.tokei_earlier.specs.Reading.{with_languages}
 use Rattle.tokei_json_tree.specs.Ordered.{AreMembersOrdered}
 use Rattle.tokei_json_tree.specs.TreeData.{members_data}
 use Rattle.tokei_languages.specs.Seen.{languages_of}
-use Rattle.tokei_earlier.proofs.Left.{Left}
+use Rattle.tokei_json_tree.proofs.Left.{Left}
 use Rattle.tokei_earlier.proofs.read.with_languages.Given as goal
 
 abbrev pub invariant-loop-member : goal.invariant-loop-member

@@ -8,7 +8,7 @@ use Rattle.tokei_json_tree.specs.Ordered.{IsOrdered}
 use Rattle.tokei_json_tree.specs.TreeData.{data_of, members_data}
 use Rattle.tokei_stats.specs.Seen.{blobs_of, entries_of, stats_of}
 use Rattle.tokei_stats.specs.Statistics.Statistics.{node}
-use Rattle.tokei_earlier.proofs.Left.{found, from, none_left, object_seen, skipped}
+use Rattle.tokei_json_tree.proofs.Left.{found, from, none_left, object_seen, skipped}
 use Rattle.tokei_earlier.proofs.reading.+statistics.Goals as goal
 
 pub statistics_in-loop-member-init : goal.statistics_in-loop-member-init

@@ -4,7 +4,7 @@ use Rattle.tokei_json_tree.specs.Ordered.{AreMembersOrdered}
 use Rattle.tokei_json_tree.specs.TreeData.{members_data}
 use Rattle.tokei_stats.specs.Seen.{blobs_of, entries_of}
 use Rattle.tokei_stats.specs.Statistics.Blobs.{none}
-use Rattle.tokei_earlier.proofs.Left.{Left}
+use Rattle.tokei_json_tree.proofs.Left.{Left}
 use Rattle.tokei_earlier.proofs.reading.+statistics.Given as goal
 
 abbrev pub invariant-statistics_in-loop-member : goal.invariant-statistics_in-loop-member

@@ -4,7 +4,8 @@ use Rattle.json.specs.Value.{items_view}
 use Rattle.tokei_earlier.specs.ReadReports.{all_reports_in}
 use Rattle.tokei_json_tree.specs.TreeData.{items_data}
 use Rattle.tokei_stats.specs.Reports.{report_of}
-use Rattle.tokei_earlier.proofs.Left.{from, none_left, pushed}
+use Rattle.tokei_json_tree.proofs.Left.{from, none_left}
+use Rattle.tokei_earlier.proofs.Pushed.{pushed}
 use Rattle.tokei_earlier.proofs.reading.all_reports_in.Goals as goal
 
 pub report_in-requires : goal.report_in-requires

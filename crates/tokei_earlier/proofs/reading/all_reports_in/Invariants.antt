@@ -4,7 +4,7 @@ use Rattle.tokei_earlier.specs.ReadReports.{all_reports_in}
 use Rattle.tokei_json_tree.specs.Ordered.{AreItemsOrdered}
 use Rattle.tokei_json_tree.specs.TreeData.{items_data}
 use Rattle.tokei_stats.specs.Reports.{report_of}
-use Rattle.tokei_earlier.proofs.Left.{Left}
+use Rattle.tokei_json_tree.proofs.Left.{Left}
 use Rattle.tokei_earlier.proofs.reading.all_reports_in.Given as goal
 
 abbrev pub invariant-loop-item : goal.invariant-loop-item

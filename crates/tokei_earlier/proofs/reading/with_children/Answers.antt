@@ -4,7 +4,7 @@ use Rattle.tokei_earlier.specs.ReadReports.{put_named, with_children}
 use Rattle.tokei_json.specs.LanguageMaps.{language_named}
 use Rattle.tokei_json_tree.specs.TreeData.{members_data}
 use Rattle.tokei_stats.specs.Reports.{children_of, reports_of}
-use Rattle.tokei_earlier.proofs.Left.{from, none_left}
+use Rattle.tokei_json_tree.proofs.Left.{from, none_left}
 use Rattle.tokei_earlier.proofs.reading.with_children.Goals as goal
 
 pub reports_in-requires : goal.reports_in-requires

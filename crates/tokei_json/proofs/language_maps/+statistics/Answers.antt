@@ -4,7 +4,7 @@ use Rattle.json.specs.declared.value.Value.{the_lemmas}
 use Rattle.tokei_json_tree.specs.Ordered.{IsOrdered}
 use Rattle.tokei_json_tree.specs.TreeData.{data_of, members_data}
 use Rattle.tokei_json.specs.LanguageMaps.{blobs_pass, each_passes, passes, statistics_pass}
-use Rattle.tokei_json.proofs.Left.{failed, found, from, none_left, object_seen, passed, skipped}
+use Rattle.tokei_json_tree.proofs.Left.{failed, found, from, none_left, object_seen, passed, skipped}
 use Rattle.tokei_json.proofs.language_maps.+statistics.Goals as goal
 
 pub statistics_pass-loop-member-init : goal.statistics_pass-loop-member-init

@@ -2,7 +2,7 @@ use Rattle.std.proofs.Common.{◌≡◌, ◌||◌, true, false, refl, sym, ap, �
 use Rattle.json.specs.Value.{members_view, value_view}
 use Rattle.tokei_json_tree.specs.TreeData.{data_of, members_data}
 use Rattle.tokei_json.specs.LanguageMaps.{language_passes, languages_pass, passes}
-use Rattle.tokei_json.proofs.Left.{failed, from, none_left, passed}
+use Rattle.tokei_json_tree.proofs.Left.{failed, from, none_left, passed}
 use Rattle.tokei_json.proofs.language_maps.languages_pass.Goals as goal
 
 pub language_passes-requires : goal.language_passes-requires

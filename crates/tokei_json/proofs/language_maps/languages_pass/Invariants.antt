@@ -2,9 +2,9 @@ use Rattle.json.specs.Value.{members_view}
 use Rattle.tokei_json_tree.specs.Ordered.{AreMembersOrdered}
 use Rattle.tokei_json_tree.specs.TreeData.{members_data}
 use Rattle.tokei_json.specs.LanguageMaps.{passes, languages_pass}
-use Rattle.tokei_json.proofs.Left.{Left}
+use Rattle.tokei_json_tree.proofs.Left.{AskedLeft}
 use Rattle.tokei_json.proofs.language_maps.languages_pass.Given as goal
 
 abbrev pub invariant-loop-member : goal.invariant-loop-member
 invariant-loop-member l =
-    Left (λ xs. languages_pass (passes l.table l.test) (members_data (members_view xs))) (λ xs. AreMembersOrdered (members_view xs)) l.member-items l.member-index
+    AskedLeft (λ xs. languages_pass (passes l.table l.test) (members_data (members_view xs))) (λ xs. AreMembersOrdered (members_view xs)) l.member-items l.member-index

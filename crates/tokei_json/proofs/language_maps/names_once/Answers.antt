@@ -5,7 +5,7 @@ use Rattle.tokei_json_tree.specs.TreeData.{data_of, members_data}
 use Rattle.tokei_table.specs.Row.{Row}
 use Rattle.tokei_json.specs.LanguageMaps.{all_names, has_both, language_named, names_once}
 use Rattle.tokei_json.proofs.FewNames.{few_once}
-use Rattle.tokei_json.proofs.Left.{failed, from, none_left, object_seen, passed}
+use Rattle.tokei_json_tree.proofs.Left.{failed, from, none_left, object_seen, passed}
 use Rattle.tokei_json.proofs.language_maps.names_once.Goals as goal
 
 names_asked : (rows : List Row) (d : Data) (ms : Members) → d ≡ object ms → names_once rows d ≡ all_names (λ k. not (has_both rows d (language_named rows k))) ms

@@ -4,7 +4,7 @@ use Rattle.tokei_json_tree.specs.TreeData.{data_of, members_data}
 use Rattle.json.specs.Value.{members_view, value_view}
 use Rattle.json.specs.declared.value.Value.{the_lemmas}
 use Rattle.tokei_json.specs.Layout.{are_blobs, blobs_stand, has_counts, is_statistics}
-use Rattle.tokei_json.proofs.Left.{failed, found, from, none_left, object_seen, passed, skipped}
+use Rattle.tokei_json_tree.proofs.Left.{failed, found, from, none_left, object_seen, passed, skipped}
 use Rattle.tokei_json.proofs.layout.+statistics.Goals as goal
 
 pub is_statistics-loop-member-init : goal.is_statistics-loop-member-init

@@ -2,7 +2,7 @@ use Rattle.std.proofs.Common.{◌≡◌, ◌||◌, true, false, refl, sym, ap, �
 use Rattle.json.specs.Value.{members_view, value_view}
 use Rattle.tokei_json_tree.specs.TreeData.{data_of, members_data}
 use Rattle.tokei_json.specs.Layout.{are_languages, is_language}
-use Rattle.tokei_json.proofs.Left.{failed, from, none_left, passed}
+use Rattle.tokei_json_tree.proofs.Left.{failed, from, none_left, passed}
 use Rattle.tokei_json.proofs.layout.are_languages.Goals as goal
 
 pub is_language-requires : goal.is_language-requires

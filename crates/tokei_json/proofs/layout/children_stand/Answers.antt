@@ -5,7 +5,7 @@ use Rattle.tokei_json_tree.specs.Ordered.{IsOrdered}
 use Rattle.tokei_json_tree.specs.TreeData.{data_of}
 use Rattle.tokei_table.specs.Layout.{stands_and}
 use Rattle.tokei_json.specs.Layout.{are_children, are_reports}
-use Rattle.tokei_json.proofs.Left.{failed, from, none_left, object_seen, passed}
+use Rattle.tokei_json_tree.proofs.Left.{failed, from, none_left, object_seen, passed}
 use Rattle.tokei_json.proofs.layout.children_stand.Goals as goal
 
 pub loop-member-init : goal.loop-member-init
