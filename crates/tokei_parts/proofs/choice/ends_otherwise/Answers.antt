@@ -1,5 +1,5 @@
-use Rattle.std.proofs.lemmas.Grind.{common_steps}
 use Rattle.std.proofs.Common.{arith}
+use Rattle.std.proofs.lemmas.Grind.{common_steps}
 use Rattle.tokei_parts.proofs.TokenEnds.{apart_at_end}
 use Rattle.tokei_parts.proofs.choice.ends_otherwise.Goals as goal
 

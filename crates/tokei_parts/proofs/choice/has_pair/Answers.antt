@@ -1,5 +1,5 @@
-use Rattle.std.proofs.lemmas.Grind.{common_steps}
 use Rattle.std.proofs.Common.{arith}
+use Rattle.std.proofs.lemmas.Grind.{common_steps}
 use Rattle.tokei_parts.proofs.choice.has_pair.Goals as goal
 
 pub loop-other-preserved : goal.loop-other-preserved

@@ -1,6 +1,6 @@
-use Rattle.tokei_parts.proofs.ShortTokens.{second_apart, three_stand}
-use Rattle.std.proofs.lemmas.Grind.{common_steps}
 use Rattle.std.proofs.Common.{arith, rules}
+use Rattle.std.proofs.lemmas.Grind.{common_steps}
+use Rattle.tokei_parts.proofs.ShortTokens.{second_apart, three_stand}
 use Rattle.tokei_parts.proofs.choice.stands.Goals as goal
 
 pub returns-in-len1-len1-up : goal.returns-in-len1-len1-up

@@ -1,5 +1,5 @@
-use Rattle.std.proofs.lemmas.Grind.{common_steps}
 use Rattle.std.proofs.Common.{arith}
+use Rattle.std.proofs.lemmas.Grind.{common_steps}
 use Rattle.tokei_parts.proofs.class.any_first.Goals as goal
 
 pub loop-token-preserved : goal.loop-token-preserved

@@ -1,7 +1,7 @@
-use Rattle.tokei_parts.specs.Class.{class_of}
 use Rattle.std.proofs.Common.{◌≡◌, ℕ, List, [], Some, None, ◌-◌, drop, take, true, false, sym, ap, subst, ◌∙◌, refl}
 use Rattle.tokei_table.specs.Bytes.{trim_start}
 use Rattle.tokei_table.specs.Row.{Row}
+use Rattle.tokei_parts.specs.Class.{class_of}
 use Rattle.tokei_parts.specs.CommentHeads.{HasCommentHead}
 use Rattle.tokei_parts.specs.ReadingOf.{row_in}
 use Rattle.tokei_parts.specs.declared.reading.Reading.{Reading}

@@ -1,5 +1,5 @@
-use Rattle.std.proofs.lemmas.Grind.{common_steps}
 use Rattle.std.proofs.Common.{arith}
+use Rattle.std.proofs.lemmas.Grind.{common_steps}
 use Rattle.tokei_parts.proofs.class.encloses.Goals as goal
 
 pub loop-pair-preserved : goal.loop-pair-preserved

@@ -1,5 +1,5 @@
-use Rattle.std.proofs.lemmas.Grind.{common_steps}
 use Rattle.std.proofs.Common.{not, sym, ap, ◌∙◌, arith}
+use Rattle.std.proofs.lemmas.Grind.{common_steps}
 use Rattle.tokei_parts.specs.CommentHeads.{ends_solid}
 use Rattle.tokei_parts.proofs.CommentHeads.{ends_solid-push}
 use Rattle.tokei_parts.proofs.class.ends_solid.Goals as goal

@@ -1,5 +1,5 @@
-use Rattle.std.proofs.lemmas.Grind.{common_steps}
 use Rattle.std.proofs.Common.{◌<◌, length, drop, sym, ◌∙◌, ap, arith, length-drop}
+use Rattle.std.proofs.lemmas.Grind.{common_steps}
 use Rattle.tokei_table.specs.FirstOpener.{first_opener}
 use Rattle.tokei_parts.proofs.Leading.{rest_is}
 use Rattle.tokei_parts.proofs.OpenersInLines.{first-below, place_within}

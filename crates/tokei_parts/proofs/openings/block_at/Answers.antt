@@ -1,4 +1,3 @@
-use Rattle.std.proofs.lemmas.Grind.{common_steps}
 use Rattle.std.proofs.Common.{◌≡◌, ◌+◌, ◌∙◌, length, drop, sym, arith, inl, inr}
 use Rattle.tokei_table.specs.Families.{family_of}
 use Rattle.tokei_table.specs.Family.TheVariants.{Markdown, HtmlLike, LinguaFranca, Plain, Rust, Jupyter}
@@ -75,7 +74,8 @@ returns-in-LinguaFranca-clause-block c =
     c.args.place.now.reading.now.levels LinguaFranca family c.if-reading-eq0.false
 
 pub rust_block-requires-clause-inside : goal.rust_block-requires-clause-inside
-rust_block-requires-clause-inside c = grind (arith, common_steps)
+rust_block-requires-clause-inside c =
+    omega (arith, c.requires.some, end_within c.args.place.now.reading.now.text.now c.args.place.now.at c.args.place.now.end c.requires.here.part.high c.requires.here.line)
 
 pub returns-in-Rust-clause-block : goal.returns-in-Rust-clause-block
 returns-in-Rust-clause-block c =

@@ -1,6 +1,3 @@
-use Rattle.tokei_parts.specs.Tally.{blocks_at}
-use Rattle.tokei_parts.specs.Openings.{block_in}
-use Rattle.tokei_parts.specs.RustChildren.{doc_child}
 use Rattle.std.proofs.Common.{◌≡◌, ℕ, ◌-◌, ◌<◌, None, List, length, take, drop, sym, ap, subst, ◌∙◌, arith, length-drop, option_map, inl, inr}
 use Rattle.std.specs.Prelude.{option_and_then}
 use Rattle.tokei_table.specs.Families.{family_of}
@@ -8,6 +5,9 @@ use Rattle.tokei_table.specs.Family.TheVariants.{Markdown, HtmlLike, LinguaFranc
 use Rattle.tokei_embedding.specs.Tags.{tag_block}
 use Rattle.tokei_embedding.specs.declared.tags.Tag.{Tag}
 use Rattle.tokei_embedding.specs.declared.tags.Tag.TheVariants.{Script, Style, Template}
+use Rattle.tokei_parts.specs.Tally.{blocks_at}
+use Rattle.tokei_parts.specs.Openings.{block_in}
+use Rattle.tokei_parts.specs.RustChildren.{doc_child}
 use Rattle.tokei_parts.specs.LinguaFrancaChildren.{target_child}
 use Rattle.tokei_parts.specs.MarkdownChildren.{fence_child}
 use Rattle.tokei_parts.specs.ReadingOf.{row_in}

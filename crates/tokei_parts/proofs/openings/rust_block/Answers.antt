@@ -1,8 +1,8 @@
+use Rattle.std.proofs.Common.{◌∙◌, sym, ap, drop, option_map, arith, length-take, ◌≡◌, None, Some, Option, refl}
+use Rattle.std.proofs.lemmas.Grind.{common_steps}
+use Rattle.tokei_embedding.specs.DocComments.{DocBlock, doc_block}
 use Rattle.tokei_parts.specs.Seen.{block_of}
 use Rattle.tokei_parts.specs.RustChildren.{doc_child}
-use Rattle.std.proofs.lemmas.Grind.{common_steps}
-use Rattle.std.proofs.Common.{◌∙◌, sym, ap, drop, option_map, arith, length-take, ◌≡◌, None, Some, Option, ℕ, refl}
-use Rattle.tokei_embedding.specs.DocComments.{DocBlock, doc_block}
 use Rattle.tokei_parts.proofs.DocSizes.{doc_size}
 use Rattle.tokei_parts.proofs.Leading.{rest_is}
 use Rattle.tokei_parts.proofs.openings.rust_block.Goals as goal

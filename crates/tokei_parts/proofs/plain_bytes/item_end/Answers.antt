@@ -1,5 +1,5 @@
-use Rattle.tokei_parts.proofs.ItemBytes.{comment_byte, string_byte}
 use Rattle.std.proofs.Common.{arith, slice_index}
+use Rattle.tokei_parts.proofs.ItemBytes.{comment_byte, string_byte}
 use Rattle.tokei_parts.proofs.plain_bytes.item_end.Goals as goal
 
 pub returns-in-DocString : goal.returns-in-DocString

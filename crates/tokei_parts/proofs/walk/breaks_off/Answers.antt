@@ -1,13 +1,13 @@
+use Rattle.std.proofs.Common.{◌≡◌, ◌∙◌, sym, ap, subst, is_some, Some, arith, refl}
+use Rattle.std.proofs.lemmas.Bool.{false≢true}
+use Rattle.tokei_parts.specs.Modes.{Chain}
+use Rattle.tokei_parts.specs.Places.{block_from, choice_from}
+use Rattle.tokei_parts.specs.Reached.{BreaksOff, StepsTo, Advances}
+use Rattle.tokei_parts.specs.Seen.{block_of, chain_of}
 use Rattle.tokei_parts.specs.declared.walk.Reach.{Reach}
 use Rattle.tokei_parts.specs.declared.walk.Move.TheVariants.{On, Turn, Rest, Child}
 use Rattle.tokei_parts.specs.declared.walk.Move.{Move}
 use Rattle.tokei_parts.specs.declared.place.Place.{Place}
-use Rattle.tokei_parts.specs.Modes.{Chain}
-use Rattle.std.proofs.lemmas.Bool.{false≢true}
-use Rattle.std.proofs.Common.{◌≡◌, ◌∙◌, sym, ap, subst, is_some, Some, arith, ℕ, refl}
-use Rattle.tokei_parts.specs.Places.{block_from, choice_from}
-use Rattle.tokei_parts.specs.Reached.{BreaksOff, StepsTo, Advances}
-use Rattle.tokei_parts.specs.Seen.{block_of, chain_of}
 use Rattle.tokei_parts.proofs.Reaching.{reach_here}
 use Rattle.tokei_parts.proofs.walk.breaks_off.Goals as goal
 use Rattle.tokei_parts.proofs.walk.breaks_off.Goals.{In-Child}

@@ -1,4 +1,3 @@
-use Rattle.tokei_parts.specs.declared.walk.PartEnd.TheVariants.{Broken}
 use Rattle.std.proofs.Common.{◌≡◌, ◌∙◌, refl, sym, ap, subst, arith, ℕ, ◌<◌, ◌≤◌, ◌-◌, Some}
 use Rattle.tokei_parts.specs.Items.{kind_in}
 use Rattle.tokei_parts.specs.Modes.{innermost}
@@ -7,6 +6,7 @@ use Rattle.tokei_parts.specs.Reached.{Reaches, part_stop}
 use Rattle.tokei_parts.specs.ReadingOf.{row_in, blocks_of}
 use Rattle.tokei_parts.specs.Seen.{chain_of, block_of}
 use Rattle.tokei_parts.specs.Walked.{Reads}
+use Rattle.tokei_parts.specs.declared.walk.PartEnd.TheVariants.{Broken}
 use Rattle.tokei_parts.proofs.LineEnds.{end_is}
 use Rattle.tokei_parts.proofs.Reaching.{end_in_text, front_none, reach_none}
 use Rattle.tokei_parts.proofs.walk.read_part.Goals as goal

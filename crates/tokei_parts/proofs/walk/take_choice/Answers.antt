@@ -1,4 +1,3 @@
-use Rattle.tokei_parts.specs.declared.walk.Move.TheVariants.{On, Turn, Rest, Child}
 use Rattle.std.proofs.Common.{◌≡◌, ◌<◌, ◌∙◌, ap, sym, ℕ, true, is_some, List, [], ◌-◌, take, drop, arith}
 use Rattle.std.proofs.lemmas.List.{append-nil}
 use Rattle.tokei_table.specs.RowOf.{pair_of}
@@ -11,6 +10,7 @@ use Rattle.tokei_parts.specs.Places.{block_here}
 use Rattle.tokei_parts.specs.Progress.{OpensInLine}
 use Rattle.tokei_parts.specs.SeenChoices.{choice_of}
 use Rattle.tokei_parts.specs.Seen.{chain_of}
+use Rattle.tokei_parts.specs.declared.walk.Move.TheVariants.{On, Turn, Rest, Child}
 use Rattle.tokei_parts.specs.declared.items.Enclosure as Code
 use Rattle.tokei_parts.specs.declared.reading.Reading.{Reading}
 use Rattle.tokei_parts.proofs.Blocks.{blocks_fit}

@@ -1,6 +1,6 @@
+use Rattle.std.proofs.Common.{◌∙◌, inl, inr, sym, ap, subst, arith, ◌≡◌, None, Some}
 use Rattle.tokei_parts.specs.SeenChoices.{enclosure_of}
 use Rattle.tokei_parts.specs.Items.{Enclosure, Mode}
-use Rattle.std.proofs.Common.{◌∙◌, inl, inr, sym, ap, subst, arith, ◌≡◌, None, Some}
 use Rattle.tokei_parts.specs.Modes.{innermost}
 use Rattle.tokei_parts.specs.Places.{choice_from}
 use Rattle.tokei_parts.specs.Reached.{Advances, GoesOn, Reaches, StepsTo}
