@@ -9,12 +9,14 @@ pub mod CommentHeads
 pub mod Cuts
 pub mod DocSizes
 pub mod Fits
+pub mod ItemBytes
 pub mod Leading
 pub mod LineEnd
 pub mod LineEnds
 pub mod Lines
 pub mod ListedLanguages
 pub mod NewlineHere
+pub mod NoChild
 pub mod OpenersInLines
 pub mod PartFronts
 pub mod PartReading
@@ -22,6 +24,7 @@ pub mod PartWhole
 pub mod Pieces
 pub mod PlainBytes
 pub mod Reaching
+pub mod ShortTokens
 pub mod Stack
 pub mod Stepping
 pub mod TokenEnds

@@ -48,13 +48,10 @@ fn add_tokens(begins: &mut ByteSet, tokens: &[String])
 pub fn beginnings(syntax: &Syntax) -> ByteSet
     ensures { result ≡ flags (begins_choice (row_of syntax.now)) 256 }
 {
-    let mut begins = ByteSet::empty();
-    begins.insert(b'\\');
+    let mut begins = beginnings_in_comment(syntax);
     add_openers(&mut begins, &syntax.quotes);
     add_openers(&mut begins, &syntax.verbatim_quotes);
     add_openers(&mut begins, &syntax.doc_quotes);
-    add_openers(&mut begins, &syntax.multi_line_comments);
-    add_openers(&mut begins, &syntax.nested_comments);
     add_tokens(&mut begins, &syntax.line_comment);
     begins
 }

@@ -6,7 +6,7 @@ ghost use Rattle.tokei_table_row.specs.RowOf.{pair_of, pairs_of, tokens_of, row_
 ghost use Rattle.tokei_parts.specs.Items.{Block};
 ghost use Rattle.tokei_parts.specs.Choice.{opened, any_begins, is_escape, has_pair, met_in_comment};
 ghost use Rattle.tokei_parts.specs.Choice.{choice_in_string, choice_in_comment, choice};
-ghost use Rattle.tokei_parts.specs.Choice.{comment_in_plain, opening_in_plain};
+ghost use Rattle.tokei_parts.specs.Choice.{opening_in_plain};
 ghost use Rattle.tokei_parts.specs.SeenChoices.{choice_of, mode_of};
 
 use crate::items::{Enclosure, ItemKind};
@@ -168,24 +168,6 @@ fn in_comment<'a>(syntax: &'a Syntax, closer: &[u8], text: &[u8]) -> Choice<'a>
     }
 }
 
-/// The choice in plain text where no string opens.
-#[inline(always)]
-fn comment_in_plain<'a>(syntax: &'a Syntax, text: &[u8]) -> Choice<'a>
-    ensures choice { (block : Option Block)
-        → choice_of block result ≡ comment_in_plain (row_of syntax.now) text.now }
-    ensures no_child { result ≢ Choice.ChildOpens }
-{
-    if let Some(pair) = opened(&syntax.multi_line_comments, text) {
-        Choice::Opens(ItemKind::MultiLineComment, pair)
-    } else if let Some(pair) = opened(&syntax.nested_comments, text) {
-        Choice::Opens(ItemKind::MultiLineComment, pair)
-    } else if any_begins(&syntax.line_comment, text) {
-        Choice::BeginsLineComment
-    } else {
-        Choice::TakesByte
-    }
-}
-
 /// The choice in plain text where no child opens and no escape stands.
 #[inline(always)]
 fn opening_in_plain<'a>(syntax: &'a Syntax, text: &[u8]) -> Choice<'a>
@@ -199,8 +181,14 @@ fn opening_in_plain<'a>(syntax: &'a Syntax, text: &[u8]) -> Choice<'a>
         Choice::Opens(ItemKind::VerbatimString, pair)
     } else if let Some(pair) = opened(&syntax.quotes, text) {
         Choice::Opens(ItemKind::OrdinaryString, pair)
+    } else if let Some(pair) = opened(&syntax.multi_line_comments, text) {
+        Choice::Opens(ItemKind::MultiLineComment, pair)
+    } else if let Some(pair) = opened(&syntax.nested_comments, text) {
+        Choice::Opens(ItemKind::MultiLineComment, pair)
+    } else if any_begins(&syntax.line_comment, text) {
+        Choice::BeginsLineComment
     } else {
-        comment_in_plain(syntax, text)
+        Choice::TakesByte
     }
 }
 

@@ -1,5 +1,6 @@
 //! What the texts of a language are searched and walked with.
-ghost use Rattle.std.specs.Prelude.{◌≡◌, ℕ, ◌+◌, ◌<◌, ◌≤◌, ◌==◌, false, length, map, IfOk, slice_index, slice_index_or};
+ghost use Rattle.std.specs.Prelude.{◌≡◌, ℕ, ◌+◌, ◌<◌, ◌≤◌, ◌==◌, false, [], ◌∷◌, ◌++◌};
+ghost use Rattle.std.specs.Prelude.{length, map, IfOk, slice_index, slice_index_or};
 ghost use Rattle.tokei_table.specs.FirstOpener.{first_opener};
 ghost use Rattle.tokei_table.specs.Lookups.{row_at};
 ghost use Rattle.tokei_table.specs.WellFormed.{IsWellFormed};
@@ -39,28 +40,6 @@ impl Model for LanguageMatchers {
 }
 
 impl LanguageMatchers {
-    /// The matchers of a language of the table. It fails where memory runs out.
-    fn new(
-        alloc: Global,
-        table: &LanguageTable,
-        language: LanguageType,
-    ) -> Result<LanguageMatchers, AllocError>
-        requires { language < length table.now }
-        ensures { IfOk result (λ m. m ≡ matchers_of (row_at table.now language)) }
-    {
-        let shared = SharedMatchers::new(alloc, table, language)?;
-        let syntax = table.syntax(language);
-        let begins = beginnings(syntax);
-        let begins_in_comment = beginnings_in_comment(syntax);
-        let family = Family::of_key(syntax.key.as_str());
-        Ok(LanguageMatchers {
-            shared,
-            begins,
-            begins_in_comment,
-            family,
-        })
-    }
-
     /// Those of its openers alone.
     pub fn shared(&self) -> &SharedMatchers
         ensures { result.now ≡ self.entry.now.openers }
@@ -157,6 +136,31 @@ impl LanguageMatchers {
     }
 }
 
+/// Adds the matchers of a language of the table to those of others. It fails where memory runs out.
+fn push_matchers(
+    all: &mut Vec<LanguageMatchers>,
+    alloc: Global,
+    table: &LanguageTable,
+    language: LanguageType,
+) -> Result<(), AllocError>
+    requires { language < length table.now }
+    ensures { IfOk result (λ _. all.new.items
+        ≡ all.old.items ++ matchers_of (row_at table.now language) ∷ []) }
+{
+    let shared = SharedMatchers::new(alloc, table, language)?;
+    let syntax = table.syntax(language);
+    let begins = beginnings(syntax);
+    let begins_in_comment = beginnings_in_comment(syntax);
+    let family = Family::of_key(syntax.key.as_str());
+    all.push(LanguageMatchers {
+        shared,
+        begins,
+        begins_in_comment,
+        family,
+    })?;
+    Ok(())
+}
+
 /// The matchers of each language of the table, in its order.
 pub fn all_matchers(
     alloc: Global,
@@ -168,7 +172,7 @@ pub fn all_matchers(
     let languages = LanguageType::list(alloc, table)?;
     let mut all = Vec::with_capacity(alloc, table.len())?;
     for (language, _) in languages.as_slice() {
-        all.push(LanguageMatchers::new(alloc, table, *language)?)?;
+        push_matchers(&mut all, alloc, table, *language)?;
     }
     Ok(all)
 }

@@ -1,6 +1,7 @@
 use Rattle.std.proofs.Common.{◌≡◌, ℕ, List, [], Some, None, ◌-◌, drop, take, true, false, sym, ap, subst, ◌∙◌, refl}
 use Rattle.tokei_table.specs.Bytes.{trim_start}
 use Rattle.tokei_table.specs.Row.{Row}
+use Rattle.tokei_parts.specs.Class.{class_of}
 use Rattle.tokei_parts.specs.CommentHeads.{HasCommentHead}
 use Rattle.tokei_parts.specs.ReadingOf.{row_in}
 use Rattle.tokei_parts.specs.declared.reading.Reading.{Reading}
@@ -38,3 +39,9 @@ returns-in_default c =
     let r : Reading = c.args.reading.now in
     let part : List ℕ = bytes c.args.text.now c.args.start c.args.stop in
     sym (comment_line (row_in r) r.docs_are_comments part (subst (λ (g : Row). HasCommentHead g part) r.row (c.begins_comment.ensures c.if-begins_comment.true)))
+
+pub returns-in_default-2 : goal.returns-in_default-2
+returns-in_default-2 c =
+    let r : Reading = c.args.reading.now in
+    c.class_of_line.ensures
+    ∙ ap (λ (g : Row). class_of g r.docs_are_comments (record { begun = None; bytes = bytes c.args.text.now c.args.start c.args.stop; ended = None })) r.row

@@ -1,4 +1,5 @@
 use Rattle.std.proofs.Common.{◌<◌, length, drop, sym, ◌∙◌, ap, arith, length-drop}
+use Rattle.std.proofs.lemmas.Grind.{common_steps}
 use Rattle.tokei_table.specs.FirstOpener.{first_opener}
 use Rattle.tokei_parts.proofs.Leading.{rest_is}
 use Rattle.tokei_parts.proofs.OpenersInLines.{first-below, place_within}
@@ -25,3 +26,9 @@ returns-in-Some-clause-within c =
     ∙ ap (first_opener c.args.matchers.now.openers)
     (rest_is c.args.start c.args.text.now)) in
     omega (arith, below, length-drop c.args.start c.args.text.now, c.requires.start)
+
+pub returns-in-None-clause-place : goal.returns-in-None-clause-place
+returns-in-None-clause-place c = grind (arith, common_steps)
+
+pub returns-in-Some-clause-place : goal.returns-in-Some-clause-place
+returns-in-Some-clause-place c = grind (arith, common_steps)

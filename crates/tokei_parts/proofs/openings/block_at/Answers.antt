@@ -1,6 +1,6 @@
-use Rattle.std.proofs.Common.{◌≡◌, ◌+◌, ◌∙◌, length, drop, sym}
+use Rattle.std.proofs.Common.{◌≡◌, ◌+◌, ◌∙◌, length, drop, sym, arith, inl, inr}
 use Rattle.tokei_table.specs.Families.{family_of}
-use Rattle.tokei_table.specs.Family.TheVariants.{Markdown, HtmlLike, LinguaFranca}
+use Rattle.tokei_table.specs.Family.TheVariants.{Markdown, HtmlLike, LinguaFranca, Plain, Rust, Jupyter}
 use Rattle.tokei_parts.specs.Lines.{first_line}
 use Rattle.tokei_parts.specs.ReadingOf.{row_in}
 use Rattle.tokei_parts.proofs.LineEnds.{end_within, end_is, end_behind}
@@ -72,3 +72,40 @@ returns-in-LinguaFranca-clause-block c =
     c.args.place.now.start c.args.place.now.at c.line_stop-to.result c.requires.here.part
     line c.args.place.now.reading.now.table.now c.args.place.now.reading.now.language
     c.args.place.now.reading.now.levels LinguaFranca family c.if-reading-eq0.false
+
+pub rust_block-requires-clause-inside : goal.rust_block-requires-clause-inside
+rust_block-requires-clause-inside c =
+    omega (arith, c.requires.some, end_within c.args.place.now.reading.now.text.now c.args.place.now.at c.args.place.now.end c.requires.here.part.high c.requires.here.line)
+
+pub returns-in-Rust-clause-block : goal.returns-in-Rust-clause-block
+returns-in-Rust-clause-block c =
+    let line : c.line_stop-to.result
+    ≡ c.args.place.now.at
+    + length (first_line (drop c.args.place.now.at c.args.place.now.reading.now.text.now)) =
+    end_is c.args.place.now.reading.now.text.now c.args.place.now.at c.args.place.now.end
+    c.line_stop-to.result c.requires.here.part.high c.requires.here.line
+    c.line_stop-to.ensures.more c.line_stop-to.ensures.last in
+    c.rust_block.ensures.block
+    ∙ block_is c.args.place.now.reading.now.text.now c.args.place.now.behind_child
+    c.args.place.now.start c.args.place.now.at c.line_stop-to.result c.requires.here.part
+    line c.args.place.now.reading.now.table.now c.args.place.now.reading.now.language
+    c.args.place.now.reading.now.levels Rust (sym c.args.place.now.reading.now.opens ∙ c.in-Rust.is) c.if-reading-eq0.false
+
+pub returns-in-Plain-clause-block : goal.returns-in-Plain-clause-block
+returns-in-Plain-clause-block c =
+    let line : c.line_stop-to.result
+    ≡ c.args.place.now.at
+    + length (first_line (drop c.args.place.now.at c.args.place.now.reading.now.text.now)) =
+    end_is c.args.place.now.reading.now.text.now c.args.place.now.at c.args.place.now.end
+    c.line_stop-to.result c.requires.here.part.high c.requires.here.line
+    c.line_stop-to.ensures.more c.line_stop-to.ensures.last in
+    elim c.in-Plain.is [
+      | inl e ↦ block_is c.args.place.now.reading.now.text.now c.args.place.now.behind_child
+          c.args.place.now.start c.args.place.now.at c.line_stop-to.result c.requires.here.part
+          line c.args.place.now.reading.now.table.now c.args.place.now.reading.now.language
+          c.args.place.now.reading.now.levels Plain (sym c.args.place.now.reading.now.opens ∙ e) c.if-reading-eq0.false
+      | inr e ↦ block_is c.args.place.now.reading.now.text.now c.args.place.now.behind_child
+          c.args.place.now.start c.args.place.now.at c.line_stop-to.result c.requires.here.part
+          line c.args.place.now.reading.now.table.now c.args.place.now.reading.now.language
+          c.args.place.now.reading.now.levels Jupyter (sym c.args.place.now.reading.now.opens ∙ e) c.if-reading-eq0.false
+    ]

@@ -1,4 +1,5 @@
 use Rattle.std.proofs.Common.{◌≡◌, ◌∙◌, ◌-◌, ℕ, ◌==◌, false, Option, None, Some, is_some, get_or, take, drop, refl, sym, arith, eq-eqb}
+use Rattle.std.proofs.lemmas.Grind.{common_steps}
 use Rattle.std.proofs.lemmas.Bool.Decides.{Decides-eqb}
 use Rattle.tokei_parts.specs.NamedLanguages.{by_word}
 use Rattle.tokei_parts.proofs.LineEnd.{not_true}
@@ -39,3 +40,6 @@ loop-i-preserved c = record {
         ∙ c.loop-i.invariant.same)
   ];
 }
+
+pub returns-then-is_some : goal.returns-then-is_some
+returns-then-is_some c = grind (arith, common_steps)

@@ -1,10 +1,13 @@
-use Rattle.std.proofs.Common.{◌≡◌, ℕ, ◌-◌, ◌<◌, None, List, length, take, drop, sym, ap, subst, ◌∙◌, arith, length-drop, option_map}
+use Rattle.std.proofs.Common.{◌≡◌, ℕ, ◌-◌, ◌<◌, None, List, length, take, drop, sym, ap, subst, ◌∙◌, arith, length-drop, option_map, inl, inr}
 use Rattle.std.specs.Prelude.{option_and_then}
 use Rattle.tokei_table.specs.Families.{family_of}
-use Rattle.tokei_table.specs.Family.TheVariants.{Markdown, HtmlLike, LinguaFranca}
+use Rattle.tokei_table.specs.Family.TheVariants.{Markdown, HtmlLike, LinguaFranca, Plain, Rust, Jupyter}
 use Rattle.tokei_embedding.specs.Tags.{tag_block}
 use Rattle.tokei_embedding.specs.declared.tags.Tag.{Tag}
 use Rattle.tokei_embedding.specs.declared.tags.Tag.TheVariants.{Script, Style, Template}
+use Rattle.tokei_parts.specs.Tally.{blocks_at}
+use Rattle.tokei_parts.specs.Openings.{block_in}
+use Rattle.tokei_parts.specs.RustChildren.{doc_child}
 use Rattle.tokei_parts.specs.LinguaFrancaChildren.{target_child}
 use Rattle.tokei_parts.specs.MarkdownChildren.{fence_child}
 use Rattle.tokei_parts.specs.ReadingOf.{row_in}
@@ -100,3 +103,33 @@ returns-in-LinguaFranca-clause-childless c = λ p low high.
     (option_map (target_child c.args.place.now.reading.now.table.now
     c.args.place.now.reading.now.language c.args.place.now.reading.now.text.now))
     (c.next_target.ensures.none p low high)
+
+pub returns-in-Rust-clause-childless : goal.returns-in-Rust-clause-childless
+returns-in-Rust-clause-childless c = λ p low high.
+    let inside : p < c.args.to = omega (arith, high, c.next_doc.ensures.high) in
+    sym (block_later c.args.place.now.reading.now.text.now c.args.place.now.behind_child
+    c.args.place.now.start c.args.place.now.at c.args.to p c.requires.here.part
+    c.requires.line low inside c.args.place.now.reading.now.table.now
+    c.args.place.now.reading.now.language c.args.place.now.reading.now.levels Rust
+    (sym c.args.place.now.reading.now.opens ∙ c.in-Rust.is) (λ e. omega (arith, e, c.if-reading-lt1.false)))
+    ∙ ap (option_map (doc_child c.args.place.now.reading.now.table.now c.args.place.now.reading.now.language)) (c.next_doc.ensures.none p low high)
+
+pub returns-in-Plain-clause-childless : goal.returns-in-Plain-clause-childless
+returns-in-Plain-clause-childless c = λ p low high. elim c.in-Plain.is [
+  | inl f ↦ sym (block_later c.args.place.now.reading.now.text.now c.args.place.now.behind_child
+      c.args.place.now.start c.args.place.now.at c.args.to p c.requires.here.part
+      c.requires.line low high c.args.place.now.reading.now.table.now
+      c.args.place.now.reading.now.language c.args.place.now.reading.now.levels Plain
+      (sym c.args.place.now.reading.now.opens ∙ f) (λ e. omega (arith, e, c.if-reading-lt1.false)))
+  | inr f ↦ sym (block_later c.args.place.now.reading.now.text.now c.args.place.now.behind_child
+      c.args.place.now.start c.args.place.now.at c.args.to p c.requires.here.part
+      c.requires.line low high c.args.place.now.reading.now.table.now
+      c.args.place.now.reading.now.language c.args.place.now.reading.now.levels Jupyter
+      (sym c.args.place.now.reading.now.opens ∙ f) (λ e. omega (arith, e, c.if-reading-lt1.false)))
+]
+
+pub returns-then-reading-lt1-clause-childless : goal.returns-then-reading-lt1-clause-childless
+returns-then-reading-lt1-clause-childless c = λ p low high.
+    let reading = c.args.place.now.reading.now in
+    let none : reading.levels ≡ 0 = omega (arith, c.if-reading-lt1.true) in
+    ap (λ n. blocks_at (block_in reading.table.now) n reading.language reading.text.now c.args.place.now.behind_child (drop p reading.text.now)) none

@@ -1,7 +1,13 @@
-use Rattle.std.proofs.Common.{◌≡◌, ◌∙◌, sym, ap, subst, is_some, Some, arith}
+use Rattle.std.proofs.Common.{◌≡◌, ◌∙◌, sym, ap, subst, is_some, Some, arith, refl}
+use Rattle.std.proofs.lemmas.Bool.{false≢true}
+use Rattle.tokei_parts.specs.Modes.{Chain}
 use Rattle.tokei_parts.specs.Places.{block_from, choice_from}
-use Rattle.tokei_parts.specs.Reached.{BreaksOff, StepsTo}
+use Rattle.tokei_parts.specs.Reached.{BreaksOff, StepsTo, Advances}
 use Rattle.tokei_parts.specs.Seen.{block_of, chain_of}
+use Rattle.tokei_parts.specs.declared.walk.Reach.{Reach}
+use Rattle.tokei_parts.specs.declared.walk.Move.TheVariants.{On, Turn, Rest, Child}
+use Rattle.tokei_parts.specs.declared.walk.Move.{Move}
+use Rattle.tokei_parts.specs.declared.place.Place.{Place}
 use Rattle.tokei_parts.proofs.Reaching.{reach_here}
 use Rattle.tokei_parts.proofs.walk.breaks_off.Goals as goal
 use Rattle.tokei_parts.proofs.walk.breaks_off.Goals.{In-Child}
@@ -48,3 +54,31 @@ returns-in-Child-clause-found c = λ _.
 pub returns-in-Child-clause-childless : goal.returns-in-Child-clause-childless
 returns-in-Child-clause-childless c = λ q low high.
     c.requires.childless q (omega (arith, low, (breaks (goal.at.returns-in-Child-clause-childless c).In-Child).same)) (omega (arith, high, c.in_ok-take_step.ensures.same))
+
+-- another choice leads on
+advances : (p : Place) (c : Chain) (r : Reach) (d : Chain) (s : Reach) (m : Move) → (m ≡ Child → ⊥) → StepsTo p c r d s m → Advances p c r d s
+advances p c r d s (On n) other step = step
+advances p c r d s (Turn n) other step = step
+advances p c r d s Rest other step = step
+advances p c r d s Child other step = absurd (other refl)
+
+pub returns-in_default : goal.returns-in_default
+returns-in_default c =
+    let step = advances c.args.part.now (chain_of c.args.stack.now.items) c.args.reach.now (chain_of c.take_step.new.stack.items)
+    c.take_step.new.reach c.in_ok-take_step.field-0 c.in_default.not-Child c.in_ok-take_step.ensures.steps in
+    record {
+      same = c.finds_child-opens.ensures.same;
+      childless = λ q low high. c.requires.childless q (omega (arith, low, step.on)) (omega (arith, high, c.in_ok-take_step.ensures.same));
+      found = λ e. absurd (false≢true e);
+      breaks = λ e. absurd (false≢true e);
+      advances = λ _. step;
+    }
+
+pub returns-in-Child-clause-advances : goal.returns-in-Child-clause-advances
+returns-in-Child-clause-advances c = λ e. absurd (false≢true (sym e))
+
+pub returns-in-Child-clause-same : goal.returns-in-Child-clause-same
+returns-in-Child-clause-same c = c.finds_child-opens.ensures.same
+
+pub returns-in_err-take_step-clause-same : goal.returns-in_err-take_step-clause-same
+returns-in_err-take_step-clause-same c = c.finds_child-opens.ensures.same

@@ -10,6 +10,7 @@ use Rattle.tokei_parts.specs.Places.{block_here}
 use Rattle.tokei_parts.specs.Progress.{OpensInLine}
 use Rattle.tokei_parts.specs.SeenChoices.{choice_of}
 use Rattle.tokei_parts.specs.Seen.{chain_of}
+use Rattle.tokei_parts.specs.declared.walk.Move.TheVariants.{On, Turn, Rest, Child}
 use Rattle.tokei_parts.specs.declared.items.Enclosure as Code
 use Rattle.tokei_parts.specs.declared.reading.Reading.{Reading}
 use Rattle.tokei_parts.proofs.Blocks.{blocks_fit}
@@ -20,6 +21,22 @@ use Rattle.tokei_parts.proofs.walk.take_choice.Goals as goal
 -- the choice at the place, for a stack
 abbrev at_stack : Reading → ℕ → List ℕ → List Code.Enclosure → Choice
 at_stack r l u es = choice (row_in r) (innermost (chain_of es)) (blocks_of r l u) u
+
+-- what a choice does is one of four
+turn_child : {n : ℕ} → Turn n ≡ Child → ⊥
+turn_child e = cc
+
+on_child : {n : ℕ} → On n ≡ Child → ⊥
+on_child e = cc
+
+rest_child : Rest ≡ Child → ⊥
+rest_child e = cc
+
+turn_on : {m n : ℕ} → Turn m ≡ On n → ⊥
+turn_on e = cc
+
+turn_rest : {n : ℕ} → Turn n ≡ Rest → ⊥
+turn_rest e = cc
 
 pub returns-in-TakesByte-clause-takes : goal.returns-in-TakesByte-clause-takes
 returns-in-TakesByte-clause-takes c =
@@ -157,3 +174,33 @@ unreachable-requires c =
     let calm : OpensInLine (blocks_of c.args.place.now.reading.now) = (blocks_fit c.args.place.now.reading.now).in_line in
     let empty : c.args.stack.now.items ≡ [] = c.in-None.ensures.items ∙ append-nil _ ∙ c.in-None.ensures.rest ∙ ap (λ n. take (n - 1) c.args.stack.now.items) c.in-None.ensures.cases.0 in
     no_pop (row_in c.args.place.now.reading.now) (blocks_of c.args.place.now.reading.now) c.args.place.now.behind_child c.args.place.now.reading.now.sound calm c.args.stack.now.items u empty here
+
+pub returns-in-Some-clause-child : goal.returns-in-Some-clause-child
+returns-in-Some-clause-child c = λ e. absurd (turn_child e)
+
+pub returns-in_ok-push-in-Opens-clause-child : goal.returns-in_ok-push-in-Opens-clause-child
+returns-in_ok-push-in-Opens-clause-child c = λ e. absurd (turn_child e)
+
+pub returns-in-Escapes-clause-child : goal.returns-in-Escapes-clause-child
+returns-in-Escapes-clause-child c = λ e. absurd (on_child e)
+
+pub returns-in-PassesOver-clause-child : goal.returns-in-PassesOver-clause-child
+returns-in-PassesOver-clause-child c = λ e. absurd (on_child e)
+
+pub returns-in-TakesByte-clause-child : goal.returns-in-TakesByte-clause-child
+returns-in-TakesByte-clause-child c = λ e. absurd (on_child e)
+
+pub returns-in-BeginsLineComment-clause-child : goal.returns-in-BeginsLineComment-clause-child
+returns-in-BeginsLineComment-clause-child c = λ e. absurd (rest_child e)
+
+pub returns-in-Some-clause-kept : goal.returns-in-Some-clause-kept
+returns-in-Some-clause-kept c = λ n e. absurd (turn_on e)
+
+pub returns-in_ok-push-in-Opens-clause-kept : goal.returns-in_ok-push-in-Opens-clause-kept
+returns-in_ok-push-in-Opens-clause-kept c = λ n e. absurd (turn_on e)
+
+pub returns-in_ok-push-in-Opens-clause-plain : goal.returns-in_ok-push-in-Opens-clause-plain
+returns-in_ok-push-in-Opens-clause-plain c = λ e. absurd (turn_rest e)
+
+pub returns-in-Some-clause-plain : goal.returns-in-Some-clause-plain
+returns-in-Some-clause-plain c = λ e. absurd (turn_rest e)

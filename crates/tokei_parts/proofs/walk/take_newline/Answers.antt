@@ -15,3 +15,9 @@ take_byte-requires-clause-plain c =
     p.reading.now.matchers.now (newline_here p c.requires.here c.requires.last c.requires.some)
     p.reading.now.matched (c.is_plain_byte.ensures c.if-is_plain_byte.true)
     (λ _. childless_here p c.requires.here c.requires.last c.requires.some)
+
+pub choose_at_newline-requires-clause-room : goal.choose_at_newline-requires-clause-room
+choose_at_newline-requires-clause-room c = c.requires.room
+
+pub choose_at_newline-requires-clause-some : goal.choose_at_newline-requires-clause-some
+choose_at_newline-requires-clause-some c = c.requires.some

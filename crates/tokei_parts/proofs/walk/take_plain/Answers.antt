@@ -46,3 +46,21 @@ returns-clause-plain_high c = elim (below_or c.args.reach.now.at c.plain_end-pla
   | inl h ↦ omega (arith, c.min.ensures, c.plain_end-plain.ensures.high h)
   | inr h ↦ omega (arith, h, c.requires.some)
 ]
+
+pub take_bytes-requires-clause-within : goal.take_bytes-requires-clause-within
+take_bytes-requires-clause-within c = λ low. omega (arith, c.min.ensures, c.plain_end-plain.ensures.high low)
+
+pub take_bytes-requires-clause-some : goal.take_bytes-requires-clause-some
+take_bytes-requires-clause-some c = c.requires.some
+
+pub returns-clause-same : goal.returns-clause-same
+returns-clause-same c = c.next_child-reach.ensures.same
+
+pub returns-clause-low : goal.returns-clause-low
+returns-clause-low c = c.take_bytes.ensures.low
+
+pub returns-clause-plain_low : goal.returns-clause-plain_low
+returns-clause-plain_low c = c.plain_end-plain.ensures.low
+
+pub returns-clause-goes_on : goal.returns-clause-goes_on
+returns-clause-goes_on c = c.take_bytes.ensures.goes_on

@@ -1,4 +1,5 @@
-use Rattle.std.proofs.Common.{◌≡◌, ◌∙◌, ◌+◌, inl, inr, refl, sym, subst, arith}
+use Rattle.std.proofs.Common.{◌≡◌, ◌∙◌, ◌+◌, inl, inr, refl, sym, subst, arith, ℕ, ◌≤◌, drop, length}
+use Rattle.tokei_parts.specs.Lines.{line_len}
 use Rattle.tokei_parts.specs.Modes.{Chain}
 use Rattle.tokei_parts.specs.Places.{text_of}
 use Rattle.tokei_parts.specs.Reached.{StepsTo}
@@ -7,7 +8,7 @@ use Rattle.tokei_parts.specs.declared.place.Place.{Place}
 use Rattle.tokei_parts.specs.declared.walk.Move.{Move}
 use Rattle.tokei_parts.specs.declared.walk.Move.TheVariants.{On, Turn}
 use Rattle.tokei_parts.specs.declared.walk.Reach.{Reach}
-use Rattle.tokei_parts.proofs.LineEnds.{end_is}
+use Rattle.tokei_parts.proofs.LineEnds.{end_is, end_within}
 use Rattle.tokei_parts.proofs.Reaching.{advance_goes, advance_rest, child_breaks, end_in_text, reach_here}
 use Rattle.tokei_parts.proofs.Walking.{MovesIn}
 use Rattle.tokei_parts.proofs.walk.take_step.Goals as goal
@@ -65,3 +66,51 @@ returns-in-Child-clause-steps c =
     let opens = subst (MovesIn p before behind reach.at) c.in-Child.is c.in_ok-taken.ensures.takes in
     subst (StepsTo p before reach behind further) (sym c.in-Child.is)
     (child_breaks p before behind reach further c.requires.some c.in_ok-taken.ensures.counted opens.0 opens.1 refl)
+
+pub overflow_add-reach : goal.overflow_add-reach
+overflow_add-reach c =
+    let p : Place = c.args.part.now in
+    let at : ℕ = c.args.reach.now.at in
+    let moves = MovesIn p (chain_of c.args.stack.now.items) (chain_of c.take_choice.new.stack.items) at in
+    let inside : c.in-On.len ≤ line_len (drop at (text_of p)) = elim c.in-On.is [
+      | inl e ↦ (subst moves e c.in_ok-taken.ensures.takes).within
+      | inr e ↦ (subst moves e c.in_ok-taken.ensures.takes).within
+    ] in
+    let low : at ≤ length (text_of p) = omega (arith, c.requires.some, end_in_text p c.requires.reached.1.begins) in
+    omega (arith, inside, end_within (text_of p) at (at + line_len (drop at (text_of p))) low refl)
+
+pub returns-in-On-clause-child : goal.returns-in-On-clause-child
+returns-in-On-clause-child c = λ e. c.in_ok-taken.ensures.child (sym c.in-On.taken-is ∙ e)
+
+pub returns-in-On-clause-plain : goal.returns-in-On-clause-plain
+returns-in-On-clause-plain c = λ e. c.in_ok-taken.ensures.plain (sym c.in-On.taken-is ∙ e)
+
+pub returns-in-On-clause-kept : goal.returns-in-On-clause-kept
+returns-in-On-clause-kept c = λ n e. c.in_ok-taken.ensures.kept n (sym c.in-On.taken-is ∙ e)
+
+pub returns-in-Rest-clause-child : goal.returns-in-Rest-clause-child
+returns-in-Rest-clause-child c = c.in_ok-taken.ensures.child
+
+pub returns-in-Rest-clause-plain : goal.returns-in-Rest-clause-plain
+returns-in-Rest-clause-plain c = c.in_ok-taken.ensures.plain
+
+pub returns-in-Rest-clause-kept : goal.returns-in-Rest-clause-kept
+returns-in-Rest-clause-kept c = c.in_ok-taken.ensures.kept
+
+pub returns-in-Child-clause-child : goal.returns-in-Child-clause-child
+returns-in-Child-clause-child c = c.in_ok-taken.ensures.child
+
+pub returns-in-Child-clause-plain : goal.returns-in-Child-clause-plain
+returns-in-Child-clause-plain c = c.in_ok-taken.ensures.plain
+
+pub returns-in-Child-clause-kept : goal.returns-in-Child-clause-kept
+returns-in-Child-clause-kept c = c.in_ok-taken.ensures.kept
+
+pub returns-in-On-clause-same : goal.returns-in-On-clause-same
+returns-in-On-clause-same c = refl
+
+pub returns-in-Rest-clause-same : goal.returns-in-Rest-clause-same
+returns-in-Rest-clause-same c = refl
+
+pub returns-in-Child-clause-same : goal.returns-in-Child-clause-same
+returns-in-Child-clause-same c = refl

@@ -1,4 +1,6 @@
-use Rattle.std.proofs.Common.{◌∙◌, inl, inr, sym, ap, subst, arith}
+use Rattle.std.proofs.Common.{◌∙◌, inl, inr, sym, ap, subst, arith, ◌≡◌, None, Some}
+use Rattle.tokei_parts.specs.SeenChoices.{enclosure_of}
+use Rattle.tokei_parts.specs.Items.{Enclosure, Mode}
 use Rattle.tokei_parts.specs.Modes.{innermost}
 use Rattle.tokei_parts.specs.Places.{choice_from}
 use Rattle.tokei_parts.specs.Reached.{Advances, GoesOn, Reaches, StepsTo}
@@ -71,3 +73,30 @@ returns-then-part-reach-clause-advances c = record {
   on = omega (arith, c.if-part-reach.true, c.requires.some);
   goes_on = reached (goal.at.returns-then-part-reach-clause-advances c).After-take_bytes;
 }
+
+-- in an item no text is plain
+no_item : (m : Mode) (item : Enclosure) → Some item ≡ m → m ≡ None → ⊥
+no_item m item within plain = cc
+
+pub unreachable-requires : goal.unreachable-requires
+unreachable-requires c = elim c.in-Rest.is [
+  | inl e ↦ no_item (innermost (chain_of c.args.stack.now.items)) (enclosure_of c.args.item) c.requires.within (c.in_ok-take_step.ensures.plain e)
+  | inr e ↦ c.choice_within-choice.ensures.no_child (c.in_ok-take_step.ensures.child e)
+]
+
+pub take_bytes-requires-clause-childless : goal.take_bytes-requires-clause-childless
+take_bytes-requires-clause-childless c = λ plain q low high.
+    absurd (no_item (innermost (chain_of c.args.stack.now.items)) (enclosure_of c.args.item) c.requires.within
+    (ap (λ es. innermost (chain_of es)) (sym c.deref.ensures.value) ∙ plain))
+
+pub take_bytes-requires-clause-within : goal.take_bytes-requires-clause-within
+take_bytes-requires-clause-within c = c.item_end-plain.ensures.high
+
+pub take_step-requires-clause-some : goal.take_step-requires-clause-some
+take_step-requires-clause-some c = c.if-part-reach.false
+
+pub returns-clause-child : goal.returns-clause-child
+returns-clause-child c = c.in_ok-take_step.ensures.same ∙ c.take_bytes.ensures.child
+
+pub returns-then-part-reach-clause-child : goal.returns-then-part-reach-clause-child
+returns-then-part-reach-clause-child c = c.take_bytes.ensures.child

@@ -1,0 +1,9 @@
+use Rattle.std.proofs.Common.{arith}
+use Rattle.std.proofs.lemmas.Grind.{common_steps}
+use Rattle.tokei_parts.proofs.choice.opened.Goals as goal
+
+pub loop-pair-preserved : goal.loop-pair-preserved
+loop-pair-preserved c = grind (arith, common_steps)
+
+pub returns-then-begins : goal.returns-then-begins
+returns-then-begins c = grind (arith, common_steps)
