@@ -1,5 +1,5 @@
 -- Answers to the goals of the call that counts a text with its steps.
-use Rattle.std.proofs.Common.{◌≡◌, ℕ, ◌≤◌, List, Err, sym, ap, subst, ◌∙◌, arith}
+use Rattle.std.proofs.Common.{◌≡◌, ℕ, Bool, ◌≤◌, List, Err, sym, ap, subst, ◌∙◌, arith}
 use Rattle.std.proofs.lemmas.Result.{err_from_is_err_and}
 use Rattle.tokei_table.specs.Row.{Row}
 use Rattle.tokei_count.specs.Countings.{text_steps, text_openings, text_weight, all_lines}
@@ -108,3 +108,9 @@ returns-clause-no_steps_without_openers c = λ quiet.
     let none = quiet_steps c.args.counter.now sound outermost_levels c.args.language c.args.text.now
     quiet.in_lines quiet.none in
     returns-clause-steps c ∙ ap capped none
+
+pub returns-clause-reads : goal.returns-clause-reads
+returns-clause-reads c =
+    c.in_ok-read.ensures.reads
+    ∙ ap (λ (rows : List Row). reading (languages_of rows) c.unwrap_or-docs_are_comments.result outermost_levels c.args.language c.args.text.now) c.table.ensures.table
+    ∙ ap (λ (docs : Bool). reading (languages_of c.args.counter.now) docs outermost_levels c.args.language c.args.text.now) c.unwrap_or-docs_are_comments.ensures
