@@ -22,6 +22,7 @@ pub mod NotebookReading
 pub mod OpeningsAhead
 pub mod QuietBlocks
 pub mod QuietSteps
+pub mod Refusals
 pub mod Running
 pub mod ShallowReadings
 pub mod Skipping

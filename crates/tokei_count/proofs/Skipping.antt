@@ -1,5 +1,6 @@
--- Where a reading stands that goes on by lines, and what an answer isn't.
-use Rattle.std.proofs.Common.{◌≡◌, ℕ, ◌+◌, ◌-◌, ◌<◌, ◌≤◌, ◌||◌, ◌⊎◌, inl, inr, Bool, true, false, not, List, [], ◌∷◌, length, drop, Ok, Err, None, sym, ap, ◌∙◌, arith}
+-- Places between lines that are skipped or lie within an item: their order, what is left behind them,
+-- and whether the part that begins there is walked.
+use Rattle.std.proofs.Common.{◌≡◌, ℕ, ◌+◌, ◌-◌, ◌<◌, ◌≤◌, ◌||◌, ◌⊎◌, inl, inr, Bool, true, false, not, List, [], ◌∷◌, length, drop, None, sym, ap, ◌∙◌, arith}
 use Rattle.std.proofs.lemmas.Bool.{false≢true}
 use Rattle.tokei_parts.specs.Class.{is_plain}
 use Rattle.tokei_parts.specs.Glance.{holds, is_walked}
@@ -10,10 +11,7 @@ use Rattle.tokei_parts.specs.Modes.{Chain, innermost}
 use Rattle.tokei_parts.proofs.LineEnds.{below_or}
 use Rattle.tokei_count.proofs.StepReading.{line_some}
 
--- an answer is no refusal
-pub answered : {T E : Type 0} (x : T) (e : E) → Ok x ≡ Err e → ⊥
-answered x e is = cc
-
+-- places in their order
 pub stays : (n : ℕ) → n ≤ n
 stays n = omega arith
 
@@ -48,18 +46,18 @@ ends_known os text start next here end = λ low. absurd (omega (arith, here, end
 pub ends_walked : (a n : ℕ) (b : Bool) → a ≡ n → a < n → b ≡ true
 ends_walked a n b here low = absurd (omega (arith, here, low))
 
--- less is left
+-- less is left of `n` bytes
 pub less_left : (n a b : ℕ) → a < n → a < b → n - b < n - a
 less_left n a b some on = omega arith
 
 pub none_left : (n a b : ℕ) → a < n → n ≤ b → n - b < n - a
 none_left n a b some end = omega arith
 
--- a line goes on
+-- a line has a byte, where the text has one
 pub line_on : (text : List ℕ) (at stop : ℕ) → at < length text → stop ≡ at + length (first_line (drop at text)) → at < stop
 line_on text at stop some is = omega (arith, is, line_some text at some)
 
--- where a line stops behind a place to which its newline was looked for, it has none before
+-- a line that stops behind `next`, up to which its newline was looked for, goes that far
 pub line_reaches : (newline next stop n m : ℕ) → newline ≤ next → newline ≤ m → next ≤ n → (newline < n → stop ≡ newline + 1) → next < stop → next ≤ m
 line_reaches newline next stop n m high line within more over = by_order (below_or newline next)
   where
@@ -67,11 +65,11 @@ line_reaches newline next stop n m high line within more over = by_order (below_
     by_order (inl low) = absurd (omega (arith, over, low, more (omega (arith, low, within))))
     by_order (inr near) = omega (arith, near, line)
 
--- it is read one way alone
+-- a test has one outcome
 pub one_way : (b : Bool) → b ≡ true → b ≡ false → ⊥
 one_way b e f = false≢true (sym f ∙ e)
 
--- a text of lines alone has no item around a place
+-- where no item is the innermost, none encloses the place
 pub no_chain : (c : Chain) → None ≡ innermost c → c ≡ []
 no_chain [] is = cc
 no_chain (e ∷ c) is = cc

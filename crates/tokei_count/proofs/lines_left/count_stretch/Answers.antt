@@ -7,7 +7,8 @@ use Rattle.tokei_stats.specs.Overflow.{CountsFit}
 use Rattle.tokei_stats.specs.Seen.{sums_of}
 use Rattle.tokei_stats.specs.Statistics.{plus}
 use Rattle.tokei_count.proofs.ClearLines.{clear_way, newline_at, newline_taken, start_taken}
-use Rattle.tokei_count.proofs.Skipping.{answered, goes_on}
+use Rattle.tokei_count.proofs.Refusals.{answered}
+use Rattle.tokei_count.proofs.Skipping.{goes_on}
 use Rattle.tokei_count.proofs.UnderWay.{counted_on, counts_fit, gone_on}
 use Rattle.tokei_count.proofs.lines_left.count_stretch.Goals as goal
 

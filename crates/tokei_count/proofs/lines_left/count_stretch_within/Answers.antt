@@ -2,7 +2,7 @@ use Rattle.std.proofs.Common.{◌+◌}
 use Rattle.tokei_count.proofs.CalmLines.{gone_within}
 use Rattle.tokei_count.proofs.ClearLines.{newline_taken, start_taken}
 use Rattle.tokei_count.proofs.LinesWithin.{counted_within, way_within}
-use Rattle.tokei_count.proofs.Skipping.{answered}
+use Rattle.tokei_count.proofs.Refusals.{answered}
 use Rattle.tokei_count.proofs.UnderWay.{counts_fit}
 use Rattle.tokei_count.proofs.lines_left.count_stretch_within.Goals as goal
 

@@ -1,6 +1,6 @@
 use denote.Ref.{Bor}
 use Rattle.std.specs.Prelude.{if◌then◌else◌}
-use Rattle.std.proofs.Common.{◌≡◌, IfOk, Bool, map, get_or, ◌≤◌, ◌<◌, ◌+◌, ◌-◌, ◌∙◌, ℕ, List, [], ◌∷◌, Err, ap, sym, subst, length, drop, refl, arith}
+use Rattle.std.proofs.Common.{◌≡◌, IfOk, Bool, map, get_or, ◌≤◌, ◌<◌, ◌+◌, ◌-◌, ◌∙◌, ℕ, List, [], ◌∷◌, ap, sym, subst, length, drop, refl, arith}
 use Rattle.std.proofs.lemmas.List.{drop_all}
 use Rattle.std.proofs.lemmas.Result.{err_from_is_err_and}
 use Rattle.tokei_table.specs.Row.{Row}
@@ -23,13 +23,13 @@ use Rattle.tokei_stats.specs.Overflow.{CountsFit, Fits}
 use Rattle.tokei_stats.specs.Seen.{sums_of, blobs_of, entries_of, stats_of}
 use Rattle.tokei_stats.specs.Statistics.{Counts, Statistics, Blobs, plus, at, put, joined, sum}
 use Rattle.tokei_stats.specs.Statistics.Statistics.{node}
-use Rattle.tokei_stats.specs.declared.error.CountError.TheVariants.{Overflow}
 use Rattle.tokei_parts.proofs.LineEnds.{end_later}
 use Rattle.tokei_count.proofs.ChildReading.{child_by, child_steps_by}
 use Rattle.tokei_count.proofs.NotebookReading.{known_at, begun, cells_begun, cells_split, cell_read, cell_fits, cell_blob_fits, cell_reading, cells_whole}
 use Rattle.tokei_count.proofs.StepReading.{knows_later, child_steps-is, steps-notebook, steps-no_notebook, capped-left, capped_middle, capped-twice, matchers_at, matchers_below}
 use Rattle.tokei_count.proofs.TextReading.{reading-no_notebook}
-use Rattle.tokei_count.proofs.Skipping.{answered, goes_on, goes_past, less_left, none_left}
+use Rattle.tokei_count.proofs.Refusals.{answered, same_refusal}
+use Rattle.tokei_count.proofs.Skipping.{goes_on, goes_past, less_left, none_left}
 use Rattle.tokei_count.proofs.UnderWay.{child_past, child_within, walked_past, first_end, all_read, all_made, unwalked, walked_fits, walked_on, child_deep, child_known, broken_fits, inner_fits, added_fits, broken_on}
 use Rattle.tokei_count.proofs.text_reading.+read_text.Goals as goal
 use Rattle.tokei_count.proofs.text_reading.+read_text.Goals.{read_child-then-child, read_child-else-child}
@@ -96,7 +96,6 @@ read_notebook-returns-in_err-add_blob-clause-overflow t c =
     let stats_is : stats_of c.in_ok-read.read.stats ≡ child_reading (languages_of c.args.reader.table.now) c.args.reader.docs_are_comments c.args.levels k = c.in_ok-read.ensures.reads ∙ read_is in
     let p = err_from_is_err_and c.from_residual-in_err-add_blob.result c.from_residual-in_err-add_blob.ensures.1 in
     rw (p.1, p.2) (λ is fits.
-    let same_err : c.in_err-add_blob.field-0.0 ≡ Overflow = cc in
     let bs : Blobs = blobs_of (entries_of c.loop-cell.blobs.entries) in
     let fit : Fits (joined (at bs k.language) (λ o. sum o
     (child_reading (languages_of c.args.reader.table.now) c.args.reader.docs_are_comments c.args.levels k))
@@ -104,7 +103,7 @@ read_notebook-returns-in_err-add_blob-clause-overflow t c =
     cell_blob_fits c.args.reader.table.now c.args.reader.docs_are_comments c.args.levels c.args.language c.args.text.now bs
     c.as_slice-cell-items.result.now c.loop-cell.cell-index c.cell-item.result c.loop-cell-test.true c.cell-item.is c.loop-cell.invariant.cells
     c.requires.notebook some fits in
-    c.in_err-add_blob.ensures.overflow (ap Err same_err) (subst (λ s. Fits (joined (at bs k.language) (λ o. sum o s) s)) (sym stats_is) fit))
+    c.in_err-add_blob.ensures.overflow (same_refusal _ _ is) (subst (λ s. Fits (joined (at bs k.language) (λ o. sum o s) s)) (sym stats_is) fit))
 
 pub read_notebook-loop-cell-preserved : goal.read_notebook-loop-cell-preserved
 read_notebook-loop-cell-preserved t c =
@@ -229,7 +228,7 @@ read_text-loop-so_far-preserved t c = record {
 
 pub read_text-returns-in_err-read_walked-clause-quiet : goal.read_text-returns-in_err-read_walked-clause-quiet
 read_text-returns-in_err-read_walked-clause-quiet t c = λ skipped lines none.
-    absurd (unwalked _ _ c.in_ok-clear.ensures.under_way skipped none (c.in_ok-clear.ensures.walked skipped (omega arith)))
+    absurd (unwalked _ _ c.in_ok-clear.ensures.under_way skipped none (c.in_ok-clear.ensures.walked skipped c.if-so_far-text.true))
 
 pub read_text-returns-clause-reads : goal.read_text-returns-clause-reads
 read_text-returns-clause-reads t c = c.assembled-stats.ensures ∙ all_read _ _ c.loop-so_far.invariant.under_way (omega (arith, c.loop-so_far-test.false))
@@ -286,8 +285,7 @@ pub read_walked-returns-in_err-read-in-Broken-clause-overflow : goal.read_walked
 read_walked-returns-in_err-read-in-Broken-clause-overflow t c =
     let p = err_from_is_err_and c.from_residual-in_err-read-in-Broken.result c.from_residual-in_err-read-in-Broken.ensures.1 in
     rw (p.1, p.2) (λ is fits.
-    let same : c.in_err-read-in-Broken.field-0.0 ≡ Overflow = cc in
-    c.in_err-read-in-Broken.ensures.overflow (ap Err same)
+    c.in_err-read-in-Broken.ensures.overflow (same_refusal _ _ is)
     (inner_fits c.args.reading.now c.args.so_far.now c.requires.under_way c.in-Broken.at c.in_ok-part.part.steps
     (chain_of c.read_part.new.stack.items) (block_of c.read_part.new.found)
     (subst (ReadsTo (row_in c.args.reading.now) (blocks_of c.args.reading.now) c.args.so_far.now.behind_child
@@ -301,8 +299,7 @@ read_walked-returns-in_err-add_blob-in-Broken-clause-overflow t c =
     let old : Blobs = blobs_of (entries_of c.args.so_far.now.blobs.entries) in
     let p = err_from_is_err_and c.from_residual-in_err-add_blob-in-Broken.result c.from_residual-in_err-add_blob-in-Broken.ensures.1 in
     rw (p.1, p.2) (λ is fits.
-    let same : c.in_err-add_blob-in-Broken.field-0.0 ≡ Overflow = cc in
-    c.in_err-add_blob-in-Broken.ensures.overflow (ap Err same)
+    c.in_err-add_blob-in-Broken.ensures.overflow (same_refusal _ _ is)
     (subst (λ s. Fits (joined (at old k.language) (λ o. sum o s) s)) (sym c.in_ok-read-in-Broken.ensures.reads)
     (added_fits c.args.reading.now c.args.so_far.now c.requires.under_way c.in-Broken.at c.in_ok-part.part.steps
     (chain_of c.read_part.new.stack.items) (block_of c.read_part.new.found)

@@ -6,7 +6,8 @@ use Rattle.tokei_count.proofs.StepReading.{line_some, lines_of-one}
 use Rattle.tokei_stats.specs.Seen.{sums_of}
 use Rattle.tokei_stats.specs.Statistics.{lines_of}
 use Rattle.tokei_parts.specs.ReadingOf.{openers_in}
-use Rattle.tokei_count.proofs.Skipping.{answered, goes_far, goes_from, goes_on, less_left, line_on, line_reaches, stays_below}
+use Rattle.tokei_count.proofs.Refusals.{answered}
+use Rattle.tokei_count.proofs.Skipping.{goes_far, goes_from, goes_on, less_left, line_on, line_reaches, stays_below}
 use Rattle.tokei_count.proofs.UnderWay.{counted_on, gone_on, none_more, counts_fit, skipped_more}
 use Rattle.tokei_count.proofs.text_reading.count_lines.Goals as goal
 use Rattle.tokei_count.proofs.text_reading.count_lines.Goals.{else-loop-at-test, then-loop-at-test+then-next-stop}

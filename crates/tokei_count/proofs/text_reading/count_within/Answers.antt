@@ -3,7 +3,8 @@ use Rattle.tokei_parts.specs.Lines.{first_line}
 use Rattle.tokei_count.proofs.CalmLines.{calm_more, gone_within, none_within}
 use Rattle.tokei_parts.proofs.LineEnds.{line_stops}
 use Rattle.tokei_count.proofs.LinesWithin.{counted_within}
-use Rattle.tokei_count.proofs.Skipping.{answered, goes_far, goes_on, less_left, line_on, line_reaches, stays_below}
+use Rattle.tokei_count.proofs.Refusals.{answered}
+use Rattle.tokei_count.proofs.Skipping.{goes_far, goes_on, less_left, line_on, line_reaches, stays_below}
 use Rattle.tokei_count.proofs.StepReading.{line_some, lines_of-one}
 use Rattle.tokei_stats.specs.Seen.{sums_of}
 use Rattle.tokei_stats.specs.Statistics.{lines_of}

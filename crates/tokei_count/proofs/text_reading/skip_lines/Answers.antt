@@ -1,14 +1,12 @@
 use Rattle.std.proofs.Common.{◌≤◌, ℕ, List, length, refl, sym, ap, ◌∙◌}
 use Rattle.std.specs.Global.{Vec}
-use Rattle.tokei_table.specs.Row.{Row}
-use Rattle.tokei_parts.specs.Lines.{line_len}
 use Rattle.tokei_parts.specs.Modes.{innermost}
-use Rattle.tokei_parts.specs.ReadingOf.{openers_in}
 use Rattle.tokei_parts.specs.Seen.{chain_of}
 use Rattle.tokei_parts.specs.SeenChoices.{mode_of}
 use Rattle.tokei_parts.specs.declared.items.Enclosure.{Enclosure}
 use Rattle.tokei_count.specs.NoComments.{has_no_comments}
-use Rattle.tokei_count.proofs.Skipping.{answered, ends_above, ends_by, ends_known, ends_walked, ends_with, goes_from, goes_on, goes_past, no_chain, no_item, one_way, stays, stays_below, walked_within}
+use Rattle.tokei_count.proofs.Refusals.{answered}
+use Rattle.tokei_count.proofs.Skipping.{ends_above, ends_by, ends_known, ends_walked, ends_with, goes_from, goes_on, no_chain, no_item, one_way, stays, stays_below, walked_within}
 use Rattle.tokei_count.proofs.StepReading.{knows_later}
 use Rattle.tokei_count.proofs.UnderWay.{walked_behind}
 use Rattle.tokei_count.proofs.text_reading.skip_lines.Goals as goal
