@@ -94,6 +94,15 @@ newline_at text start clear last low within below is =
     let same : get_or (take (clear - start) (drop start text)) last 0 ≡ get_or text (start + last) 0 = get_or-take (clear - start) (drop start text) last 0 near ∙ get_or-drop start text last 0 in
     (omega (arith, near, low), sym same ∙ (Decides-eqb (get_or (take (clear - start) (drop start text)) last 0) newline).0 is)
 
+-- the bytes up to that newline
+module _ (text : List ℕ) (start clear last : ℕ) (low : start ≤ clear) (within : clear ≤ length text) (below : last < length (take (clear - start) (drop start text)))
+    (is : (get_or (take (clear - start) (drop start text)) last 0 == newline) ≡ true) where
+  pub newline_taken : start + last + 1 ≡ length (take (start + last + 1) text)
+  newline_taken = let short = newline_at text start clear last low within below is in sym (length-take-le (start + last + 1) text (omega (arith, short.0, within)))
+
+  pub start_taken : start ≤ length (take (start + last + 1) text)
+  start_taken = omega (arith, newline_taken)
+
 -- the lines of the text from the place on whose last byte, before `stop`, is a newline
 module _ (r : Reading) (p : ReadSoFar) (clear stop : ℕ) (some : p.start < stop) (high : stop ≤ clear) (within : clear ≤ length r.text.now)
     (ends : get_or r.text.now (stop - 1) 0 ≡ newline)

@@ -1,6 +1,7 @@
 pub mod ByChoices
 pub mod CalmChoices
 pub mod CalmLines
+pub mod ChildReading
 pub mod ChildSums
 pub mod ClearLines
 pub mod Encloses
@@ -21,8 +22,10 @@ pub mod NotebookReading
 pub mod OpeningsAhead
 pub mod QuietBlocks
 pub mod QuietSteps
+pub mod Refusals
 pub mod Running
 pub mod ShallowReadings
+pub mod Skipping
 pub mod SpelledItems
 pub mod StepReading
 pub mod StepWeight

@@ -1,7 +1,7 @@
 -- The steps of a text, part by part.
 use Rattle.std.proofs.Common.{◌≡◌, ℕ, suc, zero, ◌+◌, ◌-◌, ◌<◌, ◌≤◌, ◌⊎◌, inl, inr, nat_le, Bool, true, false, cond, List, [], ◌∷◌, length, take, drop, Option, None, Some, is_some, map, get_or, refl, sym, ◌∙◌, ap, subst, arith, length-drop}
 use Rattle.std.proofs.lemmas.Bool.Decides.{nat_tests}
-use Rattle.std.proofs.lemmas.List.{drop-drop}
+use Rattle.std.proofs.lemmas.List.{drop-drop, length-map}
 use Rattle.tokei_table.specs.FirstOpener.{first_opener}
 use Rattle.tokei_table.specs.Lookups.{row_at}
 use Rattle.tokei_table.specs.Openers.{openers}
@@ -266,3 +266,6 @@ line_some text start h = some (drop start text) (omega (arith, length-drop start
     some : (u : List ℕ) → 0 < length u → 0 < length (first_line u)
     some [] h = absurd (omega (arith, h))
     some (b ∷ t) h = first_some b t
+
+pub matchers_below : (rows : List Row) (ms : List Matchers) (language i : ℕ) → i ≡ language → ms ≡ map matchers_of rows → language < length rows → i < length ms
+matchers_below rows ms language i at is known = omega (arith, at, known, ap length is, length-map rows matchers_of)

@@ -270,6 +270,9 @@ module _ (r : Reading) (p : ReadSoFar) (way : IsUnderWay r p) where
   -- a part that is walked to the end of its line, by so many steps
   module _ (class : Class) (behind made : ℕ) (s : Vec Enclosure)
       (part : ReadsTo (row_in r) (blocks_of r) p.behind_child r.docs_are_comments c (chain_of s.items) p.start text made (Line class behind)) where
+    pub walked_past : p.start < behind
+    walked_past = part.some
+
     pub walked_fits : Fits (reading_of r) → CountsFit (plus own (one_of class))
     walked_fits fits = line_sum_fits class behind made s part.some part.reads fits
 
@@ -317,6 +320,9 @@ module _ (r : Reading) (p : ReadSoFar) (way : IsUnderWay r p) where
 
     pub child_within : place + k.size ≤ length text
     child_within = omega (arith, breaks.reads.within, len, breaks.part.low, breaks.part.high)
+
+    pub child_past : p.start < place + k.size
+    child_past = omega (arith, breaks.reads.some, breaks.part.low)
 
     pub broken_fits : Fits (reading_of r) → CountsFit (plus own k.share)
     broken_fits fits = share_fits r.table.now r.docs_are_comments r.levels r.language text own blobs p.behind_child c rest counted before j k d breaks.reads way.lines fits

@@ -1,4 +1,4 @@
-use Rattle.std.proofs.Common.{◌∙◌, ◌+◌, ap, arith}
+use Rattle.std.proofs.Common.{◌+◌, length, ap, ◌∙◌, arith}
 use Rattle.tokei_table.specs.Row.{Row}
 use Rattle.tokei_parts.proofs.OpenersInLines.{opener_later}
 use Rattle.tokei_parts.specs.ReadingOf.{openers_in}
@@ -6,7 +6,9 @@ use Rattle.tokei_count.specs.NoComments.{counts_in}
 use Rattle.tokei_stats.specs.Overflow.{CountsFit}
 use Rattle.tokei_stats.specs.Seen.{sums_of}
 use Rattle.tokei_stats.specs.Statistics.{plus}
-use Rattle.tokei_count.proofs.ClearLines.{clear_way, newline_at}
+use Rattle.tokei_count.proofs.ClearLines.{clear_way, newline_at, newline_taken, start_taken}
+use Rattle.tokei_count.proofs.Refusals.{answered}
+use Rattle.tokei_count.proofs.Skipping.{goes_on}
 use Rattle.tokei_count.proofs.UnderWay.{counted_on, counts_fit, gone_on}
 use Rattle.tokei_count.proofs.lines_left.count_stretch.Goals as goal
 
@@ -61,3 +63,18 @@ returns-clause-next c =
     let e = c.plain_end-clear in
     let short = newline_at r.text.now p.start e.result c.in-Some.last e.ensures.low (omega (arith, e.ensures.high, q.within)) c.in-Some.ensures.0.high c.in-Some.ensures.1 in
     opener_later (openers_in r) r.text.now p.start (p.start + c.in-Some.last + 1) c.args.next (omega arith) (omega (arith, short.0, e.ensures.high)) q.next
+
+pub returns-clause-overflow : goal.returns-clause-overflow
+returns-clause-overflow c = λ is fits. answered _ _ is
+
+pub slice_bounds-count_lines-end : goal.slice_bounds-count_lines-end
+slice_bounds-count_lines-end c =
+    let e = c.plain_end-clear in
+    newline_taken c.args.reading.now.text.now c.args.so_far.now.start e.result c.in-Some.last e.ensures.low
+    (goes_on e.result c.args.next (length c.args.reading.now.text.now) e.ensures.high c.requires.within) c.in-Some.ensures.0.high c.in-Some.ensures.1
+
+pub count_lines-requires : goal.count_lines-requires
+count_lines-requires c =
+    let e = c.plain_end-clear in
+    start_taken c.args.reading.now.text.now c.args.so_far.now.start e.result c.in-Some.last e.ensures.low
+    (goes_on e.result c.args.next (length c.args.reading.now.text.now) e.ensures.high c.requires.within) c.in-Some.ensures.0.high c.in-Some.ensures.1

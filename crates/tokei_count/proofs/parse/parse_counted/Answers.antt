@@ -1,5 +1,5 @@
 -- Answers to the goals of the call that counts a text with its steps.
-use Rattle.std.proofs.Common.{◌≡◌, ℕ, ◌≤◌, List, Err, sym, ap, subst, ◌∙◌, arith}
+use Rattle.std.proofs.Common.{◌≡◌, ℕ, Bool, ◌≤◌, List, sym, ap, subst, ◌∙◌, arith}
 use Rattle.std.proofs.lemmas.Result.{err_from_is_err_and}
 use Rattle.tokei_table.specs.Row.{Row}
 use Rattle.tokei_count.specs.Countings.{text_steps, text_openings, text_weight, all_lines}
@@ -8,9 +8,9 @@ use Rattle.tokei_count.specs.PlainReading.{reading, outermost_levels}
 use Rattle.tokei_count.specs.Steps.{capped}
 use Rattle.tokei_stats.specs.Overflow.{Fits}
 use Rattle.tokei_stats.specs.Seen.{stats_of}
-use Rattle.tokei_stats.specs.declared.error.CountError.TheVariants.{Overflow}
 use Rattle.tokei_count.proofs.LineWeight.{lines-weight, reading-fits, reading-fits_by_length}
 use Rattle.tokei_count.proofs.QuietSteps.{quiet_steps}
+use Rattle.tokei_count.proofs.Refusals.{same_refusal}
 use Rattle.tokei_count.proofs.StepWeight.{steps-weight}
 use Rattle.tokei_count.proofs.StepsBetween.{steps-between}
 use Rattle.tokei_count.proofs.TableBounds.{have_tokens, capped-low, capped-more}
@@ -70,8 +70,7 @@ returns-in_err-read-clause-no_overflow_without_notebooks c = λ none.
     subst (λ (rows : List Row). Fits (read rows)) (sym c.table.ensures.table) fits in
     let p = err_from_is_err_and c.from_residual.result c.from_residual.ensures.1 in
     rw (p.1, p.2) (λ is.
-    let same_err : c.in_err-read.field-0.0 ≡ Overflow = cc in
-    c.in_err-read.ensures.overflow (ap Err same_err) here)
+    c.in_err-read.ensures.overflow (same_refusal _ _ is) here)
 
 pub returns-clause-openings_at_most_steps : goal.returns-clause-openings_at_most_steps
 returns-clause-openings_at_most_steps c =
@@ -99,8 +98,7 @@ returns-in_err-read-clause-no_overflow_of_light_texts c = λ light.
     subst (λ (rows : List Row). Fits (read rows)) (sym c.table.ensures.table) fits in
     let p = err_from_is_err_and c.from_residual.result c.from_residual.ensures.1 in
     rw (p.1, p.2) (λ is.
-    let same_err : c.in_err-read.field-0.0 ≡ Overflow = cc in
-    c.in_err-read.ensures.overflow (ap Err same_err) here)
+    c.in_err-read.ensures.overflow (same_refusal _ _ is) here)
 
 pub returns-clause-no_steps_without_openers : goal.returns-clause-no_steps_without_openers
 returns-clause-no_steps_without_openers c = λ quiet.
@@ -108,3 +106,9 @@ returns-clause-no_steps_without_openers c = λ quiet.
     let none = quiet_steps c.args.counter.now sound outermost_levels c.args.language c.args.text.now
     quiet.in_lines quiet.none in
     returns-clause-steps c ∙ ap capped none
+
+pub returns-clause-reads : goal.returns-clause-reads
+returns-clause-reads c =
+    c.in_ok-read.ensures.reads
+    ∙ ap (λ (rows : List Row). reading (languages_of rows) c.unwrap_or-docs_are_comments.result outermost_levels c.args.language c.args.text.now) c.table.ensures.table
+    ∙ ap (λ (docs : Bool). reading (languages_of c.args.counter.now) docs outermost_levels c.args.language c.args.text.now) c.unwrap_or-docs_are_comments.ensures

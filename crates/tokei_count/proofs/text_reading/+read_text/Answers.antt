@@ -1,13 +1,18 @@
-use Rattle.std.proofs.Common.{◌≡◌, map, get_or, ◌≤◌, ◌<◌, ◌+◌, ◌-◌, ◌∙◌, ℕ, List, [], ◌∷◌, Err, ap, sym, subst, length, drop, refl, arith}
+use denote.Ref.{Bor}
+use Rattle.std.specs.Prelude.{if◌then◌else◌}
+use Rattle.std.proofs.Common.{◌≡◌, IfOk, Bool, map, get_or, ◌≤◌, ◌<◌, ◌+◌, ◌-◌, ◌∙◌, ℕ, List, [], ◌∷◌, ap, sym, subst, length, drop, refl, arith}
 use Rattle.std.proofs.lemmas.List.{drop_all}
 use Rattle.std.proofs.lemmas.Result.{err_from_is_err_and}
 use Rattle.tokei_table.specs.Row.{Row}
+use Rattle.tokei_table.specs.Bytes.{trim}
+use Rattle.tokei_embedding.specs.DocComments.{doc_text}
 use Rattle.tokei_notebook.specs.Cells.{cell_of, AreKnown}
 use Rattle.tokei_notebook.specs.declared.notebook.Cell.{Cell}
 use Rattle.tokei_parts.specs.Items.{Block}
 use Rattle.tokei_parts.specs.Matchers.{Matchers}
 use Rattle.tokei_count.specs.NotebookCells.{cell_block, cell_blocks}
-use Rattle.tokei_count.specs.Languages.{languages_of}
+use Rattle.tokei_table.specs.Tokens.{has_tokens}
+use Rattle.tokei_count.specs.Languages.{is_notebook, languages_of}
 use Rattle.tokei_count.specs.Gathered.{gathered}
 use Rattle.tokei_count.specs.PlainReading.{child_reading}
 use Rattle.tokei_parts.specs.ReadingOf.{row_in, blocks_of}
@@ -16,15 +21,18 @@ use Rattle.tokei_count.specs.Steps.{made_steps, child_steps, capped, sum_over}
 use Rattle.tokei_parts.specs.Walked.{ReadsTo}
 use Rattle.tokei_stats.specs.Overflow.{CountsFit, Fits}
 use Rattle.tokei_stats.specs.Seen.{sums_of, blobs_of, entries_of, stats_of}
-use Rattle.tokei_stats.specs.Statistics.{Counts, Blobs, plus, at, put, joined, sum}
+use Rattle.tokei_stats.specs.Statistics.{Counts, Statistics, Blobs, plus, at, put, joined, sum}
 use Rattle.tokei_stats.specs.Statistics.Statistics.{node}
-use Rattle.tokei_stats.specs.declared.error.CountError.TheVariants.{Overflow}
 use Rattle.tokei_parts.proofs.LineEnds.{end_later}
+use Rattle.tokei_count.proofs.ChildReading.{child_by, child_steps_by}
 use Rattle.tokei_count.proofs.NotebookReading.{known_at, begun, cells_begun, cells_split, cell_read, cell_fits, cell_blob_fits, cell_reading, cells_whole}
-use Rattle.tokei_count.proofs.StepReading.{knows_later, child_steps-is, steps-notebook, steps-no_notebook, capped-left, capped_middle, capped-twice, matchers_at}
+use Rattle.tokei_count.proofs.StepReading.{knows_later, child_steps-is, steps-notebook, steps-no_notebook, capped-left, capped_middle, capped-twice, matchers_at, matchers_below}
 use Rattle.tokei_count.proofs.TextReading.{reading-no_notebook}
-use Rattle.tokei_count.proofs.UnderWay.{first_end, all_read, all_made, unwalked, walked_fits, walked_on, child_deep, child_known, broken_fits, inner_fits, added_fits, broken_on}
+use Rattle.tokei_count.proofs.Refusals.{answered, same_refusal}
+use Rattle.tokei_count.proofs.Skipping.{goes_on, goes_past, less_left, none_left}
+use Rattle.tokei_count.proofs.UnderWay.{child_past, child_within, walked_past, first_end, all_read, all_made, unwalked, walked_fits, walked_on, child_deep, child_known, broken_fits, inner_fits, added_fits, broken_on}
 use Rattle.tokei_count.proofs.text_reading.+read_text.Goals as goal
+use Rattle.tokei_count.proofs.text_reading.+read_text.Goals.{read_child-then-child, read_child-else-child}
 
 pub read_notebook-returns-then-levels-eq0-clause-reads : goal.read_notebook-returns-then-levels-eq0-clause-reads
 read_notebook-returns-then-levels-eq0-clause-reads t c = c.new-stats.ensures
@@ -88,7 +96,6 @@ read_notebook-returns-in_err-add_blob-clause-overflow t c =
     let stats_is : stats_of c.in_ok-read.read.stats ≡ child_reading (languages_of c.args.reader.table.now) c.args.reader.docs_are_comments c.args.levels k = c.in_ok-read.ensures.reads ∙ read_is in
     let p = err_from_is_err_and c.from_residual-in_err-add_blob.result c.from_residual-in_err-add_blob.ensures.1 in
     rw (p.1, p.2) (λ is fits.
-    let same_err : c.in_err-add_blob.field-0.0 ≡ Overflow = cc in
     let bs : Blobs = blobs_of (entries_of c.loop-cell.blobs.entries) in
     let fit : Fits (joined (at bs k.language) (λ o. sum o
     (child_reading (languages_of c.args.reader.table.now) c.args.reader.docs_are_comments c.args.levels k))
@@ -96,7 +103,7 @@ read_notebook-returns-in_err-add_blob-clause-overflow t c =
     cell_blob_fits c.args.reader.table.now c.args.reader.docs_are_comments c.args.levels c.args.language c.args.text.now bs
     c.as_slice-cell-items.result.now c.loop-cell.cell-index c.cell-item.result c.loop-cell-test.true c.cell-item.is c.loop-cell.invariant.cells
     c.requires.notebook some fits in
-    c.in_err-add_blob.ensures.overflow (ap Err same_err) (subst (λ s. Fits (joined (at bs k.language) (λ o. sum o s) s)) (sym stats_is) fit))
+    c.in_err-add_blob.ensures.overflow (same_refusal _ _ is) (subst (λ s. Fits (joined (at bs k.language) (λ o. sum o s) s)) (sym stats_is) fit))
 
 pub read_notebook-loop-cell-preserved : goal.read_notebook-loop-cell-preserved
 read_notebook-loop-cell-preserved t c =
@@ -190,10 +197,16 @@ read_text-loop-so_far-init t c = record {
   known = λ low. absurd (omega (arith, low));
 }
 
-pub read_text-line_end-end-requires-clause-known : goal.read_text-line_end-end-requires-clause-known
-read_text-line_end-end-requires-clause-known t c = λ high.
-    end_later c.args.text.now c.loop-so_far.so_far.start c.skip_lines.new.so_far.start c.loop-so_far.end c.in_ok-clear.ensures.on
-    (c.loop-so_far.invariant.line (omega (arith, c.in_ok-clear.ensures.on, high))) high
+pub read_text-line_end-end-requires : goal.read_text-line_end-end-requires
+read_text-line_end-end-requires t c =
+    let e = c.in_ok-clear.ensures in record {
+      start = e.under_way.within;
+      known = λ high.
+          end_later c.args.text.now c.loop-so_far.so_far.start c.skip_lines.new.so_far.start c.loop-so_far.end e.on
+          (c.loop-so_far.invariant.line (goes_on c.loop-so_far.so_far.start c.skip_lines.new.so_far.start c.loop-so_far.end e.on high)) high;
+      behind = e.low;
+      clear = e.clear;
+    }
 
 pub read_text-loop-so_far-preserved-in-Continue-branch-2 : goal.read_text-loop-so_far-preserved-in-Continue-branch-2
 read_text-loop-so_far-preserved-in-Continue-branch-2 t c =
@@ -215,7 +228,7 @@ read_text-loop-so_far-preserved t c = record {
 
 pub read_text-returns-in_err-read_walked-clause-quiet : goal.read_text-returns-in_err-read_walked-clause-quiet
 read_text-returns-in_err-read_walked-clause-quiet t c = λ skipped lines none.
-    absurd (unwalked _ _ c.in_ok-clear.ensures.under_way skipped none (c.in_ok-clear.ensures.walked skipped (omega arith)))
+    absurd (unwalked _ _ c.in_ok-clear.ensures.under_way skipped none (c.in_ok-clear.ensures.walked skipped c.if-so_far-text.true))
 
 pub read_text-returns-clause-reads : goal.read_text-returns-clause-reads
 read_text-returns-clause-reads t c = c.assembled-stats.ensures ∙ all_read _ _ c.loop-so_far.invariant.under_way (omega (arith, c.loop-so_far-test.false))
@@ -272,8 +285,7 @@ pub read_walked-returns-in_err-read-in-Broken-clause-overflow : goal.read_walked
 read_walked-returns-in_err-read-in-Broken-clause-overflow t c =
     let p = err_from_is_err_and c.from_residual-in_err-read-in-Broken.result c.from_residual-in_err-read-in-Broken.ensures.1 in
     rw (p.1, p.2) (λ is fits.
-    let same : c.in_err-read-in-Broken.field-0.0 ≡ Overflow = cc in
-    c.in_err-read-in-Broken.ensures.overflow (ap Err same)
+    c.in_err-read-in-Broken.ensures.overflow (same_refusal _ _ is)
     (inner_fits c.args.reading.now c.args.so_far.now c.requires.under_way c.in-Broken.at c.in_ok-part.part.steps
     (chain_of c.read_part.new.stack.items) (block_of c.read_part.new.found)
     (subst (ReadsTo (row_in c.args.reading.now) (blocks_of c.args.reading.now) c.args.so_far.now.behind_child
@@ -287,8 +299,7 @@ read_walked-returns-in_err-add_blob-in-Broken-clause-overflow t c =
     let old : Blobs = blobs_of (entries_of c.args.so_far.now.blobs.entries) in
     let p = err_from_is_err_and c.from_residual-in_err-add_blob-in-Broken.result c.from_residual-in_err-add_blob-in-Broken.ensures.1 in
     rw (p.1, p.2) (λ is fits.
-    let same : c.in_err-add_blob-in-Broken.field-0.0 ≡ Overflow = cc in
-    c.in_err-add_blob-in-Broken.ensures.overflow (ap Err same)
+    c.in_err-add_blob-in-Broken.ensures.overflow (same_refusal _ _ is)
     (subst (λ s. Fits (joined (at old k.language) (λ o. sum o s) s)) (sym c.in_ok-read-in-Broken.ensures.reads)
     (added_fits c.args.reading.now c.args.so_far.now c.requires.under_way c.in-Broken.at c.in_ok-part.part.steps
     (chain_of c.read_part.new.stack.items) (block_of c.read_part.new.found)
@@ -319,3 +330,114 @@ read_walked-returns-in_ok-add_blob-in-Broken-clause-under_way t c =
     (c.in_ok-add_blob-in-Broken.ensures.ok ∙ ap (λ s'. put old k.language (joined (at old k.language) (λ s. sum s s') s')) c.in_ok-read-in-Broken.ensures.reads)
     refl (c.capped_sum-so_far.ensures ∙ ap (λ m. capped (c.args.so_far.now.inner_steps + m)) c.in_ok-read-in-Broken.ensures.steps)
     refl refl refl (c.in_ok-part.ensures.same ∙ c.requires.under_way.searched) c.requires.walked
+
+pub read_walked-overflow_sub-so_far : goal.read_walked-overflow_sub-so_far
+read_walked-overflow_sub-so_far t c = child_within c.args.reading.now c.args.so_far.now c.requires.under_way c.in-Broken.at c.in_ok-part.part.steps
+    (chain_of c.read_part.new.stack.items) (block_of c.read_part.new.found)
+    (subst (ReadsTo (row_in c.args.reading.now) (blocks_of c.args.reading.now) c.args.so_far.now.behind_child
+    c.args.reading.now.docs_are_comments (chain_of c.args.so_far.now.stack.items) (chain_of c.read_part.new.stack.items) c.args.so_far.now.start
+    c.args.reading.now.text.now c.in_ok-part.part.steps) c.in-Broken.is c.in_ok-part.ensures.reads)
+    (c.in_ok-part.ensures.found c.in-Broken.at c.in-Broken.is)
+
+pub read_walked-returns-in_ok-add_blob-in-Broken-clause-on : goal.read_walked-returns-in_ok-add_blob-in-Broken-clause-on
+read_walked-returns-in_ok-add_blob-in-Broken-clause-on t c = child_past c.args.reading.now c.args.so_far.now c.requires.under_way c.in-Broken.at c.in_ok-part.part.steps
+    (chain_of c.read_part.new.stack.items) (block_of c.read_part.new.found)
+    (subst (ReadsTo (row_in c.args.reading.now) (blocks_of c.args.reading.now) c.args.so_far.now.behind_child
+    c.args.reading.now.docs_are_comments (chain_of c.args.so_far.now.stack.items) (chain_of c.read_part.new.stack.items) c.args.so_far.now.start
+    c.args.reading.now.text.now c.in_ok-part.part.steps) c.in-Broken.is c.in_ok-part.ensures.reads)
+    (c.in_ok-part.ensures.found c.in-Broken.at c.in-Broken.is)
+
+pub read_walked-returns-in_ok-so_far-in-Line-clause-on : goal.read_walked-returns-in_ok-so_far-in-Line-clause-on
+read_walked-returns-in_ok-so_far-in-Line-clause-on t c = walked_past c.args.reading.now c.args.so_far.now c.requires.under_way c.in-Line.class c.in-Line.behind c.in_ok-part.part.steps
+    c.read_part.new.stack (subst (ReadsTo (row_in c.args.reading.now) (blocks_of c.args.reading.now) c.args.so_far.now.behind_child
+    c.args.reading.now.docs_are_comments (chain_of c.args.so_far.now.stack.items) (chain_of c.read_part.new.stack.items) c.args.so_far.now.start
+    c.args.reading.now.text.now c.in_ok-part.part.steps) c.in-Line.is c.in_ok-part.ensures.reads)
+
+pub read_walked-returns-in_ok-add_blob-in-Broken-clause-overflow : goal.read_walked-returns-in_ok-add_blob-in-Broken-clause-overflow
+read_walked-returns-in_ok-add_blob-in-Broken-clause-overflow t c = λ is fits. answered _ _ is
+
+pub read_walked-returns-in_ok-so_far-in-Line-clause-overflow : goal.read_walked-returns-in_ok-so_far-in-Line-clause-overflow
+read_walked-returns-in_ok-so_far-in-Line-clause-overflow t c = λ is fits. answered _ _ is
+
+pub read_text-returns-clause-overflow : goal.read_text-returns-clause-overflow
+read_text-returns-clause-overflow t c = λ is fits. answered _ _ is
+
+pub read_notebook-returns-clause-overflow : goal.read_notebook-returns-clause-overflow
+read_notebook-returns-clause-overflow t c = λ is fits. answered _ _ is
+
+pub read_notebook-returns-then-levels-eq0-clause-overflow : goal.read_notebook-returns-then-levels-eq0-clause-overflow
+read_notebook-returns-then-levels-eq0-clause-overflow t c = λ is fits. answered _ _ is
+
+pub read_text-skip_lines-requires : goal.read_text-skip_lines-requires
+read_text-skip_lines-requires t c = record { under_way = c.loop-so_far.invariant.under_way; known = c.loop-so_far.invariant.known }
+
+pub read_text-loop-so_far-smaller-in-Continue-branch-2 : goal.read_text-loop-so_far-smaller-in-Continue-branch-2
+read_text-loop-so_far-smaller-in-Continue-branch-2 t c = less_left (length c.args.text.now) c.loop-so_far.so_far.start c.read_walked.new.so_far.start c.loop-so_far-test.true
+    (goes_past c.loop-so_far.so_far.start c.skip_lines.new.so_far.start c.read_walked.new.so_far.start c.in_ok-clear.ensures.on c.in_ok-read_walked.ensures.on)
+
+pub read_walked-overflow_add-so_far-in-Broken : goal.read_walked-overflow_add-so_far-in-Broken
+read_walked-overflow_add-so_far-in-Broken t c =
+    let within = child_within c.args.reading.now c.args.so_far.now c.requires.under_way c.in-Broken.at c.in_ok-part.part.steps
+    (chain_of c.read_part.new.stack.items) (block_of c.read_part.new.found)
+    (subst (ReadsTo (row_in c.args.reading.now) (blocks_of c.args.reading.now) c.args.so_far.now.behind_child
+    c.args.reading.now.docs_are_comments (chain_of c.args.so_far.now.stack.items) (chain_of c.read_part.new.stack.items) c.args.so_far.now.start
+    c.args.reading.now.text.now c.in_ok-part.part.steps) c.in-Broken.is c.in_ok-part.ensures.reads)
+    (c.in_ok-part.ensures.found c.in-Broken.at c.in-Broken.is) in
+    omega (arith, within)
+
+pub read_text-read_walked-requires : goal.read_text-read_walked-requires
+read_text-read_walked-requires t c = (
+  omega (arith, c.decreases),
+  (
+    record { table = refl; docs_are_comments = refl; skips = refl },
+    (
+      c.requires.indexed,
+      (
+        c.in_ok-clear.ensures.under_way,
+        (c.if-so_far-text.true, (c.line_end-end.ensures, λ skipped. c.in_ok-clear.ensures.walked skipped c.if-so_far-text.true)),
+      ),
+    ),
+  ),
+)
+
+pub read_child-returns : goal.read_child-returns
+read_child-returns t c =
+    let r = c.args.reading.now in
+    let k : Block = block_of c.args.child.now in
+    let inner_is : c.if-child.inner.now ≡ k.contents =
+    elim c.if-child.branch [
+      | read_child-then-child w ↦
+          ap (λ (b : Bor (List ℕ)). b.now) w.inner-is ∙ w.trim-inner.ensures ∙ ap trim (w.deref.ensures.value ∙ c.in_ok-doc.ensures w.if-child.true)
+          ∙ ap (λ (b : Bool). if b then trim (doc_text c.args.child.now.contents.now) else c.args.child.now.contents.now) (sym w.if-child.true)
+      | read_child-else-child w ↦
+          ap (λ (b : Bor (List ℕ)). b.now) w.inner-is
+          ∙ ap (λ (b : Bool). if b then trim (doc_text c.args.child.now.contents.now) else c.args.child.now.contents.now) (sym w.if-child.false)
+    ] in
+    let e = c.read_text.ensures in
+    let same = child_by c.args.reader r k c.if-child.inner.now c.requires.reader c.requires.deep inner_is in record {
+      reads = subst (λ (s : Statistics). IfOk c.read_text.result (λ x. stats_of x.stats ≡ s)) same e.reads;
+      steps = subst (λ (n : ℕ). IfOk c.read_text.result (λ x. x.steps ≡ capped n))
+          (child_steps_by c.args.reader r k c.if-child.inner.now c.requires.reader c.requires.deep inner_is) e.steps;
+      overflow = λ is fits. e.overflow is (subst Fits (sym same) fits);
+    }
+
+pub read_text-bounds-reader-index : goal.read_text-bounds-reader-index
+read_text-bounds-reader-index t c =
+    matchers_below c.args.reader.table.now c.args.reader.matchers.now c.args.language c.index.result c.index.ensures c.requires.indexed c.requires.known
+
+pub read_text-offset_bounds-reader-index : goal.read_text-offset_bounds-reader-index
+read_text-offset_bounds-reader-index t c =
+    omega (
+      arith,
+      matchers_below c.args.reader.table.now c.args.reader.matchers.now c.args.language c.index.result c.index.ensures c.requires.indexed c.requires.known,
+    )
+
+pub read_text-new-so_far-requires : goal.read_text-new-so_far-requires
+read_text-new-so_far-requires t c = record {
+  lines = sym (c.is_notebook.ensures ∙ ap is_notebook c.syntax-syntax.ensures.row) ∙ c.if-is_notebook.false;
+  tokens = ap has_tokens (sym c.syntax-syntax.ensures.row) ∙ c.syntax-syntax.ensures.tokens;
+}
+
+pub read_text-loop-so_far-smaller : goal.read_text-loop-so_far-smaller
+read_text-loop-so_far-smaller t c =
+    none_left (length c.args.text.now) c.loop-so_far.so_far.start c.skip_lines.new.so_far.start c.loop-so_far-test.true c.if-so_far-text.false

@@ -6,7 +6,9 @@ use Rattle.tokei_count.proofs.StepReading.{line_some, lines_of-one}
 use Rattle.tokei_stats.specs.Seen.{sums_of}
 use Rattle.tokei_stats.specs.Statistics.{lines_of}
 use Rattle.tokei_parts.specs.ReadingOf.{openers_in}
-use Rattle.tokei_count.proofs.UnderWay.{gone_on, none_more, counts_fit, skipped_more}
+use Rattle.tokei_count.proofs.Refusals.{answered}
+use Rattle.tokei_count.proofs.Skipping.{goes_far, goes_from, goes_on, less_left, line_on, line_reaches, stays_below}
+use Rattle.tokei_count.proofs.UnderWay.{counted_on, gone_on, none_more, counts_fit, skipped_more}
 use Rattle.tokei_count.proofs.text_reading.count_lines.Goals as goal
 use Rattle.tokei_count.proofs.text_reading.count_lines.Goals.{else-loop-at-test, then-loop-at-test+then-next-stop}
 
@@ -49,4 +51,48 @@ returns-clause-more c some =
           line_goes_over c.args.reading.now.text.now c.loop-at.at w.line_front-front.result.newline c.args.next w.line_stop-stop.result
           w.loop-at-test.true c.requires.within e.high e.line e.found w.line_stop-stop.ensures.more w.line_stop-stop.ensures.last
           w.if-next-stop.true
+    ]
+
+pub loop-at-smaller : goal.loop-at-smaller
+loop-at-smaller c =
+    let text : List ℕ = c.args.reading.now.text.now in
+    let at : ℕ = c.loop-at.at in
+    let e = c.line_front-front.ensures in
+    let stop_is : c.line_stop-stop.result ≡ at + length (first_line (drop at text)) =
+    line_stops text at c.line_front-front.result.newline c.args.next c.line_stop-stop.result c.loop-at-test.true c.requires.within e.high e.line
+    e.found c.line_stop-stop.ensures.more c.line_stop-stop.ensures.last c.if-next-stop.false in
+    less_left c.args.next at c.line_stop-stop.result c.loop-at-test.true
+    (line_on text at c.line_stop-stop.result (goes_far at c.args.next (length text) c.loop-at-test.true c.requires.within) stop_is)
+
+pub class_of_plain-requires : goal.class_of_plain-requires
+class_of_plain-requires c =
+    let text : List ℕ = c.args.reading.now.text.now in
+    let at : ℕ = c.loop-at.at in
+    let e = c.line_front-front.ensures in
+    let stop_is : c.line_stop-stop.result ≡ at + length (first_line (drop at text)) =
+    line_stops text at c.line_front-front.result.newline c.args.next c.line_stop-stop.result c.loop-at-test.true c.requires.within e.high e.line
+    e.found c.line_stop-stop.ensures.more c.line_stop-stop.ensures.last c.if-next-stop.false in
+    record {
+      order = goes_from at c.line_stop-stop.result _ stop_is;
+      within = c.line_stop-stop.ensures.within;
+      low = e.low;
+      solid = e.blank;
+    }
+
+pub returns-clause-under_way : goal.returns-clause-under_way
+returns-clause-under_way c =
+    counted_on c.args.reading.now c.args.so_far.now c.in_ok-so_far.field-0 c.loop-at.at c.loop-at.lines c.in_ok-so_far.ensures.ok c.loop-at.invariant.under_way
+
+pub returns-clause-overflow : goal.returns-clause-overflow
+returns-clause-overflow c = λ is fits. answered _ _ is
+
+pub returns-clause-clear : goal.returns-clause-clear
+returns-clause-clear c =
+    let at : ℕ = c.loop-at.at in
+    elim c.loop-at-test.branch [
+      | else-loop-at-test w ↦ goes_on c.args.next at _ w.loop-at-test.false (stays_below at _)
+      | then-loop-at-test+then-next-stop w ↦
+          let e = w.line_front-front.ensures in
+          line_reaches w.line_front-front.result.newline c.args.next w.line_stop-stop.result (length c.args.reading.now.text.now) _
+          e.high e.line c.requires.within w.line_stop-stop.ensures.more w.if-next-stop.true
     ]

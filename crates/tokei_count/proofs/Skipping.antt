@@ -1,0 +1,82 @@
+-- Places between lines that are skipped or lie within an item: their order, what is left behind them,
+-- and whether the part that begins there is walked.
+use Rattle.std.proofs.Common.{◌≡◌, ℕ, ◌+◌, ◌-◌, ◌<◌, ◌≤◌, ◌||◌, ◌⊎◌, inl, inr, Bool, true, false, not, List, [], ◌∷◌, length, drop, None, sym, ap, ◌∙◌, arith}
+use Rattle.std.proofs.lemmas.Bool.{false≢true}
+use Rattle.tokei_parts.specs.Class.{is_plain}
+use Rattle.tokei_parts.specs.Glance.{holds, is_walked}
+use Rattle.tokei_parts.specs.Glanced.{Knows}
+use Rattle.tokei_parts.specs.Items.{Mode}
+use Rattle.tokei_parts.specs.Lines.{first_line}
+use Rattle.tokei_parts.specs.Modes.{Chain, innermost}
+use Rattle.tokei_parts.proofs.LineEnds.{below_or}
+use Rattle.tokei_count.proofs.StepReading.{line_some}
+
+-- places in their order
+pub stays : (n : ℕ) → n ≤ n
+stays n = omega arith
+
+pub stays_below : (n m : ℕ) → n ≤ n + m
+stays_below n m = omega arith
+
+pub goes_on : (a b c : ℕ) → a ≤ b → b ≤ c → a ≤ c
+goes_on a b c low high = omega arith
+
+pub goes_past : (a b c : ℕ) → a ≤ b → b < c → a < c
+goes_past a b c low high = omega arith
+
+pub goes_far : (a b c : ℕ) → a < b → b ≤ c → a < c
+goes_far a b c low high = omega arith
+
+pub goes_from : (a b m : ℕ) → b ≡ a + m → a ≤ b
+goes_from a b m is = omega arith
+
+-- at the end of a text of `n` bytes
+pub ends_above : (a b n : ℕ) → a ≤ n → b ≡ n → a ≤ b
+ends_above a b n low end = omega arith
+
+pub ends_with : (a b n : ℕ) → a ≡ n → b ≡ n → a ≤ b
+ends_with a b n here end = omega arith
+
+pub ends_by : (a b n m : ℕ) → a ≡ n → b ≡ n → a ≤ b + m
+ends_by a b n m here end = omega arith
+
+pub ends_known : (os : List (List ℕ)) (text : List ℕ) (start next : ℕ) → start ≡ length text → next ≡ length text → Knows os text start next
+ends_known os text start next here end = λ low. absurd (omega (arith, here, end, low))
+
+pub ends_walked : (a n : ℕ) (b : Bool) → a ≡ n → a < n → b ≡ true
+ends_walked a n b here low = absurd (omega (arith, here, low))
+
+-- less is left of `n` bytes
+pub less_left : (n a b : ℕ) → a < n → a < b → n - b < n - a
+less_left n a b some on = omega arith
+
+pub none_left : (n a b : ℕ) → a < n → n ≤ b → n - b < n - a
+none_left n a b some end = omega arith
+
+-- a line has a byte, where the text has one
+pub line_on : (text : List ℕ) (at stop : ℕ) → at < length text → stop ≡ at + length (first_line (drop at text)) → at < stop
+line_on text at stop some is = omega (arith, is, line_some text at some)
+
+-- a line that stops behind `next`, up to which its newline was looked for, goes that far
+pub line_reaches : (newline next stop n m : ℕ) → newline ≤ next → newline ≤ m → next ≤ n → (newline < n → stop ≡ newline + 1) → next < stop → next ≤ m
+line_reaches newline next stop n m high line within more over = by_order (below_or newline next)
+  where
+    by_order : (newline < next) ⊎ (next ≤ newline) → next ≤ m
+    by_order (inl low) = absurd (omega (arith, over, low, more (omega (arith, low, within))))
+    by_order (inr near) = omega (arith, near, line)
+
+-- a test has one outcome
+pub one_way : (b : Bool) → b ≡ true → b ≡ false → ⊥
+one_way b e f = false≢true (sym f ∙ e)
+
+-- where no item is the innermost, none encloses the place
+pub no_chain : (c : Chain) → None ≡ innermost c → c ≡ []
+no_chain [] is = cc
+no_chain (e ∷ c) is = cc
+
+pub no_item : (c : Chain) (m : Mode) → m ≡ innermost c → c ≡ [] → is_plain m ≡ false → ⊥
+no_item c m is empty within = false≢true (sym within ∙ ap is_plain (is ∙ ap innermost empty))
+
+-- within an item all is walked
+pub walked_within : (os : List (List ℕ)) (m n : Mode) (line : List ℕ) → m ≡ n → is_plain m ≡ false → is_walked os n line ≡ true
+walked_within os m n line is within = ap (λ (x : Mode). is_walked os x line) (sym is) ∙ ap (λ (b : Bool). not b || holds os line) within
