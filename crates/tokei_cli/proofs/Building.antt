@@ -1,5 +1,5 @@
 -- What the parser's builders make of options.
-use Rattle.std.proofs.Common.{◌≡◌, ◌∷◌, ◌+◌, ◌<◌, ℕ, List, [], true, false, length, Some, Bor, refl, sym, ap, ap₂, ◌∙◌, codes, get_or, map, take}
+use Rattle.std.proofs.Common.{◌≡◌, ◌∷◌, ◌+◌, ◌<◌, ℕ, List, [], true, false, length, Some, Bor, sym, ap, ap₂, ◌∙◌, codes, get_or, map, take}
 use Rattle.std.proofs.lemmas.List.{map_more}
 use Rattle.std.proofs.lemmas.List.Sums.{fold-append}
 use Rattle.clap.specs.Words.{AddsArg, App, Rule, app_of, new_app, rule_of, with_rule}

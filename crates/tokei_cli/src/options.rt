@@ -3,7 +3,7 @@ ghost use Rattle.std.specs.Prelude.{◌≡◌, IfOk, codes, false, map};
 ghost use Rattle.clap.specs.Lexer.{usize_max};
 ghost use Rattle.clap.specs.Words.{app_of, new_rule, rule_of};
 ghost use Rattle.clap.specs.declared.builder.action.ArgAction.TheVariants.{Append};
-ghost use Rattle.tokei_cli.specs.Options.{bare_app, line_app, rule_of_row, with_options};
+ghost use Rattle.tokei_cli.specs.Options.{line_app, rule_of_row, with_options};
 
 use crate::version::VERSION;
 use clap::builder::ValueParser;
@@ -243,15 +243,6 @@ fn input<'a>(alloc: Global) -> Arg<'a>
         .help("The files and folders to be counted; the current folder where none is given.")
 }
 
-/// The program's name and version, without options.
-fn bare<'a>(alloc: Global) -> Result<Command<'a>, AllocError>
-    ensures { IfOk result (λ c. app_of c ≡ bare_app) }
-{
-    let command = Command::new(alloc, "tokei").bin_name("tokei")?;
-    let command = command.version(VERSION);
-    Ok(command.about("Counts blank, code and comment lines, by language."))
-}
-
 /// The command with the options of these rows.
 fn with_rows<'a>(
     alloc: Global,
@@ -272,5 +263,9 @@ fn with_rows<'a>(
 pub fn command<'a>(alloc: Global) -> Result<Command<'a>, AllocError>
     ensures { IfOk result (λ c. app_of c ≡ line_app) }
 {
-    with_rows(alloc, bare(alloc)?, &OPTIONS)?.arg(input(alloc))
+    let named = Command::new(alloc, "tokei").bin_name("tokei")?;
+    let bare = named
+        .version(VERSION)
+        .about("Counts blank, code and comment lines, by language.");
+    with_rows(alloc, bare, &OPTIONS)?.arg(input(alloc))
 }
