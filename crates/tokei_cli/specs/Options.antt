@@ -1,10 +1,12 @@
 -- The options of the command line, as its parser takes them: the name, the letter and the use of
 -- each.
-use Rattle.std.specs.Prelude.{ℕ, List, [], ◌∷◌, Some, true, false, codes, fold, slice_get}
+use Rattle.std.specs.Prelude.{ℕ, List, [], ◌∷◌, Some, true, false, codes, fold, is_some, not}
+use Rattle.std.specs.Prelude.{slice_get}
 use Rattle.clap.specs.Lexer.{usize_max}
 use Rattle.clap.specs.Words.{App, Rule, new_app, new_rule, with_rule}
 use Rattle.clap.specs.declared.builder.action.ArgAction.TheVariants.{Append, Count, Set, SetTrue}
 use Rattle.clap.specs.declared.builder.value_parser.ValueParser.TheVariants.{Unsigned}
+use Rattle.tokei_cli.specs.declared.options.OptionRow.{OptionRow}
 
 -- an option without a value
 abbrev pub switch : List ℕ → Rule
@@ -97,3 +99,13 @@ unfoldable pub line_app : App
 line_app =
     with_options (with_options (with_options (with_options (with_options (with_options bare_app
     report_options) format_options) order_options) ignore_options) file_options) last_options
+
+-- the option of a row of the tables
+abbrev pub rule_of_row : OptionRow → Rule
+rule_of_row row = record (new_rule row.id.now) {
+  long = Some row.long.now;
+  short = row.letter;
+  action = Some row.action;
+  parser = row.parser;
+  is_free = not (is_some row.other);
+}

@@ -1,243 +1,232 @@
 //! The options, and what help says of each.
-ghost use Rattle.std.specs.Prelude.{◌≡◌, IfOk, codes, false};
+ghost use Rattle.std.specs.Prelude.{◌≡◌, IfOk, codes, false, map};
 ghost use Rattle.clap.specs.Lexer.{usize_max};
-ghost use Rattle.clap.specs.Words.{app_of, new_rule, rule_of, with_rule};
-ghost use Rattle.clap.specs.declared.builder.action.ArgAction.TheVariants.{Append, Count};
-ghost use Rattle.clap.specs.declared.builder.value_parser.ValueParser.TheVariants.{Unsigned};
-ghost use Rattle.tokei_cli.specs.Options.{bare_app, excluding, file_options, format_options};
-ghost use Rattle.tokei_cli.specs.Options.{ignore_options, last_options, lettered, line_app};
-ghost use Rattle.tokei_cli.specs.Options.{order_options, report_options, switch, valued, with_options};
+ghost use Rattle.clap.specs.Words.{app_of, new_rule, rule_of};
+ghost use Rattle.clap.specs.declared.builder.action.ArgAction.TheVariants.{Append};
+ghost use Rattle.tokei_cli.specs.Options.{line_app, rule_of_row, with_options};
 
 use crate::version::VERSION;
-use clap::{Arg, ArgAction, Command, value_parser};
+use clap::builder::ValueParser;
+use clap::{Arg, ArgAction, Command};
 use std::alloc::{AllocError, Global};
 
-/// An option without a value.
-fn flag<'a>(alloc: Global, name: &'a str, help: &'a str) -> Arg<'a>
-    ensures rule { rule_of result ≡ switch name.entry.now }
-    ensures local { result.global ≡ false }
-{
-    Arg::new(alloc, name)
-        .long(name)
-        .action(ArgAction::SetTrue)
-        .help(help)
+/// An option with a long name, as the tables have it.
+#[derive(Clone, Copy, Drop)]
+struct OptionRow {
+    /// What its values are read back by.
+    id: &'static str,
+    long: &'static str,
+    letter: Option<char>,
+    action: ArgAction,
+    /// What its value has to be, where it isn't any text.
+    parser: Option<ValueParser<'static>>,
+    /// The option beside which it is refused.
+    other: Option<&'static str>,
+    /// What help says of it.
+    help: &'static str,
 }
 
-/// An option with one value.
-fn value<'a>(alloc: Global, name: &'a str, help: &'a str) -> Arg<'a>
-    ensures rule { rule_of result ≡ valued name.entry.now }
-    ensures local { result.global ≡ false }
-{
-    Arg::new(alloc, name)
-        .long(name)
-        .action(ArgAction::Set)
-        .help(help)
-}
+/// The options in the order of help: on what the report shows, on formats for other programs and
+/// the list of languages, on the order of the report and which languages it has, on which ignore
+/// files are obeyed, on what else is left out and on files that the program reads, and on notes.
+static OPTIONS: [OptionRow; 19] = [
+    OptionRow {
+        id: "columns",
+        long: "columns",
+        letter: Some('c'),
+        action: ArgAction::Set,
+        parser: Some(ValueParser::Unsigned(0, u64::MAX)),
+        other: Some("output"),
+        help: "Prints the report at this width, in columns; at least 81.",
+    },
+    OptionRow {
+        id: "files",
+        long: "files",
+        letter: Some('f'),
+        action: ArgAction::SetTrue,
+        parser: None,
+        other: None,
+        help: "Also lists every file.",
+    },
+    OptionRow {
+        id: "compact",
+        long: "compact",
+        letter: Some('C'),
+        action: ArgAction::SetTrue,
+        parser: None,
+        other: None,
+        help: "Prints no statistics of embedded languages.",
+    },
+    OptionRow {
+        id: "num-format",
+        long: "num-format",
+        letter: Some('n'),
+        action: ArgAction::Set,
+        parser: None,
+        other: Some("output"),
+        help: "How numbers are printed: plain (1234, the default), commas (1,234), dots (1.234) or underscores (1_234).",
+    },
+    OptionRow {
+        id: "output",
+        long: "output",
+        letter: Some('o'),
+        action: ArgAction::Set,
+        parser: None,
+        other: None,
+        help: "Writes the results in a format for other programs, in place of the report: json.",
+    },
+    OptionRow {
+        id: "streaming",
+        long: "streaming",
+        letter: None,
+        action: ArgAction::Set,
+        parser: None,
+        other: None,
+        help: "Writes a record of each file as it is counted (language, path, lines, blanks, code, comments): simple or json.",
+    },
+    OptionRow {
+        id: "languages",
+        long: "languages",
+        letter: Some('l'),
+        action: ArgAction::SetTrue,
+        parser: None,
+        other: Some("input"),
+        help: "Lists the languages and their extensions, and counts nothing.",
+    },
+    OptionRow {
+        id: "sort",
+        long: "sort",
+        letter: Some('s'),
+        action: ArgAction::Set,
+        parser: None,
+        other: Some("rsort"),
+        help: "Sorts the languages by a column: files, lines, blanks, code or comments.",
+    },
+    OptionRow {
+        id: "rsort",
+        long: "rsort",
+        letter: Some('r'),
+        action: ArgAction::Set,
+        parser: None,
+        other: None,
+        help: "Sorts the languages by a column, and reverses the order.",
+    },
+    OptionRow {
+        id: "types",
+        long: "types",
+        letter: Some('t'),
+        action: ArgAction::Append,
+        parser: None,
+        other: None,
+        help: "Counts only these languages, separated by commas, as in -t=Rust,Markdown.",
+    },
+    OptionRow {
+        id: "no-ignore",
+        long: "no-ignore",
+        letter: None,
+        action: ArgAction::SetTrue,
+        parser: None,
+        other: None,
+        help: "Obeys no ignore file; implies --no-ignore-parent, --no-ignore-dot and --no-ignore-vcs.",
+    },
+    OptionRow {
+        id: "no-ignore-parent",
+        long: "no-ignore-parent",
+        letter: None,
+        action: ArgAction::SetTrue,
+        parser: None,
+        other: None,
+        help: "Obeys no ignore file of the folders above.",
+    },
+    OptionRow {
+        id: "no-ignore-dot",
+        long: "no-ignore-dot",
+        letter: None,
+        action: ArgAction::SetTrue,
+        parser: None,
+        other: None,
+        help: "Obeys neither .ignore nor .tokeignore.",
+    },
+    OptionRow {
+        id: "no-ignore-vcs",
+        long: "no-ignore-vcs",
+        letter: None,
+        action: ArgAction::SetTrue,
+        parser: None,
+        other: None,
+        help: "Obeys none of git's ignore files, those of the folders above included.",
+    },
+    OptionRow {
+        id: "exclude",
+        long: "exclude",
+        letter: Some('e'),
+        action: ArgAction::Append,
+        parser: None,
+        other: None,
+        help: "Leaves out all files and folders that match the pattern; may be given several times.",
+    },
+    OptionRow {
+        id: "hidden",
+        long: "hidden",
+        letter: None,
+        action: ArgAction::SetTrue,
+        parser: None,
+        other: None,
+        help: "Counts hidden files too.",
+    },
+    OptionRow {
+        // its name is the id of the inputs
+        id: "file_input",
+        long: "input",
+        letter: Some('i'),
+        action: ArgAction::Set,
+        parser: None,
+        other: None,
+        help: "Adds the statistics of an earlier run, written by -o json: a file, or stdin.",
+    },
+    OptionRow {
+        id: "table",
+        long: "table",
+        letter: None,
+        action: ArgAction::Set,
+        parser: None,
+        other: None,
+        help: "The file of the table of languages; without it the one installed with the program, else languages.json in the current folder.",
+    },
+    OptionRow {
+        id: "verbose",
+        long: "verbose",
+        letter: Some('v'),
+        action: ArgAction::Count,
+        parser: None,
+        other: None,
+        help: "Shows more notes: -v warnings, -vv and -vvv everything; without it errors alone.",
+    },
+];
 
-/// The command with one more option, which is refused beside the other one.
-fn with_excluding<'a>(
-    command: Command<'a>,
-    option: Arg<'a>,
-    other: &'a str,
-) -> Result<Command<'a>, AllocError>
-    requires { option.global ≡ false }
-    ensures { IfOk result (λ c. app_of c
-        ≡ with_rule (app_of command.entry) (excluding (rule_of option.entry))) }
-{
-    command.arg(option.conflicts_with(other)?)
-}
-
-/// The option on the width of the report.
-fn columns<'a>(alloc: Global) -> Arg<'a>
-    ensures rule { rule_of result ≡ record (lettered (codes "c") (valued (codes "columns"))) {
-      parser = Some (Unsigned 0 usize_max);
-    } }
-    ensures local { result.global ≡ false }
-{
-    value(
-        alloc,
-        "columns",
-        "Prints the report at this width, in columns; at least 81.",
-    )
-    .short('c')
-    .value_parser(value_parser!(usize))
-}
-
-/// The options on what the report lists.
-fn with_listing<'a>(alloc: Global, command: Command<'a>) -> Result<Command<'a>, AllocError>
-    ensures { IfOk result (λ c. app_of c ≡ with_rule
-        (with_rule (app_of command.entry) (lettered (codes "f") (switch (codes "files"))))
-        (lettered (codes "C") (switch (codes "compact")))) }
-{
-    let files = flag(alloc, "files", "Also lists every file.").short('f');
-    let command = command.arg(files)?;
-    let compact = flag(
-        alloc,
-        "compact",
-        "Prints no statistics of embedded languages.",
-    )
-    .short('C');
-    command.arg(compact)
-}
-
-/// The options on what the report shows.
-fn with_report<'a>(alloc: Global, command: Command<'a>) -> Result<Command<'a>, AllocError>
-    ensures { IfOk result (λ c. app_of c ≡ with_options (app_of command.entry) report_options) }
-{
-    let command = with_excluding(command, columns(alloc), "output")?;
-    let command = with_listing(alloc, command)?;
-    let numbers = value(
-        alloc,
-        "num-format",
-        "How numbers are printed: plain (1234, the default), commas (1,234), dots (1.234) or underscores (1_234).",
-    )
-    .short('n');
-    with_excluding(command, numbers, "output")
-}
-
-/// The options on formats for other programs, and on the list of languages.
-fn with_formats<'a>(alloc: Global, command: Command<'a>) -> Result<Command<'a>, AllocError>
-    ensures { IfOk result (λ c. app_of c ≡ with_options (app_of command.entry) format_options) }
-{
-    let output = value(
-        alloc,
-        "output",
-        "Writes the results in a format for other programs, in place of the report: json.",
-    )
-    .short('o');
-    let command = command.arg(output)?;
-    let streaming = value(
-        alloc,
-        "streaming",
-        "Writes a record of each file as it is counted (language, path, lines, blanks, code, comments): simple or json.",
-    );
-    let command = command.arg(streaming)?;
-    let languages = flag(
-        alloc,
-        "languages",
-        "Lists the languages and their extensions, and counts nothing.",
-    )
-    .short('l');
-    with_excluding(command, languages, "input")
-}
-
-/// The options on the order of the report, and on which languages it has.
-fn with_order<'a>(alloc: Global, command: Command<'a>) -> Result<Command<'a>, AllocError>
-    ensures { IfOk result (λ c. app_of c ≡ with_options (app_of command.entry) order_options) }
-{
-    let sort = value(
-        alloc,
-        "sort",
-        "Sorts the languages by a column: files, lines, blanks, code or comments.",
-    )
-    .short('s');
-    let command = with_excluding(command, sort, "rsort")?;
-    let rsort = value(
-        alloc,
-        "rsort",
-        "Sorts the languages by a column, and reverses the order.",
-    )
-    .short('r');
-    let command = command.arg(rsort)?;
-    let types = value(
-        alloc,
-        "types",
-        "Counts only these languages, separated by commas, as in -t=Rust,Markdown.",
-    )
-    .short('t')
-    .action(ArgAction::Append);
-    command.arg(types)
-}
-
-/// The options on what is printed.
-fn with_printing<'a>(alloc: Global, command: Command<'a>) -> Result<Command<'a>, AllocError>
-    ensures { IfOk result (λ c. app_of c ≡ with_options (with_options (with_options
-        (app_of command.entry) report_options) format_options) order_options) }
-{
-    let command = with_report(alloc, command)?;
-    let command = with_formats(alloc, command)?;
-    with_order(alloc, command)
-}
-
-/// The options on which ignore files are obeyed.
-fn with_ignore_files<'a>(alloc: Global, command: Command<'a>) -> Result<Command<'a>, AllocError>
-    ensures { IfOk result (λ c. app_of c ≡ with_options (app_of command.entry) ignore_options) }
-{
-    let all = flag(
-        alloc,
-        "no-ignore",
-        "Obeys no ignore file; implies --no-ignore-parent, --no-ignore-dot and --no-ignore-vcs.",
-    );
-    let command = command.arg(all)?;
-    let parent = flag(
-        alloc,
-        "no-ignore-parent",
-        "Obeys no ignore file of the folders above.",
-    );
-    let command = command.arg(parent)?;
-    let dot = flag(
-        alloc,
-        "no-ignore-dot",
-        "Obeys neither .ignore nor .tokeignore.",
-    );
-    let command = command.arg(dot)?;
-    let vcs = flag(
-        alloc,
-        "no-ignore-vcs",
-        "Obeys none of git's ignore files, those of the folders above included.",
-    );
-    command.arg(vcs)
-}
-
-/// The option on the results of an earlier run; its name is the id of the inputs.
-fn earlier<'a>(alloc: Global) -> Arg<'a>
-    ensures rule { rule_of result ≡ record (lettered (codes "i") (valued (codes "file_input"))) {
-      long = Some (codes "input");
-    } }
-    ensures local { result.global ≡ false }
-{
-    Arg::new(alloc, "file_input")
-        .long("input")
-        .short('i')
-        .action(ArgAction::Set)
-        .help("Adds the statistics of an earlier run, written by -o json: a file, or stdin.")
-}
-
-/// The options on what else is left out, and on files that the program reads.
-fn with_files<'a>(alloc: Global, command: Command<'a>) -> Result<Command<'a>, AllocError>
-    ensures { IfOk result (λ c. app_of c ≡ with_options (app_of command.entry) file_options) }
-{
-    let exclude = value(
-        alloc,
-        "exclude",
-        "Leaves out all files and folders that match the pattern; may be given several times.",
-    )
-    .short('e')
-    .action(ArgAction::Append);
-    let command = command.arg(exclude)?;
-    let hidden = flag(alloc, "hidden", "Counts hidden files too.");
-    let command = command.arg(hidden)?;
-    let command = command.arg(earlier(alloc))?;
-    let table = value(
-        alloc,
-        "table",
-        "The file of the table of languages; without it the one installed with the program, else languages.json in the current folder.",
-    );
-    command.arg(table)
-}
-
-/// The option on notes.
-fn verbose<'a>(alloc: Global) -> Arg<'a>
-    ensures rule { rule_of result ≡ record (lettered (codes "v") (switch (codes "verbose"))) {
-      action = Some Count;
-    } }
-    ensures local { result.global ≡ false }
-{
-    Arg::new(alloc, "verbose")
-        .long("verbose")
-        .short('v')
-        .action(ArgAction::Count)
-        .help("Shows more notes: -v warnings, -vv and -vvv everything; without it errors alone.")
+impl OptionRow {
+    /// The option, as the parser takes it.
+    fn option<'a>(&self, alloc: Global) -> Result<Arg<'a>, AllocError>
+        ensures rule { IfOk result (λ a. rule_of a ≡ rule_of_row self.now) }
+        ensures local { IfOk result (λ a. a.global ≡ false) }
+    {
+        let named = Arg::new(alloc, self.id)
+            .long(self.long)
+            .action(self.action)
+            .help(self.help);
+        let lettered = match self.letter {
+            Some(letter) => named.short(letter),
+            None => named,
+        };
+        let parsed = match self.parser {
+            Some(parser) => lettered.value_parser(parser),
+            None => lettered,
+        };
+        match self.other {
+            Some(other) => parsed.conflicts_with(other),
+            None => Ok(parsed),
+        }
+    }
 }
 
 /// The files and folders to be counted.
@@ -254,30 +243,29 @@ fn input<'a>(alloc: Global) -> Arg<'a>
         .help("The files and folders to be counted; the current folder where none is given.")
 }
 
-/// The options on what is counted and on notes, and what is to be counted.
-fn with_counting<'a>(alloc: Global, command: Command<'a>) -> Result<Command<'a>, AllocError>
-    ensures { IfOk result (λ c. app_of c ≡ with_options (with_options (with_options
-        (app_of command.entry) ignore_options) file_options) last_options) }
+/// The command with the options of these rows.
+fn with_rows<'a>(
+    alloc: Global,
+    command: Command<'a>,
+    rows: &[OptionRow],
+) -> Result<Command<'a>, AllocError>
+    ensures { IfOk result (λ c. app_of c
+        ≡ with_options (app_of command.entry) (map rule_of_row rows.now)) }
 {
-    let command = with_ignore_files(alloc, command)?;
-    let command = with_files(alloc, command)?;
-    command.arg(verbose(alloc))?.arg(input(alloc))
-}
-
-/// The program's name and version, without options.
-fn bare<'a>(alloc: Global) -> Result<Command<'a>, AllocError>
-    ensures { IfOk result (λ c. app_of c ≡ bare_app) }
-{
-    let command = Command::new(alloc, "tokei").bin_name("tokei")?;
-    let command = command.version(VERSION);
-    Ok(command.about("Counts blank, code and comment lines, by language."))
+    let mut command = command;
+    for row in rows {
+        command = command.arg(row.option(alloc)?)?;
+    }
+    Ok(command)
 }
 
 /// The whole command line, as its parser takes it.
 pub fn command<'a>(alloc: Global) -> Result<Command<'a>, AllocError>
     ensures { IfOk result (λ c. app_of c ≡ line_app) }
 {
-    let command = bare(alloc)?;
-    let command = with_printing(alloc, command)?;
-    with_counting(alloc, command)
+    let named = Command::new(alloc, "tokei").bin_name("tokei")?;
+    let bare = named
+        .version(VERSION)
+        .about("Counts blank, code and comment lines, by language.");
+    with_rows(alloc, bare, &OPTIONS)?.arg(input(alloc))
 }
