@@ -18,15 +18,15 @@ fn parser_text<'a>(
     let command = Command::new(alloc, "tokei").no_binary_name(true).arg(arg)?;
     match command.try_get_matches_from(words) {
         Ok(_) => Ok(None),
-        Err(error) => error_text(alloc, &error),
+        Err(error) => Ok(Some(error_text(alloc, &error)?)),
     }
 }
 
-/// The text of an error of the parser; without memory it has none.
-fn error_text(alloc: Global, error: &Error) -> Result<Option<String>, AllocError> {
+/// The text of an error of the parser.
+fn error_text(alloc: Global, error: &Error) -> Result<String, AllocError> {
     match error.kind() {
         ErrorKind::OutOfMemory => Err(AllocError),
-        _ => Ok(Some(format!(in alloc; "{error}")?)),
+        _ => format!(in alloc; "{error}"),
     }
 }
 
