@@ -7,11 +7,6 @@ on_ok : {A B : Type 0} (r : Result A B) (t u v : List ℕ) → t ≡ (if is_ok r
 on_ok (Ok x) t u v h = h
 on_ok (Err e) t u v h = tt
 
-pub returns-then-is_control : goal.returns-then-is_control
-returns-then-is_control c =
-    subst (λ b. OnOk c.push_escaped.result (string_bytes c.push_escaped.new.text ≡ string_bytes c.args.text.now ++ (if b then escaped c.args.character else encode_utf8 c.args.character)))
-    c.if-is_control.ensures c.push_escaped.ensures
-
 pub returns-else-is_control : goal.returns-else-is_control
 returns-else-is_control c =
     subst (λ b. OnOk c.push.result (string_bytes c.push.new.self ≡ string_bytes c.args.text.now ++ (if b then escaped c.args.character else encode_utf8 c.args.character)))

@@ -1,6 +1,6 @@
 use Rattle.std.proofs.Common.{◌≡◌, ℕ, ◌∙◌, ap, ap₂, sym, subst, ◌++◌, append-nil, rules}
 use Rattle.tokei_stats.specs.declared.stats.CodeStats.{out-CodeStats}
-use Rattle.tokei_stats.specs.declared.stats.CodeStats.TheFolds.{fold-roll-CodeStats, fold_out-CodeStats}
+use Rattle.tokei_stats.specs.declared.stats.CodeStats.TheFolds.{fold-roll-CodeStats}
 use Rattle.tokei_stats.specs.Seen.{blobs_of, entries_of, stats_of}
 use Rattle.tokei_stats.specs.Overflow.{BlobsFit}
 use Rattle.tokei_stats.proofs.Adding.{put_one_fits}
