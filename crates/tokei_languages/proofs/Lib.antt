@@ -5,5 +5,8 @@ pub mod Copying
 pub mod Entries
 pub mod Equality
 pub mod Ranks
+pub mod Refusals
+pub mod SameLanguage
 pub mod StableSort
+pub mod Summing
 pub mod TakingBack

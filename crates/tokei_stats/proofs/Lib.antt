@@ -5,6 +5,7 @@ pub mod Cloning
 pub mod Equality
 pub mod Fitting
 pub mod MapsOrdered
+pub mod Members
 pub mod NoBlobs
 pub mod Padding
 pub mod Plain

@@ -20,3 +20,11 @@ loop-language-preserved c =
           ∙ c.loop-language.invariant.back;
       room = omega (arith, c.push.ensures.capacity);
     }
+
+pub returns-in-Err-clause-err : goal.returns-in-Err-clause-err
+returns-in-Err-clause-err c =
+    c.take_all_back.ensures ∙ ap (λ es. all_taken_back es c.loop-language.before.items) c.in-Err.ensures.err ∙ c.loop-language.invariant.back
+
+pub returns-clause-ok : goal.returns-clause-ok
+returns-clause-ok c =
+    ap (λ es. appended (children_of c.loop-language.children.entries) (children_of es)) (sym c.in-None.ensures.steps.0) ∙ c.loop-language.invariant.done

@@ -1,20 +1,14 @@
-use Rattle.std.proofs.Common.{◌≡◌, ◌∙◌, sym, ap, ℕ, map, take, length, ◌++◌, None, Some, Result, Ok, Err, OnErr, Vec, Global, BTreeMap, nat_cmp}
+use Rattle.std.proofs.Common.{◌∙◌, sym, ap, ℕ, map, take, ◌++◌, None, Some, Vec, Global, BTreeMap, nat_cmp}
 use Rattle.std.specs.BTreeMap.{insert_entry}
-use Rattle.std.proofs.lemmas.List.{map-append, take-map, take_at}
+use Rattle.std.proofs.lemmas.List.{map-append}
 use Rattle.tokei_languages.specs.TakenBack.{first}
 use Rattle.tokei_languages.specs.Maps.{taken_back}
 use Rattle.tokei_languages.specs.Seen.{children_of, reports_of, report_of}
 use Rattle.tokei_stats.specs.declared.report.Report.{Report}
 use Rattle.tokei_languages.proofs.Entries.{insert_seen, insert_taken_back, set_seen, same_seen, set_taken_back}
+use Rattle.tokei_languages.proofs.Refusals.{on_err}
+use Rattle.tokei_languages.proofs.TakingBack.{first_of}
 use Rattle.tokei_languages.proofs.children.append_at.Goals as goal
-
-on_err : {A B : Type 0} {P : Type 0} (r : Result A B) → P → OnErr r P
-on_err (Ok x) h = tt
-on_err (Err e) h = h
-
--- the first reports of a longer list
-first_of : (v w more : Vec Report Global) (n : ℕ) → w.items ≡ v.items ++ more.items → length v.items ≡ n → take n (reports_of w) ≡ reports_of v
-first_of v w more n h l = take-map report_of n w.items ∙ ap (λ us. map report_of (take n us)) h ∙ ap (map report_of) (take_at v.items more.items n l)
 
 pub returns-in_err-append-clause-err : goal.returns-in_err-append-clause-err
 returns-in_err-append-clause-err c =

@@ -1,4 +1,4 @@
-use Rattle.std.proofs.Common.{sym, ap, ◌∙◌, ◌++◌, ◌∷◌, [], subst, string_bytes}
+use Rattle.std.proofs.Common.{sym, ap, ◌∙◌, ◌++◌, ◌∷◌, [], subst, string_bytes, ap₂, append-nil}
 use Rattle.std.specs.Ordering.{nat_cmp}
 use Rattle.std.specs.List.Sorted.{IsStrictlySortedBy}
 use Rattle.tokei_stats.specs.Seen.{blobs_of, entries_of, stats_of}
@@ -21,3 +21,14 @@ loop-language-preserved c =
     ∙ c.loop-language.invariant)
     (subst (IsStrictlySortedBy nat_cmp) (sym (keys_reported name c.args.blobs.now.entries))
     c.iter-language-items.ensures.ordered)
+
+pub loop-language-init : goal.loop-language-init
+loop-language-init c =
+    ap₂ (λ es fs. children_of es ++ blob_reports (string_bytes c.args.name.now) (blobs_of (entries_of fs)))
+    c.new-children.ensures.empty (c.into_iter-language-iterator.ensures.into_iter_gives ∙ c.iter-language-items.ensures.rest)
+
+pub returns-clause-ok : goal.returns-clause-ok
+returns-clause-ok c =
+    sym (append-nil _)
+    ∙ ap (λ es. children_of c.loop-language.children.entries ++ blob_reports (string_bytes c.args.name.now) (blobs_of (entries_of es))) (sym c.in-None.ensures.steps.0)
+    ∙ c.loop-language.invariant

@@ -1,4 +1,4 @@
-use Rattle.std.proofs.Common.{sym, ap, ◌∙◌, ◌++◌, map, subst}
+use Rattle.std.proofs.Common.{sym, ap, ◌∙◌, ◌++◌, map, subst, ap₂, append-nil}
 use Rattle.std.specs.Ordering.{nat_cmp}
 use Rattle.std.specs.BTreeMap.{insert_entry}
 use Rattle.std.specs.List.Sorted.{IsStrictlySortedBy}
@@ -17,3 +17,11 @@ loop-language-preserved c =
     (ap (λ es. old ++ children_of es) (sym c.in-Some.ensures.steps) ∙ c.loop-language.invariant)
     (subst (IsStrictlySortedBy nat_cmp) (sym (keys_seen reports_of c.args.children.now.entries))
     c.iter-language-items.ensures.ordered)
+
+pub loop-language-init : goal.loop-language-init
+loop-language-init c =
+    ap₂ (λ es fs. children_of es ++ children_of fs) c.new-copies.ensures.empty (c.into_iter-language-iterator.ensures.into_iter_gives ∙ c.iter-language-items.ensures.rest)
+
+pub returns-clause-ok : goal.returns-clause-ok
+returns-clause-ok c =
+    sym (append-nil _) ∙ ap (λ es. children_of c.loop-language.copies.entries ++ children_of es) (sym c.in-None.ensures.steps.0) ∙ c.loop-language.invariant

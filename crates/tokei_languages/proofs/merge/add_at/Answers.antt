@@ -1,4 +1,4 @@
-use Rattle.std.proofs.Common.{◌≡◌, ◌∙◌, sym, ap, ℕ, None, Some, option_map, subst, Result, Ok, Err, OnErr, BTreeMap, nat_cmp}
+use Rattle.std.proofs.Common.{◌≡◌, ◌∙◌, sym, ap, ℕ, None, Some, option_map, subst, Err, BTreeMap, nat_cmp}
 use Rattle.std.specs.BTreeMap.{insert_entry}
 use Rattle.std.proofs.lemmas.Result.{err_from_is_err_and}
 use Rattle.tokei_languages.specs.Merging.{merged_language, FitAt}
@@ -8,11 +8,8 @@ use Rattle.tokei_languages.specs.Seen.{language_of, entries_of}
 use Rattle.tokei_languages.specs.TakenBack.{restored}
 use Rattle.tokei_languages.specs.declared.language.Language.{Language}
 use Rattle.tokei_languages.proofs.Entries.{at_seen, insert_seen, insert_taken_back, set_seen, same_seen, set_taken_back}
+use Rattle.tokei_languages.proofs.Refusals.{on_err}
 use Rattle.tokei_languages.proofs.merge.add_at.Goals as goal
-
-on_err : {A B : Type 0} {P : Type 0} (r : Result A B) → P → OnErr r P
-on_err (Ok x) h = tt
-on_err (Err e) h = h
 
 pub returns-in_err-before-clause-err : goal.returns-in_err-before-clause-err
 returns-in_err-before-clause-err c =

@@ -1,4 +1,4 @@
-use Rattle.std.proofs.Common.{◌≡◌, ℕ, List, [], ◌∷◌, refl, sym, ap, ◌∙◌, ◌++◌, map, subst}
+use Rattle.std.proofs.Common.{◌≡◌, ℕ, List, [], ◌∷◌, refl, sym, ap, ◌∙◌, ◌++◌, map, subst, ap₂, append-nil}
 use Rattle.std.specs.BTreeMap.{insert_entry}
 use Rattle.std.specs.Map.{keys_of}
 use Rattle.std.specs.Ordering.{nat_cmp}
@@ -24,3 +24,14 @@ loop-language-preserved c =
     (ap (λ es. old ++ reports_by_language (entries_of es)) (sym c.in-Some.ensures.steps) ∙ c.loop-language.invariant)
     (subst (IsStrictlySortedBy nat_cmp) (sym (keys_reported c.args.self.now.languages.entries))
     c.iter-language-items.ensures.ordered)
+
+pub loop-language-init : goal.loop-language-init
+loop-language-init c =
+    ap₂ (λ es fs. children_of es ++ reports_by_language (entries_of fs))
+    c.new-copies.ensures.empty (c.into_iter-language-iterator.ensures.into_iter_gives ∙ c.iter-language-items.ensures.rest)
+
+pub returns-clause-ok : goal.returns-clause-ok
+returns-clause-ok c =
+    sym (append-nil _)
+    ∙ ap (λ es. children_of c.loop-language.copies.entries ++ reports_by_language (entries_of es)) (sym c.in-None.ensures.steps.0)
+    ∙ c.loop-language.invariant

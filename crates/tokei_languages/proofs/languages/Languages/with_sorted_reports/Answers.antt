@@ -1,4 +1,4 @@
-use Rattle.std.proofs.Common.{◌≡◌, ℕ, List, [], ◌∷◌, refl, sym, ap, ◌∙◌, ◌++◌, subst}
+use Rattle.std.proofs.Common.{◌≡◌, ℕ, List, [], ◌∷◌, refl, sym, ap, ◌∙◌, ◌++◌, subst, append-nil}
 use Rattle.std.specs.Map.{keys_of}
 use Rattle.std.specs.Ordering.{nat_cmp}
 use Rattle.std.specs.List.Sorted.{IsStrictlySortedBy}
@@ -23,3 +23,9 @@ loop-language-preserved c =
     (ap (λ es. old ++ sorted_languages sort (entries_of es)) (sym c.in-Some.ensures.steps) ∙ c.loop-language.invariant)
     (subst (IsStrictlySortedBy nat_cmp) (sym (keys_sorted sort c.args.self.languages.entries))
     c.into_iter-language-iterator.ensures.into_iter_gives.5)
+
+pub returns-clause-ok : goal.returns-clause-ok
+returns-clause-ok c =
+    sym (append-nil _)
+    ∙ ap (λ es. entries_of c.loop-language.sorted.entries ++ sorted_languages c.args.sort (entries_of es)) (sym c.in-None.ensures.steps.0)
+    ∙ c.loop-language.invariant
