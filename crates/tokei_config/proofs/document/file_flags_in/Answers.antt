@@ -26,3 +26,12 @@ returns-in_err-no_ignore_vcs-clause-refused c =
     let is : c.from_residual-in_err-no_ignore_vcs.result ≡ Err c.in_err-no_ignore_vcs.field-0.0 = search rules in
     rw is (λ s e behind. rw (c.in_ok-hidden.ensures.is_read, c.in_ok-no_ignore.ensures.is_read, c.in_ok-no_ignore_parent.ensures.is_read, c.in_ok-no_ignore_dot.ensures.is_read)
     (c.in_err-no_ignore_vcs.ensures.refused s e _))
+
+pub returns-clause-are_read : goal.returns-clause-are_read
+returns-clause-are_read c = record {
+  hidden = c.in_ok-hidden.ensures.is_read;
+  no_ignore = c.in_ok-no_ignore.ensures.is_read;
+  no_ignore_parent = c.in_ok-no_ignore_parent.ensures.is_read;
+  no_ignore_dot = c.in_ok-no_ignore_dot.ensures.is_read;
+  no_ignore_vcs = c.in_ok-no_ignore_vcs.ensures.is_read;
+}
