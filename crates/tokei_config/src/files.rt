@@ -123,19 +123,21 @@ fn read_at<F: Folders>(
     }
 }
 
-/// Adds the flaw of the file at a place, where it has one.
-fn note(flaws: &mut Vec<Flaw>, place: Text, reason: Option<Reason>) -> Result<(), AllocError>
-    ensures { OnOk result (placed_causes flaws.new.items
-        ≡ placed_causes flaws.old.items ++ listed (option_map (λ r. (place, r.cause)) reason)) }
+/// The configuration that was read of the file at a place. Adds the file's flaw, where it has one.
+fn noted(flaws: &mut Vec<Flaw>, place: Text, read: FileRead) -> Result<Option<Config>, AllocError>
+    ensures config { IfOk result (λ c. c ≡ read.config) }
+    ensures flawed { OnOk result (placed_causes flaws.new.items ≡ placed_causes flaws.old.items
+        ++ listed (option_map (λ r. (place, r.cause)) read.reason)) }
 {
+    let FileRead { config, reason } = read;
     match reason {
-        None => Ok(()),
+        None => Ok(config),
         Some(reason) => match flaws.push(Flaw {
             place,
             cause: reason.cause,
             detail: reason.detail,
         }) {
-            Ok(()) => Ok(()),
+            Ok(()) => Ok(config),
             Err(_) => Err(AllocError),
         },
     }
@@ -162,8 +164,7 @@ fn config_at<F: Folders>(
     let (folder, name) = file;
     let place = joined(alloc, folder, name)?;
     let read = read_at(alloc, table, folders, place.as_str())?;
-    note(flaws, place, read.reason)?;
-    Ok(read.config)
+    noted(flaws, place, read)
 }
 
 /// The configuration of a folder's file; an empty one where there is no folder or no file that can
