@@ -15,7 +15,8 @@ returns-in_err-treat_doc_strings_as_comments-clause-refused c =
     let p = err_from_is_err_and c.from_residual-in_err-treat_doc_strings_as_comments.result c.from_residual-in_err-treat_doc_strings_as_comments.ensures.1 in
     let columns = setting_read (λ v. v) _ setting.Columns c.count_at.result c.in_ok-columns.columns c.count_at.ensures (sym c.in_ok-columns.was ∙ c.at.ensures) in
     let flags = c.in_ok-file_flags.ensures.are_read in
-    rw (p.1, p.2) (λ s e behind. rw (columns, flags.hidden, flags.no_ignore, flags.no_ignore_parent, flags.no_ignore_dot, flags.no_ignore_vcs) (c.in_err-treat_doc_strings_as_comments.ensures.refused s e _))
+    rw (p.1, p.2) (λ s e behind. rw (columns, flags.hidden, flags.no_ignore, flags.no_ignore_parent, flags.no_ignore_dot, flags.no_ignore_vcs)
+    (c.in_err-treat_doc_strings_as_comments.ensures.refused s e _))
 
 pub returns-in_err-sort-clause-refused : goal.returns-in_err-sort-clause-refused
 returns-in_err-sort-clause-refused c =
