@@ -1,17 +1,27 @@
 -- The texts of configuration files, and the settings that they make.
 use Rattle.std.proofs.Common.{◌≡◌, ℕ, List, ◌++◌, false, Option, Some, None, is_some, option_map, append_assoc, append-nil, ap, refl, sym, ◌∙◌, inl, inr, codes}
 use Rattle.std.proofs.lemmas.Bool.{cases_Bool}
-use Rattle.std.proofs.lemmas.Str.{IsUtf8-from_is_utf8, is_utf8-from_IsUtf8}
+use Rattle.std.proofs.lemmas.Str.{IsUtf8-from_is_utf8}
 use Rattle.std.specs.Option.{option_or}
 use Rattle.std.specs.Str.{IsUtf8, is_utf8}
-use Rattle.tokei_config.specs.Document.{settings_of_text}
+use Rattle.toml.specs.Data.{Members}
+use Rattle.toml.specs.Parse.{parse_document}
+use Rattle.tokei_config.specs.Document.{settings_of_reading, settings_of_text}
 use Rattle.tokei_config.specs.Files.{as_text, settings_of_file}
-use Rattle.tokei_config.specs.Flaws.{PlacedCause, cause_of_bytes, cause_of_text, flaw_at, listed, second_flaw}
-use Rattle.tokei_config.specs.declared.flaws.Cause.{Cause}
+use Rattle.tokei_config.specs.Flaws.{PlacedCause, cause_of_bytes, cause_of_reading, cause_of_text, flaw_at, listed, second_flaw}
 use Rattle.tokei_config.specs.declared.flaws.Cause.TheVariants.{NotUtf8}
 use Rattle.tokei_config.specs.Settings.{Settings, empty}
 use Rattle.tokei_folders.specs.Tree.{Tree}
 use Rattle.tokei_table.specs.Row.{Row}
+
+-- what TOML makes of a text tells its settings, and why it counts as empty
+pub text_settings : (rows : List Row) (text : List ℕ) (found : Option Members) → parse_document text ≡ found → settings_of_reading rows found ≡ settings_of_text rows text
+unfolding settings_of_text
+text_settings rows text found is = ap (settings_of_reading rows) (sym is)
+
+pub text_cause : (rows : List Row) (text : List ℕ) (found : Option Members) → parse_document text ≡ found → cause_of_reading rows found ≡ cause_of_text rows text
+unfolding cause_of_text
+text_cause rows text found is = ap (cause_of_reading rows) (sym is)
 
 -- the settings of a text that may be missing
 abbrev pub of_text : List Row → Option (List ℕ) → Option Settings
@@ -20,17 +30,10 @@ of_text rows text = option_map (settings_of_text rows) text
 not_utf8 : (bytes : List ℕ) → (IsUtf8 bytes → ⊥) → is_utf8 bytes ≡ false
 not_utf8 bytes other = elim (cases_Bool (is_utf8 bytes)) [ inl same ↦ absurd (other (IsUtf8-from_is_utf8 bytes same)) | inr different ↦ different ]
 
-pub of_text-read : (rows : List Row) (bytes text : List ℕ) (s : Settings) → text ≡ bytes → IsUtf8 bytes → s ≡ settings_of_text rows text → Some s ≡ of_text rows (as_text bytes)
-of_text-read rows bytes text s same utf8 e = rw (is_utf8-from_IsUtf8 bytes utf8) (ap (λ x. Some x) (e ∙ ap (settings_of_text rows) same))
-
 pub of_text-unread : (rows : List Row) (bytes : List ℕ) → (IsUtf8 bytes → ⊥) → None ≡ of_text rows (as_text bytes)
 of_text-unread rows bytes other = rw (not_utf8 bytes other)
 
 -- why bytes count as empty
-pub cause-read : (rows : List Row) (bytes text : List ℕ) (cause : Option Cause) → text ≡ bytes → IsUtf8 bytes → cause ≡ cause_of_text rows text
-    → cause ≡ cause_of_bytes rows bytes
-cause-read rows bytes text cause same utf8 e = rw (is_utf8-from_IsUtf8 bytes utf8) (e ∙ ap (cause_of_text rows) same)
-
 pub cause-unread : (rows : List Row) (bytes : List ℕ) → (IsUtf8 bytes → ⊥) → Some NotUtf8 ≡ cause_of_bytes rows bytes
 cause-unread rows bytes other = rw (not_utf8 bytes other) refl
 

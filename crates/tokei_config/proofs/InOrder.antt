@@ -1,5 +1,5 @@
 -- Additions that are put one after the other at their places in the order of the table.
-use Rattle.std.proofs.Common.{◌≡◌, ℕ, List, [], ◌∷◌, ◌++◌, Bool, true, false, ◌||◌, ◌==◌, cond, Option, Some, is_some, refl, ap, ◌∙◌, rules, String, Global, string_bytes}
+use Rattle.std.proofs.Common.{◌≡◌, ℕ, List, [], ◌∷◌, ◌++◌, Bool, true, false, ◌||◌, ◌==◌, cond, Option, Some, is_some, append_assoc, refl, ap, sym, ◌∙◌, rules, String, Global, string_bytes}
 use Rattle.std.specs.BTreeMap.{insert_entry, is_at}
 use Rattle.std.specs.List.{list_any}
 use Rattle.std.specs.Map.{lookup}
@@ -96,3 +96,8 @@ none-there (a ∷ more) = none-there more
 -- where no language has an entry
 pub clash-none : (more : List Addition) → clash [] more ≡ named_twice more
 clash-none more = rw (none-there more)
+
+-- one more entry whose extensions are told
+pub gained_more : (iterator es : Entries) (e : ℕ × LanguageConfig) (seen whole : List Addition) → iterator ≡ e ∷ es → seen ++ additions_of iterator ≡ whole
+    → (seen ++ (e.0, extensions_of e.1) ∷ []) ++ additions_of es ≡ whole
+gained_more iterator es e seen whole steps so = append_assoc seen ((e.0, extensions_of e.1) ∷ []) (additions_of es) ∙ ap (λ rest. seen ++ additions_of rest) (sym steps) ∙ so

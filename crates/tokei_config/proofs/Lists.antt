@@ -1,5 +1,6 @@
 -- Items that are read one after the other.
-use Rattle.std.proofs.Common.{◌≡◌, ℕ, ◌+◌, ◌<◌, List, [], ◌∷◌, ◌++◌, length, get_or, drop, Option, Some, None, option_map, append_assoc, append-nil, refl, ap, sym}
+use Rattle.std.proofs.Common.{◌≡◌, ℕ, ◌+◌, ◌<◌, ◌≤◌, List, [], ◌∷◌, ◌++◌, length, get_or, drop, Option, Some, None, option_map, append_assoc, append-nil, refl, ap, sym, ◌∙◌}
+use Rattle.std.proofs.lemmas.List.{at_drop_all}
 use Rattle.toml.proofs.Views.{items_view-drop}
 use Rattle.toml.specs.Data.{Data}
 use Rattle.toml.specs.View.{view, items_view}
@@ -31,3 +32,6 @@ all_of-unread read done vs i v within reads = rw (items_view-drop vs i v within,
 -- all items are read
 pub behind-end : {X : Type 0} (done : List X) → behind done (Some []) ≡ Some done
 behind-end done = ap (λ xs. Some xs) (append-nil done)
+
+pub all_of-end : {X : Type 0} (read : Data → Option X) (done : List X) (vs : List Value) (i : ℕ) → length vs ≤ i → behind done (all_of read (items_view (drop i vs))) ≡ Some done
+all_of-end read done vs i past = ap (behind done) (at_drop_all (λ rest. all_of read (items_view rest)) vs i past) ∙ behind-end done

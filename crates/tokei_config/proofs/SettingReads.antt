@@ -49,6 +49,11 @@ bad_or_read s meant x behind read = rw read refl
 bad_or_unread : {X : Type 0} (s : Setting) (meant : Option X) (behind : Option Setting) → meant ≡ None → bad_or s meant behind ≡ Some s
 bad_or_unread s meant behind unread = rw unread refl
 
+-- a setting that is answered where its member can't be read is the first
+pub stops_first : {X : Type 0} (at : Setting) (meant : Option X) (e : SettingError) → StopsAt at meant e → StopsAtFirst (bad_or at meant) e
+stops_first at meant refused.Memory stops s is behind = absurd (let h = is in cc)
+stops_first at meant (refused.Bad b) stops s is behind = bad_or_unread at meant behind stops.0 ∙ (let h = stops.1 in let k = is in cc)
+
 -- where the first that isn't read is among these, not all of these are read
 unread_among : {X : Type 0} (meant : Option X) (at : Setting) (behind : Option Setting) (rest : Bool) (s : Setting) → (behind ≡ Some s → rest ≡ false) → bad_or at meant behind ≡ Some s
     → (is_some meant && rest) ≡ false

@@ -174,21 +174,6 @@ ghost use Rattle.tokei_config.specs.Seen.{additions_of};
 ghost use Rattle.tokei_table.specs.Extended.{addition_of};
 ghost use Rattle.tokei_folders.specs.AsTheyWere.{SameTree, NoFault};
 
-/// Adds a language and the extensions that it gains.
-fn add<'a>(
-    additions: &mut Vec<(LanguageType, &'a [String])>,
-    language: LanguageType,
-    extensions: &'a [String],
-) -> Result<(), AllocError>
-    ensures { OnOk result (map addition_of additions.new.items
-        ≡ map addition_of additions.old.items ++ (language, map string_bytes extensions.now) ∷ []) }
-{
-    match additions.push((language, extensions)) {
-        Ok(()) => Ok(()),
-        Err(_) => Err(AllocError),
-    }
-}
-
 /// The extensions that each language gains, in the order of the table.
 fn extensions_gained(
     alloc: Global,
@@ -199,7 +184,10 @@ fn extensions_gained(
 {
     let mut additions = Vec::new(alloc);
     for (language, config) in languages.iter() {
-        add(&mut additions, *language, config.extensions.as_slice())?;
+        match additions.push((*language, config.extensions.as_slice())) {
+            Ok(()) => {}
+            Err(_) => return Err(AllocError),
+        }
     }
     Ok(additions)
 }

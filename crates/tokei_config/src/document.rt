@@ -21,7 +21,7 @@ use toml::Table;
 use toml::de::Error;
 
 /// Why the members of a file are no configuration.
-#[derive(Clone, Copy, Debug, PartialEq, Eq)]
+#[derive(Clone, Copy)]
 pub(crate) enum SettingError {
     /// An allocation failed.
     Memory,
@@ -48,7 +48,7 @@ pub(crate) struct Values {
     pub sort: Option<Sort>,
 }
 
-/// Why a text counts as empty.
+/// Why a file counts as empty.
 #[derive(Drop)]
 pub(crate) struct Reason {
     pub cause: Cause,
@@ -56,10 +56,11 @@ pub(crate) struct Reason {
     pub detail: Text,
 }
 
-/// What a text says.
+/// What a file says.
 #[derive(Drop)]
-pub(crate) struct TextRead {
-    pub config: Config,
+pub(crate) struct FileRead {
+    /// Its configuration, where it has a text.
+    pub config: Option<Config>,
     /// Why it counts as empty, where it does.
     pub reason: Option<Reason>,
 }
@@ -149,12 +150,12 @@ fn config_in(alloc: Global, table: &LanguageTable, members: &Table) -> Result<Co
 }
 
 /// A text that counts as empty for a setting.
-fn bad_setting(alloc: Global, setting: Setting) -> TextRead
-    ensures config { settings_of result.config ≡ empty }
+fn bad_setting(alloc: Global, setting: Setting) -> FileRead
+    ensures config { option_map settings_of result.config ≡ Some empty }
     ensures cause { option_map (λ r. r.cause) result.reason ≡ Some (BadSetting setting) }
 {
-    TextRead {
-        config: Config::new(),
+    FileRead {
+        config: Some(Config::new()),
         reason: Some(Reason {
             cause: Cause::BadSetting(setting),
             detail: Text::from_string(String::new(alloc)),
@@ -177,15 +178,15 @@ fn line_of(text: &str, error: &Error) -> usize {
 }
 
 /// A text that isn't TOML, with the parser's words.
-fn not_toml(alloc: Global, text: &str, error: &Error) -> Result<TextRead, AllocError>
-    ensures config { IfOk result (λ r. settings_of r.config ≡ empty) }
+fn not_toml(alloc: Global, text: &str, error: &Error) -> Result<FileRead, AllocError>
+    ensures config { IfOk result (λ r. option_map settings_of r.config ≡ Some empty) }
     ensures cause { IfOk result (λ r. option_map (λ r. r.cause) r.reason ≡ Some NotToml) }
 {
     let line = line_of(text, error);
     let words = error.message();
     let detail = format!(in alloc; "line {line}: {words}")?;
-    Ok(TextRead {
-        config: Config::new(),
+    Ok(FileRead {
+        config: Some(Config::new()),
         reason: Some(Reason {
             cause: Cause::NotToml,
             detail: Text::from_string(detail),
@@ -195,20 +196,20 @@ fn not_toml(alloc: Global, text: &str, error: &Error) -> Result<TextRead, AllocE
 
 /// What a file's text says. It counts as empty where it isn't TOML, or where a member is of a wrong
 /// kind or names what isn't known. It fails where memory runs out.
-#[tactic(auto, unfolding(crate::specs::Document::settings_of_text, crate::specs::Flaws::cause_of_text))]
 pub(crate) fn config_of_text(
     alloc: Global,
     table: &LanguageTable,
     text: &str,
-) -> Result<TextRead, AllocError>
-    ensures config { IfOk result (λ r. settings_of r.config ≡ settings_of_text table.now text.now) }
+) -> Result<FileRead, AllocError>
+    ensures config { IfOk result (λ r. option_map settings_of r.config
+        ≡ Some (settings_of_text table.now text.now)) }
     ensures cause { IfOk result (λ r. option_map (λ r. r.cause) r.reason
         ≡ cause_of_text table.now text.now) }
 {
     match toml::table_from_str(alloc, text) {
         Ok(members) => match config_in(alloc, table, &members) {
-            Ok(config) => Ok(TextRead {
-                config,
+            Ok(config) => Ok(FileRead {
+                config: Some(config),
                 reason: None,
             }),
             Err(SettingError::Bad(setting)) => Ok(bad_setting(alloc, setting)),

@@ -1,9 +1,10 @@
 //! The configuration files of a user.
-ghost use Rattle.std.specs.Prelude.{◌≡◌, ◌≢◌, ◌<◌, ◌++◌, IfOk, OnOk, option_map, option_and_then, string_bytes, None, Some};
+ghost use Rattle.std.specs.Prelude.{◌≡◌, ◌<◌, ◌++◌, IfOk, OnOk, option_map, option_and_then, string_bytes, None, Some};
 ghost use Rattle.tokei_config.specs.Document.{settings_of_text};
 ghost use Rattle.tokei_config.specs.Files.{as_text, text_at, settings_of_folder};
-ghost use Rattle.tokei_config.specs.Flaws.{cause_of_bytes, cause_of_found, flaw_at, flaws_in, listed, placed_cause, placed_causes};
-ghost use Rattle.tokei_config.specs.Found.{content_of, found_of, file_found};
+ghost use Rattle.tokei_config.specs.Flaws.{cause_of_bytes, cause_of_found, flaw_at, flaws_in, listed, placed_causes};
+ghost use Rattle.tokei_config.specs.Found.{file_found};
+ghost use Rattle.tokei_config.specs.declared.flaws.Cause.TheVariants.{Unreadable};
 ghost use Rattle.tokei_folders.specs.Answers.{node_content};
 ghost use Rattle.tokei_config.specs.Seen.{settings_of};
 ghost use Rattle.tokei_config.specs.Settings.{first_of_each};
@@ -13,7 +14,7 @@ ghost use Rattle.tokei_folders.specs.Tree.{names_of, node_at};
 ghost use Rattle.tokei_folders.specs.AsTheyWere.{SameTree, NoFault};
 
 use crate::config::Config;
-use crate::document::{Reason, config_of_text};
+use crate::document::{FileRead, Reason, config_of_text};
 use crate::flaws::{Cause, Flaw};
 use std::alloc::{AllocError, Global};
 use tokei_folders::places::joined;
@@ -31,87 +32,20 @@ pub struct ConfigDirs {
     pub current: Option<String>,
 }
 
-/// What some bytes say.
-#[derive(Drop)]
-struct BytesRead {
-    /// The configuration, where they are UTF-8.
-    config: Option<Config>,
-    /// Why they count as empty, where they do.
-    reason: Option<Reason>,
-}
-
-/// What there is of a file.
-#[derive(Drop)]
-pub(crate) enum Found {
-    /// No file.
-    Nothing,
-    /// A file that can't be read, and why in the system's words, where it has some.
-    Unreadable(Text),
-    Content(Vec<u8>),
-}
-
-/// A file that can't be read.
-fn unreadable<F: Folders>(alloc: Global, folders: &F) -> Result<Found, AllocError>
-    ensures content { IfOk result (λ f. content_of f ≡ None) }
-    ensures found { IfOk result (λ f. found_of f ≡ Some None) }
-{
-    let words = folders.cause(alloc)?;
-    Ok(Found::Unreadable(Text::from_string(words)))
-}
-
-/// The content of a file.
-fn content_at<F: Folders>(alloc: Global, folders: &mut F, place: &str) -> Result<Found, AllocError>
-    ensures same { SameTree F.tree folders.old folders.new }
-    ensures told { Told (F.tree folders.old) (λ t. IfOk result (λ f.
-        node_content (node_at t (names_of place.now)) ≡ content_of f)) }
-    ensures file { IfOk result (λ f. found_of f ≢ None) }
-    ensures honest { NoFault F.memory_faults folders.old folders.new result }
-{
-    match folders.read(place) {
-        Ok(bytes) => Ok(Found::Content(bytes)),
-        Err(Fault::Refused) => unreadable(alloc, folders),
-        Err(Fault::Memory) => Err(AllocError),
-    }
-}
-
-/// What there is of a file. A place of which it can't be told what stands there has one that can't
-/// be read.
-fn found_at<F: Folders>(alloc: Global, folders: &mut F, place: &str) -> Result<Found, AllocError>
-    ensures same { SameTree F.tree folders.old folders.new }
-    ensures told { Told (F.tree folders.old) (λ t. IfOk result (λ f.
-        node_content (node_at t (names_of place.now)) ≡ content_of f)) }
-    ensures found { Told (F.tree folders.old) (λ t. IfOk result (λ f.
-        file_found (node_at t (names_of place.now)) ≡ found_of f)) }
-    ensures honest { NoFault F.memory_faults folders.old folders.new result }
-{
-    match folders.kind_if_any(place) {
-        Ok(Some(Kind::File)) => content_at(alloc, folders, place),
-        Ok(_) => Ok(Found::Nothing),
-        Err(Fault::Refused) => unreadable(alloc, folders),
-        Err(Fault::Memory) => Err(AllocError),
-    }
-}
-
 /// What some bytes say, where they are UTF-8.
 fn config_of_bytes(
     alloc: Global,
     table: &LanguageTable,
     bytes: &[u8],
-) -> Result<BytesRead, AllocError>
+) -> Result<FileRead, AllocError>
     ensures config { IfOk result (λ r. option_map settings_of r.config
         ≡ option_map (settings_of_text table.now) (as_text bytes.now)) }
     ensures cause { IfOk result (λ r. option_map (λ w. w.cause) r.reason
         ≡ cause_of_bytes table.now bytes.now) }
 {
     match std::str::from_utf8(bytes) {
-        Ok(text) => {
-            let read = config_of_text(alloc, table, text)?;
-            Ok(BytesRead {
-                config: Some(read.config),
-                reason: read.reason,
-            })
-        }
-        Err(_) => Ok(BytesRead {
+        Ok(text) => config_of_text(alloc, table, text),
+        Err(_) => Ok(FileRead {
             config: None,
             reason: Some(Reason {
                 cause: Cause::NotUtf8,
@@ -121,41 +55,54 @@ fn config_of_bytes(
     }
 }
 
-/// What is read of a file.
-fn config_of_found(
-    alloc: Global,
-    table: &LanguageTable,
-    found: Found,
-) -> Result<BytesRead, AllocError>
-    ensures config { IfOk result (λ r. option_map settings_of r.config
-        ≡ option_map (settings_of_text table.now)
-        (option_and_then as_text (content_of found))) }
-    ensures cause { IfOk result (λ r. option_map (λ w. w.cause) r.reason
-        ≡ cause_of_found table.now (found_of found)) }
+/// A file that can't be read, with the system's words, where it has some.
+fn unreadable<F: Folders>(alloc: Global, folders: &F) -> Result<FileRead, AllocError>
+    ensures config { IfOk result (λ r. option_map settings_of r.config ≡ None) }
+    ensures cause { IfOk result (λ r. option_map (λ w. w.cause) r.reason ≡ Some Unreadable) }
 {
-    match found {
-        Found::Nothing => Ok(BytesRead {
-            config: None,
-            reason: None,
-        }),
-        Found::Unreadable(words) => Ok(BytesRead {
+    match folders.cause(alloc) {
+        Ok(words) => Ok(FileRead {
             config: None,
             reason: Some(Reason {
                 cause: Cause::Unreadable,
-                detail: words,
+                detail: Text::from_string(words),
             }),
         }),
-        Found::Content(bytes) => config_of_bytes(alloc, table, bytes.as_slice()),
+        Err(_) => Err(AllocError),
     }
 }
 
-/// What is read of the file at a place.
+/// What is read of the file that stands at a place.
+fn content_at<F: Folders>(
+    alloc: Global,
+    table: &LanguageTable,
+    folders: &mut F,
+    place: &str,
+) -> Result<FileRead, AllocError>
+    ensures same { SameTree F.tree folders.old folders.new }
+    ensures told { Told (F.tree folders.old) (λ t. IfOk result (λ r.
+        option_map settings_of r.config ≡ option_map (settings_of_text table.now)
+        (option_and_then as_text (node_content (node_at t (names_of place.now)))))) }
+    ensures cause { Told (F.tree folders.old) (λ t. IfOk result (λ r.
+        option_map (λ w. w.cause) r.reason
+        ≡ cause_of_found table.now (Some (node_content (node_at t (names_of place.now)))))) }
+    ensures honest { NoFault F.memory_faults folders.old folders.new result }
+{
+    match folders.read(place) {
+        Ok(bytes) => config_of_bytes(alloc, table, bytes.as_slice()),
+        Err(Fault::Refused) => unreadable(alloc, folders),
+        Err(Fault::Memory) => Err(AllocError),
+    }
+}
+
+/// What is read of the file at a place. A place of which it can't be told what stands there has one
+/// that can't be read.
 fn read_at<F: Folders>(
     alloc: Global,
     table: &LanguageTable,
     folders: &mut F,
     place: &str,
-) -> Result<BytesRead, AllocError>
+) -> Result<FileRead, AllocError>
     ensures same { SameTree F.tree folders.old folders.new }
     ensures told { Told (F.tree folders.old) (λ t. IfOk result (λ r.
         option_map settings_of r.config ≡ option_map (settings_of_text table.now)
@@ -165,33 +112,32 @@ fn read_at<F: Folders>(
         ≡ cause_of_found table.now (file_found (node_at t (names_of place.now))))) }
     ensures honest { NoFault F.memory_faults folders.old folders.new result }
 {
-    let found = found_at(alloc, folders, place)?;
-    config_of_found(alloc, table, found)
-}
-
-/// The flaw of a file at a place.
-fn flaw_of(place: Text, reason: Option<Reason>) -> Option<Flaw>
-    ensures { option_map placed_cause result ≡ option_map (λ r. (place, r.cause)) reason }
-{
-    match reason {
-        None => None,
-        Some(reason) => Some(Flaw {
-            place,
-            cause: reason.cause,
-            detail: reason.detail,
+    match folders.kind_if_any(place) {
+        Ok(Some(Kind::File)) => content_at(alloc, table, folders, place),
+        Ok(_) => Ok(FileRead {
+            config: None,
+            reason: None,
         }),
+        Err(Fault::Refused) => unreadable(alloc, folders),
+        Err(Fault::Memory) => Err(AllocError),
     }
 }
 
-/// Adds a flaw, where there is one.
-fn push(flaws: &mut Vec<Flaw>, flaw: Option<Flaw>) -> Result<(), AllocError>
-    ensures { OnOk result (placed_causes flaws.new.items
-        ≡ placed_causes flaws.old.items ++ listed (option_map placed_cause flaw)) }
+/// The configuration that was read of the file at a place. Adds the file's flaw, where it has one.
+fn noted(flaws: &mut Vec<Flaw>, place: Text, read: FileRead) -> Result<Option<Config>, AllocError>
+    ensures config { IfOk result (λ c. c ≡ read.config) }
+    ensures flawed { OnOk result (placed_causes flaws.new.items ≡ placed_causes flaws.old.items
+        ++ listed (option_map (λ r. (place, r.cause)) read.reason)) }
 {
-    match flaw {
-        None => Ok(()),
-        Some(flaw) => match flaws.push(flaw) {
-            Ok(()) => Ok(()),
+    let FileRead { config, reason } = read;
+    match reason {
+        None => Ok(config),
+        Some(reason) => match flaws.push(Flaw {
+            place,
+            cause: reason.cause,
+            detail: reason.detail,
+        }) {
+            Ok(()) => Ok(config),
             Err(_) => Err(AllocError),
         },
     }
@@ -218,8 +164,7 @@ fn config_at<F: Folders>(
     let (folder, name) = file;
     let place = joined(alloc, folder, name)?;
     let read = read_at(alloc, table, folders, place.as_str())?;
-    push(flaws, flaw_of(place, read.reason))?;
-    Ok(read.config)
+    noted(flaws, place, read)
 }
 
 /// The configuration of a folder's file; an empty one where there is no folder or no file that can

@@ -38,7 +38,10 @@ fn languages_named(
 {
     let mut languages = Vec::new(alloc);
     for value in values {
-        languages.push(language(table, value).ok_or(MemberError::Unreadable)?)?;
+        match language(table, value) {
+            Some(language) => languages.push(language)?,
+            None => return Err(MemberError::Unreadable),
+        }
     }
     Ok(languages)
 }

@@ -10,7 +10,7 @@ use tokei_options::Sort;
 use toml::{Table, Value};
 
 /// Why a member isn't read.
-#[derive(Clone, Copy, Debug, PartialEq, Eq)]
+#[derive(Clone, Copy)]
 pub(crate) enum MemberError {
     /// An allocation failed.
     Memory,

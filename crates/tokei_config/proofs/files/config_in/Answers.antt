@@ -68,3 +68,22 @@ returns-in-None-clause-flawed g c = λ t e.
     let more = c.in_ok-config-2.ensures.flawed t (c.in_ok-config.ensures.same ∙ e)
     ∙ ap (λ r. placed_causes c.config_at.new.flaws.items ++ listed (flaw_at c.args.table.now t r (codes ".tokeirc"))) c.as_str-place.ensures.value in
     rw c.in-Some.is (second_flaws c.args.table.now t place (placed_causes c.args.flaws.now.items) fs _ _ text first begun more)
+
+pub returns-in-Some-3-clause-same : goal.returns-in-Some-3-clause-same
+returns-in-Some-3-clause-same g c = c.in_ok-config-2.ensures.same ∙ c.in_ok-config.ensures.same
+
+pub returns-in-Some-3-clause-honest : goal.returns-in-Some-3-clause-honest
+returns-in-Some-3-clause-honest g c = λ below.
+    let first = c.in_ok-config.ensures.honest below in
+    c.in_ok-config-2.ensures.honest (rw first below) ∙ first
+
+pub returns-in-None-clause-same : goal.returns-in-None-clause-same
+returns-in-None-clause-same g c = c.in_ok-config-2.ensures.same ∙ c.in_ok-config.ensures.same
+
+pub returns-in-None-clause-honest : goal.returns-in-None-clause-honest
+returns-in-None-clause-honest g c = λ below.
+    let first = c.in_ok-config.ensures.honest below in
+    c.in_ok-config-2.ensures.honest (rw first below) ∙ first
+
+pub returns-in-Some-2-clause-honest : goal.returns-in-Some-2-clause-honest
+returns-in-Some-2-clause-honest g c = c.in_ok-config.ensures.honest

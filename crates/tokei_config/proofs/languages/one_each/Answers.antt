@@ -1,5 +1,7 @@
-use Rattle.std.proofs.Common.{◌≡◌, ◌∷◌, ◌∙◌, [], refl, ap, sym, rules, fold}
+use Rattle.std.proofs.Common.{◌≡◌, ◌∷◌, ◌∙◌, [], Some, None, cond, false, refl, ap, sym, arith, rules, fold}
+use Rattle.std.proofs.lemmas.List.{nil_from_length}
 use Rattle.std.specs.Vec.Iter.{into_iter_items}
+use Rattle.tokei_config.specs.Languages.{named_twice, in_table_order}
 use Rattle.tokei_config.specs.Seen.{additions_of, extensions_of}
 use Rattle.tokei_config.proofs.InOrder.{placed, placed-seen, clash, clash-none, clash-put}
 use Rattle.tokei_config.proofs.languages.one_each.Goals as goal
@@ -26,3 +28,10 @@ loop-language-init c =
       order = rw (all, none) refl;
       clashes = rw (all, none) (sym (clash-none (additions_of c.args.found.items)));
     }
+
+pub returns : goal.returns
+returns c =
+    let none = nil_from_length (into_iter_items c.loop-language.language-iterator) (omega (arith, c.in-None.ensures.steps.0)) in
+    let order = c.loop-language.invariant.order ∙ ap (λ es. fold placed (additions_of c.loop-language.languages.entries) (additions_of es)) none in
+    let clashes : named_twice (additions_of c.args.found.items) ≡ false = c.loop-language.invariant.clashes ∙ ap (λ es. clash c.loop-language.languages.entries (additions_of es)) none in
+    ap (λ twice. cond twice None (Some (in_table_order (additions_of c.args.found.items)))) clashes ∙ ap (λ es. Some es) order
