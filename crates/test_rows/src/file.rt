@@ -4,7 +4,7 @@ use crate::page::Page;
 use crate::request::Request;
 use crate::row::Row;
 use crate::subject::Subject;
-use crate::tables::{Asked, Tables, made_tables, own_table};
+use crate::tables::{Tables, made_tables, own_table};
 use crate::told::Told;
 use anyhow::bail;
 use std::alloc::Global;

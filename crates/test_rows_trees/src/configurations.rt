@@ -9,8 +9,10 @@ use toml::Value;
 /// A configuration in which the switches of the row are on, and the others off.
 fn switched(row: &Row, answers: &mut Answers) -> Config {
     let mut config = Config::new();
-    config.treat_doc_strings_as_comments =
-        answers.read(row.flag_if("doc_strings_are_comments"), None);
+    config.treat_doc_strings_as_comments = answers.read(
+        row.flag_if("doc_strings_are_comments"),
+        None,
+    );
     config.hidden = Some(false);
     config.no_ignore = Some(false);
     config.no_ignore_parent = Some(false);

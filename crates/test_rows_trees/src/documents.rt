@@ -54,11 +54,7 @@ fn check(
 
 /// The document of languages, which is read as these, as their value is; none where it can't be
 /// made.
-fn printed(
-    table: &LanguageTable,
-    languages: &Languages,
-    answers: &mut Answers,
-) -> Option<String> {
+fn printed(table: &LanguageTable, languages: &Languages, answers: &mut Answers) -> Option<String> {
     let of_value = (
         "the value of the languages isn't read",
         "their value is read as other languages",

@@ -34,8 +34,10 @@ fn put_blobs(table: &LanguageTable, blobs: &Row, stats: &mut CodeStats, answers:
     for (name, value) in blobs.members {
         if let Some(language) = named(table, name.as_str(), answers) {
             let mut blob = CodeStats::new(answers.alloc);
-            (blob.blanks, blob.code, blob.comments) =
-                answers.read(three_of("blobs", value), (0, 0, 0));
+            (blob.blanks, blob.code, blob.comments) = answers.read(
+                three_of("blobs", value),
+                (0, 0, 0),
+            );
             answers.done(stats.blobs.insert(language, blob));
         }
     }

@@ -25,10 +25,8 @@ fn fitting(pattern: &Pattern, names: &[Text], folder: bool) -> &'static str {
     }
 }
 
-/// What a pattern answers of the row's path.
-fn answer(pattern: &Pattern, row: &Row, answers: &mut Answers) -> &'static str {
-    let folder = answers.flag(row, "folder");
-    let path = answers.text(row, "path");
+/// What a pattern answers of a path.
+fn answer(pattern: &Pattern, path: &str, folder: bool, answers: &mut Answers) -> &'static str {
     match answers.got(names(answers.alloc, path)) {
         Some(names) => fitting(pattern, names.as_slice(), folder),
         None => "",
@@ -37,6 +35,8 @@ fn answer(pattern: &Pattern, row: &Row, answers: &mut Answers) -> &'static str {
 
 /// What the pattern of the row's line or exclude answers.
 pub fn came(row: &Row, answers: &mut Answers) {
+    let folder = answers.flag(row, "folder");
+    let path = answers.text(row, "path");
     let pattern = if row.has("exclude") {
         Pattern::parse_exclude(answers.alloc, answers.text(row, "exclude"))
     } else {
@@ -44,7 +44,7 @@ pub fn came(row: &Row, answers: &mut Answers) {
     };
     match pattern {
         Ok(Some(pattern)) => {
-            let answer = answer(&pattern, row, answers);
+            let answer = answer(&pattern, path, folder, answers);
             answers.say("answer", Said::Text(answer));
         }
         Ok(None) => answers.say("answer", Said::Text("no pattern")),

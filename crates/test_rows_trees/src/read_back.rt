@@ -43,12 +43,7 @@ fn is_read_back(table: &LanguageTable, languages: &Languages, answers: &mut Answ
 }
 
 /// A list of the text of a member, or of another one where the row hasn't the member.
-fn one(
-    row: &Row,
-    member: &'static str,
-    other: &str,
-    answers: &mut Answers,
-) -> Vec<String> {
+fn one(row: &Row, member: &'static str, other: &str, answers: &mut Answers) -> Vec<String> {
     let text = answers.text_if(row, member).unwrap_or(other);
     let mut list = Vec::new(answers.alloc);
     if let Some(text) = answers.got(String::from_str(answers.alloc, text)) {

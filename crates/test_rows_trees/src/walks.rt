@@ -49,10 +49,7 @@ fn rules(row: &Row, answers: &mut Answers) -> Rules {
             "dot" => rules.dot = false,
             "git" => rules.git = false,
             "hidden" => rules.hidden = false,
-            _ => answers.fail(RowError::Kind(
-                "without",
-                "a list of parents, dot, git and hidden",
-            )),
+            _ => answers.fail(RowError::Kind("without", "a list of parents, dot, git and hidden")),
         }
     }
     rules
@@ -101,12 +98,7 @@ fn say_kept<F: Folders>(folders: &mut F, wanted: &Wanted, answers: &mut Answers)
 }
 
 /// Adds the files and notes that a walk answers, one call after the other, up to ten thousand.
-fn put_steps<F: Folders>(
-    folders: &mut F,
-    walk: &mut Walk,
-    page: &mut Page,
-    answers: &mut Answers,
-) {
+fn put_steps<F: Folders>(folders: &mut F, walk: &mut Walk, page: &mut Page, answers: &mut Answers) {
     for _ in 0..10_000 {
         match answers.read(walk.next(folders), None) {
             Some(file) => put_file(page, &file),

@@ -58,7 +58,10 @@ fn say_words(words: &[&str], answers: &mut Answers) {
 
 /// Says what the word of a style stands for, or the row's number in it.
 fn say_style(word: &str, row: &Row, answers: &mut Answers) {
-    match (word.parse::<NumberFormatStyle>(), answers.read(row.number_if("number"), None)) {
+    match (
+        word.parse::<NumberFormatStyle>(),
+        answers.read(row.number_if("number"), None),
+    ) {
         (Ok(style), Some(number)) => {
             let text = style.get_format().grouped(answers.alloc, number as usize);
             if let Some(text) = answers.got(text) {
