@@ -1,5 +1,5 @@
 //! What the public calls answer to a row, compared with what the row wants as it is said.
-use crate::compared::{put_difference, put_indented, put_missed};
+use crate::compared::{put_difference, put_missed};
 use crate::error::RowError;
 use crate::page::Page;
 use crate::row::{Row, has_word};
@@ -23,7 +23,8 @@ pub struct Answers<'a> {
     said: Vec<&'static str>,
     left: Vec<&'static str>,
     parts: Table,
-    told: String,
+    /// The lines that tell why the row doesn't hold; none where it holds.
+    pub(crate) told: Page,
     wrong: Option<RowError>,
 }
 
@@ -48,32 +49,72 @@ impl<'a> Answers<'a> {
             said: Vec::new(alloc),
             left: Vec::new(alloc),
             parts: Table::new(alloc),
-            told: String::new(alloc),
+            told: Page::new(alloc),
             wrong: None,
         }
     }
 
-    /// The lines that tell why the row doesn't hold; none where it holds.
-    pub fn told(&self) -> &str {
-        self.told.as_str()
-    }
-
-    /// Keeps what went wrong, where something did and nothing had before.
-    fn keep(&mut self, done: Result<(), RowError>) {
-        if let (Err(cause), None) = (done, self.wrong) {
+    /// Keeps why the row can't be asked, where nothing went wrong before.
+    pub fn fail(&mut self, cause: RowError) {
+        if self.wrong.is_none() {
             self.wrong = Some(cause);
         }
     }
 
-    /// Keeps why the row can't be asked.
-    pub fn fail(&mut self, cause: RowError) {
-        self.keep(Err(cause));
+    /// Whether something went wrong.
+    pub fn is_wrong(&self) -> bool {
+        self.wrong.is_some()
+    }
+
+    /// What a call gives; where it gives nothing, why is kept.
+    pub fn got<T, E: Into<RowError>>(&mut self, given: Result<T, E>) -> Option<T> {
+        match given {
+            Ok(value) => Some(value),
+            Err(cause) => {
+                self.fail(cause.into());
+                None
+            }
+        }
+    }
+
+    /// What a call gives; where it gives nothing, why is kept, and another value stands for it. So
+    /// who reads a row needs no exit: of a row that can't be asked only what was kept first is told.
+    pub fn read<T: Drop, E: Into<RowError>>(&mut self, given: Result<T, E>, other: T) -> T {
+        match self.got(given) {
+            Some(value) => value,
+            None => other,
+        }
+    }
+
+    /// The text of a member of a row, or an empty one.
+    pub fn text<'r>(&mut self, row: &Row<'r>, member: &'static str) -> &'r str {
+        self.read(row.text(member), "")
+    }
+
+    /// The text of a member of a row, where it has one.
+    pub fn text_if<'r>(&mut self, row: &Row<'r>, member: &'static str) -> Option<&'r str> {
+        self.read(row.text_if(member), None)
+    }
+
+    /// Whether a member of a row is true.
+    pub fn flag(&mut self, row: &Row, member: &'static str) -> bool {
+        self.read(row.flag(member), false)
+    }
+
+    /// The values of a member of a row that is a list, or none.
+    pub fn list<'r>(&mut self, row: &Row<'r>, member: &'static str) -> &'r [Value] {
+        self.read(row.list(member), &[])
+    }
+
+    /// Keeps why a call failed, where it did.
+    pub fn done<T: Drop, E: Into<RowError>>(&mut self, made: Result<T, E>) {
+        let _made = self.got(made);
     }
 
     /// Tells why the row can't be asked.
-    pub fn refuse(&mut self, cause: &str) {
-        let done = put_indented(&mut self.told, cause);
-        self.keep(done);
+    pub fn refuse(&mut self, cause: &Page) {
+        self.told.put_indented(cause);
+        self.fail(RowError::Told);
     }
 
     /// Leaves a member out of what is compared, whatever is then answered for it.
@@ -90,38 +131,29 @@ impl<'a> Answers<'a> {
         }
     }
 
-    /// Compares what came for a member with what is wanted.
-    fn compare(&mut self, member: &'static str, came: &Value) -> Result<(), RowError> {
-        self.said.push(member)?;
-        if has_word(&self.left, member) || self.agrees(member, came) {
-            return Ok(());
+    /// Compares what came for a member with what is wanted, unless something went wrong before.
+    fn compare(&mut self, member: &'static str, came: &Value) {
+        let said = self.said.push(member);
+        self.done(said);
+        if self.wrong.is_none() && !has_word(&self.left, member) && !self.agrees(member, came) {
+            let wanted = self.row.value(member);
+            put_difference(self.alloc, &mut self.told, member, wanted, came);
         }
-        put_difference(
-            self.alloc,
-            &mut self.told,
-            member,
-            self.row.value(member),
-            came,
-        )
-    }
-
-    /// Compares what is said for a member with what is wanted.
-    fn compare_said(&mut self, member: &'static str, said: Said<'_>) -> Result<(), RowError> {
-        let came = value_of(self.alloc, said)?;
-        self.compare(member, &came)
     }
 
     /// Answers for a member.
     pub fn say(&mut self, member: &'static str, said: Said<'_>) {
-        let done = self.compare_said(member, said);
-        self.keep(done);
+        let came = value_of(self.alloc, said);
+        if let Some(came) = self.got(came) {
+            self.compare(member, &came);
+        }
     }
 
     /// Answers for a member by what a page holds.
     pub fn say_page(&mut self, member: &'static str, page: &Page) {
         match page.text() {
             Some(text) => self.say(member, Said::Text(text)),
-            None => self.keep(Err(RowError::Memory)),
+            None => self.fail(RowError::Memory),
         }
     }
 
@@ -143,95 +175,79 @@ impl<'a> Answers<'a> {
     pub fn say_written(&mut self, member: &'static str, written: &[u8]) {
         match from_utf8(written) {
             Ok(text) => self.say(member, Said::Text(text)),
-            Err(_) => self.keep(Err(RowError::Kind(member, "what came: that is no text"))),
+            Err(_) => self.fail(RowError::Kind(member, "what came: that is no text")),
         }
     }
 
     /// Says of a member that it is as it should be; else what came in its place.
-    fn say_if(&mut self, member: &'static str, is_right: Result<bool, RowError>, came: &str) {
-        match is_right {
-            Ok(true) => {
-                let done = self.said.push(member);
-                self.keep(done.map_err(RowError::from));
-            }
-            Ok(false) => self.say(member, Said::Text(came)),
-            Err(cause) => self.keep(Err(cause)),
+    fn say_if(&mut self, member: &'static str, is_right: bool, came: &str) {
+        if is_right {
+            let said = self.said.push(member);
+            self.done(said);
+        } else {
+            self.say(member, Said::Text(came));
         }
-    }
-
-    /// Whether all texts of a member stand in a text, or none of them.
-    fn stand(&self, member: &'static str, text: &str, stand: bool) -> Result<bool, RowError> {
-        Ok(!has_other(self.row.list(member)?, text, stand))
     }
 
     /// Answers for a member that is a list of texts by a text, in which all of them should stand.
     pub fn say_standing(&mut self, member: &'static str, text: &str) {
-        let is_right = self.stand(member, text, true);
-        self.say_if(member, is_right, text);
+        let parts = self.row.list(member);
+        let parts = self.read(parts, &[]);
+        self.say_if(member, !has_other(parts, text, true), text);
     }
 
     /// Answers for a member that is a list of texts by a text, in which none of them should stand.
     pub fn say_absent(&mut self, member: &'static str, text: &str) {
-        let is_right = self.stand(member, text, false);
-        self.say_if(member, is_right, text);
-    }
-
-    /// Whether a text begins with the one of a member.
-    fn begins(&self, member: &'static str, text: &str) -> Result<bool, RowError> {
-        Ok(text.starts_with(self.row.text(member)?))
+        let parts = self.row.list(member);
+        let parts = self.read(parts, &[]);
+        self.say_if(member, !has_other(parts, text, false), text);
     }
 
     /// Answers for a member that is a text by another one, which should begin with it.
     pub fn say_begun(&mut self, member: &'static str, text: &str) {
-        let is_right = self.begins(member, text);
-        self.say_if(member, is_right, text);
-    }
-
-    /// Puts a value under a name into the table that is said next.
-    fn insert(&mut self, name: &str, said: Said<'_>) -> Result<(), RowError> {
-        let value = value_of(self.alloc, said)?;
-        let name = String::from_str(self.alloc, name)?;
-        let _none = self.parts.insert(name, value)?;
-        Ok(())
+        let head = self.row.text(member);
+        let head = self.read(head, "");
+        self.say_if(member, text.starts_with(head), text);
     }
 
     /// Puts what is said under a name into the table that is said next.
     pub fn put(&mut self, name: &str, said: Said<'_>) {
-        let done = self.insert(name, said);
-        self.keep(done);
+        let value = value_of(self.alloc, said);
+        if let Some(value) = self.got(value) {
+            let name = String::from_str(self.alloc, name);
+            if let Some(name) = self.got(name) {
+                let put = self.parts.insert(name, value);
+                self.done(put);
+            }
+        }
     }
 
     /// Answers for a member by the table of what was put.
     pub fn say_parts(&mut self, member: &'static str) {
         let parts = mem::replace(&mut self.parts, Table::new(self.alloc));
-        let done = self.compare(member, &Value::Table(parts));
-        self.keep(done);
+        self.compare(member, &Value::Table(parts));
     }
 
     /// Tells the members of a list for which nothing came, though the row wants something.
-    fn miss_all(&mut self, members: &'static [&'static str]) -> Result<(), RowError> {
+    fn miss_all(&mut self, members: &'static [&'static str]) {
         for member in members {
             if !has_word(&self.said, member) && !has_word(&self.left, member) {
-                self.miss(member)?;
+                if let Some(wanted) = self.row.value(member) {
+                    put_missed(self.alloc, &mut self.told, member, wanted);
+                }
             }
         }
-        Ok(())
     }
 
-    /// Tells that nothing came for a member, where the row wants something.
-    fn miss(&mut self, member: &'static str) -> Result<(), RowError> {
-        match self.row.value(member) {
-            Some(wanted) => put_missed(self.alloc, &mut self.told, member, wanted),
-            None => Ok(()),
+    /// Tells what went wrong, or else all members for which nothing came, though the row wants
+    /// something.
+    pub fn finish(&mut self) {
+        match self.wrong {
+            None => {
+                self.miss_all(self.members.wanted);
+                self.miss_all(self.members.optional);
+            }
+            Some(cause) => cause.tell(&mut self.told),
         }
-    }
-
-    /// Tells all members for which nothing came, though the row wants something; what went wrong comes first.
-    pub fn finish(&mut self) -> Result<(), RowError> {
-        if let Some(cause) = self.wrong {
-            return Err(cause);
-        }
-        self.miss_all(self.members.wanted)?;
-        self.miss_all(self.members.optional)
     }
 }

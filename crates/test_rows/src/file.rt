@@ -1,12 +1,12 @@
 //! The rows of a file, and of all files of a program.
 use crate::answers::Answers;
-use crate::compared::put_indented;
-use crate::error::RowError;
+use crate::page::Page;
 use crate::request::Request;
 use crate::row::Row;
 use crate::subject::Subject;
-use crate::tables::{Asked, Tables, made_tables, own_table};
+use crate::tables::{Tables, made_tables, own_table};
 use crate::told::Told;
+use anyhow::bail;
 use std::alloc::Global;
 use std::collections::BTreeSet;
 use std::fs;
@@ -29,82 +29,45 @@ struct List<'a> {
     shared: Option<&'a Table>,
 }
 
-/// Says what the public calls answer to a row.
-fn say<S: Subject>(
-    subject: &S,
-    tables: &Tables,
-    row: &Row,
-    answers: &mut Answers,
-) -> Result<(), RowError> {
-    let own = own_table(row, answers)?;
-    let asked = Asked {
-        by: own.as_ref().or(tables.named.as_ref()),
-        bench: if own.is_some() {
-            None
-        } else {
-            tables.bench.as_ref()
-        },
-    };
-    subject.ask(&asked, row, answers)?;
-    answers.finish()
-}
-
-/// Asks a row, and tells of it where it doesn't hold.
-fn tell<S: Subject>(how: &How<S>, row: &Row, answers: &mut Answers) -> Result<(), RowError> {
-    match say(how.subject, how.tables, row, answers) {
-        Ok(()) | Err(RowError::Told) => Ok(()),
-        Err(RowError::Memory) => Err(RowError::Memory),
-        Err(cause) => {
-            let cause = format!(in how.alloc; "{cause}")?;
-            answers.refuse(cause.as_str());
-            Ok(())
-        }
+/// Asks what a row asks of the public calls, and tells where it doesn't hold. Where its own table
+/// can't be read, nothing is asked.
+fn tell<S: Subject>(how: &How<S>, row: &Row, answers: &mut Answers) {
+    let own = own_table(row, answers);
+    let asked = how.tables.asked(own.as_ref());
+    if !answers.is_wrong() {
+        let asking = how.subject.ask(&asked, row, answers);
+        answers.done(asking);
     }
-}
-
-/// The name of a member of a row that isn't known.
-fn unknown<'a, S: Subject>(how: &How<S>, row: &Row<'a>) -> Option<&'a str> {
-    let members = how.subject.members();
-    row.unknown(&[&["name"], members.given, members.wanted, members.optional])
-}
-
-/// Tells that a row has a member that isn't known.
-fn tell_unknown<S: Subject>(
-    how: &How<S>,
-    told: &mut Told,
-    row: &Row,
-    member: &str,
-) -> Result<(), RowError> {
-    let fault = format!(in how.alloc; "  the member {member} isn't known\n")?;
-    told.refuse_row(how.subject.file(), row.name, fault.as_str())
+    answers.finish();
 }
 
 /// Asks a row with its name.
-fn ask_named<S: Subject>(how: &How<S>, told: &mut Told, row: &Row) -> Result<(), RowError> {
-    if let Some(member) = unknown(how, row) {
-        return tell_unknown(how, told, row, member);
+fn ask_named<S: Subject>(how: &How<S>, told: &mut Told, row: &Row) {
+    let (file, members) = (how.subject.file(), how.subject.members());
+    let known = [&["name"], members.given, members.wanted, members.optional];
+    if let Some(member) = row.unknown(&known) {
+        told.refuse_row(file, row.name, &["  the member ", member, " isn't known\n"]);
+        return;
     }
-    let mut answers = Answers::new(how.alloc, *row, how.subject.members());
-    tell(how, row, &mut answers)?;
-    if answers.told().is_empty() {
-        told.pass();
-        return Ok(());
+    let mut answers = Answers::new(how.alloc, *row, members);
+    tell(how, row, &mut answers);
+    match answers.told.text() {
+        Some("") => told.pass(),
+        Some(faults) => told.refuse_row(file, row.name, &[faults]),
+        None => told.lines.cut(),
     }
-    told.refuse_row(how.subject.file(), row.name, answers.told())
 }
 
 /// Tells that a row has no name.
-fn tell_nameless<S: Subject>(how: &How<S>, told: &mut Told, place: usize) -> Result<(), RowError> {
-    let place = place.saturating_add(1);
-    let what = format!(in how.alloc; "row {place} doesn't hold\n  it has no name")?;
-    told.refuse(how.subject.file(), what.as_str())
-}
-
-/// Whether the rows of a name are asked.
-fn is_asked(only: Option<&str>, name: &str) -> bool {
-    match only {
-        Some(only) => only == name,
-        None => true,
+fn tell_nameless<S: Subject>(how: &How<S>, told: &mut Told, place: usize) {
+    let mut shown = Page::new(how.alloc);
+    shown.put_shown(&place.saturating_add(1));
+    match shown.text() {
+        Some(place) => told.refuse(
+            how.subject.file(),
+            &["row ", place, " doesn't hold\n  it has no name"],
+        ),
+        None => told.lines.cut(),
     }
 }
 
@@ -115,74 +78,67 @@ fn ask<'a, S: Subject>(
     seen: &mut BTreeSet<&'a str>,
     list: &List<'a>,
     place: usize,
-) -> Result<(), RowError> {
+) {
     let Some(row) = list.rows.get(place) else {
-        return Ok(());
+        return;
     };
     let (Some(members), Some(Value::String(name))) = (row.as_table(), row.get("name")) else {
         return tell_nameless(how, told, place);
     };
     let name = name.as_str();
-    if !seen.insert(name)? {
-        return told.refuse_row(how.subject.file(), name, "  the name stands twice\n");
+    match seen.insert(name) {
+        Ok(true) => {
+            if how.only.unwrap_or(name) == name {
+                ask_named(how, told, &Row::new(name, members, list.shared));
+            }
+        }
+        Ok(false) => told.refuse_row(how.subject.file(), name, &["  the name stands twice\n"]),
+        Err(_) => told.lines.cut(),
     }
-    if !is_asked(how.only, name) {
-        return Ok(());
-    }
-    ask_named(how, told, &Row::new(name, members, list.shared))
 }
 
-/// Asks all rows of a file.
-fn ask_all<S: Subject>(how: &How<S>, told: &mut Told, list: &List) -> Result<(), RowError> {
+/// Asks all rows of a file, unless memory runs out.
+fn ask_all<S: Subject>(how: &How<S>, told: &mut Told, list: &List) {
     let mut seen = BTreeSet::new(how.alloc);
     for place in 0..list.rows.len() {
-        ask(how, told, &mut seen, list, place)?;
-    }
-    Ok(())
-}
-
-/// Tells a member of a file that is neither `row` nor `shared`.
-fn tell_others<S: Subject>(how: &How<S>, told: &mut Told, members: &Table) -> Result<(), RowError> {
-    match Row::new("", members, None).unknown(&[&["row", "shared"]]) {
-        Some(member) => {
-            let what = format!(in how.alloc; "the member {member} isn't known")?;
-            told.refuse(how.subject.file(), what.as_str())
+        if told.lines.text().is_some() {
+            ask(how, told, &mut seen, list, place);
         }
-        None => Ok(()),
     }
 }
 
-/// Asks the rows of a file's members.
-fn ask_members<S: Subject>(how: &How<S>, told: &mut Told, members: &Table) -> Result<(), RowError> {
-    tell_others(how, told, members)?;
+/// Asks the rows of a file's members, and tells a member that is neither `row` nor `shared`.
+fn ask_members<S: Subject>(how: &How<S>, told: &mut Told, members: &Table) {
+    let file = how.subject.file();
+    if let Some(member) = Row::new("", members, None).unknown(&[&["row", "shared"]]) {
+        told.refuse(file, &["the member ", member, " isn't known"]);
+    }
     match members.get("row") {
         Some(Value::Array(rows)) => {
             let list = List {
                 rows: rows.as_slice(),
                 shared: members.get("shared").and_then(Value::as_table),
             };
-            ask_all(how, told, &list)
+            ask_all(how, told, &list);
         }
-        _ => told.refuse(how.subject.file(), "there are no rows"),
+        _ => told.refuse(file, &["there are no rows"]),
     }
 }
 
 /// Tells that a file isn't TOML, and why.
-fn tell_cause<S: Subject>(
-    how: &How<S>,
-    told: &mut Told,
-    cause: toml::de::Error,
-) -> Result<(), RowError> {
+fn tell_cause<S: Subject>(how: &How<S>, told: &mut Told, cause: toml::de::Error) {
     if cause.is_memory() {
-        return Err(RowError::Memory);
+        told.lines.cut();
+    } else {
+        let mut shown = Page::new(how.alloc);
+        shown.put_shown(&cause);
+        told.refuse(how.subject.file(), &["it isn't TOML"]);
+        told.lines.put_indented(&shown);
     }
-    let cause = format!(in how.alloc; "{cause}")?;
-    told.refuse(how.subject.file(), "it isn't TOML")?;
-    put_indented(&mut told.lines, cause.as_str())
 }
 
 /// Asks the rows of a file's text.
-fn ask_text<S: Subject>(how: &How<S>, told: &mut Told, text: &str) -> Result<(), RowError> {
+fn ask_text<S: Subject>(how: &How<S>, told: &mut Told, text: &str) {
     match toml::table_from_str(how.alloc, text) {
         Ok(members) => ask_members(how, told, &members),
         Err(cause) => tell_cause(how, told, cause),
@@ -190,10 +146,10 @@ fn ask_text<S: Subject>(how: &How<S>, told: &mut Told, text: &str) -> Result<(),
 }
 
 /// Asks the rows of a subject's file.
-fn ask_file<'x, S: Subject>(
+fn ask_file<S: Subject>(
     rt: &HostRuntime,
-    subject: &'x S,
-    request: &'x Request,
+    subject: &S,
+    request: &Request,
     told: &mut Told,
 ) -> anyhow::Result<()> {
     let path = request.table.as_ref().map(String::as_str);
@@ -205,22 +161,23 @@ fn ask_file<'x, S: Subject>(
         tables: &tables,
     };
     match fs::read_to_string(rt, subject.file()) {
-        Ok(text) => ask_text(&how, told, text.as_str())?,
-        Err(_) => told.refuse(subject.file(), "it can't be read")?,
+        Ok(text) => ask_text(&how, told, text.as_str()),
+        Err(_) => told.refuse(subject.file(), &["it can't be read"]),
     }
     Ok(())
 }
 
 /// Prints what is told of a file; whether all its rows hold.
 fn print_told(rt: &HostRuntime, file: &str, told: &Told) -> anyhow::Result<bool> {
-    let hold = told.hold;
-    let fail = told.fail;
+    let Some(lines) = told.lines.text() else {
+        bail!("out of memory");
+    };
+    let (hold, fail) = (told.hold, told.fail);
     if fail == 0 {
         println!(rt; "{file}: {hold} rows hold")?;
     } else {
         println!(rt; "{file}: {hold} rows hold, {fail} don't")?;
     }
-    let lines = told.lines.as_str();
     print!(rt; "{lines}")?;
     Ok(fail == 0)
 }

@@ -1,6 +1,6 @@
 //! Folders in memory, as a row has them.
 use crate::error::RowError;
-use crate::row::{Row, decode, has_word, text_of};
+use crate::row::{Row, decode, text_of};
 use std::alloc::Global;
 use tokei_folders::{Call, Fault, MemoryFolders};
 
@@ -79,21 +79,37 @@ pub fn add_files(alloc: Global, folders: &mut MemoryFolders, row: &Row) -> Resul
     Ok(())
 }
 
+/// The calls that folders of a row may refuse: the member with the places, and the call.
+const REFUSED: [(&str, Call); 3] = [
+    ("unread", Call::Read),
+    ("headless", Call::Head),
+    ("unlisted", Call::List),
+];
+
+/// Fills folders with a row's files, and has calls refused.
+fn fill(alloc: Global, folders: &mut MemoryFolders, row: &Row) -> Result<(), RowError> {
+    add_files(alloc, folders, row)?;
+    for (member, call) in REFUSED {
+        refuse_calls(folders, row, member, call)?;
+    }
+    Ok(())
+}
+
 /// The folders that a row's `files` and `files_hex` make. Those in `unread` refuse to be read,
 /// those in `headless` to have their heads read, and those in `unlisted` to be listed.
 pub fn folders_of(alloc: Global, row: &Row) -> Result<MemoryFolders, RowError> {
     let mut folders = MemoryFolders::new(alloc);
-    add_files(alloc, &mut folders, row)?;
-    refuse_calls(&mut folders, row, "unread", Call::Read)?;
-    refuse_calls(&mut folders, row, "headless", Call::Head)?;
-    refuse_calls(&mut folders, row, "unlisted", Call::List)?;
-    Ok(folders)
+    match fill(alloc, &mut folders, row) {
+        Ok(()) => Ok(folders),
+        Err(cause) => Err(cause),
+    }
 }
 
 /// The texts of a member, which may be left out, as owned ones.
 pub fn owned(alloc: Global, row: &Row, member: &'static str) -> Result<Vec<String>, RowError> {
+    let values = row.list(member)?;
     let mut texts = Vec::new(alloc);
-    for value in row.list(member)? {
+    for value in values {
         texts.push(String::from_str(alloc, text_of(member, value)?)?)?;
     }
     Ok(texts)
@@ -106,29 +122,4 @@ pub fn roots(alloc: Global, row: &Row) -> Result<Vec<String>, RowError> {
         roots.push(String::from_str(alloc, ".")?)?;
     }
     Ok(roots)
-}
-
-/// Tells a word of a list of texts that isn't one of these.
-pub fn known_words(
-    row: &Row,
-    member: &'static str,
-    known: &[&str],
-    kind: &'static str,
-) -> Result<(), RowError> {
-    for value in row.list(member)? {
-        if !has_word(known, text_of(member, value)?) {
-            return Err(RowError::Kind(member, kind));
-        }
-    }
-    Ok(())
-}
-
-/// Whether a list of texts has a word.
-pub fn says(row: &Row, member: &'static str, word: &str) -> Result<bool, RowError> {
-    for value in row.list(member)? {
-        if text_of(member, value)? == word {
-            return Ok(true);
-        }
-    }
-    Ok(false)
 }

@@ -19,7 +19,7 @@ mod told;
 pub use answers::Answers;
 pub use error::RowError;
 pub use file::ended;
-pub use folders::{add_files, add_texts, folders_of, known_words, owned, roots, says};
+pub use folders::{add_files, add_texts, folders_of, owned, roots};
 pub use notes::KINDS;
 pub use page::Page;
 pub use row::{Row, has_word, number_of, size_of, text_of, three_of};

@@ -23,6 +23,11 @@ impl Page {
         self.is_cut |= added.is_err();
     }
 
+    /// Keeps that memory ran out.
+    pub fn cut(&mut self) {
+        self.is_cut = true;
+    }
+
     /// Whether nothing was added.
     pub fn is_empty(&self) -> bool {
         self.text.is_empty()
@@ -41,6 +46,34 @@ impl Page {
     pub fn put(&mut self, text: &str) {
         let added = self.text.push_str(text);
         self.keep(added);
+    }
+
+    /// Adds texts, one behind the other.
+    pub fn put_all(&mut self, texts: &[&str]) {
+        for text in texts {
+            self.put(text);
+        }
+    }
+
+    /// Adds the lines of a text, each behind a mark.
+    pub fn put_lines(&mut self, mark: &str, text: &str) {
+        for line in text.split('\n') {
+            self.put_all(&["    ", mark, ": ", line, "\n"]);
+        }
+    }
+
+    /// Adds the lines of a page that aren't empty, each behind two blanks.
+    pub fn put_indented(&mut self, page: &Page) {
+        match page.text() {
+            Some(text) => {
+                for line in text.split('\n') {
+                    if !line.is_empty() {
+                        self.put_all(&["  ", line, "\n"]);
+                    }
+                }
+            }
+            None => self.is_cut = true,
+        }
     }
 
     /// Adds how a value is shown.

@@ -62,11 +62,14 @@ pub fn three_of(member: &'static str, value: &Value) -> Result<(usize, usize, us
     let [first, second, third] = values.as_slice() else {
         return Err(RowError::Kind(member, "three numbers"));
     };
-    Ok((
-        size_of(member, first)?,
-        size_of(member, second)?,
-        size_of(member, third)?,
-    ))
+    match (
+        size_of(member, first),
+        size_of(member, second),
+        size_of(member, third),
+    ) {
+        (Ok(first), Ok(second), Ok(third)) => Ok((first, second, third)),
+        _ => Err(RowError::Kind(member, "a number")),
+    }
 }
 
 /// The text that a value is.
@@ -210,8 +213,9 @@ impl<'a> Row<'a> {
 
     /// The texts of a member that is a list of texts. One that is left out is empty.
     pub fn texts(&self, alloc: Global, member: &'static str) -> Result<Vec<&'a str>, RowError> {
+        let values = self.list(member)?;
         let mut texts = Vec::new(alloc);
-        for value in self.list(member)? {
+        for value in values {
             texts.push(text_of(member, value)?)?;
         }
         Ok(texts)
@@ -233,10 +237,10 @@ impl<'a> Row<'a> {
         }
     }
 
-    /// The first name of a member that is none of these lists.
+    /// The first name of a member that is in none of these lists.
     pub fn unknown(&self, lists: &[&[&str]]) -> Option<&'a str> {
         for (member, _) in self.members {
-            if !lists.iter().any(|list| has_word(list, member.as_str())) {
+            if !is_known(lists, member.as_str()) {
                 return Some(member.as_str());
             }
         }
@@ -252,6 +256,16 @@ impl<'a> Row<'a> {
         }
         Ok(())
     }
+}
+
+/// Whether one of these lists has a word.
+fn is_known(lists: &[&[&str]], wanted: &str) -> bool {
+    for list in lists {
+        if has_word(list, wanted) {
+            return true;
+        }
+    }
+    false
 }
 
 /// Whether a list of words has a word.

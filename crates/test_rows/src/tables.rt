@@ -1,6 +1,7 @@
 //! The tables by which rows are asked.
 use crate::answers::Answers;
 use crate::error::RowError;
+use crate::page::Page;
 use crate::row::Row;
 use std::alloc::Global;
 use std::fs;
@@ -35,46 +36,74 @@ impl<'a> Asked<'a> {
     }
 }
 
+impl Tables {
+    /// The tables by which a row is asked that has its own one, or none.
+    pub fn asked<'a>(&'a self, own: Option<&'a LanguageTable>) -> Asked<'a> {
+        match own {
+            Some(own) => Asked {
+                by: Some(own),
+                bench: None,
+            },
+            None => Asked {
+                by: self.named.as_ref(),
+                bench: self.bench.as_ref(),
+            },
+        }
+    }
+}
+
 /// The table at a path.
 fn table_at(rt: &HostRuntime, path: &str) -> anyhow::Result<LanguageTable> {
     let bytes = fs::read(rt, path)?;
     Ok(LanguageTable::from_json(rt.alloc(), &bytes)?)
 }
 
+/// The bench table.
+fn bench_table(rt: &HostRuntime) -> anyhow::Result<LanguageTable> {
+    Ok(LanguageTable::from_json(rt.alloc(), bench_json())?)
+}
+
 /// The tables of a file whose rows may be asked by the table at a path, else by the bench table; none where they have
 /// tables of their own.
 pub fn made_tables(rt: &HostRuntime, by_table: bool, path: Option<&str>) -> anyhow::Result<Tables> {
-    let mut tables = Tables {
-        named: None,
-        bench: None,
+    let bench = if by_table {
+        Some(bench_table(rt)?)
+    } else {
+        None
     };
-    if by_table {
-        tables.named = Some(LanguageTable::from_json(rt.alloc(), bench_json())?);
+    match path {
+        Some(path) => Ok(Tables {
+            named: Some(table_at(rt, path)?),
+            bench,
+        }),
+        None => Ok(Tables {
+            named: bench,
+            bench: None,
+        }),
     }
-    if let Some(path) = path {
-        tables.bench = tables.named;
-        tables.named = Some(table_at(rt, path)?);
-    }
-    Ok(tables)
 }
 
 /// The table that a text in a row is.
-fn read(alloc: Global, text: &str, answers: &mut Answers) -> Result<LanguageTable, RowError> {
+fn read(alloc: Global, text: &str, answers: &mut Answers) -> Option<LanguageTable> {
     match LanguageTable::from_json(alloc, text.as_bytes()) {
-        Ok(table) => Ok(table),
-        Err(TableError::Memory) => Err(RowError::Memory),
+        Ok(table) => Some(table),
+        Err(TableError::Memory) => {
+            answers.fail(RowError::Memory);
+            None
+        }
         Err(cause) => {
-            let cause = format!(in alloc; "{cause}")?;
-            answers.refuse(cause.as_str());
-            Err(RowError::Told)
+            let mut shown = Page::new(alloc);
+            shown.put_shown(&cause);
+            answers.refuse(&shown);
+            None
         }
     }
 }
 
 /// The table that a row has itself: of its member `table_json`.
-pub fn own_table(row: &Row, answers: &mut Answers) -> Result<Option<LanguageTable>, RowError> {
-    match row.text_if("table_json")? {
-        Some(text) => Ok(Some(read(answers.alloc, text, answers)?)),
-        None => Ok(None),
+pub fn own_table(row: &Row, answers: &mut Answers) -> Option<LanguageTable> {
+    match answers.read(row.text_if("table_json"), None) {
+        Some(text) => read(answers.alloc, text, answers),
+        None => None,
     }
 }

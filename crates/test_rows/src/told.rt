@@ -1,5 +1,5 @@
 //! What is told of the rows of a file.
-use crate::error::RowError;
+use crate::page::Page;
 use std::alloc::Global;
 
 /// What is told of the rows of a file.
@@ -10,7 +10,7 @@ pub struct Told {
     /// How many don't.
     pub fail: usize,
     /// The lines on those that don't.
-    pub lines: String,
+    pub lines: Page,
 }
 
 impl Told {
@@ -19,7 +19,7 @@ impl Told {
         Told {
             hold: 0,
             fail: 0,
-            lines: String::new(alloc),
+            lines: Page::new(alloc),
         }
     }
 
@@ -29,16 +29,16 @@ impl Told {
     }
 
     /// Adds a row, or a file, of which something is told.
-    pub fn refuse(&mut self, file: &str, what: &str) -> Result<(), RowError> {
+    pub fn refuse(&mut self, file: &str, what: &[&str]) {
         self.fail = self.fail.saturating_add(1);
-        writeln!(self.lines, "{file}: {what}")?;
-        Ok(())
+        self.lines.put_all(&[file, ": "]);
+        self.lines.put_all(what);
+        self.lines.put("\n");
     }
 
     /// Adds a row with a name, and the lines that tell why it doesn't hold.
-    pub fn refuse_row(&mut self, file: &str, name: &str, faults: &str) -> Result<(), RowError> {
-        self.fail = self.fail.saturating_add(1);
-        write!(self.lines, "{file}: \"{name}\" doesn't hold\n{faults}")?;
-        Ok(())
+    pub fn refuse_row(&mut self, file: &str, name: &str, faults: &[&str]) {
+        self.refuse(file, &["\"", name, "\" doesn't hold"]);
+        self.lines.put_all(faults);
     }
 }

@@ -2,8 +2,7 @@
 use crate::configurations::configuration;
 use crate::given_languages::NO_LANGUAGE;
 use crate::shown_languages::put_stats;
-use std::alloc::Global;
-use test_rows::{Answers, Asked, Members, Page, Row, RowError, Said, folders_of};
+use test_rows::{Answers, Members, Page, Row, RowError, Said, folders_of};
 use tokei_count::Counter;
 use tokei_files::{ParseFault, from_path, from_shebang, parse_file};
 use tokei_folders::MemoryFolders;
@@ -36,50 +35,48 @@ pub const MEMBERS: Members = Members {
     by_table: true,
 };
 
-/// Says why a file has no report, and the path that comes back.
-fn say_fault(answers: &mut Answers, fault: ParseFault, path: &str) {
-    if fault == ParseFault::Memory {
-        answers.fail(RowError::Memory);
-    } else {
-        answers.say_shown("error", &fault);
-        answers.say("back", Said::Text(path));
-    }
-}
-
-/// The report of a file in the language of that name, or why it has none.
-fn parsed(
-    alloc: Global,
+/// Says the report of a file, or why it has none.
+fn say_parsed(
     table: &LanguageTable,
-    folders: &mut MemoryFolders,
-    row: &Row,
-    language: &str,
-) -> Result<Result<Report, (ParseFault, String)>, RowError> {
-    let Some(language) = LanguageType::from_name(table, language) else {
-        return Err(NO_LANGUAGE);
-    };
-    let path = String::from_str(alloc, row.text("path")?)?;
-    let config = configuration(alloc, table, row)?;
-    let counter = Counter::new(alloc, table)?;
-    Ok(parse_file(alloc, &counter, language, folders, path, &config))
-}
-
-/// What the file at a path is counted as.
-fn came_of_report(
-    table: &LanguageTable,
-    row: &Row,
-    language: &str,
+    parsed: Result<Report, (ParseFault, String)>,
     answers: &mut Answers,
-) -> Result<(), RowError> {
-    let mut folders = folders_of(answers.alloc, row)?;
-    match parsed(answers.alloc, table, &mut folders, row, language)? {
+) {
+    match parsed {
         Ok(report) => {
             let mut page = Page::new(answers.alloc);
             put_stats(&report.stats, table, 0, report.name.as_str(), &mut page);
             answers.say_page("report", &page);
         }
-        Err((fault, path)) => say_fault(answers, fault, path.as_str()),
+        Err((fault, path)) => {
+            if fault == ParseFault::Memory {
+                answers.fail(RowError::Memory);
+            } else {
+                answers.say_shown("error", &fault);
+                answers.say("back", Said::Text(path.as_str()));
+            }
+        }
     }
-    Ok(())
+}
+
+/// What the file at a path is counted as in the row's language.
+fn came_of_report(
+    table: &LanguageTable,
+    row: &Row,
+    path: String,
+    folders: &mut MemoryFolders,
+    answers: &mut Answers,
+) {
+    let config = configuration(table, row, answers);
+    let Some(language) = LanguageType::from_name(table, answers.text(row, "language")) else {
+        return answers.fail(NO_LANGUAGE);
+    };
+    match Counter::new(answers.alloc, table) {
+        Ok(counter) => {
+            let parsed = parse_file(answers.alloc, &counter, language, folders, path, &config);
+            say_parsed(table, parsed, answers);
+        }
+        Err(_) => answers.fail(RowError::Memory),
+    }
 }
 
 /// The word for the language that was found, where one was.
@@ -90,32 +87,34 @@ fn word(table: &LanguageTable, found: Option<LanguageType>) -> &str {
     }
 }
 
-/// The language of the head alone of the file at a path, where it has one.
-fn of_head<'t>(alloc: Global, table: &'t LanguageTable, row: &Row) -> Result<&'t str, RowError> {
-    let path = row.text("path")?;
-    let mut folders = folders_of(alloc, row)?;
-    Ok(word(table, from_shebang(alloc, table, &mut folders, path)?))
-}
-
-/// The language of a path, where it has one.
-fn of_path<'t>(alloc: Global, table: &'t LanguageTable, row: &Row) -> Result<&'t str, RowError> {
-    let path = row.text("path")?;
-    let config = configuration(alloc, table, row)?;
-    let mut folders = folders_of(alloc, row)?;
-    Ok(word(table, from_path(alloc, table, &mut folders, path, &config)?))
+/// Says the language of a path, or of the head alone of the file there, where it has one.
+fn say_language(
+    table: &LanguageTable,
+    row: &Row,
+    path: &str,
+    folders: &mut MemoryFolders,
+    answers: &mut Answers,
+) {
+    let alloc = answers.alloc;
+    let found = if answers.flag(row, "head_alone") {
+        from_shebang(alloc, table, folders, path)
+    } else {
+        let config = configuration(table, row, answers);
+        from_path(alloc, table, folders, path, &config)
+    };
+    let found = answers.read(found, None);
+    answers.say("found", Said::Text(word(table, found)));
 }
 
 /// What the calls answer.
-pub fn came(asked: &Asked, row: &Row, answers: &mut Answers) -> Result<(), RowError> {
-    let table = asked.table()?;
-    if let Some(language) = row.text_if("language")? {
-        return came_of_report(table, row, language, answers);
-    }
-    let found = if row.flag("head_alone")? {
-        of_head(answers.alloc, table, row)?
-    } else {
-        of_path(answers.alloc, table, row)?
+pub fn came(table: &LanguageTable, row: &Row, answers: &mut Answers) {
+    let Some(mut folders) = answers.got(folders_of(answers.alloc, row)) else {
+        return;
     };
-    answers.say("found", Said::Text(found));
-    Ok(())
+    let path = answers.text(row, "path");
+    if !row.has("language") {
+        say_language(table, row, path, &mut folders, answers);
+    } else if let Some(path) = answers.got(String::from_str(answers.alloc, path)) {
+        came_of_report(table, row, path, &mut folders, answers);
+    }
 }

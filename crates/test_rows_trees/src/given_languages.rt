@@ -1,155 +1,126 @@
 //! Languages as rows tell them: each by its key or name, with its counts, its reports, and those of
 //! the languages inside it.
-use std::alloc::Global;
-use test_rows::{Row, RowError, three_of};
+use test_rows::{Answers, Row, RowError, three_of};
 use tokei_languages::{Language, Languages};
 use tokei_stats::{CodeStats, Report};
 use tokei_table::{LanguageTable, LanguageType};
 
-/// The counts of a row; none where they are left out.
-fn counts(row: &Row) -> Result<(usize, usize, usize), RowError> {
-    if row.has("counts") {
-        row.three("counts")
-    } else {
-        Ok((0, 0, 0))
-    }
-}
+/// The members of a language.
+const MEMBERS: [&str; 5] = ["name", "counts", "inaccurate", "reports", "children"];
 
 /// Why a row can't be asked whose table hasn't a language that it names.
 pub const NO_LANGUAGE: RowError = RowError::Kind("name", "a language of the table");
 
-/// The statistics of these counts, with no text inside.
-fn stats(alloc: Global, counts: (usize, usize, usize)) -> CodeStats {
-    let mut stats = CodeStats::new(alloc);
-    (stats.blanks, stats.code, stats.comments) = counts;
-    stats
+/// The language of that key or name.
+pub fn named(table: &LanguageTable, name: &str, answers: &mut Answers) -> Option<LanguageType> {
+    let language = LanguageType::from_name(table, name);
+    if language.is_none() {
+        answers.fail(NO_LANGUAGE);
+    }
+    language
+}
+
+/// The counts of a row; none where they are left out.
+fn counts(row: &Row, answers: &mut Answers) -> (usize, usize, usize) {
+    if row.has("counts") {
+        answers.read(row.three("counts"), (0, 0, 0))
+    } else {
+        (0, 0, 0)
+    }
 }
 
 /// Puts the texts inside a report, by their languages.
-fn put_blobs(
-    alloc: Global,
-    table: &LanguageTable,
-    blobs: &Row,
-    report: &mut Report,
-) -> Result<(), RowError> {
+fn put_blobs(table: &LanguageTable, blobs: &Row, stats: &mut CodeStats, answers: &mut Answers) {
     for (name, value) in blobs.members {
-        let Some(language) = LanguageType::from_name(table, name.as_str()) else {
-            return Err(NO_LANGUAGE);
-        };
-        let blob = stats(alloc, three_of("blobs", value)?);
-        let _none = report.stats.blobs.insert(language, blob)?;
+        if let Some(language) = named(table, name.as_str(), answers) {
+            let mut blob = CodeStats::new(answers.alloc);
+            (blob.blanks, blob.code, blob.comments) = answers.read(
+                three_of("blobs", value),
+                (0, 0, 0),
+            );
+            answers.done(stats.blobs.insert(language, blob));
+        }
     }
-    Ok(())
 }
 
 /// The report that a row tells.
-pub fn report(alloc: Global, table: &LanguageTable, row: &Row) -> Result<Report, RowError> {
-    row.only("reports", &["language", "name", "counts", "blobs"])?;
-    let (name, counts, blobs) = (row.text("name")?, counts(row)?, row.table_if("blobs")?);
-    let mut report = Report::new(alloc, String::from_str(alloc, name)?);
-    report.stats = stats(alloc, counts);
-    if let Some(blobs) = blobs {
-        put_blobs(alloc, table, &blobs, &mut report)?;
+pub fn report(table: &LanguageTable, row: &Row, answers: &mut Answers) -> Report {
+    let known = row.only("reports", &["language", "name", "counts", "blobs"]);
+    answers.done(known);
+    let name = answers.text(row, "name");
+    let name = String::from_str(answers.alloc, name);
+    let name = answers.read(name, String::new(answers.alloc));
+    let mut report = Report::new(answers.alloc, name);
+    let stats = &mut report.stats;
+    (stats.blanks, stats.code, stats.comments) = counts(row, answers);
+    if let Some(blobs) = answers.read(row.table_if("blobs"), None) {
+        put_blobs(table, &blobs, stats, answers);
     }
-    Ok(report)
+    report
+}
+
+/// The reports that a row tells.
+fn reports(table: &LanguageTable, row: &Row, answers: &mut Answers) -> Vec<Report> {
+    let mut reports = Vec::new(answers.alloc);
+    for value in answers.list(row, "reports") {
+        if let Some(told) = answers.got(row.inner("reports", value)) {
+            let report = report(table, &told, answers);
+            answers.done(reports.push(report));
+        }
+    }
+    reports
 }
 
 /// Adds the reports that a row tells.
-fn add_reports(
-    alloc: Global,
-    table: &LanguageTable,
-    row: &Row,
-    language: &mut Language,
-) -> Result<(), RowError> {
-    for value in row.list("reports")? {
-        let told = row.inner("reports", value)?;
-        language.add_report(report(alloc, table, &told)?)?;
+fn add_reports(table: &LanguageTable, row: &Row, language: &mut Language, answers: &mut Answers) {
+    for value in answers.list(row, "reports") {
+        if let Some(told) = answers.got(row.inner("reports", value)) {
+            let report = report(table, &told, answers);
+            answers.done(language.add_report(report));
+        }
     }
-    Ok(())
-}
-
-/// The reports that a row tells, of a language inside another one.
-fn reports(alloc: Global, table: &LanguageTable, row: &Row) -> Result<Vec<Report>, RowError> {
-    let mut reports = Vec::new(alloc);
-    for value in row.list("reports")? {
-        reports.push(report(alloc, table, &row.inner("reports", value)?)?)?;
-    }
-    Ok(reports)
-}
-
-/// Puts the reports of a language inside a language.
-fn put_child(
-    alloc: Global,
-    table: &LanguageTable,
-    told: &Row,
-    language: &mut Language,
-) -> Result<(), RowError> {
-    told.only("children", &["language", "reports"])?;
-    let Some(inside) = LanguageType::from_name(table, told.text("language")?) else {
-        return Err(NO_LANGUAGE);
-    };
-    let reports = reports(alloc, table, told)?;
-    let _none = language.children.insert(inside, reports)?;
-    Ok(())
 }
 
 /// Puts the reports of the languages inside a language.
-fn put_children(
-    alloc: Global,
-    table: &LanguageTable,
-    row: &Row,
-    language: &mut Language,
-) -> Result<(), RowError> {
-    for value in row.list("children")? {
-        put_child(alloc, table, &row.inner("children", value)?, language)?;
+fn put_children(table: &LanguageTable, row: &Row, language: &mut Language, answers: &mut Answers) {
+    for value in answers.list(row, "children") {
+        if let Some(told) = answers.got(row.inner("children", value)) {
+            answers.done(told.only("children", &["language", "reports"]));
+            let name = answers.text(&told, "language");
+            if let Some(inside) = named(table, name, answers) {
+                let reports = reports(table, &told, answers);
+                answers.done(language.children.insert(inside, reports));
+            }
+        }
     }
-    Ok(())
-}
-
-/// Makes a language as a row tells it.
-fn fill(
-    alloc: Global,
-    table: &LanguageTable,
-    row: &Row,
-    language: &mut Language,
-) -> Result<(), RowError> {
-    add_reports(alloc, table, row, language)?;
-    put_children(alloc, table, row, language)?;
-    (language.blanks, language.code, language.comments) = counts(row)?;
-    language.inaccurate = row.flag("inaccurate")?;
-    Ok(())
 }
 
 /// Puts the language that a row tells.
-fn put(
-    alloc: Global,
-    table: &LanguageTable,
-    row: &Row,
-    languages: &mut Languages,
-) -> Result<(), RowError> {
-    row.only(
-        "languages",
-        &["name", "counts", "inaccurate", "reports", "children"],
-    )?;
-    let Some(name) = LanguageType::from_name(table, row.text("name")?) else {
-        return Err(NO_LANGUAGE);
-    };
-    let mut language = Language::new(alloc);
-    fill(alloc, table, row, &mut language)?;
-    let _none = languages.insert(name, language)?;
-    Ok(())
+fn put(table: &LanguageTable, row: &Row, languages: &mut Languages, answers: &mut Answers) {
+    answers.done(row.only("languages", &MEMBERS));
+    let name = answers.text(row, "name");
+    if let Some(name) = named(table, name, answers) {
+        let mut language = Language::new(answers.alloc);
+        add_reports(table, row, &mut language, answers);
+        put_children(table, row, &mut language, answers);
+        (language.blanks, language.code, language.comments) = counts(row, answers);
+        language.inaccurate = answers.flag(row, "inaccurate");
+        answers.done(languages.insert(name, language));
+    }
 }
 
 /// The languages of a member; none where it is left out.
 pub fn given(
-    alloc: Global,
     table: &LanguageTable,
     row: &Row,
     member: &'static str,
-) -> Result<Languages, RowError> {
-    let mut languages = Languages::new(alloc);
-    for value in row.list(member)? {
-        put(alloc, table, &row.inner(member, value)?, &mut languages)?;
+    answers: &mut Answers,
+) -> Languages {
+    let mut languages = Languages::new(answers.alloc);
+    for value in answers.list(row, member) {
+        if let Some(told) = answers.got(row.inner(member, value)) {
+            put(table, &told, &mut languages, answers);
+        }
     }
-    Ok(languages)
+    languages
 }

@@ -1,6 +1,6 @@
 //! Rows of ignore files: what the lines of one decide about a file.
-use std::alloc::Global;
-use test_rows::{Answers, Asked, Members, Row, RowError, Said};
+use test_rows::{Answers, Members, Row, RowError, Said};
+use tokei_folders::Text;
 use tokei_folders::names::names;
 use tokei_ignore::{IgnoreFile, Verdict};
 
@@ -12,26 +12,35 @@ pub const MEMBERS: Members = Members {
     by_table: false,
 };
 
-/// The word for what an ignore file decides about a file.
-fn verdict(alloc: Global, file: &IgnoreFile, path: &str) -> Result<&'static str, RowError> {
-    let names = names(alloc, path)?;
+/// The word for what an ignore file decides about a file of these names.
+fn verdict(file: &IgnoreFile, names: &[Text]) -> Option<&'static str> {
     if names.is_empty() {
-        return Err(RowError::Kind("path", "a path of one name at least"));
+        return None;
     }
-    match file.verdict(names.as_slice(), false) {
-        Some(Verdict::Ignore) => Ok("ignored"),
-        Some(Verdict::Keep) => Ok("kept"),
-        None => Ok("not decided"),
+    match file.verdict(names, false) {
+        Some(Verdict::Ignore) => Some("ignored"),
+        Some(Verdict::Keep) => Some("kept"),
+        None => Some("not decided"),
     }
 }
 
-/// What the calls answer.
-pub fn came(_asked: &Asked, row: &Row, answers: &mut Answers) -> Result<(), RowError> {
-    let path = row.text("path")?;
-    let bytes = row.bytes(answers.alloc, "text", "text_hex")?;
-    let file = IgnoreFile::parse(answers.alloc, &bytes)?;
-    let verdict = verdict(answers.alloc, &file, path)?;
-    answers.say("verdict", Said::Text(verdict));
+/// What the calls answer about an ignore file.
+fn came_of_file(file: &IgnoreFile, row: &Row, answers: &mut Answers) {
+    let path = answers.text(row, "path");
+    if let Some(names) = answers.got(names(answers.alloc, path)) {
+        match verdict(file, names.as_slice()) {
+            Some(verdict) => answers.say("verdict", Said::Text(verdict)),
+            None => answers.fail(RowError::Kind("path", "a path of one name at least")),
+        }
+    }
     answers.say("bad_lines", Said::Number(file.bad_lines as u128));
-    Ok(())
+}
+
+/// What the calls answer.
+pub fn came(row: &Row, answers: &mut Answers) {
+    if let Some(bytes) = answers.got(row.bytes(answers.alloc, "text", "text_hex")) {
+        if let Some(file) = answers.got(IgnoreFile::parse(answers.alloc, &bytes)) {
+            came_of_file(&file, row, answers);
+        }
+    }
 }

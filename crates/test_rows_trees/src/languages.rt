@@ -1,9 +1,8 @@
 //! Rows of languages: what their calls answer, made in turn, and how they stand then.
-use crate::given_languages::{NO_LANGUAGE, given};
+use crate::given_languages::{given, named};
 use crate::shown_languages::{put_language, say_languages};
-use std::alloc::Global;
 use std::mem;
-use test_rows::{Answers, Asked, Members, Page, Row, RowError, text_of};
+use test_rows::{Answers, Members, Page, Row, RowError, text_of};
 use tokei_languages::{Language, Languages};
 use tokei_options::Sort;
 use tokei_stats::CountError;
@@ -22,7 +21,6 @@ pub const MEMBERS: Members = Members {
 /// What a row is asked by.
 #[derive(Clone, Copy)]
 struct Of<'t, 'r> {
-    alloc: Global,
     table: &'t LanguageTable,
     row: Row<'r>,
 }
@@ -35,20 +33,22 @@ enum Called<'r> {
 }
 
 /// Adds the line of an answer.
-fn put_answer(answer: Result<(), CountError>, page: &mut Page) -> Result<(), RowError> {
+fn put_answer(answer: Result<(), CountError>, page: &mut Page, answers: &mut Answers) {
     match answer {
         Ok(()) => page.put("done\n"),
         Err(CountError::Overflow) => page.put("a sum passes the greatest usize\n"),
-        Err(CountError::Memory) => return Err(RowError::Memory),
+        Err(CountError::Memory) => answers.fail(RowError::Memory),
     }
-    Ok(())
 }
 
 /// The column of that word.
-fn column(word: &str) -> Result<Sort, RowError> {
+fn column(word: &str, answers: &mut Answers) -> Sort {
     match word.parse::<Sort>() {
-        Ok(sort) => Ok(sort),
-        Err(_) => Err(RowError::Kind("calls", "a list of calls with a column")),
+        Ok(sort) => sort,
+        Err(_) => {
+            answers.fail(RowError::Kind("calls", "a list of calls with a column"));
+            Sort::Files
+        }
     }
 }
 
@@ -59,31 +59,33 @@ fn put_made(
     name: &str,
     made: Result<Language, CountError>,
     page: &mut Page,
-) -> Result<(), RowError> {
+    answers: &mut Answers,
+) {
     match made {
         Ok(language) => {
-            page.put_shown(&language.lines()?);
+            page.put_shown(&answers.read(language.lines(), 0));
             page.put(" lines\n");
             put_language(table, name, &language, page);
-            Ok(())
         }
-        Err(refused) => put_answer(Err(refused), page),
+        Err(refused) => put_answer(Err(refused), page, answers),
     }
 }
 
 /// Sorts the reports of all languages.
-fn sort_all(alloc: Global, languages: &mut Languages, column: Sort) -> Result<(), RowError> {
-    let taken = mem::replace(languages, Languages::new(alloc));
-    *languages = taken.with_sorted_reports(column)?;
-    Ok(())
+fn sort_all(languages: &mut Languages, column: Sort, answers: &mut Answers) {
+    let taken = mem::replace(languages, Languages::new(answers.alloc));
+    if let Some(sorted) = answers.got(taken.with_sorted_reports(column)) {
+        *languages = sorted;
+    }
 }
 
 /// Whether the language of that name is there and empty.
 fn is_empty(table: &LanguageTable, languages: &Languages, name: &str) -> bool {
     match LanguageType::from_name(table, name) {
-        Some(language) => languages
-            .get(language)
-            .is_some_and(|found| found.is_empty()),
+        Some(language) => match languages.get(language) {
+            Some(found) => found.is_empty(),
+            None => false,
+        },
         None => false,
     }
 }
@@ -94,21 +96,22 @@ fn put_of_all(
     languages: &mut Languages,
     (call, argument): (&str, &str),
     page: &mut Page,
-) -> Result<(), RowError> {
+    answers: &mut Answers,
+) {
     let answer = match call {
-        "add" => languages.add(given(of.alloc, of.table, &of.row, "other")?),
-        "mark_inaccurate" => match LanguageType::from_name(of.table, argument) {
+        "add" => languages.add(given(of.table, &of.row, "other", answers)),
+        "mark_inaccurate" => match named(of.table, argument, answers) {
             Some(language) => languages.mark_inaccurate(language),
-            None => return Err(NO_LANGUAGE),
+            None => Ok(()),
         },
         "renew_counts" => languages.renew_counts(),
         "with_sorted_reports" => {
-            sort_all(of.alloc, languages, column(argument)?)?;
+            sort_all(languages, column(argument, answers), answers);
             Ok(())
         }
-        _ => return put_told_of_all(of, languages, (call, argument), page),
+        _ => return put_told_of_all(of, languages, (call, argument), page, answers),
     };
-    put_answer(answer, page)
+    put_answer(answer, page, answers);
 }
 
 /// Makes a call of languages that only asks, and adds what it answers.
@@ -117,27 +120,27 @@ fn put_told_of_all(
     languages: &Languages,
     (call, argument): (&str, &str),
     page: &mut Page,
-) -> Result<(), RowError> {
+    answers: &mut Answers,
+) {
     match call {
-        "total" => return put_made(of.table, "Total", languages.total(), page),
+        "total" => return put_made(of.table, "Total", languages.total(), page, answers),
         "is_empty" => page.put_shown(&is_empty(of.table, languages, argument)),
         "debug" => page.put_debug(languages),
-        _ => return Err(RowError::Kind("calls", "a list of calls of languages")),
+        _ => answers.fail(RowError::Kind("calls", "a list of calls of languages")),
     }
     page.put("\n");
-    Ok(())
 }
 
-/// The language of that name that a member has.
-fn language_of(of: &Of, member: &'static str, name: &str) -> Result<Language, RowError> {
-    let languages = given(of.alloc, of.table, &of.row, member)?;
-    let Some(language) = LanguageType::from_name(of.table, name) else {
-        return Err(NO_LANGUAGE);
-    };
-    match languages.get(language) {
-        Some(language) => Ok(language.try_clone()?),
-        None => Err(RowError::Kind("of", "a language of the row")),
+/// The language of that name that a member has; an empty one where it can't be read.
+fn language_of(of: &Of, member: &'static str, name: &str, answers: &mut Answers) -> Language {
+    let languages = given(of.table, &of.row, member, answers);
+    if let Some(language) = named(of.table, name, answers) {
+        match languages.get(language) {
+            Some(found) => return answers.read(found.try_clone(), Language::new(answers.alloc)),
+            None => answers.fail(RowError::Kind("of", "a language of the row")),
+        }
     }
+    Language::new(answers.alloc)
 }
 
 /// Makes a call of one language, and adds what it answers.
@@ -147,73 +150,72 @@ fn put_of_one(
     one: &mut Language,
     (call, argument): (&str, &str),
     page: &mut Page,
-) -> Result<(), RowError> {
+    answers: &mut Answers,
+) {
     let answer = match call {
-        "add" => one.add(language_of(of, "other", name)?),
-        "sort_by" => one.sort_by(column(argument)?),
+        "add" => one.add(language_of(of, "other", name, answers)),
+        "sort_by" => one.sort_by(column(argument, answers)),
         "total" => one.total(),
-        "summarise" if argument.is_empty() => return put_made(
-            of.table,
-            "Summary",
-            one.summarise(),
-            page,
-        ),
-        "lines" if argument.is_empty() => {
-            page.put_shown(&one.lines()?);
-            page.put("\n");
-            return Ok(());
-        }
-        _ => return Err(RowError::Kind("calls", "a list of calls of a language")),
+        _ => return put_told_of_one(of, one, (call, argument), page, answers),
     };
-    put_answer(answer, page)
+    put_answer(answer, page, answers);
+}
+
+/// Makes a call of one language that only asks, and adds what it answers.
+fn put_told_of_one(
+    of: &Of,
+    one: &Language,
+    called: (&str, &str),
+    page: &mut Page,
+    answers: &mut Answers,
+) {
+    match called {
+        ("summarise", "") => return put_made(of.table, "Summary", one.summarise(), page, answers),
+        ("lines", "") => page.put_shown(&answers.read(one.lines(), 0)),
+        _ => answers.fail(RowError::Kind("calls", "a list of calls of a language")),
+    }
+    page.put("\n");
 }
 
 /// Makes the calls of a row, and adds each with what it answers.
-fn put_all(of: &Of, called: &mut Called, page: &mut Page) -> Result<(), RowError> {
-    for value in of.row.list("calls")? {
-        let call = text_of("calls", value)?;
-        page.put(call);
-        page.put(": ");
+fn put_all(of: &Of, called: &mut Called, page: &mut Page, answers: &mut Answers) {
+    for value in answers.list(&of.row, "calls") {
+        let call = answers.read(text_of("calls", value), "");
+        page.put_all(&[call, ": "]);
         let parts = call.split_once(' ').unwrap_or((call, ""));
         match called {
-            Called::All(languages) => put_of_all(of, languages, parts, page)?,
-            Called::One(name, one) => put_of_one(of, *name, one, parts, page)?,
+            Called::All(languages) => put_of_all(of, languages, parts, page, answers),
+            Called::One(name, one) => put_of_one(of, *name, one, parts, page, answers),
         }
     }
-    Ok(())
 }
 
 /// What a row calls.
-fn called_of<'r>(of: &Of<'_, 'r>) -> Result<Called<'r>, RowError> {
-    match of.row.text_if("of")? {
-        Some(name) => Ok(Called::One(name, language_of(of, "languages", name)?)),
-        None => Ok(Called::All(given(of.alloc, of.table, &of.row, "languages")?)),
+fn called_of<'r>(of: &Of<'_, 'r>, answers: &mut Answers) -> Called<'r> {
+    match answers.text_if(&of.row, "of") {
+        Some(name) => Called::One(name, language_of(of, "languages", name, answers)),
+        None => Called::All(given(of.table, &of.row, "languages", answers)),
     }
 }
 
 /// Says how it stands.
-fn say_standing(of: &Of, called: &Called, answers: &mut Answers) {
+fn say_standing(table: &LanguageTable, called: &Called, answers: &mut Answers) {
     match called {
-        Called::All(languages) => say_languages("stand", of.table, languages, answers),
+        Called::All(languages) => say_languages("stand", table, languages, answers),
         Called::One(name, one) => {
-            let mut page = Page::new(of.alloc);
-            put_language(of.table, *name, one, &mut page);
+            let mut page = Page::new(answers.alloc);
+            put_language(table, *name, one, &mut page);
             answers.say_page("stand", &page);
         }
     }
 }
 
 /// What the calls answer.
-pub fn came(asked: &Asked, row: &Row, answers: &mut Answers) -> Result<(), RowError> {
-    let of = Of {
-        alloc: answers.alloc,
-        table: asked.table()?,
-        row: *row,
-    };
-    let mut called = called_of(&of)?;
-    let mut page = Page::new(of.alloc);
-    put_all(&of, &mut called, &mut page)?;
+pub fn came(table: &LanguageTable, row: &Row, answers: &mut Answers) {
+    let of = Of { table, row: *row };
+    let mut called = called_of(&of, answers);
+    let mut page = Page::new(answers.alloc);
+    put_all(&of, &mut called, &mut page, answers);
     answers.say_page("answers", &page);
-    say_standing(&of, &called, answers);
-    Ok(())
+    say_standing(table, &called, answers);
 }

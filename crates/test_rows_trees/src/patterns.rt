@@ -1,6 +1,5 @@
 //! Rows of ignore patterns: whether the pattern of a line fits a path.
-use std::alloc::Global;
-use test_rows::{Answers, Asked, Members, Row, RowError, Said};
+use test_rows::{Answers, Members, Row, RowError, Said};
 use tokei_folders::Text;
 use tokei_folders::names::names;
 use tokei_ignore::{Pattern, PatternError};
@@ -14,14 +13,6 @@ pub const MEMBERS: Members = Members {
     by_table: false,
 };
 
-/// The pattern of the row's line or exclude.
-fn parsed(alloc: Global, row: &Row) -> Result<Result<Option<Pattern>, PatternError>, RowError> {
-    match row.text_if("exclude")? {
-        Some(text) => Ok(Pattern::parse_exclude(alloc, text)),
-        None => Ok(Pattern::parse(alloc, row.text("line")?)),
-    }
-}
-
 /// Whether a pattern fits, by both calls.
 fn fitting(pattern: &Pattern, names: &[Text], folder: bool) -> &'static str {
     let fits = pattern.fits(names, folder);
@@ -34,16 +25,30 @@ fn fitting(pattern: &Pattern, names: &[Text], folder: bool) -> &'static str {
     }
 }
 
+/// What a pattern answers of a path.
+fn answer(pattern: &Pattern, path: &str, folder: bool, answers: &mut Answers) -> &'static str {
+    match answers.got(names(answers.alloc, path)) {
+        Some(names) => fitting(pattern, names.as_slice(), folder),
+        None => "",
+    }
+}
+
 /// What the pattern of the row's line or exclude answers.
-pub fn came(_asked: &Asked, row: &Row, answers: &mut Answers) -> Result<(), RowError> {
-    let folder = row.flag("folder")?;
-    let names = names(answers.alloc, row.text("path")?)?;
-    let answer = match parsed(answers.alloc, row)? {
-        Ok(Some(pattern)) => fitting(&pattern, names.as_slice(), folder),
-        Ok(None) => "no pattern",
-        Err(PatternError::Bad) => "bad line",
-        Err(PatternError::Memory) => return Err(RowError::Memory),
+pub fn came(row: &Row, answers: &mut Answers) {
+    let folder = answers.flag(row, "folder");
+    let path = answers.text(row, "path");
+    let pattern = if row.has("exclude") {
+        Pattern::parse_exclude(answers.alloc, answers.text(row, "exclude"))
+    } else {
+        Pattern::parse(answers.alloc, answers.text(row, "line"))
     };
-    answers.say("answer", Said::Text(answer));
-    Ok(())
+    match pattern {
+        Ok(Some(pattern)) => {
+            let answer = answer(&pattern, path, folder, answers);
+            answers.say("answer", Said::Text(answer));
+        }
+        Ok(None) => answers.say("answer", Said::Text("no pattern")),
+        Err(PatternError::Bad) => answers.say("answer", Said::Text("bad line")),
+        Err(PatternError::Memory) => answers.fail(RowError::Memory),
+    }
 }

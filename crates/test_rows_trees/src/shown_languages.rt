@@ -36,9 +36,7 @@ fn put_reports(table: &LanguageTable, depth: usize, reports: &[Report], page: &m
 /// Puts the reports of the languages inside a language.
 fn put_children(table: &LanguageTable, language: &Language, page: &mut Page) {
     for (inside, reports) in &language.children {
-        page.put("  ");
-        page.put(name_of(table, *inside));
-        page.put(" inside\n");
+        page.put_all(&["  ", name_of(table, *inside), " inside\n"]);
         put_reports(table, 2, reports.as_slice(), page);
     }
 }

@@ -2,8 +2,7 @@
 use crate::configurations::configuration;
 use crate::given_languages::given;
 use crate::shown_languages::say_languages;
-use std::alloc::Global;
-use test_rows::{Answers, Asked, Members, Row, RowError, Said, folders_of, owned, roots};
+use test_rows::{Answers, Members, Row, Said, folders_of, owned, roots};
 use tokei_config::Config;
 use tokei_folders::MemoryFolders;
 use tokei_languages::Languages;
@@ -44,54 +43,44 @@ pub struct Tree {
     pub config: Config,
 }
 
-/// What a row has counted.
-fn tree_of(alloc: Global, table: &LanguageTable, row: &Row) -> Result<Tree, RowError> {
-    let mut tree = Tree {
-        folders: folders_of(alloc, row)?,
-        roots: Vec::new(alloc),
-        excludes: Vec::new(alloc),
-        config: Config::new(),
-    };
-    tree.roots = roots(alloc, row)?;
-    tree.excludes = owned(alloc, row, "excludes")?;
-    tree.config = configuration(alloc, table, row)?;
-    Ok(tree)
-}
-
 /// Counts the files below the roots once; how many notes that leaves.
 pub fn run(
     table: &LanguageTable,
     tree: &mut Tree,
     languages: &mut Languages,
-) -> Result<usize, RowError> {
+    answers: &mut Answers,
+) -> usize {
     let (roots, excludes) = (tree.roots.as_slice(), tree.excludes.as_slice());
     let config = &tree.config;
-    let notes = languages.get_statistics(table, &mut tree.folders, roots, excludes, config)?;
-    Ok(notes.len())
+    let notes = languages.get_statistics(table, &mut tree.folders, roots, excludes, config);
+    match answers.got(notes) {
+        Some(notes) => notes.len(),
+        None => 0,
+    }
 }
 
-/// Adds what a row has counted to languages; how many notes the last run leaves.
-fn count(
-    alloc: Global,
-    table: &LanguageTable,
-    row: &Row,
-    languages: &mut Languages,
-) -> Result<usize, RowError> {
-    let runs = row.number_if("runs")?.unwrap_or(1);
-    let mut tree = tree_of(alloc, table, row)?;
-    let mut notes = 0;
-    for _ in 0..runs {
-        notes = run(table, &mut tree, languages)?;
+/// Adds what a row has counted to languages, and says how many notes the last run leaves.
+fn count(table: &LanguageTable, row: &Row, languages: &mut Languages, answers: &mut Answers) {
+    let alloc = answers.alloc;
+    let runs = answers.read(row.number_if("runs"), None).unwrap_or(1);
+    if let Some(folders) = answers.got(folders_of(alloc, row)) {
+        let mut tree = Tree {
+            folders,
+            roots: answers.read(roots(alloc, row), Vec::new(alloc)),
+            excludes: answers.read(owned(alloc, row, "excludes"), Vec::new(alloc)),
+            config: configuration(table, row, answers),
+        };
+        let mut notes = 0;
+        for _ in 0..runs {
+            notes = run(table, &mut tree, languages, answers);
+        }
+        answers.say("notes", Said::Number(notes as u128));
     }
-    Ok(notes)
 }
 
 /// What the calls answer.
-pub fn came(asked: &Asked, row: &Row, answers: &mut Answers) -> Result<(), RowError> {
-    let table = asked.table()?;
-    let mut languages = given(answers.alloc, table, row, "languages")?;
-    let notes = count(answers.alloc, table, row, &mut languages)?;
-    answers.say("notes", Said::Number(notes as u128));
+pub fn came(table: &LanguageTable, row: &Row, answers: &mut Answers) {
+    let mut languages = given(table, row, "languages", answers);
+    count(table, row, &mut languages, answers);
     say_languages("counted", table, &languages, answers);
-    Ok(())
 }

@@ -4,6 +4,7 @@ use crate::{
     words,
 };
 use test_rows::{Answers, Asked, Members, Row, RowError, Subject};
+use tokei_table::LanguageTable;
 
 /// What rows are about: each has a file of this name, and a module that asks.
 #[derive(Clone, Copy)]
@@ -67,16 +68,27 @@ impl Subject for Rows {
 
     fn ask(&self, asked: &Asked, row: &Row, answers: &mut Answers) -> Result<(), RowError> {
         match *self {
-            Rows::Documents => documents::came(asked, row, answers),
-            Rows::Files => files::came(asked, row, answers),
-            Rows::IgnoreFiles => ignore_files::came(asked, row, answers),
-            Rows::Languages => languages::came(asked, row, answers),
-            Rows::Patterns => patterns::came(asked, row, answers),
-            Rows::Printed => printed::came(asked, row, answers),
-            Rows::ReadBack => read_back::came(asked, row, answers),
-            Rows::Statistics => statistics::came(asked, row, answers),
-            Rows::Walks => walks::came(asked, row, answers),
-            Rows::Words => words::came(asked, row, answers),
+            Rows::IgnoreFiles => ignore_files::came(row, answers),
+            Rows::Patterns => patterns::came(row, answers),
+            Rows::Walks => walks::came(row, answers),
+            Rows::Words => words::came(row, answers),
+            _ => self.ask_by(asked.table()?, row, answers),
+        }
+        Ok(())
+    }
+}
+
+impl Rows {
+    /// Asks the public calls that need a table, and says what they answer.
+    fn ask_by(&self, table: &LanguageTable, row: &Row, answers: &mut Answers) {
+        match *self {
+            Rows::Documents => documents::came(table, row, answers),
+            Rows::Files => files::came(table, row, answers),
+            Rows::Languages => languages::came(table, row, answers),
+            Rows::Printed => printed::came(table, row, answers),
+            Rows::ReadBack => read_back::came(table, row, answers),
+            Rows::Statistics => statistics::came(table, row, answers),
+            Rows::IgnoreFiles | Rows::Patterns | Rows::Walks | Rows::Words => {}
         }
     }
 }

@@ -1,6 +1,6 @@
 //! Rows of words: of formats, of styles of numbers, of streams and of columns.
 use std::fmt::{Debug, Display};
-use test_rows::{Answers, Asked, Members, Page, Row, RowError, Said};
+use test_rows::{Answers, Members, Page, Row, RowError, Said};
 use tokei_earlier::Format;
 use tokei_options::{NumberFormatStyle, Sort, Streaming};
 
@@ -31,13 +31,16 @@ fn say_read<T: Debug + Drop, E: Display + Drop>(read: Result<T, E>, answers: &mu
 }
 
 /// The words of the list of formats of that name.
-fn formats(list: &str) -> Result<&'static [&'static str], RowError> {
+fn formats(list: &str, answers: &mut Answers) -> &'static [&'static str] {
     match list {
-        "supported" => Ok(Format::supported()),
-        "all" => Ok(Format::all()),
-        "all_feature_names" => Ok(Format::all_feature_names()),
-        "not_supported" => Ok(Format::not_supported()),
-        _ => Err(RowError::Kind("formats", "a list of formats")),
+        "supported" => Format::supported(),
+        "all" => Format::all(),
+        "all_feature_names" => Format::all_feature_names(),
+        "not_supported" => Format::not_supported(),
+        _ => {
+            answers.fail(RowError::Kind("formats", "a list of formats"));
+            &[]
+        }
     }
 }
 
@@ -53,40 +56,35 @@ fn say_words(words: &[&str], answers: &mut Answers) {
     answers.say_page("answer", &page);
 }
 
-/// Says a number in a style.
-fn say_number(
-    style: NumberFormatStyle,
-    number: u64,
-    answers: &mut Answers,
-) -> Result<(), RowError> {
-    let text = style.get_format().grouped(answers.alloc, number as usize)?;
-    answers.say("answer", Said::Text(text.as_str()));
-    Ok(())
-}
-
-/// Says what the word of a style stands for, or a number in it.
-fn say_style(word: &str, number: Option<u64>, answers: &mut Answers) -> Result<(), RowError> {
-    match (word.parse::<NumberFormatStyle>(), number) {
-        (Ok(style), Some(number)) => return say_number(style, number, answers),
+/// Says what the word of a style stands for, or the row's number in it.
+fn say_style(word: &str, row: &Row, answers: &mut Answers) {
+    match (
+        word.parse::<NumberFormatStyle>(),
+        answers.read(row.number_if("number"), None),
+    ) {
+        (Ok(style), Some(number)) => {
+            let text = style.get_format().grouped(answers.alloc, number as usize);
+            if let Some(text) = answers.got(text) {
+                answers.say("answer", Said::Text(text.as_str()));
+            }
+        }
         (read, _) => say_read(read, answers),
     }
-    Ok(())
 }
 
 /// What the row's word stands for.
-pub fn came(_asked: &Asked, row: &Row, answers: &mut Answers) -> Result<(), RowError> {
-    if let Some(word) = row.text_if("format")? {
+pub fn came(row: &Row, answers: &mut Answers) {
+    if let Some(word) = answers.text_if(row, "format") {
         say_read(word.parse::<Format>(), answers);
-    } else if let Some(list) = row.text_if("formats")? {
-        say_words(formats(list)?, answers);
-    } else if let Some(word) = row.text_if("style")? {
-        say_style(word, row.number_if("number")?, answers)?;
-    } else if row.flag("default_style")? {
+    } else if let Some(list) = answers.text_if(row, "formats") {
+        say_words(formats(list, answers), answers);
+    } else if let Some(word) = answers.text_if(row, "style") {
+        say_style(word, row, answers);
+    } else if answers.flag(row, "default_style") {
         answers.say_debug("answer", &NumberFormatStyle::default());
-    } else if let Some(word) = row.text_if("column")? {
+    } else if let Some(word) = answers.text_if(row, "column") {
         say_read(word.parse::<Sort>(), answers);
     } else {
-        say_read(row.text("stream")?.parse::<Streaming>(), answers);
+        say_read(answers.text(row, "stream").parse::<Streaming>(), answers);
     }
-    Ok(())
 }
