@@ -36,8 +36,8 @@ fn say_cause(answers: &mut Answers, cause: InputError) {
     }
 }
 
-/// Keeps that what was read isn't these languages: where nothing was, by the first words, else by the
-/// second ones.
+/// Keeps that what was read isn't these languages: where nothing was, by the first words, else by
+/// the second ones.
 fn check(
     read: Result<Languages, InputError>,
     languages: &Languages,
@@ -83,8 +83,8 @@ fn came_of_print(table: &LanguageTable, row: &Row, answers: &mut Answers) {
     }
 }
 
-/// What is read from a text, where it isn't refused. What is then printed of the languages is read as
-/// these.
+/// What is read from a text, where it isn't refused. What is then printed of the languages is read
+/// as these.
 fn read(table: &LanguageTable, text: &str, answers: &mut Answers) -> Option<Languages> {
     match Format::parse(answers.alloc, table, text) {
         Ok(languages) => {
@@ -103,9 +103,9 @@ fn nested(alloc: Global, levels: usize) -> Result<String, AllocError> {
     let begun = "{\"blanks\":0,\"blobs\":{\"C\":".repeat(alloc, levels)?;
     let ended = "},\"code\":0,\"comments\":0}".repeat(alloc, levels)?;
     let inner = "{\"blanks\":0,\"blobs\":{},\"code\":0,\"comments\":0}";
-    let head =
-        "{\"C\":{\"blanks\":0,\"children\":{},\"code\":0,\"comments\":0,\"inaccurate\":false,\"reports\":[{\"name\":\"a\",\"stats\":";
-    format!(in alloc; "{head}{begun}{inner}{ended}}}]}},\"Total\":0}}")
+    let head = "{\"C\":{\"blanks\":0,\"children\":{},\"code\":0,\"comments\":0,";
+    let report = "\"inaccurate\":false,\"reports\":[{\"name\":\"a\",\"stats\":";
+    format!(in alloc; "{head}{report}{begun}{inner}{ended}}}]}},\"Total\":0}}")
 }
 
 /// Whether a document so deep is read, printed and read again as the same.
