@@ -1,7 +1,5 @@
 //! Rows of searches for one of a few bytes.
-ghost use Rattle.std.specs.Prelude.{◌≤◌, length};
-
-use test_rows::{Answers, Asked, Members, Row, RowError, Said};
+use test_rows::{Answers, Members, Row, RowError, Said};
 use tokei_bytes::{ByteSet, first_of_four};
 
 /// The members of these rows. Either one of the bytes `four` is searched for between two places; where the text has a
@@ -48,53 +46,50 @@ fn search_each(
 }
 
 /// The answers of a search for one of four.
-fn of_four(row: &Row, text: &mut [u8], answers: &mut Answers) -> Result<(), RowError> {
-    let [one, two, three, four] = row.text("four")?.as_bytes() else {
-        return Err(RowError::Words("these aren't four bytes"));
+fn of_four(row: &Row, text: &mut [u8], answers: &mut Answers) {
+    let [one, two, three, four] = answers.text(row, "four").as_bytes() else {
+        return answers.fail(RowError::Words("these aren't four bytes"));
     };
     let four = [*one, *two, *three, *four];
-    let (from, to) = (row.place("from")?, row.place("to")?);
+    let from = answers.read(row.place("from"), 0);
+    let to = answers.read(row.place("to"), 0);
     let first = if row.has("hit") {
-        search_each(four, text, row.place("hit")?, from, to)
+        let hit = answers.read(row.place("hit"), 0);
+        search_each(four, text, hit, from, to)
     } else {
         search(four, text, from, to)
     };
     match first {
-        Some(first) => {
-            answers.say("first", Said::Number(first as u128));
-            Ok(())
-        }
-        None => Err(RowError::Words(
+        Some(first) => answers.say("first", Said::Number(first as u128)),
+        None => answers.fail(RowError::Words(
             "two bytes are found elsewhere, or the places aren't within the text",
         )),
     }
 }
 
 /// The answers of a set.
-fn of_set(row: &Row, text: &[u8], answers: &mut Answers) -> Result<(), RowError> {
+fn of_set(row: &Row, text: &[u8], answers: &mut Answers) {
     let mut set = ByteSet::empty();
-    for byte in row.text("set")?.as_bytes() {
+    for byte in answers.text(row, "set").as_bytes() {
         set.insert(*byte);
     }
-    let [other] = row.text("other")?.as_bytes() else {
-        return Err(RowError::Words("the other one isn't one byte"));
+    let [other] = answers.text(row, "other").as_bytes() else {
+        return answers.fail(RowError::Words("the other one isn't one byte"));
     };
-    answers.say(
-        "clear_end",
-        Said::Number(set.clear_end(text, 0, text.len()) as u128),
-    );
+    let end = set.clear_end(text, 0, text.len());
+    answers.say("clear_end", Said::Number(end as u128));
     let end = set.clear_end_with(*other, text, 0, text.len());
     answers.say("clear_end_with", Said::Number(end as u128));
     answers.say("has_slash", Said::Flag(set.has(b'/')));
-    Ok(())
 }
 
 /// What the calls answer.
-pub fn came(_asked: &Asked, row: &Row, answers: &mut Answers) -> Result<(), RowError> {
-    let mut text = row.bytes(answers.alloc, "text", "text_hex")?;
-    if row.has("set") {
-        of_set(row, &text, answers)
-    } else {
-        of_four(row, &mut text, answers)
+pub fn came(row: &Row, answers: &mut Answers) {
+    if let Some(mut text) = answers.got(row.bytes(answers.alloc, "text", "text_hex")) {
+        if row.has("set") {
+            of_set(row, &text, answers);
+        } else {
+            of_four(row, &mut text, answers);
+        }
     }
 }
