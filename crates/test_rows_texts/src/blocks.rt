@@ -1,9 +1,11 @@
 //! Rows of what opens at a place of a text, and what it holds.
+use crate::asking::place_of;
 use test_rows::{Answers, Members, Row, RowError, Said};
-use tokei_embedding::{BlockSearch, FenceAt, Tag, TagAt, TargetAt, doc_text, fence_at, target_at};
+use tokei_embedding::{BlockSearch, FenceAt, Tag, TagAt, doc_text, fence_at, target_at};
 
-/// The members of these rows. `block` is `fence`, `script`, `style`, `template`, `doc comment`, `target block` or
-/// `target`; reading begins at `from`, and the line of `place` ends at `to`. Where no block opens, `opens` is false.
+/// The members of these rows. `block` is `fence`, `script`, `style`, `template`, `doc comment`,
+/// `target block` or `target`; reading begins at `from`, and the line of `place` ends at `to`.
+/// Where no block opens, `opens` is false.
 pub const MEMBERS: Members = Members {
     given: &["block", "text", "text_hex", "from", "place", "to"],
     wanted: &["opens", "contents", "size", "info", "closed", "value"],
@@ -25,14 +27,6 @@ fn fence(found: Option<FenceAt<'_>>, answers: &mut Answers) {
             answers.say("info", Said::Bytes(found.info));
             answers.say("closed", Said::Flag(found.closed));
         }
-        None => answers.say("opens", Said::Flag(false)),
-    }
-}
-
-/// The answers of the search for a target block.
-fn target_block(found: Option<TargetAt<'_>>, answers: &mut Answers) {
-    match found {
-        Some(found) => block(found.contents, found.size, answers),
         None => answers.say("opens", Said::Flag(false)),
     }
 }
@@ -83,15 +77,18 @@ fn target(text: &[u8], answers: &mut Answers) {
 
 /// The answers of a search between places.
 fn between(name: &str, row: &Row, text: &[u8], answers: &mut Answers) {
-    let from = answers.read(row.place("from"), 0);
-    let place = answers.read(row.place("place"), 0);
-    let to = answers.read(row.place("to"), 0);
+    let from = place_of(row, "from", answers);
+    let place = place_of(row, "place", answers);
+    let to = place_of(row, "to", answers);
     if place < from || to <= place || text.len() < to {
         return answers.fail(RowError::Words("the places aren't within the text"));
     }
     let tag = match name {
         "fence" => return fence(fence_at(text, from, place, to), answers),
-        "target block" => return target_block(target_at(text, from, place, to), answers),
+        "target block" => return match target_at(text, from, place, to) {
+            Some(found) => block(found.contents, found.size, answers),
+            None => answers.say("opens", Said::Flag(false)),
+        },
         "script" => Tag::Script,
         "style" => Tag::Style,
         "template" => Tag::Template,
@@ -106,7 +103,7 @@ fn came_in(row: &Row, text: &[u8], answers: &mut Answers) {
     match answers.text(row, "block") {
         "target" => target(text, answers),
         "doc comment" => {
-            let place = answers.read(row.place("place"), 0);
+            let place = place_of(row, "place", answers);
             doc_comment(text, place, answers);
         }
         name => between(name, row, text, answers),

@@ -1,10 +1,12 @@
 //! Rows of searches for one of a few bytes.
+use crate::asking::{place_of, say_all};
 use test_rows::{Answers, Members, Row, RowError, Said};
 use tokei_bytes::{ByteSet, first_of_four};
 
-/// The members of these rows. Either one of the bytes `four` is searched for between two places; where the text has a
-/// `hit`, each of the four is put there in turn, and all have to be found at the same place. Or the text is read up to
-/// a byte of a `set`, and up to such a byte or another one, `other`.
+/// The members of these rows. Either one of the bytes `four` is searched for between two places;
+/// where the text has a `hit`, each of the four is put there in turn, and all have to be found at
+/// the same place. Or the text is read up to a byte of a `set`, and up to such a byte or another
+/// one, `other`.
 pub const MEMBERS: Members = Members {
     given: &[
         "four", "text", "text_hex", "from", "to", "hit", "set", "other",
@@ -23,7 +25,8 @@ fn search(four: [u8; 4], text: &[u8], from: usize, to: usize) -> Option<usize> {
     }
 }
 
-/// What the search answers where each of the four stands in that place in turn; none where it answers otherwise of two.
+/// What the search answers where each of the four stands in that place in turn; none where it
+/// answers otherwise of two.
 fn search_each(
     four: [u8; 4],
     text: &mut [u8],
@@ -51,10 +54,10 @@ fn of_four(row: &Row, text: &mut [u8], answers: &mut Answers) {
         return answers.fail(RowError::Words("these aren't four bytes"));
     };
     let four = [*one, *two, *three, *four];
-    let from = answers.read(row.place("from"), 0);
-    let to = answers.read(row.place("to"), 0);
+    let from = place_of(row, "from", answers);
+    let to = place_of(row, "to", answers);
     let first = if row.has("hit") {
-        let hit = answers.read(row.place("hit"), 0);
+        let hit = place_of(row, "hit", answers);
         search_each(four, text, hit, from, to)
     } else {
         search(four, text, from, to)
@@ -77,10 +80,13 @@ fn of_set(row: &Row, text: &[u8], answers: &mut Answers) {
         return answers.fail(RowError::Words("the other one isn't one byte"));
     };
     let end = set.clear_end(text, 0, text.len());
-    answers.say("clear_end", Said::Number(end as u128));
-    let end = set.clear_end_with(*other, text, 0, text.len());
-    answers.say("clear_end_with", Said::Number(end as u128));
-    answers.say("has_slash", Said::Flag(set.has(b'/')));
+    let end_with = set.clear_end_with(*other, text, 0, text.len());
+    let all = [
+        ("clear_end", Said::Number(end as u128)),
+        ("clear_end_with", Said::Number(end_with as u128)),
+        ("has_slash", Said::Flag(set.has(b'/'))),
+    ];
+    say_all(&all, answers);
 }
 
 /// What the calls answer.

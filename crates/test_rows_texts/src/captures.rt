@@ -1,15 +1,17 @@
 //! Rows of the openings and closings of a part, as captures.
 ghost use Rattle.std.specs.Prelude.{◌≤◌, length};
 
+use crate::asking::place_of;
 use test_rows::{Answers, Members, Row, RowError, Said};
 use tokei_embedding::{
     Capture, HtmlLike, SimpleCapture, end_lf, end_markdown, end_script, end_style, end_template,
     start_lf, start_markdown, start_script, start_style, start_template,
 };
 
-/// The members of these rows. `call` is the call's name, `none` for no capture; `from` and `to` are the ends of the
-/// part, `starts` and `ends` those of the range in which a capture has to start. `capture` is where it starts and ends
-/// and how long its text is, and `value` the same of the value in an opening tag.
+/// The members of these rows. `call` is the call's name, `none` for no capture; `from` and `to` are
+/// the ends of the part, `starts` and `ends` those of the range in which a capture has to start.
+/// `capture` is where it starts and ends and how long its text is, and `value` the same of the
+/// value in an opening tag.
 pub const MEMBERS: Members = Members {
     given: &["call", "text", "from", "to", "starts", "ends"],
     wanted: &["capture", "value"],
@@ -128,21 +130,18 @@ fn of_single(found: Option<Capture<'_>>, range: Option<(usize, usize)>, answers:
     }
 }
 
-/// The range that a row has, or none.
-fn range(row: &Row, answers: &mut Answers) -> Option<(usize, usize)> {
-    if row.has("starts") {
-        let starts = answers.read(row.place("starts"), 0);
-        Some((starts, answers.read(row.place("ends"), 0)))
-    } else {
-        None
-    }
-}
-
 /// What the calls answer.
 pub fn came(row: &Row, answers: &mut Answers) {
-    let from = answers.read(row.place("from"), 0);
-    let to = answers.read(row.place("to"), 0);
-    let range = range(row, answers);
+    let from = place_of(row, "from", answers);
+    let to = place_of(row, "to", answers);
+    let range = if row.has("starts") {
+        Some((
+            place_of(row, "starts", answers),
+            place_of(row, "ends", answers),
+        ))
+    } else {
+        None
+    };
     let call = answers.text(row, "call");
     let text = answers.text(row, "text").as_bytes();
     if to < from || text.len() < to {

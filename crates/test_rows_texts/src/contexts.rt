@@ -1,11 +1,12 @@
 //! Rows of the debug texts of rules by which a text of another language opens, and of such a text.
-use crate::made::{NO_LANGUAGE, stats_of};
+use crate::asking::{NO_LANGUAGE, place_of};
+use crate::made::stats_of;
 use test_rows::{Answers, Members, Row, RowError};
 use tokei_count::{FileContext, LanguageContext};
 use tokei_table::{LanguageTable, LanguageType};
 
-/// The members of these rows: a rule and its members, and where a text inside is shown too where it ends and its
-/// statistics.
+/// The members of these rows: a rule and its members, and where a text inside is shown too where it
+/// ends and its statistics.
 pub const MEMBERS: Members = Members {
     given: &[
         "rule",
@@ -21,17 +22,6 @@ pub const MEMBERS: Members = Members {
     by_table: true,
 };
 
-/// The rule of that name.
-fn rule(name: &str, language: LanguageType, balanced: bool) -> Option<LanguageContext> {
-    match name {
-        "Html" => Some(LanguageContext::Html { language }),
-        "LinguaFranca" => Some(LanguageContext::LinguaFranca),
-        "Markdown" => Some(LanguageContext::Markdown { balanced, language }),
-        "Rust" => Some(LanguageContext::Rust),
-        _ => None,
-    }
-}
-
 /// What the calls answer.
 pub fn came(table: &LanguageTable, row: &Row, answers: &mut Answers) {
     let name = answers.text(row, "rule");
@@ -40,12 +30,16 @@ pub fn came(table: &LanguageTable, row: &Row, answers: &mut Answers) {
     let Some(language) = LanguageType::from_name(table, language) else {
         return answers.fail(NO_LANGUAGE);
     };
-    let Some(rule) = rule(name, language, balanced) else {
-        return answers.fail(RowError::Words("there is no such rule"));
+    let rule = match name {
+        "Html" => LanguageContext::Html { language },
+        "LinguaFranca" => LanguageContext::LinguaFranca,
+        "Markdown" => LanguageContext::Markdown { balanced, language },
+        "Rust" => LanguageContext::Rust,
+        _ => return answers.fail(RowError::Words("there is no such rule")),
     };
     if row.has("end") {
         let stats = stats_of(table, row, answers);
-        let end = answers.read(row.place("end"), 0);
+        let end = place_of(row, "end", answers);
         answers.say_debug("debug", &FileContext::new(rule, end, stats));
     } else {
         answers.say_debug("debug", &rule);

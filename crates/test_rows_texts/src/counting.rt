@@ -1,5 +1,7 @@
 //! Rows of the four calls that count a text, all of which have to tell the same.
-use crate::made::{NO_LANGUAGE, answers_of, inside, refused};
+use crate::asking::NO_LANGUAGE;
+use crate::look_ups::key_of;
+use crate::made::{answers_of, refused};
 use test_rows::{Answers, Members, Page, Row, RowError, Said};
 use test_texts::every_call::{agreed, told};
 use tokei_count::Counter;
@@ -7,8 +9,9 @@ use tokei_options::CountConfig;
 use tokei_stats::CodeStats;
 use tokei_table::{LanguageTable, LanguageType};
 
-/// The members of these rows. `counts` are the blank, code and comment lines; `blobs` those of the texts inside it, by
-/// the key of their language, and of texts inside these by both keys, as `"Markdown/Rust"`; `summary` all together.
+/// The members of these rows. `counts` are the blank, code and comment lines; `blobs` those of the
+/// texts inside it, by the key of their language, and of texts inside these by both keys, as
+/// `"Markdown/Rust"`; `summary` all together.
 pub const MEMBERS: Members = Members {
     given: &[
         "language",
@@ -30,30 +33,28 @@ struct Text<'a> {
     text: &'a [u8],
 }
 
-/// Statistics as one text: their lines, and those of all texts inside.
-fn shown(table: &LanguageTable, stats: &CodeStats, answers: &mut Answers) -> Page {
-    let mut page = Page::new(answers.alloc);
-    page.put_counts("", (stats.blanks, stats.code, stats.comments), "");
-    for (keys, stats) in &inside(table, stats, answers) {
-        let counts = (stats.blanks, stats.code, stats.comments);
-        page.put_counts(keys.as_str(), counts, "");
+/// Puts the lines of a text under the key of its language, and in brackets those of the texts
+/// inside.
+fn put_stats(stats: &CodeStats, table: &LanguageTable, key: &str, page: &mut Page) {
+    page.put_counts(key, (stats.blanks, stats.code, stats.comments), " (");
+    for (language, blob) in &stats.blobs {
+        put_stats(blob, table, key_of(table, Some(*language)), page);
     }
-    page
+    page.put(")\n");
 }
 
 /// What all calls tell of the beginning of a text, as one text.
 fn told_by(counter: &Counter, text: &Text, beginning: &[u8], answers: &mut Answers) -> Page {
+    let mut page = Page::new(answers.alloc);
     match LanguageType::from_name(counter.table(), text.language) {
-        Some(language) => {
-            match agreed(answers.alloc, counter, language, beginning, &text.config) {
-                Ok(Some((stats, _))) => return shown(counter.table(), &stats, answers),
-                Ok(None) => answers.fail(RowError::Words("two calls count otherwise")),
-                Err(cause) => answers.fail(refused(cause)),
-            }
-        }
+        Some(language) => match agreed(answers.alloc, counter, language, beginning, &text.config) {
+            Ok(Some((stats, _))) => put_stats(&stats, counter.table(), text.language, &mut page),
+            Ok(None) => answers.fail(RowError::Words("two calls count otherwise")),
+            Err(cause) => answers.fail(refused(cause)),
+        },
         None => answers.fail(NO_LANGUAGE),
     }
-    Page::new(answers.alloc)
+    page
 }
 
 /// Keeps that two tables tell otherwise of a beginning of a text, where they do.
@@ -72,13 +73,12 @@ fn compare(one: &Counter, other: &Counter, text: &Text, beginning: &[u8], answer
 
 /// The same of each beginning; each table is made ready once.
 fn compare_each(one: &LanguageTable, other: &LanguageTable, text: &Text, answers: &mut Answers) {
-    let one = Counter::new(answers.alloc, one);
-    let other = Counter::new(answers.alloc, other);
-    match (one, other) {
-        (Ok(one), Ok(other)) => for end in 0..text.text.len() {
-            compare(&one, &other, text, &text.text[..end], answers);
-        },
-        _ => answers.fail(RowError::Memory),
+    if let Some(one) = answers.got(Counter::new(answers.alloc, one)) {
+        if let Some(other) = answers.got(Counter::new(answers.alloc, other)) {
+            for end in 0..text.text.len() {
+                compare(&one, &other, text, &text.text[..end], answers);
+            }
+        }
     }
 }
 

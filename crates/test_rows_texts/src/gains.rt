@@ -30,7 +30,8 @@ fn extended(table: &LanguageTable, gains: &[Gain], answers: &mut Answers) -> Opt
     answers.got(table.extended(answers.alloc, &more))
 }
 
-/// The table in which languages gain what a row says: a list of tables with `language` and `extensions`.
+/// The table in which languages gain what a row says: a list of tables with `language` and
+/// `extensions`.
 pub fn gained(table: &LanguageTable, row: &Row, answers: &mut Answers) -> Option<LanguageTable> {
     let mut gains = Vec::new(answers.alloc);
     for value in answers.list(row, "gains") {

@@ -4,7 +4,8 @@ use std::str::from_utf8;
 use test_rows::{Answers, Members, Row, RowError, Said};
 use tokei_table::{LanguageTable, LanguageType, has_extension};
 
-/// The members of these rows. `by` is what the text is looked up as; `found` is the key of the language, or `none`.
+/// The members of these rows. `by` is what the text is looked up as; `found` is the key of the
+/// language, or `none`.
 pub const MEMBERS: Members = Members {
     given: &["by", "asked", "asked_hex", "table_json", "gains"],
     wanted: &["found", "has_extension"],
@@ -13,7 +14,7 @@ pub const MEMBERS: Members = Members {
 };
 
 /// The key of a language that was found, or `none`.
-fn key_of<'a>(table: &'a LanguageTable, found: Option<LanguageType>) -> &'a str {
+pub fn key_of<'a>(table: &'a LanguageTable, found: Option<LanguageType>) -> &'a str {
     match found {
         Some(language) => if table.has(language) {
             language.key(table)
@@ -47,29 +48,17 @@ fn found_by(
     }
 }
 
-/// The language that bytes find.
-fn found(
-    table: &LanguageTable,
-    by: &str,
-    asked: &[u8],
-    answers: &mut Answers,
-) -> Option<LanguageType> {
-    if by == "first line" {
-        return LanguageType::from_shebang_bytes(table, asked);
-    }
-    match from_utf8(asked) {
-        Ok(text) => found_by(table, by, text, answers),
-        Err(_) => {
-            answers.fail(RowError::Words("the text that is looked up isn't UTF-8"));
-            None
-        }
-    }
-}
-
 /// Says the key of the language that a row's bytes find.
 fn look_up(table: &LanguageTable, by: &str, row: &Row, answers: &mut Answers) {
     if let Some(asked) = answers.got(row.bytes(answers.alloc, "asked", "asked_hex")) {
-        let found = found(table, by, &asked, answers);
+        let found = if by == "first line" {
+            LanguageType::from_shebang_bytes(table, &asked)
+        } else if let Ok(text) = from_utf8(&asked) {
+            found_by(table, by, text, answers)
+        } else {
+            answers.fail(RowError::Words("the text that is looked up isn't UTF-8"));
+            None
+        };
         answers.say("found", Said::Text(key_of(table, found)));
     }
 }

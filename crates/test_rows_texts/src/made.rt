@@ -1,11 +1,7 @@
 //! Statistics that rows say, and answers that statistics are.
-use std::alloc::AllocError;
-use test_rows::{Answers, Row, RowError, Said, three_of};
+use test_rows::{Answers, Page, Row, RowError, Said, three_of};
 use tokei_stats::{CodeStats, CountError};
 use tokei_table::{LanguageTable, LanguageType};
-
-/// Why a row can't be asked whose table hasn't the language that it names.
-pub const NO_LANGUAGE: RowError = RowError::Words("the table hasn't the language");
 
 /// Puts the texts inside a text to its statistics: a table of lines by the keys of languages.
 fn put_blobs(table: &LanguageTable, blobs: &Row, stats: &mut CodeStats, answers: &mut Answers) {
@@ -32,56 +28,21 @@ pub fn stats_of(table: &LanguageTable, row: &Row, answers: &mut Answers) -> Code
     stats
 }
 
-/// A text inside another one: the keys of its language and of those around it, and its statistics.
-type Inside<'a> = (String, &'a CodeStats);
-
-/// Adds the texts right inside one, the keys of the languages around which are `around`.
-fn put_inside<'a>(
-    table: &LanguageTable,
-    around: &str,
-    stats: &'a CodeStats,
-    found: &mut Vec<Inside<'a>>,
-    answers: &mut Answers,
-) {
+/// Puts the lines of all texts inside a text, each under the key of its language, behind those of
+/// the languages around it.
+fn put_inside(stats: &CodeStats, table: &LanguageTable, around: &str, answers: &mut Answers) {
     for (language, blob) in &stats.blobs {
         if table.has(*language) {
-            let key = language.key(table);
-            let keys: Result<String, AllocError> = format!(in answers.alloc; "{around}{key}");
-            if let Some(keys) = answers.got(keys) {
-                answers.done(found.push((keys, blob)));
+            let mut keys = Page::new(answers.alloc);
+            keys.put_all(&[around, language.key(table)]);
+            let counts = [blob.blanks, blob.code, blob.comments];
+            match keys.text() {
+                Some(keys) => answers.put(keys, Said::Numbers(&counts)),
+                None => answers.fail(RowError::Memory),
             }
+            keys.put("/");
+            put_inside(blob, table, keys.text().unwrap_or(""), answers);
         }
-    }
-}
-
-/// The most texts inside one another that are told of.
-const MOST: usize = 65536;
-
-/// All texts inside a text, those that are nearer to it first.
-pub fn inside<'a>(
-    table: &LanguageTable,
-    stats: &'a CodeStats,
-    answers: &mut Answers,
-) -> Vec<Inside<'a>> {
-    let mut found = Vec::new(answers.alloc);
-    put_inside(table, "", stats, &mut found, answers);
-    for place in 0..MOST {
-        let Some((keys, stats)) = found.get(place) else {
-            break;
-        };
-        let stats = *stats;
-        let around: Result<String, AllocError> = format!(in answers.alloc; "{keys}/");
-        if let Some(around) = answers.got(around) {
-            put_inside(table, around.as_str(), stats, &mut found, answers);
-        }
-    }
-    found
-}
-
-/// Answers for members, each by what is said of it.
-pub fn say_all(all: &[(&'static str, Said<'_>)], answers: &mut Answers) {
-    for (member, said) in all {
-        answers.say(*member, *said);
     }
 }
 
@@ -101,7 +62,8 @@ pub fn say_refused(member: &'static str, cause: CountError, answers: &mut Answer
     }
 }
 
-/// Answers by statistics: `counts`, and `blobs` where there are texts inside; `summary` and `lines`.
+/// Answers by statistics: `counts`, and `blobs` where there are texts inside; `summary` and
+/// `lines`.
 pub fn answers_of(table: &LanguageTable, stats: &CodeStats, answers: &mut Answers) {
     let counts = [stats.blanks, stats.code, stats.comments];
     answers.say("counts", Said::Numbers(&counts));
@@ -117,10 +79,7 @@ pub fn answers_of(table: &LanguageTable, stats: &CodeStats, answers: &mut Answer
         Err(cause) => say_refused("lines", cause, answers),
     }
     if !stats.blobs.is_empty() {
-        for (keys, stats) in &inside(table, stats, answers) {
-            let counts = [stats.blanks, stats.code, stats.comments];
-            answers.put(keys.as_str(), Said::Numbers(&counts));
-        }
+        put_inside(stats, table, "", answers);
         answers.say_parts("blobs");
     }
 }

@@ -1,6 +1,7 @@
 //! Asks the rows of texts in memory: counting, tables of languages, searches, statistics.
 #![tactic(auto)]
 
+mod asking;
 mod blocks;
 mod bytes;
 mod captures;

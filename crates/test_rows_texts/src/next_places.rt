@@ -1,4 +1,5 @@
 //! Rows of the next place at which a block can open.
+use crate::asking::place_of;
 use test_rows::{Answers, Members, Row, RowError, Said};
 use tokei_embedding::{BlockSearch, Tag, first_line, next_doc, next_fence, next_target};
 
@@ -29,8 +30,8 @@ fn next_doc_of(row: &Row, text: &[u8], at: usize) -> Option<usize> {
 /// The next place between places that a row asks for; none where they aren't within the text, or
 /// there is no such block.
 fn next_of(name: &str, row: &Row, text: &[u8], at: usize, answers: &mut Answers) -> Option<usize> {
-    let start = answers.read(row.place("start"), 0);
-    let to = answers.read(row.place("to"), 0);
+    let start = place_of(row, "start", answers);
+    let to = place_of(row, "to", answers);
     if at < start || to < at || text.len() < to {
         return None;
     }
@@ -49,7 +50,7 @@ fn next_of(name: &str, row: &Row, text: &[u8], at: usize, answers: &mut Answers)
 pub fn came(row: &Row, answers: &mut Answers) {
     let name = answers.text(row, "block");
     let text = answers.text(row, "text").as_bytes();
-    let at = answers.read(row.place("at"), 0);
+    let at = place_of(row, "at", answers);
     let next = if name == "doc comment" {
         next_doc_of(row, text, at)
     } else {

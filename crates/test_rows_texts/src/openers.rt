@@ -1,12 +1,12 @@
 //! Rows of searches for the first opener in a text.
-use crate::made::NO_LANGUAGE;
+use crate::asking::NO_LANGUAGE;
 use std::alloc::AllocError;
 use test_rows::{Answers, Members, Row, RowError, Said};
 use tokei_table::{LanguageTable, LanguageType};
 use tokei_table_search::OpenerIndex;
 
-/// The members of these rows. The openers are those of a language of the bench table, or a list of texts. `first` is
-/// the place of the first opener in the text, or `none`, or `an empty opener`.
+/// The members of these rows. The openers are those of a language of the bench table, or a list of
+/// texts. `first` is the place of the first opener in the text, or `none`, or `an empty opener`.
 pub const MEMBERS: Members = Members {
     given: &["language", "openers", "text"],
     wanted: &["first"],

@@ -59,19 +59,28 @@ impl Subject for Rows {
             About::Blocks => blocks::came(row, answers),
             About::Bytes => bytes::came(row, answers),
             About::Captures => captures::came(row, answers),
-            About::Counting => counting::came(asked.table()?, asked.bench, row, answers),
             About::NextPlaces => next_places::came(row, answers),
             About::Texts => texts::came(row, answers),
-            _ => ask_by(self.2, asked.table()?, row, answers),
+            _ => match asked.table() {
+                Ok(table) => ask_by(self.2, (table, asked.bench), row, answers),
+                Err(cause) => answers.fail(cause),
+            },
         }
         Ok(())
     }
 }
 
-/// Asks the public calls that need a table alone, and says what they answer.
-fn ask_by(about: About, table: &LanguageTable, row: &Row, answers: &mut Answers) {
+/// Asks the public calls that need a table, and says what they answer: by that one, and by the
+/// bench table where another one is named in its place.
+fn ask_by(
+    about: About,
+    (table, bench): (&LanguageTable, Option<&LanguageTable>),
+    row: &Row,
+    answers: &mut Answers,
+) {
     match about {
         About::Contexts => contexts::came(table, row, answers),
+        About::Counting => counting::came(table, bench, row, answers),
         About::LookUps => look_ups::came(table, row, answers),
         About::Openers => openers::came(table, row, answers),
         About::Reports => reports::came(table, row, answers),

@@ -52,19 +52,16 @@ fn add_blobs(sum: &mut CodeStats, more: CodeStats) -> Result<(), CountError> {
     Ok(())
 }
 
-/// Adds statistics to a report, to its statistics, or their blobs to its blobs.
-fn add(to: &str, sum: &mut Report, more: CodeStats) -> Result<(), CountError> {
-    match to {
-        "report" => sum.add(more),
-        "blobs" => add_blobs(&mut sum.stats, more),
-        _ => sum.stats.add(&more),
-    }
-}
-
-/// Adds all statistics in the same way, up to the first that is refused.
+/// Adds statistics to a report, to its statistics, or their blobs to its blobs: one after the
+/// other, up to the first that is refused.
 fn add_all(to: &str, sum: &mut Report, all: Vec<CodeStats>) -> Result<(), CountError> {
     for more in all {
-        add(to, sum, more)?;
+        let added = match to {
+            "report" => sum.add(more),
+            "blobs" => add_blobs(&mut sum.stats, more),
+            _ => sum.stats.add(&more),
+        };
+        added?;
     }
     Ok(())
 }

@@ -1,7 +1,7 @@
 //! Rows of what a table says of a language.
 ghost use Rattle.std.specs.Prelude.{◌<◌, length};
 
-use crate::made::{NO_LANGUAGE, say_all};
+use crate::asking::{NO_LANGUAGE, say_all};
 use test_rows::{Answers, Members, Row, Said};
 use tokei_table::{LanguageTable, LanguageType};
 
@@ -68,7 +68,8 @@ fn say_texts(table: &LanguageTable, language: LanguageType, answers: &mut Answer
     answers.say_debug("debug", &language);
 }
 
-/// Answers by the texts that are made of those of the language.
+/// Answers by the texts that are made of those of the language, and by the extensions that the list
+/// of all languages has for it.
 fn say_made(table: &LanguageTable, language: LanguageType, answers: &mut Answers)
     requires { language < length table.now }
 {
@@ -78,13 +79,9 @@ fn say_made(table: &LanguageTable, language: LanguageType, answers: &mut Answers
     if let Some(openers) = answers.got(language.openers(answers.alloc, table)) {
         answers.say("openers", Said::Texts(&openers));
     }
-}
-
-/// Answers by the extensions that the list of all languages has for one.
-fn say_listed(table: &LanguageTable, wanted: LanguageType, answers: &mut Answers) {
     if let Some(list) = answers.got(LanguageType::list(answers.alloc, table)) {
-        for (language, extensions) in &list {
-            if *language == wanted {
+        for (listed, extensions) in &list {
+            if *listed == language {
                 answers.say("extensions", Said::Texts(extensions));
             }
         }
@@ -98,7 +95,6 @@ pub fn came(table: &LanguageTable, row: &Row, answers: &mut Answers) {
             say_kind(table, language, answers);
             say_texts(table, language, answers);
             say_made(table, language, answers);
-            say_listed(table, language, answers);
         }
         None => answers.fail(NO_LANGUAGE),
     }

@@ -3,9 +3,10 @@ use crate::gains::gained;
 use test_rows::{Answers, Members, Page, Row, RowError, Said};
 use tokei_table::{LanguageTable, TableError, TableFlaw};
 
-/// The members of these rows. The text is `json`, or that of one language `X` with these `members`; without both it is
-/// the bench table. Wanted is how many languages it has, or why it is refused; `words` are those of the cause, which a
-/// row may name alone as `cause`, and `flaw` says where it goes wrong, or is `none`.
+/// The members of these rows. The text is `json`, or that of one language `X` with these `members`;
+/// without both it is the bench table. Wanted is how many languages it has, or why it is refused;
+/// `words` are those of the cause, which a row may name alone as `cause`, and `flaw` says where it
+/// goes wrong, or is `none`.
 pub const MEMBERS: Members = Members {
     given: &["json", "json_hex", "members", "gains", "cause"],
     wanted: &["languages", "error"],
@@ -13,26 +14,21 @@ pub const MEMBERS: Members = Members {
     by_table: true,
 };
 
-/// Answers by why a text is refused, and by where it goes wrong.
-fn refused(cause: TableError, text: &[u8], answers: &mut Answers) {
-    if cause == TableError::Memory {
-        answers.fail(RowError::Memory);
-        return;
-    }
-    answers.say_debug("error", &cause);
-    answers.say_shown("words", &cause);
-    match TableFlaw::find(answers.alloc, text) {
-        Ok(Some(flaw)) => answers.say_shown("flaw", &flaw),
-        Ok(None) => answers.say("flaw", Said::Text("none")),
-        Err(_) => answers.fail(RowError::Memory),
-    }
-}
-
-/// The answers that a text gives.
+/// The answers that a text gives: how many languages it has, or why it is refused, and where it goes
+/// wrong.
 fn read(text: &[u8], answers: &mut Answers) {
     match LanguageTable::from_json(answers.alloc, text) {
         Ok(table) => answers.say("languages", Said::Number(table.len() as u128)),
-        Err(cause) => refused(cause, text, answers),
+        Err(TableError::Memory) => answers.fail(RowError::Memory),
+        Err(cause) => {
+            answers.say_debug("error", &cause);
+            answers.say_shown("words", &cause);
+            match TableFlaw::find(answers.alloc, text) {
+                Ok(Some(flaw)) => answers.say_shown("flaw", &flaw),
+                Ok(None) => answers.say("flaw", Said::Text("none")),
+                Err(_) => answers.fail(RowError::Memory),
+            }
+        }
     }
 }
 

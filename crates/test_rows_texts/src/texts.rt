@@ -1,4 +1,6 @@
-//! Rows of contents that are decoded, of boundaries of characters, and of blanks and slices of texts.
+//! Rows of contents that are decoded, of boundaries of characters, and of blanks and slices of
+//! texts.
+use crate::asking::{place_of, say_all};
 use test_rows::{Answers, Members, Row, RowError, Said};
 use tokei_bytes::{decode_text, find_char_boundary};
 use tokei_table_row::ext::{
@@ -7,8 +9,9 @@ use tokei_table_row::ext::{
 };
 use tokei_table_search::blanks_end;
 
-/// The members of these rows. `call` is `decode_text`, `find_char_boundary` at a place, `trim`, which trims the front
-/// alone too, `trim_lines`, `contains_slice` or `is_whitespace`, of a text of one byte.
+/// The members of these rows. `call` is `decode_text`, `find_char_boundary` at a place, `trim`,
+/// which trims the front alone too, `trim_lines`, `contains_slice` or `is_whitespace`, of a text of
+/// one byte.
 pub const MEMBERS: Members = Members {
     given: &["call", "text", "text_hex", "place", "slice"],
     wanted: &[
@@ -40,7 +43,7 @@ fn kinds(text: &[u8], answers: &mut Answers) {
 /// The answer of the search for a boundary.
 fn boundary(row: &Row, answers: &mut Answers) {
     let text = answers.text(row, "text");
-    let place = answers.read(row.place("place"), 0);
+    let place = place_of(row, "place", answers);
     if place > text.len() {
         return answers.fail(RowError::Words("the place isn't within the text"));
     }
@@ -60,10 +63,13 @@ fn decoded(text: &[u8], answers: &mut Answers) {
 
 /// The answers of trimming.
 fn trimmed(text: &[u8], answers: &mut Answers) {
-    answers.say("front_trimmed", Said::Bytes(trim_start(text)));
-    answers.say("trimmed", Said::Bytes(trim(text)));
     let end = blanks_end(text, 0, text.len());
-    answers.say("blanks_end", Said::Number(end as u128));
+    let all = [
+        ("front_trimmed", Said::Bytes(trim_start(text))),
+        ("trimmed", Said::Bytes(trim(text))),
+        ("blanks_end", Said::Number(end as u128)),
+    ];
+    say_all(&all, answers);
 }
 
 /// The answers of a call.
