@@ -26,23 +26,23 @@ pub enum About {
 
 /// Rows: the name of their file, their members, and what they are about.
 #[derive(Clone, Copy)]
-pub struct Rows(&'static str, Members, About);
+pub struct Rows(&'static str, &'static Members, About);
 
 /// All of them, in the order of their files' names.
 pub const SUBJECTS: [Rows; 13] = [
-    Rows("blocks.toml", blocks::MEMBERS, About::Blocks),
-    Rows("bytes.toml", bytes::MEMBERS, About::Bytes),
-    Rows("captures.toml", captures::MEMBERS, About::Captures),
-    Rows("contexts.toml", contexts::MEMBERS, About::Contexts),
-    Rows("counting.toml", counting::MEMBERS, About::Counting),
-    Rows("look_ups.toml", look_ups::MEMBERS, About::LookUps),
-    Rows("next_places.toml", next_places::MEMBERS, About::NextPlaces),
-    Rows("openers.toml", openers::MEMBERS, About::Openers),
-    Rows("reports.toml", reports::MEMBERS, About::Reports),
-    Rows("sums.toml", sums::MEMBERS, About::Sums),
-    Rows("syntaxes.toml", syntaxes::MEMBERS, About::Syntaxes),
-    Rows("tables.toml", tables::MEMBERS, About::Tables),
-    Rows("texts.toml", texts::MEMBERS, About::Texts),
+    Rows("blocks.toml", &blocks::MEMBERS, About::Blocks),
+    Rows("bytes.toml", &bytes::MEMBERS, About::Bytes),
+    Rows("captures.toml", &captures::MEMBERS, About::Captures),
+    Rows("contexts.toml", &contexts::MEMBERS, About::Contexts),
+    Rows("counting.toml", &counting::MEMBERS, About::Counting),
+    Rows("look_ups.toml", &look_ups::MEMBERS, About::LookUps),
+    Rows("next_places.toml", &next_places::MEMBERS, About::NextPlaces),
+    Rows("openers.toml", &openers::MEMBERS, About::Openers),
+    Rows("reports.toml", &reports::MEMBERS, About::Reports),
+    Rows("sums.toml", &sums::MEMBERS, About::Sums),
+    Rows("syntaxes.toml", &syntaxes::MEMBERS, About::Syntaxes),
+    Rows("tables.toml", &tables::MEMBERS, About::Tables),
+    Rows("texts.toml", &texts::MEMBERS, About::Texts),
 ];
 
 impl Subject for Rows {
@@ -51,7 +51,7 @@ impl Subject for Rows {
     }
 
     fn members(&self) -> Members {
-        self.1
+        *self.1
     }
 
     fn ask(&self, asked: &Asked, row: &Row, answers: &mut Answers) -> Result<(), RowError> {

@@ -68,8 +68,7 @@ fn say_texts(table: &LanguageTable, language: LanguageType, answers: &mut Answer
     answers.say_debug("debug", &language);
 }
 
-/// Answers by the texts that are made of those of the language, and by the extensions that the list
-/// of all languages has for it.
+/// Answers by the texts that are made of those of the language.
 fn say_made(table: &LanguageTable, language: LanguageType, answers: &mut Answers)
     requires { language < length table.now }
 {
@@ -79,9 +78,13 @@ fn say_made(table: &LanguageTable, language: LanguageType, answers: &mut Answers
     if let Some(openers) = answers.got(language.openers(answers.alloc, table)) {
         answers.say("openers", Said::Texts(&openers));
     }
+}
+
+/// Answers by the extensions that the list of all languages has for one.
+fn say_listed(table: &LanguageTable, wanted: LanguageType, answers: &mut Answers) {
     if let Some(list) = answers.got(LanguageType::list(answers.alloc, table)) {
-        for (listed, extensions) in &list {
-            if *listed == language {
+        for (language, extensions) in &list {
+            if *language == wanted {
                 answers.say("extensions", Said::Texts(extensions));
             }
         }
@@ -95,6 +98,7 @@ pub fn came(table: &LanguageTable, row: &Row, answers: &mut Answers) {
             say_kind(table, language, answers);
             say_texts(table, language, answers);
             say_made(table, language, answers);
+            say_listed(table, language, answers);
         }
         None => answers.fail(NO_LANGUAGE),
     }

@@ -14,8 +14,8 @@ pub const MEMBERS: Members = Members {
     by_table: true,
 };
 
-/// The answers that a text gives: how many languages it has, or why it is refused, and where it goes
-/// wrong.
+/// The answers that a text gives: how many languages it has, or why it is refused, and where it
+/// goes wrong.
 fn read(text: &[u8], answers: &mut Answers) {
     match LanguageTable::from_json(answers.alloc, text) {
         Ok(table) => answers.say("languages", Said::Number(table.len() as u128)),
