@@ -29,7 +29,7 @@ pub enum About {
 pub struct Rows(&'static str, &'static Members, About);
 
 /// All of them, in the order of their files' names.
-pub const SUBJECTS: [Rows; 13] = [
+pub const SUBJECTS: &[Rows] = &[
     Rows("blocks.toml", &blocks::MEMBERS, About::Blocks),
     Rows("bytes.toml", &bytes::MEMBERS, About::Bytes),
     Rows("captures.toml", &captures::MEMBERS, About::Captures),
