@@ -1,12 +1,12 @@
 //! Rows of searches for one of a few bytes.
-ghost use Rattle.std.specs.Prelude.{◌≤◌, length};
-
-use test_rows::{Answers, Asked, Members, Row, RowError, Said};
+use crate::asking::{place_of, say_all};
+use test_rows::{Answers, Members, Row, RowError, Said};
 use tokei_bytes::{ByteSet, first_of_four};
 
-/// The members of these rows. Either one of the bytes `four` is searched for between two places; where the text has a
-/// `hit`, each of the four is put there in turn, and all have to be found at the same place. Or the text is read up to
-/// a byte of a `set`, and up to such a byte or another one, `other`.
+/// The members of these rows. Either one of the bytes `four` is searched for between two places;
+/// where the text has a `hit`, each of the four is put there in turn, and all have to be found at
+/// the same place. Or the text is read up to a byte of a `set`, and up to such a byte or another
+/// one, `other`.
 pub const MEMBERS: Members = Members {
     given: &[
         "four", "text", "text_hex", "from", "to", "hit", "set", "other",
@@ -25,7 +25,8 @@ fn search(four: [u8; 4], text: &[u8], from: usize, to: usize) -> Option<usize> {
     }
 }
 
-/// What the search answers where each of the four stands in that place in turn; none where it answers otherwise of two.
+/// What the search answers where each of the four stands in that place in turn; none where it
+/// answers otherwise of two.
 fn search_each(
     four: [u8; 4],
     text: &mut [u8],
@@ -48,53 +49,53 @@ fn search_each(
 }
 
 /// The answers of a search for one of four.
-fn of_four(row: &Row, text: &mut [u8], answers: &mut Answers) -> Result<(), RowError> {
-    let [one, two, three, four] = row.text("four")?.as_bytes() else {
-        return Err(RowError::Words("these aren't four bytes"));
+fn of_four(row: &Row, text: &mut [u8], answers: &mut Answers) {
+    let [one, two, three, four] = answers.text(row, "four").as_bytes() else {
+        return answers.fail(RowError::Words("these aren't four bytes"));
     };
     let four = [*one, *two, *three, *four];
-    let (from, to) = (row.place("from")?, row.place("to")?);
+    let from = place_of(row, "from", answers);
+    let to = place_of(row, "to", answers);
     let first = if row.has("hit") {
-        search_each(four, text, row.place("hit")?, from, to)
+        let hit = place_of(row, "hit", answers);
+        search_each(four, text, hit, from, to)
     } else {
         search(four, text, from, to)
     };
     match first {
-        Some(first) => {
-            answers.say("first", Said::Number(first as u128));
-            Ok(())
-        }
-        None => Err(RowError::Words(
+        Some(first) => answers.say("first", Said::Number(first as u128)),
+        None => answers.fail(RowError::Words(
             "two bytes are found elsewhere, or the places aren't within the text",
         )),
     }
 }
 
 /// The answers of a set.
-fn of_set(row: &Row, text: &[u8], answers: &mut Answers) -> Result<(), RowError> {
+fn of_set(row: &Row, text: &[u8], answers: &mut Answers) {
     let mut set = ByteSet::empty();
-    for byte in row.text("set")?.as_bytes() {
+    for byte in answers.text(row, "set").as_bytes() {
         set.insert(*byte);
     }
-    let [other] = row.text("other")?.as_bytes() else {
-        return Err(RowError::Words("the other one isn't one byte"));
+    let [other] = answers.text(row, "other").as_bytes() else {
+        return answers.fail(RowError::Words("the other one isn't one byte"));
     };
-    answers.say(
-        "clear_end",
-        Said::Number(set.clear_end(text, 0, text.len()) as u128),
-    );
-    let end = set.clear_end_with(*other, text, 0, text.len());
-    answers.say("clear_end_with", Said::Number(end as u128));
-    answers.say("has_slash", Said::Flag(set.has(b'/')));
-    Ok(())
+    let end = set.clear_end(text, 0, text.len());
+    let end_with = set.clear_end_with(*other, text, 0, text.len());
+    let all = [
+        ("clear_end", Said::Number(end as u128)),
+        ("clear_end_with", Said::Number(end_with as u128)),
+        ("has_slash", Said::Flag(set.has(b'/'))),
+    ];
+    say_all(&all, answers);
 }
 
 /// What the calls answer.
-pub fn came(_asked: &Asked, row: &Row, answers: &mut Answers) -> Result<(), RowError> {
-    let mut text = row.bytes(answers.alloc, "text", "text_hex")?;
-    if row.has("set") {
-        of_set(row, &text, answers)
-    } else {
-        of_four(row, &mut text, answers)
+pub fn came(row: &Row, answers: &mut Answers) {
+    if let Some(mut text) = answers.got(row.bytes(answers.alloc, "text", "text_hex")) {
+        if row.has("set") {
+            of_set(row, &text, answers);
+        } else {
+            of_four(row, &mut text, answers);
+        }
     }
 }

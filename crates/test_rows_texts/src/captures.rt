@@ -1,15 +1,17 @@
 //! Rows of the openings and closings of a part, as captures.
 ghost use Rattle.std.specs.Prelude.{◌≤◌, length};
 
-use test_rows::{Answers, Asked, Members, Row, RowError, Said};
+use crate::asking::place_of;
+use test_rows::{Answers, Members, Row, RowError, Said};
 use tokei_embedding::{
     Capture, HtmlLike, SimpleCapture, end_lf, end_markdown, end_script, end_style, end_template,
     start_lf, start_markdown, start_script, start_style, start_template,
 };
 
-/// The members of these rows. `call` is the call's name, `none` for no capture; `from` and `to` are the ends of the
-/// part, `starts` and `ends` those of the range in which a capture has to start. `capture` is where it starts and ends
-/// and how long its text is, and `value` the same of the value in an opening tag.
+/// The members of these rows. `call` is the call's name, `none` for no capture; `from` and `to` are
+/// the ends of the part, `starts` and `ends` those of the range in which a capture has to start.
+/// `capture` is where it starts and ends and how long its text is, and `value` the same of the
+/// value in an opening tag.
 pub const MEMBERS: Members = Members {
     given: &["call", "text", "from", "to", "starts", "ends"],
     wanted: &["capture", "value"],
@@ -17,21 +19,30 @@ pub const MEMBERS: Members = Members {
     by_table: false,
 };
 
-/// What a call without value answers; none where there is no such call.
-fn single<'a>(call: &str, text: &'a [u8], from: usize, to: usize) -> Option<Option<Capture<'a>>>
+/// What a call without value answers.
+fn single<'a>(
+    call: &str,
+    text: &'a [u8],
+    from: usize,
+    to: usize,
+    answers: &mut Answers,
+) -> Option<Capture<'a>>
     requires order { from ≤ to }
     requires ends { to ≤ length text.now }
 {
     match call {
-        "end_script" => Some(end_script(text, from, to)),
-        "end_style" => Some(end_style(text, from, to)),
-        "end_template" => Some(end_template(text, from, to)),
-        "start_markdown" => Some(start_markdown(text, from, to)),
-        "end_markdown" => Some(end_markdown(text, from, to)),
-        "start_lf" => Some(start_lf(text, from, to)),
-        "end_lf" => Some(end_lf(text, from, to)),
-        "none" => Some(None),
-        _ => None,
+        "end_script" => end_script(text, from, to),
+        "end_style" => end_style(text, from, to),
+        "end_template" => end_template(text, from, to),
+        "start_markdown" => start_markdown(text, from, to),
+        "end_markdown" => end_markdown(text, from, to),
+        "start_lf" => start_lf(text, from, to),
+        "end_lf" => end_lf(text, from, to),
+        "none" => None,
+        _ => {
+            answers.fail(RowError::Words("there is no such call"));
+            None
+        }
     }
 }
 
@@ -62,18 +73,23 @@ fn answers_of(tag: Option<&Capture<'_>>, value: Option<&Capture<'_>>, answers: &
 }
 
 /// The answers of a call with a value.
-fn of_tag(found: Option<&[Option<Capture<'_>>]>, answers: &mut Answers) -> Result<(), RowError> {
+fn of_tag(found: Option<&[Option<Capture<'_>>]>, answers: &mut Answers) {
     match found {
-        Some([tag, value]) => {
-            answers_of(tag.as_ref(), value.as_ref(), answers);
-            Ok(())
-        }
-        Some(_) => Err(RowError::Words("a tag has two captures")),
-        None => {
-            answers_of(None, None, answers);
-            Ok(())
-        }
+        Some([tag, value]) => answers_of(tag.as_ref(), value.as_ref(), answers),
+        Some(_) => answers.fail(RowError::Words("a tag has two captures")),
+        None => answers_of(None, None, answers),
     }
+}
+
+/// The answers of a call with a value, in a range.
+fn of_range(call: &str, html: &HtmlLike, range: (usize, usize), answers: &mut Answers) {
+    let (starts, ends) = range;
+    let found = match call {
+        "start_script" => html.start_script_in_range(starts, ends),
+        "start_style" => html.start_style_in_range(starts, ends),
+        _ => html.start_template_in_range(starts, ends),
+    };
+    of_tag(found, answers);
 }
 
 /// The answers of a call with a value, in a range where a row has one.
@@ -83,18 +99,13 @@ fn of_tagged(
     part: (usize, usize),
     range: Option<(usize, usize)>,
     answers: &mut Answers,
-) -> Result<(), RowError>
+)
     requires order { part.0 ≤ part.1 }
     requires ends { part.1 ≤ length text.now }
 {
     let (from, to) = part;
-    if let Some((starts, ends)) = range {
-        let html = HtmlLike::new(text, from, to);
-        return match call {
-            "start_script" => of_tag(html.start_script_in_range(starts, ends), answers),
-            "start_style" => of_tag(html.start_style_in_range(starts, ends), answers),
-            _ => of_tag(html.start_template_in_range(starts, ends), answers),
-        };
+    if let Some(range) = range {
+        return of_range(call, &HtmlLike::new(text, from, to), range, answers);
     }
     let found = match call {
         "start_script" => start_script(text, from, to),
@@ -120,23 +131,26 @@ fn of_single(found: Option<Capture<'_>>, range: Option<(usize, usize)>, answers:
 }
 
 /// What the calls answer.
-pub fn came(_asked: &Asked, row: &Row, answers: &mut Answers) -> Result<(), RowError> {
-    let (from, to) = (row.place("from")?, row.place("to")?);
+pub fn came(row: &Row, answers: &mut Answers) {
+    let from = place_of(row, "from", answers);
+    let to = place_of(row, "to", answers);
     let range = if row.has("starts") {
-        Some((row.place("starts")?, row.place("ends")?))
+        Some((
+            place_of(row, "starts", answers),
+            place_of(row, "ends", answers),
+        ))
     } else {
         None
     };
-    let (call, text) = (row.text("call")?, row.text("text")?.as_bytes());
+    let call = answers.text(row, "call");
+    let text = answers.text(row, "text").as_bytes();
     if to < from || text.len() < to {
-        return Err(RowError::Words("the part isn't within the text"));
+        return answers.fail(RowError::Words("the part isn't within the text"));
     }
-    if call == "start_script" || call == "start_style" || call == "start_template" {
-        return of_tagged(call, text, (from, to), range, answers);
+    match call {
+        "start_script" | "start_style" | "start_template" => {
+            of_tagged(call, text, (from, to), range, answers);
+        }
+        _ => of_single(single(call, text, from, to, answers), range, answers),
     }
-    match single(call, text, from, to) {
-        Some(found) => of_single(found, range, answers),
-        None => answers.fail(RowError::Words("there is no such call")),
-    }
-    Ok(())
 }

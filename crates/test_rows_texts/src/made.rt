@@ -1,84 +1,49 @@
 //! Statistics that rows say, and answers that statistics are.
-use std::alloc::Global;
-use test_rows::{Answers, Row, RowError, Said, three_of};
+use test_rows::{Answers, Page, Row, RowError, Said, three_of};
 use tokei_stats::{CodeStats, CountError};
 use tokei_table::{LanguageTable, LanguageType};
 
-/// Statistics of these lines, without texts inside.
-fn of_lines(alloc: Global, lines: (usize, usize, usize)) -> CodeStats {
-    let mut stats = CodeStats::new(alloc);
-    (stats.blanks, stats.code, stats.comments) = lines;
-    stats
-}
-
 /// Puts the texts inside a text to its statistics: a table of lines by the keys of languages.
-fn put_blobs(
-    alloc: Global,
-    table: &LanguageTable,
-    blobs: &Row,
-    stats: &mut CodeStats,
-) -> Result<(), RowError> {
+fn put_blobs(table: &LanguageTable, blobs: &Row, stats: &mut CodeStats, answers: &mut Answers) {
     for (key, lines) in blobs.members {
-        let Some(language) = LanguageType::from_name(table, key.as_str()) else {
-            return Err(RowError::Words("the table hasn't a language of blobs"));
-        };
-        let blob = of_lines(alloc, three_of("blobs", lines)?);
-        let _none = stats.blobs.insert(language, blob)?;
+        match LanguageType::from_name(table, key.as_str()) {
+            Some(language) => {
+                let mut blob = CodeStats::new(answers.alloc);
+                let lines = three_of("blobs", lines);
+                (blob.blanks, blob.code, blob.comments) = answers.read(lines, (0, 0, 0));
+                answers.done(stats.blobs.insert(language, blob));
+            }
+            None => answers.fail(RowError::Words("the table hasn't a language of blobs")),
+        }
     }
-    Ok(())
 }
 
 /// The statistics that a row says: its `counts`, and its `blobs` where it has some.
-pub fn stats_of(alloc: Global, table: &LanguageTable, row: &Row) -> Result<CodeStats, RowError> {
-    let lines = row.three("counts")?;
-    let blobs = row.table_if("blobs")?;
-    let mut stats = of_lines(alloc, lines);
-    if let Some(blobs) = blobs {
-        put_blobs(alloc, table, &blobs, &mut stats)?;
+pub fn stats_of(table: &LanguageTable, row: &Row, answers: &mut Answers) -> CodeStats {
+    let mut stats = CodeStats::new(answers.alloc);
+    (stats.blanks, stats.code, stats.comments) = answers.read(row.three("counts"), (0, 0, 0));
+    if let Some(blobs) = answers.read(row.table_if("blobs"), None) {
+        put_blobs(table, &blobs, &mut stats, answers);
     }
-    Ok(stats)
+    stats
 }
 
-/// A text inside another one: the keys of its language and of those around it, and its statistics.
-type Inside<'a> = (String, &'a CodeStats);
-
-/// Adds the texts right inside one, the keys of the languages around which are `around`.
-fn put_inside<'a>(
-    alloc: Global,
-    table: &LanguageTable,
-    around: &str,
-    stats: &'a CodeStats,
-    found: &mut Vec<Inside<'a>>,
-) -> Result<(), RowError> {
+/// Puts the lines of all texts inside a text, each under the key of its language, behind those of
+/// the languages around it.
+fn put_inside(stats: &CodeStats, table: &LanguageTable, around: &str, answers: &mut Answers) {
     for (language, blob) in &stats.blobs {
         if table.has(*language) {
-            let key = language.key(table);
-            let keys = format!(in alloc; "{around}{key}")?;
-            found.push((keys, blob))?;
+            let mut keys = Page::new(answers.alloc);
+            keys.put_all(&[around, language.key(table)]);
+            let counts = [blob.blanks, blob.code, blob.comments];
+            match keys.text() {
+                Some(keys) => answers.put(keys, Said::Numbers(&counts)),
+                None => answers.fail(RowError::Memory),
+            }
+            keys.put("/");
+            put_inside(blob, table, keys.text().unwrap_or(""), answers);
         }
     }
-    Ok(())
-}
-
-/// The most texts inside one another that are told of.
-const MOST: usize = 65536;
-
-/// All texts inside a text, those that are nearer to it first.
-pub fn inside<'a>(
-    alloc: Global,
-    table: &LanguageTable,
-    stats: &'a CodeStats,
-) -> Result<Vec<Inside<'a>>, RowError> {
-    let mut found = Vec::new(alloc);
-    put_inside(alloc, table, "", stats, &mut found)?;
-    for place in 0..MOST {
-        let Some((keys, stats)) = found.get(place) else {
-            break;
-        };
-        let (around, stats) = (format!(in alloc; "{keys}/")?, *stats);
-        put_inside(alloc, table, around.as_str(), stats, &mut found)?;
-    }
-    Ok(found)
 }
 
 /// Why a row isn't answered, where a call refuses.
@@ -89,25 +54,6 @@ pub fn refused(cause: CountError) -> RowError {
     }
 }
 
-/// Answers by the texts inside a text, where there are some.
-fn say_blobs(
-    table: &LanguageTable,
-    stats: &CodeStats,
-    answers: &mut Answers,
-) -> Result<(), RowError> {
-    if stats.blobs.is_empty() {
-        return Ok(());
-    }
-    for (keys, stats) in &inside(answers.alloc, table, stats)? {
-        answers.put(
-            keys.as_str(),
-            Said::Numbers(&[stats.blanks, stats.code, stats.comments]),
-        );
-    }
-    answers.say_parts("blobs");
-    Ok(())
-}
-
 /// Answers for a member by why a call refuses.
 pub fn say_refused(member: &'static str, cause: CountError, answers: &mut Answers) {
     match cause {
@@ -116,28 +62,24 @@ pub fn say_refused(member: &'static str, cause: CountError, answers: &mut Answer
     }
 }
 
-/// Answers for a member by lines.
-fn say_counts(member: &'static str, stats: &CodeStats, answers: &mut Answers) {
-    answers.say(
-        member,
-        Said::Numbers(&[stats.blanks, stats.code, stats.comments]),
-    );
-}
-
-/// Answers by statistics: `counts`, and `blobs` where there are texts inside; `summary` and `lines`.
-pub fn answers_of(
-    table: &LanguageTable,
-    stats: &CodeStats,
-    answers: &mut Answers,
-) -> Result<(), RowError> {
-    say_counts("counts", stats, answers);
+/// Answers by statistics: `counts`, and `blobs` where there are texts inside; `summary` and
+/// `lines`.
+pub fn answers_of(table: &LanguageTable, stats: &CodeStats, answers: &mut Answers) {
+    let counts = [stats.blanks, stats.code, stats.comments];
+    answers.say("counts", Said::Numbers(&counts));
     match stats.summarise() {
-        Ok(all) => say_counts("summary", &all, answers),
+        Ok(all) => {
+            let counts = [all.blanks, all.code, all.comments];
+            answers.say("summary", Said::Numbers(&counts));
+        }
         Err(cause) => say_refused("summary", cause, answers),
     }
     match stats.lines() {
         Ok(lines) => answers.say("lines", Said::Number(lines as u128)),
         Err(cause) => say_refused("lines", cause, answers),
     }
-    say_blobs(table, stats, answers)
+    if !stats.blobs.is_empty() {
+        put_inside(stats, table, "", answers);
+        answers.say_parts("blobs");
+    }
 }

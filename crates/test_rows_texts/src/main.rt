@@ -1,6 +1,7 @@
 //! Asks the rows of texts in memory: counting, tables of languages, searches, statistics.
 #![tactic(auto)]
 
+mod asking;
 mod blocks;
 mod bytes;
 mod captures;
@@ -22,5 +23,5 @@ use std::process::ExitCode;
 use subjects::SUBJECTS;
 
 fn main(rt: HostRuntime) -> anyhow::Result<ExitCode> {
-    test_rows::ended(&rt, &SUBJECTS)
+    test_rows::ended(&rt, SUBJECTS)
 }

@@ -1,7 +1,6 @@
 //! Rows of the next place at which a block can open.
-ghost use Rattle.std.specs.Prelude.{◌≤◌, length};
-
-use test_rows::{Answers, Asked, Members, Row, RowError, Said};
+use crate::asking::place_of;
+use test_rows::{Answers, Members, Row, RowError, Said};
 use tokei_embedding::{BlockSearch, Tag, first_line, next_doc, next_fence, next_target};
 
 /// The members of these rows. `block` is `fence`, `script`, `style`, `template`, `doc comment` or
@@ -15,12 +14,27 @@ pub const MEMBERS: Members = Members {
     by_table: false,
 };
 
-/// The next place between places; none where there is no such block.
-fn next(name: &str, text: &[u8], start: usize, at: usize, to: usize) -> Option<usize>
-    requires order { start ≤ at }
-    requires inside { at ≤ to }
-    requires ends { to ≤ length text.now }
-{
+/// The next place of a doc comment; none where it isn't within the text.
+fn next_doc_of(row: &Row, text: &[u8], at: usize) -> Option<usize> {
+    if at > text.len() {
+        return None;
+    }
+    let to = if row.has("to") {
+        at
+    } else {
+        at + first_line(&text[at..]).len()
+    };
+    Some(next_doc(text, at, to))
+}
+
+/// The next place between places that a row asks for; none where they aren't within the text, or
+/// there is no such block.
+fn next_of(name: &str, row: &Row, text: &[u8], at: usize, answers: &mut Answers) -> Option<usize> {
+    let start = place_of(row, "start", answers);
+    let to = place_of(row, "to", answers);
+    if at < start || to < at || text.len() < to {
+        return None;
+    }
     let tag = match name {
         "fence" => return Some(next_fence(text, start, at, to)),
         "target block" => return Some(next_target(text, start, at, to)),
@@ -29,39 +43,22 @@ fn next(name: &str, text: &[u8], start: usize, at: usize, to: usize) -> Option<u
         "template" => Tag::Template,
         _ => return None,
     };
-    let mut search = BlockSearch::new(text);
-    Some(search.next_tag(tag, start, at, to))
-}
-
-/// The next place that a row asks for; none where its places aren't within the text.
-fn next_of(name: &str, row: &Row, text: &[u8]) -> Result<Option<usize>, RowError> {
-    let at = row.place("at")?;
-    if name == "doc comment" {
-        if at > text.len() {
-            return Ok(None);
-        }
-        let to = if row.has("to") {
-            at
-        } else {
-            at + first_line(&text[at..]).len()
-        };
-        return Ok(Some(next_doc(text, at, to)));
-    }
-    let (start, to) = (row.place("start")?, row.place("to")?);
-    if at < start || to < at || text.len() < to {
-        return Ok(None);
-    }
-    Ok(next(name, text, start, at, to))
+    Some(BlockSearch::new(text).next_tag(tag, start, at, to))
 }
 
 /// What the calls answer.
-pub fn came(_asked: &Asked, row: &Row, answers: &mut Answers) -> Result<(), RowError> {
-    match next_of(row.text("block")?, row, row.text("text")?.as_bytes())? {
-        Some(next) => {
-            answers.say("next", Said::Number(next as u128));
-            Ok(())
-        }
-        None => Err(RowError::Words(
+pub fn came(row: &Row, answers: &mut Answers) {
+    let name = answers.text(row, "block");
+    let text = answers.text(row, "text").as_bytes();
+    let at = place_of(row, "at", answers);
+    let next = if name == "doc comment" {
+        next_doc_of(row, text, at)
+    } else {
+        next_of(name, row, text, at, answers)
+    };
+    match next {
+        Some(next) => answers.say("next", Said::Number(next as u128)),
+        None => answers.fail(RowError::Words(
             "there is no such block, or its places aren't within the text",
         )),
     }

@@ -1,7 +1,6 @@
 //! Rows of reports: how they are shown, and which are equal.
 use crate::made::{refused, stats_of};
-use std::alloc::Global;
-use test_rows::{Answers, Asked, Members, Row, RowError, Said};
+use test_rows::{Answers, Members, Page, Row, RowError, Said};
 use tokei_stats::Report;
 use tokei_table::LanguageTable;
 
@@ -16,52 +15,49 @@ pub const MEMBERS: Members = Members {
 };
 
 /// The report that a row says.
-fn report_of(alloc: Global, table: &LanguageTable, row: &Row) -> Result<Report, RowError> {
-    let name = row.text("called")?;
-    let stats = stats_of(alloc, table, row)?;
-    let mut report = Report::new(alloc, String::from_str(alloc, name)?);
-    report.stats = stats;
-    Ok(report)
+fn report_of(table: &LanguageTable, row: &Row, answers: &mut Answers) -> Report {
+    let called = answers.text(row, "called");
+    let mut name = String::new(answers.alloc);
+    answers.done(name.push_str(called));
+    let mut report = Report::new(answers.alloc, name);
+    report.stats = stats_of(table, row, answers);
+    report
 }
 
-/// How a report is shown in the width that a row says, or in its own where the row says none.
-fn shown(alloc: Global, report: &Report, row: &Row) -> Result<String, RowError> {
-    let Some(width) = row.number_if("width")? else {
-        return Ok(format!(in alloc; "{report}")?);
-    };
-    match u16::try_from(width) {
-        Ok(width) => Ok(format!(in alloc; "{}", report.display_in(usize::from(width)))?),
-        Err(_) => Err(RowError::Words("the width is above 65535")),
+/// Answers by how a report is shown in the width that a row says, or in its own where the row says
+/// none.
+fn say_shown(report: &Report, row: &Row, answers: &mut Answers) {
+    let mut page = Page::new(answers.alloc);
+    if row.has("width") {
+        match u16::try_from(answers.read(row.number("width"), 0)) {
+            Ok(width) => page.put_shown(&report.display_in(usize::from(width))),
+            Err(_) => answers.fail(RowError::Words("the width is above 65535")),
+        }
+    } else {
+        page.put_shown(report);
     }
+    answers.say_page("shown", &page);
+    let length = page.text().unwrap_or("").len();
+    answers.say("length", Said::Number(length as u128));
 }
 
 /// Answers by whether a report equals a copy of it, and whether it equals the row's other one.
-fn say_equal(
-    table: &LanguageTable,
-    report: &Report,
-    row: &Row,
-    answers: &mut Answers,
-) -> Result<(), RowError> {
+fn say_equal(table: &LanguageTable, report: &Report, row: &Row, answers: &mut Answers) {
     match report.try_clone() {
         Ok(copy) => answers.say("equals_copy", Said::Flag(copy == *report)),
         Err(cause) => answers.fail(refused(cause)),
     }
-    let Some(other) = row.table_if("other")? else {
-        return Ok(());
-    };
-    other.only("other", &["called", "counts", "blobs"])?;
-    let other = report_of(answers.alloc, table, &other)?;
-    answers.say("equals_other", Said::Flag(*report == other));
-    Ok(())
+    if let Some(other) = answers.read(row.table_if("other"), None) {
+        answers.done(other.only("other", &["called", "counts", "blobs"]));
+        let other = report_of(table, &other, answers);
+        answers.say("equals_other", Said::Flag(*report == other));
+    }
 }
 
 /// What the calls answer.
-pub fn came(asked: &Asked, row: &Row, answers: &mut Answers) -> Result<(), RowError> {
-    let table = asked.table()?;
-    let report = report_of(answers.alloc, table, row)?;
-    let shown = shown(answers.alloc, &report, row)?;
-    answers.say("shown", Said::Text(shown.as_str()));
-    answers.say("length", Said::Number(shown.len() as u128));
+pub fn came(table: &LanguageTable, row: &Row, answers: &mut Answers) {
+    let report = report_of(table, row, answers);
+    say_shown(&report, row, answers);
     answers.say_debug("debug", &report);
-    say_equal(table, &report, row, answers)
+    say_equal(table, &report, row, answers);
 }

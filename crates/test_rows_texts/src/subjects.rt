@@ -4,10 +4,11 @@ use crate::{
     syntaxes, tables, texts,
 };
 use test_rows::{Answers, Asked, Members, Row, RowError, Subject};
+use tokei_table::LanguageTable;
 
-/// What rows are about: each has a file of this name, and a module that asks.
+/// What rows are about: each has a module that asks.
 #[derive(Clone, Copy)]
-pub enum Rows {
+pub enum About {
     Blocks,
     Bytes,
     Captures,
@@ -23,75 +24,69 @@ pub enum Rows {
     Texts,
 }
 
+/// Rows: the name of their file, their members, and what they are about.
+#[derive(Clone, Copy)]
+pub struct Rows(&'static str, &'static Members, About);
+
 /// All of them, in the order of their files' names.
-pub const SUBJECTS: [Rows; 13] = [
-    Rows::Blocks,
-    Rows::Bytes,
-    Rows::Captures,
-    Rows::Contexts,
-    Rows::Counting,
-    Rows::LookUps,
-    Rows::NextPlaces,
-    Rows::Openers,
-    Rows::Reports,
-    Rows::Sums,
-    Rows::Syntaxes,
-    Rows::Tables,
-    Rows::Texts,
+pub const SUBJECTS: &[Rows] = &[
+    Rows("blocks.toml", &blocks::MEMBERS, About::Blocks),
+    Rows("bytes.toml", &bytes::MEMBERS, About::Bytes),
+    Rows("captures.toml", &captures::MEMBERS, About::Captures),
+    Rows("contexts.toml", &contexts::MEMBERS, About::Contexts),
+    Rows("counting.toml", &counting::MEMBERS, About::Counting),
+    Rows("look_ups.toml", &look_ups::MEMBERS, About::LookUps),
+    Rows("next_places.toml", &next_places::MEMBERS, About::NextPlaces),
+    Rows("openers.toml", &openers::MEMBERS, About::Openers),
+    Rows("reports.toml", &reports::MEMBERS, About::Reports),
+    Rows("sums.toml", &sums::MEMBERS, About::Sums),
+    Rows("syntaxes.toml", &syntaxes::MEMBERS, About::Syntaxes),
+    Rows("tables.toml", &tables::MEMBERS, About::Tables),
+    Rows("texts.toml", &texts::MEMBERS, About::Texts),
 ];
 
 impl Subject for Rows {
     fn file(&self) -> &'static str {
-        match *self {
-            Rows::Blocks => "blocks.toml",
-            Rows::Bytes => "bytes.toml",
-            Rows::Captures => "captures.toml",
-            Rows::Contexts => "contexts.toml",
-            Rows::Counting => "counting.toml",
-            Rows::LookUps => "look_ups.toml",
-            Rows::NextPlaces => "next_places.toml",
-            Rows::Openers => "openers.toml",
-            Rows::Reports => "reports.toml",
-            Rows::Sums => "sums.toml",
-            Rows::Syntaxes => "syntaxes.toml",
-            Rows::Tables => "tables.toml",
-            Rows::Texts => "texts.toml",
-        }
+        self.0
     }
 
     fn members(&self) -> Members {
-        match *self {
-            Rows::Blocks => blocks::MEMBERS,
-            Rows::Bytes => bytes::MEMBERS,
-            Rows::Captures => captures::MEMBERS,
-            Rows::Contexts => contexts::MEMBERS,
-            Rows::Counting => counting::MEMBERS,
-            Rows::LookUps => look_ups::MEMBERS,
-            Rows::NextPlaces => next_places::MEMBERS,
-            Rows::Openers => openers::MEMBERS,
-            Rows::Reports => reports::MEMBERS,
-            Rows::Sums => sums::MEMBERS,
-            Rows::Syntaxes => syntaxes::MEMBERS,
-            Rows::Tables => tables::MEMBERS,
-            Rows::Texts => texts::MEMBERS,
-        }
+        *self.1
     }
 
     fn ask(&self, asked: &Asked, row: &Row, answers: &mut Answers) -> Result<(), RowError> {
-        match *self {
-            Rows::Blocks => blocks::came(asked, row, answers),
-            Rows::Bytes => bytes::came(asked, row, answers),
-            Rows::Captures => captures::came(asked, row, answers),
-            Rows::Contexts => contexts::came(asked, row, answers),
-            Rows::Counting => counting::came(asked, row, answers),
-            Rows::LookUps => look_ups::came(asked, row, answers),
-            Rows::NextPlaces => next_places::came(asked, row, answers),
-            Rows::Openers => openers::came(asked, row, answers),
-            Rows::Reports => reports::came(asked, row, answers),
-            Rows::Sums => sums::came(asked, row, answers),
-            Rows::Syntaxes => syntaxes::came(asked, row, answers),
-            Rows::Tables => tables::came(asked, row, answers),
-            Rows::Texts => texts::came(asked, row, answers),
+        match self.2 {
+            About::Blocks => blocks::came(row, answers),
+            About::Bytes => bytes::came(row, answers),
+            About::Captures => captures::came(row, answers),
+            About::NextPlaces => next_places::came(row, answers),
+            About::Texts => texts::came(row, answers),
+            _ => match asked.table() {
+                Ok(table) => ask_by(self.2, (table, asked.bench), row, answers),
+                Err(cause) => answers.fail(cause),
+            },
         }
+        Ok(())
+    }
+}
+
+/// Asks the public calls that need a table, and says what they answer: by that one, and by the
+/// bench table where another one is named in its place.
+fn ask_by(
+    about: About,
+    (table, bench): (&LanguageTable, Option<&LanguageTable>),
+    row: &Row,
+    answers: &mut Answers,
+) {
+    match about {
+        About::Contexts => contexts::came(table, row, answers),
+        About::Counting => counting::came(table, bench, row, answers),
+        About::LookUps => look_ups::came(table, row, answers),
+        About::Openers => openers::came(table, row, answers),
+        About::Reports => reports::came(table, row, answers),
+        About::Sums => sums::came(table, row, answers),
+        About::Syntaxes => syntaxes::came(table, row, answers),
+        About::Tables => tables::came(table, row, answers),
+        _ => {}
     }
 }

@@ -1,7 +1,6 @@
 //! Rows of sums of statistics, and of what stands after a refused one.
 use crate::made::{answers_of, refused, say_refused, stats_of};
-use std::alloc::Global;
-use test_rows::{Answers, Asked, Members, Row, RowError, has_word};
+use test_rows::{Answers, Members, Row, RowError, has_word};
 use test_texts::every_call::counted;
 use tokei_stats::{CodeStats, CountError, Report, add_blob};
 use tokei_table::LanguageTable;
@@ -18,26 +17,31 @@ pub const MEMBERS: Members = Members {
 };
 
 /// One of the statistics that are added.
-fn summand(alloc: Global, table: &LanguageTable, row: &Row) -> Result<CodeStats, RowError> {
-    row.only("sum", &["counts", "blobs", "language", "text"])?;
+fn summand(table: &LanguageTable, row: &Row, answers: &mut Answers) -> CodeStats {
+    answers.done(row.only("sum", &["counts", "blobs", "language", "text"]));
     if !row.has("text") {
-        return stats_of(alloc, table, row);
+        return stats_of(table, row, answers);
     }
-    let text = row.text("text")?.as_bytes();
-    match counted(alloc, table, row.text("language")?, None, text) {
-        Ok(Some(stats)) => Ok(stats),
-        Ok(None) => Err(RowError::Words("the text can't be counted")),
-        Err(cause) => Err(refused(cause)),
+    let text = answers.text(row, "text").as_bytes();
+    let language = answers.text(row, "language");
+    match counted(answers.alloc, table, language, None, text) {
+        Ok(Some(stats)) => return stats,
+        Ok(None) => answers.fail(RowError::Words("the text can't be counted")),
+        Err(cause) => answers.fail(refused(cause)),
     }
+    CodeStats::new(answers.alloc)
 }
 
 /// All of them.
-fn summands(alloc: Global, table: &LanguageTable, row: &Row) -> Result<Vec<CodeStats>, RowError> {
-    let mut all = Vec::new(alloc);
-    for value in row.list("sum")? {
-        all.push(summand(alloc, table, &row.inner("sum", value)?)?)?;
+fn summands(table: &LanguageTable, row: &Row, answers: &mut Answers) -> Vec<CodeStats> {
+    let mut all = Vec::new(answers.alloc);
+    for value in answers.list(row, "sum") {
+        if let Some(told) = answers.got(row.inner("sum", value)) {
+            let stats = summand(table, &told, answers);
+            answers.done(all.push(stats));
+        }
     }
-    Ok(all)
+    all
 }
 
 /// Adds the blobs of some statistics to those of others.
@@ -48,38 +52,34 @@ fn add_blobs(sum: &mut CodeStats, more: CodeStats) -> Result<(), CountError> {
     Ok(())
 }
 
-/// Adds statistics to a report, to its statistics, or their blobs to its blobs.
-fn add(to: &str, sum: &mut Report, more: CodeStats) -> Result<(), CountError> {
-    match to {
-        "report" => sum.add(more),
-        "blobs" => add_blobs(&mut sum.stats, more),
-        _ => sum.stats.add(&more),
-    }
-}
-
-/// Adds all statistics in the same way, up to the first that is refused.
+/// Adds statistics to a report, to its statistics, or their blobs to its blobs: one after the
+/// other, up to the first that is refused.
 fn add_all(to: &str, sum: &mut Report, all: Vec<CodeStats>) -> Result<(), CountError> {
     for more in all {
-        add(to, sum, more)?;
+        let added = match to {
+            "report" => sum.add(more),
+            "blobs" => add_blobs(&mut sum.stats, more),
+            _ => sum.stats.add(&more),
+        };
+        added?;
     }
     Ok(())
 }
 
 /// What the calls answer.
-pub fn came(asked: &Asked, row: &Row, answers: &mut Answers) -> Result<(), RowError> {
-    let table = asked.table()?;
-    let to = row.text("to")?;
+pub fn came(table: &LanguageTable, row: &Row, answers: &mut Answers) {
+    let to = answers.text(row, "to");
     if !has_word(&["statistics", "report", "blobs"], to) {
-        return Err(RowError::Words("nothing is added to that"));
+        answers.fail(RowError::Words("nothing is added to that"));
     }
-    let mut all = summands(answers.alloc, table, row)?;
+    let mut all = summands(table, row, answers);
     if all.is_empty() {
-        return Err(RowError::Words("there is nothing to be added"));
+        return answers.fail(RowError::Words("there is nothing to be added"));
     }
     let mut sum = Report::new(answers.alloc, String::new(answers.alloc));
     sum.stats = all.remove(0);
     if let Err(cause) = add_all(to, &mut sum, all) {
         say_refused("error", cause, answers);
     }
-    answers_of(table, &sum.stats, answers)
+    answers_of(table, &sum.stats, answers);
 }

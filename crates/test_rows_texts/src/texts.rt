@@ -1,5 +1,7 @@
-//! Rows of contents that are decoded, of boundaries of characters, and of blanks and slices of texts.
-use test_rows::{Answers, Asked, Members, Row, RowError, Said};
+//! Rows of contents that are decoded, of boundaries of characters, and of blanks and slices of
+//! texts.
+use crate::asking::{place_of, say_all};
+use test_rows::{Answers, Members, Row, RowError, Said};
 use tokei_bytes::{decode_text, find_char_boundary};
 use tokei_table_row::ext::{
     contains_slice, is_line_ending_whitespace, is_whitespace, trim,
@@ -7,8 +9,9 @@ use tokei_table_row::ext::{
 };
 use tokei_table_search::blanks_end;
 
-/// The members of these rows. `call` is `decode_text`, `find_char_boundary` at a place, `trim`, which trims the front
-/// alone too, `trim_lines`, `contains_slice` or `is_whitespace`, of a text of one byte.
+/// The members of these rows. `call` is `decode_text`, `find_char_boundary` at a place, `trim`,
+/// which trims the front alone too, `trim_lines`, `contains_slice` or `is_whitespace`, of a text of
+/// one byte.
 pub const MEMBERS: Members = Members {
     given: &["call", "text", "text_hex", "place", "slice"],
     wanted: &[
@@ -26,68 +29,71 @@ pub const MEMBERS: Members = Members {
 };
 
 /// The answers of the tests of one byte.
-fn kinds(text: &[u8], answers: &mut Answers) -> Result<(), RowError> {
-    let [byte] = text else {
-        return Err(RowError::Words("the text isn't one byte"));
-    };
-    answers.say("is_whitespace", Said::Flag(is_whitespace(*byte)));
-    answers.say(
-        "is_line_ending",
-        Said::Flag(is_line_ending_whitespace(*byte)),
-    );
-    Ok(())
+fn kinds(text: &[u8], answers: &mut Answers) {
+    match text {
+        [byte] => {
+            answers.say("is_whitespace", Said::Flag(is_whitespace(*byte)));
+            let ends = is_line_ending_whitespace(*byte);
+            answers.say("is_line_ending", Said::Flag(ends));
+        }
+        _ => answers.fail(RowError::Words("the text isn't one byte")),
+    }
 }
 
 /// The answer of the search for a boundary.
-fn boundary(row: &Row, answers: &mut Answers) -> Result<(), RowError> {
-    let text = row.text("text")?;
-    let place = row.place("place")?;
+fn boundary(row: &Row, answers: &mut Answers) {
+    let text = answers.text(row, "text");
+    let place = place_of(row, "place", answers);
     if place > text.len() {
-        return Err(RowError::Words("the place isn't within the text"));
+        return answers.fail(RowError::Words("the place isn't within the text"));
     }
-    answers.say(
-        "boundary",
-        Said::Number(find_char_boundary(text, place) as u128),
-    );
-    Ok(())
+    let boundary = find_char_boundary(text, place);
+    answers.say("boundary", Said::Number(boundary as u128));
+}
+
+/// The answer of the decoding.
+fn decoded(text: &[u8], answers: &mut Answers) {
+    let alloc = answers.alloc;
+    if let Some(bytes) = answers.got(Vec::from_slice(alloc, text)) {
+        if let Some(decoded) = answers.got(decode_text(alloc, bytes)) {
+            answers.say("decoded", Said::Bytes(&decoded));
+        }
+    }
+}
+
+/// The answers of trimming.
+fn trimmed(text: &[u8], answers: &mut Answers) {
+    let end = blanks_end(text, 0, text.len());
+    let all = [
+        ("front_trimmed", Said::Bytes(trim_start(text))),
+        ("trimmed", Said::Bytes(trim(text))),
+        ("blanks_end", Said::Number(end as u128)),
+    ];
+    say_all(&all, answers);
 }
 
 /// The answers of a call.
-fn put(call: &str, row: &Row, text: &[u8], answers: &mut Answers) -> Result<(), RowError> {
-    let alloc = answers.alloc;
-    match call {
-        "decode_text" => {
-            let decoded = decode_text(alloc, Vec::from_slice(alloc, text)?)?;
-            answers.say("decoded", Said::Bytes(&decoded));
-            Ok(())
-        }
+fn came_in(row: &Row, text: &[u8], answers: &mut Answers) {
+    match answers.text(row, "call") {
+        "decode_text" => decoded(text, answers),
         "find_char_boundary" => boundary(row, answers),
-        "trim" => {
-            answers.say("front_trimmed", Said::Bytes(trim_start(text)));
-            answers.say("trimmed", Said::Bytes(trim(text)));
-            let end = blanks_end(text, 0, text.len());
-            answers.say("blanks_end", Said::Number(end as u128));
-            Ok(())
-        }
+        "trim" => trimmed(text, answers),
         "trim_lines" => {
-            answers.say(
-                "left",
-                Said::Bytes(trim_first_and_last_line_of_whitespace(text)),
-            );
-            Ok(())
+            let left = trim_first_and_last_line_of_whitespace(text);
+            answers.say("left", Said::Bytes(left));
         }
         "contains_slice" => {
-            let slice = row.text("slice")?.as_bytes();
+            let slice = answers.text(row, "slice").as_bytes();
             answers.say("holds", Said::Flag(contains_slice(text, slice)));
-            Ok(())
         }
         "is_whitespace" => kinds(text, answers),
-        _ => Err(RowError::Words("there is no such call")),
+        _ => answers.fail(RowError::Words("there is no such call")),
     }
 }
 
 /// What the calls answer.
-pub fn came(_asked: &Asked, row: &Row, answers: &mut Answers) -> Result<(), RowError> {
-    let text = row.bytes(answers.alloc, "text", "text_hex")?;
-    put(row.text("call")?, row, &text, answers)
+pub fn came(row: &Row, answers: &mut Answers) {
+    if let Some(text) = answers.got(row.bytes(answers.alloc, "text", "text_hex")) {
+        came_in(row, &text, answers);
+    }
 }
