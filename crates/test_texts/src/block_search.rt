@@ -43,8 +43,8 @@ const TEXTS: [&[u8]; 6] = [
     b"target C;\n",
 ];
 
-/// How many questions for a tag in a part of a text are answered otherwise by one search, which is asked from the text's
-/// front on, or from its end back.
+/// How many questions for a tag in a part of a text are answered otherwise by one search, which is
+/// asked from the text's front on, or from its end back.
 fn unlike(text: &[u8], falls: bool) -> usize {
     let mut search = BlockSearch::new(text);
     let end = text.len();
@@ -74,7 +74,8 @@ const DOC_TEXTS: [&[u8]; 5] = [
     b"/// a\n /// b //! c\n///!//!///\n//! d /// e\n//! f\n\n/// g",
 ];
 
-/// How many places of a text one search answers otherwise of, first from its front on, then from its end back.
+/// How many places of a text one search answers otherwise of, first from its front on, then from
+/// its end back.
 fn unlike_docs(text: &[u8]) -> usize {
     let mut search = BlockSearch::new(text);
     let mut count = 0_usize;
@@ -89,8 +90,8 @@ fn unlike_docs(text: &[u8]) -> usize {
     count
 }
 
-/// The place of the first text of which something is answered otherwise, and how often, if there is one; those of doc
-/// comments come behind the others.
+/// The place of the first text of which something is answered otherwise, and how often, if there is
+/// one; those of doc comments come behind the others.
 fn first_unlike() -> Option<Wrong> {
     for (at, text) in TEXTS.iter().enumerate() {
         let count = unlike(text, false).saturating_add(unlike(text, true));

@@ -53,8 +53,8 @@ fn found_by_loop(search: Search, text: &[u8], from: usize, to: usize) -> Option<
     Some(to)
 }
 
-/// The first place from which a search to some place and its plain loop differ, if there is one: of all places, and of
-/// sevenths and elevenths in a text of more than a hundred bytes.
+/// The first place from which a search to some place and its plain loop differ, if there is one: of
+/// all places, and of sevenths and elevenths in a text of more than a hundred bytes.
 fn first_unlike(text: &[u8]) -> Option<usize> {
     let is_long = text.len() > 100;
     for search in SEARCHES {
@@ -79,8 +79,8 @@ const TEXTS: [&[u8]; 3] = [
     b"......................................................................",
 ];
 
-/// Lengths of up to some blocks, and places, of which one stands in no text: near the front, where a near search ends,
-/// behind it and near the end, and where a block ends.
+/// Lengths of up to some blocks, and places, of which one stands in no text: near the front, where
+/// a near search ends, behind it and near the end, and where a block ends.
 const LENGTHS: [(usize, usize); 15] = [
     (100, 99),
     (100, 63),
@@ -99,8 +99,9 @@ const LENGTHS: [(usize, usize); 15] = [
     (300, 999),
 ];
 
-/// The first of these texts for which a search and its plain loop differ, and from where, if there is one: behind the
-/// texts of 70 bytes come a text of dots with `a` in a place, and its opposite, a text of `c` with a dot there.
+/// The first of these texts for which a search and its plain loop differ, and from where, if there
+/// is one: behind the texts of 70 bytes come a text of dots with `a` in a place, and its opposite,
+/// a text of `c` with a dot there.
 fn first_wrong() -> Option<Wrong> {
     for (at, text) in TEXTS.iter().enumerate() {
         if let Some(from) = first_unlike(text) {

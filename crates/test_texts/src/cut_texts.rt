@@ -1,5 +1,5 @@
-//! Worked texts cut after each byte: of each piece every call tells the same, and neither its lines nor its steps are
-//! more than its bytes.
+//! Worked texts cut after each byte: of each piece every call tells the same, and neither its lines
+//! nor its steps are more than its bytes.
 ghost use Rattle.std.specs.Prelude.{◌<◌, length};
 
 use crate::every_call::agreed;
@@ -53,20 +53,22 @@ const TEXTS: &[Row] = &[
         None,
         Texts::Cut(
             "{\"cells\":[{\"cell_type\":\"code\",\"source\":[\"x = 1\\n\",\"y = 2\"]}],\
-         \"metadata\":{\"kernelspec\":{},\"language_info\":{}}}",
+            \"metadata\":{\"kernelspec\":{},\"language_info\":{}}}",
         ),
     ),
     (
         "Jupyter",
         None,
         Texts::Cut(
-            "{\"cells\":[{\"cell_type\":\"markdown\",\"source\":[\"```rust\\n\",\"x\\n\",\"```\\n\"]}],\
-         \"metadata\":{\"kernelspec\":{},\"language_info\":{}}}",
+            "{\"cells\":[{\"cell_type\":\"markdown\",\
+            \"source\":[\"```rust\\n\",\"x\\n\",\"```\\n\"]}],\
+            \"metadata\":{\"kernelspec\":{},\"language_info\":{}}}",
         ),
     ),
 ];
 
-/// Whether neither all lines that are told, those of its children with them, nor the steps are more than the bytes.
+/// Whether neither all lines that are told, those of its children with them, nor the steps are more
+/// than the bytes.
 fn are_few(told: Result<Option<(CodeStats, u128)>, CountError>, bytes: usize) -> bool {
     match told {
         Ok(Some((stats, steps))) => match stats.summarise() {

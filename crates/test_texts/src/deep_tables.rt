@@ -4,7 +4,8 @@ use crate::verdict::{Wrong, all_right};
 use std::alloc::Global;
 use tokei_table::{LanguageTable, TableError};
 
-/// How many languages the table of a text has that has a member to be passed over that is so many lists deep.
+/// How many languages the table of a text has that has a member to be passed over that is so many
+/// lists deep.
 fn languages_behind_lists(alloc: Global, depth: usize) -> Result<usize, TableError> {
     let pieces = [
         (r#"{"languages":{},"v":"#, 1),
@@ -21,8 +22,8 @@ fn languages_behind_lists(alloc: Global, depth: usize) -> Result<usize, TableErr
     }
 }
 
-/// How deep the lists are, and how many languages the table has. `serde_json` reads values that are up to 127 deep, the
-/// table itself counted.
+/// How deep the lists are, and how many languages the table has. `serde_json` reads values that are
+/// up to 127 deep, the table itself counted.
 const DEPTHS: [(usize, Result<usize, TableError>); 4] = [
     (126, Ok(0)),
     (127, Err(TableError::NotJson)),

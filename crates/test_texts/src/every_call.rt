@@ -8,7 +8,8 @@ use tokei_options::CountConfig;
 use tokei_stats::{CodeStats, CountError};
 use tokei_table::{LanguageTable, LanguageType};
 
-/// Whether the calls before this one told these statistics, and this one does. Why the first call was refused that was.
+/// Whether the calls before this one told these statistics, and this one does. Why the first call
+/// was refused that was.
 fn is_same(
     before: Result<bool, CountError>,
     told: Result<CodeStats, CountError>,
@@ -23,8 +24,8 @@ fn is_same(
     }
 }
 
-/// The statistics of a text and its steps, or `None` where the statistics of two calls differ. `parse_from_str` is
-/// asked of a text that is UTF-8.
+/// The statistics of a text and its steps, or `None` where the statistics of two calls differ.
+/// `parse_from_str` is asked of a text that is UTF-8.
 pub fn agreed(
     alloc: Global,
     counter: &Counter,
@@ -53,7 +54,8 @@ pub fn agreed(
     }
 }
 
-/// The statistics of a text and its steps, or `None` where the table hasn't the language, or two calls differ.
+/// The statistics of a text and its steps, or `None` where the table hasn't the language, or two
+/// calls differ.
 pub fn told(
     alloc: Global,
     table: &LanguageTable,
@@ -64,12 +66,12 @@ pub fn told(
     let config = CountConfig {
         treat_doc_strings_as_comments,
     };
-    match LanguageType::from_name(table, key) {
-        Some(language) => match Counter::new(alloc, table) {
-            Ok(counter) => agreed(alloc, &counter, language, text, &config),
-            Err(_) => Err(CountError::Memory),
+    match Counter::new(alloc, table) {
+        Ok(counter) => match LanguageType::from_name(table, key) {
+            Some(language) => agreed(alloc, &counter, language, text, &config),
+            None => Ok(None),
         },
-        None => Ok(None),
+        Err(_) => Err(CountError::Memory),
     }
 }
 

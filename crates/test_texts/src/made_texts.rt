@@ -1,5 +1,6 @@
-//! Texts made of pieces: children inside one another past the last level, notebooks as deep as JSON may nest and
-//! deeper, texts past two mebibytes, and many plain lines, in which a reading that skips takes no step.
+//! Texts made of pieces: children inside one another past the last level, notebooks as deep as JSON
+//! may nest and deeper, texts past two mebibytes, and many plain lines, in which a reading that
+//! skips takes no step.
 ghost use Rattle.std.specs.Prelude.{◌<◌, length};
 
 use crate::every_call::agreed;
@@ -18,12 +19,13 @@ type Lines = (usize, usize, usize);
 /// Pieces, and how many times each stands.
 type Pieces = &'static [(&'static str, usize)];
 
-/// The language of a text's children, how many lie in one another, and the own lines of the innermost one, or those of
-/// the text where it has none. None holds two, and those between have no lines.
+/// The language of a text's children, how many lie in one another, and the own lines of the
+/// innermost one, or those of the text where it has none. None holds two, and those between have no
+/// lines.
 type Inside = (&'static str, usize, Lines);
 
-/// A text, and what every call has to tell of it: its own lines, its children, and the steps of the reading that skips
-/// and of the plain one, where they are asked.
+/// A text, and what every call has to tell of it: its own lines, its children, and the steps of the
+/// reading that skips and of the plain one, where they are asked.
 pub type Made = (Pieces, Lines, Inside, (Option<u128>, Option<u128>));
 
 /// The pieces as one text.
@@ -155,8 +157,8 @@ const OPENINGS: &[Made] = &[
 const CELL: &str =
     r#"{"cells":[{"cell_type":"code","source":["x"]}],"metadata":{"language_info":0,"kernelspec":"#;
 
-/// Notebooks whose kernel is so many lists inside one another. The notebook and its metadata are two levels of the 127
-/// that JSON may nest.
+/// Notebooks whose kernel is so many lists inside one another. The notebook and its metadata are
+/// two levels of the 127 that JSON may nest.
 const NOTEBOOKS: &[Made] = &[
     (
         &[(CELL, 1), ("[", 125), ("]", 125), ("}}", 1)],
@@ -191,8 +193,8 @@ const FENCED: &[Made] = &[(
     (Some(1), None),
 )];
 
-/// A thousand lines of C of two bytes, and then three lines of which two are in a comment. The plain reading takes steps
-/// for each of them.
+/// A thousand lines of C of two bytes, and then three lines of which two are in a comment. The
+/// plain reading takes steps for each of them.
 const LONG: &[Made] = &[(
     &[("x\n", 1_000), ("/* a /*/ b\nc */\nd\n", 1)],
     (0, 1_001, 2),

@@ -21,8 +21,8 @@ pub enum Texts {
 /// A language, whether its doc strings are comments, and the texts.
 pub type Row = (&'static str, Option<bool>, Texts);
 
-/// The number, length or place of a row's first wrong text, if there is such a text; `usize::MAX` where the table hasn't the
-/// language.
+/// The number, length or place of a row's first wrong text, if there is such a text; `usize::MAX`
+/// where the table hasn't the language.
 fn first_wrong_text(alloc: Global, counter: &Counter, row: &Row) -> Option<usize> {
     let (key, docs, texts) = row;
     let config = CountConfig {
@@ -38,7 +38,8 @@ fn first_wrong_text(alloc: Global, counter: &Counter, row: &Row) -> Option<usize
     }
 }
 
-/// The first wrong row and text, if there are such; `usize::MAX` for the row where the table can't be read.
+/// The first wrong row and text, if there are such; `usize::MAX` for the row where the table can't
+/// be read.
 pub fn first_wrong(alloc: Global, json: &[u8], rows: &[Row]) -> Option<Wrong> {
     let Ok(table) = LanguageTable::from_json(alloc, json) else {
         return Some((usize::MAX, 0));

@@ -13,8 +13,8 @@ use tokei_table::LanguageType;
 /// How many texts have at most five pieces of six kinds.
 const COUNT: usize = 9_331;
 
-/// Writes the text with this number in place of what stands there: the empty one is 0, then come those of one piece,
-/// those of two, and so on.
+/// Writes the text with this number in place of what stands there: the empty one is 0, then come
+/// those of one piece, those of two, and so on.
 fn write_text(text: &mut Vec<u8>, pieces: &[&str], number: usize) -> Result<(), AllocError> {
     text.clear();
     let mut left = number;
@@ -33,7 +33,8 @@ fn write_text(text: &mut Vec<u8>, pieces: &[&str], number: usize) -> Result<(), 
     Ok(())
 }
 
-/// The number of the first text of which two calls differ, or which can't be counted, if there is such a text.
+/// The number of the first text of which two calls differ, or which can't be counted, if there is
+/// such a text.
 pub fn first_unlike(
     alloc: Global,
     counter: &Counter,

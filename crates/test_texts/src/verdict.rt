@@ -1,7 +1,8 @@
 //! What a test of rows tells.
 use std::process::Abort;
 
-/// The place of the first wrong row, and the number, length or place that is the first wrong one in it.
+/// The place of the first wrong row, and the number, length or place that is the first wrong one in
+/// it.
 pub type Wrong = (usize, usize);
 
 /// Tells the first wrong row, if there is such a row.
