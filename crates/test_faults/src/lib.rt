@@ -1,5 +1,6 @@
-//! Tests that are loops and no rows: calls, reads and writes that are made to fail in turn, readers that give little
-//! at a time, and texts too large to be written down. What is a row stands in `test_rows`.
+//! Tests that are loops and no rows: calls, reads and writes that are made to fail in turn, readers
+//! that give little at a time, and texts too large to be written down. What is a row stands in
+//! `test_rows`.
 #![tactic(auto)]
 
 #[cfg(test)]

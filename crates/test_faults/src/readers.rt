@@ -1,5 +1,5 @@
 //! Readers that give few bytes at a time, that fail, or whose file is said to have another length.
-use std::alloc::{AllocError, Global};
+use std::alloc::Global;
 use std::fs::{Metadata, OpenFile};
 use std::io;
 use std::io::{Error, ErrorKind, Read};
@@ -25,36 +25,25 @@ impl Read for Slow<'_> {
     }
 }
 
-/// Whether a file of five bytes is read that is said to have so many.
-fn is_read(alloc: Global, said: usize) -> bool {
+/// Whether a file of five bytes is read that is said to have so many; or, where its reader fails,
+/// neither the whole file nor its head is.
+fn is_read(alloc: Global, said: usize, fails: bool) -> bool {
     let reader = Slow {
         left: b"abcde",
-        fails: false,
+        fails,
     };
     match all_of(alloc, reader, said) {
-        Ok(bytes) => bytes.as_slice() == b"abcde".as_slice(),
-        Err(_) => false,
+        Ok(bytes) => !fails && bytes.as_slice() == b"abcde".as_slice(),
+        Err(_) => fails && head_of(alloc, reader).is_err(),
     }
-}
-
-/// Whether a reader that fails gives neither the whole of a file nor its head.
-fn fails_whole_and_head(alloc: Global) -> (bool, bool) {
-    let failing = Slow {
-        left: b"abcde",
-        fails: true,
-    };
-    (
-        all_of(alloc, failing, 5).is_err(),
-        head_of(alloc, failing).is_err(),
-    )
 }
 
 #[test]
 fn files_of_another_length(rt: HostRuntime) {
     for said in [0, 1, 5, 6, 100, 70_000] {
-        assert!(rt; is_read(rt.alloc(), said), "{said}");
+        let is_read = is_read(rt.alloc(), said, false) && is_read(rt.alloc(), said, true);
+        assert!(rt; is_read, "{said}");
     }
-    assert_eq!(rt; fails_whole_and_head(rt.alloc()), (true, true));
 }
 
 /// Whether a file of five bytes is read where that many are the most, or else is refused.
@@ -76,7 +65,8 @@ fn more_bytes_than_the_bound(rt: HostRuntime) {
     }
 }
 
-/// An open file that is said to have so many bytes, of which each read that gives some is interrupted before it.
+/// An open file that is said to have so many bytes, of which each read that gives some is
+/// interrupted before it.
 #[derive(Clone, Copy)]
 struct Changed<'a> {
     inner: Slow<'a>,
@@ -142,19 +132,21 @@ fn is_read_by(alloc: Global, buffer: &mut [u8], said: u64, fails: bool) -> bool 
 }
 
 /// The same by one buffer of that length, of a file that is read and then of one that fails.
-fn is_read_twice(alloc: Global, length: usize, said: u64) -> Result<bool, AllocError> {
-    let mut buffer = vec![in alloc; b'x'; length]?;
-    Ok(is_read_by(alloc, &mut buffer, said, false) && is_read_by(alloc, &mut buffer, said, true))
+fn is_read_twice(alloc: Global, length: usize, said: u64) -> bool {
+    match vec![in alloc; b'x'; length] {
+        Ok(mut buffer) => {
+            is_read_by(alloc, &mut buffer, said, false)
+                && is_read_by(alloc, &mut buffer, said, true)
+        }
+        Err(_) => false,
+    }
 }
 
-// A buffer that is too small, as large as the file, and larger; a file that grew or shrank since its length was asked.
+// A buffer that is too small, as large as the file, and larger; a file that grew or shrank since
+// its length was asked.
 #[test]
 fn files_by_a_kept_buffer(rt: HostRuntime) {
     for (length, said) in BUFFERS {
-        assert_eq!(rt;
-            is_read_twice(rt.alloc(), length, said),
-            Ok(true),
-            "{length}, {said}"
-        );
+        assert!(rt; is_read_twice(rt.alloc(), length, said), "{length}, {said}");
     }
 }

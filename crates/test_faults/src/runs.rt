@@ -1,7 +1,7 @@
-//! Runs over folders of which each call fails in turn: the languages from before stay, with those of the first files.
+//! Runs over folders of which each call fails in turn: the languages from before stay, with those
+//! of the first files.
 use crate::given::{files, texts, two_languages};
 use std::alloc::Global;
-use std::test::Fail;
 use tokei_config::Config;
 use tokei_folders::{Call, FailingFolders, Fault, Folders, MemoryFolders};
 use tokei_languages::{Language, Languages};
@@ -9,7 +9,8 @@ use tokei_statistics::CountFiles;
 use tokei_stats::CountError;
 use tokei_table::{LanguageTable, LanguageType};
 
-/// A tree of two files of C, one that can't be read between them, and one whose head is asked for its language.
+/// A tree of two files of C, one that can't be read between them, and one whose head is asked for
+/// its language.
 fn tree(alloc: Global) -> Result<MemoryFolders, Fault> {
     let mut folders = files(
         alloc,
@@ -24,93 +25,127 @@ fn tree(alloc: Global) -> Result<MemoryFolders, Fault> {
     Ok(folders)
 }
 
-/// Adds what is below the top to the languages, by `get_statistics`, which renews counts, or by `get_all_files`.
+/// Adds what is below the roots to the languages, by `get_statistics`, which renews counts, or by
+/// `get_all_files`; why it was refused.
 fn add_all<F: Folders>(
     renews: bool,
     table: &LanguageTable,
     folders: &mut F,
+    roots: &[String],
     languages: &mut Languages,
-) -> Result<(), CountError> {
-    let roots = texts(languages.allocator(), &["."])?;
-    let roots = roots.as_slice();
+) -> Option<CountError> {
     let config = Config::new();
-    let _notes = if renews {
-        languages.get_statistics(table, folders, roots, &[], &config)?
+    let added = if renews {
+        languages.get_statistics(table, folders, roots, &[], &config)
     } else {
-        languages.get_all_files(table, folders, roots, &[], &config)?
+        languages.get_all_files(table, folders, roots, &[], &config)
     };
-    Ok(())
+    match added {
+        Ok(_notes) => None,
+        Err(refused) => Some(refused),
+    }
 }
 
-/// What a call left of C: why it was refused, how many lines of code there are, how many files are named in their
-/// order, and whether one is marked as unread.
+/// What a call left of C: why it was refused, how many lines of code there are, how many files are
+/// named in their order, and whether one is marked as unread.
 type Left = (Option<CountError>, usize, usize, bool);
 
 /// The files that are read, in the order of a walk.
-const NAMES: &[&str] = &["./a.c", "./c.c"];
+const NAMES: [&str; 2] = ["./a.c", "./c.c"];
 
-/// What a call that ended so left of a language.
-fn left_of(ended: Result<(), CountError>, language: &Language) -> Left {
-    let mut named = 0_usize;
-    for (report, name) in language.reports.as_slice().iter().zip(NAMES) {
-        if report.name.as_str() == *name {
-            named = named.saturating_add(1);
-        }
+/// How many files of a language are named, where they are the first that are read, in their order;
+/// else `usize::MAX`.
+fn named(language: &Language) -> usize {
+    match language.reports.as_slice() {
+        [] => 0,
+        [one] => if one.name.as_str() == NAMES[0] {
+            1
+        } else {
+            usize::MAX
+        },
+        [one, other] => if one.name.as_str() == NAMES[0] && other.name.as_str() == NAMES[1] {
+            2
+        } else {
+            usize::MAX
+        },
+        _ => usize::MAX,
     }
-    if named != language.reports.len() {
-        named = usize::MAX;
-    }
-    (ended.err(), language.code, named, language.inaccurate)
 }
 
-/// What the call leaves of seven earlier lines of C, over folders that fail behind so many calls.
+/// What the call leaves of seven earlier lines of C, over folders that fail behind so many calls;
+/// `None` where C is lost, or there is no memory for it.
 fn left_behind(
     alloc: Global,
     renews: bool,
     table: &LanguageTable,
+    roots: &[String],
     passes: u64,
-) -> Result<Left, Fail> {
-    let Some(c) = LanguageType::from_name(table, "C") else {
-        return Err(Fail::from("no such language"));
+) -> Option<Left> {
+    let c = LanguageType::from_name(table, "C")?;
+    let Ok(tree) = tree(alloc) else {
+        return None;
     };
+    let mut folders = FailingFolders::new(tree, passes);
     let mut languages = Languages::new(alloc);
     let mut earlier = Language::new(alloc);
     earlier.code = 7;
-    let _none = languages.insert(c, earlier)?;
-    let mut folders = FailingFolders::new(tree(alloc)?, passes);
-    let ended = add_all(renews, table, &mut folders, &mut languages);
-    match languages.get(c) {
-        Some(language) => Ok(left_of(ended, language)),
-        None => Err(Fail::from("the language is lost")),
+    match languages.insert(c, earlier) {
+        Ok(_none) => {
+            let refused = add_all(renews, table, &mut folders, roots, &mut languages);
+            match languages.get(c) {
+                Some(left) => Some((refused, left.code, named(left), left.inaccurate)),
+                None => None,
+            }
+        }
+        Err(_) => None,
     }
 }
 
-/// How many files are named, and whether one is marked, where the call with this number fails: three calls find the
-/// files, one reads each of them, and one the head.
-const FIRST: [(usize, bool); 7] = [
-    (0, false),
-    (0, false),
-    (0, false),
-    (0, false),
-    (1, false),
-    (1, true),
-    (2, true),
+const MEMORY: Option<CountError> = Some(CountError::Memory);
+
+/// What is left where the call with this number fails: three calls find the files, one reads each
+/// of them, and one the head. No call has the last number; then counts may be renewed.
+const LEFT: [Left; 8] = [
+    (MEMORY, 7, 0, false),
+    (MEMORY, 7, 0, false),
+    (MEMORY, 7, 0, false),
+    (MEMORY, 7, 0, false),
+    (MEMORY, 7, 1, false),
+    (MEMORY, 7, 1, true),
+    (MEMORY, 7, 2, true),
+    (None, 7, 2, true),
 ];
 
-#[test]
-fn each_call_of_folders_that_fails_leaves_the_first_files(rt: HostRuntime) -> Result<(), Fail> {
-    let table = two_languages(rt.alloc())?;
-    for (renews, code) in [(false, 7), (true, 2)] {
-        for (passes, (named, marked)) in FIRST.iter().enumerate() {
-            let left = left_behind(rt.alloc(), renews, &table, passes as u64)?;
-            assert_eq!(rt;
-                left,
-                (Some(CountError::Memory), 7, *named, *marked),
-                "{passes}"
-            );
+/// Whether what is left has to be, behind so many calls. Where counts are renewed only two lines of
+/// code are left at last.
+fn is_left(left: &Option<Left>, want: &Left, renews: bool) -> bool {
+    let (refused, code, named, marked) = *want;
+    let code = if renews && refused.is_none() { 2 } else { code };
+    *left == Some((refused, code, named, marked))
+}
+
+/// The first call that leaves something else where it fails, if there is one; `u64::MAX` where no
+/// run can be begun.
+fn first_wrong_call(alloc: Global) -> Option<u64> {
+    let Ok(table) = two_languages(alloc) else {
+        return Some(u64::MAX);
+    };
+    let Ok(roots) = texts(alloc, &["."]) else {
+        return Some(u64::MAX);
+    };
+    for renews in [false, true] {
+        for (passes, want) in LEFT.iter().enumerate() {
+            let left = left_behind(alloc, renews, &table, roots.as_slice(), passes as u64);
+            if !is_left(&left, want, renews) {
+                return Some(passes as u64);
+            }
         }
-        let left = left_behind(rt.alloc(), renews, &table, FIRST.len() as u64)?;
-        assert_eq!(rt; left, (None, code, 2, true));
     }
-    Ok(())
+    None
+}
+
+#[test]
+fn each_call_of_folders_that_fails_leaves_the_first_files(rt: HostRuntime) {
+    let wrong = first_wrong_call(rt.alloc());
+    assert!(rt; wrong.is_none(), "{wrong:?}");
 }

@@ -1,34 +1,29 @@
 //! Tables as deep as JSON may nest, and deeper.
+use crate::made_texts::text_of;
+use crate::verdict::{Wrong, all_right};
 use std::alloc::Global;
 use tokei_table::{LanguageTable, TableError};
 
-/// How many languages the text's table has.
-fn languages_in(alloc: Global, text: &[u8]) -> Result<usize, TableError> {
-    let table = LanguageTable::from_json(alloc, text)?;
-    Ok(table.len())
-}
-
-/// The text of a table with a member to be passed over that is that many lists deep.
-fn with_lists(alloc: Global, depth: usize) -> Result<String, TableError> {
-    let mut text = String::from_str(alloc, r#"{"languages":{},"v":"#)?;
-    for _ in 0..depth {
-        text.push('[')?;
-    }
-    for _ in 0..depth {
-        text.push(']')?;
-    }
-    text.push('}')?;
-    Ok(text)
-}
-
-/// How many languages that table has.
+/// How many languages the table of a text has that has a member to be passed over that is so many
+/// lists deep.
 fn languages_behind_lists(alloc: Global, depth: usize) -> Result<usize, TableError> {
-    let text = with_lists(alloc, depth)?;
-    languages_in(alloc, text.as_bytes())
+    let pieces = [
+        (r#"{"languages":{},"v":"#, 1),
+        ("[", depth),
+        ("]", depth),
+        ("}", 1),
+    ];
+    match text_of(alloc, &pieces) {
+        Ok(text) => match LanguageTable::from_json(alloc, text.as_bytes()) {
+            Ok(table) => Ok(table.len()),
+            Err(refused) => Err(refused),
+        },
+        Err(_) => Err(TableError::Memory),
+    }
 }
 
-/// How deep the lists are, and how many languages the table has. `serde_json` reads values that are up to 127 deep, the
-/// table itself counted.
+/// How deep the lists are, and how many languages the table has. `serde_json` reads values that are
+/// up to 127 deep, the table itself counted.
 const DEPTHS: [(usize, Result<usize, TableError>); 4] = [
     (126, Ok(0)),
     (127, Err(TableError::NotJson)),
@@ -36,11 +31,11 @@ const DEPTHS: [(usize, Result<usize, TableError>); 4] = [
     (20_000, Err(TableError::NotJson)),
 ];
 
-/// The first depth at which another answer is given, if there is one.
-fn first_wrong_depth(alloc: Global) -> Option<usize> {
-    for (depth, want) in &DEPTHS {
+/// The place of the first depth at which another answer is given, and that depth, if there is one.
+fn first_wrong_depth(alloc: Global) -> Option<Wrong> {
+    for (at, (depth, want)) in DEPTHS.iter().enumerate() {
         if languages_behind_lists(alloc, *depth) != *want {
-            return Some(*depth);
+            return Some((at, *depth));
         }
     }
     None
@@ -48,5 +43,5 @@ fn first_wrong_depth(alloc: Global) -> Option<usize> {
 
 #[test]
 fn too_deep(rt: HostRuntime) {
-    assert_eq!(rt; first_wrong_depth(rt.alloc()), None);
+    all_right(&rt, first_wrong_depth(rt.alloc()));
 }

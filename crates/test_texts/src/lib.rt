@@ -5,8 +5,6 @@
 #![tactic(auto)]
 
 #[cfg(test)]
-mod bench;
-#[cfg(test)]
 mod block_search;
 #[cfg(test)]
 mod byte_searches;
@@ -14,16 +12,11 @@ mod byte_searches;
 mod cut_texts;
 #[cfg(test)]
 mod deep_tables;
-#[cfg(test)]
-mod deep_texts;
 pub mod every_call;
 #[cfg(test)]
-mod large_texts;
-pub mod lines;
+mod made_texts;
 #[cfg(test)]
-mod long_texts;
-#[cfg(test)]
-mod nested_notebooks;
+mod rows;
 #[cfg(test)]
 mod short_texts;
 #[cfg(test)]

@@ -1,22 +1,25 @@
 //! Every text of a few pieces, in languages of all families: every call tells the same of it.
 ghost use Rattle.std.specs.Prelude.{◌<◌, length};
 
-use crate::bench::bench_or_memory;
 use crate::every_call::agreed;
+use crate::rows::{Row, Texts, first_wrong};
 use crate::verdict::all_right;
 use std::alloc::{AllocError, Global};
-use std::test::Fail;
+use test_table::bench_json;
 use tokei_count::Counter;
 use tokei_options::CountConfig;
-use tokei_stats::CountError;
-use tokei_table::{LanguageTable, LanguageType};
+use tokei_table::LanguageType;
 
-/// The text with this number: the empty one is 0, then come those of one piece, those of two, and so on.
-fn text_at(alloc: Global, pieces: &[&str], number: usize) -> Result<Vec<u8>, AllocError> {
-    let mut text = Vec::new(alloc);
+/// How many texts have at most five pieces of six kinds.
+const COUNT: usize = 9_331;
+
+/// Writes the text with this number in place of what stands there: the empty one is 0, then come
+/// those of one piece, those of two, and so on.
+fn write_text(text: &mut Vec<u8>, pieces: &[&str], number: usize) -> Result<(), AllocError> {
+    text.clear();
     let mut left = number;
     if pieces.is_empty() {
-        return Ok(text);
+        return Ok(());
     }
     // At least one is taken away each time.
     for _ in 0..number {
@@ -27,129 +30,108 @@ fn text_at(alloc: Global, pieces: &[&str], number: usize) -> Result<Vec<u8>, All
         text.extend_from_slice(pieces[left % pieces.len()].as_bytes())?;
         left /= pieces.len();
     }
-    Ok(text)
+    Ok(())
 }
 
-/// Whether two calls differ in what they tell of a text.
-fn is_unlike(
+/// The number of the first text of which two calls differ, or which can't be counted, if there is
+/// such a text.
+pub fn first_unlike(
     alloc: Global,
     counter: &Counter,
     language: LanguageType,
-    text: Vec<u8>,
     config: &CountConfig,
-) -> Result<bool, CountError>
+    pieces: &[&str],
+) -> Option<usize>
     requires { language < length counter.now }
 {
-    Ok(agreed(alloc, counter, language, &text, config)?.is_none())
-}
-
-/// A language, whether its doc strings are comments, and the six pieces of its texts.
-type Texts = (&'static str, Option<bool>, &'static [&'static str]);
-
-/// How many texts have at most five pieces of six kinds.
-const COUNT: usize = 9_331;
-
-/// How many texts there are before the first of which two calls differ.
-fn alike(alloc: Global, table: &LanguageTable, row: &Texts) -> Result<usize, CountError> {
-    let (key, treat_doc_strings_as_comments, pieces) = *row;
-    let config = CountConfig {
-        treat_doc_strings_as_comments,
-    };
-    let Some(language) = LanguageType::from_name(table, key) else {
-        return Ok(0);
-    };
-    let counter = Counter::new(alloc, table)?;
+    let mut text = Vec::new(alloc);
     for number in 0..COUNT {
-        if is_unlike(
-            alloc,
-            &counter,
-            language,
-            text_at(alloc, pieces, number)?,
-            &config,
-        )? {
-            return Ok(number);
+        let is_written = write_text(&mut text, pieces, number).is_ok();
+        let told = agreed(alloc, counter, language, &text, config);
+        if !is_written || !matches!(told, Ok(Some(_))) {
+            return Some(number);
         }
     }
-    Ok(COUNT)
-}
-
-/// The place of the first row of which two calls differ in a text, if there is such a row.
-fn first_unlike(
-    alloc: Global,
-    table: &LanguageTable,
-    rows: &[Texts],
-) -> Result<Option<usize>, CountError> {
-    for (at, row) in rows.iter().enumerate() {
-        if alike(alloc, table, row)? != COUNT {
-            return Ok(Some(at));
-        }
-    }
-    Ok(None)
-}
-
-/// The same by the bench table.
-fn first_wrong(alloc: Global, rows: &[Texts]) -> Result<Option<usize>, CountError> {
-    let table = bench_or_memory(alloc)?;
-    first_unlike(alloc, &table, rows)
+    None
 }
 
 /// The pieces of languages that have comments and strings.
 const PLAIN: &[&str] = &["/", "*", "\"", "\\", "a", "\n"];
 
-const TEXTS: [Texts; 3] = [
-    ("C", None, PLAIN),
-    ("Rust", None, PLAIN),
-    ("D", None, PLAIN),
+const TEXTS: &[Row] = &[
+    ("C", None, Texts::Short(PLAIN)),
+    ("Rust", None, Texts::Short(PLAIN)),
+    ("D", None, Texts::Short(PLAIN)),
 ];
 
 #[test]
 fn short_texts(rt: HostRuntime) {
-    all_right(&rt, first_wrong(rt.alloc(), &TEXTS));
+    all_right(&rt, first_wrong(rt.alloc(), bench_json(), TEXTS));
 }
 
 #[test]
-fn the_last_text_is_five_pieces_long(rt: HostRuntime) -> Result<(), Fail> {
-    let last = text_at(rt.alloc(), PLAIN, COUNT - 1)?;
-    assert_eq!(rt; last.as_slice(), b"\n\n\n\n\n".as_slice());
-    Ok(())
+fn the_last_text_is_five_pieces_long(rt: HostRuntime) {
+    let mut last = Vec::new(rt.alloc());
+    let is_written = write_text(&mut last, PLAIN, COUNT - 1).is_ok();
+    assert!(rt; is_written && last.as_slice() == b"\n\n\n\n\n".as_slice());
 }
 
-const FAMILIES: [Texts; 9] = [
-    ("Markdown", None, &["```c", "```", " ", "\n", ",", "`"]),
+const FAMILIES: &[Row] = &[
+    (
+        "Markdown",
+        None,
+        Texts::Short(&["```c", "```", " ", "\n", ",", "`"]),
+    ),
     (
         "Html",
         None,
-        &["<script", " type=\"", "\"", ">x", "</script>", "\n"],
+        Texts::Short(&["<script", " type=\"", "\"", ">x", "</script>", "\n"]),
     ),
     (
         "Vue",
         None,
-        &[
+        Texts::Short(&[
             "<style>",
             "<template>",
             "</template>",
             "</style>",
             "x",
             "\n",
-        ],
+        ]),
     ),
-    ("Rust", None, &["///", "//!", " ", "\n", "\"", "/*"]),
+    (
+        "Rust",
+        None,
+        Texts::Short(&["///", "//!", " ", "\n", "\"", "/*"]),
+    ),
     (
         "LinguaFranca",
         None,
-        &["{=", "=}", "\n", "target C;", " ", "\""],
+        Texts::Short(&["{=", "=}", "\n", "target C;", " ", "\""]),
     ),
-    ("CSharp", None, &["@\"", "\"", "\\", "\n", "/*", "*/"]),
-    ("D", None, &["/+", "+/", "/*", "*/", "\n", "\""]),
+    (
+        "CSharp",
+        None,
+        Texts::Short(&["@\"", "\"", "\\", "\n", "/*", "*/"]),
+    ),
+    (
+        "D",
+        None,
+        Texts::Short(&["/+", "+/", "/*", "*/", "\n", "\""]),
+    ),
     (
         "Python",
         Some(true),
-        &["\"\"\"", "\"", "'", "\\", "#", "\n"],
+        Texts::Short(&["\"\"\"", "\"", "'", "\\", "#", "\n"]),
     ),
-    ("FortranLegacy", None, &["c", " ", "\"", "'", "\\", "\n"]),
+    (
+        "FortranLegacy",
+        None,
+        Texts::Short(&["c", " ", "\"", "'", "\\", "\n"]),
+    ),
 ];
 
 #[test]
 fn short_texts_of_families(rt: HostRuntime) {
-    all_right(&rt, first_wrong(rt.alloc(), &FAMILIES));
+    all_right(&rt, first_wrong(rt.alloc(), bench_json(), FAMILIES));
 }
