@@ -1,4 +1,5 @@
-//! Rows of configuration files: what they make of a run, and which languages gain extensions by them.
+//! Rows of configuration files: what they make of a run, and which languages gain extensions.
+use std::alloc::AllocError;
 use std::collections::BTreeMap;
 use test_rows::{Answers, Asked, Members, Row, RowError, Said, folders_of, text_of};
 use tokei::{
@@ -40,15 +41,24 @@ fn dirs(answers: &mut Answers) -> ConfigDirs {
     }
 }
 
-/// The configuration of a user who has a row's files; none where it is refused, which is answered
-/// where the folders fail behind so many `calls`.
-fn read(table: &LanguageTable, row: &Row, answers: &mut Answers) -> Option<Config> {
+/// The configuration of a user who has a row's files, where the folders fail behind so many calls.
+fn read(
+    table: &LanguageTable,
+    row: &Row,
+    calls: u64,
+    answers: &mut Answers,
+) -> Result<Config, AllocError> {
     let alloc = answers.alloc;
-    let dirs = dirs(answers);
-    let calls = answers.read(row.number_if("calls"), None);
     let folders = answers.read(folders_of(alloc, row), MemoryFolders::new(alloc));
-    let mut folders = FailingFolders::new(folders, calls.unwrap_or(u64::MAX));
-    match Config::from_config_files(alloc, table, &mut folders, &dirs) {
+    let mut folders = FailingFolders::new(folders, calls);
+    Config::from_config_files(alloc, table, &mut folders, &dirs(answers))
+}
+
+/// The configuration of a row's files; none where it is refused, which is answered where the
+/// folders fail behind so many `calls`.
+fn config_of_files(table: &LanguageTable, row: &Row, answers: &mut Answers) -> Option<Config> {
+    let calls = answers.read(row.number_if("calls"), None);
+    match read(table, row, calls.unwrap_or(u64::MAX), answers) {
         Ok(config) => Some(config),
         Err(_) => {
             if calls.is_some() {
@@ -114,7 +124,7 @@ fn config_of(table: &LanguageTable, row: &Row, answers: &mut Answers) -> Option<
         say_new(answers);
         Some(Config::default())
     } else {
-        read(table, row, answers)
+        config_of_files(table, row, answers)
     }
 }
 

@@ -4,7 +4,8 @@ use test_rows::{Answers, KINDS, Members, Page, Row, RowError, text_of};
 use tokei::{Note, NoteKind, Text};
 use tokei_program::log_notes;
 
-/// The members of these rows: the notes, each by its kind and place, and how often `--verbose` was given.
+/// The members of these rows: the notes, each by its kind and place, and how often `--verbose` was
+/// given.
 pub const MEMBERS: Members = Members {
     given: &["verbose", "notes"],
     wanted: &["lines"],

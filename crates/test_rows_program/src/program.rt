@@ -139,24 +139,29 @@ fn text_of<'a>(member: &'static str, bytes: &'a [u8], answers: &mut Answers) -> 
     }
 }
 
+/// Answers for a member of a row by what stands on standard output and standard error.
+fn say_member(row: &Row, member: &str, out: &str, err: &str, answers: &mut Answers) {
+    match member {
+        "out" => answers.say("out", Said::Text(out)),
+        "out_begins" => answers.say_begun("out_begins", out),
+        "out_has" => answers.say_standing("out_has", out),
+        "out_lacks" => answers.say_absent("out_lacks", out),
+        "out_first_words" => say_first_words(out, answers),
+        "out_lines" => say_lines(out, row, answers),
+        "wider" => say_narrowed(out, row, answers),
+        "err" => answers.say("err", Said::Text(err)),
+        "err_has" => answers.say_standing("err_has", err),
+        _ => {}
+    }
+}
+
 /// Answers how a run of the program ended.
 fn say(row: &Row, ended: &Outcome, answers: &mut Answers) {
     answers.say("status", Said::Number(ended.status as u128));
     let out = text_of("out", ended.out, answers);
     let err = text_of("err", ended.err, answers);
     for (member, _) in row.members {
-        match member.as_str() {
-            "out" => answers.say("out", Said::Text(out)),
-            "out_begins" => answers.say_begun("out_begins", out),
-            "out_has" => answers.say_standing("out_has", out),
-            "out_lacks" => answers.say_absent("out_lacks", out),
-            "out_first_words" => say_first_words(out, answers),
-            "out_lines" => say_lines(out, row, answers),
-            "wider" => say_narrowed(out, row, answers),
-            "err" => answers.say("err", Said::Text(err)),
-            "err_has" => answers.say_standing("err_has", err),
-            _ => {}
-        }
+        say_member(row, member.as_str(), out, err, answers);
     }
 }
 

@@ -9,7 +9,10 @@ pub fn say_first_words(text: &str, answers: &mut Answers) {
             if !words.is_empty() {
                 words.put(" ");
             }
-            words.put(row.split(' ').next().unwrap_or(""));
+            match row.split_once(' ') {
+                Some((word, _)) => words.put(word),
+                None => words.put(row),
+            }
         }
     }
     answers.say_page("out_first_words", &words);
@@ -33,17 +36,12 @@ pub fn say_lines(text: &str, row: &Row, answers: &mut Answers) {
 /// Adds a line of a report without the characters by which it is wider: bars at the front of a
 /// line of `━`, blanks behind the first word of another. One that isn't so wide is left out.
 fn put_narrowed(page: &mut Page, line: &str, bars: &str, blanks: &str) {
-    match line.strip_prefix(' ') {
-        Some(row) => {
-            let (word, behind) = row.split_at(row.find(' ').unwrap_or(row.len()));
-            if let Some(rest) = behind.strip_prefix(blanks) {
-                page.put_all(&[" ", word, rest, "\n"]);
-            }
-        }
-        None => {
-            if let Some(rest) = line.strip_prefix(bars) {
-                page.put_all(&[rest, "\n"]);
-            }
+    if let Some(rest) = line.strip_prefix(bars) {
+        page.put_all(&[rest, "\n"]);
+    } else if let Some(row) = line.strip_prefix(' ') {
+        match row.split_once(blanks) {
+            Some((word, rest)) if !word.contains(' ') => page.put_all(&[" ", word, rest, "\n"]),
+            _ => {}
         }
     }
 }

@@ -49,12 +49,9 @@ impl Subject for Rows {
             Rows::CommandLines => command_lines::MEMBERS,
             Rows::ConfigurationFiles => configuration_files::MEMBERS,
             Rows::Notes => notes::MEMBERS,
-            Rows::Program => program::MEMBERS,
             Rows::ProgramFaults => program_faults::MEMBERS,
-            Rows::ReportOrders => program::MEMBERS,
-            Rows::ReportWidths => program::MEMBERS,
-            Rows::RunSums => program::MEMBERS,
-            Rows::Runs => program::MEMBERS,
+            Rows::Program | Rows::ReportOrders | Rows::ReportWidths | Rows::RunSums | Rows::Runs =>
+                program::MEMBERS,
         }
     }
 
