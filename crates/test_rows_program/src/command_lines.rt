@@ -1,6 +1,6 @@
 //! Rows of command lines, and what they answer.
 use crate::taken::taken;
-use test_rows::{Answers, Asked, Members, Row, RowError, Said};
+use test_rows::{Answers, Members, Row, RowError, Said};
 use tokei_cli::{Cli, CliError, HELP, VERSION_LINE, command, crate_version};
 
 /// The members of these rows. Words that are taken have `members`, `readers` or `options`; those
@@ -30,23 +30,23 @@ fn is_error_text(text: &str) -> bool {
 
 /// What a text is, in words, where it is one of the two that can be asked for.
 fn name_of(text: &str) -> &str {
-    if text == HELP {
-        "the text of help"
-    } else if text == VERSION_LINE {
-        "the line of the version"
-    } else {
-        text
+    match text {
+        HELP => "the text of help",
+        VERSION_LINE => "the line of the version",
+        _ => text,
     }
 }
 
 /// Says what the text is that the parser itself answers.
-fn say_parsed(words: &[&str], answers: &mut Answers) -> Result<(), RowError> {
-    match command(answers.alloc)?.try_get_matches_from(words) {
-        Ok(_) => Err(RowError::Kind("words", "an error of the parser")),
-        Err(error) => {
-            let text = format!(in answers.alloc; "{error}")?;
-            answers.say("parser_text_is", Said::Text(name_of(text.as_str())));
-            Ok(())
+fn say_parsed(words: &[&str], answers: &mut Answers) {
+    if let Some(command) = answers.got(command(answers.alloc)) {
+        match command.try_get_matches_from(words) {
+            Ok(_) => answers.fail(RowError::Kind("words", "an error of the parser")),
+            Err(error) => {
+                if let Some(text) = answers.got(format!(in answers.alloc; "{error}")) {
+                    answers.say("parser_text_is", Said::Text(name_of(text.as_str())));
+                }
+            }
         }
     }
 }
@@ -78,14 +78,14 @@ fn say_refusal(row: &Row, refusal: &CliError, answers: &mut Answers) {
 }
 
 /// What words answer.
-pub fn came(_asked: &Asked, row: &Row, answers: &mut Answers) -> Result<(), RowError> {
-    let words = row.texts(answers.alloc, "words")?;
+pub fn came(row: &Row, answers: &mut Answers) {
+    let alloc = answers.alloc;
+    let words = answers.read(row.texts(alloc, "words"), Vec::new(alloc));
     if row.has("parser_text_is") {
-        say_parsed(&words, answers)?;
+        say_parsed(&words, answers);
     }
-    match Cli::from_words(answers.alloc, &words) {
+    match Cli::from_words(alloc, &words) {
         Ok(cli) => taken(row, &cli, answers),
         Err(refusal) => say_refusal(row, &refusal, answers),
     }
-    Ok(())
 }

@@ -1,4 +1,5 @@
-//! Asks the rows of runs, of the program, and of what a user tells it: command lines, configuration files.
+//! Asks the rows of runs, of the program, and of what a user tells it: command lines, configuration
+//! files.
 #![tactic(auto)]
 
 mod command_lines;

@@ -1,11 +1,11 @@
 //! Rows of a walk's notes: their lines, by how often `--verbose` was given.
 use log::sink::Lines;
-use std::alloc::Global;
-use test_rows::{Answers, Asked, KINDS, Members, Page, Row, RowError, text_of};
+use test_rows::{Answers, KINDS, Members, Page, Row, RowError, text_of};
 use tokei::{Note, NoteKind, Text};
 use tokei_program::log_notes;
 
-/// The members of these rows: the notes, each by its kind and place, and how often `--verbose` was given.
+/// The members of these rows: the notes, each by its kind and place, and how often `--verbose` was
+/// given.
 pub const MEMBERS: Members = Members {
     given: &["verbose", "notes"],
     wanted: &["lines"],
@@ -23,52 +23,43 @@ fn kind_of(word: &str) -> Option<NoteKind> {
     None
 }
 
-/// The note that a text tells.
-fn note(alloc: Global, text: &str) -> Result<Note, RowError> {
+/// Adds the note that a text tells.
+fn push_note(notes: &mut Vec<Note>, text: &str, answers: &mut Answers) {
     let Some((word, place)) = text.split_once(' ') else {
-        return Err(RowError::Kind("notes", "a list of notes with a place"));
+        return answers.fail(RowError::Kind("notes", "a list of notes with a place"));
     };
     let Some(kind) = kind_of(word) else {
-        return Err(RowError::Kind("notes", "a list of kinds of notes"));
+        return answers.fail(RowError::Kind("notes", "a list of kinds of notes"));
     };
-    let place = Text::from_str(alloc, place)?;
-    Ok(Note { kind, place })
-}
-
-/// The notes of a row.
-fn notes(alloc: Global, row: &Row) -> Result<Vec<Note>, RowError> {
-    let mut notes = Vec::new(alloc);
-    for value in row.list("notes")? {
-        notes.push(note(alloc, text_of("notes", value)?)?)?;
+    if let Some(place) = answers.got(Text::from_str(answers.alloc, place)) {
+        answers.done(notes.push(Note { kind, place }));
     }
-    Ok(notes)
 }
 
 /// How often `--verbose` was given.
-fn verbose(row: &Row) -> Result<u8, RowError> {
-    match u8::try_from(row.number("verbose")?) {
-        Ok(verbose) => Ok(verbose),
-        Err(_) => Err(RowError::Kind("verbose", "a number below 256")),
+fn verbose(row: &Row, answers: &mut Answers) -> u8 {
+    match u8::try_from(answers.read(row.number("verbose"), 0)) {
+        Ok(verbose) => verbose,
+        Err(_) => {
+            answers.fail(RowError::Kind("verbose", "a number below 256"));
+            0
+        }
     }
-}
-
-/// The lines of a row's notes.
-fn logged(alloc: Global, row: &Row) -> Result<Lines, RowError> {
-    let verbose = verbose(row)?;
-    let notes = notes(alloc, row)?;
-    let mut lines = Lines::new(alloc);
-    log_notes(notes.as_slice(), verbose, &mut lines)?;
-    Ok(lines)
 }
 
 /// What the calls answer.
-pub fn came(_asked: &Asked, row: &Row, answers: &mut Answers) -> Result<(), RowError> {
-    let lines = logged(answers.alloc, row)?;
+pub fn came(row: &Row, answers: &mut Answers) {
+    let verbose = verbose(row, answers);
+    let mut notes = Vec::new(answers.alloc);
+    for value in answers.list(row, "notes") {
+        let text = answers.read(text_of("notes", value), "");
+        push_note(&mut notes, text, answers);
+    }
+    let mut lines = Lines::new(answers.alloc);
+    answers.done(log_notes(notes.as_slice(), verbose, &mut lines));
     let mut page = Page::new(answers.alloc);
     for line in lines.as_slice() {
-        page.put(line.as_str());
-        page.put("\n");
+        page.put_all(&[line.as_str(), "\n"]);
     }
     answers.say_page("lines", &page);
-    Ok(())
 }

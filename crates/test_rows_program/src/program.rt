@@ -1,10 +1,9 @@
 //! Rows of the program over folders in memory: how it ends, and what it writes.
 use crate::reports::{say_first_words, say_lines, say_narrowed};
-use std::alloc::Global;
 use std::str::from_utf8;
-use test_rows::{Answers, Asked, Members, Row, RowError, Said, add_texts, folders_of};
+use test_rows::{Answers, Members, Row, RowError, Said, add_texts, folders_of};
 use test_table::bench_json;
-use tokei::{Counted, Folders, MemoryFolders, Sink, Source};
+use tokei::{Counted, FailingFolders, MemoryFolders, Sink, Source};
 use tokei_program::{Env, program};
 
 /// The members of these rows. `languages.json` beside the row's files is the bench table, unless
@@ -44,11 +43,11 @@ pub const MEMBERS: Members = Members {
     by_table: false,
 };
 
-/// The text of a member as an owned one, where the row has it.
-fn owned(alloc: Global, row: &Row, member: &'static str) -> Result<Option<String>, RowError> {
-    match row.text_if(member)? {
-        None => Ok(None),
-        Some(text) => Ok(Some(String::from_str(alloc, text)?)),
+/// A text as an owned one, where there is one.
+fn owned(text: Option<&str>, answers: &mut Answers) -> Option<String> {
+    match text {
+        Some(text) => answers.got(String::from_str(answers.alloc, text)),
+        None => None,
     }
 }
 
@@ -56,139 +55,114 @@ fn owned(alloc: Global, row: &Row, member: &'static str) -> Result<Option<String
 const HIDDEN_TABLE: &str = ".table.json";
 
 /// Whether the table of a row stands there.
-fn has_hidden_table(row: &Row) -> Result<bool, RowError> {
-    Ok(row.has("table_json") || row.flag("hidden_table")?)
+fn has_hidden_table(row: &Row, answers: &mut Answers) -> bool {
+    row.has("table_json") || answers.flag(row, "hidden_table")
 }
 
 /// The variables of a row.
-fn variables(alloc: Global, row: &Row) -> Result<Env, RowError> {
-    let xdg_config_home = owned(alloc, row, "xdg_config_home")?;
-    let home = owned(alloc, row, "home")?;
-    let table = if has_hidden_table(row)? {
-        Some(String::from_str(alloc, HIDDEN_TABLE)?)
+fn variables(row: &Row, answers: &mut Answers) -> Env {
+    let xdg_config_home = answers.text_if(row, "xdg_config_home");
+    let home = answers.text_if(row, "home");
+    let table = if has_hidden_table(row, answers) {
+        Some(HIDDEN_TABLE)
     } else {
-        owned(alloc, row, "table")?
+        answers.text_if(row, "table")
     };
-    Ok(Env {
-        xdg_config_home,
-        home,
-        table,
-    })
+    Env {
+        xdg_config_home: owned(xdg_config_home, answers),
+        home: owned(home, answers),
+        table: owned(table, answers),
+    }
 }
 
-/// Adds the table of a row, where it has one.
-fn add_table(folders: &mut MemoryFolders, row: &Row) -> Result<(), RowError> {
-    let place = if has_hidden_table(row)? {
-        HIDDEN_TABLE
-    } else {
-        "languages.json"
-    };
-    let bytes = match row.text_if("table_json")? {
-        Some(text) => text.as_bytes(),
-        None => bench_json(),
-    };
-    if !row.flag("without_table")? && folders.add_file(place, bytes).is_err() {
-        return Err(RowError::Memory);
+/// Adds the table of a row, unless it has none.
+fn add_table(folders: &mut MemoryFolders, row: &Row, answers: &mut Answers) {
+    if !answers.flag(row, "without_table") {
+        let place = if has_hidden_table(row, answers) {
+            HIDDEN_TABLE
+        } else {
+            "languages.json"
+        };
+        let bytes = match answers.text_if(row, "table_json") {
+            Some(text) => text.as_bytes(),
+            None => bench_json(),
+        };
+        if folders.add_file(place, bytes).is_err() {
+            answers.fail(RowError::Memory);
+        }
     }
-    Ok(())
 }
 
 /// The folders of a row, with its table and the files beside in them.
-pub fn around(alloc: Global, row: &Row) -> Result<MemoryFolders, RowError> {
-    let mut folders = folders_of(alloc, row)?;
-    add_table(&mut folders, row)?;
-    if let Some(beside) = row.table_if("beside")? {
-        add_texts(&mut folders, &beside)?;
+fn around(row: &Row, answers: &mut Answers) -> MemoryFolders {
+    let alloc = answers.alloc;
+    let mut folders = answers.read(folders_of(alloc, row), MemoryFolders::new(alloc));
+    add_table(&mut folders, row, answers);
+    if let Some(beside) = answers.read(row.table_if("beside"), None) {
+        answers.done(add_texts(&mut folders, &beside));
     }
-    Ok(folders)
+    folders
 }
 
-/// The status of the program with a row's words over these folders.
-pub fn status<F: Folders, S: Source, W: Sink, E: Sink>(
-    alloc: Global,
+/// The status of the program with a row's words over its folders, which fail behind so many calls.
+pub fn status<S: Source, W: Sink>(
     row: &Row,
-    folders: &mut F,
+    calls: u64,
     input: &mut S,
     out: &mut W,
-    err: &mut E,
-) -> Result<u8, RowError> {
-    let words = row.texts(alloc, "words")?;
-    let env = variables(alloc, row)?;
-    Ok(program(alloc, &words, &env, folders, input, out, err))
+    err: &mut W,
+    answers: &mut Answers,
+) -> u8 {
+    let alloc = answers.alloc;
+    let words = answers.read(row.texts(alloc, "words"), Vec::new(alloc));
+    let env = variables(row, answers);
+    let mut folders = FailingFolders::new(around(row, answers), calls);
+    program(alloc, &words, &env, &mut folders, input, out, err)
 }
 
 /// How a run of the program ended, and what it wrote.
-#[derive(Drop)]
-struct Outcome {
+#[derive(Clone, Copy)]
+struct Outcome<'a> {
     status: u8,
-    out: Vec<u8>,
-    err: Vec<u8>,
-}
-
-/// Runs the program.
-fn ended(alloc: Global, row: &Row) -> Result<Outcome, RowError> {
-    let mut input = Counted::new(row.text_if("input")?.unwrap_or("").as_bytes());
-    let mut out = Counted::new(Vec::new(alloc));
-    let mut err = Counted::new(Vec::new(alloc));
-    let mut folders = around(alloc, row)?;
-    let status = status(alloc, row, &mut folders, &mut input, &mut out, &mut err)?;
-    Ok(Outcome {
-        status,
-        out: out.inner,
-        err: err.inner,
-    })
+    out: &'a [u8],
+    err: &'a [u8],
 }
 
 /// The text that bytes are.
-fn text_of<'a>(member: &'static str, bytes: &'a [u8]) -> Result<&'a str, RowError> {
+fn text_of<'a>(member: &'static str, bytes: &'a [u8], answers: &mut Answers) -> &'a str {
     match from_utf8(bytes) {
-        Ok(text) => Ok(text),
-        Err(_) => Err(RowError::Kind(member, "what came: that is no text")),
+        Ok(text) => text,
+        Err(_) => {
+            answers.fail(RowError::Kind(member, "what came: that is no text"));
+            ""
+        }
     }
 }
 
-/// Answers what stands on standard output.
-fn say_out(row: &Row, text: &str, answers: &mut Answers) -> Result<(), RowError> {
-    if row.has("out") {
-        answers.say("out", Said::Text(text));
-    }
-    if row.has("out_begins") {
-        answers.say_begun("out_begins", text);
-    }
-    if row.has("out_has") {
-        answers.say_standing("out_has", text);
-    }
-    if row.has("out_lacks") {
-        answers.say_absent("out_lacks", text);
-    }
-    if row.has("out_first_words") {
-        say_first_words(text, answers);
-    }
-    if let Some(wanted) = row.table_if("out_lines")? {
-        say_lines(text, &wanted, answers);
-    }
-    if let Some(wider) = row.number_if("wider")? {
-        say_narrowed(text, wider, answers);
-    }
-    Ok(())
-}
-
-/// Answers what stands on standard error.
-fn say_err(row: &Row, text: &str, answers: &mut Answers) {
-    if row.has("err") {
-        answers.say("err", Said::Text(text));
-    }
-    if row.has("err_has") {
-        answers.say_standing("err_has", text);
+/// Answers for a member of a row by what stands on standard output and standard error.
+fn say_member(row: &Row, member: &str, out: &str, err: &str, answers: &mut Answers) {
+    match member {
+        "out" => answers.say("out", Said::Text(out)),
+        "out_begins" => answers.say_begun("out_begins", out),
+        "out_has" => answers.say_standing("out_has", out),
+        "out_lacks" => answers.say_absent("out_lacks", out),
+        "out_first_words" => say_first_words(out, answers),
+        "out_lines" => say_lines(out, row, answers),
+        "wider" => say_narrowed(out, row, answers),
+        "err" => answers.say("err", Said::Text(err)),
+        "err_has" => answers.say_standing("err_has", err),
+        _ => {}
     }
 }
 
 /// Answers how a run of the program ended.
-fn say(row: &Row, ended: &Outcome, answers: &mut Answers) -> Result<(), RowError> {
+fn say(row: &Row, ended: &Outcome, answers: &mut Answers) {
     answers.say("status", Said::Number(ended.status as u128));
-    say_out(row, text_of("out", &ended.out)?, answers)?;
-    say_err(row, text_of("err", &ended.err)?, answers);
-    Ok(())
+    let out = text_of("out", ended.out, answers);
+    let err = text_of("err", ended.err, answers);
+    for (member, _) in row.members {
+        say_member(row, member.as_str(), out, err, answers);
+    }
 }
 
 /// Whether bytes are the line of a run that memory ended, or a beginning without it.
@@ -198,21 +172,30 @@ fn is_line_without_memory(err: &[u8]) -> bool {
         || err == "Error: the output can't be written: out of memory\n".as_bytes()
 }
 
-/// Whether a run that should have succeeded was ended by memory, and its output is the beginning of what is wanted. The
-/// writers are in memory too, and have a fault where their own allocation fails.
-fn is_without_memory(row: &Row, ended: &Outcome) -> Result<bool, RowError> {
-    let out = row.text_if("out")?.unwrap_or("").as_bytes();
-    if ended.status != 1 || row.number("status")? != 0 {
-        return Ok(false);
-    }
-    Ok(out.starts_with(&ended.out) && is_line_without_memory(&ended.err))
+/// Whether a run that should have succeeded was ended by memory, and its output is the beginning
+/// of what is wanted. The writers are in memory too, and have a fault where their own allocation
+/// fails.
+fn is_without_memory(row: &Row, ended: &Outcome, answers: &mut Answers) -> bool {
+    let out = answers.text_if(row, "out").unwrap_or("").as_bytes();
+    ended.status == 1
+        && answers.read(row.number("status"), 0) == 0
+        && out.starts_with(ended.out)
+        && is_line_without_memory(ended.err)
 }
 
 /// What a run of the program answers.
-pub fn came(_asked: &Asked, row: &Row, answers: &mut Answers) -> Result<(), RowError> {
-    let ended = ended(answers.alloc, row)?;
-    if is_without_memory(row, &ended)? {
-        return Err(RowError::Memory);
+pub fn came(row: &Row, answers: &mut Answers) {
+    let mut input = Counted::new(answers.text_if(row, "input").unwrap_or("").as_bytes());
+    let mut out = Counted::new(Vec::new(answers.alloc));
+    let mut err = Counted::new(Vec::new(answers.alloc));
+    let ended = Outcome {
+        status: status(row, u64::MAX, &mut input, &mut out, &mut err, answers),
+        out: out.inner.as_slice(),
+        err: err.inner.as_slice(),
+    };
+    if is_without_memory(row, &ended, answers) {
+        answers.fail(RowError::Memory);
+    } else {
+        say(row, &ended, answers);
     }
-    say(row, &ended, answers)
 }

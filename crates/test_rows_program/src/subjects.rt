@@ -49,26 +49,21 @@ impl Subject for Rows {
             Rows::CommandLines => command_lines::MEMBERS,
             Rows::ConfigurationFiles => configuration_files::MEMBERS,
             Rows::Notes => notes::MEMBERS,
-            Rows::Program => program::MEMBERS,
             Rows::ProgramFaults => program_faults::MEMBERS,
-            Rows::ReportOrders => program::MEMBERS,
-            Rows::ReportWidths => program::MEMBERS,
-            Rows::RunSums => program::MEMBERS,
-            Rows::Runs => program::MEMBERS,
+            Rows::Program | Rows::ReportOrders | Rows::ReportWidths | Rows::RunSums | Rows::Runs =>
+                program::MEMBERS,
         }
     }
 
     fn ask(&self, asked: &Asked, row: &Row, answers: &mut Answers) -> Result<(), RowError> {
         match *self {
-            Rows::CommandLines => command_lines::came(asked, row, answers),
+            Rows::CommandLines => command_lines::came(row, answers),
             Rows::ConfigurationFiles => configuration_files::came(asked, row, answers),
-            Rows::Notes => notes::came(asked, row, answers),
-            Rows::Program => program::came(asked, row, answers),
-            Rows::ProgramFaults => program_faults::came(asked, row, answers),
-            Rows::ReportOrders => program::came(asked, row, answers),
-            Rows::ReportWidths => program::came(asked, row, answers),
-            Rows::RunSums => program::came(asked, row, answers),
-            Rows::Runs => program::came(asked, row, answers),
+            Rows::Notes => notes::came(row, answers),
+            Rows::ProgramFaults => program_faults::came(row, answers),
+            Rows::Program | Rows::ReportOrders | Rows::ReportWidths | Rows::RunSums | Rows::Runs =>
+                program::came(row, answers),
         }
+        Ok(())
     }
 }

@@ -18,7 +18,8 @@ fn say_readers(cli: &Cli, answers: &mut Answers) {
     answers.say_parts("readers");
 }
 
-/// Says the column to sort by, the inputs, the width, how often `-v` was given, and whether others were.
+/// Says the column to sort by, the inputs, the width, how often `-v` was given, and whether others
+/// were.
 fn say_options(cli: &Cli, answers: &mut Answers) {
     if let Some(sort) = &cli.sort {
         answers.put("sort", Said::Text(sort.as_str()));
@@ -34,7 +35,8 @@ fn say_options(cli: &Cli, answers: &mut Answers) {
     answers.say_parts("options");
 }
 
-/// Answers what a command line holds that is taken: of the members that the row has, or all as `Debug` shows them.
+/// Answers what a command line holds that is taken: of the members that the row has, or all as
+/// `Debug` shows them.
 pub fn taken(row: &Row, cli: &Cli, answers: &mut Answers) {
     if row.has("readers") {
         say_readers(cli, answers);
