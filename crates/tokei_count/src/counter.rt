@@ -7,7 +7,7 @@ ghost use Rattle.tokei_parts.specs.Matchers.{matchers_of};
 
 use std::alloc::{AllocError, Global};
 use std::marker::Model;
-use tokei_parts::{LanguageMatchers, SharedMatchers, all_matchers};
+use tokei_parts::{SharedMatchers, TableMatchers};
 use tokei_table::{LanguageTable, LanguageType};
 
 /// Counts texts in the languages of a table, which it borrows, with matchers of each of them.
@@ -15,7 +15,7 @@ use tokei_table::{LanguageTable, LanguageType};
 #[derive(Drop)]
 pub struct Counter<'a> {
     table: &'a LanguageTable,
-    matchers: Vec<LanguageMatchers>,
+    matchers: TableMatchers,
     /// The language of doc comments, where the table has it.
     markdown: Option<LanguageType>,
 }
@@ -31,7 +31,7 @@ impl<'a> Model for Counter<'a> {
 
     ghost view = { λ c. c.table.now };
 
-    ghost invariant = { λ c. (c.matchers.items ≡ map matchers_of c.table.now)
+    ghost invariant = { λ c. (c.matchers ≡ map matchers_of c.table.now)
         × IsWellFormed c.table.now
         × (c.markdown ≡ first_where (has_name (codes "Markdown")) c.table.now) };
 }
@@ -41,7 +41,7 @@ impl<'a> Counter<'a> {
     pub fn new(alloc: Global, table: &'a LanguageTable) -> Result<Counter<'a>, AllocError>
         ensures { IfOk result (λ c. c ≡ table.now) }
     {
-        let matchers = all_matchers(alloc, table)?;
+        let matchers = TableMatchers::new(alloc, table)?;
         let markdown = LanguageType::from_name(table, "Markdown");
         Ok(Counter {
             table,
@@ -63,7 +63,7 @@ impl<'a> Counter<'a> {
         requires { language < length self.now }
         ensures { result.now ≡ openers (row_at self.entry.now language) }
     {
-        self.matchers[language.index()].shared()
+        self.matchers.of(language).shared()
     }
 
     /// The language of doc comments, where the table has it.
@@ -74,7 +74,7 @@ impl<'a> Counter<'a> {
     }
 
     /// The matchers of each language of the table, in its order.
-    pub(crate) fn matchers_by_language(&self) -> &[LanguageMatchers]
+    pub(crate) fn matchers_by_language(&self) -> &TableMatchers
         ensures { result.now ≡ map matchers_of self.entry.now }
     {
         &self.matchers

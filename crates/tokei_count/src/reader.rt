@@ -3,7 +3,7 @@ ghost use Rattle.std.specs.Prelude.{◌≡◌, codes};
 ghost use Rattle.tokei_table.specs.Lookups.{first_where, has_name};
 
 use std::alloc::Global;
-use tokei_parts::LanguageMatchers;
+use tokei_parts::TableMatchers;
 use tokei_table::{LanguageTable, LanguageType};
 
 /// How the texts of a table's languages are read.
@@ -12,7 +12,7 @@ pub(crate) struct Reader<'a> {
     pub alloc: Global,
     pub table: &'a LanguageTable,
     /// What texts are searched and walked with, by language.
-    pub matchers: &'a [LanguageMatchers],
+    pub matchers: &'a TableMatchers,
     /// The language of doc comments, where the table has it: it is looked up once, and not for each
     /// of them.
     pub markdown: &'a Option<LanguageType>,

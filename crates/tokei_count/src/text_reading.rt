@@ -444,7 +444,7 @@ pub(crate) fn read_text<'a>(
     if is_notebook(syntax) {
         return read_notebook(reader, language, text, levels);
     }
-    let matchers = &reader.matchers[language.index()];
+    let matchers = reader.matchers.of(language);
     let reading = Reading {
         table: reader.table,
         language,

@@ -1,4 +1,5 @@
 pub mod Ahead
+pub mod AlikeRows
 pub mod Blocks
 pub mod ByteFlags
 pub mod CalmPlaces

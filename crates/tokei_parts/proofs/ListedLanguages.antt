@@ -5,7 +5,7 @@ use Rattle.std.specs.Borrow.{Bor}
 use Rattle.std.specs.Global.{Global}
 use Rattle.std.proofs.Math.Seq.{take-suc}
 use Rattle.std.proofs.Math.ListN.{get_or-map}
-use Rattle.std.proofs.lemmas.List.{map-append, length-map}
+use Rattle.std.proofs.lemmas.List.{map-append, length-map, length-take, get_or-take, get_or_default}
 use Rattle.tokei_table.specs.Row.{Row}
 use Rattle.tokei_table.specs.NewRow.{new_row}
 use Rattle.tokei_table.specs.Lookups.{row_at}
@@ -66,3 +66,13 @@ listed_all rows items e = same_length rows items e ∙ counted 0 rows
     counted : (n : ℕ) (rs : List Row) → length (languages_from n rs) ≡ length rs
     counted n [] = refl
     counted n (r ∷ rs) = ap suc (counted (n + 1) rs)
+
+-- where the first ones of a table have theirs, so has one of them
+pub made_before : (rows : List Row) (all : List Matchers) (next k : ℕ) (d : Matchers) → all ≡ map matchers_of (take next rows) → next < length rows → k < length all
+    → slice_index_or all k d ≡ matchers_of (row_at rows k)
+made_before rows all next k d e known made =
+    let few : k < next = omega (arith, made, ap length e, length-map (take next rows) matchers_of, length-take next rows) in
+    get_or_default all k d (matchers_of (new_row [])) made
+    ∙ ap (λ ms. slice_index_or ms k (matchers_of (new_row []))) e
+    ∙ get_or-map matchers_of (take next rows) k (new_row [])
+    ∙ ap matchers_of (get_or-take next rows k (new_row []) few)

@@ -1,5 +1,6 @@
 -- What contracts say of the parts of a text: its items, the choice at a place, the class of each
 -- part, the children.
+pub mod Alike
 pub mod Calm
 pub mod Choice
 pub mod Class
@@ -28,5 +29,6 @@ pub mod RustChildren
 pub mod Seen
 pub mod SeenChoices
 pub mod Stretches
+pub mod TableMatchers
 pub mod Tally
 pub mod Walked

@@ -5,6 +5,7 @@
 //! and the row of the text's language; a walk over a part makes one choice after another.
 #![tactic(auto)]
 
+mod alike;
 mod beginnings;
 mod calm;
 mod choice;
@@ -18,6 +19,7 @@ mod place;
 mod plain_bytes;
 mod reading;
 mod shared_matchers;
+mod table_matchers;
 mod walk;
 
 pub use calm::calm_end;
@@ -25,9 +27,10 @@ pub use class::{Class, class_of_plain, class_within};
 pub use glance::next_opener;
 pub use items::Enclosure;
 pub use line_ends::{line_end, line_front, line_len, line_stop, newline_before};
-pub use matchers::{LanguageMatchers, all_matchers};
+pub use matchers::LanguageMatchers;
 pub use openings::Block;
 pub use place::Place;
 pub use reading::Reading;
 pub use shared_matchers::SharedMatchers;
+pub use table_matchers::TableMatchers;
 pub use walk::{PartEnd, PartRead, innermost, read_part};

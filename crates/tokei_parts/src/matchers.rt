@@ -136,43 +136,26 @@ impl LanguageMatchers {
     }
 }
 
-/// Adds the matchers of a language of the table to those of others. It fails where memory runs out.
-fn push_matchers(
-    all: &mut Vec<LanguageMatchers>,
-    alloc: Global,
-    table: &LanguageTable,
-    language: LanguageType,
-) -> Result<(), AllocError>
-    requires { language < length table.now }
-    ensures { IfOk result (λ _. all.new.items
-        ≡ all.old.items ++ matchers_of (row_at table.now language) ∷ []) }
-{
-    let shared = SharedMatchers::new(alloc, table, language)?;
-    let syntax = table.syntax(language);
-    let begins = beginnings(syntax);
-    let begins_in_comment = beginnings_in_comment(syntax);
-    let family = Family::of_key(syntax.key.as_str());
-    all.push(LanguageMatchers {
-        shared,
-        begins,
-        begins_in_comment,
-        family,
-    })?;
-    Ok(())
-}
-
-/// The matchers of each language of the table, in its order.
-pub fn all_matchers(
-    alloc: Global,
-    table: &LanguageTable,
-) -> Result<Vec<LanguageMatchers>, AllocError>
-    ensures matchers { IfOk result (λ v. v.items ≡ map matchers_of table.now) }
-    ensures well_formed { IfOk result (λ v. IsWellFormed table.now) }
-{
-    let languages = LanguageType::list(alloc, table)?;
-    let mut all = Vec::with_capacity(alloc, table.len())?;
-    for (language, _) in languages.as_slice() {
-        push_matchers(&mut all, alloc, table, *language)?;
+impl LanguageMatchers {
+    /// The matchers of a language of the table. It fails where memory runs out.
+    pub(crate) fn new(
+        alloc: Global,
+        table: &LanguageTable,
+        language: LanguageType,
+    ) -> Result<LanguageMatchers, AllocError>
+        requires { language < length table.now }
+        ensures { IfOk result (λ m. m ≡ matchers_of (row_at table.now language)) }
+    {
+        let shared = SharedMatchers::new(alloc, table, language)?;
+        let syntax = table.syntax(language);
+        let begins = beginnings(syntax);
+        let begins_in_comment = beginnings_in_comment(syntax);
+        let family = Family::of_key(syntax.key.as_str());
+        Ok(LanguageMatchers {
+            shared,
+            begins,
+            begins_in_comment,
+            family,
+        })
     }
-    Ok(all)
 }

@@ -175,14 +175,19 @@ read_notebook-returns-clause-steps t c =
     ∙ sym (ap capped (steps-notebook c.args.reader.skips c.args.reader.table.now c.args.levels c.args.language c.args.text.now c.requires.notebook some))
 
 pub read_text-invariant_of-reading-clause-matched : goal.read_text-invariant_of-reading-clause-matched
-read_text-invariant_of-reading-clause-matched t c = ap (λ ms. get_or ms c.index.result c.index-reader-index.result) c.requires.indexed
-    ∙ matchers_at c.args.reader.table.now c.args.language c.index.result c.index-reader-index.result c.index.ensures c.requires.known
+read_text-invariant_of-reading-clause-matched t c =
+    let d = c.of-matchers.result.now in
+    c.of-matchers.ensures d
+    ∙ ap (λ (ms : List Matchers). get_or ms c.args.language d) c.requires.indexed
+    ∙ matchers_at c.args.reader.table.now c.args.language c.args.language d refl c.requires.known
 
 pub read_text-invariant_of-reading-clause-opens : goal.read_text-invariant_of-reading-clause-opens
 read_text-invariant_of-reading-clause-opens t c =
+    let d = c.of-matchers.result.now in
     c.family.ensures
-    ∙ ap (λ (m : Matchers). m.family) (ap (λ ms. get_or ms c.index.result c.index-reader-index.result) c.requires.indexed
-    ∙ matchers_at c.args.reader.table.now c.args.language c.index.result c.index-reader-index.result c.index.ensures c.requires.known)
+    ∙ ap (λ (m : Matchers). m.family)
+    (c.of-matchers.ensures d ∙ ap (λ (ms : List Matchers). get_or ms c.args.language d) c.requires.indexed
+    ∙ matchers_at c.args.reader.table.now c.args.language c.args.language d refl c.requires.known)
 
 pub read_child-read_text-requires : goal.read_child-read_text-requires
 read_child-read_text-requires t c = (
@@ -421,16 +426,9 @@ read_child-returns t c =
       overflow = λ is fits. e.overflow is (subst Fits (sym same) fits);
     }
 
-pub read_text-bounds-reader-index : goal.read_text-bounds-reader-index
-read_text-bounds-reader-index t c =
-    matchers_below c.args.reader.table.now c.args.reader.matchers.now c.args.language c.index.result c.index.ensures c.requires.indexed c.requires.known
-
-pub read_text-offset_bounds-reader-index : goal.read_text-offset_bounds-reader-index
-read_text-offset_bounds-reader-index t c =
-    omega (
-      arith,
-      matchers_below c.args.reader.table.now c.args.reader.matchers.now c.args.language c.index.result c.index.ensures c.requires.indexed c.requires.known,
-    )
+pub read_text-of-matchers-requires : goal.read_text-of-matchers-requires
+read_text-of-matchers-requires t c =
+    matchers_below c.args.reader.table.now c.args.reader.matchers.now c.args.language c.args.language refl c.requires.indexed c.requires.known
 
 pub read_text-new-so_far-requires : goal.read_text-new-so_far-requires
 read_text-new-so_far-requires t c = record {

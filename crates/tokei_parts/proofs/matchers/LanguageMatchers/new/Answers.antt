@@ -1,11 +1,11 @@
-use Rattle.std.proofs.Common.{◌≡◌, ◌∙◌, ◌++◌, ◌∷◌, [], ℕ, Bool, List, ap}
+use Rattle.std.proofs.Common.{◌≡◌, ◌∙◌, ℕ, Bool, List, ap}
 use Rattle.tokei_table.specs.Families.{family_of}
 use Rattle.tokei_table.specs.Family.{Family}
 use Rattle.tokei_table.specs.Lookups.{row_at}
 use Rattle.tokei_table.specs.Openers.{openers}
 use Rattle.tokei_table.specs.Row.{Row}
 use Rattle.tokei_parts.specs.Matchers.{Matchers, begins_choice, begins_in_comment, flags, matchers_of}
-use Rattle.tokei_parts.proofs.matchers.push_matchers.Goals as goal
+use Rattle.tokei_parts.proofs.matchers.LanguageMatchers.new.Goals as goal
 
 abbrev made : List (List ℕ) → List Bool → List Bool → Family → Matchers
 made os bs cs f = record { openers = os; begins = bs; begins_in_comment = cs; family = f }
@@ -21,9 +21,8 @@ pub returns : goal.returns
 returns c =
     let g : Row = row_at c.args.table.now c.args.language in
     let row_is = c.syntax-syntax.ensures.row in
-    let same = are_made g c.in_ok-shared.shared c.beginnings-begins.result c.beginnings_in_comment-begins_in_comment.result c.of_key-family.result
+    are_made g c.in_ok-shared.shared c.beginnings-begins.result c.beginnings_in_comment-begins_in_comment.result c.of_key-family.result
     c.in_ok-shared.ensures
     (c.beginnings-begins.ensures ∙ ap (λ (r : Row). flags (begins_choice r) 256) row_is)
     (c.beginnings_in_comment-begins_in_comment.ensures ∙ ap (λ (r : Row). flags (begins_in_comment r) 256) row_is)
-    (c.of_key-family.ensures ∙ ap family_of c.as_str.ensures.value ∙ ap (λ (r : Row). family_of r.key) row_is) in
-    c.in_ok-push.ensures.items ∙ ap (λ (m : Matchers). c.args.all.now.items ++ m ∷ []) same
+    (c.of_key-family.ensures ∙ ap family_of c.as_str.ensures.value ∙ ap (λ (r : Row). family_of r.key) row_is)
