@@ -64,7 +64,8 @@ static OPTIONS: [OptionRow; 19] = [
         action: ArgAction::Set,
         parser: None,
         other: Some("output"),
-        help: "How numbers are printed: plain (1234, the default), commas (1,234), dots (1.234) or underscores (1_234).",
+        help: "How numbers are printed: plain (1234, the default), commas (1,234), dots (1.234) or \
+               underscores (1_234).",
     },
     OptionRow {
         id: "output",
@@ -82,7 +83,8 @@ static OPTIONS: [OptionRow; 19] = [
         action: ArgAction::Set,
         parser: None,
         other: None,
-        help: "Writes a record of each file as it is counted (language, path, lines, blanks, code, comments): simple or json.",
+        help: "Writes a record of each file as it is counted (language, path, lines, blanks, code, \
+               comments): simple or json.",
     },
     OptionRow {
         id: "languages",
@@ -191,7 +193,8 @@ static OPTIONS: [OptionRow; 19] = [
         action: ArgAction::Set,
         parser: None,
         other: None,
-        help: "The file of the table of languages; without it the one installed with the program, else languages.json in the current folder.",
+        help: "The file of the table of languages; without it the one installed with the program, \
+               else languages.json in the current folder.",
     },
     OptionRow {
         id: "verbose",
