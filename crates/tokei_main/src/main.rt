@@ -2,10 +2,12 @@
 #![tactic(auto)]
 
 mod command_line;
+mod memory;
 mod surroundings;
 mod unstarted;
 
 use command_line::words;
+use memory::keep_freed_blocks;
 use std::io;
 use std::io::{BufWriter, Write};
 use std::process::ExitCode;
@@ -49,6 +51,7 @@ fn run_with_words(rt: &HostRuntime, words: &[&str], env: &Env) -> io::Result<Exi
 
 /// Runs the program with the words that it was started with, in its surroundings.
 fn run_program(rt: &HostRuntime) -> Result<ExitCode, Unstarted> {
+    keep_freed_blocks(rt.alloc());
     let all = words(rt)?;
     let words: Vec<&str> = all.iter().map(|word| word.as_str()).collect(rt.alloc())?;
     let env = env_of(rt)?;
