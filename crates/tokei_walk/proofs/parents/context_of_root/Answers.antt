@@ -18,7 +18,8 @@ returns-clause-told g c = λ t e.
     (c.read_over.ensures.levels t (c.folders_over.ensures.folders.same ∙ e)) c.read_over.ensures.names c.read_over.ensures.shown
 
 pub returns-then-not-settings-clause-told : goal.returns-then-not-settings-clause-told
-returns-then-not-settings-clause-told g c = λ t e. context_alone t c.args.settings.now.rules (names_of c.args.root.now) _ c.if-not-settings.true c.clear.ensures c.clear-2.ensures c.in_ok-context.ensures
+returns-then-not-settings-clause-told g c = λ t e.
+    context_alone t c.args.settings.now.rules (names_of c.args.root.now) _ c.if-not-settings.true c.clear.ensures c.clear-2.ensures c.in_ok-context.ensures
 
 pub returns-in_err-context-clause-notes : goal.returns-in_err-context-clause-notes
 returns-in_err-context-clause-notes g c = grows_same _ _ refl

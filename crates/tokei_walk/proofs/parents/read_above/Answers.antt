@@ -6,7 +6,8 @@ use Rattle.tokei_walk.proofs.parents.read_above.Goals as goal
 
 pub returns-clause-levels : goal.returns-clause-levels
 returns-clause-levels g c = λ t e.
-    subst (λ (p : List ℕ). OnOk c.read_level.result (c.read_level.new.levels ≡ c.args.context.now.levels ++ level_at t c.args.settings.now.rules (names_of p) ∷ []))
+    let r = c.args.settings.now.rules in
+    subst (λ (p : List ℕ). OnOk c.read_level.result (c.read_level.new.levels ≡ c.args.context.now.levels ++ level_at t r (names_of p) ∷ []))
     c.as_str-place.ensures (c.read_level.ensures.told t e)
 
 pub returns-clause-names : goal.returns-clause-names

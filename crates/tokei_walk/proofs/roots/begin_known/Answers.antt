@@ -58,3 +58,9 @@ returns-in_ok-enter_root-in-Some-Folder-clause-notes g c = c.enter_root.ensures.
 
 pub returns-in_ok-enter_root-in-Some-Folder-clause-folders : goal.returns-in_ok-enter_root-in-Some-Folder-clause-folders
 returns-in_ok-enter_root-in-Some-Folder-clause-folders g c = answers c.in_ok-enter_root-in-Some-Folder.ensures.folders
+
+pub returns-in_err-push-in-None-clause-notes : goal.returns-in_err-push-in-None-clause-notes
+returns-in_err-push-in-None-clause-notes g c = grows_same _ _ c.in_err-push-in-None.ensures.err
+
+pub returns-in_err-path-in-Some-File-clause-notes : goal.returns-in_err-path-in-Some-File-clause-notes
+returns-in_err-path-in-Some-File-clause-notes g c = grows_same _ _ refl

@@ -34,10 +34,10 @@ returns-clause-told g c = λ t e.
     c.in-Some.is (c.in_ok-listing.ensures.told t e) in
     let entries = ap (λ p. list_answer t (names_of p)) (sym c.as_str.ensures) ∙ told in
     let sought = c.sought_among-sought.ensures ∙ ap (listed x.rules) c.as_slice.ensures.value in
-    let walked = c.walk_root.ensures in
+    let walked = c.walk_root.ensures in let s = c.walk_root.new.stack in
     on_ok_by c.context_in_root.result
     (λ made left below.
-    root_walked x.excludes x.rules t (record { context = c.context_in_root.new.context; place = c.walk_root.new.stack.place; left = c.walk_root.new.stack.left; holders = c.walk_root.new.stack.holders })
+    root_walked x.excludes x.rules t (record { context = c.context_in_root.new.context; place = s.place; left = s.left; holders = s.holders })
     c.context_in_root.new.context c.sought_among-sought.result
     root c.as_str-place.result.now c.in-Some.listing.entries.items entries sought (c.as_str-place.ensures ∙ walked.place)
     made refl walked.place walked.entries walked.holders)
@@ -53,7 +53,11 @@ pub returns-clause-bounded : goal.returns-clause-bounded
 returns-clause-bounded g c =
     let s = c.walk_root.new.stack in
     on_ok c.context_in_root.result
-    (omega (arith, root_rank (record { context = c.context_in_root.new.context; place = s.place; left = s.left; holders = s.holders }) c.walk_root.ensures.holders c.walk_root.ensures.few))
+    (omega (
+      arith,
+      root_rank (record { context = c.context_in_root.new.context; place = s.place; left = s.left; holders = s.holders })
+          c.walk_root.ensures.holders c.walk_root.ensures.few,
+    ))
 
 pub returns-clause-notes : goal.returns-clause-notes
 returns-clause-notes g c = grows_on _ _ _ c.listing.ensures.notes c.context_in_root.ensures.notes

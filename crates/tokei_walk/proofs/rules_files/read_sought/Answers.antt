@@ -22,7 +22,8 @@ pub returns-clause-last : goal.returns-clause-last
 returns-clause-last g c = ap without_last c.in_ok-push.ensures.ok ∙ without_last-push c.args.levels.now _
 
 pub returns-in_err-push-clause-folders : goal.returns-in_err-push-clause-folders
-returns-in_err-push-clause-folders g c = refused c.from_residual-in_err-push.ensures.0 (c.patterns_of_two-2.ensures.folders.same ∙ c.patterns_of_two.ensures.folders.same)
+returns-in_err-push-clause-folders g c =
+    refused c.from_residual-in_err-push.ensures.0 (c.patterns_of_two-2.ensures.folders.same ∙ c.patterns_of_two.ensures.folders.same)
 
 pub returns-in_err-push-clause-notes : goal.returns-in_err-push-clause-notes
 returns-in_err-push-clause-notes g c = grows_on _ _ _ c.patterns_of_two.ensures.notes c.patterns_of_two-2.ensures.notes

@@ -26,7 +26,9 @@ returns-clause-told g c = λ t e.
     let listed_here = ap (λ p. list_answer t (names_of p)) (sym c.as_str.ensures) ∙ told in
     let sought = c.sought_among-sought.ensures ∙ ap (listed x.rules) c.as_slice.ensures.value in
     let at = c.as_str-place.ensures ∙ c.in_ok-push_folder.ensures.place in
-    let level = ap₂ (λ (s : Sought) (p : List ℕ). level_of t s (names_of p)) sought at ∙ level_listed t x.rules (names_of place) c.in-Some.listing.entries.items listed_here
+    let level =
+    ap₂ (λ (s : Sought) (p : List ℕ). level_of t s (names_of p)) sought at
+    ∙ level_listed t x.rules (names_of place) c.in-Some.listing.entries.items listed_here
     in record {
       entries_are = listed_here ∙ ap Ok (sym (c.in_ok-push_folder.ensures.entries ∙ c.from_vec.ensures));
       levels_are =

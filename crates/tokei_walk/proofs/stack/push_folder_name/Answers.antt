@@ -55,3 +55,6 @@ returns-then-dropped-clause-same c = λ q. ap (with_context c.args.stack.now) c.
 
 pub returns-then-len-ge256-clause-same : goal.returns-then-len-ge256-clause-same
 returns-then-len-ge256-clause-same c = λ q. ap (with_context c.args.stack.now) c.in_ok-dropped.ensures.context
+
+pub returns-in_err-push-clause-notes : goal.returns-in_err-push-clause-notes
+returns-in_err-push-clause-notes c = grows_same _ _ c.in_err-push.ensures.err
