@@ -37,7 +37,12 @@ fn first_char(text: &str) -> Option<(char, &str)>
 fn is_member(ranges: &[Range], c: char) -> bool
     ensures { result ≡ list_any (is_in_range c) ranges.now }
 {
-    ranges.iter().any(|range| range.low <= c && c <= range.high)
+    for range in ranges {
+        if range.low <= c && c <= range.high {
+            return true;
+        }
+    }
+    false
 }
 
 fn fits_character(piece: &Piece, c: char) -> bool

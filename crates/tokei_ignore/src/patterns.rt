@@ -133,7 +133,12 @@ fn closed(alloc: Global, mut segments: Items<Segment>) -> Result<Items<Segment>,
 fn holds_slash(chars: &[char]) -> bool
     ensures { result ≡ list_any is_slash chars.now }
 {
-    chars.iter().any(|c| *c == '/')
+    for c in chars {
+        if *c == '/' {
+            return true;
+        }
+    }
+    false
 }
 
 /// The segments in front of a pattern that no slash anchors.

@@ -1,5 +1,5 @@
 -- Folders that stay as they were over two calls.
-use Rattle.std.proofs.Common.{◌≡◌, ◌<◌, ℕ, Option, Result, Ok, Err, sym, ap, ◌∙◌, subst}
+use Rattle.std.proofs.Common.{◌≡◌, ◌<◌, ℕ, Option, Result, Ok, Err, OnOk, sym, ap, ◌∙◌, subst}
 use Rattle.std.specs.Prelude.{IsErr}
 use Rattle.tokei_folders.specs.declared.fs.Fault.{Fault}
 use Rattle.tokei_folders.specs.declared.fs.Fault.TheVariants.{Refused}
@@ -43,3 +43,17 @@ unharmed {faults = faults} {x = x} {y = y} {r = r} same stay = record { same = s
 -- a refused call has no fault that is counted
 pub refused_stays : {F A : Type 0} (faults : F → ℕ) (x y : F) (r : Result A Fault) → r ≡ Err Refused → (faults x < 18446744073709551615 → faults y ≡ counted r (faults x)) → FaultsStay faults x y
 refused_stays faults x y r is counts = λ few. counts few ∙ ap (λ q. counted q (faults x)) is
+
+-- what holds, also where a call answers
+pub on_ok : {B D : Type 0} {P : Type 0} (r : Result B D) → P → OnOk r P
+on_ok (Ok b) p = p
+on_ok (Err e) p = tt
+
+-- what follows from it where a call answers
+pub on_ok_by : {B D : Type 0} {P Q : Type 0} (r : Result B D) → (P → Q) → OnOk r P → OnOk r Q
+on_ok_by (Ok b) f p = f p
+on_ok_by (Err e) f p = tt
+
+pub on_ok_by3 : {B D : Type 0} {P Q S T : Type 0} (r : Result B D) → (P → Q → S → T) → OnOk r P → OnOk r Q → OnOk r S → OnOk r T
+on_ok_by3 (Ok b) f p q s = f p q s
+on_ok_by3 (Err e) f p q s = tt

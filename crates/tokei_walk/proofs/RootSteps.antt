@@ -65,9 +65,9 @@ unfolding root_context
 context_alone t r p c off levels names shown = same_context (levels ∙ if_off r.parents _ [] off) (names ∙ if_off r.parents p [] off) shown
 
 -- a context with one level more
-pub level_added : (c d : Context) (ls : List Level) (l m : Level) → c ≡ d → l ≡ m → ls ≡ c.levels ++ l ∷ [] → record { levels = ls; names = c.names; shown = c.shown } ≡ with_level d m
-level_added c d ls l m e f is =
-    same_context (is ∙ ap₂ (λ (x : Context) (y : Level). x.levels ++ y ∷ []) e f) (ap (λ (x : Context). x.names) e) (ap (λ (x : Context). x.shown) e)
+pub level_added : (c d : Context) (ls : List Level) (l : Level) → c ≡ d → ls ≡ c.levels ++ l ∷ [] → record { levels = ls; names = c.names; shown = c.shown } ≡ with_level d l
+level_added c d ls l e is =
+    same_context (is ∙ ap (λ (x : Context). x.levels ++ l ∷ []) e) (ap (λ (x : Context). x.names) e) (ap (λ (x : Context). x.shown) e)
 
 -- a root that is listed and walked
 pub root_walked : (xs : List Pattern) (r : Rules) (t : Tree) (s : Stack) (c : Context) (q : Sought) (root at : List ℕ) (es : List Entry)

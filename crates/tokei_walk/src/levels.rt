@@ -146,9 +146,12 @@ fn decided(levels: &[Level], names: &[Text], is_folder: bool) -> Option<Verdict>
 fn is_excluded(excludes: &[Pattern], shown: &[Text], is_folder: bool) -> bool
     ensures { result ≡ excluded_by excludes.now shown.now is_folder }
 {
-    excludes
-        .iter()
-        .any(|pattern| pattern.fits(shown, is_folder))
+    for pattern in excludes {
+        if pattern.fits(shown, is_folder) {
+            return true;
+        }
+    }
+    false
 }
 
 fn begins_dotted(name: &str) -> bool

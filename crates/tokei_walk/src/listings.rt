@@ -41,8 +41,9 @@ fn note_lost(
     ensures notes { Grows notes.old notes.new }
 {
     for name in lost {
-        let whole = joined(alloc, place, name.as_str())?;
-        note(alloc, notes, NoteKind::LostEntry, whole.as_str())?;
+        let place = joined(alloc, place, name.as_str())?;
+        let kind = NoteKind::LostEntry;
+        notes.push(Note { kind, place })?;
     }
     Ok(())
 }

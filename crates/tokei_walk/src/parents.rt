@@ -55,11 +55,10 @@ fn read_above<F: Folders>(
     ensures levels { Told (F.tree folders.old) (λ t. OnOk result (context.new.levels
         ≡ context.old.levels ++ level_at t settings.now.rules (names_of above.place) ∷ [])) }
 {
-    let place = above.place.as_str();
-    let level = read_level(settings.alloc, folders, notes, &settings.rules, place)?;
-    context.levels.push(level)?;
     context.names.push(above.name)?;
-    Ok(())
+    let place = above.place.as_str();
+    let (alloc, rules) = (settings.alloc, &settings.rules);
+    read_level(alloc, folders, notes, rules, place, &mut context.levels)
 }
 
 /// Reads the rules of the folders above, from the top down, with the names that lead down.
@@ -83,29 +82,25 @@ fn read_over<F: Folders>(
     Ok(())
 }
 
-/// The context of a root's entries, but for the rules of the root itself.
+/// Makes the context that of a root's entries, but for the rules of the root itself.
 pub fn context_of_root<F: Folders>(
     settings: &Settings,
     folders: &mut F,
     notes: &mut Items<Note>,
     root: &str,
-) -> Result<Context, AllocError>
+    context: &mut Context,
+) -> Result<(), AllocError>
     ensures folders { AsTheyWere F.tree F.memory_faults folders.old folders.new result }
     ensures notes { Grows notes.old notes.new }
-    ensures told { Told (F.tree folders.old) (λ t. IfOk result
-        (λ c. c ≡ root_context t settings.now.rules (names_of root.now))) }
+    ensures told { Told (F.tree folders.old) (λ t. OnOk result
+        (context.new ≡ root_context t settings.now.rules (names_of root.now))) }
 {
-    let alloc = settings.alloc;
-    let shown = names(alloc, root)?;
-    let mut context = Context {
-        levels: Items::new(alloc),
-        names: Items::new(alloc),
-        shown,
-    };
+    context.levels.clear();
+    context.names.clear();
+    context.shown = names(settings.alloc, root)?;
     if !settings.rules.parents {
-        return Ok(context);
+        return Ok(());
     }
-    let found = folders_over(alloc, folders, notes, root)?;
-    read_over(settings, folders, notes, found, &mut context)?;
-    Ok(context)
+    let found = folders_over(settings.alloc, folders, notes, root)?;
+    read_over(settings, folders, notes, found, context)
 }

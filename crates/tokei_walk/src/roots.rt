@@ -14,7 +14,7 @@ use crate::kept_file::{KeptFile, Note, NoteKind};
 use crate::levels::Context;
 use crate::listings::listing;
 use crate::parents::context_of_root;
-use crate::rules_files::{Sought, note, read_sought, sought_among};
+use crate::rules_files::{Sought, read_sought, sought_among};
 use crate::stack::{Settings, Stack};
 use std::alloc::{AllocError, Global};
 use tokei_folders::{Entry, Fault, Folders, Items, Kind, Text};
@@ -30,30 +30,36 @@ pub fn copied_roots(alloc: Global, roots: &[String]) -> Result<Items<Text>, Allo
     Ok(copies)
 }
 
-/// The context of a root's entries, with the rules of the root itself, by those of its ignore files
-/// that are sought.
+/// Makes the context that of a root's entries, with the rules of the root itself, by those of its
+/// ignore files that are sought.
 fn context_in_root<F: Folders>(
     settings: &Settings,
     folders: &mut F,
     notes: &mut Items<Note>,
     sought: Sought,
     root: &str,
-) -> Result<Context, AllocError>
+    context: &mut Context,
+) -> Result<(), AllocError>
     ensures folders { AsTheyWere F.tree F.memory_faults folders.old folders.new result }
     ensures notes { Grows notes.old notes.new }
-    ensures told { Told (F.tree folders.old) (λ t. IfOk result (λ c. c
+    ensures told { Told (F.tree folders.old) (λ t. OnOk result (context.new
         ≡ with_level (root_context t settings.now.rules (names_of root.now))
         (level_of t sought (names_of root.now)))) }
 {
-    let mut context = context_of_root(settings, folders, notes, root)?;
-    let level = read_sought(settings.alloc, folders, notes, sought, root)?;
-    context.levels.push(level)?;
-    Ok(context)
+    context_of_root(settings, folders, notes, root, context)?;
+    read_sought(
+        settings.alloc,
+        folders,
+        notes,
+        sought,
+        root,
+        &mut context.levels,
+    )
 }
 
-/// Walks a root with this context and these entries, in place of all that is walked.
-fn walk_root(stack: &mut Stack, context: Context, place: Text, entries: Vec<Entry>)
-    ensures context { stack.new.context ≡ context }
+/// Walks a root with these entries in place of all that is walked; its context is still to be made.
+fn walk_root(stack: &mut Stack, place: Text, entries: Vec<Entry>)
+    ensures context { stack.new.context ≡ stack.old.context }
     ensures place { stack.new.place ≡ place }
     ensures entries { reverse stack.new.left ≡ entries.items }
     ensures few { length stack.new.left < 2 ^ 64 }
@@ -61,7 +67,6 @@ fn walk_root(stack: &mut Stack, context: Context, place: Text, entries: Vec<Entr
 {
     let mut left = Items::from_vec(entries);
     left.reverse();
-    stack.context = context;
     stack.place = place;
     stack.left = left;
     stack.holders.clear();
@@ -89,9 +94,9 @@ fn enter_root<F: Folders>(
         return Ok(());
     };
     let sought = sought_among(&settings.rules, listing.entries.as_slice());
-    let context = context_in_root(settings, folders, notes, sought, root.as_str())?;
-    walk_root(stack, context, root, listing.entries);
-    Ok(())
+    walk_root(stack, root, listing.entries);
+    let place = stack.place.as_str();
+    context_in_root(settings, folders, notes, sought, place, &mut stack.context)
 }
 
 fn is_empty_place(text: &Text) -> bool
@@ -153,7 +158,8 @@ fn begin_known<F: Folders>(
     let Root { place, kind } = root;
     match kind {
         None => {
-            note(alloc, notes, NoteKind::MissingRoot, place.as_str())?;
+            let kind = NoteKind::MissingRoot;
+            notes.push(Note { kind, place })?;
             Ok(None)
         }
         Some(Kind::File) => {

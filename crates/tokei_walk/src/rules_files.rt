@@ -3,6 +3,7 @@ ghost use Rattle.std.specs.Prelude.{◌≡◌, ◌++◌, ◌&&◌, [], ◌∷◌
 ghost use Rattle.tokei_walk.specs.Notes.{Grows, bad_line_notes, ignore_notes};
 ghost use Rattle.tokei_folders.specs.Answers.{Told, node_kind};
 ghost use Rattle.tokei_folders.specs.AsTheyWere.{AsTheyWere};
+ghost use Rattle.tokei_folders.specs.Ends.{without_last};
 ghost use Rattle.tokei_folders.specs.Tree.{names_of, node_at};
 ghost use Rattle.tokei_walk.specs.Sought.{level_of, listed, lists as is_listed};
 ghost use Rattle.tokei_walk.specs.Levels.{patterns_at, level_at};
@@ -216,18 +217,20 @@ pub fn sought_among(rules: &Rules, entries: &[Entry]) -> Sought
     }
 }
 
-/// Reads the ignore files of a folder that are sought.
+/// Reads the ignore files of a folder that are sought, and adds its rules to those of others.
 pub fn read_sought<F: Folders>(
     alloc: Global,
     folders: &mut F,
     notes: &mut Items<Note>,
     sought: Sought,
     place: &str,
-) -> Result<Level, AllocError>
+    levels: &mut Items<Level>,
+) -> Result<(), AllocError>
     ensures folders { AsTheyWere F.tree F.memory_faults folders.old folders.new result }
     ensures notes { Grows notes.old notes.new }
-    ensures told { Told (F.tree folders.old) (λ t. IfOk result
-        (λ l. l ≡ level_of t sought (names_of place.now))) }
+    ensures told { Told (F.tree folders.old) (λ t. OnOk result
+        (levels.new ≡ levels.old ++ level_of t sought (names_of place.now) ∷ [])) }
+    ensures last { OnOk result (without_last levels.new ≡ levels.old) }
 {
     let named = IgnoreName {
         on: sought.tokeignore,
@@ -247,27 +250,29 @@ pub fn read_sought<F: Folders>(
         name: ".git/info/exclude",
     };
     let (gitignore, git_exclude) = patterns_of_two(alloc, folders, notes, place, listed, excluded)?;
-    Ok(Level {
+    levels.push(Level {
         tokeignore,
         ignore,
         gitignore,
         git_exclude,
         git: sought.git,
-    })
+    })?;
+    Ok(())
 }
 
-/// Reads the rules of a folder that isn't listed.
+/// Reads the rules of a folder that isn't listed, and adds them to those of others.
 pub fn read_level<F: Folders>(
     alloc: Global,
     folders: &mut F,
     notes: &mut Items<Note>,
     rules: &Rules,
     place: &str,
-) -> Result<Level, AllocError>
+    levels: &mut Items<Level>,
+) -> Result<(), AllocError>
     ensures folders { AsTheyWere F.tree F.memory_faults folders.old folders.new result }
     ensures notes { Grows notes.old notes.new }
-    ensures told { Told (F.tree folders.old) (λ t. IfOk result
-        (λ l. l ≡ level_at t rules.now (names_of place.now))) }
+    ensures told { Told (F.tree folders.old) (λ t. OnOk result
+        (levels.new ≡ levels.old ++ level_at t rules.now (names_of place.now) ∷ [])) }
 {
     let git = is_repository(alloc, folders, notes, rules.git, place)?;
     let sought = Sought {
@@ -276,5 +281,5 @@ pub fn read_level<F: Folders>(
         ignore: rules.dot,
         gitignore: rules.git,
     };
-    read_sought(alloc, folders, notes, sought, place)
+    read_sought(alloc, folders, notes, sought, place, levels)
 }

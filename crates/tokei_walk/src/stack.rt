@@ -1,5 +1,5 @@
 //! The folders that are walked, and the way through them.
-ghost use Rattle.std.specs.Prelude.{◌≡◌, ◌<◌, ◌+◌, ◌-◌, ◌++◌, [], ◌∷◌, length, reverse, cond, OnOk, OnSome, IfOk, IfSome, Err, None, true, false};
+ghost use Rattle.std.specs.Prelude.{◌≡◌, ◌<◌, ◌+◌, ◌-◌, ◌^◌, ◌++◌, [], ◌∷◌, length, reverse, cond, OnOk, OnSome, IfOk, IfSome, Err, None, true, false};
 ghost use Rattle.std.specs.Bool.{MatchBool};
 ghost use Rattle.tokei_walk.specs.Notes.{Grows};
 ghost use Rattle.tokei_folders.specs.Answers.{Told, list_answer};
@@ -14,9 +14,9 @@ ghost use Rattle.tokei_walk.specs.Ranks.{weight, stack_rank, FoundFalls};
 ghost use Rattle.tokei_walk.specs.Stacks.{Pops, Leaves, Enters, EntersTold, StepTells, StepStays, NoneStays, NoneIsSame, at_entry, file_kept, of_folder, VisitTells, ExploreTells};
 
 use crate::kept_file::{KeptFile, Note, NoteKind};
-use crate::levels::{Context, Level, Rules, judge};
+use crate::levels::{Context, Rules, judge};
 use crate::listings::listing;
-use crate::rules_files::{note, read_sought, sought_among};
+use crate::rules_files::{read_sought, sought_among};
 use std::alloc::{AllocError, Global};
 use std::mem;
 use tokei_folders::places::joined;
@@ -150,24 +150,28 @@ pub fn enter<F: Folders>(
         return Ok(false);
     };
     let sought = sought_among(&settings.rules, listing.entries.as_slice());
-    let level = read_sought(alloc, folders, notes, sought, place.as_str())?;
-    push_folder(stack, place, level, Items::from_vec(listing.entries))?;
+    push_folder(stack, place, Items::from_vec(listing.entries))?;
+    let place = stack.place.as_str();
+    read_sought(
+        alloc,
+        folders,
+        notes,
+        sought,
+        place,
+        &mut stack.context.levels,
+    )?;
     Ok(true)
 }
 
-/// Walks a folder with these rules and entries.
-fn push_folder(
-    stack: &mut Stack,
-    place: Text,
-    level: Level,
-    mut entries: Items<Entry>,
-) -> Result<(), AllocError>
-    ensures entered { OnOk result (Enters stack.old stack.new place) }
+/// Walks a folder with these entries; its rules are still to be added.
+fn push_folder(stack: &mut Stack, place: Text, mut entries: Items<Entry>) -> Result<(), AllocError>
+    ensures context { OnOk result (stack.new.context ≡ stack.old.context) }
+    ensures place { OnOk result (stack.new.place ≡ place) }
     ensures entries { OnOk result (reverse stack.new.left ≡ entries) }
-    ensures levels { OnOk result
-        (stack.new.context.levels ≡ stack.old.context.levels ++ level ∷ []) }
+    ensures few { OnOk result (length stack.new.left < 2 ^ 64) }
+    ensures holders { OnOk result (stack.new.holders ≡ stack.old.holders
+        ++ record { place = stack.old.place; left = stack.old.left } ∷ []) }
 {
-    stack.context.levels.push(level)?;
     entries.reverse();
     let left = mem::replace(&mut stack.left, entries);
     let place = mem::replace(&mut stack.place, place);
@@ -201,8 +205,9 @@ fn push_folder_name(
         return Ok(None);
     }
     let place = joined(settings.alloc, stack.place.as_str(), name.as_str())?;
-    if stack.holders.as_slice().len() >= 256 {
-        note(settings.alloc, notes, NoteKind::TooDeep, place.as_str())?;
+    if stack.holders.len() >= 256 {
+        let kind = NoteKind::TooDeep;
+        notes.push(Note { kind, place })?;
         return Ok(None);
     }
     push_name(settings.alloc, &mut stack.context, name)?;

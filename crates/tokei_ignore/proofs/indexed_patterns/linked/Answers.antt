@@ -1,4 +1,5 @@
 use Rattle.std.proofs.Common.{◌≡◌, ◌<◌, length, ap, ◌∙◌, arith, refl}
+use Rattle.std.proofs.lemmas.Grind.{common_steps}
 use Rattle.tokei_ignore.specs.Index.{slot_of}
 use Rattle.tokei_ignore.proofs.Chains.{index_more, read_first}
 use Rattle.tokei_ignore.proofs.indexed_patterns.linked.Goals as goal
@@ -15,3 +16,9 @@ loop-place-preserved c =
     index_more count c.args.list.now c.loop-place.place heads c.loop-place.earlier.items _ _ c.index-list-place.result own c.index.result.now
     c.loop-place.invariant c.loop-place-test.true c.index-list-place.is (is ∙ ap (slot_of count) c.pattern_key.ensures)
     less (read_first heads own c.index.result.now less c.index.ensures) refl c.in_ok-push.ensures.items
+
+pub loop-place-init : goal.loop-place-init
+loop-place-init c = grind (arith, common_steps)
+
+pub returns : goal.returns
+returns c = grind (arith, common_steps)

@@ -1,4 +1,5 @@
-use Rattle.std.proofs.Common.{◌∙◌, refl, List, ◌++◌, sym, ap, append-nil}
+use Rattle.std.proofs.Common.{◌∙◌, refl, List, ◌++◌, sym, ap, append-nil, arith}
+use Rattle.std.proofs.lemmas.Grind.{common_steps}
 use Rattle.tokei_folders.specs.Tree.{names_of}
 use Rattle.tokei_walk.specs.Levels.{level_at}
 use Rattle.tokei_walk.specs.Walks.{names_over, levels_over}
@@ -53,3 +54,6 @@ returns-clause-levels g c = λ t e.
 
 pub returns-clause-folders : goal.returns-clause-folders
 returns-clause-folders g c = record { same = c.loop-above.invariant.same; honest = c.loop-above.invariant.honest }
+
+pub loop-above-smaller : goal.loop-above-smaller
+loop-above-smaller g c = grind (arith, common_steps)

@@ -1,4 +1,4 @@
-use Rattle.std.proofs.Common.{◌≡◌, Option, Ok, Err, sym, ap, ◌∙◌, subst, arith}
+use Rattle.std.proofs.Common.{◌≡◌, length, Option, Ok, Err, refl, sym, ap, ◌∙◌, subst, arith}
 use Rattle.std.specs.Prelude.{MatchOption}
 use Rattle.tokei_folders.specs.declared.fs.Listing.{Listing}
 use Rattle.tokei_folders.specs.declared.fs.Fault.TheVariants.{Refused}
@@ -10,7 +10,7 @@ use Rattle.tokei_walk.proofs.Ranking.{below_root, root_rank}
 use Rattle.tokei_walk.proofs.RootSteps.{root_walked}
 use Rattle.tokei_walk.proofs.StackSteps.{root_unlisted}
 use Rattle.tokei_walk.proofs.Growing.{grows_on}
-use Rattle.tokei_walk.proofs.Lasting.{lasts, answers, refused}
+use Rattle.tokei_walk.proofs.Lasting.{lasts, answers, on_ok, on_ok_by}
 use Rattle.tokei_walk.proofs.roots.enter_root.Goals as goal
 
 pub returns-in_default-clause-told : goal.returns-in_default-clause-told
@@ -25,7 +25,7 @@ returns-in_default-clause-told g c = λ t e left below.
     root_unlisted x.excludes x.rules t c.args.stack.now (root_context t x.rules (names_of root)) root refused left below
 
 pub returns-clause-told : goal.returns-clause-told
-returns-clause-told g c = λ t e left below.
+returns-clause-told g c = λ t e.
     let x = c.args.settings.now in let root = c.args.root in let at = c.as_str.result.now in
     let told =
     subst
@@ -34,19 +34,30 @@ returns-clause-told g c = λ t e left below.
     c.in-Some.is (c.in_ok-listing.ensures.told t e) in
     let entries = ap (λ p. list_answer t (names_of p)) (sym c.as_str.ensures) ∙ told in
     let sought = c.sought_among-sought.ensures ∙ ap (listed x.rules) c.as_slice.ensures.value in
-    let walked = c.walk_root.ensures in
-    root_walked x.excludes x.rules t c.walk_root.new.stack c.in_ok-context.context c.sought_among-sought.result
-    root c.as_str-2.result.now c.in-Some.listing.entries.items entries sought c.as_str-2.ensures
-    (c.in_ok-context.ensures.told t (c.listing.ensures.folders.same ∙ e)) walked.context walked.place walked.entries walked.holders
+    let walked = c.walk_root.ensures in let s = c.walk_root.new.stack in
+    on_ok_by c.context_in_root.result
+    (λ made left below.
+    root_walked x.excludes x.rules t (record { context = c.context_in_root.new.context; place = s.place; left = s.left; holders = s.holders })
+    c.context_in_root.new.context c.sought_among-sought.result
+    root c.as_str-place.result.now c.in-Some.listing.entries.items entries sought (c.as_str-place.ensures ∙ walked.place)
+    made refl walked.place walked.entries walked.holders)
+    (c.context_in_root.ensures.told t (c.listing.ensures.folders.same ∙ e))
+
+pub returns-clause-holders : goal.returns-clause-holders
+returns-clause-holders g c = on_ok c.context_in_root.result (omega (arith, ap length c.walk_root.ensures.holders))
 
 pub returns-in_default-clause-bounded : goal.returns-in_default-clause-bounded
 returns-in_default-clause-bounded g c = below_root c.args.stack.now
 
 pub returns-clause-bounded : goal.returns-clause-bounded
-returns-clause-bounded g c = omega (arith, root_rank c.walk_root.new.stack c.walk_root.ensures.holders c.walk_root.ensures.few)
-
-pub returns-in_err-context-clause-notes : goal.returns-in_err-context-clause-notes
-returns-in_err-context-clause-notes g c = grows_on _ _ _ c.listing.ensures.notes c.context_in_root.ensures.notes
+returns-clause-bounded g c =
+    let s = c.walk_root.new.stack in
+    on_ok c.context_in_root.result
+    (omega (
+      arith,
+      root_rank (record { context = c.context_in_root.new.context; place = s.place; left = s.left; holders = s.holders })
+          c.walk_root.ensures.holders c.walk_root.ensures.few,
+    ))
 
 pub returns-clause-notes : goal.returns-clause-notes
 returns-clause-notes g c = grows_on _ _ _ c.listing.ensures.notes c.context_in_root.ensures.notes
@@ -54,8 +65,5 @@ returns-clause-notes g c = grows_on _ _ _ c.listing.ensures.notes c.context_in_r
 pub returns-in_default-clause-folders : goal.returns-in_default-clause-folders
 returns-in_default-clause-folders g c = answers c.in_ok-listing.ensures.folders
 
-pub returns-in_err-context-clause-folders : goal.returns-in_err-context-clause-folders
-returns-in_err-context-clause-folders g c = refused c.from_residual-in_err-context.ensures.0 (c.context_in_root.ensures.folders.same ∙ c.listing.ensures.folders.same)
-
 pub returns-clause-folders : goal.returns-clause-folders
-returns-clause-folders g c = answers (lasts c.in_ok-listing.ensures.folders c.in_ok-context.ensures.folders)
+returns-clause-folders g c = lasts c.in_ok-listing.ensures.folders c.context_in_root.ensures.folders

@@ -1,4 +1,4 @@
-use Rattle.std.proofs.Common.{◌≡◌, IfOk, subst, ◌∙◌}
+use Rattle.std.proofs.Common.{◌≡◌, ◌++◌, ◌∷◌, [], OnOk, subst, ◌∙◌}
 use Rattle.tokei_folders.specs.Tree.{names_of}
 use Rattle.tokei_walk.specs.declared.levels.Level.{Level}
 use Rattle.tokei_walk.proofs.Growing.{grows_on}
@@ -8,7 +8,7 @@ use Rattle.tokei_walk.proofs.rules_files.read_level.Goals as goal
 
 pub returns-clause-told : goal.returns-clause-told
 returns-clause-told g c = λ t e.
-    subst (λ (y : Level). IfOk c.read_sought.result (λ l. l ≡ y))
+    subst (λ (l : Level). OnOk c.read_sought.result (c.read_sought.new.levels ≡ c.args.levels.now ++ l ∷ []))
     (level_asked t c.args.rules.now (names_of c.args.place.now) c.in_ok-git.git
     (c.in_ok-git.ensures.told t e))
     (c.read_sought.ensures.told t (c.is_repository.ensures.folders.same ∙ e))

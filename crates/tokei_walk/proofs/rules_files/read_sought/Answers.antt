@@ -1,4 +1,7 @@
-use Rattle.std.proofs.Common.{◌∙◌}
+use Rattle.std.proofs.Common.{◌++◌, ◌∷◌, [], ap, ◌∙◌}
+use Rattle.tokei_folders.specs.Ends.{without_last}
+use Rattle.tokei_folders.proofs.ListEnds.{without_last-push}
+use Rattle.tokei_walk.specs.declared.levels.Level.{Level}
 use Rattle.tokei_folders.specs.Tree.{names_of}
 use Rattle.tokei_walk.proofs.RuleFiles.{tokeignore_told, ignore_told, gitignore_told, git_exclude_told, level_told}
 use Rattle.tokei_walk.proofs.Growing.{grows_on}
@@ -9,9 +12,21 @@ pub returns-clause-told : goal.returns-clause-told
 returns-clause-told g c = λ t e.
     let s = c.args.sought in let p = names_of c.args.place.now in
     let later = c.patterns_of_two.ensures.folders.same ∙ e in
+    let level =
     level_told t s p _ _ _ _
     (tokeignore_told t s p _ (c.in_ok-tokeignore.ensures.first t e)) (ignore_told t s p _ (c.in_ok-tokeignore.ensures.second t e))
-    (gitignore_told t s p _ (c.in_ok-gitignore.ensures.first t later)) (git_exclude_told t s p _ (c.in_ok-gitignore.ensures.second t later))
+    (gitignore_told t s p _ (c.in_ok-gitignore.ensures.first t later)) (git_exclude_told t s p _ (c.in_ok-gitignore.ensures.second t later)) in
+    c.in_ok-push.ensures.ok ∙ ap (λ (l : Level). c.args.levels.now ++ l ∷ []) level
+
+pub returns-clause-last : goal.returns-clause-last
+returns-clause-last g c = ap without_last c.in_ok-push.ensures.ok ∙ without_last-push c.args.levels.now _
+
+pub returns-in_err-push-clause-folders : goal.returns-in_err-push-clause-folders
+returns-in_err-push-clause-folders g c =
+    refused c.from_residual-in_err-push.ensures.0 (c.patterns_of_two-2.ensures.folders.same ∙ c.patterns_of_two.ensures.folders.same)
+
+pub returns-in_err-push-clause-notes : goal.returns-in_err-push-clause-notes
+returns-in_err-push-clause-notes g c = grows_on _ _ _ c.patterns_of_two.ensures.notes c.patterns_of_two-2.ensures.notes
 
 pub returns-in_err-gitignore-clause-folders : goal.returns-in_err-gitignore-clause-folders
 returns-in_err-gitignore-clause-folders g c = refused c.from_residual-in_err-gitignore.ensures.0 (c.patterns_of_two-2.ensures.folders.same ∙ c.patterns_of_two.ensures.folders.same)

@@ -5,6 +5,7 @@ use Rattle.tokei_folders.specs.declared.fs.Fault.TheVariants.{Refused}
 use Rattle.tokei_folders.specs.Answers.{list_answer}
 use Rattle.tokei_folders.specs.Tree.{names_of}
 use Rattle.tokei_walk.specs.declared.rules_files.Sought.{Sought}
+use Rattle.tokei_walk.specs.declared.levels.Context.{Context}
 use Rattle.tokei_walk.specs.declared.levels.Level.{Level}
 use Rattle.tokei_walk.specs.Sought.{listed, level_of}
 use Rattle.tokei_walk.proofs.ListedFiles.{level_listed}
@@ -24,19 +25,22 @@ returns-clause-told g c = λ t e.
     c.in-Some.is (c.in_ok-listing.ensures.told t e) in
     let listed_here = ap (λ p. list_answer t (names_of p)) (sym c.as_str.ensures) ∙ told in
     let sought = c.sought_among-sought.ensures ∙ ap (listed x.rules) c.as_slice.ensures.value in
-    let level = c.in_ok-level.ensures.told t first ∙ ap₂
-    (λ (s : Sought) (p : List ℕ). level_of t s (names_of p)) sought c.as_str-2.ensures ∙
-    level_listed t x.rules (names_of place) c.in-Some.listing.entries.items listed_here
+    let at = c.as_str-place.ensures ∙ c.in_ok-push_folder.ensures.place in
+    let level =
+    ap₂ (λ (s : Sought) (p : List ℕ). level_of t s (names_of p)) sought at
+    ∙ level_listed t x.rules (names_of place) c.in-Some.listing.entries.items listed_here
     in record {
       entries_are = listed_here ∙ ap Ok (sym (c.in_ok-push_folder.ensures.entries ∙ c.from_vec.ensures));
-      levels_are = c.in_ok-push_folder.ensures.levels ∙ ap (λ (l : Level). c.args.stack.now.context.levels ++ l ∷ []) level;
+      levels_are =
+          c.in_ok-read_sought.ensures.told t first
+          ∙ ap₂ (λ (x : Context) (l : Level). x.levels ++ l ∷ []) c.in_ok-push_folder.ensures.context level;
     }
 
-pub returns-in_err-level-clause-notes : goal.returns-in_err-level-clause-notes
-returns-in_err-level-clause-notes g c = grows_on _ _ _ c.listing.ensures.notes c.read_sought.ensures.notes
+pub returns-in_err-read_sought-clause-notes : goal.returns-in_err-read_sought-clause-notes
+returns-in_err-read_sought-clause-notes g c = grows_on _ _ _ c.listing.ensures.notes c.read_sought.ensures.notes
 
 pub returns-in_err-push_folder-clause-notes : goal.returns-in_err-push_folder-clause-notes
-returns-in_err-push_folder-clause-notes g c = grows_on _ _ _ c.listing.ensures.notes c.read_sought.ensures.notes
+returns-in_err-push_folder-clause-notes g c = c.listing.ensures.notes
 
 pub returns-clause-notes : goal.returns-clause-notes
 returns-clause-notes g c = grows_on _ _ _ c.listing.ensures.notes c.read_sought.ensures.notes
@@ -44,17 +48,25 @@ returns-clause-notes g c = grows_on _ _ _ c.listing.ensures.notes c.read_sought.
 pub returns-in_default-clause-folders : goal.returns-in_default-clause-folders
 returns-in_default-clause-folders g c = answers c.in_ok-listing.ensures.folders
 
-pub returns-in_err-level-clause-folders : goal.returns-in_err-level-clause-folders
-returns-in_err-level-clause-folders g c = refused c.from_residual-in_err-level.ensures.0 (c.read_sought.ensures.folders.same ∙ c.listing.ensures.folders.same)
+pub returns-in_err-read_sought-clause-folders : goal.returns-in_err-read_sought-clause-folders
+returns-in_err-read_sought-clause-folders g c = refused c.from_residual-in_err-read_sought.ensures.0 (c.read_sought.ensures.folders.same ∙ c.listing.ensures.folders.same)
 
 pub returns-in_err-push_folder-clause-folders : goal.returns-in_err-push_folder-clause-folders
-returns-in_err-push_folder-clause-folders g c = refused c.from_residual-in_err-push_folder.ensures.0 (c.read_sought.ensures.folders.same ∙ c.listing.ensures.folders.same)
+returns-in_err-push_folder-clause-folders g c = refused c.from_residual-in_err-push_folder.ensures.0 c.listing.ensures.folders.same
 
 pub returns-clause-folders : goal.returns-clause-folders
-returns-clause-folders g c = answers (lasts c.in_ok-listing.ensures.folders c.in_ok-level.ensures.folders)
+returns-clause-folders g c = answers (lasts c.in_ok-listing.ensures.folders c.in_ok-read_sought.ensures.folders)
 
 pub returns-clause-entered : goal.returns-clause-entered
-returns-clause-entered g c = λ q. c.in_ok-push_folder.ensures.entered
+returns-clause-entered g c = λ q.
+    let pushed = c.in_ok-push_folder.ensures in record {
+      place_is = pushed.place;
+      holders_is = pushed.holders;
+      names_stay = ap (λ (x : Context). x.names) pushed.context;
+      shown_stay = ap (λ (x : Context). x.shown) pushed.context;
+      levels_is = c.in_ok-read_sought.ensures.last ∙ ap (λ (x : Context). x.levels) pushed.context;
+      few = pushed.few;
+    }
 
 pub returns-in_default-clause-told : goal.returns-in_default-clause-told
 returns-in_default-clause-told g c = λ t e.

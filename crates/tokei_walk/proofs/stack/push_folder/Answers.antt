@@ -1,14 +1,9 @@
-use Rattle.std.proofs.Common.{refl, ap, ◌∙◌, rules, arith, length}
-use Rattle.tokei_folders.specs.Ends.{without_last}
-use Rattle.tokei_folders.proofs.ListEnds.{without_last-push}
+use Rattle.std.proofs.Common.{◌∙◌, ap, arith, length, reverse}
+use Rattle.std.proofs.lemmas.List.{reverse-reverse}
 use Rattle.tokei_walk.proofs.stack.push_folder.Goals as goal
 
-pub returns-clause-entered : goal.returns-clause-entered
-returns-clause-entered c = record {
-  place_is = search rules;
-  holders_is = search rules;
-  names_stay = refl;
-  shown_stay = refl;
-  levels_is = ap without_last c.in_ok-push.ensures.ok ∙ without_last-push c.args.stack.now.context.levels c.args.level;
-  few = omega (arith, ap length c.replace-left.ensures.after, c.reverse.ensures.fits);
-}
+pub returns-clause-entries : goal.returns-clause-entries
+returns-clause-entries c = ap reverse (c.replace-left.ensures.after ∙ c.reverse.ensures.turned) ∙ reverse-reverse c.args.entries
+
+pub returns-clause-few : goal.returns-clause-few
+returns-clause-few c = omega (arith, ap length c.replace-left.ensures.after, c.reverse.ensures.fits)

@@ -3,7 +3,7 @@ use Rattle.tokei_folders.specs.Places.{joined}
 use Rattle.tokei_walk.specs.declared.levels.Context.{Context}
 use Rattle.tokei_walk.specs.Levels.{under}
 use Rattle.tokei_walk.proofs.StackSteps.{with_context, visit_dropped, visit_deep}
-use Rattle.tokei_walk.proofs.Growing.{grows_same}
+use Rattle.tokei_walk.proofs.Growing.{grows_same, grows_by}
 use Rattle.tokei_walk.proofs.stack.push_folder_name.Goals as goal
 
 pub returns-then-dropped-clause-passed : goal.returns-then-dropped-clause-passed
@@ -11,10 +11,10 @@ returns-then-dropped-clause-passed c = λ q t.
     let x = c.args.settings.now in let s = c.args.stack.now in
     visit_dropped x.excludes x.rules t s c.args.name (joined s.place c.args.name) (sym c.in_ok-dropped.ensures.dropped ∙ c.if-dropped.true)
 
-pub returns-then-as_slice-ge256-clause-passed : goal.returns-then-as_slice-ge256-clause-passed
-returns-then-as_slice-ge256-clause-passed c = λ q t.
+pub returns-then-len-ge256-clause-passed : goal.returns-then-len-ge256-clause-passed
+returns-then-len-ge256-clause-passed c = λ q t.
     let x = c.args.settings.now in let s = c.args.stack.now in
-    let deep : 256 ≤ length s.holders = omega (arith, ap length c.as_slice.ensures) in
+    let deep : 256 ≤ length s.holders = omega (arith, c.len.ensures) in
     visit_deep x.excludes x.rules t s c.args.name (joined s.place c.args.name) deep
 
 pub returns-clause-place : goal.returns-clause-place
@@ -27,7 +27,7 @@ returns-clause-named c =
     ap (with_context c.args.stack.now) is
 
 pub returns-clause-shallow : goal.returns-clause-shallow
-returns-clause-shallow c = omega (arith, ap length c.as_slice.ensures)
+returns-clause-shallow c = omega (arith, c.len.ensures)
 
 pub returns-clause-kept : goal.returns-clause-kept
 returns-clause-kept c = sym c.in_ok-dropped.ensures.dropped ∙ c.if-dropped.false
@@ -41,11 +41,8 @@ returns-then-dropped-clause-notes c = grows_same _ _ refl
 pub returns-in_err-place-clause-notes : goal.returns-in_err-place-clause-notes
 returns-in_err-place-clause-notes c = grows_same _ _ refl
 
-pub returns-in_err-note-clause-notes : goal.returns-in_err-note-clause-notes
-returns-in_err-note-clause-notes c = c.note.ensures.grows
-
-pub returns-then-as_slice-ge256-clause-notes : goal.returns-then-as_slice-ge256-clause-notes
-returns-then-as_slice-ge256-clause-notes c = c.note.ensures.grows
+pub returns-then-len-ge256-clause-notes : goal.returns-then-len-ge256-clause-notes
+returns-then-len-ge256-clause-notes c = grows_by _ _ _ c.in_ok-push.ensures.ok
 
 pub returns-in_err-push_name-clause-notes : goal.returns-in_err-push_name-clause-notes
 returns-in_err-push_name-clause-notes c = grows_same _ _ refl
@@ -56,5 +53,8 @@ returns-clause-notes c = grows_same _ _ refl
 pub returns-then-dropped-clause-same : goal.returns-then-dropped-clause-same
 returns-then-dropped-clause-same c = λ q. ap (with_context c.args.stack.now) c.in_ok-dropped.ensures.context
 
-pub returns-then-as_slice-ge256-clause-same : goal.returns-then-as_slice-ge256-clause-same
-returns-then-as_slice-ge256-clause-same c = λ q. ap (with_context c.args.stack.now) c.in_ok-dropped.ensures.context
+pub returns-then-len-ge256-clause-same : goal.returns-then-len-ge256-clause-same
+returns-then-len-ge256-clause-same c = λ q. ap (with_context c.args.stack.now) c.in_ok-dropped.ensures.context
+
+pub returns-in_err-push-clause-notes : goal.returns-in_err-push-clause-notes
+returns-in_err-push-clause-notes c = grows_same _ _ c.in_err-push.ensures.err
