@@ -5,6 +5,8 @@ pub mod EmptyLanguages
 pub mod Files
 pub mod Headings
 pub mod Padding
+pub mod Parts
 pub mod Placing
 pub mod Reports
 pub mod Sorting
+pub mod WithReports

@@ -1,5 +1,6 @@
 //! The rows of a file that holds other languages.
 use crate::cells::number_cells;
+use crate::joined::joined;
 use crate::layout::Layout;
 use crate::names::name_of;
 use std::alloc::{AllocError, Global};
@@ -81,8 +82,8 @@ impl Layout {
     {
         let mut rows = String::new(alloc);
         for (language, stats) in blobs.iter() {
-            let row = self.blob_row(alloc, name_of(table, *language), inaccurate, stats)?;
-            rows.push_str(&row)?;
+            let row = self.blob_row(alloc, name_of(table, *language), inaccurate, stats);
+            rows = joined(rows, row)?;
         }
         Ok(rows)
     }

@@ -6,6 +6,7 @@ ghost use Rattle.tokei_print.specs.ChildrenBlock.{children_block};
 ghost use Rattle.tokei_print.specs.ChildrenBlockFits.{ChildrenBlockFits};
 
 use crate::inside::child_rows;
+use crate::joined::joined;
 use crate::layout::Layout;
 use std::alloc::Global;
 use tokei_languages::Language;
@@ -25,7 +26,6 @@ pub(crate) fn children_block(
         → ¬ ChildrenBlockFits (language_of language.now) }
 {
     let counts = language.summary_counts()?;
-    let mut rows = child_rows(layout, alloc, table, &language.children)?;
-    rows.push_str(&layout.subtotal(alloc, "(Total)", counts)?)?;
-    Ok(rows)
+    let rows = child_rows(layout, alloc, table, &language.children)?;
+    joined(rows, layout.subtotal(alloc, "(Total)", counts))
 }

@@ -5,13 +5,13 @@ ghost use Rattle.tokei_print.specs.FilesAndCounts.{files_and_counts};
 ghost use Rattle.tokei_print.specs.LinesFit.{LinesFit};
 ghost use Rattle.tokei_options.specs.Grouping.{separator_text};
 
-use crate::cells::number_cells;
+use crate::cells::{number_cells, put_cell};
+use crate::joined::joined;
 use std::alloc::Global;
 use tokei_options::NumberFormat;
 use tokei_stats::{CountError, Sums};
 
 /// How many files, and their counts. `Overflow` exactly where the lines pass the greatest `usize`.
-#[tactic(auto, using(crate::proofs::Padding::styled_right))]
 pub fn files_and_counts(
     alloc: Global,
     format: NumberFormat,
@@ -23,8 +23,9 @@ pub fn files_and_counts(
     ensures fits { OnOk result (LinesFit (sums_of counts)) }
     ensures overflow { IsErrOf result CountError.Overflow → ¬ LinesFit (sums_of counts) }
 {
-    let cells = number_cells(alloc, format, counts)?;
-    let files = format.grouped(alloc, files)?;
-    let (files, cells) = (files.as_str(), cells.as_str());
-    Ok(format!(in alloc; " {files:>8}{cells}\n")?)
+    let mut begun = String::new(alloc);
+    put_cell(&mut begun, alloc, format, files, 8)?;
+    let mut row = joined(begun, number_cells(alloc, format, counts))?;
+    row.push_str("\n")?;
+    Ok(row)
 }

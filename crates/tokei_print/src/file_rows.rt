@@ -8,6 +8,7 @@ ghost use Rattle.tokei_print.specs.ListedReports.{reports_in};
 ghost use Rattle.tokei_stats.specs.Reports.{report_of};
 ghost use Rattle.tokei_stats.specs.Seen.{blobs_of, entries_of};
 
+use crate::joined::joined;
 use crate::layout::Layout;
 use std::alloc::{AllocError, Global};
 use std::collections::BTreeMap;
@@ -115,11 +116,11 @@ fn file_blocks(
         → ¬ FileBlocksFit (filter (λ r. not (has_row_alone compact r)) (reports_in reports.now)) }
 {
     let mut rows = String::new(alloc);
-    let mut above = !first;
+    let mut is_first = first;
     for report in reports {
         if !has_row_alone(report, compact) {
-            rows.push_str(&file_block(layout, alloc, language, !above, report)?)?;
-            above = true;
+            rows = joined(rows, file_block(layout, alloc, language, is_first, report))?;
+            is_first = false;
         }
     }
     Ok(rows)
@@ -139,8 +140,10 @@ pub fn listed_files(
     ensures overflow { IsErrOf result CountError.Overflow
         → ¬ FileBlocksFit (filter (λ r. not (has_row_alone compact r)) (reports_in reports.now)) }
 {
-    let mut rows = file_rows(layout, alloc, reports, compact)?;
+    let rows = file_rows(layout, alloc, reports, compact)?;
     let first = rows.is_empty();
-    rows.push_str(&file_blocks(layout, alloc, language, compact, first, reports)?)?;
-    Ok(rows)
+    joined(
+        rows,
+        file_blocks(layout, alloc, language, compact, first, reports),
+    )
 }

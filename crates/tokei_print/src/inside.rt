@@ -9,6 +9,7 @@ ghost use Rattle.tokei_stats.specs.Reports.{children_of, report_of, reports_summ
 ghost use Rattle.tokei_stats.specs.Seen.{sums_of};
 
 use crate::counts::files_and_counts;
+use crate::joined::joined;
 use crate::layout::Layout;
 use crate::names::name_of;
 use std::alloc::Global;
@@ -42,12 +43,16 @@ fn child_row(
     ensures overflow { IsErrOf result CountError.Overflow
         → ¬ LinesFit (reports_summary (map report_of reports.now)) }
 {
-    let mut row = layout.name_section(alloc, false, name, " |-")?;
-    if !reports.is_empty() {
-        let sums = summaries(reports)?;
-        row.push_str(&files_and_counts(alloc, layout.format, reports.len(), sums)?)?;
+    let sums = summaries(reports)?;
+    let row = layout.name_section(alloc, false, name, " |-")?;
+    if reports.is_empty() {
+        Ok(row)
+    } else {
+        joined(
+            row,
+            files_and_counts(alloc, layout.format, reports.len(), sums),
+        )
     }
-    Ok(row)
 }
 
 /// A row for each language inside.
@@ -64,8 +69,8 @@ pub fn child_rows(
 {
     let mut rows = String::new(alloc);
     for (language, reports) in children.iter() {
-        let row = child_row(layout, alloc, name_of(table, *language), reports)?;
-        rows.push_str(&row)?;
+        let row = child_row(layout, alloc, name_of(table, *language), reports);
+        rows = joined(rows, row)?;
     }
     Ok(rows)
 }

@@ -5,6 +5,7 @@ ghost use Rattle.tokei_print.specs.LinesFit.{LinesFit};
 ghost use Rattle.tokei_print.specs.LanguageRow.{language_row};
 
 use crate::counts::files_and_counts;
+use crate::joined::joined;
 use crate::layout::Layout;
 use std::alloc::Global;
 use tokei_languages::Language;
@@ -29,8 +30,7 @@ pub(crate) fn language_row(
         code: language.code,
         comments: language.comments,
     };
-    let mut row = layout.name_section(alloc, language.inaccurate, name, "")?;
+    let row = layout.name_section(alloc, language.inaccurate, name, "")?;
     let files = language.reports.len();
-    row.push_str(&files_and_counts(alloc, layout.format, files, counts)?)?;
-    Ok(row)
+    joined(row, files_and_counts(alloc, layout.format, files, counts))
 }

@@ -9,6 +9,7 @@ mod counts;
 mod file_rows;
 mod heading;
 mod inside;
+mod joined;
 mod language_row;
 mod layout;
 mod name_section;

@@ -9,6 +9,7 @@ ghost use Rattle.tokei_print.specs.ResultsFit.{LanguageFits, LanguagesFit, Resul
 
 use crate::children::children_block;
 use crate::file_rows::{ListedLanguage, listed_files};
+use crate::joined::joined;
 use crate::language_row::language_row;
 use crate::layout::Layout;
 use crate::names::name_of;
@@ -93,11 +94,12 @@ fn counts_block(
         → ¬ LanguageFits layout.now.list_files showing.entry.compact showing.entry.sorted
         (language_of language.now) }
 {
-    let mut rows = language_row(layout, alloc, language, name)?;
+    let row = language_row(layout, alloc, language, name)?;
     if shows_children(language, showing.compact) {
-        rows.push_str(&children_block(layout, alloc, showing.table, language)?)?;
+        joined(row, children_block(layout, alloc, showing.table, language))
+    } else {
+        Ok(row)
     }
-    Ok(rows)
 }
 
 /// The rows of a language's files, where they are listed.
@@ -151,11 +153,12 @@ fn language_block(
 {
     let language = entry.1;
     let name = name_of(showing.table, entry.0);
-    let counts = counts_block(layout, alloc, showing, name, language)?;
-    let files = files_block(layout, alloc, showing, name, language)?;
-    let parting = parting(layout, language, showing.compact, first);
-    let (counts, files) = (counts.as_str(), files.as_str());
-    Ok(format!(in alloc; "{parting}{counts}{files}")?)
+    let parting = String::from_str(alloc, parting(layout, language, showing.compact, first))?;
+    let rows = joined(
+        parting,
+        counts_block(layout, alloc, showing, name, language),
+    )?;
+    joined(rows, files_block(layout, alloc, showing, name, language))
 }
 
 /// The rows of the languages of a group, one after the other.
@@ -178,7 +181,7 @@ fn group_rows(
     let mut first = group.first;
     for entry in languages {
         if is_of_group(entry.1, showing.compact, group.with_children) {
-            rows.push_str(&language_block(layout, alloc, showing, first, entry)?)?;
+            rows = joined(rows, language_block(layout, alloc, showing, first, entry))?;
             first = false;
         }
     }
@@ -203,11 +206,10 @@ pub(crate) fn results(
         with_children: false,
         first: true,
     };
-    let mut rows = group_rows(layout, alloc, showing, alone, languages)?;
+    let rows = group_rows(layout, alloc, showing, alone, languages)?;
     let others = Group {
         with_children: true,
         first: rows.is_empty(),
     };
-    rows.push_str(&group_rows(layout, alloc, showing, others, languages)?)?;
-    Ok(rows)
+    joined(rows, group_rows(layout, alloc, showing, others, languages))
 }

@@ -5,9 +5,12 @@ use Rattle.tokei_print.specs.FileRows.{file_block, file_blocks, has_row_alone}
 use Rattle.tokei_print.specs.FilesFit.{FileBlocksFit}
 use Rattle.tokei_print.specs.ListedReports.{reports_in}
 use Rattle.tokei_print.specs.Names.{name_in}
-use Rattle.tokei_print.proofs.Behind.{one_more, no_more, one_kept, one_passed, none_kept}
+use Rattle.tokei_print.proofs.Behind.{none_yet, one_more, no_more, one_kept, one_passed, none_kept}
 use Rattle.tokei_print.proofs.file_rows.file_blocks.Goals as goal
-use Rattle.tokei_print.proofs.file_rows.file_blocks.Goals.{then-not-has_row_alone+in_ok-file_block+in_ok-push_str, else-not-has_row_alone}
+use Rattle.tokei_print.proofs.file_rows.file_blocks.Goals.{then-not-has_row_alone+in_ok-rows, else-not-has_row_alone}
+
+pub loop-report-init : goal.loop-report-init
+loop-report-init c = (none_yet (string_bytes c.new-rows.result) _ c.new-rows.ensures.bytes, λ f. f)
 
 pub loop-report-preserved : goal.loop-report-preserved
 loop-report-preserved c =
@@ -21,22 +24,22 @@ loop-report-preserved c =
     let text = file_blocks c.args.layout.now (name_in c.args.language.table.now) c.args.language.inaccurate c.args.language.name.now in
     let left = λ (n : ℕ). filter test (reports_in (drop n xs)) in
     elim c.if-not-has_row_alone.branch [
-      | then-not-has_row_alone+in_ok-file_block+in_ok-push_str w ↦
+      | then-not-has_row_alone+in_ok-rows w ↦
           let kept : left i ≡ seen x ∷ left (i + 1) =
           one_kept seen xs i x c.loop-report-test.true c.report-item.is test (ap not (sym c.has_row_alone.ensures ∙ w.if-not-has_row_alone.true)) in (
-            ap (λ a. string_bytes c.if-not-has_row_alone.rows ++ text (not a) (left (i + 1))) w.above-is
-                ∙ one_more rows (text c.args.first (left 0)) (string_bytes c.if-not-has_row_alone.rows) (block (not c.loop-report.above) (seen x))
-                (text (not c.loop-report.above) (left i)) (text false (left (i + 1))) c.loop-report.invariant.0
-                (ap (text (not c.loop-report.above)) kept)
-                (ap string_bytes w.rows-is ∙ w.in_ok-push_str.ensures.bytes ∙ ap (λ t. rows ++ t) (w.deref.ensures ∙ w.in_ok-file_block.ensures.ok)),
+            ap (λ a. string_bytes c.if-not-has_row_alone.rows ++ text a (left (i + 1))) w.is_first-is
+                ∙ one_more rows (text c.args.first (left 0)) (string_bytes c.if-not-has_row_alone.rows) (block c.loop-report.is_first (seen x))
+                (text c.loop-report.is_first (left i)) (text false (left (i + 1))) c.loop-report.invariant.0
+                (ap (text c.loop-report.is_first) kept)
+                (ap string_bytes w.rows-is ∙ w.in_ok-rows.ensures.ok _ w.file_block.ensures.ok),
             λ f. (subst FileBlocksFit kept (c.loop-report.invariant.1 f)).1,
           )
       | else-not-has_row_alone w ↦
           let passed : left i ≡ left (i + 1) =
           one_passed seen xs i x c.loop-report-test.true c.report-item.is test (ap not (sym c.has_row_alone.ensures ∙ w.if-not-has_row_alone.false)) in (
-            ap (λ r. string_bytes r ++ text (not c.if-not-has_row_alone.above) (left (i + 1))) w.rows-is
-                ∙ ap (λ a. rows ++ text (not a) (left (i + 1))) w.above-is
-                ∙ ap (λ rs. rows ++ text (not c.loop-report.above) rs) (sym passed) ∙ c.loop-report.invariant.0,
+            ap (λ r. string_bytes r ++ text c.if-not-has_row_alone.is_first (left (i + 1))) w.rows-is
+                ∙ ap (λ a. rows ++ text a (left (i + 1))) w.is_first-is
+                ∙ ap (λ rs. rows ++ text c.loop-report.is_first rs) (sym passed) ∙ c.loop-report.invariant.0,
             λ f. subst FileBlocksFit passed (c.loop-report.invariant.1 f),
           )
     ]
@@ -46,5 +49,5 @@ returns-clause-ok c =
     let test = λ (r : ReportValue). not (has_row_alone c.args.compact r) in
     let text = file_blocks c.args.layout.now (name_in c.args.language.table.now) c.args.language.inaccurate c.args.language.name.now in
     no_more (string_bytes c.loop-report.rows) (text c.args.first (filter test (reports_in c.args.reports.now)))
-    (text (not c.loop-report.above) (filter test (reports_in (drop c.loop-report.report-index c.args.reports.now)))) c.loop-report.invariant.0
-    (ap (text (not c.loop-report.above)) (none_kept (λ (r : Bor Report). report_of r.now) c.args.reports.now c.loop-report.report-index c.loop-report-test.false test))
+    (text c.loop-report.is_first (filter test (reports_in (drop c.loop-report.report-index c.args.reports.now)))) c.loop-report.invariant.0
+    (ap (text c.loop-report.is_first) (none_kept (λ (r : Bor Report). report_of r.now) c.args.reports.now c.loop-report.report-index c.loop-report-test.false test))

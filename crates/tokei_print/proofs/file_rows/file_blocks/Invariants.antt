@@ -7,7 +7,7 @@ use Rattle.tokei_print.proofs.file_rows.file_blocks.Given as goal
 
 abbrev pub invariant-loop-report : goal.invariant-loop-report
 invariant-loop-report l =
-    (string_bytes l.rows ++ file_blocks l.layout (name_in l.language.table.now) l.language.inaccurate l.language.name.now (not l.above)
+    (string_bytes l.rows ++ file_blocks l.layout (name_in l.language.table.now) l.language.inaccurate l.language.name.now l.is_first
     (filter (λ r. not (has_row_alone l.compact r)) (reports_in (drop l.report-index l.reports)))
     ≡ file_blocks l.layout (name_in l.language.table.now) l.language.inaccurate l.language.name.now l.first
     (filter (λ r. not (has_row_alone l.compact r)) (reports_in l.reports)))

@@ -1,4 +1,4 @@
-use Rattle.std.proofs.Common.{◌≡◌, ◌++◌, Bool, filter, length, ap, ap₂, ◌∙◌, rules, string_bytes}
+use Rattle.std.proofs.Common.{◌≡◌, ◌++◌, Bool, IfOk, filter, length, ap, ap₂, subst, ◌∙◌, rules, string_bytes}
 use Rattle.std.specs.Prelude.{◌==◌}
 use Rattle.std.specs.String.{string_len}
 use Rattle.tokei_print.specs.FileRows.{file_blocks, has_row_alone, with_blocks}
@@ -15,5 +15,6 @@ returns-clause-ok c =
     let first : c.is_empty-first.result ≡ (length alone == 0) =
     c.is_empty-first.ensures ∙ ap (λ n. n == 0) bytes ∙ ap (λ t. length t == 0) c.in_ok-rows.ensures ∙ no_rows c.args.layout.now alone in
     let blocks = λ (b : Bool). file_blocks c.args.layout.now (name_in c.args.language.table.now) c.args.language.inaccurate c.args.language.name.now b (with_blocks c.args.compact reports) in
-    c.in_ok-push_str.ensures.bytes
-    ∙ ap₂ (λ x y. x ++ y) c.in_ok-rows.ensures (c.deref.ensures ∙ c.in_ok-file_blocks.ensures.ok ∙ ap blocks first)
+    subst (λ b. IfOk c.joined.result (λ s. string_bytes s ≡ b))
+    (ap₂ (λ x y. x ++ y) c.in_ok-rows.ensures (ap blocks first))
+    (c.joined.ensures.ok _ c.file_blocks.ensures.ok)

@@ -20,13 +20,13 @@ loop-language-preserved c =
     let rows = string_bytes c.loop-language.rows in
     let row = child_row c.args.layout.now in
     let text = λ (es : List (ℕ × Vec Report Global)). child_rows c.args.layout.now (name_in c.args.table.now) (children_of es) in (
-      one_more rows (text c.args.children.now.entries) (string_bytes c.push_str.new.self)
+      one_more rows (text c.args.children.now.entries) (string_bytes c.in_ok-rows.rows)
           (row (name_in c.args.table.now c.in-Some.language.now) (map report_of c.in-Some.reports.now.items))
           (text c.loop-language.language-iterator) (text c.next.new.self) c.loop-language.invariant.0
           (ap text c.in-Some.ensures.steps)
-          (c.in_ok-push_str.ensures.bytes ∙ ap (λ t. rows ++ t) (c.deref-in-loop-language.ensures ∙ c.in_ok-row.ensures.ok
-          ∙ ap (λ n. row n (map report_of c.deref.result.now)) c.name_of.ensures
-          ∙ ap (λ rs. row (name_in c.args.table.now c.in-Some.language.now) (map report_of rs)) c.deref.ensures.value)),
+          (c.in_ok-rows.ensures.ok _ c.child_row-row.ensures.ok
+          ∙ ap (λ n. rows ++ row n (map report_of c.deref.result.now)) c.name_of.ensures
+          ∙ ap (λ rs. rows ++ row (name_in c.args.table.now c.in-Some.language.now) (map report_of rs)) c.deref.ensures.value),
       λ f. (subst (λ es. ChildrenFit (children_of es)) c.in-Some.ensures.steps (c.loop-language.invariant.1 f)).1,
     )
 

@@ -6,9 +6,12 @@ use Rattle.tokei_print.specs.ListedLanguages.{languages_in}
 use Rattle.tokei_print.specs.Names.{name_in}
 use Rattle.tokei_print.specs.Results.{is_of_group, language_block, language_blocks}
 use Rattle.tokei_print.specs.ResultsFit.{LanguagesFit}
-use Rattle.tokei_print.proofs.Behind.{one_more, no_more, one_kept, one_passed, none_kept}
+use Rattle.tokei_print.proofs.Behind.{none_yet, one_more, no_more, one_kept, one_passed, none_kept}
 use Rattle.tokei_print.proofs.results.group_rows.Goals as goal
-use Rattle.tokei_print.proofs.results.group_rows.Goals.{then-is_of_group+in_ok-language_block+in_ok-push_str, else-is_of_group}
+use Rattle.tokei_print.proofs.results.group_rows.Goals.{then-is_of_group+in_ok-rows, else-is_of_group}
+
+pub loop-entry-init : goal.loop-entry-init
+loop-entry-init c = (none_yet (string_bytes c.new-rows.result) _ c.new-rows.ensures.bytes, λ f. f)
 
 pub loop-entry-preserved : goal.loop-entry-preserved
 loop-entry-preserved c =
@@ -23,14 +26,14 @@ loop-entry-preserved c =
     let fit = LanguagesFit c.args.layout.now.list_files c.args.showing.compact c.args.showing.sorted in
     let left = λ (n : ℕ). filter test (languages_in (drop n xs)) in
     elim c.if-is_of_group.branch [
-      | then-is_of_group+in_ok-language_block+in_ok-push_str w ↦
+      | then-is_of_group+in_ok-rows w ↦
           let kept : left i ≡ seen x ∷ left (i + 1) =
           one_kept seen xs i x c.loop-entry-test.true c.entry-item.is test (sym c.is_of_group.ensures ∙ w.if-is_of_group.true) in (
             ap (λ a. string_bytes c.if-is_of_group.rows ++ text a (left (i + 1))) w.first-is
                 ∙ one_more rows (text c.args.group.first (left 0)) (string_bytes c.if-is_of_group.rows) (block c.loop-entry.first x.0 (language_of x.1.now))
                 (text c.loop-entry.first (left i)) (text false (left (i + 1))) c.loop-entry.invariant.0
                 (ap (text c.loop-entry.first) kept)
-                (ap string_bytes w.rows-is ∙ w.in_ok-push_str.ensures.bytes ∙ ap (λ t. rows ++ t) (w.deref.ensures ∙ w.in_ok-language_block.ensures.ok)),
+                (ap string_bytes w.rows-is ∙ w.in_ok-rows.ensures.ok _ w.language_block.ensures.ok),
             λ f. (subst fit kept (c.loop-entry.invariant.1 f)).1,
           )
       | else-is_of_group w ↦

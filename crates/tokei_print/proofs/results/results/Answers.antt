@@ -1,4 +1,4 @@
-use Rattle.std.proofs.Common.{◌≡◌, ◌++◌, Bool, true, false, length, ap, ap₂, ◌∙◌, rules, string_bytes}
+use Rattle.std.proofs.Common.{◌≡◌, ◌++◌, Bool, true, false, IfOk, length, ap, ap₂, subst, ◌∙◌, rules, string_bytes}
 use Rattle.std.specs.Prelude.{◌==◌}
 use Rattle.std.specs.String.{string_len}
 use Rattle.tokei_print.specs.ListedLanguages.{languages_in}
@@ -16,5 +16,6 @@ returns-clause-ok c =
     let first : c.is_empty.result ≡ (length alone == 0) =
     c.is_empty.ensures ∙ ap (λ n. n == 0) bytes ∙ ap (λ t. length t == 0) c.in_ok-rows.ensures.ok ∙ no_blocks c.args.layout.now names c.args.showing.compact c.args.showing.sorted alone in
     let blocks = λ (b : Bool). language_blocks c.args.layout.now names c.args.showing.compact c.args.showing.sorted b (group_of c.args.showing.compact true languages) in
-    c.in_ok-push_str.ensures.bytes
-    ∙ ap₂ (λ x y. x ++ y) c.in_ok-rows.ensures.ok (c.deref.ensures ∙ c.in_ok-group_rows.ensures.ok ∙ ap blocks first)
+    subst (λ b. IfOk c.joined.result (λ s. string_bytes s ≡ b))
+    (ap₂ (λ x y. x ++ y) c.in_ok-rows.ensures.ok (ap blocks first))
+    (c.joined.ensures.ok _ c.group_rows-2.ensures.ok)

@@ -19,10 +19,10 @@ loop-language-preserved c =
     let rows = string_bytes c.loop-language.rows in
     let row = λ (name : List ℕ). blob_row c.args.self.now c.args.inaccurate name (stats_of c.in-Some.stats.now) in
     let text = λ (es : List (ℕ × CodeStats)). blob_rows c.args.self.now (name_in c.args.table.now) c.args.inaccurate (blobs_of (entries_of es)) in (
-      one_more rows (text c.args.blobs.now.entries) (string_bytes c.push_str.new.self) (row (name_in c.args.table.now c.in-Some.language.now))
+      one_more rows (text c.args.blobs.now.entries) (string_bytes c.in_ok-rows.rows) (row (name_in c.args.table.now c.in-Some.language.now))
           (text c.loop-language.language-iterator) (text c.next.new.self) c.loop-language.invariant.0
           (ap text c.in-Some.ensures.steps)
-          (c.in_ok-push_str.ensures.bytes ∙ ap (λ t. rows ++ t) (c.deref.ensures ∙ c.in_ok-row.ensures.ok ∙ ap row c.name_of.ensures)),
+          (c.in_ok-rows.ensures.ok _ c.blob_row-row.ensures.ok ∙ ap (λ n. rows ++ row n) c.name_of.ensures),
       λ f. (subst (λ es. BlobRowsFit (blobs_of (entries_of es))) c.in-Some.ensures.steps (c.loop-language.invariant.1 f)).1,
     )
 

@@ -1,0 +1,17 @@
+use Rattle.std.proofs.Common.{ap, append_assoc, ◌++◌, ◌∷◌, ◌∙◌}
+use Rattle.tokei_options.specs.Grouping.{separator_text}
+use Rattle.tokei_print.specs.Cells.{number_cells, number_text, right_in}
+use Rattle.tokei_print.specs.Rules.{newline}
+use Rattle.tokei_stats.specs.Seen.{sums_of}
+use Rattle.tokei_table.specs.Bytes.{space}
+use Rattle.tokei_print.proofs.counts.files_and_counts.Goals as goal
+
+pub returns-clause-ok : goal.returns-clause-ok
+returns-clause-ok c =
+    let separator = separator_text c.args.format.separator in
+    let files = space ∷ right_in 8 (number_text separator c.args.files) in
+    let cells = number_cells separator (sums_of c.args.counts) in
+    c.in_ok-push_str.ensures.bytes
+    ∙ ap (λ b. b ++ newline) (c.in_ok-row.ensures.ok _ c.number_cells.ensures.ok
+    ∙ ap (λ b. b ++ cells) (c.in_ok-put_cell.ensures ∙ ap (λ b. b ++ files) c.new-begun.ensures.bytes))
+    ∙ append_assoc files cells newline
