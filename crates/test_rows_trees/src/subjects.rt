@@ -29,7 +29,11 @@ pub struct Rows(&'static str, &'static Members, About);
 pub const SUBJECTS: &[Rows] = &[
     Rows("documents.toml", &documents::MEMBERS, About::Documents),
     Rows("files.toml", &files::MEMBERS, About::Files),
-    Rows("ignore_files.toml", &ignore_files::MEMBERS, About::IgnoreFiles),
+    Rows(
+        "ignore_files.toml",
+        &ignore_files::MEMBERS,
+        About::IgnoreFiles,
+    ),
     Rows("languages.toml", &languages::MEMBERS, About::Languages),
     Rows("patterns.toml", &patterns::MEMBERS, About::Patterns),
     Rows("printed.toml", &printed::MEMBERS, About::Printed),
