@@ -62,18 +62,21 @@ fn say_parsed(
 fn came_of_report(
     table: &LanguageTable,
     row: &Row,
-    path: String,
+    path: &str,
     folders: &mut MemoryFolders,
     answers: &mut Answers,
 ) {
+    let alloc = answers.alloc;
     let config = configuration(table, row, answers);
     let Some(language) = LanguageType::from_name(table, answers.text(row, "language")) else {
         return answers.fail(NO_LANGUAGE);
     };
-    match Counter::new(answers.alloc, table) {
+    match Counter::new(alloc, table) {
         Ok(counter) => {
-            let parsed = parse_file(answers.alloc, &counter, language, folders, path, &config);
-            say_parsed(table, parsed, answers);
+            if let Some(path) = answers.got(String::from_str(alloc, path)) {
+                let parsed = parse_file(alloc, &counter, language, folders, path, &config);
+                say_parsed(table, parsed, answers);
+            }
         }
         Err(_) => answers.fail(RowError::Memory),
     }
@@ -108,13 +111,14 @@ fn say_language(
 
 /// What the calls answer.
 pub fn came(table: &LanguageTable, row: &Row, answers: &mut Answers) {
-    let Some(mut folders) = answers.got(folders_of(answers.alloc, row)) else {
-        return;
-    };
-    let path = answers.text(row, "path");
-    if !row.has("language") {
-        say_language(table, row, path, &mut folders, answers);
-    } else if let Some(path) = answers.got(String::from_str(answers.alloc, path)) {
-        came_of_report(table, row, path, &mut folders, answers);
+    let mut made = folders_of(answers.alloc, row);
+    if let Ok(folders) = &mut made {
+        let path = answers.text(row, "path");
+        if row.has("language") {
+            came_of_report(table, row, path, folders, answers);
+        } else {
+            say_language(table, row, path, folders, answers);
+        }
     }
+    answers.done(made);
 }

@@ -21,5 +21,5 @@ use std::process::ExitCode;
 use subjects::SUBJECTS;
 
 fn main(rt: HostRuntime) -> anyhow::Result<ExitCode> {
-    test_rows::ended(&rt, &SUBJECTS)
+    test_rows::ended(&rt, SUBJECTS)
 }

@@ -42,13 +42,14 @@ pub fn came(row: &Row, answers: &mut Answers) {
     } else {
         Pattern::parse(answers.alloc, answers.text(row, "line"))
     };
-    match pattern {
-        Ok(Some(pattern)) => {
-            let answer = answer(&pattern, path, folder, answers);
-            answers.say("answer", Said::Text(answer));
+    let answer = match &pattern {
+        Ok(Some(pattern)) => answer(pattern, path, folder, answers),
+        Ok(None) => "no pattern",
+        Err(PatternError::Bad) => "bad line",
+        Err(PatternError::Memory) => {
+            answers.fail(RowError::Memory);
+            ""
         }
-        Ok(None) => answers.say("answer", Said::Text("no pattern")),
-        Err(PatternError::Bad) => answers.say("answer", Said::Text("bad line")),
-        Err(PatternError::Memory) => answers.fail(RowError::Memory),
-    }
+    };
+    answers.say("answer", Said::Text(answer));
 }

@@ -6,9 +6,9 @@ use crate::{
 use test_rows::{Answers, Asked, Members, Row, RowError, Subject};
 use tokei_table::LanguageTable;
 
-/// What rows are about: each has a file of this name, and a module that asks.
+/// What rows are about: each has a module that asks.
 #[derive(Clone, Copy)]
-pub enum Rows {
+pub enum About {
     Documents,
     Files,
     IgnoreFiles,
@@ -21,74 +21,61 @@ pub enum Rows {
     Words,
 }
 
+/// Rows: the name of their file, their members, and what they are about.
+#[derive(Clone, Copy)]
+pub struct Rows(&'static str, &'static Members, About);
+
 /// All of them, in the order of their files' names.
-pub const SUBJECTS: [Rows; 10] = [
-    Rows::Documents,
-    Rows::Files,
-    Rows::IgnoreFiles,
-    Rows::Languages,
-    Rows::Patterns,
-    Rows::Printed,
-    Rows::ReadBack,
-    Rows::Statistics,
-    Rows::Walks,
-    Rows::Words,
+pub const SUBJECTS: &[Rows] = &[
+    Rows("documents.toml", &documents::MEMBERS, About::Documents),
+    Rows("files.toml", &files::MEMBERS, About::Files),
+    Rows(
+        "ignore_files.toml",
+        &ignore_files::MEMBERS,
+        About::IgnoreFiles,
+    ),
+    Rows("languages.toml", &languages::MEMBERS, About::Languages),
+    Rows("patterns.toml", &patterns::MEMBERS, About::Patterns),
+    Rows("printed.toml", &printed::MEMBERS, About::Printed),
+    Rows("read_back.toml", &read_back::MEMBERS, About::ReadBack),
+    Rows("statistics.toml", &statistics::MEMBERS, About::Statistics),
+    Rows("walks.toml", &walks::MEMBERS, About::Walks),
+    Rows("words.toml", &words::MEMBERS, About::Words),
 ];
 
 impl Subject for Rows {
     fn file(&self) -> &'static str {
-        match *self {
-            Rows::Documents => "documents.toml",
-            Rows::Files => "files.toml",
-            Rows::IgnoreFiles => "ignore_files.toml",
-            Rows::Languages => "languages.toml",
-            Rows::Patterns => "patterns.toml",
-            Rows::Printed => "printed.toml",
-            Rows::ReadBack => "read_back.toml",
-            Rows::Statistics => "statistics.toml",
-            Rows::Walks => "walks.toml",
-            Rows::Words => "words.toml",
-        }
+        self.0
     }
 
     fn members(&self) -> Members {
-        match *self {
-            Rows::Documents => documents::MEMBERS,
-            Rows::Files => files::MEMBERS,
-            Rows::IgnoreFiles => ignore_files::MEMBERS,
-            Rows::Languages => languages::MEMBERS,
-            Rows::Patterns => patterns::MEMBERS,
-            Rows::Printed => printed::MEMBERS,
-            Rows::ReadBack => read_back::MEMBERS,
-            Rows::Statistics => statistics::MEMBERS,
-            Rows::Walks => walks::MEMBERS,
-            Rows::Words => words::MEMBERS,
-        }
+        *self.1
     }
 
     fn ask(&self, asked: &Asked, row: &Row, answers: &mut Answers) -> Result<(), RowError> {
-        match *self {
-            Rows::IgnoreFiles => ignore_files::came(row, answers),
-            Rows::Patterns => patterns::came(row, answers),
-            Rows::Walks => walks::came(row, answers),
-            Rows::Words => words::came(row, answers),
-            _ => self.ask_by(asked.table()?, row, answers),
+        match self.2 {
+            About::IgnoreFiles => ignore_files::came(row, answers),
+            About::Patterns => patterns::came(row, answers),
+            About::Walks => walks::came(row, answers),
+            About::Words => words::came(row, answers),
+            _ => match asked.table() {
+                Ok(table) => ask_by(self.2, table, row, answers),
+                Err(cause) => answers.fail(cause),
+            },
         }
         Ok(())
     }
 }
 
-impl Rows {
-    /// Asks the public calls that need a table, and says what they answer.
-    fn ask_by(&self, table: &LanguageTable, row: &Row, answers: &mut Answers) {
-        match *self {
-            Rows::Documents => documents::came(table, row, answers),
-            Rows::Files => files::came(table, row, answers),
-            Rows::Languages => languages::came(table, row, answers),
-            Rows::Printed => printed::came(table, row, answers),
-            Rows::ReadBack => read_back::came(table, row, answers),
-            Rows::Statistics => statistics::came(table, row, answers),
-            Rows::IgnoreFiles | Rows::Patterns | Rows::Walks | Rows::Words => {}
-        }
+/// Asks the public calls that need a table, and says what they answer.
+fn ask_by(about: About, table: &LanguageTable, row: &Row, answers: &mut Answers) {
+    match about {
+        About::Documents => documents::came(table, row, answers),
+        About::Files => files::came(table, row, answers),
+        About::Languages => languages::came(table, row, answers),
+        About::Printed => printed::came(table, row, answers),
+        About::ReadBack => read_back::came(table, row, answers),
+        About::Statistics => statistics::came(table, row, answers),
+        _ => {}
     }
 }

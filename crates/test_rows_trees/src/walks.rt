@@ -57,9 +57,9 @@ fn rules(row: &Row, answers: &mut Answers) -> Rules {
 
 /// The word for a kind of notes.
 fn word(kind: NoteKind) -> &'static str {
-    for (word, known) in KINDS {
-        if known == kind {
-            return word;
+    for (word, known) in &KINDS {
+        if *known == kind {
+            return *word;
         }
     }
     ""
@@ -86,8 +86,8 @@ fn put_notes(page: &mut Page, notes: &[Note]) {
 /// Says the files and notes that `kept_files` answers.
 fn say_kept<F: Folders>(folders: &mut F, wanted: &Wanted, answers: &mut Answers) {
     let (roots, excludes) = (wanted.roots.as_slice(), wanted.excludes.as_slice());
-    let kept = kept_files(answers.alloc, folders, roots, excludes, &wanted.rules);
-    if let Some(kept) = answers.got(kept) {
+    let made = kept_files(answers.alloc, folders, roots, excludes, &wanted.rules);
+    if let Ok(kept) = &made {
         let mut page = Page::new(answers.alloc);
         for file in kept.files.as_slice() {
             put_file(&mut page, file);
@@ -95,6 +95,7 @@ fn say_kept<F: Folders>(folders: &mut F, wanted: &Wanted, answers: &mut Answers)
         put_notes(&mut page, kept.notes.as_slice());
         answers.say_page("kept", &page);
     }
+    answers.done(made);
 }
 
 /// Adds the files and notes that a walk answers, one call after the other, up to ten thousand.
@@ -111,12 +112,13 @@ fn put_steps<F: Folders>(folders: &mut F, walk: &mut Walk, page: &mut Page, answ
 /// Says the files and notes that a walk answers, which have to be the same.
 fn say_walked<F: Folders>(folders: &mut F, wanted: &Wanted, answers: &mut Answers) {
     let (roots, excludes) = (wanted.roots.as_slice(), wanted.excludes.as_slice());
-    let walk = Walk::new(answers.alloc, roots, excludes, &wanted.rules);
-    if let Some(mut walk) = answers.got(walk) {
+    let mut made = Walk::new(answers.alloc, roots, excludes, &wanted.rules);
+    if let Ok(walk) = &mut made {
         let mut page = Page::new(answers.alloc);
-        put_steps(folders, &mut walk, &mut page, answers);
+        put_steps(folders, walk, &mut page, answers);
         answers.say_page("kept", &page);
     }
+    answers.done(made);
 }
 
 /// What the calls answer.
