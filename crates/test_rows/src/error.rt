@@ -41,14 +41,6 @@ impl RowError {
     }
 }
 
-/// What a call gives, or why the row can't be asked where it gives nothing.
-pub fn kept<T, E: Into<RowError>>(given: Result<T, E>) -> Result<T, RowError> {
-    match given {
-        Ok(value) => Ok(value),
-        Err(cause) => Err(cause.into()),
-    }
-}
-
 impl From<AllocError> for RowError {
     fn from(_refused: AllocError) -> RowError {
         RowError::Memory

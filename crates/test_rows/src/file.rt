@@ -18,7 +18,6 @@ use toml::{Table, Value};
 struct How<'a, 't, S> {
     alloc: Global,
     subject: &'a S,
-    file: &'static str,
     only: Option<&'a str>,
     tables: &'t Tables,
 }
@@ -44,21 +43,17 @@ fn tell<S: Subject>(how: &How<S>, row: &Row, answers: &mut Answers) {
 
 /// Asks a row with its name.
 fn ask_named<S: Subject>(how: &How<S>, told: &mut Told, row: &Row) {
-    let members = how.subject.members();
+    let (file, members) = (how.subject.file(), how.subject.members());
     let known = [&["name"], members.given, members.wanted, members.optional];
     if let Some(member) = row.unknown(&known) {
-        told.refuse_row(
-            how.file,
-            row.name,
-            &["  the member ", member, " isn't known\n"],
-        );
+        told.refuse_row(file, row.name, &["  the member ", member, " isn't known\n"]);
         return;
     }
     let mut answers = Answers::new(how.alloc, *row, members);
     tell(how, row, &mut answers);
     match answers.told.text() {
         Some("") => told.pass(),
-        Some(faults) => told.refuse_row(how.file, row.name, &[faults]),
+        Some(faults) => told.refuse_row(file, row.name, &[faults]),
         None => told.lines.cut(),
     }
 }
@@ -69,7 +64,7 @@ fn tell_nameless<S: Subject>(how: &How<S>, told: &mut Told, place: usize) {
     shown.put_shown(&place.saturating_add(1));
     match shown.text() {
         Some(place) => told.refuse(
-            how.file,
+            how.subject.file(),
             &["row ", place, " doesn't hold\n  it has no name"],
         ),
         None => told.lines.cut(),
@@ -97,7 +92,7 @@ fn ask<'a, S: Subject>(
                 ask_named(how, told, &Row::new(name, members, list.shared));
             }
         }
-        Ok(false) => told.refuse_row(how.file, name, &["  the name stands twice\n"]),
+        Ok(false) => told.refuse_row(how.subject.file(), name, &["  the name stands twice\n"]),
         Err(_) => told.lines.cut(),
     }
 }
@@ -114,8 +109,9 @@ fn ask_all<S: Subject>(how: &How<S>, told: &mut Told, list: &List) {
 
 /// Asks the rows of a file's members, and tells a member that is neither `row` nor `shared`.
 fn ask_members<S: Subject>(how: &How<S>, told: &mut Told, members: &Table) {
+    let file = how.subject.file();
     if let Some(member) = Row::new("", members, None).unknown(&[&["row", "shared"]]) {
-        told.refuse(how.file, &["the member ", member, " isn't known"]);
+        told.refuse(file, &["the member ", member, " isn't known"]);
     }
     match members.get("row") {
         Some(Value::Array(rows)) => {
@@ -125,7 +121,7 @@ fn ask_members<S: Subject>(how: &How<S>, told: &mut Told, members: &Table) {
             };
             ask_all(how, told, &list);
         }
-        _ => told.refuse(how.file, &["there are no rows"]),
+        _ => told.refuse(file, &["there are no rows"]),
     }
 }
 
@@ -136,7 +132,7 @@ fn tell_cause<S: Subject>(how: &How<S>, told: &mut Told, cause: toml::de::Error)
     } else {
         let mut shown = Page::new(how.alloc);
         shown.put_shown(&cause);
-        told.refuse(how.file, &["it isn't TOML"]);
+        told.refuse(how.subject.file(), &["it isn't TOML"]);
         told.lines.put_indented(&shown);
     }
 }
@@ -156,19 +152,17 @@ fn ask_file<S: Subject>(
     request: &Request,
     told: &mut Told,
 ) -> anyhow::Result<()> {
-    let file = subject.file();
     let path = request.table.as_ref().map(String::as_str);
     let tables = made_tables(rt, subject.members().by_table, path)?;
     let how = How {
         alloc: rt.alloc(),
         subject,
-        file,
         only: request.row.as_ref().map(String::as_str),
         tables: &tables,
     };
-    match fs::read_to_string(rt, file) {
+    match fs::read_to_string(rt, subject.file()) {
         Ok(text) => ask_text(&how, told, text.as_str()),
-        Err(_) => told.refuse(file, &["it can't be read"]),
+        Err(_) => told.refuse(subject.file(), &["it can't be read"]),
     }
     Ok(())
 }

@@ -1,5 +1,5 @@
 //! A row, and how its members are read.
-use crate::error::{RowError, kept};
+use crate::error::RowError;
 use hex::FromHexError;
 use std::alloc::Global;
 use toml::{Table, Value};
@@ -150,13 +150,9 @@ impl<'a> Row<'a> {
         member: &'static str,
         hex: &'static str,
     ) -> Result<Vec<u8>, RowError> {
-        match self.text_if(hex) {
-            Ok(Some(digits)) => decode(alloc, hex, digits),
-            Ok(None) => match self.text(member) {
-                Ok(text) => kept(Vec::from_slice(alloc, text.as_bytes())),
-                Err(cause) => Err(cause),
-            },
-            Err(cause) => Err(cause),
+        match self.text_if(hex)? {
+            Some(digits) => decode(alloc, hex, digits),
+            None => Ok(Vec::from_slice(alloc, self.text(member)?.as_bytes())?),
         }
     }
 
@@ -219,19 +215,10 @@ impl<'a> Row<'a> {
     pub fn texts(&self, alloc: Global, member: &'static str) -> Result<Vec<&'a str>, RowError> {
         let values = self.list(member)?;
         let mut texts = Vec::new(alloc);
-        let mut put = Ok(());
         for value in values {
-            if put.is_ok() {
-                put = match text_of(member, value) {
-                    Ok(text) => kept(texts.push(text)),
-                    Err(cause) => Err(cause),
-                };
-            }
+            texts.push(text_of(member, value)?)?;
         }
-        match put {
-            Ok(()) => Ok(texts),
-            Err(cause) => Err(cause),
-        }
+        Ok(texts)
     }
 
     /// A value that is a table, read as a row.
@@ -246,10 +233,7 @@ impl<'a> Row<'a> {
     pub fn table_if(&self, member: &'static str) -> Result<Option<Row<'a>>, RowError> {
         match self.members.get(member) {
             None => Ok(None),
-            Some(value) => match self.inner(member, value) {
-                Ok(row) => Ok(Some(row)),
-                Err(cause) => Err(cause),
-            },
+            Some(value) => Ok(Some(self.inner(member, value)?)),
         }
     }
 
