@@ -11,6 +11,7 @@ use Rattle.std.specs.List.{prefix_len}
 use lib.Count.{count_trailing_zeros}
 use lib.Lanes.{chunk, zip2, mask_l, top}
 use Rattle.tokei_bytes.specs.OneOf.{is_one_of}
+use Rattle.tokei_bytes.specs.FirstPlace.{IsFirstPlace}
 
 -- one of a byte that is named four times
 pub other_than : (x b : ℕ) → is_one_of (b ∷ b ∷ b ∷ b ∷ []) x ≡ false → (x == b) ≡ false
@@ -193,3 +194,29 @@ module _ (p : ℕ → Bool) (w : ℕ) (t : List ℕ) (i m : ℕ) (most : w ≤ 6
 
   pub none_in_block : m ≡ 0 → (k : ℕ) → i ≤ k → k < i + w → p (get_or t k 0) ≡ false
   none_in_block none = none_from_empty_mask p t i w 0 room (sym marked ∙ none)
+
+-- a search that has come to a block and looked at it: it goes on behind the block, or has found the place
+module _ (p : ℕ → Bool) (t : List ℕ) (from at m : ℕ) (room : at + 32 ≤ length t) (marked : m ≡ mask_l (map p (chunk at 32 t)))
+    (passed : (k : ℕ) → from ≤ k → k < at → p (get_or t k 0) ≡ false) where
+  pub goes_on : m ≡ 0 → (k : ℕ) → from ≤ k → k < at + 32 → p (get_or t k 0) ≡ false
+  goes_on none k a h = elim (cases_lt k at) [
+    | inl b ↦ passed k a b
+    | inr b ↦ none_in_block p 32 t at m (omega arith) room marked none k b h
+  ]
+
+  pub finds : (to r : ℕ) → m ≢ 0 → from ≤ at → at < to → r ≤ to → r ≤ at + count_trailing_zeros 64 m → (r < to → r ≡ at + count_trailing_zeros 64 m) → IsFirstPlace p t from to r
+  finds to r some low inside high near is = record {
+    low = by_cases;
+    high = high;
+    passed = λ k a h. elim (cases_lt k at) [
+      | inl b ↦ passed k a b
+      | inr b ↦ none_before_mark p 32 t at m (omega arith) room marked some k b (omega (arith, h, near))
+    ];
+    found = λ h. ap (λ n. p (get_or t n 0)) (is h) ∙ one_at_mark p 32 t at m (omega arith) room marked some;
+  }
+    where
+      by_cases : from ≤ r
+      by_cases = elim (cases_lt r to) [
+        | inl b ↦ omega (arith, is b, low)
+        | inr b ↦ omega (arith, b, low, inside)
+      ]

@@ -31,18 +31,18 @@ pub(crate) fn marks_of_one(byte: u8, lanes: u8x32) -> u64
     lanes.simd_eq(u8x32::splat(byte)).to_bitmask()
 }
 
-/// The first place of the `BLOCK` places of the text from `from` on whose byte is one of the four,
-/// or the place behind them where there is none. A place counts the bytes of the text before it.
+/// How many of the `BLOCK` bytes of the text from the place `from` on stand before the first that is
+/// one of the four: all where none is. A place counts the bytes of the text before it.
 #[inline(always)]
-pub fn first_in_block(bytes: [u8; 4], text: &[u8], from: usize) -> usize
+pub fn gap_in_block(bytes: [u8; 4], text: &[u8], from: usize) -> usize
     requires { from + BLOCK ≤ length text.now }
-    ensures { IsFirstPlace (is_one_of bytes) text.now from (from + BLOCK) result }
+    ensures { IsFirstPlace (is_one_of bytes) text.now from (from + BLOCK) (from + result) }
 {
     let marked = marks(bytes, u8x32::from_slice(&text[from..]));
     if marked == 0 {
-        return from + BLOCK;
+        return BLOCK;
     }
-    from + marked.trailing_zeros() as usize
+    marked.trailing_zeros() as usize
 }
 
 /// Whether the byte is one of the four.
@@ -113,10 +113,10 @@ pub fn first_of_four(bytes: [u8; 4], text: &[u8], from: usize, to: usize) -> usi
         if text.len() - at < BLOCK {
             return first_in_rest(bytes, text, at, to);
         }
-        // The block may go on past `to`, where a hit is none.
-        let place = first_in_block(bytes, text, at);
-        if place < at + BLOCK {
-            return to.min(place);
+        let marked = marks(bytes, u8x32::from_slice(&text[at..]));
+        if marked != 0 {
+            // The block may go on past `to`, where a hit is none.
+            return to.min(at + marked.trailing_zeros() as usize);
         }
         at += BLOCK;
     }

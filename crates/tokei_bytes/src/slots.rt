@@ -65,21 +65,7 @@ pub fn is_slotted(slots: [u8; 16], byte: u8) -> bool
     slots[(byte % 16) as usize] == byte
 }
 
-/// The first place of the `BLOCK` places of the text from `from` on whose byte stands in the slot of
-/// its low half, or the place behind them where none does.
-#[inline(always)]
-fn first_in_slots(slots: [u8; 16], text: &[u8], from: usize) -> usize
-    requires { from + BLOCK ≤ length text.now }
-    ensures { IsFirstPlace (is_slotted slots) text.now from (from + BLOCK) result }
-{
-    let marked = slotted_marks(slots, u8x32::from_slice(&text[from..]));
-    if marked == 0 {
-        return from + BLOCK;
-    }
-    from + marked.trailing_zeros() as usize
-}
-
-/// The same search one place at a time, where the text has no block from there on.
+/// The search of `first_slotted` one place at a time, where the text has no block from there on.
 #[inline(never)]
 fn slotted_by_one(slots: [u8; 16], text: &[u8], from: usize, to: usize) -> usize
     requires order { from ≤ to }
@@ -107,10 +93,10 @@ pub fn first_slotted(slots: [u8; 16], text: &[u8], from: usize, to: usize) -> us
         if text.len() - at < BLOCK {
             return slotted_by_one(slots, text, at, to);
         }
-        // The block may go on past `to`, where a hit is none.
-        let place = first_in_slots(slots, text, at);
-        if place < at + BLOCK {
-            return to.min(place);
+        let marked = slotted_marks(slots, u8x32::from_slice(&text[at..]));
+        if marked != 0 {
+            // The block may go on past `to`, where a hit is none.
+            return to.min(at + marked.trailing_zeros() as usize);
         }
         at += BLOCK;
     }

@@ -3,7 +3,7 @@ ghost use Rattle.std.specs.Prelude.{◌≡◌, ℕ, ◌+◌, ◌<◌, ◌≤◌,
 ghost use Rattle.tokei_table.specs.Bytes.{is_blank};
 ghost use Rattle.tokei_parts.specs.Lines.{line_len};
 
-use tokei_bytes::{BLOCK, first_in_block, first_of_one, first_other_in_block};
+use tokei_bytes::{BLOCK, first_of_one, first_other_in_block, gap_in_block};
 
 /// The first newline of the text from the place `at` on, or `to` where none stands before that. It
 /// is mostly near: then one look at a block finds it.
@@ -18,9 +18,9 @@ pub fn newline_before(text: &[u8], at: usize, to: usize) -> usize
     if text.len() - at < BLOCK {
         return first_of_one(b'\n', text, at, to);
     }
-    let near = first_in_block([b'\n'; 4], text, at);
-    if near < at + BLOCK {
-        return to.min(near);
+    let gap = gap_in_block([b'\n'; 4], text, at);
+    if gap < BLOCK {
+        return to.min(at + gap);
     }
     if to <= at + BLOCK {
         return to;
@@ -53,10 +53,10 @@ pub fn line_front(text: &[u8], at: usize, to: usize) -> LineFront
         let newline = newline_before(text, at, to);
         return LineFront { newline, solid: at };
     }
-    let near = first_in_block([b'\n'; 4], text, at);
+    let gap = gap_in_block([b'\n'; 4], text, at);
     let solid = first_other_in_block(*b" \t\n\r", text, at);
-    let newline = if near < at + BLOCK {
-        to.min(near)
+    let newline = if gap < BLOCK {
+        to.min(at + gap)
     } else if to <= at + BLOCK {
         to
     } else {

@@ -1,7 +1,7 @@
 use Rattle.std.proofs.Common.{arith}
 use Rattle.tokei_bytes.specs.OneOf.{is_one_of}
 use Rattle.tokei_bytes.proofs.Blocks.{in_block, none_before_mark, one_at_mark, none_in_block}
-use Rattle.tokei_bytes.proofs.one_of.first_in_block.Goals as goal
+use Rattle.tokei_bytes.proofs.one_of.gap_in_block.Goals as goal
 
 pub returns-then-marked-eq0 : goal.returns-then-marked-eq0
 returns-then-marked-eq0 c = record {
