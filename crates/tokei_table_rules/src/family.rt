@@ -1,6 +1,6 @@
 //! Languages that hold children of other languages.
 ghost use Rattle.std.specs.Prelude.{◌≡◌};
-ghost use Rattle.tokei_table_rules.specs.Families.{family_of, is_html_like};
+ghost use Rattle.tokei_table_rules.specs.Families.{family_of};
 
 /// How a language opens children; it goes by the language's key.
 #[derive(Clone, Copy, Debug, PartialEq, Eq)]
@@ -19,34 +19,18 @@ pub enum Family {
     Jupyter,
 }
 
-fn is_html_like(key: &str) -> bool
-    ensures { result ≡ is_html_like key.now }
-{
-    key == "Html"
-        || key == "RubyHtml"
-        || key == "Svelte"
-        || key == "Vue"
-        || key == "GlimmerJs"
-        || key == "GlimmerTs"
-}
-
 impl Family {
     /// The family of the language of that key.
     pub fn of_key(key: &str) -> Family
         ensures { result ≡ family_of key.now }
     {
-        if key == "Markdown" || key == "UnrealDeveloperMarkdown" {
-            Family::Markdown
-        } else if is_html_like(key) {
-            Family::HtmlLike
-        } else if key == "Rust" {
-            Family::Rust
-        } else if key == "LinguaFranca" {
-            Family::LinguaFranca
-        } else if key == "Jupyter" {
-            Family::Jupyter
-        } else {
-            Family::Plain
+        match key {
+            "Markdown" | "UnrealDeveloperMarkdown" => Family::Markdown,
+            "Html" | "RubyHtml" | "Svelte" | "Vue" | "GlimmerJs" | "GlimmerTs" => Family::HtmlLike,
+            "Rust" => Family::Rust,
+            "LinguaFranca" => Family::LinguaFranca,
+            "Jupyter" => Family::Jupyter,
+            _ => Family::Plain,
         }
     }
 }

@@ -7,6 +7,13 @@ use crate::family::Family;
 use std::alloc::{AllocError, Global};
 use tokei_table_row::Syntax;
 
+pub(crate) fn add_word(alloc: Global, out: &mut Vec<String>, word: &str) -> Result<(), AllocError>
+    ensures { OnOk result (tokens_of out.new.items ≡ tokens_of out.old.items ++ word.now ∷ []) }
+{
+    out.push(String::from_str(alloc, word)?)?;
+    Ok(())
+}
+
 fn add_starts(
     alloc: Global,
     out: &mut Vec<String>,
@@ -16,7 +23,7 @@ fn add_starts(
         (tokens_of out.new.items ≡ tokens_of out.old.items ++ starts_of (pairs_of pairs.now)) }
 {
     for pair in pairs {
-        out.push(String::from_str(alloc, pair.0.as_str())?)?;
+        add_word(alloc, out, pair.0.as_str())?;
     }
     Ok(())
 }
@@ -27,7 +34,7 @@ pub fn add_texts(alloc: Global, out: &mut Vec<String>, texts: &[String]) -> Resu
         (tokens_of out.new.items ≡ tokens_of out.old.items ++ tokens_of texts.now) }
 {
     for text in texts {
-        out.push(String::from_str(alloc, text.as_str())?)?;
+        add_word(alloc, out, text.as_str())?;
     }
     Ok(())
 }
@@ -47,13 +54,6 @@ fn add_tags(alloc: Global, out: &mut Vec<String>, tags: &[String]) -> Result<(),
     for tag in tags {
         out.push(tag_start(alloc, tag.as_str())?)?;
     }
-    Ok(())
-}
-
-pub(crate) fn add_word(alloc: Global, out: &mut Vec<String>, word: &str) -> Result<(), AllocError>
-    ensures { OnOk result (tokens_of out.new.items ≡ tokens_of out.old.items ++ word.now ∷ []) }
-{
-    out.push(String::from_str(alloc, word)?)?;
     Ok(())
 }
 

@@ -1,4 +1,5 @@
 use Rattle.std.proofs.Common.{◌∙◌, sym, arith}
+use Rattle.std.proofs.lemmas.Grind.{common_steps}
 use Rattle.tokei_embedding.proofs.Marks.{mark_over}
 use Rattle.tokei_embedding.proofs.mark_search.blanks_end.Goals as goal
 
@@ -10,3 +11,15 @@ loop-at-preserved c =
       mark_over c.args.text.now c.args.from c.loop-at.at c.loop-at-test.true
           c.if-text-at-ne10.true (sym c.is_whitespace.ensures ∙ c.if-is_whitespace.true) i.2,
     )
+
+pub returns-else-text-at-ne10-clause-mark : goal.returns-else-text-at-ne10-clause-mark
+returns-else-text-at-ne10-clause-mark c = grind (arith, common_steps)
+
+pub returns-else-is_whitespace-clause-mark : goal.returns-else-is_whitespace-clause-mark
+returns-else-is_whitespace-clause-mark c = grind (arith, common_steps)
+
+pub returns-after-loop-at-clause-mark : goal.returns-after-loop-at-clause-mark
+returns-after-loop-at-clause-mark c = grind (arith, common_steps)
+
+pub loop-at-init : goal.loop-at-init
+loop-at-init c = grind (arith, common_steps)

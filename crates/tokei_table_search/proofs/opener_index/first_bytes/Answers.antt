@@ -1,4 +1,5 @@
-use Rattle.std.proofs.Common.{◌∙◌, sym, ap, take, get_or, string_bytes, ◌||◌}
+use Rattle.std.proofs.Common.{◌∙◌, sym, ap, take, get_or, string_bytes, ◌||◌, arith}
+use Rattle.std.proofs.lemmas.Grind.{common_steps}
 use Rattle.tokei_table_row.specs.FirstOpener.{is_first, is_first_of}
 use Rattle.tokei_bytes.specs.OneOf.{is_one_of}
 use Rattle.tokei_table_row.specs.RowOf.{tokens_of}
@@ -18,3 +19,6 @@ loop-opener-preserved c = λ x.
     (get_or c.args.openers.now c.loop-opener.opener-index c.opener-item.result)) x)
     ∙ ap (λ l. is_first l x)
     (sym (tokens_more c.args.openers.now c.loop-opener.opener-index c.opener-item.result c.loop-opener-test.true))
+
+pub returns : goal.returns
+returns c = grind (arith, common_steps)

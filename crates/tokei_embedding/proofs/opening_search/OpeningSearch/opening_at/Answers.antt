@@ -1,4 +1,5 @@
 use Rattle.std.proofs.Common.{◌≡◌, ◌+◌, ◌-◌, length, take, drop, option_map, ap, ◌∙◌, arith}
+use Rattle.std.proofs.lemmas.Grind.{common_steps}
 use Rattle.tokei_embedding.proofs.TagOpenings.{no_opening, opened}
 use Rattle.tokei_embedding.specs.Seen.{span_seen, opening_seen}
 use Rattle.tokei_embedding.specs.TagSearches.{TagSought}
@@ -31,3 +32,33 @@ returns-clause-value c =
     (ap (λ t. a.at + length t) c.token_of.ensures)
     (omega (arith, long, c.requires.stands, c.in_ok-last.ensures.within))
     c.in_ok-last.ensures.value c.value_in-value.ensures.value)
+
+pub overflow_add-start-2 : goal.overflow_add-start-2
+overflow_add-start-2 c = grind (arith, common_steps)
+
+pub returns-in_err-last-clause-whole : goal.returns-in_err-last-clause-whole
+returns-in_err-last-clause-whole c = grind (arith, common_steps)
+
+pub opening_past-requires-clause-ends : goal.opening_past-requires-clause-ends
+opening_past-requires-clause-ends c = grind (arith, common_steps)
+
+pub opening_past-requires-clause-order : goal.opening_past-requires-clause-order
+opening_past-requires-clause-order c = grind (arith, common_steps)
+
+pub value_in-value-requires-clause-ends : goal.value_in-value-requires-clause-ends
+value_in-value-requires-clause-ends c = grind (arith, common_steps)
+
+pub returns-in_err-last-clause-value_within : goal.returns-in_err-last-clause-value_within
+returns-in_err-last-clause-value_within c = grind (arith, common_steps)
+
+pub opening_past-requires-clause-behind : goal.opening_past-requires-clause-behind
+opening_past-requires-clause-behind c = grind (arith, common_steps)
+
+pub returns-clause-whole : goal.returns-clause-whole
+returns-clause-whole c = grind (arith, common_steps)
+
+pub returns-clause-value_within : goal.returns-clause-value_within
+returns-clause-value_within c = grind (arith, common_steps)
+
+pub opening_past-requires-clause-within : goal.opening_past-requires-clause-within
+opening_past-requires-clause-within c = grind (arith, common_steps)

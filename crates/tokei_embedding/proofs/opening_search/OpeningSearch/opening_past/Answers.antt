@@ -1,4 +1,5 @@
 use Rattle.std.proofs.Common.{◌+◌, ◌-◌, ◌≤◌, None, Some, option_map, refl, ap, ◌∙◌, arith}
+use Rattle.std.proofs.lemmas.Grind.{common_steps}
 use Rattle.tokei_embedding.proofs.TagOpenings.{opens_past, end_within}
 use Rattle.tokei_embedding.specs.Seen.{span_seen, opening_seen}
 use Rattle.tokei_embedding.specs.Spans.{shifted}
@@ -26,3 +27,24 @@ returns-clause-value c =
     (option_map span_seen a.value) (option_map span_seen c.shifted.result)
     (Some c.in_ok-end.end) c.self.invariant.first near c.value_end-behind.ensures
     c.shifted.ensures.value c.in_ok-end.ensures.value)
+
+pub shifted-requires : goal.shifted-requires
+shifted-requires c = grind (arith, common_steps)
+
+pub returns-in_err-end-clause-value_within : goal.returns-in_err-end-clause-value_within
+returns-in_err-end-clause-value_within c = grind (arith, common_steps)
+
+pub overflow_add-result-3 : goal.overflow_add-result-3
+overflow_add-result-3 c = grind (arith, common_steps)
+
+pub returns-in_err-end-clause-whole : goal.returns-in_err-end-clause-whole
+returns-in_err-end-clause-whole c = grind (arith, common_steps)
+
+pub returns-clause-value_within : goal.returns-clause-value_within
+returns-clause-value_within c = grind (arith, common_steps)
+
+pub returns-clause-whole : goal.returns-clause-whole
+returns-clause-whole c = grind (arith, common_steps)
+
+pub overflow_add-result-2 : goal.overflow_add-result-2
+overflow_add-result-2 c = grind (arith, common_steps)

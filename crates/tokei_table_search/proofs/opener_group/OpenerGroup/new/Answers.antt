@@ -1,4 +1,5 @@
-use Rattle.std.proofs.Common.{◌∙◌, ap, false, length, string_bytes}
+use Rattle.std.proofs.Common.{◌∙◌, ap, false, length, string_bytes, arith}
+use Rattle.std.proofs.lemmas.Grind.{common_steps}
 use Rattle.std.proofs.lemmas.List.{length-replicate}
 use Rattle.std.specs.List.{list_any}
 use Rattle.tokei_bytes.specs.ByteSets.{is_in}
@@ -38,3 +39,6 @@ loop-opener-preserved c =
           (is_in c.loop-opener.wholes y) (is_in c.add_opener.new.wholes y)
           (list_any (is_whole_behind byte y) (tokens_of openers)) (c.add_opener.ensures.wholes y l) (known.wholes_each y l);
     }
+
+pub returns : goal.returns
+returns c = grind (arith, common_steps)

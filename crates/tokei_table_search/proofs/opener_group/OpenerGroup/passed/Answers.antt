@@ -1,4 +1,5 @@
 use Rattle.std.proofs.Common.{◌≡◌, ◌+◌, false, get_or, sym, ◌∙◌, arith}
+use Rattle.std.proofs.lemmas.Grind.{common_steps}
 use Rattle.tokei_bytes.specs.ByteSets.{is_in}
 use Rattle.tokei_table_search.proofs.OpenerGroups.{one_more}
 use Rattle.tokei_table_search.proofs.opener_group.OpenerGroup.passed.Goals as goal
@@ -17,3 +18,21 @@ loop-at-preserved c =
           one_more (λ k. is_in c.args.self.now.seconds (get_or text (k + 1) 0) ≡ false) c.args.from at i.none
           (sym c.has.ensures ∙ c.if-not-has.true);
     }
+
+pub returns-else-text-at-clause-inside : goal.returns-else-text-at-clause-inside
+returns-else-text-at-clause-inside c = grind (arith, common_steps)
+
+pub overflow_add-at-in-loop-at : goal.overflow_add-at-in-loop-at
+overflow_add-at-in-loop-at c = grind (arith, common_steps)
+
+pub returns-else-not-has-clause-within : goal.returns-else-not-has-clause-within
+returns-else-not-has-clause-within c = grind (arith, common_steps)
+
+pub returns-else-not-has-clause-inside : goal.returns-else-not-has-clause-inside
+returns-else-not-has-clause-inside c = grind (arith, common_steps)
+
+pub returns-else-text-at-clause-run : goal.returns-else-text-at-clause-run
+returns-else-text-at-clause-run c = grind (arith, common_steps)
+
+pub returns-else-not-has-clause-run : goal.returns-else-not-has-clause-run
+returns-else-not-has-clause-run c = grind (arith, common_steps)
