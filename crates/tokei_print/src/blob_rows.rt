@@ -16,7 +16,6 @@ impl Layout {
     ghost use Rattle.tokei_print.specs.Names.{name_in};
 
     /// A file's name: alone where no other file stands above, and else between dashes.
-    #[tactic(auto, using(crate::proofs::Dashes::dashes))]
     pub fn name_line(&self, alloc: Global, name: &str, first: bool) -> Result<String, AllocError>
         ensures { IfOk result (λ s. string_bytes s ≡ name_line self.now first name.now) }
     {

@@ -88,16 +88,15 @@ fn file_block(
     let sums = report.stats.summary_counts()?;
     let line = layout.name_line(alloc, &shown(alloc, &report.name)?, first)?;
     let own = layout.own_row(alloc, language.name, &report.stats)?;
+    let begun = joined(line, Ok(own))?;
     let blobs = layout.blob_rows(
         alloc,
         language.table,
         language.inaccurate,
         &report.stats.blobs,
-    )?;
-    let subtotal = layout.subtotal(alloc, "|- (Total)", sums)?;
-    let (line, own) = (line.as_str(), own.as_str());
-    let (blobs, subtotal) = (blobs.as_str(), subtotal.as_str());
-    Ok(format!(in alloc; "{line}{own}{blobs}{subtotal}")?)
+    );
+    let rows = joined(begun, blobs)?;
+    joined(rows, layout.subtotal(alloc, "|- (Total)", sums))
 }
 
 /// The rows of the files that have no row alone.

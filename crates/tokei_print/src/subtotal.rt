@@ -12,7 +12,6 @@ impl Layout {
 
     /// The row of counts that take in those of the texts inside. `Overflow` only where the lines
     /// pass the greatest `usize`.
-    #[tactic(auto, using(crate::proofs::Padding::short_cell, tokei_stats::proofs::Padding::styled_left))]
     pub fn subtotal(&self, alloc: Global, name: &str, counts: Sums) -> Result<String, CountError>
         requires { length name.now ≤ path_places self.now.columns }
         ensures ok { IfOk result (λ s. string_bytes s
