@@ -15,12 +15,12 @@ returns-clause-ok c =
     let files = space ∷ right_in 8 (number_text separator c.args.files) in
     let cells = number_cells separator (sums_of c.args.counts) in
     c.in_ok-push_str.ensures.bytes
-    ∙ ap (λ b. b ++ newline) (c.in_ok-row.ensures.ok _ c.number_cells.ensures.ok
+    ∙ ap (λ b. b ++ newline) (c.in_ok-row.ensures.ok _ c.cells_with_lines_in.ensures.ok
     ∙ ap (λ b. b ++ cells) (c.in_ok-put_cell.ensures ∙ ap (λ b. b ++ files) c.new-begun.ensures.bytes))
     ∙ append_assoc files cells newline
 
 pub returns-clause-fits : goal.returns-clause-fits
-returns-clause-fits c = where_made {E = CountError} (Ok c.in_ok-row.row) c.number_cells.result _ c.in_ok-row.ensures.part c.number_cells.ensures.fits
+returns-clause-fits c = where_made {E = CountError} (Ok c.in_ok-row.row) c.cells_with_lines_in.result _ c.in_ok-row.ensures.part c.cells_with_lines_in.ensures.fits
 
 pub returns-clause-overflow : goal.returns-clause-overflow
 returns-clause-overflow c = λ t f. no_refusal t

@@ -9,6 +9,7 @@ use Rattle.tokei_print.specs.LinesFit.{LinesFit}
 use Rattle.tokei_print.specs.Names.{name_in}
 use Rattle.tokei_print.specs.Subtotal.{subtotal}
 use Rattle.tokei_print.proofs.Behind.{four_behind}
+use Rattle.tokei_languages.proofs.Refusals.{no_refusal}
 use Rattle.tokei_print.proofs.file_rows.file_block.Goals as goal
 
 pub returns-clause-ok : goal.returns-clause-ok
@@ -36,3 +37,8 @@ returns-in_err-rows-clause-overflow c = λ t f.
 pub returns-clause-overflow : goal.returns-clause-overflow
 returns-clause-overflow c = λ t f.
     c.subtotal.ensures.overflow (c.joined-3.ensures.overflow t) (subst LinesFit (sym c.in_ok-sums.ensures.sum) f.subtotal)
+
+pub returns-in_err-begun-clause-overflow : goal.returns-in_err-begun-clause-overflow
+returns-in_err-begun-clause-overflow c = λ t f.
+    let same : c.in_err-begun.field-0.0 ≡ Overflow = search rules in
+    no_refusal (c.in_err-begun.ensures.overflow (ap (λ x. Err x) same))

@@ -1,7 +1,7 @@
 use Rattle.std.proofs.Common.{◌≡◌, ap, sym, ◌∙◌, arith, length, rules}
 use Rattle.std.proofs.lemmas.List.{length-map}
 use Rattle.std.specs.Vec.{vec_len}
-use Rattle.tokei_languages.specs.Seen.{entries_of, language_of, languages_of}
+use Rattle.tokei_languages.specs.Seen.{entries_of, languages_of}
 use Rattle.tokei_languages.specs.Summaries.{reports_by_language}
 use Rattle.tokei_stats.specs.Reports.{report_of}
 use Rattle.tokei_print.specs.Total.{report_count}
