@@ -1,5 +1,6 @@
 pub mod Behind
 pub mod Blocks
+pub mod Counting
 pub mod Dashes
 pub mod EmptyLanguages
 pub mod Files

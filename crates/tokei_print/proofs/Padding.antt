@@ -1,15 +1,16 @@
 -- What a hole with a width or a precision writes, in the words of the specs.
-use Rattle.std.proofs.Common.{◌≡◌, ℕ, suc, zero, ◌-◌, ◌^◌, ◌≤◌, ◌<◌, List, [], ◌∷◌, ◌++◌, length, replicate, Bool, true, false, if◌then◌else◌, refl, sym, ap, ◌∙◌, arith, append-nil, lit<}
+use Rattle.std.proofs.Common.{◌≡◌, ℕ, suc, zero, ◌-◌, ◌^◌, ◌≤◌, ◌<◌, List, [], ◌∷◌, ◌++◌, codes, length, replicate, Bool, true, false, if◌then◌else◌, refl, sym, ap, ◌∙◌, arith, append-nil, lit<}
 use Rattle.std.proofs.lemmas.Bool.Decides.{nat_tests}
 use Rattle.std.specs.Prelude.{◌==◌, ◌&&◌, nat_lt}
 use lib.Utf8.{encode}
 use Rattle.std.specs.List.{repeat}
 use Rattle.std.specs.Fmt.{padded, format_spec, take_chars, char_count, styled_text}
 use Rattle.std.proofs.lemmas.Str.{encode_ascii}
-use Rattle.tokei_stats.proofs.Padding.{char_count-le, take_chars_all}
+use Rattle.tokei_stats.proofs.Padding.{char_count-le, take_chars_all, styled_left}
 use Rattle.tokei_stats.specs.Places.{left_in}
 use Rattle.tokei_stats.specs.ReportRow.{name_cell}
 use Rattle.tokei_print.specs.Cells.{right_in}
+use Rattle.tokei_print.specs.NameSection.{shown_name}
 
 one_space : encode 32 ≡ 32 ∷ []
 one_space = encode_ascii 32 (lit< tt)
@@ -53,7 +54,7 @@ nothing : (n : ℕ) → n ≡ 0 → repeat {A = ℕ} n (encode 32) ≡ []
 nothing n e = spaces n 0 e
 
 -- a text under `{:.n}`
-pub precise : (n : ℕ) (t : List ℕ) → n < 2 ^ 64 - 1 → styled_text (format_spec 32 0 0 0 n) t ≡ take_chars n t
+precise : (n : ℕ) (t : List ℕ) → n < 2 ^ 64 - 1 → styled_text (format_spec 32 0 0 0 n) t ≡ take_chars n t
 unfolding padded
 precise n t h =
     let other : (n == 18446744073709551615) ≡ false = grind (arith, nat_tests) in
@@ -63,3 +64,15 @@ precise n t h =
 -- a name that fits stands whole
 pub short_cell : (w : ℕ) (name : List ℕ) → length name ≤ w → name_cell w name ≡ left_in w name
 short_cell w name h = let fits : nat_lt w (length name) ≡ false = grind (arith, nat_tests) in rw fits refl
+
+-- a name of more bytes than places is cut
+pub cut_name : (places : ℕ) (name : List ℕ) → places < length name → places ≤ 65535 → styled_text (format_spec 32 0 0 0 (places - 1)) name ++ codes "|" ≡ shown_name places name
+cut_name places name h n =
+    let long : nat_lt places (length name) ≡ true = grind (arith, nat_tests) in
+    rw long (ap (λ t. t ++ codes "|") (precise (places - 1) name (omega arith)))
+
+-- and any other fills its places
+pub whole_name : (places : ℕ) (name : List ℕ) → length name ≤ places → places ≤ 65535 → styled_text (format_spec 32 1 0 places (2 ^ 64 - 1)) name ≡ shown_name places name
+whole_name places name h n =
+    let fits : nat_lt places (length name) ≡ false = grind (arith, nat_tests) in
+    rw fits (styled_left places name (omega arith))

@@ -1,5 +1,5 @@
 //! The rows of a file that holds other languages.
-use crate::cells::number_cells;
+use crate::cells::cells_with_lines_in;
 use crate::joined::joined;
 use crate::layout::Layout;
 use crate::names::name_of;
@@ -16,7 +16,6 @@ impl Layout {
     ghost use Rattle.tokei_print.specs.Names.{name_in};
 
     /// A file's name: alone where no other file stands above, and else between dashes.
-    #[tactic(auto, using(crate::proofs::Dashes::dashes))]
     pub fn name_line(&self, alloc: Global, name: &str, first: bool) -> Result<String, AllocError>
         ensures { IfOk result (λ s. string_bytes s ≡ name_line self.now first name.now) }
     {
@@ -61,7 +60,7 @@ impl Layout {
         ensures overflow { IsErrOf result CountError.Overflow → ¬ LinesFit (counts_of stats.now) }
     {
         let section = self.name_section(alloc, inaccurate, name, " |-")?;
-        let cells = number_cells(alloc, self.format, stats.own_counts())?;
+        let cells = cells_with_lines_in(alloc, self.format, stats.own_counts(), 12)?;
         let (section, cells) = (section.as_str(), cells.as_str());
         Ok(format!(in alloc; "{section}         {cells}\n")?)
     }

@@ -3,8 +3,7 @@ ghost use Rattle.std.specs.Prelude.{◌≡◌, ◌+◌, ◌≤◌, ◌∷◌, �
 ghost use Rattle.std.specs.Prelude.{IfOk, IfErr, IsErrOf, OnErr, OnOk};
 ghost use Rattle.tokei_stats.specs.Seen.{sums_of};
 ghost use Rattle.tokei_stats.specs.Statistics.{lines_of};
-ghost use Rattle.tokei_print.specs.Cells.{number_cells, number_text, right_in};
-ghost use Rattle.tokei_print.specs.Cells.{subtotal_cells};
+ghost use Rattle.tokei_print.specs.Cells.{number_text, right_in};
 ghost use Rattle.tokei_print.specs.LinesFit.{LinesFit};
 ghost use Rattle.tokei_stats.specs.ReportRow.{count_places};
 ghost use Rattle.tokei_table.specs.Bytes.{space};
@@ -49,8 +48,9 @@ pub(crate) fn put_cell(
     write!(row, " {text:>places$}")
 }
 
-/// Lines, code, comments and blanks as numbers, with so many places for the lines.
-fn cells_with_lines_in(
+/// Lines, code, comments and blanks as numbers, with so many places for the lines. `Overflow`
+/// exactly where the lines pass the greatest `usize`.
+pub(crate) fn cells_with_lines_in(
     alloc: Global,
     format: NumberFormat,
     counts: Sums,
@@ -76,32 +76,4 @@ fn cells_with_lines_in(
     put_cell(&mut row, alloc, format, counts.comments, 12)?;
     put_cell(&mut row, alloc, format, counts.blanks, 12)?;
     Ok(row)
-}
-
-/// Lines, code, comments and blanks as numbers. `Overflow` exactly where the lines pass the
-/// greatest `usize`.
-pub(crate) fn number_cells(
-    alloc: Global,
-    format: NumberFormat,
-    counts: Sums,
-) -> Result<String, CountError>
-    ensures ok { IfOk result (λ s. string_bytes s
-        ≡ number_cells (separator_text format.separator) (sums_of counts)) }
-    ensures fits { OnOk result (LinesFit (sums_of counts)) }
-    ensures overflow { IsErrOf result CountError.Overflow → ¬ LinesFit (sums_of counts) }
-{
-    cells_with_lines_in(alloc, format, counts, 12)
-}
-
-/// The same, with 14 places for the lines.
-pub(crate) fn subtotal_cells(
-    alloc: Global,
-    format: NumberFormat,
-    counts: Sums,
-) -> Result<String, CountError>
-    ensures ok { IfOk result (λ s. string_bytes s
-        ≡ subtotal_cells (separator_text format.separator) (sums_of counts)) }
-    ensures overflow { IsErrOf result CountError.Overflow → ¬ LinesFit (sums_of counts) }
-{
-    cells_with_lines_in(alloc, format, counts, 14)
 }

@@ -5,7 +5,7 @@ ghost use Rattle.tokei_print.specs.FilesAndCounts.{files_and_counts};
 ghost use Rattle.tokei_print.specs.LinesFit.{LinesFit};
 ghost use Rattle.tokei_options.specs.Grouping.{separator_text};
 
-use crate::cells::{number_cells, put_cell};
+use crate::cells::{cells_with_lines_in, put_cell};
 use crate::joined::joined;
 use std::alloc::Global;
 use tokei_options::NumberFormat;
@@ -25,7 +25,7 @@ pub fn files_and_counts(
 {
     let mut begun = String::new(alloc);
     put_cell(&mut begun, alloc, format, files, 8)?;
-    let mut row = joined(begun, number_cells(alloc, format, counts))?;
+    let mut row = joined(begun, cells_with_lines_in(alloc, format, counts, 12))?;
     row.push_str("\n")?;
     Ok(row)
 }

@@ -2,19 +2,17 @@
 ghost use Rattle.std.specs.Prelude.{◌≡◌, IfOk, IsErrOf, filter, not, string_bytes};
 ghost use Rattle.tokei_print.specs.Names.{name_in};
 ghost use Rattle.tokei_print.specs.FileRows.{file_block, file_blocks, file_row, file_rows, has_row_alone};
-ghost use Rattle.tokei_print.specs.FileRows.{listed_files, no_blobs};
+ghost use Rattle.tokei_print.specs.FileRows.{listed_files};
 ghost use Rattle.tokei_print.specs.FilesFit.{FileBlockFits, FileBlocksFit};
 ghost use Rattle.tokei_print.specs.ListedReports.{reports_in};
 ghost use Rattle.tokei_stats.specs.Reports.{report_of};
-ghost use Rattle.tokei_stats.specs.Seen.{blobs_of, entries_of};
 
 use crate::joined::joined;
 use crate::layout::Layout;
 use std::alloc::{AllocError, Global};
-use std::collections::BTreeMap;
 use tokei_stats::shown::shown;
-use tokei_stats::{CodeStats, CountError, CountsCells, Report, ReportRow};
-use tokei_table::{LanguageTable, LanguageType};
+use tokei_stats::{CountError, CountsCells, Report, ReportRow};
+use tokei_table::LanguageTable;
 
 /// The language whose files are listed.
 #[derive(Clone, Copy)]
@@ -25,18 +23,11 @@ pub struct ListedLanguage<'a> {
     pub inaccurate: bool,
 }
 
-/// Whether no other language is inside.
-fn is_empty(blobs: &BTreeMap<LanguageType, CodeStats>) -> bool
-    ensures { result ≡ no_blobs (blobs_of (entries_of blobs.now.entries)) }
-{
-    blobs.is_empty()
-}
-
 /// Whether the file has a row alone: no other language is inside, or the rows are compact.
 fn has_row_alone(report: &Report, compact: bool) -> bool
     ensures { result ≡ has_row_alone compact (report_of report.now) }
 {
-    compact || is_empty(&report.stats.blobs)
+    compact || report.stats.blobs.is_empty()
 }
 
 /// A report's row of its own counts, under its name as it is shown.
@@ -88,16 +79,15 @@ fn file_block(
     let sums = report.stats.summary_counts()?;
     let line = layout.name_line(alloc, &shown(alloc, &report.name)?, first)?;
     let own = layout.own_row(alloc, language.name, &report.stats)?;
+    let begun = joined(line, Ok(own))?;
     let blobs = layout.blob_rows(
         alloc,
         language.table,
         language.inaccurate,
         &report.stats.blobs,
-    )?;
-    let subtotal = layout.subtotal(alloc, "|- (Total)", sums)?;
-    let (line, own) = (line.as_str(), own.as_str());
-    let (blobs, subtotal) = (blobs.as_str(), subtotal.as_str());
-    Ok(format!(in alloc; "{line}{own}{blobs}{subtotal}")?)
+    );
+    let rows = joined(begun, blobs)?;
+    joined(rows, layout.subtotal(alloc, "|- (Total)", sums))
 }
 
 /// The rows of the files that have no row alone.

@@ -6,7 +6,6 @@ use crate::layout::Layout;
 use std::alloc::{AllocError, Global};
 
 /// The name in its places; one of more bytes is its first characters and a bar.
-#[tactic(auto, using(crate::proofs::Padding::precise, tokei_stats::proofs::Padding::styled_left))]
 fn shown_name(alloc: Global, places: usize, name: &str) -> Result<String, AllocError>
     requires { places ≤ 65535 }
     ensures { IfOk result (λ s. string_bytes s ≡ shown_name places name.now) }

@@ -7,6 +7,7 @@ use std::alloc::Global;
 use tokei_io::{OutputError, Sink, put};
 use tokei_languages::{Language, Languages};
 use tokei_options::NumberFormat;
+use tokei_stats::CountError;
 use tokei_table::{LanguageTable, LanguageType};
 
 /// Writes the rows of a report to a sink. After a refused call nothing is said of the bytes that it
@@ -19,7 +20,7 @@ pub struct Printer<W> {
 }
 
 impl<W: Sink + Drop> Printer<W> {
-    ghost use Rattle.std.specs.Prelude.{◌≡◌, ◌≢◌, ◌<◌, ◌≤◌, Ok, Err, None, Some, IfOk, IfErr, IsErrOf, OnOk, option_map};
+    ghost use Rattle.std.specs.Prelude.{◌≡◌, ◌≢◌, ◌<◌, ◌≤◌, ℕ, List, Ok, Err, None, Some, IfOk, IfErr, IsErrOf, IsOk, OnOk, option_map, string_bytes};
     ghost use Rattle.std.specs.Io.KnownBytes.{Appends};
     ghost use Rattle.tokei_languages.specs.Seen.{language_of, languages_of};
     ghost use Rattle.tokei_print.specs.LinesFit.{LinesFit};
@@ -68,6 +69,19 @@ impl<W: Sink + Drop> Printer<W> {
         ensures layout { self.new.layout ≡ self.old.layout }
     {
         put(&mut self.writer, text.as_bytes())
+    }
+
+    /// Puts the text behind what stands in the writer, where it was made.
+    fn put_made(&mut self, text: Result<String, CountError>) -> Result<(), OutputError>
+        ensures bytes { (bytes : List ℕ) → IfOk text (λ s. string_bytes s ≡ bytes) → OnOk result
+            (Appends (W.contents self.old.writer) (W.contents self.new.writer) bytes) }
+        ensures faults { W.faults self.old.writer < u64.MAX
+            → W.faults self.new.writer ≡ faults_after_printing result (W.faults self.old.writer) }
+        ensures made { OnOk result (IsOk text) }
+        ensures overflow { IsErrOf result OutputError.Overflow → IsErrOf text CountError.Overflow }
+        ensures layout { self.new.layout ≡ self.old.layout }
+    {
+        self.put(text?.as_str())
     }
 
     /// The names of the columns, between two rows.
@@ -130,8 +144,8 @@ impl<W: Sink + Drop> Printer<W> {
             → ¬ LinesFit (language_of language.now).counts }
         ensures layout { self.new.layout ≡ self.old.layout }
     {
-        let text = language_row(&self.layout, self.alloc, language, name)?;
-        self.put(text.as_str())
+        let text = language_row(&self.layout, self.alloc, language, name);
+        self.put_made(text)
     }
 
     /// The rows of the languages: first those without children, then the others, each group in the
@@ -160,8 +174,8 @@ impl<W: Sink + Drop> Printer<W> {
             compact,
             sorted,
         };
-        let text = results(&self.layout, self.alloc, showing, languages)?;
-        self.put(text.as_str())
+        let text = results(&self.layout, self.alloc, showing, languages);
+        self.put_made(text)
     }
 
     /// The row of all languages together, between two rows. `Overflow` only where a sum that it
@@ -176,7 +190,7 @@ impl<W: Sink + Drop> Printer<W> {
             → ¬ TotalFits (languages_of languages.now) }
         ensures layout { self.new.layout ≡ self.old.layout }
     {
-        let text = total(&self.layout, self.alloc, languages)?;
-        self.put(text.as_str())
+        let text = total(&self.layout, self.alloc, languages);
+        self.put_made(text)
     }
 }

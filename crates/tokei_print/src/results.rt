@@ -125,15 +125,12 @@ fn files_block(
         name,
         inaccurate: language.inaccurate,
     };
-    let files = listed_files(
-        layout,
-        alloc,
-        listed,
-        showing.compact,
-        &in_order(alloc, &language.reports, showing.sorted)?,
-    )?;
-    let (subrow, files) = (layout.subrow(), files.as_str());
-    Ok(format!(in alloc; "{subrow}{files}")?)
+    let reports = in_order(alloc, &language.reports, showing.sorted)?;
+    let subrow = String::from_str(alloc, layout.subrow())?;
+    joined(
+        subrow,
+        listed_files(layout, alloc, listed, showing.compact, &reports),
+    )
 }
 
 /// All rows of a language.

@@ -15,7 +15,6 @@ const HEADING: &str =
     "# language                                        path                                          lines         code       comments      blanks   \n########## ################################################################################ ############ ############ ############ ############\n";
 
 /// The two rows above a stream of columns.
-#[tactic(auto, using(crate::proofs::Headings::heading_text))]
 pub fn print_stream_heading<W: Sink>(writer: &mut W) -> Result<(), OutputError>
     ensures bytes { OnOk result
         (Appends (W.contents writer.old) (W.contents writer.new) stream_heading) }

@@ -1,5 +1,5 @@
 //! The row of counts that take in those of the texts inside.
-use crate::cells::subtotal_cells;
+use crate::cells::cells_with_lines_in;
 use crate::layout::Layout;
 use std::alloc::Global;
 use tokei_stats::{CountError, Sums};
@@ -12,7 +12,6 @@ impl Layout {
 
     /// The row of counts that take in those of the texts inside. `Overflow` only where the lines
     /// pass the greatest `usize`.
-    #[tactic(auto, using(crate::proofs::Padding::short_cell, tokei_stats::proofs::Padding::styled_left))]
     pub fn subtotal(&self, alloc: Global, name: &str, counts: Sums) -> Result<String, CountError>
         requires { length name.now ≤ path_places self.now.columns }
         ensures ok { IfOk result (λ s. string_bytes s
@@ -20,7 +19,7 @@ impl Layout {
         ensures overflow { IsErrOf result CountError.Overflow → ¬ LinesFit (sums_of counts) }
     {
         let places = self.columns - 56;
-        let cells = subtotal_cells(alloc, self.format, counts)?;
+        let cells = cells_with_lines_in(alloc, self.format, counts, 14)?;
         let cells = cells.as_str();
         Ok(format!(in alloc; " {name:<places$}{cells}\n")?)
     }

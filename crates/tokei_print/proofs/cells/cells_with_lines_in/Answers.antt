@@ -6,6 +6,7 @@ use Rattle.tokei_stats.specs.Statistics.{lines_of}
 use Rattle.tokei_table.specs.Bytes.{space}
 use Rattle.tokei_print.specs.Cells.{number_text, right_in}
 use Rattle.tokei_print.proofs.Behind.{four_behind}
+use Rattle.tokei_languages.proofs.Refusals.{no_refusal}
 use Rattle.tokei_print.proofs.cells.cells_with_lines_in.Goals as goal
 
 pub returns-clause-ok : goal.returns-clause-ok
@@ -16,3 +17,9 @@ returns-clause-ok c =
     (space ∷ right_in count_places (text c.args.counts.comments)) (space ∷ right_in count_places (text c.args.counts.blanks))
     c.new-row.ensures.bytes (c.in_ok-put_cell.ensures ∙ ap (λ n. string_bytes c.new-row.result ++ (space ∷ right_in c.args.places (text n))) c.in_ok-lines.ensures.sum)
     c.in_ok-put_cell-2.ensures c.in_ok-put_cell-3.ensures c.in_ok-put_cell-4.ensures
+
+pub returns-clause-overflow : goal.returns-clause-overflow
+returns-clause-overflow c = λ t f. no_refusal t
+
+pub returns-clause-fits : goal.returns-clause-fits
+returns-clause-fits c = c.in_ok-lines.ensures.fits

@@ -1,4 +1,4 @@
-use Rattle.std.proofs.Common.{◌≡◌, ℕ, ◌+◌, ◌++◌, ◌∷◌, drop, filter, not, false, string_bytes, sym, ap, ◌∙◌, subst, Bor}
+use Rattle.std.proofs.Common.{◌≡◌, ℕ, ◌+◌, ◌++◌, ◌∷◌, drop, filter, not, false, string_bytes, sym, ap, ◌∙◌, subst, Bor, Err, rules}
 use Rattle.tokei_stats.specs.Reports.{ReportValue, report_of}
 use Rattle.tokei_stats.specs.declared.report.Report.{Report}
 use Rattle.tokei_print.specs.FileRows.{file_block, file_blocks, has_row_alone}
@@ -6,6 +6,7 @@ use Rattle.tokei_print.specs.FilesFit.{FileBlocksFit}
 use Rattle.tokei_print.specs.ListedReports.{reports_in}
 use Rattle.tokei_print.specs.Names.{name_in}
 use Rattle.tokei_print.proofs.Behind.{none_yet, one_more, no_more, one_kept, one_passed, none_kept}
+use Rattle.tokei_stats.specs.declared.error.CountError.TheVariants.{Overflow}
 use Rattle.tokei_print.proofs.file_rows.file_blocks.Goals as goal
 use Rattle.tokei_print.proofs.file_rows.file_blocks.Goals.{then-not-has_row_alone+in_ok-rows, else-not-has_row_alone}
 
@@ -51,3 +52,12 @@ returns-clause-ok c =
     no_more (string_bytes c.loop-report.rows) (text c.args.first (filter test (reports_in c.args.reports.now)))
     (text c.loop-report.is_first (filter test (reports_in (drop c.loop-report.report-index c.args.reports.now)))) c.loop-report.invariant.0
     (ap (text c.loop-report.is_first) (none_kept (λ (r : Bor Report). report_of r.now) c.args.reports.now c.loop-report.report-index c.loop-report-test.false test))
+
+pub returns-in_err-rows-clause-overflow : goal.returns-in_err-rows-clause-overflow
+returns-in_err-rows-clause-overflow c = λ t f.
+    let seen = λ (r : Bor Report). report_of r.now in
+    let test = λ (r : ReportValue). not (has_row_alone c.args.compact r) in
+    let kept = one_kept seen c.args.reports.now c.loop-report.report-index c.report-item.result c.loop-report-test.true c.report-item.is test
+    (ap not (sym c.has_row_alone.ensures ∙ c.if-not-has_row_alone.true)) in
+    let same : c.in_err-rows.field-0.0 ≡ Overflow = search rules in
+    c.file_block.ensures.overflow (c.in_err-rows.ensures.overflow (ap (λ x. Err x) same)) (subst FileBlocksFit kept (c.loop-report.invariant.1 f)).0

@@ -18,3 +18,6 @@ returns-clause-ok c =
     subst (λ b. IfOk c.joined.result (λ s. string_bytes s ≡ b))
     (ap₂ (λ x y. x ++ y) c.in_ok-rows.ensures (ap blocks first))
     (c.joined.ensures.ok _ c.file_blocks.ensures.ok)
+
+pub returns-clause-overflow : goal.returns-clause-overflow
+returns-clause-overflow c = λ t f. c.file_blocks.ensures.overflow (c.joined.ensures.overflow t) f

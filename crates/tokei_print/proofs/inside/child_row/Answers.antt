@@ -1,9 +1,11 @@
-use Rattle.std.proofs.Common.{◌≡◌, ◌<◌, ◌++◌, IfOk, length, string_bytes, ap, ap₂, arith, subst, ◌∙◌}
+use Rattle.std.proofs.Common.{◌≡◌, ◌<◌, ◌++◌, IfOk, length, string_bytes, ap, ap₂, arith, subst, ◌∙◌, sym}
 use Rattle.std.proofs.lemmas.Bool.Decides.{nat_tests}
 use Rattle.tokei_print.specs.FilesAndCounts.{files_and_counts}
 use Rattle.tokei_print.specs.Layouts.{separator_in}
 use Rattle.tokei_stats.specs.Statistics.{Counts}
 use Rattle.tokei_print.proofs.WithReports.{of_none, of_some}
+use Rattle.tokei_languages.proofs.Refusals.{no_refusal}
+use Rattle.tokei_print.specs.LinesFit.{LinesFit}
 use Rattle.tokei_print.proofs.inside.child_row.Goals as goal
 
 pub returns-then-is_empty-clause-ok : goal.returns-then-is_empty-clause-ok
@@ -19,3 +21,10 @@ returns-else-is_empty-clause-ok c =
     (ap₂ (λ x y. x ++ y) c.in_ok-row.ensures (ap counts c.in_ok-sums.ensures.sum)
     ∙ of_some c.args.layout.now c.args.name.now c.args.reports.now some)
     (c.joined.ensures.ok _ c.files_and_counts.ensures.ok)
+
+pub returns-then-is_empty-clause-overflow : goal.returns-then-is_empty-clause-overflow
+returns-then-is_empty-clause-overflow c = λ t f. no_refusal t
+
+pub returns-else-is_empty-clause-overflow : goal.returns-else-is_empty-clause-overflow
+returns-else-is_empty-clause-overflow c = λ t f.
+    c.files_and_counts.ensures.overflow (c.joined.ensures.overflow t) (subst LinesFit (sym c.in_ok-sums.ensures.sum) f)

@@ -19,3 +19,6 @@ returns-clause-ok c =
 
 pub returns-clause-fits : goal.returns-clause-fits
 returns-clause-fits c = where_made c.joined.result c.files_and_counts.result _ c.joined.ensures.part c.files_and_counts.ensures.fits
+
+pub returns-clause-overflow : goal.returns-clause-overflow
+returns-clause-overflow c = λ t f. c.files_and_counts.ensures.overflow (c.joined.ensures.overflow t) f

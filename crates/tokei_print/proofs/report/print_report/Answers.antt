@@ -1,6 +1,7 @@
 use Rattle.tokei_languages.specs.Seen.{languages_of}
 use Rattle.tokei_print.specs.ListedLanguages.{languages_in}
 use Rattle.tokei_print.proofs.Reports.{report_of_steps}
+use Rattle.tokei_languages.proofs.Refusals.{no_refusal}
 use Rattle.tokei_print.proofs.report.print_report.Goals as goal
 
 pub returns-clause-text : goal.returns-clause-text
@@ -17,3 +18,6 @@ returns-clause-text c =
     c.is_some-sorted.ensures
     c.in_ok-warn.ensures.bytes c.in_ok-print_header.ensures.bytes
     c.in_ok-print_results.ensures.bytes c.in_ok-print_total.ensures.bytes
+
+pub returns-clause-overflow : goal.returns-clause-overflow
+returns-clause-overflow c = λ t f. no_refusal t

@@ -4,6 +4,7 @@ use Rattle.tokei_languages.specs.Seen.{language_of}
 use Rattle.tokei_print.specs.ChildrenBlock.{children_block}
 use Rattle.tokei_print.specs.LanguageRow.{language_row}
 use Rattle.tokei_print.specs.Names.{name_in}
+use Rattle.tokei_languages.proofs.Refusals.{no_refusal}
 use Rattle.tokei_print.proofs.results.counts_block.Goals as goal
 
 pub returns-then-shows_children-clause-ok : goal.returns-then-shows_children-clause-ok
@@ -19,3 +20,10 @@ returns-else-shows_children-clause-ok c =
     let block = children_block c.args.layout.now (name_in c.args.showing.table.now) (language_of c.args.language.now) in
     c.in_ok-row.ensures.ok ∙ sym (append-nil row)
     ∙ ap (λ (v : Bool). row ++ (if v then block else [])) (sym c.if-shows_children.false ∙ c.shows_children.ensures)
+
+pub returns-then-shows_children-clause-overflow : goal.returns-then-shows_children-clause-overflow
+returns-then-shows_children-clause-overflow c = λ t f.
+    c.children_block.ensures.overflow (c.joined.ensures.overflow t) (f.children (sym c.shows_children.ensures ∙ c.if-shows_children.true))
+
+pub returns-else-shows_children-clause-overflow : goal.returns-else-shows_children-clause-overflow
+returns-else-shows_children-clause-overflow c = λ t f. no_refusal t

@@ -1,4 +1,4 @@
-use Rattle.std.proofs.Common.{◌≡◌, ℕ, ◌+◌, ◌++◌, ◌∷◌, drop, filter, false, string_bytes, sym, ap, ◌∙◌, subst, Bor}
+use Rattle.std.proofs.Common.{◌≡◌, ℕ, ◌+◌, ◌++◌, ◌∷◌, drop, filter, false, string_bytes, sym, ap, ◌∙◌, subst, Bor, Err, rules}
 use Rattle.tokei_languages.specs.Seen.{language_of}
 use Rattle.tokei_languages.specs.Values.{LanguageValue}
 use Rattle.tokei_languages.specs.declared.language.Language.{Language}
@@ -7,6 +7,7 @@ use Rattle.tokei_print.specs.Names.{name_in}
 use Rattle.tokei_print.specs.Results.{is_of_group, language_block, language_blocks}
 use Rattle.tokei_print.specs.ResultsFit.{LanguagesFit}
 use Rattle.tokei_print.proofs.Behind.{none_yet, one_more, no_more, one_kept, one_passed, none_kept}
+use Rattle.tokei_stats.specs.declared.error.CountError.TheVariants.{Overflow}
 use Rattle.tokei_print.proofs.results.group_rows.Goals as goal
 use Rattle.tokei_print.proofs.results.group_rows.Goals.{then-is_of_group+in_ok-rows, else-is_of_group}
 
@@ -54,3 +55,13 @@ returns-clause-ok c =
     no_more (string_bytes c.loop-entry.rows) (text c.args.group.first (filter test (languages_in c.args.languages.now)))
     (text c.loop-entry.first (filter test (languages_in (drop c.loop-entry.entry-index c.args.languages.now)))) c.loop-entry.invariant.0
     (ap (text c.loop-entry.first) (none_kept seen c.args.languages.now c.loop-entry.entry-index c.loop-entry-test.false test))
+
+pub returns-in_err-rows-clause-overflow : goal.returns-in_err-rows-clause-overflow
+returns-in_err-rows-clause-overflow c = λ t f.
+    let seen : ℕ × Bor Language → ℕ × LanguageValue = λ e. (e.0, language_of e.1.now) in
+    let test = λ (e : ℕ × LanguageValue). is_of_group c.args.showing.compact c.args.group.with_children e.1 in
+    let fit = LanguagesFit c.args.layout.now.list_files c.args.showing.compact c.args.showing.sorted in
+    let kept = one_kept seen c.args.languages.now c.loop-entry.entry-index c.entry-item.result c.loop-entry-test.true c.entry-item.is test
+    (sym c.is_of_group.ensures ∙ c.if-is_of_group.true) in
+    let same : c.in_err-rows.field-0.0 ≡ Overflow = search rules in
+    c.language_block.ensures.overflow (c.in_err-rows.ensures.overflow (ap (λ x. Err x) same)) (subst fit kept (c.loop-entry.invariant.1 f)).0

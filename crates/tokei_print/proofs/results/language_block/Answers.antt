@@ -20,3 +20,6 @@ returns-clause-ok c =
     ∙ append_assoc head (counts name) (files name)
     ∙ ap (λ n. head ++ (counts n ++ files n)) c.name_of-name.ensures)
     (c.joined-2.ensures.ok _ c.files_block.ensures.ok)
+
+pub returns-clause-overflow : goal.returns-clause-overflow
+returns-clause-overflow c = λ t f. c.files_block.ensures.overflow (c.joined-2.ensures.overflow t) f

@@ -19,3 +19,6 @@ returns-clause-ok c =
     subst (λ b. IfOk c.joined.result (λ s. string_bytes s ≡ b))
     (ap₂ (λ x y. x ++ y) c.in_ok-rows.ensures.ok (ap blocks first))
     (c.joined.ensures.ok _ c.group_rows-2.ensures.ok)
+
+pub returns-clause-overflow : goal.returns-clause-overflow
+returns-clause-overflow c = λ t f. c.group_rows-2.ensures.overflow (c.joined.ensures.overflow t) f.others

@@ -6,6 +6,7 @@ use Rattle.tokei_print.specs.Layouts.{separator_in}
 use Rattle.tokei_print.specs.NameSection.{name_section}
 use Rattle.tokei_print.specs.Rules.{row}
 use Rattle.tokei_print.specs.Total.{report_count}
+use Rattle.tokei_languages.proofs.Refusals.{no_refusal}
 use Rattle.tokei_print.proofs.total.total.Goals as goal
 
 pub returns-clause-ok : goal.returns-clause-ok
@@ -23,3 +24,6 @@ returns-clause-ok c =
     put ∙ ap (λ r. r ++ (string_bytes c.in_ok-section.section ++ (string_bytes c.in_ok-rest.rest ++ r))) c.row-row.ensures
     ∙ ap₂ (λ s t. row n ++ (s ++ (t ++ row n))) first second
     ∙ ap (λ t. row n ++ t) (sym (append_assoc section rest (row n)))
+
+pub returns-clause-overflow : goal.returns-clause-overflow
+returns-clause-overflow c = λ t f. no_refusal t
