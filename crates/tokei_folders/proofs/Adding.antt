@@ -19,16 +19,16 @@ folder_refused t p q is h =
     ∙ flipped false (is_below_file t q || is_file (node_at t q)) h in
     ap (λ (b : Bool). cond b None (Some (with_all t (folders_to p ++ new_folder p ∷ [])))) there
 
-pub folder_added : (t new : Tree) (p q a b : Names) (fs ns : List PlacedNode) → q ≡ p → a ≡ q
-    → b ≡ q → true ≡ not (is_below_file t a || is_file (node_at t a)) → new ≡ with_all t ns
-    → ns ≡ fs ++ new_folder q ∷ [] → fs ≡ folders_to b → with_folder t p ≡ Some new
+pub folder_added : (t new : Tree) (p q a : Names) → q ≡ p → a ≡ q
+    → true ≡ not (is_below_file t a || is_file (node_at t a))
+    → new ≡ with_all t (folders_to q ++ new_folder q ∷ []) → with_folder t p ≡ Some new
 unfolding with_folder
-folder_added t new p q a b fs ns is ea eb h e k above =
+folder_added t new p q a is ea h e =
     let free : (is_below_file t p || is_file (node_at t p)) ≡ false =
     ap (λ (x : Names). is_below_file t x || is_file (node_at t x)) (sym (ea ∙ is))
     ∙ flipped true (is_below_file t a || is_file (node_at t a)) h in
-    let added : ns ≡ folders_to p ++ new_folder p ∷ [] = k ∙ ap₂ (λ (x : List PlacedNode) (y : Names). x ++ new_folder y ∷ []) (above ∙ ap folders_to (eb ∙ is)) is in
-    ap (λ (x : Bool). cond x None (Some (with_all t (folders_to p ++ new_folder p ∷ [])))) free ∙ ap Some (sym (e ∙ ap (with_all t) added))
+    let added : new ≡ with_all t (folders_to p ++ new_folder p ∷ []) = e ∙ ap (λ (x : Names). with_all t (folders_to x ++ new_folder x ∷ [])) is in
+    ap (λ (x : Bool). cond x None (Some (with_all t (folders_to p ++ new_folder p ∷ [])))) free ∙ ap Some (sym added)
 
 pub file_refused : (t : Tree) (p q : Names) (content : List ℕ) → q ≡ p → false ≡ not (is_below_file t q || is_some (node_at t q)) → with_file t p content ≡ None
 unfolding with_file
@@ -38,20 +38,19 @@ file_refused t p q content is h =
     ∙ flipped false (is_below_file t q || is_some (node_at t q)) h in
     ap (λ (b : Bool). cond b None (Some (with_all t (folders_to p ++ new_file p content ∷ [])))) there
 
-pub file_added : (t new : Tree) (p q a b : Names) (content bytes : List ℕ) (fs ns : List PlacedNode)
-    → q ≡ p → a ≡ q → b ≡ q → bytes ≡ content
-    → true ≡ not (is_below_file t a || is_some (node_at t a)) → new ≡ with_all t ns
-    → ns ≡ fs ++ new_file q bytes ∷ [] → fs ≡ folders_to b → with_file t p content ≡ Some new
+pub file_added : (t new : Tree) (p q a : Names) (content bytes : List ℕ)
+    → q ≡ p → a ≡ q → bytes ≡ content
+    → true ≡ not (is_below_file t a || is_some (node_at t a))
+    → new ≡ with_all t (folders_to q ++ new_file q bytes ∷ []) → with_file t p content ≡ Some new
 unfolding with_file
-file_added t new p q a b content bytes fs ns is ea eb same h e k above =
+file_added t new p q a content bytes is ea same h e =
     let free : (is_below_file t p || is_some (node_at t p)) ≡ false =
     ap (λ (x : Names). is_below_file t x || is_some (node_at t x)) (sym (ea ∙ is))
     ∙ flipped true (is_below_file t a || is_some (node_at t a)) h in
-    let added : ns ≡ folders_to p ++ new_file p content ∷ [] =
-    k
-    ∙ ap₂ (λ (x : List PlacedNode) (y : PlacedNode). x ++ y ∷ []) (above ∙ ap folders_to (eb ∙ is))
-    (ap₂ (λ (x : Names) (y : List ℕ). new_file x y) is same) in
-    ap (λ (x : Bool). cond x None (Some (with_all t (folders_to p ++ new_file p content ∷ [])))) free ∙ ap Some (sym (e ∙ ap (with_all t) added))
+    let added : new ≡ with_all t (folders_to p ++ new_file p content ∷ []) =
+    e
+    ∙ ap₂ (λ (x : Names) (y : List ℕ). with_all t (folders_to x ++ new_file x y ∷ [])) is same in
+    ap (λ (x : Bool). cond x None (Some (with_all t (folders_to p ++ new_file p content ∷ [])))) free ∙ ap Some (sym added)
 
 pub missing_refuses : (t : Tree) (p q : Names) (call : Call) → q ≡ p → false ≡ is_some (node_at t q) → with_refusal t p call ≡ None
 unfolding with_refusal

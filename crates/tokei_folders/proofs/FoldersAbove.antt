@@ -105,11 +105,9 @@ added_whole n p is h =
     (ap (list_all has_names) (folders_begin p) ∙ folders_whole_from [] p refl h)
     (both (has_names n) true (ap (list_all is_whole_name) is ∙ h) refl)
 
-pub pushed_whole : (place : List ℕ) (p q : Names) (n : PlacedNode) (fs ns : List PlacedNode)
-    → p ≡ names_of place → q ≡ p → n.names ≡ p → ns ≡ fs ++ n ∷ [] → fs ≡ folders_to q
-    → list_all has_names ns ≡ true
-pushed_whole place p q n fs ns is same names pushed above =
-    ap (list_all has_names) (pushed ∙ ap (λ (x : List PlacedNode). x ++ n ∷ []) (above ∙ ap folders_to same)) ∙ added_whole n p names (ap (list_all is_whole_name) is ∙ names_whole place)
+-- the list of the folders above a place, and the place
+pub pushed_last : (p q : Names) (n : PlacedNode) (fs ns : List PlacedNode) → q ≡ p → ns ≡ fs ++ n ∷ [] → fs ≡ folders_to q → ns ≡ folders_to p ++ n ∷ []
+pushed_last p q n fs ns same pushed above = pushed ∙ ap (λ (x : List PlacedNode). x ++ n ∷ []) (above ∙ ap folders_to same)
 
 -- one more folder above, the one that was added last being the nearest
 pub found_more : (p : Names) (i : ℕ) (place n copy : List ℕ) (found more : List Above)

@@ -1,5 +1,5 @@
 -- Where a place goes in a tree, and that the tree stays sound.
-use Rattle.std.proofs.Common.{◌≡◌, ℕ, ◌+◌, ◌<◌, ◌≤◌, List, [], ◌∷◌, ◌++◌, length, get_or, take, drop, insert, true, false, Result, Ok, Err, OnOk, OnErr, reverse, ◌==◌, refl, sym, ap, ◌∙◌, append_assoc, arith}
+use Rattle.std.proofs.Common.{◌≡◌, ℕ, ◌+◌, ◌<◌, ◌≤◌, List, [], ◌∷◌, ◌++◌, length, get_or, take, drop, insert, true, false, Result, Ok, Err, OnOk, OnErr, reverse, ◌==◌, refl, sym, ap, ap₂, ◌∙◌, append_assoc, arith}
 use Rattle.std.specs.Ordering.{match_ordering, is_lt}
 use Rattle.std.specs.declared.cmp.Ordering.{Ordering}
 use Rattle.std.specs.declared.cmp.Ordering.TheVariants.{Less, Equal, Greater}
@@ -140,6 +140,15 @@ added_next start t next ns rest all n is put so_far =
 pub added_all : (start t : Tree) (ns left given : List PlacedNode) → left ≡ [] → given ≡ reverse ns → with_all start (reverse given) ≡ with_all t (reverse left) → t ≡ with_all start ns
 added_all start t ns left given none is so_far =
     sym (ap (with_all start) (sym (ap reverse is ∙ reverse-reverse ns)) ∙ so_far ∙ ap (λ (x : List PlacedNode). with_all t (reverse x)) none ∙ with_none t)
+
+-- a tree to which a list is added
+pub all_put : {E : Type 0} (r : Result (Unit {0}) E) (top : PlacedNode) (whole old new : Tree)
+    (ns all : List PlacedNode)
+    → top.names ≡ [] → top ∷ old ≡ whole → ns ≡ all
+    → OnOk r ((t : PlacedNode) → t.names ≡ [] → t ∷ new ≡ with_all (t ∷ old) ns)
+    → OnOk r (top ∷ new ≡ with_all whole all)
+all_put (Ok u) top whole old new ns all is seen same put = put top is ∙ ap₂ (λ (x : Tree) (y : List PlacedNode). with_all x y) seen same
+all_put (Err e) top whole old new ns all is seen same put = tt
 
 -- a tree that is added to, or left as it was
 pub sound_after : {E : Type 0} (r : Result (Unit {0}) E) (top : PlacedNode) (old new : Tree)

@@ -1,5 +1,5 @@
 //! A tree of folders in memory.
-ghost use Rattle.std.specs.Prelude.{◌≡◌, ◌≢◌, ◌<◌, [], ◌∷◌, true, Some, None, Err, OnOk, OnErr, IfOk, map, reverse, take};
+ghost use Rattle.std.specs.Prelude.{◌≡◌, ◌≢◌, ◌<◌, [], ◌∷◌, true, Some, None, Err, OnOk, OnErr, IfOk, map, option_map, reverse, take};
 ghost use Rattle.std.specs.List.{list_all};
 ghost use Rattle.tokei_folders.specs.Additions.{new_folder, with_folder, with_file};
 ghost use Rattle.tokei_folders.specs.Answers.{AboveTells, StaysFull, above_view, bytes_of, counted, entries_of, kind_answer, list_answer, read_answer, head_answer};
@@ -10,10 +10,10 @@ ghost use Rattle.tokei_folders.specs.declared.fs.Fault.TheVariants.{Refused as R
 use crate::fs::{Above, Entry, Fault, Folders, Kind, Listing};
 use crate::lists::Items;
 use crate::names::names;
-use crate::nodes::{Call, Node, PlacedNode};
+use crate::nodes::{Call, Node};
 use crate::places::joined;
 use crate::texts::Text;
-use crate::told::{ToldTree, folders_to, kind_of};
+use crate::told::{ToldTree, kind_of};
 use std::alloc::{AllocError, Global};
 
 /// Folders in memory, which tell their tree. In a place names are joined by `/`, and `.` is the
@@ -67,14 +67,10 @@ impl MemoryFolders {
         if !self.tree.takes_folder(names.as_slice()) {
             return Err(Fault::Refused);
         }
-        let mut nodes = folders_to(self.alloc, names.as_slice())?;
-        nodes.push(PlacedNode {
-            names,
-            node: Node::Folder {
-                refuses_list: false,
-            },
-        })?;
-        self.tree.add_all(nodes)?;
+        let node = Node::Folder {
+            refuses_list: false,
+        };
+        self.tree.add(self.alloc, names, node)?;
         Ok(())
     }
 
@@ -92,17 +88,12 @@ impl MemoryFolders {
         if !self.tree.takes_file(names.as_slice()) {
             return Err(Fault::Refused);
         }
-        let mut nodes = folders_to(self.alloc, names.as_slice())?;
-        let content = Items::from_vec(Vec::from_slice(self.alloc, content)?);
-        nodes.push(PlacedNode {
-            names,
-            node: Node::File {
-                refuses_read: false,
-                refuses_head: false,
-                content,
-            },
-        })?;
-        self.tree.add_all(nodes)?;
+        let node = Node::File {
+            refuses_read: false,
+            refuses_head: false,
+            content: Items::from_vec(Vec::from_slice(self.alloc, content)?),
+        };
+        self.tree.add(self.alloc, names, node)?;
         Ok(())
     }
 
@@ -157,12 +148,20 @@ impl MemoryFolders {
         answer
     }
 
+    /// What stands at a place.
+    fn node(&self, place: &str) -> Result<Option<&Node>, AllocError>
+        ensures { IfOk result (λ found. option_map (λ n. n.now) found
+            ≡ node_at (tree_of self.entry.now) (names_of place.now)) }
+    {
+        let names = names(self.alloc, place)?;
+        Ok(self.tree.node(names.as_slice()))
+    }
+
     fn kind_answer(&self, place: &str) -> Result<Kind, Fault>
         ensures { result ≢ Err MemoryFault
             → result ≡ kind_answer (node_at (tree_of self.now) (names_of place.now)) }
     {
-        let names = names(self.alloc, place)?;
-        match self.tree.node(names.as_slice()) {
+        match self.node(place)? {
             None => Err(Fault::Refused),
             Some(node) => Ok(kind_of(node)),
         }
@@ -190,8 +189,7 @@ impl MemoryFolders {
         ensures { result ≢ Err MemoryFault
             → bytes_of result ≡ read_answer (node_at (tree_of self.now) (names_of place.now)) }
     {
-        let names = names(self.alloc, place)?;
-        match self.tree.node(names.as_slice()) {
+        match self.node(place)? {
             Some(
                 Node::File {
                     refuses_read: false,
@@ -207,8 +205,7 @@ impl MemoryFolders {
         ensures { result ≢ Err MemoryFault
             → bytes_of result ≡ head_answer (node_at (tree_of self.now) (names_of place.now)) }
     {
-        let names = names(self.alloc, place)?;
-        match self.tree.node(names.as_slice()) {
+        match self.node(place)? {
             Some(
                 Node::File {
                     refuses_head: false,

@@ -6,7 +6,7 @@ ghost use Rattle.tokei_folders.specs.declared.nodes.PlacedNode.{PlacedNode};
 ghost use Rattle.tokei_folders.specs.Additions.{placed, with_all, folders_to as folders_to_place, new_folder, is_file as file_stands, is_below_file as below_file};
 ghost use Rattle.tokei_folders.specs.Answers.{entries_in, only_name, kind_of as kind_of_node, can_list as can_list_node};
 ghost use Rattle.tokei_folders.specs.Refusals.{changed, refusing, refused_at};
-ghost use Rattle.tokei_folders.specs.Tree.{Tree, node_at, below, is_sound, has_names};
+ghost use Rattle.tokei_folders.specs.Tree.{Tree, node_at, below, is_sound, is_whole_name};
 
 use crate::fs::{Entry, Kind};
 use crate::lists::Items;
@@ -171,7 +171,7 @@ fn refuse_among(places: &mut [PlacedNode], names: &[Text], call: Call)
 }
 
 /// The folders above a place, from the top down.
-pub fn folders_to(alloc: Global, names: &[Text]) -> Result<Items<PlacedNode>, AllocError>
+fn folders_to(alloc: Global, names: &[Text]) -> Result<Items<PlacedNode>, AllocError>
     ensures { IfOk result (λ ns. ns ≡ folders_to_place names.now) }
 {
     let mut folders = Items::new(alloc);
@@ -209,13 +209,17 @@ impl ToldTree {
         find(self.places.as_slice(), names)
     }
 
-    /// Puts several places where they belong; where memory is refused the tree stays as it was.
-    pub fn add_all(&mut self, nodes: Items<PlacedNode>) -> Result<(), AllocError>
-        ensures ok { OnOk result (self.new ≡ with_all self.old nodes) }
+    /// Adds a place, and those above it that are missing, as folders; where memory is refused the
+    /// tree stays as it was.
+    pub fn add(&mut self, alloc: Global, names: Items<Text>, node: Node) -> Result<(), AllocError>
+        ensures ok { OnOk result (self.new ≡ with_all self.old
+            (folders_to_place names ++ record { names = names; node = node } ∷ [])) }
         ensures err { OnErr result (self.new ≡ self.old) }
-        ensures sound { is_sound self.old ≡ true → list_all has_names nodes ≡ true
+        ensures sound { is_sound self.old ≡ true → list_all is_whole_name names ≡ true
             → is_sound self.new ≡ true }
     {
+        let mut nodes = folders_to(alloc, names.as_slice())?;
+        nodes.push(PlacedNode { names, node })?;
         put_all(&mut self.places, nodes)
     }
 

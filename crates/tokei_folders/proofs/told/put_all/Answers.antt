@@ -1,4 +1,5 @@
 use Rattle.std.proofs.Common.{◌∷◌, ap, length, length-append, arith}
+use Rattle.std.proofs.lemmas.Grind.{common_steps}
 use Rattle.tokei_folders.specs.declared.nodes.PlacedNode.{PlacedNode}
 use Rattle.tokei_folders.proofs.Placing.{added_next, added_all}
 use Rattle.tokei_folders.proofs.told.put_all.Goals as goal
@@ -17,3 +18,9 @@ returns-clause-placed c =
     λ top e. added_all (top ∷ c.args.places.now.items) (top ∷ c.loop-node.places.items) c.args.nodes
     c.loop-node.nodes c.reverse.new.self c.in_default.ensures.0 c.reverse.ensures.turned
     (c.loop-node.invariant.so_far top e)
+
+pub loop-node-init : goal.loop-node-init
+loop-node-init c = grind (arith, common_steps)
+
+pub loop-node-smaller : goal.loop-node-smaller
+loop-node-smaller c = grind (arith, common_steps)

@@ -1,5 +1,7 @@
-use Rattle.std.proofs.Common.{◌∙◌, refl}
-use Rattle.tokei_folders.proofs.FoldersAbove.{pushed_whole}
+use Rattle.std.proofs.Common.{◌∙◌, ap}
+use Rattle.std.specs.List.{list_all}
+use Rattle.tokei_folders.specs.Tree.{is_whole_name}
+use Rattle.tokei_folders.proofs.FoldersAbove.{names_whole}
 use Rattle.tokei_folders.proofs.Adding.{folder_refused, folder_added}
 use Rattle.tokei_folders.proofs.memory.MemoryFolders.add_folder.Goals as goal
 
@@ -10,15 +12,11 @@ returns-then-not-takes_folder-clause-refused c = λ _.
 pub invariant_of-self : goal.invariant_of-self
 invariant_of-self c = record {
   sound =
-      c.add_all.ensures.sound c.args.self.now.sound (pushed_whole c.args.place.now
-      c.in_ok-names.names c.as_slice-2.result.now _ c.in_ok-nodes.nodes c.push.new.self
-      c.in_ok-names.ensures c.as_slice-2.ensures refl c.in_ok-push.ensures.ok
-      c.in_ok-nodes.ensures);
+      c.add.ensures.sound c.args.self.now.sound
+      (ap (list_all is_whole_name) c.in_ok-names.ensures ∙ names_whole c.args.place.now);
 }
 
 pub returns-clause-added : goal.returns-clause-added
 returns-clause-added c =
-    folder_added c.args.self.now.tree c.add_all.new.self _ c.in_ok-names.names c.as_slice.result.now
-    c.as_slice-2.result.now c.in_ok-nodes.nodes c.push.new.self c.in_ok-names.ensures
-    c.as_slice.ensures c.as_slice-2.ensures c.if-not-takes_folder.ensures
-    c.in_ok-add_all.ensures.ok c.in_ok-push.ensures.ok c.in_ok-nodes.ensures
+    folder_added c.args.self.now.tree c.add.new.self _ c.in_ok-names.names c.as_slice.result.now
+    c.in_ok-names.ensures c.as_slice.ensures c.if-not-takes_folder.ensures c.in_ok-add.ensures.ok
