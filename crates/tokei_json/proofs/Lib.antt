@@ -1,4 +1,5 @@
 pub mod FewNames
+pub mod Made
 pub mod Measured
 pub mod Members
 pub mod Names
@@ -6,4 +7,5 @@ pub mod Naming
 pub mod NoFloats
 pub mod NoFloatsInDocuments
 pub mod Objects
+pub mod Scalars
 pub mod Writing

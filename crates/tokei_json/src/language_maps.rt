@@ -29,8 +29,9 @@ fn has_both(table: &NamedTable, value: &Tree<'_>, name: &str) -> bool
 {
     match table.language(name) {
         Some(language) => {
-            let key = language.key(table.as_table());
-            let name = language.name(table.as_table());
+            let listed = table.as_table();
+            let key = language.key(listed);
+            let name = language.name(listed);
             key != name && member(value, key).is_some() && member(value, name).is_some()
         }
         None => false,

@@ -44,12 +44,20 @@ fn is_named(table: &LanguageTable, language: LanguageType, name: &str) -> bool
     has_name(table, language, name)
 }
 
+/// Puts the language under its key and its name, where it is one of the table.
 fn put<'a>(
     languages: &mut BTreeMap<&'a str, LanguageType>,
-    name: &'a str,
+    table: &'a LanguageTable,
     language: LanguageType,
 ) -> Result<(), AllocError> {
-    match languages.insert(name, language) {
+    if !table.has(language) {
+        return Ok(());
+    }
+    match languages.insert(language.key(table), language) {
+        Ok(_old) => {}
+        Err(_refused) => return Err(AllocError),
+    }
+    match languages.insert(language.name(table), language) {
         Ok(_old) => Ok(()),
         Err(_refused) => Err(AllocError),
     }
@@ -60,12 +68,10 @@ impl<'a> NamedTable<'a> {
     pub fn new(alloc: Global, table: &'a LanguageTable) -> Result<NamedTable<'a>, AllocError>
         ensures { IfOk result (λ t. t ≡ table.now) }
     {
+        let listed = LanguageType::list(alloc, table)?;
         let mut languages = BTreeMap::new(alloc);
-        for (language, _extensions) in &LanguageType::list(alloc, table)? {
-            if table.has(*language) {
-                put(&mut languages, language.key(table), *language)?;
-                put(&mut languages, language.name(table), *language)?;
-            }
+        for (language, _extensions) in &listed {
+            put(&mut languages, table, *language)?;
         }
         Ok(NamedTable { table, languages })
     }

@@ -1,6 +1,7 @@
 //! Statistics and reports as JSON values.
-ghost use Rattle.std.specs.Prelude.{◌≡◌, IfOk, string_bytes};
-ghost use Rattle.serde_json.specs.Data.{no_members};
+ghost use Rattle.std.specs.Prelude.{◌≡◌, IfOk, OnOk, codes, string_bytes};
+ghost use Rattle.std.specs.Result.{IsOkAnd};
+ghost use Rattle.serde_json.specs.Data.{object, member, no_members, put as with_member, string};
 ghost use Rattle.serde_json.specs.View.{view, members_view};
 ghost use Rattle.serde_json.specs.Written.{compact_text};
 ghost use Rattle.tokei_json.specs.ReportData.{name_of as name_in, statistics_data, blobs_data, report_data};
@@ -9,7 +10,7 @@ ghost use Rattle.tokei_stats.specs.Reports.{report_of, reports_of, children_of};
 ghost use Rattle.tokei_stats.specs.Seen.{blobs_of, entries_of, stats_of};
 
 use crate::counted_objects::count_members;
-use serde_json::{Map, Value, json, put};
+use serde_json::{Map, Value, put};
 use std::alloc::{AllocError, Global};
 use std::collections::BTreeMap;
 use tokei_stats::{CodeStats, Report};
@@ -23,6 +24,23 @@ pub fn name_of(table: &LanguageTable, language: LanguageType) -> &str
         language.name(table)
     } else {
         ""
+    }
+}
+
+/// Puts a value, where it could be made, under the name of the language.
+pub(crate) fn put_named(
+    members: &mut Map<String, Value>,
+    alloc: Global,
+    table: &LanguageTable,
+    language: LanguageType,
+    value: Result<Value, AllocError>,
+) -> Result<(), AllocError>
+    ensures { OnOk result (IsOkAnd value (λ v. members_view members.new.entries
+        ≡ with_member (name_in table.now language) (view v) (members_view members.old.entries))) }
+{
+    match value {
+        Ok(value) => put(members, alloc, name_of(table, language), value),
+        Err(refused) => Err(refused),
     }
 }
 
@@ -50,18 +68,30 @@ fn blobs_value(
         ≡ blobs_data table.now (blobs_of (entries_of blobs.now.entries)) no_members) }
 {
     let mut members = Map::new(alloc);
-    for (language, stats) in blobs.iter() {
-        let value = statistics_value(alloc, table, stats)?;
-        put(&mut members, alloc, name_of(table, *language), value)?;
+    for (language, stats) in blobs {
+        let value = statistics_value(alloc, table, stats);
+        put_named(&mut members, alloc, table, *language, value)?;
     }
     Ok(members)
+}
+
+/// An object of a text under a key and a value under `stats`.
+fn labelled(alloc: Global, key: &str, text: &str, stats: Value) -> Result<Value, AllocError>
+    ensures { IfOk result (λ v. view v ≡ object
+        (with_member (codes "stats") (view stats) (member key.now (string text.now) no_members))) }
+{
+    let text = String::from_str(alloc, text)?;
+    let mut members = Map::new(alloc);
+    put(&mut members, alloc, key, Value::String(text))?;
+    put(&mut members, alloc, "stats", stats)?;
+    Ok(Value::Object(members))
 }
 
 fn report_value(alloc: Global, table: &LanguageTable, report: &Report) -> Result<Value, AllocError>
     ensures { IfOk result (λ v. view v ≡ report_data table.now (report_of report.now)) }
 {
     let stats = statistics_value(alloc, table, &report.stats)?;
-    json!(in alloc; {"name": &report.name, "stats": stats})
+    labelled(alloc, "name", report.name.as_str(), stats)
 }
 
 /// The reports, in their order. Out of memory is the only refusal.
@@ -92,9 +122,9 @@ pub fn children_value(
         no_members) }
 {
     let mut members = Map::new(alloc);
-    for (language, reports) in children.iter() {
-        let value = reports_value(alloc, table, reports)?;
-        put(&mut members, alloc, name_of(table, *language), value)?;
+    for (language, reports) in children {
+        let value = reports_value(alloc, table, reports);
+        put_named(&mut members, alloc, table, *language, value)?;
     }
     Ok(members)
 }
@@ -109,7 +139,7 @@ fn line_value(
     ensures { IfOk result (λ v. view v ≡ line_data table.now language (report_of report.now)) }
 {
     let stats = report_value(alloc, table, report)?;
-    json!(in alloc; {"language": name_of(table, language), "stats": stats})
+    labelled(alloc, "language", name_of(table, language), stats)
 }
 
 /// A file's report beside the name of its language, as one compact JSON text with no newline: a

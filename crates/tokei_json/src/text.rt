@@ -5,7 +5,7 @@ ghost use Rattle.serde_json.specs.Read.{max_depth, read};
 ghost use Rattle.serde_json.specs.Written.{compact_text};
 ghost use Rattle.tokei_json.specs.Document.{document, language_data, named_data, reports_data};
 ghost use Rattle.tokei_json.specs.Members.{member_data};
-ghost use Rattle.tokei_json.specs.Tokens.{IsWritten, members_by};
+ghost use Rattle.tokei_json.specs.Tokens.{IsMember, IsWritten, members_by};
 ghost use Rattle.tokei_languages.specs.Seen.{language_of, languages_of};
 ghost use Rattle.tokei_languages.specs.Summaries.{languages_summary, reports_by_language, total_of};
 ghost use Rattle.tokei_stats.specs.Overflow.{CountsFit};
@@ -52,8 +52,7 @@ fn write_language(
     write_count(out, "comments", language.comments)?;
     out.key("inaccurate")?;
     out.boolean(language.inaccurate)?;
-    out.key("reports")?;
-    write_reports(alloc, table, &language.reports, out)?;
+    write_reports(alloc, table, "reports", &language.reports, out)?;
     out.end_object()
 }
 
@@ -69,9 +68,8 @@ fn write_reports_by_language(
 {
     out.begin_object()?;
     let members = by_name(alloc, table, languages.iter())?;
-    for (name, language) in members.iter() {
-        out.key(*name)?;
-        write_reports(alloc, table, &language.reports, out)?;
+    for (name, language) in &members {
+        write_reports(alloc, table, *name, &language.reports, out)?;
     }
     out.end_object()
 }
@@ -107,14 +105,16 @@ fn write_total(alloc: Global, counted: &Counted, out: &mut Writer) -> Result<(),
 fn write_member(
     alloc: Global,
     counted: &Counted,
+    name: &str,
     member: Member,
     out: &mut Writer,
 ) -> Result<(), AllocError>
     requires { sums_of counted.now.total
         ≡ languages_summary (languages_of counted.now.languages.now) }
-    ensures { OnOk result (IsWritten (member_data counted.now.table.now
+    ensures { OnOk result (IsMember name.now (member_data counted.now.table.now
         (languages_of counted.now.languages.now) member.entry) out.old out.new) }
 {
+    out.key(name)?;
     match member {
         Member::Total => write_total(alloc, counted, out),
         Member::Language(language) => write_language(alloc, counted.table, language, out),
@@ -133,11 +133,15 @@ fn members_of<'a>(
 {
     let mut members = BTreeMap::new(alloc);
     for (language, value) in counted.languages.iter() {
-        let name = name_of(counted.table, *language);
-        drop(members.insert(name, Member::Language(value))?);
+        match members.insert(name_of(counted.table, *language), Member::Language(value)) {
+            Ok(_old) => {}
+            Err(_refused) => return Err(AllocError),
+        }
     }
-    drop(members.insert("Total", Member::Total)?);
-    Ok(members)
+    match members.insert("Total", Member::Total) {
+        Ok(_old) => Ok(members),
+        Err(_refused) => Err(AllocError),
+    }
 }
 
 fn write_document(alloc: Global, counted: &Counted, out: &mut Writer) -> Result<(), AllocError>
@@ -149,9 +153,8 @@ fn write_document(alloc: Global, counted: &Counted, out: &mut Writer) -> Result<
 {
     out.begin_object()?;
     let members = members_of(alloc, counted)?;
-    for (name, member) in members.iter() {
-        out.key(*name)?;
-        write_member(alloc, counted, *member, out)?;
+    for (name, member) in &members {
+        write_member(alloc, counted, *name, *member, out)?;
     }
     out.end_object()
 }

@@ -26,7 +26,10 @@ pub(crate) fn by_name<'a, T>(
 {
     let mut members = BTreeMap::new(alloc);
     for (language, value) in values {
-        drop(members.insert(name_of(table, *language), value)?);
+        match members.insert(name_of(table, *language), value) {
+            Ok(_old) => {}
+            Err(_refused) => return Err(AllocError),
+        }
     }
     Ok(members)
 }
@@ -39,16 +42,19 @@ pub(crate) fn write_count(out: &mut Writer, name: &str, count: usize) -> Result<
     out.u64(count as u64)
 }
 
+/// Writes a member that is statistics.
 #[cycle(statistics)]
 fn write_statistics(
     alloc: Global,
     table: &LanguageTable,
+    name: &str,
     stats: &CodeStats,
     out: &mut Writer,
 ) -> Result<(), AllocError>
     ensures { OnOk result
-        (IsWritten (statistics_data table.now (stats_of stats.now)) out.old out.new) }
+        (IsMember name.now (statistics_data table.now (stats_of stats.now)) out.old out.new) }
 {
+    out.key(name)?;
     out.begin_object()?;
     write_count(out, "blanks", stats.blanks)?;
     out.key("blobs")?;
@@ -71,9 +77,8 @@ fn write_blobs(
 {
     out.begin_object()?;
     let members = by_name(alloc, table, blobs.iter())?;
-    for (name, stats) in members.iter() {
-        out.key(*name)?;
-        write_statistics(alloc, table, *stats, out)?;
+    for (name, stats) in &members {
+        write_statistics(alloc, table, *name, *stats, out)?;
     }
     out.end_object()
 }
@@ -90,21 +95,22 @@ fn write_report(
     out.begin_object()?;
     out.key("name")?;
     out.string(report.name.as_str())?;
-    out.key("stats")?;
-    write_statistics(alloc, table, &report.stats, out)?;
+    write_statistics(alloc, table, "stats", &report.stats, out)?;
     out.end_object()
 }
 
-/// Writes the reports, in their order.
+/// Writes a member that is the reports, in their order.
 pub(crate) fn write_reports(
     alloc: Global,
     table: &LanguageTable,
+    name: &str,
     reports: &Vec<Report>,
     out: &mut Writer,
 ) -> Result<(), AllocError>
     ensures { OnOk result
-        (IsWritten (reports_data table.now (reports_of reports.now)) out.old out.new) }
+        (IsMember name.now (reports_data table.now (reports_of reports.now)) out.old out.new) }
 {
+    out.key(name)?;
     out.begin_array()?;
     for report in reports {
         write_report(alloc, table, report, out)?;
@@ -125,9 +131,8 @@ pub(crate) fn write_children(
 {
     out.begin_object()?;
     let members = by_name(alloc, table, children.iter())?;
-    for (name, reports) in members.iter() {
-        out.key(*name)?;
-        write_reports(alloc, table, *reports, out)?;
+    for (name, reports) in &members {
+        write_reports(alloc, table, *name, *reports, out)?;
     }
     out.end_object()
 }

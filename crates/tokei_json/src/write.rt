@@ -9,7 +9,7 @@ ghost use Rattle.tokei_stats.specs.Overflow.{CountsFit};
 ghost use Rattle.tokei_stats.specs.Seen.{sums_of};
 
 use crate::counted_objects::language_object;
-use crate::reports::{children_value, name_of, reports_value};
+use crate::reports::{children_value, put_named, reports_value};
 use serde_json::{Map, Value, put};
 use std::alloc::{AllocError, Global};
 use tokei_languages::{Language, Languages};
@@ -43,8 +43,8 @@ fn languages_value(
 {
     let mut members = Map::new(alloc);
     for (language, value) in languages.iter() {
-        let value = language_value(alloc, table, value)?;
-        put(&mut members, alloc, name_of(table, *language), value)?;
+        let value = language_value(alloc, table, value);
+        put_named(&mut members, alloc, table, *language, value)?;
     }
     Ok(members)
 }
@@ -61,8 +61,8 @@ fn reports_by_language_value(
 {
     let mut members = Map::new(alloc);
     for (language, value) in languages.iter() {
-        let value = reports_value(alloc, table, &value.reports)?;
-        put(&mut members, alloc, name_of(table, *language), value)?;
+        let value = reports_value(alloc, table, &value.reports);
+        put_named(&mut members, alloc, table, *language, value)?;
     }
     Ok(members)
 }

@@ -1,10 +1,10 @@
-use Rattle.std.proofs.Common.{◌≡◌, ◌∙◌, subst}
+use Rattle.std.proofs.Common.{◌≡◌, subst}
 use Rattle.std.proofs.lemmas.Result.{on_ok_weaker}
 use Rattle.serde_json.specs.Data.{no_members, member}
 use Rattle.tokei_json.specs.Members.{member_data}
 use Rattle.tokei_json.specs.Tokens.{IsWritten, members_by}
 use Rattle.tokei_json.proofs.Naming.{seen_by, ascend}
-use Rattle.tokei_json.proofs.Writing.{lacks_all, lacks_fewer, member_of, object_written, LacksMembers}
+use Rattle.tokei_json.proofs.Writing.{lacks_all, lacks_fewer, object_written, LacksMembers}
 use Rattle.tokei_languages.specs.Seen.{languages_of}
 use Rattle.tokei_json.proofs.text.write_document.Goals as goal
 
@@ -17,10 +17,10 @@ loop-name-preserved c =
     let f = member_data c.args.counted.now.table.now (languages_of c.args.counted.now.languages.now) in
     let d = f c.in-Some.member.now in
     let all = members_by f (seen_by (λ x. x) c.into_iter-name-iterator.result) in
-    let m = member_of c.in-Some.name.now.now d l.out c.key.new.self c.write_member.new.out c.in_ok-key.ensures.ok c.in_ok-key.ensures.room.0 c.in_ok-write_member.ensures in
     let left : LacksMembers all (member c.in-Some.name.now.now d (members_by f (seen_by (λ x. x) c.next.new.self))) c.begin_object.new.self l.out =
     subst (λ fs. LacksMembers all (members_by f (seen_by (λ x. x) fs)) c.begin_object.new.self l.out) c.in-Some.ensures.steps l.invariant in
-    lacks_fewer all c.in-Some.name.now.now d (members_by f (seen_by (λ x. x) c.next.new.self)) c.begin_object.new.self l.out c.write_member.new.out left m
+    lacks_fewer all c.in-Some.name.now.now d (members_by f (seen_by (λ x. x) c.next.new.self)) c.begin_object.new.self l.out c.write_member.new.out left
+    c.in_ok-write_member.ensures
 
 pub returns : goal.returns
 returns c =
@@ -28,11 +28,11 @@ returns c =
     let f = member_data c.args.counted.now.table.now (languages_of c.args.counted.now.languages.now) in
     let entries = c.in_ok-members.members.entries in
     let all = members_by f (seen_by (λ x. x) entries) in
-    let begun : c.into_iter-name-iterator.result ≡ entries = c.into_iter-name-iterator.ensures.into_iter_gives ∙ c.iter-name-items.ensures.rest in
+    let begun : c.into_iter-name-iterator.result ≡ entries = c.into_iter-name-iterator.ensures.into_iter_gives.0 in
     let left : LacksMembers all no_members c.begin_object.new.self l.out =
     subst (λ fs. LacksMembers all (members_by f (seen_by (λ x. x) fs)) c.begin_object.new.self l.out) c.in-None.ensures.steps.0
     (subst (λ fs. LacksMembers (members_by f (seen_by (λ x. x) fs)) (members_by f (seen_by (λ x. x) l.name-iterator)) c.begin_object.new.self l.out) begun l.invariant) in
     on_ok_weaker c.end_object.result (λ e.
     subst (λ d. IsWritten d c.args.out.now c.end_object.new.self) c.in_ok-members.ensures
-    (object_written all c.args.out.now c.begin_object.new.self l.out c.end_object.new.self (ascend (λ x. x) f entries c.iter-name-items.ensures.ordered)
+    (object_written all c.args.out.now c.begin_object.new.self l.out c.end_object.new.self (ascend (λ x. x) f entries c.into_iter-name-iterator.ensures.into_iter_gives.5)
     c.in_ok-begin_object.ensures.ok c.in_ok-begin_object.ensures.room.0 left e c.end_object.ensures.room.0)) c.end_object.ensures.ok

@@ -23,9 +23,8 @@ returns c =
     let marked : IsWritten (boolean l.inaccurate) c.key-2.new.self w5 = record { tokens = c.in_ok-boolean.ensures.ok; reads = refl; before = c.in_ok-boolean.ensures.room.0 } in
     let m2 = member_of (codes "children") children w1 c.key.new.self w2 c.in_ok-key.ensures.ok c.in_ok-key.ensures.room.0 c.in_ok-write_children.ensures in
     let m5 = member_of (codes "inaccurate") (boolean l.inaccurate) w4 c.key-2.new.self w5 c.in_ok-key-2.ensures.ok c.in_ok-key-2.ensures.room.0 marked in
-    let m6 = member_of (codes "reports") reports w5 c.key-3.new.self w6 c.in_ok-key-3.ensures.ok c.in_ok-key-3.ensures.room.0 c.in_ok-write_reports.ensures in
     on_ok_weaker c.end_object.result (λ e.
     language_written l.counts children reports l.inaccurate c.args.out.now c.begin_object.new.self w1 w2 w3 w4 w5 w6 c.end_object.new.self
     (record { tokens = c.in_ok-begin_object.ensures.ok; before = c.in_ok-begin_object.ensures.room.0 })
-    c.in_ok-write_count.ensures m2 c.in_ok-write_count-2.ensures c.in_ok-write_count-3.ensures m5 m6
+    c.in_ok-write_count.ensures m2 c.in_ok-write_count-2.ensures c.in_ok-write_count-3.ensures m5 c.in_ok-write_reports.ensures
     (record { tokens = e; before = c.end_object.ensures.room.0 })) c.end_object.ensures.ok

@@ -26,21 +26,24 @@ write_statistics-returns t c =
     let blobs = object (blobs_data rows (blobs_of (entries_of s.blobs.entries)) no_members) in
     let w1 = c.write_count.new.out in
     let w2 = c.write_blobs.new.out in
-    let m2 = member_of (codes "blobs") blobs w1 c.key.new.self w2 c.in_ok-key.ensures.ok c.in_ok-key.ensures.room.0 c.in_ok-write_blobs.ensures in
+    let first = c.key.new.self in
+    let m2 = member_of (codes "blobs") blobs w1 c.key-2.new.self w2 c.in_ok-key-2.ensures.ok c.in_ok-key-2.ensures.room.0 c.in_ok-write_blobs.ensures in
     let seen : stats_of c.args.stats.now ≡ node n (blobs_of (entries_of s.blobs.entries)) = fold_out-CodeStats Statistics stats_step c.args.stats.now in
     on_ok_weaker c.end_object.result (λ e.
-    subst (λ v. IsWritten (statistics_data rows v) c.args.out.now c.end_object.new.self) (sym seen)
-    (statistics_written n blobs c.args.out.now c.begin_object.new.self w1 w2 c.write_count-2.new.out c.write_count-3.new.out c.end_object.new.self
+    member_of c.args.name.now (statistics_data rows (stats_of c.args.stats.now)) c.args.out.now first c.end_object.new.self
+    c.in_ok-key.ensures.ok c.in_ok-key.ensures.room.0
+    (subst (λ v. IsWritten (statistics_data rows v) first c.end_object.new.self) (sym seen)
+    (statistics_written n blobs first c.begin_object.new.self w1 w2 c.write_count-2.new.out c.write_count-3.new.out c.end_object.new.self
     (record { tokens = c.in_ok-begin_object.ensures.ok; before = c.in_ok-begin_object.ensures.room.0 })
     c.in_ok-write_count.ensures m2 c.in_ok-write_count-2.ensures c.in_ok-write_count-3.ensures
-    (record { tokens = e; before = c.end_object.ensures.room.0 }))) c.end_object.ensures.ok
+    (record { tokens = e; before = c.end_object.ensures.room.0 })))) c.end_object.ensures.ok
 
 pub write_blobs-loop-name-init : goal.write_blobs-loop-name-init
 write_blobs-loop-name-init t c =
     let rows = c.args.table.now in
     let es = c.args.blobs.now.entries in
     let all : seen_by now_of c.in_ok-members.members.entries ≡ named rows es [] = c.in_ok-members.ensures ∙ ap (λ fs. named rows fs []) c.iter.ensures.rest in
-    let begun : c.into_iter-name-iterator.result ≡ c.in_ok-members.members.entries = c.into_iter-name-iterator.ensures.into_iter_gives ∙ c.iter-name-items.ensures.rest in
+    let begun : c.into_iter-name-iterator.result ≡ c.in_ok-members.members.entries = c.into_iter-name-iterator.ensures.into_iter_gives.0 in
     record {
       written = lacks_all _ _;
       within =
@@ -66,11 +69,11 @@ write_blobs-loop-name-preserved t c =
     let f = λ (s : CodeStats). statistics_data rows (stats_of s) in
     let d = statistics_data rows (stats_of c.in-Some.stats.now.now) in
     let all = members_by f (seen_by now_of c.into_iter-name-iterator.result) in
-    let m = member_of c.in-Some.name.now.now d l.out c.key.new.self c.write_statistics.new.out c.in_ok-key.ensures.ok c.in_ok-key.ensures.room.0 c.in_ok-write_statistics.ensures in
     let left : LacksMembers all (member c.in-Some.name.now.now d (members_by f (seen_by now_of c.next.new.self))) c.begin_object.new.self l.out =
     subst (λ fs. LacksMembers all (members_by f (seen_by now_of fs)) c.begin_object.new.self l.out) c.in-Some.ensures.steps l.invariant.written in
     record {
-      written = lacks_fewer all c.in-Some.name.now.now d (members_by f (seen_by now_of c.next.new.self)) c.begin_object.new.self l.out c.write_statistics.new.out left m;
+      written = lacks_fewer all c.in-Some.name.now.now d (members_by f (seen_by now_of c.next.new.self)) c.begin_object.new.self l.out c.write_statistics.new.out left
+          c.in_ok-write_statistics.ensures;
       within = (subst (λ fs. AllByRecursion (λ e. the_size e.1.now ≤ bound) fs) c.in-Some.ensures.steps l.invariant.within).1;
     }
 
@@ -82,7 +85,7 @@ write_blobs-returns t c =
     let f = λ (s : CodeStats). statistics_data rows (stats_of s) in
     let entries = c.in_ok-members.members.entries in
     let all = members_by f (seen_by now_of entries) in
-    let begun : c.into_iter-name-iterator.result ≡ entries = c.into_iter-name-iterator.ensures.into_iter_gives ∙ c.iter-name-items.ensures.rest in
+    let begun : c.into_iter-name-iterator.result ≡ entries = c.into_iter-name-iterator.ensures.into_iter_gives.0 in
     let left : LacksMembers all no_members c.begin_object.new.self l.out =
     subst (λ fs. LacksMembers all (members_by f (seen_by now_of fs)) c.begin_object.new.self l.out) c.in-None.ensures.steps.0
     (subst (λ fs. LacksMembers (members_by f (seen_by now_of fs)) (members_by f (seen_by now_of l.name-iterator)) c.begin_object.new.self l.out) begun l.invariant.written) in
@@ -91,5 +94,5 @@ write_blobs-returns t c =
     ∙ named_members rows stats_of (statistics_data rows) es [] ∙ sym (named_blobs rows (entries_of es) no_members) in
     on_ok_weaker c.end_object.result (λ e.
     subst (λ ms. IsWritten (object ms) c.args.out.now c.end_object.new.self) same
-    (object_written all c.args.out.now c.begin_object.new.self l.out c.end_object.new.self (ascend now_of f entries c.iter-name-items.ensures.ordered)
+    (object_written all c.args.out.now c.begin_object.new.self l.out c.end_object.new.self (ascend now_of f entries c.into_iter-name-iterator.ensures.into_iter_gives.5)
     c.in_ok-begin_object.ensures.ok c.in_ok-begin_object.ensures.room.0 left e c.end_object.ensures.room.0)) c.end_object.ensures.ok

@@ -24,8 +24,7 @@ returns c =
           c.in_ok-string.ensures.room.0;
     } in
     let m1 = member_of (codes "name") (string r.name) c.begin_object.new.self c.key.new.self w1 c.in_ok-key.ensures.ok c.in_ok-key.ensures.room.0 named in
-    let m2 = member_of (codes "stats") (statistics_data rows r.stats) w1 c.key-2.new.self w2 c.in_ok-key-2.ensures.ok c.in_ok-key-2.ensures.room.0 c.in_ok-write_statistics.ensures in
     on_ok_weaker c.end_object.result (λ e.
     report_written r.name (statistics_data rows r.stats) c.args.out.now c.begin_object.new.self w1 w2 c.end_object.new.self
     (record { tokens = c.in_ok-begin_object.ensures.ok; before = c.in_ok-begin_object.ensures.room.0 })
-    m1 m2 (record { tokens = e; before = c.end_object.ensures.room.0 })) c.end_object.ensures.ok
+    m1 c.in_ok-write_statistics.ensures (record { tokens = e; before = c.end_object.ensures.room.0 })) c.end_object.ensures.ok
