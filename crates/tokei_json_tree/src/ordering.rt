@@ -51,7 +51,7 @@ fn put<'t>(members: &mut TreeMembers<'t>, key: &'t str, value: Tree<'t>) -> Resu
 
 /// Whether the key is behind the last one, if there is one.
 #[inline(always)]
-fn ascends(last: Option<&str>, key: &str) -> bool
+pub fn ascends(last: Option<&str>, key: &str) -> bool
     ensures { result ≡ true → IfSome last.entry (λ l. slice_cmp nat_cmp l.now key.now ≡ Less) }
 {
     match last {

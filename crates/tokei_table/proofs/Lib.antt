@@ -4,4 +4,5 @@ pub use Rattle.tokei_table_rules.proofs.IsUtf8
 pub use Rattle.tokei_table_rules.proofs.RowSound
 pub mod ExtendedTables
 pub mod Flaws
+pub mod PlainTables
 pub mod Utf8

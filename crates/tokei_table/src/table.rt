@@ -24,7 +24,7 @@ use std::alloc::{AllocError, Global};
 use std::marker::Model;
 use std::rc::Rc;
 use tokei_json_tree::{Reading, Room, read};
-use tokei_table_json::{has_layout, is_escaped_table, rows_of};
+use tokei_table_json::{has_layout, is_escaped_table, rows_in_order, rows_of};
 use tokei_table_row::Syntax;
 use tokei_table_rules::IndexedRows;
 use tokei_table_rules::names::names_twice;
@@ -86,6 +86,9 @@ fn rows_of_text(alloc: Global, text: &str) -> Result<Vec<Syntax>, TableError>
         (λ e. outcome_of (read_text text.now) ≡ Err e) }
     ensures ordered { IfOk result (λ v. IsInKeyOrder (map row_of v.items)) }
 {
+    if let Some(rows) = rows_in_order(alloc, text)? {
+        return Ok(rows);
+    }
     let mut room = Room::new(alloc);
     let read = read(alloc, &mut room, text)?;
     rows_in(alloc, &read)

@@ -7,6 +7,9 @@ pub mod Made
 pub mod MemberKeys
 pub mod MemberTests
 pub mod MembersOnce
+pub mod Next
+pub mod NextMembers
+pub mod NextRows
 pub mod NoPairs
 pub mod NumberData
 pub mod Pairs

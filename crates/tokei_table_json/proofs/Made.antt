@@ -7,6 +7,10 @@ module _ {X Y : Type 0} (seen : X → Y) where
   one_behind [] x rest = refl
   one_behind (m ∷ made) x rest = ap (λ ys. seen m ∷ ys) (one_behind made x rest)
 
+  seen_behind : (made : List X) (x : X) → map seen (made ++ x ∷ []) ≡ map seen made ++ seen x ∷ []
+  seen_behind [] x = refl
+  seen_behind (m ∷ made) x = ap (λ ys. seen m ∷ ys) (seen_behind made x)
+
   pub none_made : (made : List X) (whole : List Y) → made ≡ [] → whole ≡ map seen made ++ whole
   none_made made whole e = ap (λ xs. map seen xs ++ whole) (sym e)
 
@@ -18,3 +22,6 @@ module _ {X Y : Type 0} (seen : X → Y) where
 
   pub all_made : (made : List X) (whole left : List Y) → whole ≡ map seen made ++ left → left ≡ [] → map seen made ≡ whole
   all_made made whole left e f = sym (e ∙ ap (λ ys. map seen made ++ ys) f ∙ append-nil (map seen made))
+
+  pub made_longer : (made longer : List X) (x : X) → longer ≡ made ++ x ∷ [] → map seen longer ≡ map seen made ++ seen x ∷ []
+  made_longer made longer x e = ap (map seen) e ∙ seen_behind made x

@@ -8,5 +8,6 @@ pub mod MemberEscapes
 pub mod MemberLayout
 pub mod Members
 pub mod Misfits
+pub mod Next
 pub mod RowLaws
 pub mod Rows

@@ -121,7 +121,9 @@ fn member_keeps_escapes(html: bool, member: Member, value: &Tree<'_>) -> bool
     }
 }
 
-fn keeps_escapes(html: bool, key: &str, value: &Tree<'_>) -> bool
+/// Whether the value has but the known escapes at its key in a language, which is of kind `html`
+/// or not.
+pub(crate) fn keeps_escapes(html: bool, key: &str, value: &Tree<'_>) -> bool
     requires { IsOrdered (value_view value.now) }
     ensures { result ≡ keeps_escapes html key.now (data_of (value_view value.now)) }
 {

@@ -139,7 +139,8 @@ fn fits_member(html: bool, member: Member, value: &Tree<'_>) -> bool
     }
 }
 
-fn fits(html: bool, key: &str, value: &Tree<'_>) -> bool
+/// Whether the value may stand at its key in a language, which is of kind `html` or not.
+pub(crate) fn fits(html: bool, key: &str, value: &Tree<'_>) -> bool
     requires { IsOrdered (value_view value.now) }
     ensures { result ≡ fits html key.now (data_of (value_view value.now)) }
 {

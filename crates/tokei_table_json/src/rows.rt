@@ -24,7 +24,7 @@ use tokei_json_tree::{Tree, TreeItems, TreeMembers, member};
 use tokei_table_row::Syntax;
 
 /// The text after escapes; without a backslash it is a copy of the text itself.
-fn read_text(alloc: Global, text: &str) -> Result<String, AllocError>
+pub(crate) fn read_text(alloc: Global, text: &str) -> Result<String, AllocError>
     ensures { IfOk result (λ s. string_bytes s ≡ unescaped_text text.now) }
 {
     if has_backslash(text) {
@@ -107,7 +107,7 @@ fn tags(alloc: Global, items: &TreeItems<'_>) -> Result<Vec<String>, AllocError>
 }
 
 /// Puts the texts in place of those of the member.
-fn put_texts(row: &mut Syntax, list: TextList, texts: Vec<String>)
+pub(crate) fn put_texts(row: &mut Syntax, list: TextList, texts: Vec<String>)
     ensures { (html : Bool) (ds : Items) → tokens_of texts.items ≡ texts_of ds
         → row_of row.new ≡ with_member html (text_list_key list) (array ds) (row_of row.old) }
 {
@@ -124,7 +124,7 @@ fn put_texts(row: &mut Syntax, list: TextList, texts: Vec<String>)
 }
 
 /// Puts the pairs in place of those of the member.
-fn put_pairs(row: &mut Syntax, list: PairList, pairs: Vec<(String, String)>)
+pub(crate) fn put_pairs(row: &mut Syntax, list: PairList, pairs: Vec<(String, String)>)
     ensures { (html : Bool) (ds : Items) → pairs_of pairs.items ≡ pairs_in ds
         → row_of row.new ≡ with_member html (pair_list_key list) (array ds) (row_of row.old) }
 {
@@ -232,7 +232,7 @@ fn read_truth(row: &mut Syntax, html: bool, member: Member, truth: bool)
 }
 
 /// Reads a member of a language, which is of kind `html` or not.
-fn read_member(
+pub(crate) fn read_member(
     alloc: Global,
     row: &mut Syntax,
     html: bool,

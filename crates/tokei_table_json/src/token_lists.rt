@@ -1,0 +1,96 @@
+//! Lists of a table as its tokens come, without a tree. Each function answers None where something
+//! else comes, or a text with an unknown escape.
+ghost use Rattle.std.specs.Prelude.{◌≡◌, ◌<◌, ◌∷◌, ℕ, true, Some, IfOk, IfSome, string_bytes};
+ghost use Rattle.json.specs.Token.{Token as SpecToken};
+ghost use Rattle.tokei_table_row.specs.RowOf.{pair_of, pairs_of, tokens_of};
+ghost use Rattle.tokei_table_json.specs.Escaped.{is_escaped_value, is_escaped_list, are_escaped_pairs};
+ghost use Rattle.tokei_table_json.specs.Layout.{is_list, is_text, is_text_pair};
+ghost use Rattle.tokei_table_json.specs.Next.{IsNext};
+ghost use Rattle.tokei_table_json.specs.Rows.{text_of, pair_in, texts_at, pairs_at};
+
+use crate::escapes::is_escaped;
+use crate::rows::read_text;
+use json::{Reader, Token};
+use std::alloc::{AllocError, Global};
+
+/// Whether a list begins here: takes one token.
+fn begins_list(reader: &mut Reader<'_>) -> bool
+    ensures { result ≡ true → reader.old ≡ SpecToken.begin_array ∷ reader.new }
+{
+    matches!(reader.next(), Some(Token::BeginArray))
+}
+
+/// The next text, after escapes.
+fn next_text(alloc: Global, reader: &mut Reader<'_>) -> Result<Option<String>, AllocError>
+    ensures { IfOk result (λ found. IfSome found (λ s. (depth : ℕ)
+        → IsNext is_text is_escaped_value text_of depth reader.old reader.new (string_bytes s))) }
+{
+    match reader.next() {
+        Some(Token::String(text)) if is_escaped(text) => Ok(Some(read_text(alloc, text)?)),
+        _ => Ok(None),
+    }
+}
+
+/// The next pair of texts, after escapes.
+fn next_pair(alloc: Global, reader: &mut Reader<'_>) -> Result<Option<(String, String)>, AllocError>
+    ensures { IfOk result (λ found. IfSome found (λ p. (depth : ℕ) → 0 < depth
+        → IsNext is_text_pair is_escaped_list pair_in depth reader.old reader.new (pair_of p))) }
+{
+    if !begins_list(reader) {
+        return Ok(None);
+    }
+    let Some(opener) = next_text(alloc, reader)? else {
+        return Ok(None);
+    };
+    let Some(closer) = next_text(alloc, reader)? else {
+        return Ok(None);
+    };
+    if !reader.take_end_array() {
+        return Ok(None);
+    }
+    Ok(Some((opener, closer)))
+}
+
+/// The next list of texts, after escapes.
+pub(crate) fn next_texts(
+    alloc: Global,
+    reader: &mut Reader<'_>,
+) -> Result<Option<Vec<String>>, AllocError>
+    ensures { IfOk result (λ found. IfSome found (λ v. (depth : ℕ) → 0 < depth
+        → IsNext (is_list is_text) is_escaped_list (λ d. texts_at (Some d)) depth reader.old
+        reader.new (tokens_of v.items))) }
+{
+    if !begins_list(reader) {
+        return Ok(None);
+    }
+    let mut made = Vec::with_capacity(alloc, 1)?;
+    while !reader.take_end_array() {
+        let Some(text) = next_text(alloc, reader)? else {
+            return Ok(None);
+        };
+        made.push(text)?;
+    }
+    Ok(Some(made))
+}
+
+/// The next list of pairs of texts, after escapes.
+pub(crate) fn next_pairs(
+    alloc: Global,
+    reader: &mut Reader<'_>,
+) -> Result<Option<Vec<(String, String)>>, AllocError>
+    ensures { IfOk result (λ found. IfSome found (λ v. (depth : ℕ) → 1 < depth
+        → IsNext (is_list is_text_pair) are_escaped_pairs (λ d. pairs_at (Some d)) depth reader.old
+        reader.new (pairs_of v.items))) }
+{
+    if !begins_list(reader) {
+        return Ok(None);
+    }
+    let mut made = Vec::with_capacity(alloc, 1)?;
+    while !reader.take_end_array() {
+        let Some(pair) = next_pair(alloc, reader)? else {
+            return Ok(None);
+        };
+        made.push(pair)?;
+    }
+    Ok(Some(made))
+}
