@@ -1,5 +1,5 @@
 -- What is read of a text as its tokens come: values, lists and their items.
-use Rattle.std.proofs.Common.{◌≡◌, ℕ, ◌-◌, ◌<◌, ◌≤◌, List, [], ◌∷◌, ◌++◌, length, Bool, true, ◌&&◌, Some, None, refl, sym, ap, ap₂, ◌∙◌, subst, append_assoc, option_map, arith}
+use Rattle.std.proofs.Common.{◌≡◌, ℕ, ◌-◌, ◌<◌, ◌≤◌, List, [], ◌∷◌, ◌++◌, length, Bool, true, ◌&&◌, Some, None, refl, sym, ap, ap₂, ◌∙◌, subst, append_assoc, option_map, arith, Option, IfSome}
 use Rattle.std.proofs.lemmas.List.{append-nil}
 use Rattle.json.specs.Json as json
 use Rattle.json.specs.Json.{after_end_array, parse_map}
@@ -15,6 +15,10 @@ use Rattle.tokei_table_json.specs.Layout.{all_items, is_list, is_text, is_text_p
 use Rattle.tokei_table_json.specs.Next.{IsNext}
 use Rattle.tokei_table_json.specs.Rows.{text_of, texts_of, texts_at, pair_in, pairs_in, pairs_at}
 use Rattle.tokei_table_row.specs.Row.{Pair}
+
+pub if_some_weaker : {X : Type 0} {P Q : X → Type 0} (found : Option X) → ((x : X) → P x → Q x) → IfSome found P → IfSome found Q
+if_some_weaker None weaker h = tt
+if_some_weaker (Some x) weaker h = weaker x h
 
 -- a value takes tokens
 pub shorter : {X : Type 0} {layout escapes : Data → Bool} {read : Data → X} (depth : ℕ) (old new : List Token) (it : X)

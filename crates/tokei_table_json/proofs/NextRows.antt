@@ -279,10 +279,6 @@ each_escaped (member k d ms) e =
     let parts = and_parts (is_escaped_language d) (all_members (λ k. is_escaped_language) ms) e in
     ap₂ (λ x y. x && y) parts.0 (each_escaped ms parts.1)
 
-pub if_some_weaker : {X : Type 0} {P Q : X → Type 0} (found : Option X) → ((x : X) → P x → Q x) → IfSome found P → IfSome found Q
-if_some_weaker None weaker h = tt
-if_some_weaker (Some x) weaker h = weaker x h
-
 -- a text of nothing but an object `languages`
 module _ (text : List ℕ) (first second last : List Token) (rows : List Row) (opened : tokens text ≡ Token.begin_object ∷ first)
     (named : first ≡ Token.key (codes "languages") ∷ Token.begin_object ∷ second)

@@ -45,7 +45,7 @@ pub(crate) fn has_backslash(text: &str) -> bool
 }
 
 /// Whether each backslash of the text, of which it holds some, begins an escape.
-fn are_escapes(text: &str) -> bool
+pub(crate) fn are_escapes(text: &str) -> bool
     ensures { result ≡ is_escaped_text text.now }
 {
     let mut rest = text;

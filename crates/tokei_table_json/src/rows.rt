@@ -24,7 +24,7 @@ use tokei_json_tree::{Tree, TreeItems, TreeMembers, member};
 use tokei_table_row::Syntax;
 
 /// The text after escapes; without a backslash it is a copy of the text itself.
-pub(crate) fn read_text(alloc: Global, text: &str) -> Result<String, AllocError>
+fn read_text(alloc: Global, text: &str) -> Result<String, AllocError>
     ensures { IfOk result (λ s. string_bytes s ≡ unescaped_text text.now) }
 {
     if has_backslash(text) {

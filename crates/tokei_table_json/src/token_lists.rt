@@ -4,12 +4,12 @@ ghost use Rattle.std.specs.Prelude.{◌≡◌, ◌<◌, ◌∷◌, ℕ, true, So
 ghost use Rattle.json.specs.Token.{Token as SpecToken};
 ghost use Rattle.tokei_table_row.specs.RowOf.{pair_of, pairs_of, tokens_of};
 ghost use Rattle.tokei_table_json.specs.Escaped.{is_escaped_value, is_escaped_list, are_escaped_pairs};
+ghost use Rattle.tokei_table_json.specs.Escapes.{is_escaped_text, unescaped_text};
 ghost use Rattle.tokei_table_json.specs.Layout.{is_list, is_text, is_text_pair};
 ghost use Rattle.tokei_table_json.specs.Next.{IsNext};
 ghost use Rattle.tokei_table_json.specs.Rows.{text_of, pair_in, texts_at, pairs_at};
 
-use crate::escapes::is_escaped;
-use crate::rows::read_text;
+use crate::escapes::{are_escapes, has_backslash, unescaped};
 use json::{Reader, Token};
 use std::alloc::{AllocError, Global};
 
@@ -20,13 +20,27 @@ fn begins_list(reader: &mut Reader<'_>) -> bool
     matches!(reader.next(), Some(Token::BeginArray))
 }
 
+/// The text after escapes.
+fn known_text(alloc: Global, text: &str) -> Result<Option<String>, AllocError>
+    ensures { IfOk result (λ found. IfSome found (λ s. (is_escaped_text text.now ≡ true)
+        × (string_bytes s ≡ unescaped_text text.now))) }
+{
+    if !has_backslash(text) {
+        return Ok(Some(String::from_str(alloc, text)?));
+    }
+    if !are_escapes(text) {
+        return Ok(None);
+    }
+    Ok(Some(unescaped(alloc, text)?))
+}
+
 /// The next text, after escapes.
 fn next_text(alloc: Global, reader: &mut Reader<'_>) -> Result<Option<String>, AllocError>
     ensures { IfOk result (λ found. IfSome found (λ s. (depth : ℕ)
         → IsNext is_text is_escaped_value text_of depth reader.old reader.new (string_bytes s))) }
 {
     match reader.next() {
-        Some(Token::String(text)) if is_escaped(text) => Ok(Some(read_text(alloc, text)?)),
+        Some(Token::String(text)) => known_text(alloc, text),
         _ => Ok(None),
     }
 }

@@ -1,6 +1,7 @@
 use Rattle.std.proofs.Common.{map, sym, ◌∙◌, rules}
 use Rattle.tokei_table_row.specs.RowOf.{row_of}
-use Rattle.tokei_table_json.proofs.NextRows.{table_text, if_some_weaker}
+use Rattle.tokei_table_json.proofs.Next.{if_some_weaker}
+use Rattle.tokei_table_json.proofs.NextRows.{table_text}
 use Rattle.tokei_table_json.proofs.token_rows.rows_in_order.Goals as goal
 
 pub returns : goal.returns
