@@ -12,6 +12,7 @@ ghost use Rattle.tokei_table_rules.specs.Walks.{has_walked};
 ghost use Rattle.tokei_table_row.specs.RowOf.{row_of, tokens_of};
 
 use crate::indexed_rows::IndexedRows;
+use crate::names::has_name;
 use crate::text_index::TextKind;
 use memchr::memrchr;
 use tokei_table_row::Syntax;
@@ -37,7 +38,7 @@ fn has_text(row: &Syntax, kind: TextKind, text: &[u8]) -> bool
     ensures { result ≡ has_text kind text.now (row_of row.now) }
 {
     match kind {
-        TextKind::Names => row.key.as_bytes() == text || row.name.as_bytes() == text,
+        TextKind::Names => has_name(row, text),
         TextKind::LoweredNames => row.name.as_bytes().eq_ignore_ascii_case(text),
         TextKind::Extensions => holds(&row.extensions, text),
         TextKind::Filenames => holds(&row.filenames, text),

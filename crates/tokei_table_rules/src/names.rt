@@ -13,6 +13,13 @@ use std::alloc::{AllocError, Global};
 use std::collections::BTreeMap;
 use tokei_table_row::Syntax;
 
+/// Whether the text is the row's key or its name.
+pub(crate) fn has_name(row: &Syntax, word: &[u8]) -> bool
+    ensures { result ≡ has_name word.now (row_of row.now) }
+{
+    row.key.as_bytes() == word || row.name.as_bytes() == word
+}
+
 /// Whether the name was met.
 pub(crate) fn is_met<'a>(names: &BTreeMap<&'a str, ()>, name: &str) -> bool
     ensures { result ≡ is_met names.now name.now }
@@ -76,12 +83,10 @@ pub fn shared_name<'a>(row: &'a Syntax, other: &Syntax) -> Option<&'a str>
     ensures shared { IfSome result (λ name. (has_name name.now (row_of row.now) ≡ true)
         × (has_name name.now (row_of other.now) ≡ true)) }
 {
-    let key = row.key.as_str();
-    let name = row.name.as_str();
-    if key == other.key.as_str() || key == other.name.as_str() {
-        Some(key)
-    } else if name == other.key.as_str() || name == other.name.as_str() {
-        Some(name)
+    if has_name(other, row.key.as_bytes()) {
+        Some(row.key.as_str())
+    } else if has_name(other, row.name.as_bytes()) {
+        Some(row.name.as_str())
     } else {
         None
     }

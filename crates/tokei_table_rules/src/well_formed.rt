@@ -9,22 +9,9 @@ ghost use Rattle.tokei_table_rules.specs.RowNames.{is_total};
 ghost use Rattle.tokei_table_rules.specs.Tokens.{has_tokens, member_has_tokens};
 
 use crate::family::Family;
+use crate::names::has_name;
 use crate::tokens::{are_pairs, are_tokens};
 use tokei_table_row::Syntax;
-
-#[tactic(auto, unfolding(crate::specs::Tokens::has_tokens))]
-fn has_tokens(row: &Syntax) -> bool
-    ensures { result ≡ has_tokens (row_of row.now) }
-{
-    are_tokens(&row.line_comment)
-        && are_pairs(&row.multi_line_comments)
-        && are_pairs(&row.nested_comments)
-        && are_pairs(&row.quotes)
-        && are_pairs(&row.verbatim_quotes)
-        && are_pairs(&row.doc_quotes)
-        && are_tokens(&row.important_syntax)
-        && are_tokens(&row.contexts)
-}
 
 /// The member of the row that has a text which a count looks for and which is no token.
 #[tactic(auto, unfolding(crate::specs::Tokens::has_tokens))]
@@ -58,7 +45,7 @@ pub fn all_have_tokens(rows: &[Syntax]) -> bool
     ensures { result ≡ list_all has_tokens (map row_of rows.now) }
 {
     for row in rows {
-        if !has_tokens(row) {
+        if bad_member(row).is_some() {
             return false;
         }
     }
@@ -69,7 +56,7 @@ pub fn all_have_tokens(rows: &[Syntax]) -> bool
 pub fn is_total(row: &Syntax) -> bool
     ensures { result ≡ is_total (row_of row.now) }
 {
-    row.key.as_str() == "Total" || row.name.as_str() == "Total"
+    has_name(row, "Total".as_bytes())
 }
 
 /// Whether a key or a name is `Total`.
@@ -93,20 +80,6 @@ fn has_key(rows: &[Syntax], key: &str) -> bool
         }
     }
     false
-}
-
-fn has_fallbacks(rows: &[Syntax], row: &Syntax) -> bool
-    ensures { result ≡ has_fallbacks (map row_of rows.now) (row_of row.now) }
-{
-    match Family::of_key(row.key.as_str()) {
-        Family::Plain | Family::Markdown => true,
-        Family::HtmlLike => has_key(rows, "JavaScript")
-            && has_key(rows, "Css")
-            && has_key(rows, "Html"),
-        Family::Rust => has_key(rows, "Markdown"),
-        Family::LinguaFranca => has_key(rows, "C"),
-        Family::Jupyter => has_key(rows, "Markdown") && has_key(rows, "Python"),
-    }
 }
 
 /// The key, unless a row has it.
@@ -152,7 +125,7 @@ pub fn all_have_fallbacks(rows: &[Syntax]) -> bool
     ensures { result ≡ list_all (has_fallbacks (map row_of rows.now)) (map row_of rows.now) }
 {
     for row in rows {
-        if !has_fallbacks(rows, row) {
+        if missing_key(rows, row).is_some() {
             return false;
         }
     }

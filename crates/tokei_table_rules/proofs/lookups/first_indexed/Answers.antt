@@ -22,3 +22,6 @@ loop-place-preserved c = grind (arith, common_steps)
 
 pub returns-then-has_text : goal.returns-then-has_text
 returns-then-has_text c = grind (arith, common_steps)
+
+pub returns : goal.returns
+returns c = grind (arith, common_steps)
