@@ -82,15 +82,6 @@ fn has_key(rows: &[Syntax], key: &str) -> bool
     false
 }
 
-/// The key, unless a row has it.
-fn absent<'a>(rows: &[Syntax], key: &'a str) -> Option<&'a str>
-    ensures found { is_some result ≡ not (has_key (map row_of rows.now) key.entry.now) }
-    ensures same { IfSome result (λ k. k.now ≡ key.entry.now) }
-    ensures absent { IfSome result (λ k. has_key (map row_of rows.now) k.now ≡ false) }
-{
-    if has_key(rows, key) { None } else { Some(key) }
-}
-
 /// The key of a language that is missing, on which children of the row's language fall back.
 pub fn missing_key(rows: &[Syntax], row: &Syntax) -> Option<&'static str>
     ensures found { is_some result ≡ not (has_fallbacks (map row_of rows.now) (row_of row.now)) }
@@ -98,26 +89,13 @@ pub fn missing_key(rows: &[Syntax], row: &Syntax) -> Option<&'static str>
         (λ k. holds (needed_keys (family_of (row_of row.now).key)) k.now ≡ true) }
     ensures missing { IfSome result (λ k. has_key (map row_of rows.now) k.now ≡ false) }
 {
-    match Family::of_key(row.key.as_str()) {
-        Family::Plain | Family::Markdown => None,
-        Family::HtmlLike => {
-            if let Some(key) = absent(rows, "JavaScript") {
-                return Some(key);
-            }
-            if let Some(key) = absent(rows, "Css") {
-                return Some(key);
-            }
-            absent(rows, "Html")
-        }
-        Family::Rust => absent(rows, "Markdown"),
-        Family::LinguaFranca => absent(rows, "C"),
-        Family::Jupyter => {
-            if let Some(key) = absent(rows, "Markdown") {
-                return Some(key);
-            }
-            absent(rows, "Python")
+    let keys = Family::of_key(row.key.as_str()).needed_keys();
+    for key in keys {
+        if !has_key(rows, *key) {
+            return Some(*key);
         }
     }
+    None
 }
 
 /// Whether the languages are there on which the children of others fall back.
