@@ -82,6 +82,7 @@ impl IndexedRows {
     /// Places of rows, in their order, among which are those of the rows that have the text as one
     /// of that kind; of path suffixes, those of the rows with one of the text's, unless one is
     /// short.
+    #[inline(always)]
     pub(crate) fn places(&self, kind: TextKind, text: &[u8]) -> &[usize]
         ensures { result.now ≡ places_of kind text.now self.entry.now }
     {
