@@ -1,8 +1,9 @@
 -- A row that shares a name with one before it.
 use Rattle.std.proofs.Common.{◌≡◌, ℕ, ◌+◌, ◌<◌, Bool, true, false, ◌||◌, List, [], ◌∷◌, ◌++◌, length, get_or, map, take, drop, refl, sym, ap, ◌∙◌, bytes_eq, arith}
-use Rattle.std.proofs.Math.Bool.{or-false, or-true, true≢false}
+use Rattle.std.proofs.Math.Bool.{or-false, or-true, or_assoc, true≢false}
 use Rattle.std.proofs.lemmas.List.{take_more, take-append-drop, length-map, get_or-map}
 use Rattle.std.proofs.lemmas.List.Folds.{list_any-append, list_any_more}
+use Rattle.std.proofs.lemmas.Slice.Eq.{bytes_eq-Decides}
 use Rattle.std.specs.List.{list_any}
 use Rattle.tokei_table_row.specs.NewRow.{new_row}
 use Rattle.tokei_table_row.specs.Row.{Row}
@@ -33,13 +34,34 @@ swapped false true false d = refl
 swapped false false true d = refl
 swapped false false false d = refl
 
-flips : (r s : Row) → shares_name r s ≡ shares_name s r
-flips r s =
+turned : (r s : Row) → shares_name r s
+    ≡ (((bytes_eq s.key r.key || bytes_eq s.name r.key) || bytes_eq s.key r.name) || bytes_eq s.name r.name)
+turned r s =
     ap (λ b. ((b || bytes_eq r.key s.name) || bytes_eq r.name s.key) || bytes_eq r.name s.name) (text_flips r.key s.key)
     ∙ ap (λ b. ((bytes_eq s.key r.key || b) || bytes_eq r.name s.key) || bytes_eq r.name s.name) (text_flips r.key s.name)
     ∙ ap (λ b. ((bytes_eq s.key r.key || bytes_eq s.name r.key) || b) || bytes_eq r.name s.name) (text_flips r.name s.key)
     ∙ ap (λ b. ((bytes_eq s.key r.key || bytes_eq s.name r.key) || bytes_eq s.key r.name) || b) (text_flips r.name s.name)
-    ∙ swapped (bytes_eq s.key r.key) (bytes_eq s.name r.key) (bytes_eq s.key r.name) (bytes_eq s.name r.name)
+
+flips : (r s : Row) → shares_name r s ≡ shares_name s r
+flips r s =
+    turned r s ∙ swapped (bytes_eq s.key r.key) (bytes_eq s.name r.key) (bytes_eq s.key r.name) (bytes_eq s.name r.name)
+
+-- a row shares a name with one whose name its key or its name is
+pub sharing : (r s : Row) → (has_name r.key s || has_name r.name s) ≡ shares_name r s
+sharing r s =
+    sym (turned r s ∙ or_assoc (has_name r.key s) (bytes_eq s.key r.name) (bytes_eq s.name r.name))
+
+pub sharing_key : (r s : Row) → has_name r.key s ≡ true → true ≡ shares_name r s
+sharing_key r s e = ap (λ b. b || has_name r.name s) (sym e) ∙ sharing r s
+
+pub sharing_name : (r s : Row) (b : Bool) → has_name r.key s ≡ false → has_name r.name s ≡ b → b ≡ shares_name r s
+sharing_name r s b e f = sym f ∙ ap (λ b. b || has_name r.name s) (sym e) ∙ sharing r s
+
+pub own_key : (r : Row) → has_name r.key r ≡ true
+own_key r = ap (λ b. b || bytes_eq r.name r.key) ((bytes_eq-Decides r.key r.key).1 refl)
+
+pub own_name : (r : Row) → has_name r.name r ≡ true
+own_name r = ap (λ b. bytes_eq r.key r.name || b) ((bytes_eq-Decides r.name r.name).1 refl) ∙ or-true (bytes_eq r.key r.name)
 
 -- one more row
 twice_pushed : (rs : List Row) (s : Row) → names_twice (rs ++ s ∷ []) ≡ (names_twice rs || list_any (shares_name s) rs)

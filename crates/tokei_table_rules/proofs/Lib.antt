@@ -1,6 +1,8 @@
 pub mod Dots
 pub mod EarlierNames
 pub mod ExtendedRows
+pub mod FirstLeft
+pub mod IndexedKinds
 pub mod IsUtf8
 pub mod MetNames
 pub mod Nonempty

@@ -19,3 +19,4 @@ pub mod RowNames
 pub mod Shebangs
 pub mod TextIndex
 pub mod Tokens
+pub mod Walks

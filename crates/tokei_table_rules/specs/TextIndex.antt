@@ -1,11 +1,13 @@
 -- Which rows have a text, by groups of texts: an index that a look-up goes by, in place of a walk
 -- over the table.
-use Rattle.std.specs.Prelude.{◌≡◌, ℕ, ◌+◌, ◌*◌, ◌%◌, ◌<◌, ◌==◌, Bool, if◌then◌else◌, List, [], ◌∷◌, ◌++◌, length}
+use Rattle.std.specs.Prelude.{◌≡◌, ℕ, ◌+◌, ◌*◌, ◌%◌, ◌<◌, ◌==◌, Bool, false, if◌then◌else◌, List, [], ◌∷◌, ◌++◌, length}
 use Rattle.std.specs.Prelude.{slice_index_or, Option, Some, None}
+use Rattle.std.specs.List.{list_any}
 use Rattle.std.specs.Str.{str_to_ascii_lowercase}
 use Rattle.tokei_table_row.specs.Row.{Row}
-use Rattle.tokei_table_rules.specs.Lookups.{row_at}
-use Rattle.tokei_table_rules.specs.PathSuffixes.{suffix_tails}
+use Rattle.tokei_table_rules.specs.Lookups.{row_at, has_name, has_name_in_any_case}
+use Rattle.tokei_table_rules.specs.Lookups.{has_extension, has_filename, has_path_suffix}
+use Rattle.tokei_table_rules.specs.PathSuffixes.{tail_of, suffix_tails, has_short_suffix}
 use Rattle.tokei_table_rules.specs.declared.text_index.TextKind.{TextKind}
 use Rattle.tokei_table_rules.specs.declared.text_index.TextKind.TheVariants.{Names, LoweredNames}
 use Rattle.tokei_table_rules.specs.declared.text_index.TextKind.TheVariants.{Extensions, Filenames}
@@ -43,10 +45,38 @@ texts_of Extensions = λ r. r.extensions
 texts_of Filenames = λ r. r.filenames
 texts_of SuffixTails = suffix_tails
 
+-- The text by whose group a text is looked for in an index of that kind.
+abbrev pub asked_by : TextKind → List ℕ → List ℕ
+asked_by Names = λ t. t
+asked_by LoweredNames = str_to_ascii_lowercase
+asked_by Extensions = λ t. t
+asked_by Filenames = λ t. t
+asked_by SuffixTails = tail_of
+
+-- The condition of a look-up in an index of that kind.
+abbrev pub has_text : TextKind → List ℕ → Row → Bool
+has_text Names = has_name
+has_text LoweredNames = has_name_in_any_case
+has_text Extensions = has_extension
+has_text Filenames = has_filename
+has_text SuffixTails = has_path_suffix
+
+-- Whether an index of that kind may miss a row: one of path suffixes, where one is short.
+abbrev pub misses_rows : TextKind → List Row → Bool
+misses_rows Names rows = false
+misses_rows LoweredNames rows = false
+misses_rows Extensions rows = false
+misses_rows Filenames rows = false
+misses_rows SuffixTails rows = list_any has_short_suffix rows
+
 -- The places that stand beside that group.
 abbrev pub in_group : ℕ → List (ℕ × ℕ) → List ℕ
 in_group g [] = []
 in_group g (e ∷ es) = if e.0 == g then e.1 ∷ in_group g es else in_group g es
+
+-- The places that an index of that kind has for the text.
+abbrev pub places_of : TextKind → List ℕ → List Row → List ℕ
+places_of kind text rows = in_group (group_of (asked_by kind text)) (entries_from (texts_of kind) 0 rows)
 
 -- Each group has the places that stand beside it behind its own.
 pub record AddsEntries (entries : List (ℕ × ℕ)) (before after : List (List ℕ)) : Type 0 where

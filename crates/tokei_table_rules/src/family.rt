@@ -1,6 +1,7 @@
 //! Languages that hold children of other languages.
 ghost use Rattle.std.specs.Prelude.{◌≡◌};
-ghost use Rattle.tokei_table_rules.specs.Families.{family_of};
+ghost use Rattle.tokei_table_rules.specs.Families.{family_of, needed_keys};
+ghost use Rattle.tokei_table_rules.specs.MetNames.{words_of};
 
 /// How a language opens children; it goes by the language's key.
 #[derive(Clone, Copy, Debug, PartialEq, Eq)]
@@ -31,6 +32,19 @@ impl Family {
             "LinguaFranca" => Family::LinguaFranca,
             "Jupyter" => Family::Jupyter,
             _ => Family::Plain,
+        }
+    }
+
+    /// The keys of the languages on which children of one of the family fall back.
+    pub(crate) fn needed_keys(self) -> &'static [&'static str]
+        ensures { words_of result.now ≡ needed_keys self }
+    {
+        match self {
+            Family::Plain | Family::Markdown => &[],
+            Family::HtmlLike => &["JavaScript", "Css", "Html"],
+            Family::Rust => &["Markdown"],
+            Family::LinguaFranca => &["C"],
+            Family::Jupyter => &["Markdown", "Python"],
         }
     }
 }

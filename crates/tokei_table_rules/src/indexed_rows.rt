@@ -1,10 +1,10 @@
 //! Rows of languages with an index of their names, extensions, whole names of files and path
 //! suffixes.
-ghost use Rattle.std.specs.Prelude.{◌≡◌, map, IfOk};
-ghost use Rattle.std.specs.Str.{str_to_ascii_lowercase};
+ghost use Rattle.std.specs.Prelude.{◌≡◌, ◌<◌, length, map, IfOk};
 ghost use Rattle.std.specs.List.{list_any};
-ghost use Rattle.tokei_table_rules.specs.PathSuffixes.{tail_of, suffix_tails, has_short_suffix};
-ghost use Rattle.tokei_table_rules.specs.TextIndex.{entries_from, group_of, in_group, names, lowered_name};
+ghost use Rattle.tokei_table_rules.specs.Lookups.{row_at};
+ghost use Rattle.tokei_table_rules.specs.PathSuffixes.{has_short_suffix};
+ghost use Rattle.tokei_table_rules.specs.TextIndex.{places_of};
 ghost use Rattle.tokei_table_row.specs.RowOf.{row_of};
 
 use crate::path_suffixes::{has_short_suffix, tail};
@@ -71,45 +71,28 @@ impl IndexedRows {
         self.rows.as_slice()
     }
 
-    /// Places of rows, in their order, among which are those of the rows with that key or name.
-    pub(crate) fn name_places(&self, name: &[u8]) -> &[usize]
-        ensures { result.now ≡ in_group (group_of name.now) (entries_from names 0 self.entry.now) }
+    /// The row at that place.
+    pub(crate) fn row(&self, place: usize) -> &Syntax
+        requires { place < length self.now }
+        ensures { row_of result.now ≡ row_at self.entry.now place }
     {
-        self.by_name.places(name)
+        &self.rows[place]
     }
 
-    /// The same of a name in any ASCII case.
-    pub(crate) fn lowered_name_places(&self, word: &[u8]) -> &[usize]
-        ensures { result.now ≡ in_group (group_of (str_to_ascii_lowercase word.now))
-            (entries_from lowered_name 0 self.entry.now) }
+    /// Places of rows, in their order, among which are those of the rows that have the text as one
+    /// of that kind; of path suffixes, those of the rows with one of the text's, unless one is
+    /// short.
+    #[inline(always)]
+    pub(crate) fn places(&self, kind: TextKind, text: &[u8]) -> &[usize]
+        ensures { result.now ≡ places_of kind text.now self.entry.now }
     {
-        self.by_lowered_name.lowered_places(word)
-    }
-
-    /// The same of an extension.
-    pub(crate) fn extension_places(&self, extension: &[u8]) -> &[usize]
-        ensures { result.now
-            ≡ in_group (group_of extension.now)
-            (entries_from (λ r. r.extensions) 0 self.entry.now) }
-    {
-        self.by_extension.places(extension)
-    }
-
-    /// The same of a whole name of a file.
-    pub(crate) fn filename_places(&self, name: &[u8]) -> &[usize]
-        ensures { result.now
-            ≡ in_group (group_of name.now) (entries_from (λ r. r.filenames) 0 self.entry.now) }
-    {
-        self.by_filename.places(name)
-    }
-
-    /// Places of rows, in their order, among which are those of the rows with a path suffix of the
-    /// name, unless one is short.
-    pub(crate) fn suffix_places(&self, name: &[u8]) -> &[usize]
-        ensures { result.now
-            ≡ in_group (group_of (tail_of name.now)) (entries_from suffix_tails 0 self.entry.now) }
-    {
-        self.by_suffix_tail.places(tail(name))
+        match kind {
+            TextKind::Names => self.by_name.places(text),
+            TextKind::LoweredNames => self.by_lowered_name.lowered_places(text),
+            TextKind::Extensions => self.by_extension.places(text),
+            TextKind::Filenames => self.by_filename.places(text),
+            TextKind::SuffixTails => self.by_suffix_tail.places(tail(text)),
+        }
     }
 
     /// Whether a row has a path suffix of fewer than two bytes.

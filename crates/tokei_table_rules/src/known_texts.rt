@@ -42,7 +42,7 @@ impl<'a> KnownTexts<'a> {
     {
         self.texts.push(text)?;
         match add_name(&mut self.met, text) {
-            Ok(_) => Ok(()),
+            Ok(()) => Ok(()),
             Err(refused) => {
                 let _last = self.texts.pop();
                 Err(refused)

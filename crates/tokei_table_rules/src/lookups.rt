@@ -1,16 +1,19 @@
 //! Which of the rows a word, a MIME type, a file's name or a script's head stands for. Of two rows
 //! the first is answered.
-ghost use Rattle.std.specs.Prelude.{◌≡◌, ℕ, ◌≤◌, ◌<◌, length, map, take, is_some, option_map, bytes_eq, slice_index};
-ghost use Rattle.std.specs.Str.{is_utf8, str_to_ascii_lowercase};
+ghost use Rattle.std.specs.Prelude.{◌≡◌, ◌≤◌, length, map, take, is_some, option_map, false};
+ghost use Rattle.std.specs.Str.{is_utf8};
 ghost use Rattle.tokei_table_rules.specs.Lookups.{first_where, has_name, has_name_in_any_case, has_mime};
-ghost use Rattle.tokei_table_rules.specs.Lookups.{has_extension, has_filename, ends_with_one, has_path_suffix};
-ghost use Rattle.tokei_table_rules.specs.Lookups.{extension_of, from_lowered_name, row_at};
-ghost use Rattle.tokei_table_rules.specs.Shebangs.{line_len, word_len, first_word, behind_word, has_env, from_env};
-ghost use Rattle.tokei_table_rules.specs.Shebangs.{has_shebang, from_words, head_line, from_shebang};
-ghost use Rattle.tokei_table_rules.specs.TextIndex.{first_among};
+ghost use Rattle.tokei_table_rules.specs.Lookups.{has_extension, ends_with_one, has_path_suffix};
+ghost use Rattle.tokei_table_rules.specs.Lookups.{extension_of, from_lowered_name};
+ghost use Rattle.tokei_table_rules.specs.Shebangs.{line_len, word_len, first_word, behind_word, from_env};
+ghost use Rattle.tokei_table_rules.specs.Shebangs.{from_words, head_line, from_shebang};
+ghost use Rattle.tokei_table_rules.specs.TextIndex.{has_text, misses_rows};
+ghost use Rattle.tokei_table_rules.specs.Walks.{has_walked};
 ghost use Rattle.tokei_table_row.specs.RowOf.{row_of, tokens_of};
 
 use crate::indexed_rows::IndexedRows;
+use crate::names::has_name;
+use crate::text_index::TextKind;
 use memchr::memrchr;
 use tokei_table_row::Syntax;
 use tokei_table_row::ext::{
@@ -29,21 +32,29 @@ fn ends_with_one(suffixes: &[String], name: &[u8]) -> bool
     false
 }
 
-/// The row at one of the places.
-fn row(rows: &[Syntax], place: usize) -> &Syntax
-    requires { place < length rows.now }
-    ensures { row_of result.now ≡ row_at (map row_of rows.entry.now) place }
+/// Whether that is one of the row's texts of the kind; of path suffixes, whether it ends with one.
+#[inline(always)]
+fn has_text(row: &Syntax, kind: TextKind, text: &[u8]) -> bool
+    ensures { result ≡ has_text kind text.now (row_of row.now) }
 {
-    &rows[place]
+    match kind {
+        TextKind::Names => has_name(row, text),
+        TextKind::LoweredNames => row.name.as_bytes().eq_ignore_ascii_case(text),
+        TextKind::Extensions => holds(&row.extensions, text),
+        TextKind::Filenames => holds(&row.filenames, text),
+        TextKind::SuffixTails => ends_with_one(&row.path_suffixes, text),
+    }
 }
 
-fn first_with_name(rows: &[Syntax], places: &[usize], word: &str) -> Option<usize>
-    requires { (k : ℕ) → k < length places.now → slice_index places.now k < length rows.now }
-    ensures { result ≡ first_among (has_name word.now) (map row_of rows.now) places.now }
+/// The first row that has the text, by the index of that kind.
+#[inline(always)]
+fn first_indexed(rows: &IndexedRows, kind: TextKind, text: &[u8]) -> Option<usize>
+    requires { misses_rows kind rows.now ≡ false }
+    ensures { result ≡ first_where (has_text kind text.now) rows.now }
 {
+    let places = rows.places(kind, text);
     for place in places {
-        let row = row(rows, *place);
-        if row.key.as_str() == word || row.name.as_str() == word {
+        if has_text(rows.row(*place), kind, text) {
             return Some(*place);
         }
     }
@@ -54,139 +65,73 @@ fn first_with_name(rows: &[Syntax], places: &[usize], word: &str) -> Option<usiz
 pub fn with_name(rows: &IndexedRows, word: &str) -> Option<usize>
     ensures { result ≡ first_where (has_name word.now) rows.now }
 {
-    first_with_name(rows.rows(), rows.name_places(word.as_bytes()), word)
-}
-
-fn is_same_in_any_case(name: &str, word: &str) -> bool
-    ensures { result
-        ≡ bytes_eq (str_to_ascii_lowercase name.now) (str_to_ascii_lowercase word.now) }
-{
-    name.eq_ignore_ascii_case(word)
-}
-
-fn first_with_name_in_any_case(rows: &[Syntax], places: &[usize], word: &str) -> Option<usize>
-    requires { (k : ℕ) → k < length places.now → slice_index places.now k < length rows.now }
-    ensures { result
-        ≡ first_among (has_name_in_any_case word.now) (map row_of rows.now) places.now }
-{
-    for place in places {
-        if is_same_in_any_case(row(rows, *place).name.as_str(), word) {
-            return Some(*place);
-        }
-    }
-    None
+    first_indexed(rows, TextKind::Names, word.as_bytes())
 }
 
 /// The first row whose name is that word in any ASCII case.
 pub fn with_name_in_any_case(rows: &IndexedRows, word: &str) -> Option<usize>
     ensures { result ≡ first_where (has_name_in_any_case word.now) rows.now }
 {
-    first_with_name_in_any_case(rows.rows(), rows.lowered_name_places(word.as_bytes()), word)
-}
-
-/// The first row with that MIME type.
-pub fn with_mime(rows: &[Syntax], mime: &[u8]) -> Option<usize>
-    ensures { result ≡ first_where (has_mime mime.now) (map row_of rows.now) }
-{
-    for (i, row) in rows.iter().enumerate() {
-        if holds(&row.mime, mime) {
-            return Some(i);
-        }
-    }
-    None
-}
-
-fn first_with_extension(rows: &[Syntax], places: &[usize], extension: &[u8]) -> Option<usize>
-    requires { (k : ℕ) → k < length places.now → slice_index places.now k < length rows.now }
-    ensures { result ≡ first_among (has_extension extension.now) (map row_of rows.now) places.now }
-{
-    for place in places {
-        if holds(&row(rows, *place).extensions, extension) {
-            return Some(*place);
-        }
-    }
-    None
+    first_indexed(rows, TextKind::LoweredNames, word.as_bytes())
 }
 
 /// The first row with that extension.
 pub fn with_extension(rows: &IndexedRows, extension: &[u8]) -> Option<usize>
     ensures { result ≡ first_where (has_extension extension.now) rows.now }
 {
-    first_with_extension(rows.rows(), rows.extension_places(extension), extension)
+    first_indexed(rows, TextKind::Extensions, extension)
 }
 
-fn first_with_filename(rows: &[Syntax], places: &[usize], name: &[u8]) -> Option<usize>
-    requires { (k : ℕ) → k < length places.now → slice_index places.now k < length rows.now }
-    ensures { result ≡ first_among (has_filename name.now) (map row_of rows.now) places.now }
+/// By which of its texts a row is found in a walk over all rows.
+#[derive(Clone, Copy)]
+enum WalkedKind {
+    Mime,
+    PathSuffix,
+    Shebang,
+    Env,
+}
+
+/// Whether one of the row's texts of the kind is that text, is its suffix or begins it.
+#[inline(always)]
+fn has_walked(row: &Syntax, kind: WalkedKind, text: &[u8]) -> bool
+    ensures { result ≡ has_walked kind text.now (row_of row.now) }
 {
-    for place in places {
-        if holds(&row(rows, *place).filenames, name) {
-            return Some(*place);
-        }
+    match kind {
+        WalkedKind::Mime => holds(&row.mime, text),
+        WalkedKind::PathSuffix => ends_with_one(&row.path_suffixes, text),
+        WalkedKind::Shebang => holds(&row.shebangs, text),
+        WalkedKind::Env => begins_with_one(&row.env, text),
     }
-    None
 }
 
-fn with_filename(rows: &IndexedRows, name: &[u8]) -> Option<usize>
-    ensures { result ≡ first_where (has_filename name.now) rows.now }
-{
-    first_with_filename(rows.rows(), rows.filename_places(name), name)
-}
-
-fn first_with_path_suffix(rows: &[Syntax], places: &[usize], name: &[u8]) -> Option<usize>
-    requires { (k : ℕ) → k < length places.now → slice_index places.now k < length rows.now }
-    ensures { result ≡ first_among (has_path_suffix name.now) (map row_of rows.now) places.now }
-{
-    for place in places {
-        if ends_with_one(&row(rows, *place).path_suffixes, name) {
-            return Some(*place);
-        }
-    }
-    None
-}
-
-/// The same among all rows.
-fn any_with_path_suffix(rows: &[Syntax], name: &[u8]) -> Option<usize>
-    ensures { result ≡ first_where (has_path_suffix name.now) (map row_of rows.now) }
+/// The first of all rows that has the text.
+#[inline(always)]
+fn first_walked(rows: &[Syntax], kind: WalkedKind, text: &[u8]) -> Option<usize>
+    ensures { result ≡ first_where (has_walked kind text.now) (map row_of rows.now) }
 {
     for (i, row) in rows.iter().enumerate() {
-        if ends_with_one(&row.path_suffixes, name) {
+        if has_walked(row, kind, text) {
             return Some(i);
         }
     }
     None
+}
+
+/// The first row with that MIME type.
+pub fn with_mime(rows: &[Syntax], mime: &[u8]) -> Option<usize>
+    ensures { result ≡ first_where (has_mime mime.now) (map row_of rows.now) }
+{
+    first_walked(rows, WalkedKind::Mime, mime)
 }
 
 fn with_path_suffix(rows: &IndexedRows, name: &[u8]) -> Option<usize>
     ensures { result ≡ first_where (has_path_suffix name.now) rows.now }
 {
     if rows.has_short_suffix() {
-        any_with_path_suffix(rows.rows(), name)
+        first_walked(rows.rows(), WalkedKind::PathSuffix, name)
     } else {
-        first_with_path_suffix(rows.rows(), rows.suffix_places(name), name)
+        first_indexed(rows, TextKind::SuffixTails, name)
     }
-}
-
-fn with_shebang(rows: &[Syntax], word: &[u8]) -> Option<usize>
-    ensures { result ≡ first_where (has_shebang word.now) (map row_of rows.now) }
-{
-    for (i, row) in rows.iter().enumerate() {
-        if holds(&row.shebangs, word) {
-            return Some(i);
-        }
-    }
-    None
-}
-
-fn with_env(rows: &[Syntax], program: &[u8]) -> Option<usize>
-    ensures { result ≡ first_where (has_env program.now) (map row_of rows.now) }
-{
-    for (i, row) in rows.iter().enumerate() {
-        if begins_with_one(&row.env, program) {
-            return Some(i);
-        }
-    }
-    None
 }
 
 /// What follows the last dot of a file's name, where that dot isn't the name's first byte.
@@ -210,7 +155,7 @@ pub fn has_extension(name: &str) -> bool
 pub fn in_lowered_name(rows: &IndexedRows, name: &[u8]) -> Option<usize>
     ensures { result ≡ from_lowered_name rows.now name.now }
 {
-    if let Some(at) = with_filename(rows, name) {
+    if let Some(at) = first_indexed(rows, TextKind::Filenames, name) {
         return Some(at);
     }
     if let Some(at) = with_path_suffix(rows, name) {
@@ -251,7 +196,7 @@ fn of_program(rows: &[Syntax], rest: &[u8]) -> Option<usize>
     if program.is_empty() {
         return None;
     }
-    with_env(rows, program)
+    first_walked(rows, WalkedKind::Env, program)
 }
 
 fn in_line(rows: &[Syntax], line: &[u8]) -> Option<usize>
@@ -263,7 +208,7 @@ fn in_line(rows: &[Syntax], line: &[u8]) -> Option<usize>
     if word.is_empty() {
         return None;
     }
-    if let Some(at) = with_shebang(rows, word) {
+    if let Some(at) = first_walked(rows, WalkedKind::Shebang, word) {
         return Some(at);
     }
     if word == "#!/usr/bin/env".as_bytes() {

@@ -13,6 +13,13 @@ use std::alloc::{AllocError, Global};
 use std::collections::BTreeMap;
 use tokei_table_row::Syntax;
 
+/// Whether the text is the row's key or its name.
+pub(crate) fn has_name(row: &Syntax, word: &[u8]) -> bool
+    ensures { result ≡ has_name word.now (row_of row.now) }
+{
+    row.key.as_bytes() == word || row.name.as_bytes() == word
+}
+
 /// Whether the name was met.
 pub(crate) fn is_met<'a>(names: &BTreeMap<&'a str, ()>, name: &str) -> bool
     ensures { result ≡ is_met names.now name.now }
@@ -20,18 +27,17 @@ pub(crate) fn is_met<'a>(names: &BTreeMap<&'a str, ()>, name: &str) -> bool
     names.get(name).is_some()
 }
 
-/// Adds the name to those that were met, and tells whether it was met before.
+/// Adds the name to those that were met.
 pub(crate) fn add_name<'a>(
     names: &mut BTreeMap<&'a str, ()>,
     name: &'a str,
-) -> Result<bool, AllocError>
-    ensures met { IfOk result (λ met. met ≡ is_met names.old name.now) }
+) -> Result<(), AllocError>
     ensures added { OnOk result
         ((q : List ℕ) → is_met names.new q ≡ (is_met names.old q || bytes_eq name.now q)) }
     ensures kept { OnErr result ((q : List ℕ) → is_met names.new q ≡ is_met names.old q) }
 {
     match names.insert(name, ()) {
-        Ok(old) => Ok(old.is_some()),
+        Ok(_) => Ok(()),
         Err(_refused) => Err(AllocError),
     }
 }
@@ -44,11 +50,10 @@ fn add_names<'a>(names: &mut BTreeMap<&'a str, ()>, row: &'a Syntax) -> Result<b
 {
     let key = row.key.as_str();
     let name = row.name.as_str();
-    let key_met = add_name(names, key)?;
-    if name == key {
-        return Ok(key_met);
-    }
-    let name_met = add_name(names, name)?;
+    let key_met = is_met(names, key);
+    let name_met = is_met(names, name);
+    add_name(names, key)?;
+    add_name(names, name)?;
     Ok(key_met || name_met)
 }
 
@@ -76,12 +81,10 @@ pub fn shared_name<'a>(row: &'a Syntax, other: &Syntax) -> Option<&'a str>
     ensures shared { IfSome result (λ name. (has_name name.now (row_of row.now) ≡ true)
         × (has_name name.now (row_of other.now) ≡ true)) }
 {
-    let key = row.key.as_str();
-    let name = row.name.as_str();
-    if key == other.key.as_str() || key == other.name.as_str() {
-        Some(key)
-    } else if name == other.key.as_str() || name == other.name.as_str() {
-        Some(name)
+    if has_name(other, row.key.as_bytes()) {
+        Some(row.key.as_str())
+    } else if has_name(other, row.name.as_bytes()) {
+        Some(row.name.as_str())
     } else {
         None
     }

@@ -9,22 +9,9 @@ ghost use Rattle.tokei_table_rules.specs.RowNames.{is_total};
 ghost use Rattle.tokei_table_rules.specs.Tokens.{has_tokens, member_has_tokens};
 
 use crate::family::Family;
+use crate::names::has_name;
 use crate::tokens::{are_pairs, are_tokens};
 use tokei_table_row::Syntax;
-
-#[tactic(auto, unfolding(crate::specs::Tokens::has_tokens))]
-fn has_tokens(row: &Syntax) -> bool
-    ensures { result ≡ has_tokens (row_of row.now) }
-{
-    are_tokens(&row.line_comment)
-        && are_pairs(&row.multi_line_comments)
-        && are_pairs(&row.nested_comments)
-        && are_pairs(&row.quotes)
-        && are_pairs(&row.verbatim_quotes)
-        && are_pairs(&row.doc_quotes)
-        && are_tokens(&row.important_syntax)
-        && are_tokens(&row.contexts)
-}
 
 /// The member of the row that has a text which a count looks for and which is no token.
 #[tactic(auto, unfolding(crate::specs::Tokens::has_tokens))]
@@ -58,7 +45,7 @@ pub fn all_have_tokens(rows: &[Syntax]) -> bool
     ensures { result ≡ list_all has_tokens (map row_of rows.now) }
 {
     for row in rows {
-        if !has_tokens(row) {
+        if bad_member(row).is_some() {
             return false;
         }
     }
@@ -69,7 +56,7 @@ pub fn all_have_tokens(rows: &[Syntax]) -> bool
 pub fn is_total(row: &Syntax) -> bool
     ensures { result ≡ is_total (row_of row.now) }
 {
-    row.key.as_str() == "Total" || row.name.as_str() == "Total"
+    has_name(row, "Total".as_bytes())
 }
 
 /// Whether a key or a name is `Total`.
@@ -95,29 +82,6 @@ fn has_key(rows: &[Syntax], key: &str) -> bool
     false
 }
 
-fn has_fallbacks(rows: &[Syntax], row: &Syntax) -> bool
-    ensures { result ≡ has_fallbacks (map row_of rows.now) (row_of row.now) }
-{
-    match Family::of_key(row.key.as_str()) {
-        Family::Plain | Family::Markdown => true,
-        Family::HtmlLike => has_key(rows, "JavaScript")
-            && has_key(rows, "Css")
-            && has_key(rows, "Html"),
-        Family::Rust => has_key(rows, "Markdown"),
-        Family::LinguaFranca => has_key(rows, "C"),
-        Family::Jupyter => has_key(rows, "Markdown") && has_key(rows, "Python"),
-    }
-}
-
-/// The key, unless a row has it.
-fn absent<'a>(rows: &[Syntax], key: &'a str) -> Option<&'a str>
-    ensures found { is_some result ≡ not (has_key (map row_of rows.now) key.entry.now) }
-    ensures same { IfSome result (λ k. k.now ≡ key.entry.now) }
-    ensures absent { IfSome result (λ k. has_key (map row_of rows.now) k.now ≡ false) }
-{
-    if has_key(rows, key) { None } else { Some(key) }
-}
-
 /// The key of a language that is missing, on which children of the row's language fall back.
 pub fn missing_key(rows: &[Syntax], row: &Syntax) -> Option<&'static str>
     ensures found { is_some result ≡ not (has_fallbacks (map row_of rows.now) (row_of row.now)) }
@@ -125,26 +89,13 @@ pub fn missing_key(rows: &[Syntax], row: &Syntax) -> Option<&'static str>
         (λ k. holds (needed_keys (family_of (row_of row.now).key)) k.now ≡ true) }
     ensures missing { IfSome result (λ k. has_key (map row_of rows.now) k.now ≡ false) }
 {
-    match Family::of_key(row.key.as_str()) {
-        Family::Plain | Family::Markdown => None,
-        Family::HtmlLike => {
-            if let Some(key) = absent(rows, "JavaScript") {
-                return Some(key);
-            }
-            if let Some(key) = absent(rows, "Css") {
-                return Some(key);
-            }
-            absent(rows, "Html")
-        }
-        Family::Rust => absent(rows, "Markdown"),
-        Family::LinguaFranca => absent(rows, "C"),
-        Family::Jupyter => {
-            if let Some(key) = absent(rows, "Markdown") {
-                return Some(key);
-            }
-            absent(rows, "Python")
+    let keys = Family::of_key(row.key.as_str()).needed_keys();
+    for key in keys {
+        if !has_key(rows, *key) {
+            return Some(*key);
         }
     }
+    None
 }
 
 /// Whether the languages are there on which the children of others fall back.
@@ -152,7 +103,7 @@ pub fn all_have_fallbacks(rows: &[Syntax]) -> bool
     ensures { result ≡ list_all (has_fallbacks (map row_of rows.now)) (map row_of rows.now) }
 {
     for row in rows {
-        if !has_fallbacks(rows, row) {
+        if missing_key(rows, row).is_some() {
             return false;
         }
     }

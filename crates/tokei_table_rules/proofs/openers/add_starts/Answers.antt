@@ -4,3 +4,6 @@ use Rattle.tokei_table_rules.proofs.openers.add_starts.Goals as goal
 
 pub loop-pair-preserved : goal.loop-pair-preserved
 loop-pair-preserved c = grind (arith, common_steps)
+
+pub returns : goal.returns
+returns c = grind (arith, common_steps)

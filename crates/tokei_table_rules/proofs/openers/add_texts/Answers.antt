@@ -4,3 +4,6 @@ use Rattle.tokei_table_rules.proofs.openers.add_texts.Goals as goal
 
 pub loop-text-preserved : goal.loop-text-preserved
 loop-text-preserved c = grind (arith, common_steps)
+
+pub returns : goal.returns
+returns c = grind (arith, common_steps)

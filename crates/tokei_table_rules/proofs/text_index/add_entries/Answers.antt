@@ -1,9 +1,10 @@
-use Rattle.std.proofs.Common.{◌+◌, [], ◌∷◌, ◌++◌, ◌∙◌, ap, sym, drop, get_or}
+use Rattle.std.proofs.Common.{◌+◌, [], ◌∷◌, ◌++◌, ◌∙◌, ap, sym, drop, get_or, arith}
 use Rattle.std.proofs.lemmas.List.{at_drop_more}
 use Rattle.std.specs.Prelude.{string_bytes}
 use Rattle.tokei_table_row.specs.RowOf.{tokens_of}
 use Rattle.tokei_table_rules.specs.TextIndex.{group_of, entries_of, in_group}
 use Rattle.tokei_table_rules.proofs.TextIndex.{with_later}
+use Rattle.std.proofs.lemmas.Grind.{common_steps}
 use Rattle.tokei_table_rules.proofs.text_index.add_entries.Goals as goal
 
 pub loop-text-preserved : goal.loop-text-preserved
@@ -25,3 +26,6 @@ loop-text-preserved c =
           c.text-item.result c.loop-text-test.true)
           ∙ c.loop-text.invariant.each g;
     }
+
+pub returns-clause-added : goal.returns-clause-added
+returns-clause-added c = grind (arith, common_steps)

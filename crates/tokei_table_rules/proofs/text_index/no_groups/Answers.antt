@@ -15,3 +15,6 @@ loop-group-preserved c = (
   λ g. ap (λ xs. get_or xs g []) c.in_ok-push.ensures.items
       ∙ all_empty c.loop-group.groups.items c.new.result c.loop-group.invariant.1 c.new.ensures g,
 )
+
+pub returns : goal.returns
+returns c = record { all = omega arith; each = λ g below. c.loop-group.invariant.1 g }

@@ -8,5 +8,5 @@ returns c = grind (arith, common_steps)
 pub loop-row-preserved : goal.loop-row-preserved
 loop-row-preserved c = grind (arith, common_steps)
 
-pub returns-then-not-has_tokens : goal.returns-then-not-has_tokens
-returns-then-not-has_tokens c = grind (arith, common_steps)
+pub returns-then-is_some : goal.returns-then-is_some
+returns-then-is_some c = grind (arith, common_steps)

@@ -1,8 +1,9 @@
-use Rattle.std.proofs.Common.{◌+◌, [], ◌++◌, ◌∙◌, ap, sym, map, drop, get_or, append-nil}
+use Rattle.std.proofs.Common.{◌+◌, [], ◌++◌, ◌∙◌, ap, sym, map, drop, get_or, append-nil, arith}
 use Rattle.std.proofs.lemmas.List.{at_drop_more, at_drop_all}
 use Rattle.tokei_table_row.specs.RowOf.{row_of}
 use Rattle.tokei_table_rules.specs.TextIndex.{entries_of, entries_from, in_group, texts_of}
 use Rattle.tokei_table_rules.proofs.TextIndex.{with_later}
+use Rattle.std.proofs.lemmas.Grind.{common_steps}
 use Rattle.tokei_table_rules.proofs.text_index.TextIndex.of.Goals as goal
 
 pub loop-place-preserved : goal.loop-place-preserved
@@ -33,3 +34,6 @@ returns c = record {
       c.args.rows.now c.loop-place.place c.loop-place-test.false)
       ∙ c.loop-place.invariant.each g;
 }
+
+pub loop-place-init : goal.loop-place-init
+loop-place-init c = grind (arith, common_steps)

@@ -1,0 +1,6 @@
+use Rattle.std.proofs.Common.{arith}
+use Rattle.std.proofs.lemmas.Grind.{common_steps}
+use Rattle.tokei_table_rules.proofs.extend.add_known.Goals as goal
+
+pub loop-text-preserved : goal.loop-text-preserved
+loop-text-preserved c = grind (arith, common_steps)
