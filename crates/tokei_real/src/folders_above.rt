@@ -3,7 +3,7 @@ ghost use Rattle.std.specs.Prelude.{◌≢◌, IfErr};
 ghost use Rattle.std.specs.IoError.{error_kind};
 
 use crate::retried::retried;
-use std::alloc::{AllocError, Global};
+use std::alloc::Global;
 use std::io::ErrorKind;
 use std::path::PathBuf;
 use std::rt::Files;
@@ -11,7 +11,7 @@ use std::{fs, io};
 use tokei_folders::{Above, Text};
 
 /// The folders above a path that begins with `/`, nearest first.
-fn folders_over(alloc: Global, path: &str) -> Result<Vec<Above>, AllocError> {
+fn folders_over(alloc: Global, path: &str) -> io::Result<Vec<Above>> {
     let mut above = Vec::new(alloc);
     let mut rest = path;
     for _ in 0..path.len() {
@@ -40,5 +40,5 @@ fn real_path<R: Files + AllocGlobal>(rt: &R, place: &str) -> io::Result<PathBuf>
 /// The folders above a place, nearest first, by its real path.
 pub(crate) fn folders_above<R: Files + AllocGlobal>(rt: &R, place: &str) -> io::Result<Vec<Above>> {
     let path = real_path(rt, place)?;
-    Ok(folders_over(rt.alloc(), path.as_str())?)
+    folders_over(rt.alloc(), path.as_str())
 }

@@ -162,7 +162,8 @@ pub(crate) fn listed_content<R: Files + AllocGlobal>(
     place: &str,
     buffer: &mut Vec<u8>,
 ) -> io::Result<Vec<u8>> {
-    all_by(rt.alloc(), File::open(rt, place)?, kept(buffer)?)
+    let buffer = kept(buffer)?;
+    all_by(rt.alloc(), File::open(rt, place)?, buffer)
 }
 
 /// All that is read at a place that a user names, a pipe or a device too, which are waited for; a

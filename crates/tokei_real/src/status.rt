@@ -17,6 +17,11 @@ pub(crate) fn status<R: Files>(rt: &R, place: &str) -> io::Result<Metadata>
     retried!(fs::metadata(rt, place))
 }
 
+/// What stands at a place, links followed.
+pub(crate) fn kind<R: Files>(rt: &R, place: &str) -> io::Result<Kind> {
+    Ok(kind_of(&status(rt, place)?))
+}
+
 /// What stands there of which the system says this; nothing where it says that nothing does.
 fn kind_said(said: io::Result<Metadata>) -> io::Result<Option<Kind>>
     ensures there { IfOk said (λ m. IsOkAnd result (λ k. IsSome k)) }
