@@ -1,12 +1,17 @@
 //! The folders above a place.
+ghost use Rattle.std.specs.Prelude.{◌≢◌, IfErr};
+ghost use Rattle.std.specs.IoError.{error_kind};
+
 use crate::retried::retried;
-use std::alloc::{AllocError, Global};
+use std::alloc::Global;
+use std::io::ErrorKind;
+use std::path::PathBuf;
 use std::rt::Files;
 use std::{fs, io};
 use tokei_folders::{Above, Text};
 
 /// The folders above a path that begins with `/`, nearest first.
-fn folders_over(alloc: Global, path: &str) -> Result<Vec<Above>, AllocError> {
+fn folders_over(alloc: Global, path: &str) -> io::Result<Vec<Above>> {
     let mut above = Vec::new(alloc);
     let mut rest = path;
     for _ in 0..path.len() {
@@ -25,8 +30,15 @@ fn folders_over(alloc: Global, path: &str) -> Result<Vec<Above>, AllocError> {
     Ok(above)
 }
 
-/// The folders above a place, nearest first, by its real path: one without links.
+/// The real path of a place: one without links.
+fn real_path<R: Files + AllocGlobal>(rt: &R, place: &str) -> io::Result<PathBuf>
+    ensures { IfErr result (λ e. error_kind e ≢ ErrorKind.Interrupted) }
+{
+    retried!(fs::canonicalize(rt, place))
+}
+
+/// The folders above a place, nearest first, by its real path.
 pub(crate) fn folders_above<R: Files + AllocGlobal>(rt: &R, place: &str) -> io::Result<Vec<Above>> {
-    let path = retried(|| fs::canonicalize(rt, place))?;
-    Ok(folders_over(rt.alloc(), path.as_str())?)
+    let path = real_path(rt, place)?;
+    folders_over(rt.alloc(), path.as_str())
 }

@@ -92,10 +92,16 @@ fn add_entry(
     Ok(())
 }
 
+/// What the system says of an entry, no link followed.
+fn said_of_entry<R: Files + Clone + Drop>(entry: &DirEntry<R>) -> io::Result<Metadata>
+    ensures { IfErr result (λ e. error_kind e ≢ ErrorKind.Interrupted) }
+{
+    retried!(entry.metadata())
+}
+
 /// What stands at an entry, no link followed.
 fn kind_of_entry<R: Files + Clone + Drop>(entry: &DirEntry<R>) -> io::Result<Kind> {
-    let metadata = retried(|| entry.metadata())?;
-    Ok(kind_of(&metadata))
+    Ok(kind_of(&said_of_entry(entry)?))
 }
 
 /// Nothing of a folder.
@@ -110,23 +116,51 @@ fn nothing_found(alloc: Global) -> Unordered {
     }
 }
 
-/// What the folder at a place holds, in no order.
-fn found<R: Files + AllocGlobal + Clone + Drop>(rt: &R, place: &str) -> io::Result<Unordered> {
-    let alloc = rt.alloc();
-    let mut found = nothing_found(alloc);
-    for entry in fs::read_dir(rt, place)? {
-        match entry {
-            Ok(entry) => {
-                let name = Text::from_str(alloc, entry.file_name())?;
-                add_entry(alloc, place, name, kind_of_entry(&entry), &mut found)?;
-            }
-            Err(e) if e.kind() == ErrorKind::InvalidFilename => {
-                found.listing.unnamed = found.listing.unnamed.saturating_add(1);
-            }
-            Err(e) => return Err(e),
+/// Adds an entry of the folder at a place, as the system gives it; one whose name is no text is
+/// counted.
+fn add_given<R: Files + Clone + Drop>(
+    alloc: Global,
+    place: &str,
+    given: io::Result<DirEntry<R>>,
+    found: &mut Unordered,
+) -> io::Result<()> {
+    match given {
+        Ok(entry) => {
+            let name = Text::from_str(alloc, entry.file_name())?;
+            add_entry(alloc, place, name, kind_of_entry(&entry), found)
         }
+        Err(e) if e.kind() == ErrorKind::InvalidFilename => {
+            found.listing.unnamed = found.listing.unnamed.saturating_add(1);
+            Ok(())
+        }
+        Err(e) => Err(e),
     }
+}
+
+/// Adds what the folder at a place holds.
+fn add_all<R: Files + AllocGlobal + Clone + Drop>(
+    rt: &R,
+    place: &str,
+    found: &mut Unordered,
+) -> io::Result<()> {
+    for given in fs::read_dir(rt, place)? {
+        add_given(rt.alloc(), place, given, found)?;
+    }
+    Ok(())
+}
+
+/// What the folder at a place holds, in no order, as far as no signal interrupts that.
+fn found_once<R: Files + AllocGlobal + Clone + Drop>(rt: &R, place: &str) -> io::Result<Unordered> {
+    let mut found = nothing_found(rt.alloc());
+    add_all(rt, place, &mut found)?;
     Ok(found)
+}
+
+/// What the folder at a place holds, in no order.
+fn found<R: Files + AllocGlobal + Clone + Drop>(rt: &R, place: &str) -> io::Result<Unordered>
+    ensures { IfErr result (λ e. error_kind e ≢ ErrorKind.Interrupted) }
+{
+    retried!(found_once(rt, place))
 }
 
 /// What the folder at a place holds, in the byte order of the names; why entries are lost is kept.
@@ -141,7 +175,7 @@ pub(crate) fn listing<R: Files + AllocGlobal + Clone + Drop>(
     let Unordered {
         mut listing,
         refusals: why,
-    } = retried(|| found(rt, place))?;
+    } = found(rt, place)?;
     refusals.keep_all(why);
     put_in_order(&mut listing.entries)?;
     put_names_in_order(&mut listing.lost)?;

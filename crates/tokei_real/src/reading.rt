@@ -1,13 +1,14 @@
 //! Reading a file, or its head.
-ghost use Rattle.std.specs.Prelude.{◌≡◌, ◌<◌, ◌≤◌, ◌++◌, IfOk, IfSome, length, take};
+ghost use Rattle.std.specs.Prelude.{◌≡◌, ◌<◌, ◌≤◌, ◌++◌, ◌≢◌, IfErr, IfOk, IfSome, length, take};
 ghost use Rattle.std.specs.Io.{ReadsAtMost};
+ghost use Rattle.std.specs.IoError.{error_kind};
 ghost use Rattle.std.specs.Io.KnownBytes.{Consumes, IsAtEnd};
 
 use crate::limited::{Limited, MAX_READS};
 use crate::retried::retried;
 use crate::status::status;
 use std::alloc::{AllocError, Global};
-use std::fs::{File, OpenFile};
+use std::fs::{File, Metadata, OpenFile};
 use std::io;
 use std::io::{Error, ErrorKind, Read};
 use std::rt::Files;
@@ -103,6 +104,13 @@ pub fn all_within<R: Read + Drop>(
     Ok(bytes)
 }
 
+/// What the system says of an open file.
+fn said_of_file<F: OpenFile>(file: &F) -> io::Result<Metadata>
+    ensures { IfErr result (λ e. error_kind e ≢ ErrorKind.Interrupted) }
+{
+    retried!(file.metadata())
+}
+
 /// All that an open file has left, read by a buffer that is kept between files. Only where that is
 /// filled is the length asked, and room made for the rest; where the file has more or fewer bytes,
 /// all of them are read.
@@ -117,8 +125,8 @@ pub fn all_by<R: Read + OpenFile + Drop>(
     if filled < buffer.len() {
         return Ok(Vec::from_slice(alloc, &buffer[..filled])?);
     }
-    let said = usize::try_from(retried(|| reader.metadata())?.len()).unwrap_or(usize::MAX);
-    all_behind(alloc, buffer, reader, said)
+    let said = said_of_file(&reader)?.len();
+    all_behind(alloc, buffer, reader, said as usize)
 }
 
 /// The first 128 bytes of what a reader has left, or all where there are fewer.
@@ -137,7 +145,7 @@ fn length_of_file<R: Files>(rt: &R, place: &str) -> io::Result<usize> {
     if !metadata.is_file() {
         return Err(Error::from(ErrorKind::InvalidInput));
     }
-    Ok(usize::try_from(metadata.len()).unwrap_or(usize::MAX))
+    Ok(metadata.len() as usize)
 }
 
 /// The content of the file at a place.
@@ -154,19 +162,19 @@ pub(crate) fn listed_content<R: Files + AllocGlobal>(
     place: &str,
     buffer: &mut Vec<u8>,
 ) -> io::Result<Vec<u8>> {
-    all_by(rt.alloc(), File::open(rt, place)?, kept(buffer)?)
+    let buffer = kept(buffer)?;
+    all_by(rt.alloc(), File::open(rt, place)?, buffer)
 }
 
 /// All that is read at a place that a user names, a pipe or a device too, which are waited for; a
 /// folder and more than `MAX_NAMED_BYTES` bytes are refused.
 pub(crate) fn named_content<R: Files + AllocGlobal>(rt: &R, place: &str) -> io::Result<Vec<u8>> {
     let file = File::open(rt, place)?;
-    let said = retried(|| file.metadata())?.len();
+    let said = said_of_file(&file)?.len();
     if said > MAX_NAMED_BYTES {
         return Err(too_many(rt.alloc(), MAX_NAMED_BYTES)?);
     }
-    let said = usize::try_from(said).unwrap_or(usize::MAX);
-    all_within(rt.alloc(), file, said, MAX_NAMED_BYTES)
+    all_within(rt.alloc(), file, said as usize, MAX_NAMED_BYTES)
 }
 
 /// The first 128 bytes of the file at a place, or all where there are fewer.

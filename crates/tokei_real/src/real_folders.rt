@@ -3,10 +3,10 @@ ghost use Rattle.std.specs.Prelude.{◌≡◌, ◌<◌, None};
 ghost use Rattle.tokei_folders.specs.Answers.{counted, StaysFull};
 
 use crate::folders_above::folders_above;
-use crate::listing::{kind_of, listing};
+use crate::listing::listing;
 use crate::reading::{content, head, listed_content, named_content};
 use crate::refusals::Refusals;
-use crate::status::{kind_if_any, status};
+use crate::status::{kind, kind_if_any};
 use std::alloc::{AllocError, Global};
 use std::collections::BTreeSet;
 use std::io;
@@ -97,9 +97,8 @@ impl<R: Files + AllocGlobal + Clone + Drop> RealFolders<R> {
         let answer = self.answered(place, given);
         if matches!(answer, Err(Fault::Memory)) {
             // Memory for so little may be left where there was none for the content.
-            self.unheld = String::from_str(self.rt.alloc(), place).unwrap_or(String::new(
-                self.rt.alloc(),
-            ));
+            self.unheld.clear();
+            let _kept = self.unheld.push_str(place);
         }
         answer
     }
@@ -113,9 +112,8 @@ impl<R: Files + AllocGlobal + Clone + Drop> Folders for RealFolders<R> {
     ghost sound = { λ _. tt };
 
     fn kind(&mut self, place: &str) -> Result<Kind, Fault> {
-        let metadata = status(&self.rt, place);
-        let metadata = self.answered(place, metadata)?;
-        Ok(kind_of(&metadata))
+        let found = kind(&self.rt, place);
+        self.answered(place, found)
     }
 
     fn kind_if_any(&mut self, place: &str) -> Result<Option<Kind>, Fault> {

@@ -1,5 +1,5 @@
 //! Calls that are made again where a signal interrupted them.
-ghost use Rattle.std.specs.Prelude.{◌≡◌, ◌≢◌, Ok, IfErr, IfOk};
+ghost use Rattle.std.specs.Prelude.{◌≡◌, ◌≢◌, IfErr};
 ghost use Rattle.std.specs.Io.{ReadsAtMost};
 ghost use Rattle.std.specs.Io.KnownBytes.{ReadConsumes};
 ghost use Rattle.std.specs.IoError.{error_kind};
@@ -8,22 +8,21 @@ use crate::limited::MAX_READS;
 use std::io;
 use std::io::{Error, ErrorKind, Read};
 
-/// What a call answers, which is made again as often as a signal interrupts it, up to `MAX_READS`
-/// times; then it has failed.
-pub(crate) fn retried<T, F: Fn() -> io::Result<T>>(call: F) -> io::Result<T>
-    requires { F.IsAlwaysCallable call }
-    ensures given { IfOk result (λ v. F.post call (Ok v)) }
-    ensures retried { IfErr result (λ e. error_kind e ≢ ErrorKind.Interrupted) }
-{
-    for _ in 0..MAX_READS {
-        match call() {
-            Ok(answer) => return Ok(answer),
-            Err(e) if e.kind() == ErrorKind::Interrupted => {}
-            Err(e) => return Err(e),
+/// Returns what a call answers, which is made again as often as a signal interrupts it, up to
+/// `MAX_READS` times; then it has failed.
+macro_rules! retried {
+    ($call:expr) => {{
+        for _ in 0..$crate::limited::MAX_READS {
+            match $call {
+                Err(e) if e.kind() == std::io::ErrorKind::Interrupted => {}
+                answer => return answer,
+            }
         }
-    }
-    Err(Error::from(ErrorKind::Other))
+        Err(std::io::Error::from(std::io::ErrorKind::Other))
+    }};
 }
+
+pub(crate) use retried;
 
 /// A reader that gives what another one gives; a read that a signal interrupts is made again, up to
 /// `MAX_READS` times.

@@ -11,8 +11,15 @@ use std::{fs, io};
 use tokei_folders::Kind;
 
 /// What the system says of a place, links followed.
-pub(crate) fn status<R: Files>(rt: &R, place: &str) -> io::Result<Metadata> {
-    retried(|| fs::metadata(rt, place))
+pub(crate) fn status<R: Files>(rt: &R, place: &str) -> io::Result<Metadata>
+    ensures { IfErr result (λ e. error_kind e ≢ ErrorKind.Interrupted) }
+{
+    retried!(fs::metadata(rt, place))
+}
+
+/// What stands at a place, links followed.
+pub(crate) fn kind<R: Files>(rt: &R, place: &str) -> io::Result<Kind> {
+    Ok(kind_of(&status(rt, place)?))
 }
 
 /// What stands there of which the system says this; nothing where it says that nothing does.
