@@ -32,7 +32,6 @@ fn lines(counts: Sums) -> Result<usize, CountError>
 }
 
 /// Puts a number behind what stands in the row, behind a space and right in its places.
-#[tactic(auto, using(crate::proofs::Padding::styled_right))]
 pub(crate) fn put_cell(
     row: &mut String,
     alloc: Global,
