@@ -1,7 +1,7 @@
 //! Statistics and reports as JSON values.
-ghost use Rattle.std.specs.Prelude.{◌≡◌, IfOk, OnOk, codes, string_bytes};
+ghost use Rattle.std.specs.Prelude.{◌≡◌, IfOk, OnOk, string_bytes};
 ghost use Rattle.std.specs.Result.{IsOkAnd};
-ghost use Rattle.serde_json.specs.Data.{object, member, no_members, put as with_member, string};
+ghost use Rattle.serde_json.specs.Data.{no_members, put as with_member};
 ghost use Rattle.serde_json.specs.View.{view, members_view};
 ghost use Rattle.serde_json.specs.Written.{compact_text};
 ghost use Rattle.tokei_json.specs.ReportData.{name_of as name_in, statistics_data, blobs_data, report_data};
@@ -10,7 +10,7 @@ ghost use Rattle.tokei_stats.specs.Reports.{report_of, reports_of, children_of};
 ghost use Rattle.tokei_stats.specs.Seen.{blobs_of, entries_of, stats_of};
 
 use crate::counted_objects::count_members;
-use serde_json::{Map, Value, put};
+use serde_json::{Map, Value, json, put};
 use std::alloc::{AllocError, Global};
 use std::collections::BTreeMap;
 use tokei_stats::{CodeStats, Report};
@@ -75,23 +75,11 @@ fn blobs_value(
     Ok(members)
 }
 
-/// An object of a text under a key and a value under `stats`.
-fn labelled(alloc: Global, key: &str, text: &str, stats: Value) -> Result<Value, AllocError>
-    ensures { IfOk result (λ v. view v ≡ object
-        (with_member (codes "stats") (view stats) (member key.now (string text.now) no_members))) }
-{
-    let text = String::from_str(alloc, text)?;
-    let mut members = Map::new(alloc);
-    put(&mut members, alloc, key, Value::String(text))?;
-    put(&mut members, alloc, "stats", stats)?;
-    Ok(Value::Object(members))
-}
-
 fn report_value(alloc: Global, table: &LanguageTable, report: &Report) -> Result<Value, AllocError>
     ensures { IfOk result (λ v. view v ≡ report_data table.now (report_of report.now)) }
 {
     let stats = statistics_value(alloc, table, &report.stats)?;
-    labelled(alloc, "name", report.name.as_str(), stats)
+    json!(in alloc; {"name": &report.name, "stats": stats})
 }
 
 /// The reports, in their order. Out of memory is the only refusal.
@@ -139,7 +127,7 @@ fn line_value(
     ensures { IfOk result (λ v. view v ≡ line_data table.now language (report_of report.now)) }
 {
     let stats = report_value(alloc, table, report)?;
-    labelled(alloc, "language", name_of(table, language), stats)
+    json!(in alloc; {"language": name_of(table, language), "stats": stats})
 }
 
 /// A file's report beside the name of its language, as one compact JSON text with no newline: a

@@ -42,9 +42,9 @@ module _ {X Y : Type 0} (seen : X → Y) (xs : List X) (i : ℕ) (past : length 
   pub none_kept : (test : Y → Bool) → filter test (map seen (drop i xs)) ≡ []
   none_kept test = ap (filter test) none_seen
 
--- four parts, one behind the other
+-- four parts, one behind the other, behind what was there
 pub four_behind : {Z : Type 0} (b0 b1 b2 b3 b4 w h r t : List Z)
-    → b0 ≡ [] → b1 ≡ b0 ++ w → b2 ≡ b1 ++ h → b3 ≡ b2 ++ r → b4 ≡ b3 ++ t → b4 ≡ w ++ (h ++ (r ++ t))
-four_behind b0 b1 b2 b3 b4 w h r t z e1 e2 e3 e4 =
-    e4 ∙ ap (λ x. x ++ t) (e3 ∙ ap (λ x. x ++ r) (e2 ∙ ap (λ x. x ++ h) (e1 ∙ ap (λ x. x ++ w) z)))
-    ∙ append_assoc (w ++ h) r t ∙ append_assoc w h (r ++ t)
+    → b1 ≡ b0 ++ w → b2 ≡ b1 ++ h → b3 ≡ b2 ++ r → b4 ≡ b3 ++ t → b4 ≡ b0 ++ (w ++ (h ++ (r ++ t)))
+four_behind b0 b1 b2 b3 b4 w h r t e1 e2 e3 e4 =
+    e4 ∙ ap (λ x. x ++ t) (e3 ∙ ap (λ x. x ++ r) (e2 ∙ ap (λ x. x ++ h) e1))
+    ∙ append_assoc ((b0 ++ w) ++ h) r t ∙ append_assoc (b0 ++ w) h (r ++ t) ∙ append_assoc b0 w (h ++ (r ++ t))

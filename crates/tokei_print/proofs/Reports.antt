@@ -19,8 +19,9 @@ pub report_of_steps : (rows : List Row) (style : ReportStyle) (listed languages 
     → b3 ≡ b2 ++ results_text l2 (name_in rows) style.compact sorted listed → b4 ≡ b3 ++ total_text l3 languages
     → b4 ≡ report_text l0 rows style listed languages
 report_of_steps rows style listed languages l0 l1 l2 l3 sorted b0 b1 b2 b3 b4 z k1 k2 k3 s e1 e2 e3 e4 =
-    four_behind b0 b1 b2 b3 b4 _ _ _ _ z e1
+    four_behind b0 b1 b2 b3 b4 _ _ _ _ e1
     (e2 ∙ ap (λ l. b1 ++ header l.columns) k1)
     (e3 ∙ ap (λ l. b2 ++ results_text l (name_in rows) style.compact sorted listed) (k2 ∙ k1)
     ∙ ap (λ b. b2 ++ results_text l0 (name_in rows) style.compact b listed) s)
     (e4 ∙ ap (λ l. b3 ++ total_text l languages) (k3 ∙ k2 ∙ k1))
+    ∙ ap (λ b. b ++ report_text l0 rows style listed languages) z

@@ -1,10 +1,11 @@
 //! The rows of a file that holds other languages.
-use crate::cells::cells_with_lines_in;
+use crate::cells::counted_row;
 use crate::joined::joined;
 use crate::layout::Layout;
 use crate::names::name_of;
 use std::alloc::{AllocError, Global};
 use std::collections::BTreeMap;
+use tokei_options::columns::LINES_COLUMN_WIDTH;
 use tokei_stats::{CodeStats, CountError, CountsCells, ReportRow};
 use tokei_table::{LanguageTable, LanguageType};
 
@@ -59,10 +60,16 @@ impl Layout {
             ≡ blob_row self.now inaccurate name.now (stats_of stats.now)) }
         ensures overflow { IsErrOf result CountError.Overflow → ¬ LinesFit (counts_of stats.now) }
     {
-        let section = self.name_section(alloc, inaccurate, name, " |-")?;
-        let cells = cells_with_lines_in(alloc, self.format, stats.own_counts(), 12)?;
-        let (section, cells) = (section.as_str(), cells.as_str());
-        Ok(format!(in alloc; "{section}         {cells}\n")?)
+        let mut row = self.name_section(alloc, inaccurate, name, " |-")?;
+        // where a language's row has its number of files
+        row.push_str("         ")?;
+        counted_row(
+            row,
+            alloc,
+            self.format,
+            stats.own_counts(),
+            LINES_COLUMN_WIDTH,
+        )
     }
 
     /// A row for each language inside a file.

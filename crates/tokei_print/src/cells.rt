@@ -5,12 +5,14 @@ ghost use Rattle.tokei_stats.specs.Seen.{sums_of};
 ghost use Rattle.tokei_stats.specs.Statistics.{lines_of};
 ghost use Rattle.tokei_print.specs.Cells.{number_text, right_in};
 ghost use Rattle.tokei_print.specs.LinesFit.{LinesFit};
+ghost use Rattle.tokei_print.specs.Rules.{newline};
 ghost use Rattle.tokei_stats.specs.ReportRow.{count_places};
 ghost use Rattle.tokei_table.specs.Bytes.{space};
 ghost use Rattle.tokei_options.specs.Grouping.{separator_text};
 
 use std::alloc::{AllocError, Global};
 use tokei_options::NumberFormat;
+use tokei_options::columns::{BLANKS_COLUMN_WIDTH, CODE_COLUMN_WIDTH, COMMENTS_COLUMN_WIDTH};
 use tokei_stats::{CountError, Sums};
 
 /// All lines, of whatever class.
@@ -30,7 +32,6 @@ fn lines(counts: Sums) -> Result<usize, CountError>
 }
 
 /// Puts a number behind what stands in the row, behind a space and right in its places.
-#[tactic(auto, using(crate::proofs::Padding::styled_right))]
 pub(crate) fn put_cell(
     row: &mut String,
     alloc: Global,
@@ -48,9 +49,10 @@ pub(crate) fn put_cell(
     write!(row, " {text:>places$}")
 }
 
-/// Lines, code, comments and blanks as numbers, with so many places for the lines. `Overflow`
-/// exactly where the lines pass the greatest `usize`.
-pub(crate) fn cells_with_lines_in(
+/// The row with lines, code, comments and blanks behind what stands in it, with so many places for
+/// the lines, and with its end. `Overflow` exactly where the lines pass the greatest `usize`.
+pub(crate) fn counted_row(
+    row: String,
     alloc: Global,
     format: NumberFormat,
     counts: Sums,
@@ -58,22 +60,30 @@ pub(crate) fn cells_with_lines_in(
 ) -> Result<String, CountError>
     requires { places ≤ 65535 }
     ensures ok { IfOk result (λ s. string_bytes s
-        ≡ space ∷ (right_in places
+        ≡ string_bytes row ++ (space ∷ (right_in places
         (number_text (separator_text format.separator) (lines_of (sums_of counts)))
         ++ (space ∷ (right_in count_places
         (number_text (separator_text format.separator) (sums_of counts).code)
         ++ (space ∷ (right_in count_places
         (number_text (separator_text format.separator) (sums_of counts).comments)
         ++ (space ∷ right_in count_places
-        (number_text (separator_text format.separator) (sums_of counts).blanks)))))))) }
+        (number_text (separator_text format.separator) (sums_of counts).blanks)))))))
+        ++ newline)) }
     ensures fits { OnOk result (LinesFit (sums_of counts)) }
     ensures overflow { IsErrOf result CountError.Overflow → ¬ LinesFit (sums_of counts) }
 {
     let lines = lines(counts)?;
-    let mut row = String::new(alloc);
+    let mut row = row;
     put_cell(&mut row, alloc, format, lines, places)?;
-    put_cell(&mut row, alloc, format, counts.code, 12)?;
-    put_cell(&mut row, alloc, format, counts.comments, 12)?;
-    put_cell(&mut row, alloc, format, counts.blanks, 12)?;
+    put_cell(&mut row, alloc, format, counts.code, CODE_COLUMN_WIDTH)?;
+    put_cell(
+        &mut row,
+        alloc,
+        format,
+        counts.comments,
+        COMMENTS_COLUMN_WIDTH,
+    )?;
+    put_cell(&mut row, alloc, format, counts.blanks, BLANKS_COLUMN_WIDTH)?;
+    row.push_str("\n")?;
     Ok(row)
 }

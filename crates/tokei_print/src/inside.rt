@@ -48,10 +48,7 @@ fn child_row(
     if reports.is_empty() {
         Ok(row)
     } else {
-        joined(
-            row,
-            files_and_counts(alloc, layout.format, reports.len(), sums),
-        )
+        files_and_counts(row, alloc, layout.format, reports.len(), sums)
     }
 }
 

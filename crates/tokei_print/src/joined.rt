@@ -1,5 +1,5 @@
 //! A text behind another.
-ghost use Rattle.std.specs.Prelude.{◌≡◌, ◌++◌, ℕ, List, IfOk, IsErrOf, IsOk, OnOk, string_bytes};
+ghost use Rattle.std.specs.Prelude.{◌≡◌, ◌++◌, ℕ, List, IfOk, IsErrOf, string_bytes};
 
 use tokei_stats::CountError;
 
@@ -7,7 +7,6 @@ use tokei_stats::CountError;
 pub(crate) fn joined(text: String, part: Result<String, CountError>) -> Result<String, CountError>
     ensures ok { (bytes : List ℕ) → IfOk part (λ p. string_bytes p ≡ bytes)
         → IfOk result (λ s. string_bytes s ≡ string_bytes text ++ bytes) }
-    ensures part { OnOk result (IsOk part) }
     ensures overflow { IsErrOf result CountError.Overflow → IsErrOf part CountError.Overflow }
 {
     let mut text = text;

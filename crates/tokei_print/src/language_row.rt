@@ -5,7 +5,6 @@ ghost use Rattle.tokei_print.specs.LinesFit.{LinesFit};
 ghost use Rattle.tokei_print.specs.LanguageRow.{language_row};
 
 use crate::counts::files_and_counts;
-use crate::joined::joined;
 use crate::layout::Layout;
 use std::alloc::Global;
 use tokei_languages::Language;
@@ -32,5 +31,5 @@ pub(crate) fn language_row(
     };
     let row = layout.name_section(alloc, language.inaccurate, name, "")?;
     let files = language.reports.len();
-    joined(row, files_and_counts(alloc, layout.format, files, counts))
+    files_and_counts(row, alloc, layout.format, files, counts)
 }

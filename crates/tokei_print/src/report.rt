@@ -63,8 +63,7 @@ fn print_report(
     warn(printer, languages)?;
     printer.print_header()?;
     printer.print_results(table, listed, style.compact, sorted)?;
-    printer.print_total(languages)?;
-    Ok(())
+    printer.print_total(languages)
 }
 
 /// The report of languages, of which these are listed in this order. It is made in memory.

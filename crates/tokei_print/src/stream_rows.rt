@@ -26,7 +26,6 @@ pub fn print_stream_heading<W: Sink>(writer: &mut W) -> Result<(), OutputError>
 }
 
 /// A file's row in a stream of columns.
-#[tactic(auto, using(crate::proofs::Padding::styled_right, tokei_stats::proofs::Padding::styled_left))]
 fn stream_row(alloc: Global, language: &str, report: &Report) -> Result<String, AllocError>
     ensures { IfOk result (λ s. string_bytes s
         ≡ stream_row language.now (string_bytes report.now.name) (counts_of report.now.stats)) }

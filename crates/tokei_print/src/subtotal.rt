@@ -1,8 +1,11 @@
 //! The row of counts that take in those of the texts inside.
-use crate::cells::cells_with_lines_in;
+use crate::cells::counted_row;
 use crate::layout::Layout;
 use std::alloc::Global;
 use tokei_stats::{CountError, Sums};
+
+/// How many lines of all classes, in a subtotal two characters wider than in other rows.
+const SUBTOTAL_LINES_WIDTH: usize = 14;
 
 impl Layout {
     ghost use Rattle.std.specs.Prelude.{◌≡◌, ◌≤◌, length, IfOk, IsErrOf, string_bytes};
@@ -19,8 +22,7 @@ impl Layout {
         ensures overflow { IsErrOf result CountError.Overflow → ¬ LinesFit (sums_of counts) }
     {
         let places = self.columns - 56;
-        let cells = cells_with_lines_in(alloc, self.format, counts, 14)?;
-        let cells = cells.as_str();
-        Ok(format!(in alloc; " {name:<places$}{cells}\n")?)
+        let row = format!(in alloc; " {name:<places$}")?;
+        counted_row(row, alloc, self.format, counts, SUBTOTAL_LINES_WIDTH)
     }
 }

@@ -40,11 +40,11 @@ pub(crate) fn total(
     ensures overflow { IsErrOf result CountError.Overflow
         → ¬ TotalFits (languages_of languages.now) }
 {
-    let row = layout.row();
     let files = count_reports(languages)?;
     let counts = languages.summary_counts()?;
-    let section = layout.name_section(alloc, languages.is_inaccurate(), "Total", "")?;
-    let rest = files_and_counts(alloc, layout.format, files, counts)?;
-    let (section, rest) = (section.as_str(), rest.as_str());
-    Ok(format!(in alloc; "{row}{section}{rest}{row}")?)
+    let name = layout.name_section(alloc, languages.is_inaccurate(), "Total", "")?;
+    let total = files_and_counts(name, alloc, layout.format, files, counts)?;
+    let row = layout.row();
+    let total = total.as_str();
+    Ok(format!(in alloc; "{row}{total}{row}")?)
 }

@@ -31,3 +31,8 @@ returns c =
     let none : drop l.report-index xs ≡ [] = drop_all l.report-index xs (omega arith) in
     let all = l.invariant ∙ ap (λ rs. map view l.items.items ++ shown rs) none ∙ append-nil (map view l.items.items) in
     view-Array l.items ∙ ap (λ ds. array (items_of ds)) (sym all ∙ ap shown c.deref-report-items.ensures.value)
+
+pub loop-report-init : goal.loop-report-init
+loop-report-init c =
+    let xs = c.deref-report-items.result.now in
+    sym (ap (λ vs. map view vs ++ map (report_data c.args.table.now) (map report_of xs)) c.in_ok-items.ensures.items)

@@ -1,4 +1,4 @@
-use Rattle.std.proofs.Common.{◌≡◌, [], ◌++◌, Err, IfOk, codes, string_bytes, refl, sym, ap, subst, ◌∙◌, rules}
+use Rattle.std.proofs.Common.{◌≡◌, [], ◌++◌, Err, IfOk, codes, string_bytes, sym, ap, subst, ◌∙◌, rules}
 use Rattle.tokei_stats.proofs.Members.{blobs_seen}
 use Rattle.tokei_stats.specs.Reports.{report_of}
 use Rattle.tokei_stats.specs.Shown.{shown}
@@ -21,7 +21,7 @@ returns-clause-ok c =
     let own = own_row layout c.args.language.name.now report.stats in
     let rows = blob_rows layout (name_in c.args.language.table.now) c.args.language.inaccurate in
     subst (λ b. IfOk c.joined-3.result (λ s. string_bytes s ≡ b))
-    (four_behind [] _ _ _ _ (line (shown report.name)) own (rows (blobs report.stats)) _ refl
+    (four_behind [] _ _ _ _ (line (shown report.name)) own (rows (blobs report.stats)) _
     (c.in_ok-line.ensures ∙ ap line (c.deref-2.ensures ∙ c.in_ok-shown.ensures ∙ ap shown c.deref.ensures))
     (c.in_ok-begun.ensures.ok _ c.in_ok-own.ensures)
     (c.in_ok-rows.ensures.ok _ c.blob_rows-blobs.ensures.ok ∙ ap (λ bs. string_bytes c.in_ok-begun.begun ++ rows bs) (sym (blobs_seen c.args.report.now.stats)))

@@ -5,7 +5,6 @@ use Rattle.tokei_languages.specs.Seen.{language_of}
 use Rattle.tokei_stats.specs.Reports.{report_of}
 use Rattle.tokei_print.specs.FilesAndCounts.{files_and_counts}
 use Rattle.tokei_print.specs.Layouts.{separator_in}
-use Rattle.tokei_print.proofs.Parts.{where_made}
 use Rattle.tokei_print.proofs.language_row.language_row.Goals as goal
 
 pub returns-clause-ok : goal.returns-clause-ok
@@ -13,12 +12,12 @@ returns-clause-ok c =
     let language = language_of c.args.language.now in
     let length-items : vec_len c.args.language.now.reports ≡ length c.args.language.now.reports.items = search rules in
     let files : c.len-files.result ≡ length language.reports = c.len-files.ensures ∙ length-items ∙ sym (length-map c.args.language.now.reports.items report_of) in
-    subst (λ b. IfOk c.joined.result (λ s. string_bytes s ≡ b))
+    subst (λ b. IfOk c.files_and_counts.result (λ s. string_bytes s ≡ b))
     (ap₂ (λ x y. x ++ y) c.in_ok-row.ensures (ap (λ n. files_and_counts (separator_in c.args.layout.now) n language.counts) files))
-    (c.joined.ensures.ok _ c.files_and_counts.ensures.ok)
+    c.files_and_counts.ensures.ok
 
 pub returns-clause-fits : goal.returns-clause-fits
-returns-clause-fits c = where_made c.joined.result c.files_and_counts.result _ c.joined.ensures.part c.files_and_counts.ensures.fits
+returns-clause-fits c = c.files_and_counts.ensures.fits
 
 pub returns-clause-overflow : goal.returns-clause-overflow
-returns-clause-overflow c = λ t f. c.files_and_counts.ensures.overflow (c.joined.ensures.overflow t) f
+returns-clause-overflow c = c.files_and_counts.ensures.overflow
