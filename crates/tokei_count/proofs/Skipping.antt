@@ -1,14 +1,15 @@
 -- Places between lines that are skipped or lie within an item: their order, what is left behind them,
 -- and whether the part that begins there is walked.
-use Rattle.std.proofs.Common.{◌≡◌, ℕ, ◌+◌, ◌-◌, ◌<◌, ◌≤◌, ◌||◌, ◌⊎◌, inl, inr, Bool, true, false, not, List, [], ◌∷◌, length, drop, None, sym, ap, ◌∙◌, arith}
+use Rattle.std.proofs.Common.{◌≡◌, ℕ, ◌+◌, ◌-◌, ◌<◌, ◌≤◌, ◌||◌, ◌⊎◌, inl, inr, Bool, true, false, not, List, [], ◌∷◌, length, drop, None, sym, ap, ◌∙◌, arith, length-drop}
 use Rattle.std.proofs.lemmas.Bool.{false≢true}
 use Rattle.tokei_parts.specs.Class.{is_plain}
 use Rattle.tokei_parts.specs.Glance.{holds, is_walked}
 use Rattle.tokei_parts.specs.Glanced.{Knows}
 use Rattle.tokei_parts.specs.Items.{Mode}
-use Rattle.tokei_parts.specs.Lines.{first_line}
+use Rattle.tokei_parts.specs.Lines.{first_line, line_len}
 use Rattle.tokei_parts.specs.Modes.{Chain, innermost}
 use Rattle.tokei_parts.proofs.LineEnds.{below_or}
+use Rattle.tokei_parts.proofs.PartFronts.{line_len_within}
 use Rattle.tokei_count.proofs.StepReading.{line_some}
 
 -- places in their order
@@ -34,11 +35,8 @@ goes_from a b m is = omega arith
 pub ends_above : (a b n : ℕ) → a ≤ n → b ≡ n → a ≤ b
 ends_above a b n low end = omega arith
 
-pub ends_with : (a b n : ℕ) → a ≡ n → b ≡ n → a ≤ b
-ends_with a b n here end = omega arith
-
-pub ends_by : (a b n m : ℕ) → a ≡ n → b ≡ n → a ≤ b + m
-ends_by a b n m here end = omega arith
+pub ends_here : (text : List ℕ) (at end : ℕ) → at ≡ length text → end ≡ length text → end ≡ at + line_len (drop at text)
+ends_here text at end here is = omega (arith, here, is, line_len_within (drop at text), length-drop at text)
 
 pub ends_known : (os : List (List ℕ)) (text : List ℕ) (start next : ℕ) → start ≡ length text → next ≡ length text → Knows os text start next
 ends_known os text start next here end = λ low. absurd (omega (arith, here, end, low))
@@ -56,6 +54,19 @@ none_left n a b some end = omega arith
 -- a line has a byte, where the text has one
 pub line_on : (text : List ℕ) (at stop : ℕ) → at < length text → stop ≡ at + length (first_line (drop at text)) → at < stop
 line_on text at stop some is = omega (arith, is, line_some text at some)
+
+-- the first newline of the text from the place on, or its end, ends the place's line
+pub front_line : (text : List ℕ) (at newline : ℕ) → at ≤ length text → newline ≤ length text → newline ≤ at + line_len (drop at text)
+    → (newline < length text → newline ≡ at + line_len (drop at text)) → newline ≡ at + line_len (drop at text)
+front_line text at newline within high line found = by_order (below_or newline (length text))
+  where
+    by_order : (newline < length text) ⊎ (length text ≤ newline) → newline ≡ at + line_len (drop at text)
+    by_order (inl low) = found low
+    by_order (inr end) = omega (arith, within, high, line, end, line_len_within (drop at text), length-drop at text)
+
+-- what stops behind `next` goes over it
+pub ends_over : (next stop m : ℕ) → next < stop → stop ≡ m → next < m
+ends_over next stop m over is = omega (arith, over, is)
 
 -- a line that stops behind `next`, up to which its newline was looked for, goes that far
 pub line_reaches : (newline next stop n m : ℕ) → newline ≤ next → newline ≤ m → next ≤ n → (newline < n → stop ≡ newline + 1) → next < stop → next ≤ m

@@ -1,6 +1,6 @@
 //! Texts are read part by part: each is walked, or skipped where nothing can open in it.
 ghost use Rattle.std.specs.Prelude.{◌≡◌, ◌+◌, ◌^◌, ◌<◌, ◌≤◌, true, false, [], None, Some, drop, is_some, length, map};
-ghost use Rattle.std.specs.Prelude.{IfOk, IsErrOf, IsOk, OnOk};
+ghost use Rattle.std.specs.Prelude.{IfErr, IfOk, IsErrOf, IsOk, OnErr, OnOk};
 ghost use Rattle.tokei_table.specs.FirstOpener.{first_opener};
 ghost use Rattle.tokei_table.specs.Lookups.{row_at};
 ghost use Rattle.tokei_table.specs.Openers.{openers};
@@ -13,7 +13,7 @@ ghost use Rattle.tokei_parts.specs.Glanced.{Knows};
 ghost use Rattle.tokei_count.specs.Languages.{is_notebook};
 ghost use Rattle.tokei_parts.specs.Lines.{line_len};
 ghost use Rattle.tokei_parts.specs.Matchers.{matchers_of};
-ghost use Rattle.tokei_stats.specs.Overflow.{Fits};
+ghost use Rattle.tokei_stats.specs.Overflow.{CountsFit, Fits};
 ghost use Rattle.tokei_parts.specs.Tally.{one_of};
 ghost use Rattle.tokei_parts.specs.Places.{IsAt, block_here, text_of};
 ghost use Rattle.tokei_parts.specs.Modes.{innermost};
@@ -24,8 +24,8 @@ ghost use Rattle.tokei_parts.specs.SeenChoices.{mode_of};
 ghost use Rattle.tokei_parts.specs.Seen.{block_of, chain_of};
 ghost use Rattle.tokei_count.specs.Steps.{capped};
 ghost use Rattle.tokei_count.specs.UnderWay.{IsReadBy, IsUnderWay, reading_inside, steps_inside};
-ghost use Rattle.tokei_stats.specs.Seen.{stats_of, sums_of};
-ghost use Rattle.tokei_stats.specs.Statistics.{lines_of, plus};
+ghost use Rattle.tokei_stats.specs.Seen.{blobs_of, entries_of, stats_of, sums_of};
+ghost use Rattle.tokei_stats.specs.Statistics.{at, joined, lines_of, plus, put, sum};
 
 use crate::lines_left::{count_clear_lines, count_lines_left, count_lines_within, has_no_comments};
 use crate::reader::Reader;
@@ -74,29 +74,6 @@ fn doc_contents(alloc: Global, child: &Block) -> Result<Vec<u8>, AllocError>
         doc_text(alloc, child.contents)
     } else {
         Ok(Vec::new(alloc))
-    }
-}
-
-/// One line of the class.
-fn counted_as(class: Class) -> Sums
-    ensures { sums_of result ≡ one_of class }
-{
-    match class {
-        Class::Blank => Sums {
-            blanks: 1,
-            code: 0,
-            comments: 0,
-        },
-        Class::Code => Sums {
-            blanks: 0,
-            code: 1,
-            comments: 0,
-        },
-        Class::Comment => Sums {
-            blanks: 0,
-            code: 0,
-            comments: 1,
-        },
     }
 }
 
@@ -202,23 +179,59 @@ fn one_more(lines: &mut Sums, class: Class)
     }
 }
 
+/// One more, where there is room.
+#[inline(always)]
+fn one_more_of(count: usize) -> Result<usize, CountError>
+    ensures ok { IfOk result (λ n. n ≡ count + 1) }
+    ensures past { OnErr result (2 ^ 64 ≤ count + 1) }
+    ensures overflow { IfErr result (λ e. e ≡ CountError.Overflow) }
+{
+    match count.checked_add(1) {
+        Some(more) => Ok(more),
+        None => Err(CountError::Overflow),
+    }
+}
+
+/// Counts one line more, of the class, where its number has room.
+#[inline(always)]
+fn add_line(lines: &mut Sums, class: Class) -> Result<(), CountError>
+    ensures ok { OnOk result (sums_of lines.new ≡ plus (sums_of lines.old) (one_of class)) }
+    ensures past { OnErr result (¬ CountsFit (plus (sums_of lines.old) (one_of class))) }
+    ensures overflow { IfErr result (λ e. e ≡ CountError.Overflow) }
+{
+    match class {
+        Class::Blank => lines.blanks = one_more_of(lines.blanks)?,
+        Class::Code => lines.code = one_more_of(lines.code)?,
+        Class::Comment => lines.comments = one_more_of(lines.comments)?,
+    }
+    Ok(())
+}
+
 /// Counts the next lines, one after another, which stop before the first opener, at `next`, or with
-/// the text. Their counts and place stand in no memory meanwhile.
+/// the text, and answers where the line behind them goes to. The first of them goes to `first`.
+/// Their counts and place stand in no memory meanwhile.
 #[inline(never)]
-fn count_lines(reading: &Reading, so_far: &mut ReadSoFar, next: usize) -> Result<(), CountError>
+fn count_lines(
+    reading: &Reading,
+    so_far: &mut ReadSoFar,
+    next: usize,
+    first: usize,
+) -> Result<usize, CountError>
     requires skips { reading.now.skips ≡ true }
     requires under_way { IsUnderWay reading.now so_far.old }
     requires plain { chain_of so_far.old.stack.items ≡ [] }
     requires next { next ≡ so_far.old.start + opener_place (openers_in reading.now)
         (drop so_far.old.start reading.now.text.now) }
     requires within { next ≤ length reading.now.text.now }
+    requires first { first
+        ≡ so_far.old.start + line_len (drop so_far.old.start reading.now.text.now) }
     ensures under_way { OnOk result (IsUnderWay reading.now so_far.new) }
     ensures low { OnOk result (so_far.old.start ≤ so_far.new.start) }
     ensures high { OnOk result (so_far.new.start ≤ next) }
     ensures next { OnOk result (next ≡ so_far.new.start + opener_place (openers_in reading.now)
         (drop so_far.new.start reading.now.text.now)) }
-    ensures clear { OnOk result
-        (next ≤ so_far.new.start + line_len (drop so_far.new.start reading.now.text.now)) }
+    ensures end { IfOk result (λ end. end
+        ≡ so_far.new.start + line_len (drop so_far.new.start reading.now.text.now)) }
     ensures more { OnOk result (so_far.new.start < length reading.now.text.now
         → next < so_far.new.start + length (line_from reading.now so_far.new.start)) }
     ensures plain { chain_of so_far.new.stack.items ≡ [] }
@@ -229,21 +242,23 @@ fn count_lines(reading: &Reading, so_far: &mut ReadSoFar, next: usize) -> Result
     let text = reading.text;
     let mut lines = Sums::new();
     let mut at = so_far.start;
+    let mut end = first;
+    // only blanks stand before that place
+    let mut solid = at;
     while at < next {
-        let front = line_front(text, at, next);
-        let stop = line_stop(text, front.newline);
+        let stop = line_stop(text, end);
         if next < stop {
             break;
         }
-        one_more(
-            &mut lines,
-            class_of_plain(reading, text, at, front.solid, stop),
-        );
+        one_more(&mut lines, class_of_plain(reading, text, at, solid, stop));
         at = stop;
+        let front = line_front(text, at, text.len());
+        end = front.newline;
+        solid = front.solid;
     }
     so_far.own = so_far.own.plus(lines)?;
     so_far.start = at;
-    Ok(())
+    Ok(end)
 }
 
 /// Counts the next lines that stop at `to` or before, all within the item that encloses them: up to
@@ -287,23 +302,25 @@ fn count_within(
     Ok(())
 }
 
-/// Counts the lines before the next part that is walked, and answers a place up to which that part
-/// has no newline. `next` is where an earlier search for openers came to, and becomes where this
-/// one does.
+/// Counts the lines before the next part that is walked, and answers where the line of that part
+/// goes to. `end` is where an earlier place's line went to, and `next` where an earlier search for
+/// openers came to, and becomes where this one does.
 fn skip_lines(
     reading: &Reading,
     so_far: &mut ReadSoFar,
     next: &mut usize,
+    end: usize,
 ) -> Result<usize, CountError>
     requires under_way { IsUnderWay reading.now so_far.old }
     requires known { Knows (openers_in reading.now) reading.now.text.now so_far.old.start next.old }
+    requires line { so_far.old.start ≤ end
+        → end ≡ so_far.old.start + line_len (drop so_far.old.start reading.now.text.now) }
     ensures under_way { OnOk result (IsUnderWay reading.now so_far.new) }
     ensures known { OnOk result
         (Knows (openers_in reading.now) reading.now.text.now so_far.new.start next.new) }
     ensures on { OnOk result (so_far.old.start ≤ so_far.new.start) }
-    ensures low { IfOk result (λ clear. so_far.new.start ≤ clear) }
-    ensures clear { IfOk result (λ clear.
-        clear ≤ so_far.new.start + line_len (drop so_far.new.start reading.now.text.now)) }
+    ensures end { IfOk result (λ end. end
+        ≡ so_far.new.start + line_len (drop so_far.new.start reading.now.text.now)) }
     ensures walked { OnOk result (reading.now.skips ≡ true
         → so_far.new.start < length reading.now.text.now
         → is_walked (openers_in reading.now) (innermost (chain_of so_far.new.stack.items))
@@ -313,50 +330,65 @@ fn skip_lines(
         → first_opener (openers (row_in reading.now)) reading.now.text.now ≡ None → IsOk result }
     ensures overflow { IsErrOf result CountError.Overflow → ¬ Fits (reading_of reading.now) }
 {
+    let text = reading.text;
     if !reading.skips {
-        return Ok(so_far.start);
+        return Ok(line_end(text, so_far.start, so_far.start, end));
     }
     if let Some(item) = innermost(&so_far.stack) {
         // a closer of one byte mostly stands in the same line
         if item.closer.len() < 2 {
-            return Ok(so_far.start);
+            return Ok(line_end(text, so_far.start, so_far.start, end));
         }
         let to = calm_end(reading, item, so_far.start);
         if to <= so_far.start {
-            return Ok(so_far.start);
+            return Ok(line_end(text, so_far.start, so_far.start, end));
         }
         count_lines_within(reading, so_far, item, to)?;
         count_within(reading, so_far, item, to)?;
-        return Ok(to);
+        return Ok(line_end(text, so_far.start, to, end));
     }
-    let to = next_opener(reading.matchers, reading.text, so_far.start, *next);
+    let to = next_opener(reading.matchers, text, so_far.start, *next);
     *next = to;
     if to == reading.text.len() && has_no_comments(reading.syntax) {
         count_lines_left(reading, so_far)?;
         return Ok(to);
     }
     count_clear_lines(reading, so_far, to)?;
-    count_lines(reading, so_far, to)?;
-    Ok(to)
+    let end = line_end(text, so_far.start, so_far.start, end);
+    if to < line_stop(text, end) {
+        return Ok(end);
+    }
+    let end = count_lines(reading, so_far, to, end)?;
+    Ok(end)
 }
 
-/// The statistics of a child of the text, which is read with one level less.
+/// Reads a child of the text with one level less, and adds its statistics to those of its language,
+/// and its steps. What it makes meanwhile has no place in its caller, which would clear it at each
+/// part.
 #[cycle(read_text)]
 fn read_child<'a>(
     reader: Reader<'a>,
     reading: &Reading<'a>,
     child: &Block<'a>,
-) -> Result<TextRead, CountError>
+    blobs: &mut BTreeMap<LanguageType, CodeStats>,
+    steps: &mut u128,
+) -> Result<(), CountError>
     requires reader { IsReadBy reader reading.now }
     requires indexed { reader.matchers.now ≡ map matchers_of reader.table.now }
     requires deep { 0 < reading.now.levels }
     requires known { child.now.language < length reading.now.table.now }
-    ensures reads { IfOk result (λ r. stats_of r.stats
-        ≡ reading_inside reading.now (block_of child.now)) }
-    ensures steps { IfOk result (λ r. r.steps
-        ≡ capped (steps_inside reading.now (block_of child.now))) }
+    ensures reads { OnOk result (blobs_of (entries_of blobs.new.entries)
+        ≡ put (blobs_of (entries_of blobs.old.entries)) child.now.language
+        (joined (at (blobs_of (entries_of blobs.old.entries)) child.now.language)
+        (λ s. sum s (reading_inside reading.now (block_of child.now)))
+        (reading_inside reading.now (block_of child.now)))) }
+    ensures steps { OnOk result (steps.new
+        ≡ capped (steps.old + steps_inside reading.now (block_of child.now))) }
     ensures overflow { IsErrOf result CountError.Overflow
-        → ¬ Fits (reading_inside reading.now (block_of child.now)) }
+        → Fits (reading_inside reading.now (block_of child.now))
+        → ¬ Fits (joined (at (blobs_of (entries_of blobs.old.entries)) child.now.language)
+        (λ s. sum s (reading_inside reading.now (block_of child.now)))
+        (reading_inside reading.now (block_of child.now))) }
 {
     let doc = doc_contents(reader.alloc, child)?;
     let inner = if child.is_doc {
@@ -364,7 +396,10 @@ fn read_child<'a>(
     } else {
         child.contents
     };
-    read_text(reader, child.language, inner, reading.levels - 1)
+    let read = read_text(reader, child.language, inner, reading.levels - 1)?;
+    add_blob(blobs, child.language, read.stats)?;
+    *steps = capped_sum(*steps, read.steps);
+    Ok(())
 }
 
 /// Walks the next part, whose line goes to `end`, and counts that line, or reads the child that
@@ -404,14 +439,18 @@ fn read_walked<'a>(
     so_far.own_steps += part.steps;
     match part.end {
         PartEnd::Line(class, behind) => {
-            so_far.own = so_far.own.plus(counted_as(class))?;
+            add_line(&mut so_far.own, class)?;
             so_far.start = behind;
         }
         PartEnd::Broken(at) => {
             so_far.own = so_far.own.plus(share_of(&so_far.child))?;
-            let read = read_child(reader, reading, &so_far.child)?;
-            add_blob(&mut so_far.blobs, so_far.child.language, read.stats)?;
-            so_far.inner_steps = capped_sum(so_far.inner_steps, read.steps);
+            read_child(
+                reader,
+                reading,
+                &so_far.child,
+                &mut so_far.blobs,
+                &mut so_far.inner_steps,
+            )?;
             so_far.start = at + so_far.child.size;
             so_far.behind_child = reading.text.len() - so_far.start;
         }
@@ -461,9 +500,8 @@ pub(crate) fn read_text<'a>(
     let mut next = 0;
     let mut end = line_len(text);
     while so_far.start < text.len() {
-        let clear = skip_lines(&reading, &mut so_far, &mut next)?;
+        end = skip_lines(&reading, &mut so_far, &mut next, end)?;
         if so_far.start < text.len() {
-            end = line_end(text, so_far.start, clear, end);
             read_walked(reader, &reading, &mut so_far, end)?;
         }
     }

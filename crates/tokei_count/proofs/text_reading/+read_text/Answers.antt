@@ -1,6 +1,6 @@
 use denote.Ref.{Bor}
 use Rattle.std.specs.Prelude.{if◌then◌else◌}
-use Rattle.std.proofs.Common.{◌≡◌, IfOk, Bool, map, get_or, ◌≤◌, ◌<◌, ◌+◌, ◌-◌, ◌∙◌, ℕ, List, [], ◌∷◌, ap, sym, subst, length, drop, refl, arith}
+use Rattle.std.proofs.Common.{◌≡◌, Bool, map, get_or, ◌≤◌, ◌<◌, ◌+◌, ◌-◌, ◌∙◌, ℕ, List, [], ◌∷◌, ap, sym, subst, length, drop, refl, arith}
 use Rattle.std.proofs.lemmas.List.{drop_all}
 use Rattle.std.proofs.lemmas.Result.{err_from_is_err_and}
 use Rattle.tokei_table.specs.Row.{Row}
@@ -21,15 +21,16 @@ use Rattle.tokei_count.specs.Steps.{made_steps, child_steps, capped, sum_over}
 use Rattle.tokei_parts.specs.Walked.{ReadsTo}
 use Rattle.tokei_stats.specs.Overflow.{CountsFit, Fits}
 use Rattle.tokei_stats.specs.Seen.{sums_of, blobs_of, entries_of, stats_of}
-use Rattle.tokei_stats.specs.Statistics.{Counts, Statistics, Blobs, plus, at, put, joined, sum}
+use Rattle.tokei_stats.specs.Statistics.{Counts, Blobs, plus, at, put, joined, sum}
 use Rattle.tokei_stats.specs.Statistics.Statistics.{node}
 use Rattle.tokei_parts.proofs.LineEnds.{end_later}
+use Rattle.tokei_count.specs.UnderWay.{steps_inside}
 use Rattle.tokei_count.proofs.ChildReading.{child_by, child_steps_by}
 use Rattle.tokei_count.proofs.NotebookReading.{known_at, begun, cells_begun, cells_split, cell_read, cell_fits, cell_blob_fits, cell_reading, cells_whole}
-use Rattle.tokei_count.proofs.StepReading.{knows_later, child_steps-is, steps-notebook, steps-no_notebook, capped-left, capped_middle, capped-twice, matchers_at, matchers_below}
+use Rattle.tokei_count.proofs.StepReading.{knows_later, child_steps-is, steps-notebook, steps-no_notebook, capped-left, capped-right, capped_middle, capped-twice, matchers_at, matchers_below}
 use Rattle.tokei_count.proofs.TextReading.{reading-no_notebook}
 use Rattle.tokei_count.proofs.Refusals.{answered, same_refusal}
-use Rattle.tokei_count.proofs.Skipping.{goes_on, goes_past, less_left, none_left}
+use Rattle.tokei_count.proofs.Skipping.{goes_past, less_left, none_left}
 use Rattle.tokei_count.proofs.UnderWay.{child_past, child_within, walked_past, first_end, all_read, all_made, unwalked, walked_fits, walked_on, child_deep, child_known, broken_fits, inner_fits, added_fits, broken_on}
 use Rattle.tokei_count.proofs.text_reading.+read_text.Goals as goal
 use Rattle.tokei_count.proofs.text_reading.+read_text.Goals.{read_child-then-child, read_child-else-child}
@@ -202,38 +203,25 @@ read_text-loop-so_far-init t c = record {
   known = λ low. absurd (omega (arith, low));
 }
 
-pub read_text-line_end-end-requires : goal.read_text-line_end-end-requires
-read_text-line_end-end-requires t c =
-    let e = c.in_ok-clear.ensures in record {
-      start = e.under_way.within;
-      known = λ high.
-          end_later c.args.text.now c.loop-so_far.so_far.start c.skip_lines.new.so_far.start c.loop-so_far.end e.on
-          (c.loop-so_far.invariant.line (goes_on c.loop-so_far.so_far.start c.skip_lines.new.so_far.start c.loop-so_far.end e.on high)) high;
-      behind = e.low;
-      clear = e.clear;
-    }
-
 pub read_text-loop-so_far-preserved-in-Continue-branch-2 : goal.read_text-loop-so_far-preserved-in-Continue-branch-2
 read_text-loop-so_far-preserved-in-Continue-branch-2 t c =
     let low : c.skip_lines.new.so_far.start ≤ c.read_walked.new.so_far.start = omega (arith, c.in_ok-read_walked.ensures.on) in
     record {
       under_way = c.in_ok-read_walked.ensures.under_way;
-      line = λ high. end_later c.args.text.now c.skip_lines.new.so_far.start c.read_walked.new.so_far.start c.line_end-end.result low c.line_end-end.ensures high;
-      known = knows_later _ c.args.text.now c.skip_lines.new.so_far.start c.read_walked.new.so_far.start c.skip_lines.new.next low c.in_ok-clear.ensures.known;
+      line = λ high. end_later c.args.text.now c.skip_lines.new.so_far.start c.read_walked.new.so_far.start c.in_ok-end.end low c.in_ok-end.ensures.end high;
+      known = knows_later _ c.args.text.now c.skip_lines.new.so_far.start c.read_walked.new.so_far.start c.skip_lines.new.next low c.in_ok-end.ensures.known;
     }
 
 pub read_text-loop-so_far-preserved : goal.read_text-loop-so_far-preserved
 read_text-loop-so_far-preserved t c = record {
-  under_way = c.in_ok-clear.ensures.under_way;
-  line = λ high.
-      end_later c.args.text.now c.loop-so_far.so_far.start c.skip_lines.new.so_far.start c.loop-so_far.end c.in_ok-clear.ensures.on
-      (c.loop-so_far.invariant.line (omega (arith, c.in_ok-clear.ensures.on, high))) high;
-  known = c.in_ok-clear.ensures.known;
+  under_way = c.in_ok-end.ensures.under_way;
+  line = λ high. c.in_ok-end.ensures.end;
+  known = c.in_ok-end.ensures.known;
 }
 
 pub read_text-returns-in_err-read_walked-clause-quiet : goal.read_text-returns-in_err-read_walked-clause-quiet
 read_text-returns-in_err-read_walked-clause-quiet t c = λ skipped lines none.
-    absurd (unwalked _ _ c.in_ok-clear.ensures.under_way skipped none (c.in_ok-clear.ensures.walked skipped c.if-so_far-text.true))
+    absurd (unwalked _ _ c.in_ok-end.ensures.under_way skipped none (c.in_ok-end.ensures.walked skipped c.if-so_far-text.true))
 
 pub read_text-returns-clause-reads : goal.read_text-returns-clause-reads
 read_text-returns-clause-reads t c = c.assembled-stats.ensures ∙ all_read _ _ c.loop-so_far.invariant.under_way (omega (arith, c.loop-so_far-test.false))
@@ -241,14 +229,13 @@ read_text-returns-clause-reads t c = c.assembled-stats.ensures ∙ all_read _ _ 
 pub read_text-returns-clause-steps : goal.read_text-returns-clause-steps
 read_text-returns-clause-steps t c = c.capped_sum-steps.ensures ∙ all_made _ _ c.loop-so_far.invariant.under_way (omega (arith, c.loop-so_far-test.false))
 
-pub read_walked-returns-in_err-so_far-in-Line-clause-overflow : goal.read_walked-returns-in_err-so_far-in-Line-clause-overflow
-read_walked-returns-in_err-so_far-in-Line-clause-overflow t c =
-    λ is fits. c.in_err-so_far-in-Line.ensures.past (subst (λ (m : Counts). CountsFit (plus (sums_of c.args.so_far.now.own) m))
-    (sym c.counted_as.ensures)
+pub read_walked-returns-in_err-add_line-in-Line-clause-overflow : goal.read_walked-returns-in_err-add_line-in-Line-clause-overflow
+read_walked-returns-in_err-add_line-in-Line-clause-overflow t c =
+    λ is fits. c.in_err-add_line-in-Line.ensures.past
     (walked_fits c.args.reading.now c.args.so_far.now c.requires.under_way c.in-Line.class c.in-Line.behind c.in_ok-part.part.steps
     c.read_part.new.stack (subst (ReadsTo (row_in c.args.reading.now) (blocks_of c.args.reading.now) c.args.so_far.now.behind_child
     c.args.reading.now.docs_are_comments (chain_of c.args.so_far.now.stack.items) (chain_of c.read_part.new.stack.items) c.args.so_far.now.start
-    c.args.reading.now.text.now c.in_ok-part.part.steps) c.in-Line.is c.in_ok-part.ensures.reads) fits))
+    c.args.reading.now.text.now c.in_ok-part.part.steps) c.in-Line.is c.in_ok-part.ensures.reads) fits)
 
 pub read_walked-returns-in_err-so_far-in-Broken-clause-overflow : goal.read_walked-returns-in_err-so_far-in-Broken-clause-overflow
 read_walked-returns-in_err-so_far-in-Broken-clause-overflow t c =
@@ -286,54 +273,43 @@ read_walked-read_child-requires t c = (
   ),
 )
 
-pub read_walked-returns-in_err-read-in-Broken-clause-overflow : goal.read_walked-returns-in_err-read-in-Broken-clause-overflow
-read_walked-returns-in_err-read-in-Broken-clause-overflow t c =
-    let p = err_from_is_err_and c.from_residual-in_err-read-in-Broken.result c.from_residual-in_err-read-in-Broken.ensures.1 in
+pub read_walked-returns-in_err-read_child-in-Broken-clause-overflow : goal.read_walked-returns-in_err-read_child-in-Broken-clause-overflow
+read_walked-returns-in_err-read_child-in-Broken-clause-overflow t c =
+    let p = err_from_is_err_and c.from_residual-in_err-read_child-in-Broken.result c.from_residual-in_err-read_child-in-Broken.ensures.1 in
     rw (p.1, p.2) (λ is fits.
-    c.in_err-read-in-Broken.ensures.overflow (same_refusal _ _ is)
+    c.in_err-read_child-in-Broken.ensures.overflow (same_refusal _ _ is)
     (inner_fits c.args.reading.now c.args.so_far.now c.requires.under_way c.in-Broken.at c.in_ok-part.part.steps
+    (chain_of c.read_part.new.stack.items) (block_of c.read_part.new.found)
+    (subst (ReadsTo (row_in c.args.reading.now) (blocks_of c.args.reading.now) c.args.so_far.now.behind_child
+    c.args.reading.now.docs_are_comments (chain_of c.args.so_far.now.stack.items) (chain_of c.read_part.new.stack.items) c.args.so_far.now.start
+    c.args.reading.now.text.now c.in_ok-part.part.steps) c.in-Broken.is c.in_ok-part.ensures.reads)
+    (c.in_ok-part.ensures.found c.in-Broken.at c.in-Broken.is) fits)
+    (added_fits c.args.reading.now c.args.so_far.now c.requires.under_way c.in-Broken.at c.in_ok-part.part.steps
     (chain_of c.read_part.new.stack.items) (block_of c.read_part.new.found)
     (subst (ReadsTo (row_in c.args.reading.now) (blocks_of c.args.reading.now) c.args.so_far.now.behind_child
     c.args.reading.now.docs_are_comments (chain_of c.args.so_far.now.stack.items) (chain_of c.read_part.new.stack.items) c.args.so_far.now.start
     c.args.reading.now.text.now c.in_ok-part.part.steps) c.in-Broken.is c.in_ok-part.ensures.reads)
     (c.in_ok-part.ensures.found c.in-Broken.at c.in-Broken.is) fits))
 
-pub read_walked-returns-in_err-add_blob-in-Broken-clause-overflow : goal.read_walked-returns-in_err-add_blob-in-Broken-clause-overflow
-read_walked-returns-in_err-add_blob-in-Broken-clause-overflow t c =
-    let k : Block = block_of c.read_part.new.found in
-    let old : Blobs = blobs_of (entries_of c.args.so_far.now.blobs.entries) in
-    let p = err_from_is_err_and c.from_residual-in_err-add_blob-in-Broken.result c.from_residual-in_err-add_blob-in-Broken.ensures.1 in
-    rw (p.1, p.2) (λ is fits.
-    c.in_err-add_blob-in-Broken.ensures.overflow (same_refusal _ _ is)
-    (subst (λ s. Fits (joined (at old k.language) (λ o. sum o s) s)) (sym c.in_ok-read-in-Broken.ensures.reads)
-    (added_fits c.args.reading.now c.args.so_far.now c.requires.under_way c.in-Broken.at c.in_ok-part.part.steps
-    (chain_of c.read_part.new.stack.items) (block_of c.read_part.new.found)
-    (subst (ReadsTo (row_in c.args.reading.now) (blocks_of c.args.reading.now) c.args.so_far.now.behind_child
-    c.args.reading.now.docs_are_comments (chain_of c.args.so_far.now.stack.items) (chain_of c.read_part.new.stack.items) c.args.so_far.now.start
-    c.args.reading.now.text.now c.in_ok-part.part.steps) c.in-Broken.is c.in_ok-part.ensures.reads)
-    (c.in_ok-part.ensures.found c.in-Broken.at c.in-Broken.is) fits)))
-
-pub read_walked-returns-in_ok-so_far-in-Line-clause-under_way : goal.read_walked-returns-in_ok-so_far-in-Line-clause-under_way
-read_walked-returns-in_ok-so_far-in-Line-clause-under_way t c =
+pub read_walked-returns-in_ok-add_line-in-Line-clause-under_way : goal.read_walked-returns-in_ok-add_line-in-Line-clause-under_way
+read_walked-returns-in_ok-add_line-in-Line-clause-under_way t c =
     walked_on c.args.reading.now c.args.so_far.now c.requires.under_way c.in-Line.class c.in-Line.behind c.in_ok-part.part.steps
     c.read_part.new.stack (subst (ReadsTo (row_in c.args.reading.now) (blocks_of c.args.reading.now) c.args.so_far.now.behind_child
     c.args.reading.now.docs_are_comments (chain_of c.args.so_far.now.stack.items) (chain_of c.read_part.new.stack.items) c.args.so_far.now.start
-    c.args.reading.now.text.now c.in_ok-part.part.steps) c.in-Line.is c.in_ok-part.ensures.reads) c.in_ok-so_far-in-Line.field-0
+    c.args.reading.now.text.now c.in_ok-part.part.steps) c.in-Line.is c.in_ok-part.ensures.reads) c.add_line.new.lines
     c.read_part.new.search c.read_part.new.found
-    (c.in_ok-so_far-in-Line.ensures.ok ∙ ap (plus (sums_of c.args.so_far.now.own)) c.counted_as.ensures) (c.in_ok-part.ensures.same ∙ c.requires.under_way.searched) c.requires.walked
+    c.in_ok-add_line-in-Line.ensures.ok (c.in_ok-part.ensures.same ∙ c.requires.under_way.searched) c.requires.walked
 
-pub read_walked-returns-in_ok-add_blob-in-Broken-clause-under_way : goal.read_walked-returns-in_ok-add_blob-in-Broken-clause-under_way
-read_walked-returns-in_ok-add_blob-in-Broken-clause-under_way t c =
-    let k : Block = block_of c.read_part.new.found in
-    let old : Blobs = blobs_of (entries_of c.args.so_far.now.blobs.entries) in
+pub read_walked-returns-in_ok-read_child-in-Broken-clause-under_way : goal.read_walked-returns-in_ok-read_child-in-Broken-clause-under_way
+read_walked-returns-in_ok-read_child-in-Broken-clause-under_way t c =
     broken_on c.args.reading.now c.args.so_far.now c.requires.under_way c.in-Broken.at c.in_ok-part.part.steps (chain_of c.read_part.new.stack.items)
     (block_of c.read_part.new.found) (subst (ReadsTo (row_in c.args.reading.now) (blocks_of c.args.reading.now) c.args.so_far.now.behind_child
     c.args.reading.now.docs_are_comments (chain_of c.args.so_far.now.stack.items) (chain_of c.read_part.new.stack.items) c.args.so_far.now.start
     c.args.reading.now.text.now c.in_ok-part.part.steps) c.in-Broken.is c.in_ok-part.ensures.reads)
     (c.in_ok-part.ensures.found c.in-Broken.at c.in-Broken.is) _
     (c.in_ok-so_far-in-Broken.ensures.ok ∙ ap (plus (sums_of c.args.so_far.now.own)) c.share_of.ensures)
-    (c.in_ok-add_blob-in-Broken.ensures.ok ∙ ap (λ s'. put old k.language (joined (at old k.language) (λ s. sum s s') s')) c.in_ok-read-in-Broken.ensures.reads)
-    refl (c.capped_sum-so_far.ensures ∙ ap (λ m. capped (c.args.so_far.now.inner_steps + m)) c.in_ok-read-in-Broken.ensures.steps)
+    c.in_ok-read_child-in-Broken.ensures.reads
+    refl (c.in_ok-read_child-in-Broken.ensures.steps ∙ sym (capped-right c.args.so_far.now.inner_steps (steps_inside c.args.reading.now (block_of c.read_part.new.found))))
     refl refl refl (c.in_ok-part.ensures.same ∙ c.requires.under_way.searched) c.requires.walked
 
 pub read_walked-overflow_sub-so_far : goal.read_walked-overflow_sub-so_far
@@ -344,25 +320,25 @@ read_walked-overflow_sub-so_far t c = child_within c.args.reading.now c.args.so_
     c.args.reading.now.text.now c.in_ok-part.part.steps) c.in-Broken.is c.in_ok-part.ensures.reads)
     (c.in_ok-part.ensures.found c.in-Broken.at c.in-Broken.is)
 
-pub read_walked-returns-in_ok-add_blob-in-Broken-clause-on : goal.read_walked-returns-in_ok-add_blob-in-Broken-clause-on
-read_walked-returns-in_ok-add_blob-in-Broken-clause-on t c = child_past c.args.reading.now c.args.so_far.now c.requires.under_way c.in-Broken.at c.in_ok-part.part.steps
+pub read_walked-returns-in_ok-read_child-in-Broken-clause-on : goal.read_walked-returns-in_ok-read_child-in-Broken-clause-on
+read_walked-returns-in_ok-read_child-in-Broken-clause-on t c = child_past c.args.reading.now c.args.so_far.now c.requires.under_way c.in-Broken.at c.in_ok-part.part.steps
     (chain_of c.read_part.new.stack.items) (block_of c.read_part.new.found)
     (subst (ReadsTo (row_in c.args.reading.now) (blocks_of c.args.reading.now) c.args.so_far.now.behind_child
     c.args.reading.now.docs_are_comments (chain_of c.args.so_far.now.stack.items) (chain_of c.read_part.new.stack.items) c.args.so_far.now.start
     c.args.reading.now.text.now c.in_ok-part.part.steps) c.in-Broken.is c.in_ok-part.ensures.reads)
     (c.in_ok-part.ensures.found c.in-Broken.at c.in-Broken.is)
 
-pub read_walked-returns-in_ok-so_far-in-Line-clause-on : goal.read_walked-returns-in_ok-so_far-in-Line-clause-on
-read_walked-returns-in_ok-so_far-in-Line-clause-on t c = walked_past c.args.reading.now c.args.so_far.now c.requires.under_way c.in-Line.class c.in-Line.behind c.in_ok-part.part.steps
+pub read_walked-returns-in_ok-add_line-in-Line-clause-on : goal.read_walked-returns-in_ok-add_line-in-Line-clause-on
+read_walked-returns-in_ok-add_line-in-Line-clause-on t c = walked_past c.args.reading.now c.args.so_far.now c.requires.under_way c.in-Line.class c.in-Line.behind c.in_ok-part.part.steps
     c.read_part.new.stack (subst (ReadsTo (row_in c.args.reading.now) (blocks_of c.args.reading.now) c.args.so_far.now.behind_child
     c.args.reading.now.docs_are_comments (chain_of c.args.so_far.now.stack.items) (chain_of c.read_part.new.stack.items) c.args.so_far.now.start
     c.args.reading.now.text.now c.in_ok-part.part.steps) c.in-Line.is c.in_ok-part.ensures.reads)
 
-pub read_walked-returns-in_ok-add_blob-in-Broken-clause-overflow : goal.read_walked-returns-in_ok-add_blob-in-Broken-clause-overflow
-read_walked-returns-in_ok-add_blob-in-Broken-clause-overflow t c = λ is fits. answered _ _ is
+pub read_walked-returns-in_ok-read_child-in-Broken-clause-overflow : goal.read_walked-returns-in_ok-read_child-in-Broken-clause-overflow
+read_walked-returns-in_ok-read_child-in-Broken-clause-overflow t c = λ is fits. answered _ _ is
 
-pub read_walked-returns-in_ok-so_far-in-Line-clause-overflow : goal.read_walked-returns-in_ok-so_far-in-Line-clause-overflow
-read_walked-returns-in_ok-so_far-in-Line-clause-overflow t c = λ is fits. answered _ _ is
+pub read_walked-returns-in_ok-add_line-in-Line-clause-overflow : goal.read_walked-returns-in_ok-add_line-in-Line-clause-overflow
+read_walked-returns-in_ok-add_line-in-Line-clause-overflow t c = λ is fits. answered _ _ is
 
 pub read_text-returns-clause-overflow : goal.read_text-returns-clause-overflow
 read_text-returns-clause-overflow t c = λ is fits. answered _ _ is
@@ -374,11 +350,11 @@ pub read_notebook-returns-then-levels-eq0-clause-overflow : goal.read_notebook-r
 read_notebook-returns-then-levels-eq0-clause-overflow t c = λ is fits. answered _ _ is
 
 pub read_text-skip_lines-requires : goal.read_text-skip_lines-requires
-read_text-skip_lines-requires t c = record { under_way = c.loop-so_far.invariant.under_way; known = c.loop-so_far.invariant.known }
+read_text-skip_lines-requires t c = record { under_way = c.loop-so_far.invariant.under_way; known = c.loop-so_far.invariant.known; line = c.loop-so_far.invariant.line }
 
 pub read_text-loop-so_far-smaller-in-Continue-branch-2 : goal.read_text-loop-so_far-smaller-in-Continue-branch-2
 read_text-loop-so_far-smaller-in-Continue-branch-2 t c = less_left (length c.args.text.now) c.loop-so_far.so_far.start c.read_walked.new.so_far.start c.loop-so_far-test.true
-    (goes_past c.loop-so_far.so_far.start c.skip_lines.new.so_far.start c.read_walked.new.so_far.start c.in_ok-clear.ensures.on c.in_ok-read_walked.ensures.on)
+    (goes_past c.loop-so_far.so_far.start c.skip_lines.new.so_far.start c.read_walked.new.so_far.start c.in_ok-end.ensures.on c.in_ok-read_walked.ensures.on)
 
 pub read_walked-overflow_add-so_far-in-Broken : goal.read_walked-overflow_add-so_far-in-Broken
 read_walked-overflow_add-so_far-in-Broken t c =
@@ -398,15 +374,15 @@ read_text-read_walked-requires t c = (
     (
       c.requires.indexed,
       (
-        c.in_ok-clear.ensures.under_way,
-        (c.if-so_far-text.true, (c.line_end-end.ensures, λ skipped. c.in_ok-clear.ensures.walked skipped c.if-so_far-text.true)),
+        c.in_ok-end.ensures.under_way,
+        (c.if-so_far-text.true, (c.in_ok-end.ensures.end, λ skipped. c.in_ok-end.ensures.walked skipped c.if-so_far-text.true)),
       ),
     ),
   ),
 )
 
-pub read_child-returns : goal.read_child-returns
-read_child-returns t c =
+pub read_child-returns-in_err-read-clause-overflow : goal.read_child-returns-in_err-read-clause-overflow
+read_child-returns-in_err-read-clause-overflow t c =
     let r = c.args.reading.now in
     let k : Block = block_of c.args.child.now in
     let inner_is : c.if-child.inner.now ≡ k.contents =
@@ -418,13 +394,64 @@ read_child-returns t c =
           ap (λ (b : Bor (List ℕ)). b.now) w.inner-is
           ∙ ap (λ (b : Bool). if b then trim (doc_text c.args.child.now.contents.now) else c.args.child.now.contents.now) (sym w.if-child.false)
     ] in
-    let e = c.read_text.ensures in
-    let same = child_by c.args.reader r k c.if-child.inner.now c.requires.reader c.requires.deep inner_is in record {
-      reads = subst (λ (s : Statistics). IfOk c.read_text.result (λ x. stats_of x.stats ≡ s)) same e.reads;
-      steps = subst (λ (n : ℕ). IfOk c.read_text.result (λ x. x.steps ≡ capped n))
-          (child_steps_by c.args.reader r k c.if-child.inner.now c.requires.reader c.requires.deep inner_is) e.steps;
-      overflow = λ is fits. e.overflow is (subst Fits (sym same) fits);
-    }
+    let same = child_by c.args.reader r k c.if-child.inner.now c.requires.reader c.requires.deep inner_is in
+    let p = err_from_is_err_and c.from_residual-in_err-read.result c.from_residual-in_err-read.ensures.1 in
+    rw (p.1, p.2) (λ is fits _. c.in_err-read.ensures.overflow (same_refusal _ _ is) (subst Fits (sym same) fits))
+
+pub read_child-returns-in_err-add_blob-clause-overflow : goal.read_child-returns-in_err-add_blob-clause-overflow
+read_child-returns-in_err-add_blob-clause-overflow t c =
+    let r = c.args.reading.now in
+    let k : Block = block_of c.args.child.now in
+    let inner_is : c.if-child.inner.now ≡ k.contents =
+    elim c.if-child.branch [
+      | read_child-then-child w ↦
+          ap (λ (b : Bor (List ℕ)). b.now) w.inner-is ∙ w.trim-inner.ensures ∙ ap trim (w.deref.ensures.value ∙ c.in_ok-doc.ensures w.if-child.true)
+          ∙ ap (λ (b : Bool). if b then trim (doc_text c.args.child.now.contents.now) else c.args.child.now.contents.now) (sym w.if-child.true)
+      | read_child-else-child w ↦
+          ap (λ (b : Bor (List ℕ)). b.now) w.inner-is
+          ∙ ap (λ (b : Bool). if b then trim (doc_text c.args.child.now.contents.now) else c.args.child.now.contents.now) (sym w.if-child.false)
+    ] in
+    let same = child_by c.args.reader r k c.if-child.inner.now c.requires.reader c.requires.deep inner_is in
+    let old : Blobs = blobs_of (entries_of c.args.blobs.now.entries) in
+    let p = err_from_is_err_and c.from_residual-in_err-add_blob.result c.from_residual-in_err-add_blob.ensures.1 in
+    rw (p.1, p.2) (λ is _ fits. c.in_err-add_blob.ensures.overflow (same_refusal _ _ is)
+    (subst (λ s. Fits (joined (at old k.language) (λ o. sum o s) s)) (sym (c.in_ok-read.ensures.reads ∙ same)) fits))
+
+pub read_child-returns-clause-reads : goal.read_child-returns-clause-reads
+read_child-returns-clause-reads t c =
+    let r = c.args.reading.now in
+    let k : Block = block_of c.args.child.now in
+    let inner_is : c.if-child.inner.now ≡ k.contents =
+    elim c.if-child.branch [
+      | read_child-then-child w ↦
+          ap (λ (b : Bor (List ℕ)). b.now) w.inner-is ∙ w.trim-inner.ensures ∙ ap trim (w.deref.ensures.value ∙ c.in_ok-doc.ensures w.if-child.true)
+          ∙ ap (λ (b : Bool). if b then trim (doc_text c.args.child.now.contents.now) else c.args.child.now.contents.now) (sym w.if-child.true)
+      | read_child-else-child w ↦
+          ap (λ (b : Bor (List ℕ)). b.now) w.inner-is
+          ∙ ap (λ (b : Bool). if b then trim (doc_text c.args.child.now.contents.now) else c.args.child.now.contents.now) (sym w.if-child.false)
+    ] in
+    let same = child_by c.args.reader r k c.if-child.inner.now c.requires.reader c.requires.deep inner_is in
+    let old : Blobs = blobs_of (entries_of c.args.blobs.now.entries) in
+    c.in_ok-add_blob.ensures.ok ∙ ap (λ s'. put old k.language (joined (at old k.language) (λ s. sum s s') s')) (c.in_ok-read.ensures.reads ∙ same)
+
+pub read_child-returns-clause-steps : goal.read_child-returns-clause-steps
+read_child-returns-clause-steps t c =
+    let r = c.args.reading.now in
+    let k : Block = block_of c.args.child.now in
+    let inner_is : c.if-child.inner.now ≡ k.contents =
+    elim c.if-child.branch [
+      | read_child-then-child w ↦
+          ap (λ (b : Bor (List ℕ)). b.now) w.inner-is ∙ w.trim-inner.ensures ∙ ap trim (w.deref.ensures.value ∙ c.in_ok-doc.ensures w.if-child.true)
+          ∙ ap (λ (b : Bool). if b then trim (doc_text c.args.child.now.contents.now) else c.args.child.now.contents.now) (sym w.if-child.true)
+      | read_child-else-child w ↦
+          ap (λ (b : Bor (List ℕ)). b.now) w.inner-is
+          ∙ ap (λ (b : Bool). if b then trim (doc_text c.args.child.now.contents.now) else c.args.child.now.contents.now) (sym w.if-child.false)
+    ] in
+    let made = child_steps_by c.args.reader r k c.if-child.inner.now c.requires.reader c.requires.deep inner_is in
+    c.capped_sum.ensures ∙ ap (λ m. capped (c.args.steps.now + m)) (c.in_ok-read.ensures.steps ∙ ap capped made) ∙ capped-right c.args.steps.now (steps_inside r k)
+
+pub read_child-returns-clause-overflow : goal.read_child-returns-clause-overflow
+read_child-returns-clause-overflow t c = λ is fits _. answered _ _ is
 
 pub read_text-of-matchers-requires : goal.read_text-of-matchers-requires
 read_text-of-matchers-requires t c =

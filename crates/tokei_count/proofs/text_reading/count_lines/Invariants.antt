@@ -1,5 +1,8 @@
-use Rattle.std.proofs.Common.{◌-◌, ◌≡◌, ◌+◌, ◌≤◌, drop}
+use Rattle.std.proofs.Common.{ℕ, ◌-◌, ◌≡◌, ◌+◌, ◌<◌, ◌≤◌, true, drop}
+use Rattle.std.specs.Prelude.{slice_index}
+use Rattle.tokei_table.specs.Bytes.{is_blank}
 use Rattle.tokei_parts.specs.Glance.{opener_place}
+use Rattle.tokei_parts.specs.Lines.{line_len}
 use Rattle.tokei_parts.specs.ReadingOf.{openers_in}
 use Rattle.tokei_count.specs.UnderWay.{IsUnderWay}
 use Rattle.tokei_stats.specs.Seen.{sums_of}
@@ -12,6 +15,9 @@ invariant-loop-at l = record {
   under_way : IsUnderWay l.reading (gone_on l.so_far l.lines l.at);
   few : l.so_far.start + lines_of (sums_of l.lines) ≤ l.at;
   high : l.at ≤ l.next;
+  line : l.end ≡ l.at + line_len (drop l.at l.reading.text.now);
+  low : l.at ≤ l.solid;
+  blank : (p : ℕ) → l.at ≤ p → p < l.solid → is_blank (slice_index l.reading.text.now p) ≡ true;
   next : l.next ≡ l.at + opener_place (openers_in l.reading) (drop l.at l.reading.text.now);
 }
 

@@ -3,10 +3,11 @@ use Rattle.std.specs.Global.{Vec}
 use Rattle.tokei_parts.specs.Modes.{innermost}
 use Rattle.tokei_parts.specs.Seen.{chain_of}
 use Rattle.tokei_parts.specs.SeenChoices.{mode_of}
+use Rattle.tokei_parts.proofs.LineEnds.{end_is, end_later, end_within}
 use Rattle.tokei_parts.specs.declared.items.Enclosure.{Enclosure}
 use Rattle.tokei_count.specs.NoComments.{has_no_comments}
 use Rattle.tokei_count.proofs.Refusals.{answered}
-use Rattle.tokei_count.proofs.Skipping.{ends_above, ends_by, ends_known, ends_walked, ends_with, goes_from, goes_on, no_chain, no_item, one_way, stays, stays_below, walked_within}
+use Rattle.tokei_count.proofs.Skipping.{ends_above, ends_here, ends_known, ends_over, ends_walked, goes_from, goes_on, no_chain, no_item, one_way, stays, stays_below, walked_within}
 use Rattle.tokei_count.proofs.StepReading.{knows_later}
 use Rattle.tokei_count.proofs.UnderWay.{walked_behind}
 use Rattle.tokei_count.proofs.text_reading.skip_lines.Goals as goal
@@ -16,8 +17,7 @@ returns-then-not-reading c = record {
   under_way = c.requires.under_way;
   known = c.requires.known;
   on = stays _;
-  low = stays _;
-  clear = stays_below _ _;
+  end = c.line_end.ensures;
   walked = λ skipped some. absurd (one_way _ skipped c.if-not-reading.true);
   quiet = λ skipped none. refl;
   overflow = λ is fits. answered _ _ is;
@@ -28,8 +28,7 @@ returns-then-item-lt2 c = record {
   under_way = c.requires.under_way;
   known = c.requires.known;
   on = stays _;
-  low = stays _;
-  clear = stays_below _ _;
+  end = c.line_end-then-item-lt2.ensures;
   walked = λ skipped some. walked_within _ _ _ _ (c.in-Some.ensures ∙ ap (λ (s : List Enclosure). innermost (chain_of s)) c.deref.ensures.value) refl;
   quiet = λ skipped none. refl;
   overflow = λ is fits. answered _ _ is;
@@ -40,8 +39,7 @@ returns-then-to-so_far c = record {
   under_way = c.requires.under_way;
   known = c.requires.known;
   on = stays _;
-  low = stays _;
-  clear = stays_below _ _;
+  end = c.line_end-then-to-so_far.ensures;
   walked = λ skipped some. walked_within _ _ _ _ (c.in-Some.ensures ∙ ap (λ (s : List Enclosure). innermost (chain_of s)) c.deref.ensures.value) refl;
   quiet = λ skipped none. refl;
   overflow = λ is fits. answered _ _ is;
@@ -87,12 +85,25 @@ returns-in-Some c =
       under_way = e.under_way;
       known = knows_later _ c.args.reading.now.text.now start c.count_within.new.so_far.start c.args.next.now low c.requires.known;
       on = low;
-      low = e.high;
-      clear = e.clear;
+      end = c.line_end-in-Some.ensures;
       walked = λ skipped some. walked_within _ _ _ _ (c.in-Some.ensures ∙ ap (λ (s : List Enclosure). innermost (chain_of s)) c.deref.ensures.value
           ∙ ap (λ (v : Vec Enclosure). innermost (chain_of v.items)) (sym (e.same ∙ first.same))) refl;
       quiet = λ skipped none. refl;
       overflow = λ is fits. answered _ _ is;
+    }
+
+pub line_end-requires-in-Some : goal.line_end-requires-in-Some
+line_end-requires-in-Some c =
+    let text : List ℕ = c.args.reading.now.text.now in
+    let start : ℕ = c.args.so_far.now.start in
+    let first = c.in_ok-count_lines_within.ensures in
+    let e = c.in_ok-count_within.ensures in
+    let low : start ≤ c.count_within.new.so_far.start = goes_on start c.count_lines_within.new.so_far.start c.count_within.new.so_far.start first.low e.low in record {
+      start = e.under_way.within;
+      known = λ high. end_later text start c.count_within.new.so_far.start c.args.end low
+          (c.requires.line (goes_on start c.count_within.new.so_far.start c.args.end low high)) high;
+      behind = e.high;
+      clear = e.clear;
     }
 
 pub next_opener-to-requires : goal.next_opener-to-requires
@@ -119,8 +130,7 @@ returns-then-has_no_comments c =
       under_way = e.under_way;
       known = ends_known _ c.args.reading.now.text.now at to e.end c.if-to-reading.true;
       on = ends_above c.args.so_far.now.start at n c.requires.under_way.within e.end;
-      low = ends_with at to n e.end c.if-to-reading.true;
-      clear = ends_by to at n _ c.if-to-reading.true e.end;
+      end = ends_here c.args.reading.now.text.now at to e.end c.if-to-reading.true;
       walked = λ skipped some. ends_walked at n _ e.end some;
       quiet = λ skipped none. refl;
       overflow = λ is fits. answered _ _ is;
@@ -136,6 +146,38 @@ count_clear_lines-requires c = record {
   within = c.next_opener-to.ensures.within;
 }
 
+pub line_end-end-requires : goal.line_end-end-requires
+line_end-end-requires c =
+    let e = c.in_ok-count_clear_lines.ensures in
+    let text : List ℕ = c.args.reading.now.text.now in
+    let start : ℕ = c.args.so_far.now.start in record {
+      start = e.under_way.within;
+      known = λ high. end_later text start c.count_clear_lines.new.so_far.start c.args.end e.low
+          (c.requires.line (goes_on start c.count_clear_lines.new.so_far.start c.args.end e.low high)) high;
+      behind = stays _;
+      clear = stays_below _ _;
+    }
+
+pub line_stop-requires : goal.line_stop-requires
+line_stop-requires c = end_within c.args.reading.now.text.now c.count_clear_lines.new.so_far.start c.line_end-end.result
+    c.in_ok-count_clear_lines.ensures.under_way.within c.line_end-end.ensures
+
+pub returns-then-to-line_stop : goal.returns-then-to-line_stop
+returns-then-to-line_stop c =
+    let text : List ℕ = c.args.reading.now.text.now in
+    let at : ℕ = c.count_clear_lines.new.so_far.start in
+    let e = c.in_ok-count_clear_lines.ensures in record {
+      under_way = e.under_way;
+      known = λ low. e.next;
+      on = e.low;
+      end = c.line_end-end.ensures;
+      walked = λ skipped some. walked_behind c.args.reading.now c.count_clear_lines.new.so_far c.next_opener-to.result e.under_way e.plain e.next
+          (ends_over c.next_opener-to.result c.line_stop.result _ c.if-to-line_stop.true
+          (end_is text at c.line_end-end.result c.line_stop.result e.under_way.within c.line_end-end.ensures c.line_stop.ensures.more c.line_stop.ensures.last));
+      quiet = λ skipped none. refl;
+      overflow = λ is fits. answered _ _ is;
+    }
+
 pub count_lines-requires : goal.count_lines-requires
 count_lines-requires c =
     let e = c.in_ok-count_clear_lines.ensures in record {
@@ -144,17 +186,17 @@ count_lines-requires c =
       plain = e.plain;
       next = e.next;
       within = c.next_opener-to.ensures.within;
+      first = c.line_end-end.ensures;
     }
 
 pub returns : goal.returns
 returns c =
     let first = c.in_ok-count_clear_lines.ensures in
-    let e = c.in_ok-count_lines.ensures in record {
+    let e = c.in_ok-end.ensures in record {
       under_way = e.under_way;
       known = λ low. e.next;
       on = goes_on c.args.so_far.now.start c.count_clear_lines.new.so_far.start c.count_lines.new.so_far.start first.low e.low;
-      low = e.high;
-      clear = e.clear;
+      end = e.end;
       walked = λ skipped some. walked_behind c.args.reading.now c.count_lines.new.so_far c.next_opener-to.result e.under_way e.plain e.next (e.more some);
       quiet = λ skipped none. refl;
       overflow = λ is fits. answered _ _ is;
