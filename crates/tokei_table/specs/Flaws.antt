@@ -62,7 +62,7 @@ TellsFallback rows flaw = flaw.cause ≡ Fallback
     × (holds (needed_keys (family_of r.key)) (string_bytes flaw.word) ≡ true)) rows
     × (has_key rows (string_bytes flaw.word) ≡ false)
 
--- A flaw tells of the rows what goes with its cause, for which the outcome is a refusal.
+-- The outcome is a refusal for the flaw's cause, and of the rows the flaw tells what goes with it.
 pub record Tells (outcome : Result (List Row) TableError) (rows : List Row) (flaw : TableFlaw) : Type 0 where
   pub cause : outcome ≡ Err flaw.cause
   pub token : TellsToken rows flaw

@@ -218,6 +218,7 @@ fn row_flaw(alloc: Global, rows: &[Syntax]) -> Result<Option<TableFlaw>, AllocEr
         Err(TableError::NamedTwice) => name_flaw(alloc, rows),
         Err(TableError::NamedTotal) => total_flaw(alloc, rows),
         Err(TableError::Fallback) => fallback_flaw(alloc, rows),
+        // Rows are refused for no other cause.
         Err(_) => Err(AllocError),
     }
 }

@@ -7,3 +7,6 @@ loop-place-preserved c = grind (arith, common_steps)
 
 pub returns : goal.returns
 returns c = grind (arith, common_steps)
+
+pub loop-place-init : goal.loop-place-init
+loop-place-init c = grind (arith, common_steps)
