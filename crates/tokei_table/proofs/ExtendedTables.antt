@@ -1,6 +1,6 @@
 -- Further extensions leave a table well formed.
-use Rattle.std.proofs.Common.{◌≡◌, ℕ, ◌+◌, List, [], ◌∷◌, ◌++◌, refl, sym, ◌∙◌, ap, subst}
-use Rattle.std.proofs.lemmas.List.{append-nil}
+use Rattle.std.proofs.Common.{◌≡◌, ℕ, ◌+◌, ◌<◌, List, [], ◌∷◌, ◌++◌, length, map, drop, get_or, refl, sym, ◌∙◌, ap, subst, append_assoc}
+use Rattle.std.proofs.lemmas.List.{append-nil, map-append}
 use Rattle.std.specs.List.Sorted.{IsStrictlySortedBy}
 use Rattle.std.specs.Ordering.{nat_cmp}
 use Rattle.std.specs.Cmp.Lexicographic.{slice_cmp}
@@ -9,11 +9,31 @@ use Rattle.tokei_table_rules.specs.Extended.{gained, listed_for, extended_from, 
 use Rattle.tokei_table_json.specs.KeyOrder.{keys_of}
 use Rattle.tokei_table_row.specs.Row.{Row}
 use Rattle.tokei_table.specs.WellFormed.{IsWellFormed}
+use Rattle.tokei_table.proofs.Flaws.{drop_here}
 
 module _ (adds : List (ℕ × List (List ℕ))) where
   same_keys : (rs : List Row) (n : ℕ) (known : List (List ℕ)) → keys_of (extended_from n known adds rs) ≡ keys_of rs
   same_keys [] n known = refl
   same_keys (r ∷ rs) n known = ap (λ ks. r.key ∷ ks) (same_keys rs (n + 1) (known ++ gained known (listed_for n adds)))
+
+  -- a step of a loop that extends rows
+  pub one_more : {X : Type 0} (view : X → Row) (done xs : List X) (i : ℕ) (x extended_row : X) → i < length xs → x ≡ get_or xs i x
+      → (known new_known : List (List ℕ)) (new : List X) (whole : List Row)
+      → view extended_row ≡ with_extensions (view x) (gained known (listed_for i adds))
+      → new_known ≡ known ++ gained known (listed_for i adds)
+      → new ≡ done ++ extended_row ∷ []
+      → map view done ++ extended_from i known adds (map view (drop i xs)) ≡ whole
+      → map view new ++ extended_from (i + 1) new_known adds (map view (drop (i + 1) xs)) ≡ whole
+  one_more view done xs i x extended_row l at known new_known new whole row more pushed kept =
+      let behind = λ (ks : List (List ℕ)). extended_from (i + 1) ks adds (map view (drop (i + 1) xs)) in
+      let all = known ++ gained known (listed_for i adds) in
+      ap (λ ks. map view new ++ behind ks) more
+      ∙ ap (λ ys. map view ys ++ behind all) pushed
+      ∙ ap (λ rs. rs ++ behind all) (map-append view done (extended_row ∷ []))
+      ∙ append_assoc (map view done) (view extended_row ∷ []) (behind all)
+      ∙ ap (λ r. map view done ++ r ∷ behind all) row
+      ∙ ap (λ ys. map view done ++ extended_from i known adds (map view ys)) (sym (drop_here view xs i x l at))
+      ∙ kept
 
   pub extended_well_formed : (rs : List Row) → IsWellFormed rs → IsWellFormed (extended rs adds)
   extended_well_formed rs w =

@@ -2,12 +2,22 @@
 use Rattle.std.proofs.Common.{◌≡◌, ℕ, zero, suc, ◌+◌, ◌<◌, ◌≤◌, Bool, true, false, not, ◌&&◌, List, [], ◌∷◌, map, length, take, drop, get_or, refl, ap, sym, ◌∙◌, add-one, drop-cons, arith}
 use Rattle.std.proofs.lemmas.List.{drop_all, length-map, length-take-le, take-map, get_or-map, get_or-take}
 use Rattle.std.proofs.lemmas.List.Folds.{list_any_at}
+use Rattle.std.proofs.Common.{Option, Result, Ok, Err, string_bytes, is_some, is_err, if◌then◌else◌}
+use Rattle.std.proofs.lemmas.Result.{IfOk-weaker}
+use Rattle.std.specs.declared.alloc.AllocError.{AllocError}
 use Rattle.std.specs.List.{Any, list_any, list_all}
+use Rattle.std.specs.Result.{IfOk}
 use Rattle.tokei_table_row.specs.NewRow.{new_row}
 use Rattle.tokei_table_row.specs.Row.{Row}
 use Rattle.tokei_table_rules.specs.Lookups.{row_at, has_name}
-use Rattle.tokei_table_rules.specs.RowNames.{shares_name, shares_earlier, NamesBoth}
-use Rattle.tokei_table_rules.specs.Tokens.{member_has_tokens, HasBadToken}
+use Rattle.tokei_table_rules.specs.RowNames.{shares_name, shares_earlier, names_twice, is_total, NamesBoth}
+use Rattle.tokei_table_rules.specs.Fallbacks.{has_fallbacks}
+use Rattle.tokei_table_rules.specs.Tokens.{has_tokens, member_has_tokens, HasBadToken}
+use Rattle.tokei_table.specs.Outcome.{tested}
+use Rattle.tokei_table.specs.Flaws.{Tells, TellsFallback}
+use Rattle.tokei_table.specs.declared.error.TableError.{TableError}
+use Rattle.tokei_table.specs.declared.error.TableError.TheVariants.{Token, NamedTwice, NamedTotal, Fallback}
+use Rattle.tokei_table.specs.declared.flaw.TableFlaw.{TableFlaw}
 
 module _ {X : Type 0} (view : X → Row) where
   at_map : (xs : List X) (i : ℕ) (x : X) → i < length xs → x ≡ get_or xs i x → get_or (map view xs) i (view x) ≡ view x
@@ -24,7 +34,7 @@ module _ {X : Type 0} (view : X → Row) where
   pub row_told : (P : Row → Type 0) (xs : List X) (i : ℕ) (x : X) → i < length xs → x ≡ get_or xs i x → P (view x) → Any P (map view xs)
   row_told P xs i x l at p = (i, view x, omega (arith, l, length-map xs view), at_map xs i x l at, p)
 
-  drop_here : (xs : List X) (i : ℕ) (x : X) → i < length xs → x ≡ get_or xs i x → drop i xs ≡ x ∷ drop (i + 1) xs
+  pub drop_here : (xs : List X) (i : ℕ) (x : X) → i < length xs → x ≡ get_or xs i x → drop i xs ≡ x ∷ drop (i + 1) xs
   drop_here xs i x l at = drop-cons xs i x l ∙ ap (λ y. y ∷ drop (suc i) xs) (sym at) ∙ ap (λ n. x ∷ drop n xs) (sym (add-one i))
 
   row_here : (xs : List X) (i : ℕ) (x : X) → i < length xs → x ≡ get_or xs i x → row_at (map view xs) i ≡ view x
@@ -89,3 +99,95 @@ unrefused false e = e
 pub refused : (b : Bool) → true ≡ not b → b ≡ false
 refused true e = e
 refused false e = refl
+
+-- what each cause leaves to be told
+module _ (rows : List Row) (f : TableFlaw) where
+  pub tells_token : f.cause ≡ Token → HasBadToken rows (string_bytes f.language) (string_bytes f.word) → Tells (Err Token) rows f
+  tells_token e t = record {
+    cause = ap Err (sym e);
+    token = λ n. t;
+    name = λ n. absurd (cc);
+    total = λ n. absurd (cc);
+    fallback = λ n. absurd (cc);
+  }
+
+  pub tells_name : f.cause ≡ NamedTwice
+      → NamesBoth rows (string_bytes f.word) (string_bytes f.language) (string_bytes f.other) → Tells (Err NamedTwice) rows f
+  tells_name e t = record {
+    cause = ap Err (sym e);
+    token = λ n. absurd (cc);
+    name = λ n. t;
+    total = λ n. absurd (cc);
+    fallback = λ n. absurd (cc);
+  }
+
+  pub tells_total : f.cause ≡ NamedTotal
+      → Any (λ r. (r.key ≡ string_bytes f.language) × (is_total r ≡ true)) rows → Tells (Err NamedTotal) rows f
+  tells_total e t = record {
+    cause = ap Err (sym e);
+    token = λ n. absurd (cc);
+    name = λ n. absurd (cc);
+    total = λ n. t;
+    fallback = λ n. absurd (cc);
+  }
+
+  pub tells_fallback : f.cause ≡ Fallback → TellsFallback rows f → Tells (Err Fallback) rows f
+  tells_fallback e t = record {
+    cause = ap Err (sym e);
+    token = λ n. absurd (cc);
+    name = λ n. absurd (cc);
+    total = λ n. absurd (cc);
+    fallback = t;
+  }
+
+-- what `tested` answers, and what rows have that are refused for each cause
+abbrev tested_by : (tokens names total fallbacks : Bool) → List Row → Result (List Row) TableError
+tested_by tokens names total fallbacks rows =
+    if not tokens then Err Token
+    else (if names then Err NamedTwice
+    else (if total then Err NamedTotal
+    else (if not fallbacks then Err Fallback
+    else Ok rows)))
+
+twice : (t n o f : Bool) (rows : List Row) → tested_by t n o f rows ≡ Err NamedTwice → n ≡ true
+twice false n o f rows e = absurd (cc)
+twice true true o f rows e = refl
+twice true false true f rows e = absurd (cc)
+twice true false false false rows e = absurd (cc)
+twice true false false true rows e = absurd (cc)
+
+total : (t n o f : Bool) (rows : List Row) → tested_by t n o f rows ≡ Err NamedTotal → o ≡ true
+total false n o f rows e = absurd (cc)
+total true true o f rows e = absurd (cc)
+total true false true f rows e = refl
+total true false false false rows e = absurd (cc)
+total true false false true rows e = absurd (cc)
+
+lacking : (t n o f : Bool) (rows : List Row) → tested_by t n o f rows ≡ Err Fallback → not f ≡ true
+lacking false n o f rows e = absurd (cc)
+lacking true true o f rows e = absurd (cc)
+lacking true false true f rows e = absurd (cc)
+lacking true false false false rows e = refl
+lacking true false false true rows e = absurd (cc)
+
+module _ (rows : List Row) where
+  pub refused_twice : tested rows ≡ Err NamedTwice → names_twice rows ≡ true
+  unfolding tested
+  refused_twice e =
+      twice (list_all has_tokens rows) (names_twice rows) (list_any is_total rows) (list_all (has_fallbacks rows) rows) rows e
+
+  pub refused_total : tested rows ≡ Err NamedTotal → list_any is_total rows ≡ true
+  unfolding tested
+  refused_total e =
+      total (list_all has_tokens rows) (names_twice rows) (list_any is_total rows) (list_all (has_fallbacks rows) rows) rows e
+
+  pub refused_fallback : tested rows ≡ Err Fallback → not (list_all (has_fallbacks rows) rows) ≡ true
+  unfolding tested
+  refused_fallback e =
+      lacking (list_all has_tokens rows) (names_twice rows) (list_any is_total rows) (list_all (has_fallbacks rows) rows) rows e
+
+-- where rows are refused, a flaw is found that the refusal is for
+pub found_refused : (r : Result (Option TableFlaw) AllocError) (b : Bool) (rows : List Row) (cause : TableError) → tested rows ≡ Err cause
+    → b ≡ true → IfOk r (λ o. is_some o ≡ b) → IfOk r (λ o. is_some o ≡ is_err (tested rows))
+found_refused r b rows cause e is found =
+    IfOk-weaker r (λ o. is_some o ≡ b) (λ o. is_some o ≡ is_err (tested rows)) (λ o same. same ∙ is ∙ sym (ap is_err e)) found

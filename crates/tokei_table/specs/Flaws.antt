@@ -1,6 +1,6 @@
 -- What is told of a refused table: which language goes wrong, and by what.
 use Rattle.std.specs.Prelude.{◌≡◌, ℕ, Bool, true, false, List, [], codes, string_bytes, if◌then◌else◌}
-use Rattle.std.specs.Prelude.{Option, Some, None, is_err}
+use Rattle.std.specs.Prelude.{Option, Some, None, Result, Err, is_err}
 use Rattle.std.specs.List.{Any}
 use Rattle.serde_json.specs.Data.{Data}
 use Rattle.serde_json.specs.Find.{get}
@@ -14,6 +14,7 @@ use Rattle.tokei_table_rules.specs.Families.{family_of, needed_keys}
 use Rattle.tokei_table_rules.specs.RowNames.{NamesBoth, is_total}
 use Rattle.tokei_table_rules.specs.Tokens.{HasBadToken}
 use Rattle.tokei_table.specs.Outcome.{data_of, outcome_of_value}
+use Rattle.tokei_table.specs.declared.error.TableError.{TableError}
 use Rattle.tokei_table.specs.declared.error.TableError.TheVariants.{Token, NamedTwice, NamedTotal, Fallback}
 use Rattle.tokei_table.specs.declared.flaw.TableFlaw.{TableFlaw}
 
@@ -29,6 +30,13 @@ rows_in_data (Some d) = rows_in_value d
 -- The rows of a table's bytes.
 abbrev pub rows_in : List ℕ → List Row
 rows_in bytes = rows_in_data (data_of bytes)
+
+-- The flaw has this cause, language and word, and no other language.
+pub record IsFlaw (why : TableError) (key text : List ℕ) (flaw : TableFlaw) : Type 0 where
+  pub cause : flaw.cause ≡ why
+  pub language : string_bytes flaw.language ≡ key
+  pub word : string_bytes flaw.word ≡ text
+  pub other : string_bytes flaw.other ≡ []
 
 -- Where the flaw is a token, its language is one of the rows and has a bad token in that member.
 abbrev pub TellsToken : List Row → TableFlaw → Type 0
@@ -53,6 +61,14 @@ TellsFallback rows flaw = flaw.cause ≡ Fallback
     → Any (λ r. (r.key ≡ string_bytes flaw.language)
     × (holds (needed_keys (family_of r.key)) (string_bytes flaw.word) ≡ true)) rows
     × (has_key rows (string_bytes flaw.word) ≡ false)
+
+-- The outcome is a refusal for the flaw's cause, and of the rows the flaw tells what goes with it.
+pub record Tells (outcome : Result (List Row) TableError) (rows : List Row) (flaw : TableFlaw) : Type 0 where
+  pub cause : outcome ≡ Err flaw.cause
+  pub token : TellsToken rows flaw
+  pub name : TellsName rows flaw
+  pub total : TellsTotal rows flaw
+  pub fallback : TellsFallback rows flaw
 
 -- Whether a language keeps the value from being a table: where the value has no layout, one of its
 -- languages has none; else the table is refused.

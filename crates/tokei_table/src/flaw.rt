@@ -1,39 +1,35 @@
 //! Where the text of a refused table goes wrong.
-ghost use Rattle.std.specs.Prelude.{◌≡◌, ◌<◌, not, Err, map, [], length, codes, string_bytes};
+ghost use Rattle.std.specs.Prelude.{◌≡◌, ◌<◌, not, Err, map, length};
 ghost use Rattle.std.specs.Prelude.{is_some, is_err, IfOk, IfSome};
 ghost use Rattle.std.specs.List.{list_all, list_any};
 ghost use Rattle.json.specs.Value.{value_view};
-ghost use Rattle.serde_json.specs.Find.{get};
 ghost use Rattle.serde_json.specs.Read.{read as read_text};
 ghost use Rattle.serde_json.specs.Written.{has_float};
 ghost use Rattle.tokei_json_tree.specs.Ordered.{IsOrdered};
 ghost use Rattle.tokei_json_tree.specs.TreeData.{data_of as tree_data};
-ghost use Rattle.tokei_table.specs.Flaws.{TellsToken, TellsName, TellsTotal, TellsFallback};
+ghost use Rattle.tokei_table.specs.Flaws.{IsFlaw, Tells, TellsToken, TellsName, TellsTotal, TellsFallback};
 ghost use Rattle.tokei_table.specs.Flaws.{rows_in, rows_in_data, rows_in_value};
 ghost use Rattle.tokei_table.specs.Flaws.{is_flawed_value, is_flawed_data, is_flawed};
 ghost use Rattle.tokei_table.specs.Outcome.{outcome, outcome_of, outcome_of_value, tested};
-ghost use Rattle.tokei_table_json.specs.Escaped.{is_escaped_table};
-ghost use Rattle.tokei_table_json.specs.Misfits.{has_unfit_language};
+ghost use Rattle.tokei_table_json.specs.KeyOrder.{IsInKeyOrder};
 ghost use Rattle.tokei_table_row.specs.RowOf.{row_of};
 ghost use Rattle.tokei_table_rules.specs.Fallbacks.{has_fallbacks};
 ghost use Rattle.tokei_table_rules.specs.RowNames.{is_total, names_twice, shares_earlier};
 ghost use Rattle.tokei_table_rules.specs.Tokens.{has_tokens};
-ghost use Rattle.tokei_table.specs.declared.error.TableError.TheVariants.{Layout, Escape, Token};
-ghost use Rattle.tokei_table.specs.declared.error.TableError.TheVariants.{NamedTwice, NamedTotal, Fallback};
+ghost use Rattle.tokei_table.specs.declared.error.TableError.TheVariants.{Token, NamedTwice, NamedTotal};
+ghost use Rattle.tokei_table.specs.declared.error.TableError.TheVariants.{Fallback};
 
 use crate::error::TableError;
-use crate::table::text_of;
+use crate::table::{test, text_of};
 use std::alloc::{AllocError, Global};
 use std::fmt;
-use tokei_json_tree::{ReadError, Reading, Room, Tree, read};
+use tokei_json_tree::{ReadError, Reading, Room, read};
 use tokei_table_json::{
     has_layout, is_escaped_table, misescaped_language, rows_of, unfit_language,
 };
 use tokei_table_row::Syntax;
-use tokei_table_rules::names::{names_twice, second_of_name, shared_name};
-use tokei_table_rules::well_formed::{
-    all_have_fallbacks, all_have_tokens, bad_member, is_total, missing_key, names_total,
-};
+use tokei_table_rules::names::{second_of_name, shared_name};
+use tokei_table_rules::well_formed::{bad_member, is_total, missing_key};
 
 /// Where the text of a refused table goes wrong.
 #[derive(Debug, Drop)]
@@ -115,10 +111,7 @@ fn flaw(
     language: &str,
     word: &str,
 ) -> Result<TableFlaw, AllocError>
-    ensures cause { IfOk result (λ f. f.cause ≡ cause) }
-    ensures language { IfOk result (λ f. string_bytes f.language ≡ language.now) }
-    ensures word { IfOk result (λ f. string_bytes f.word ≡ word.now) }
-    ensures other { IfOk result (λ f. string_bytes f.other ≡ []) }
+    ensures { IfOk result (IsFlaw cause language.now word.now) }
 {
     let language = String::from_str(alloc, language)?;
     let word = String::from_str(alloc, word)?;
@@ -140,34 +133,16 @@ fn misfit(
     ensures found { IfOk result (λ o. is_some o ≡ is_some found.entry) }
 {
     match found {
-        Some((language, Some(member))) => Ok(Some(flaw(alloc, cause, language, member)?)),
-        Some((language, None)) => Ok(Some(flaw(alloc, cause, language, "")?)),
+        Some((language, member)) => {
+            Ok(Some(flaw(alloc, cause, language, member.unwrap_or(""))?))
+        }
         None => Ok(None),
     }
 }
 
-fn layout_flaw(alloc: Global, table: &Tree<'_>) -> Result<Option<TableFlaw>, AllocError>
-    requires { IsOrdered (value_view table.now) }
-    ensures cause { IfOk result (λ o. IfSome o (λ f. f.cause ≡ Layout)) }
-    ensures found { IfOk result (λ o. is_some o
-        ≡ has_unfit_language (get (codes "languages") (tree_data (value_view table.now)))) }
-{
-    misfit(alloc, TableError::Layout, unfit_language(table))
-}
-
-fn escape_flaw(alloc: Global, table: &Tree<'_>) -> Result<Option<TableFlaw>, AllocError>
-    requires { IsOrdered (value_view table.now) }
-    ensures cause { IfOk result (λ o. IfSome o (λ f. f.cause ≡ Escape)) }
-    ensures found { IfOk result (λ o. is_some o
-        ≡ not (is_escaped_table (get (codes "languages") (tree_data (value_view table.now))))) }
-{
-    misfit(alloc, TableError::Escape, misescaped_language(table))
-}
-
 fn token_flaw(alloc: Global, rows: &[Syntax]) -> Result<Option<TableFlaw>, AllocError>
-    ensures cause { IfOk result (λ o. IfSome o (λ f. f.cause ≡ Token)) }
     ensures found { IfOk result (λ o. is_some o ≡ not (list_all has_tokens (map row_of rows.now))) }
-    ensures token { IfOk result (λ o. IfSome o (TellsToken (map row_of rows.now))) }
+    ensures tells { IfOk result (λ o. IfSome o (Tells (Err Token) (map row_of rows.now))) }
 {
     for row in rows {
         if let Some(member) = bad_member(row) {
@@ -180,9 +155,8 @@ fn token_flaw(alloc: Global, rows: &[Syntax]) -> Result<Option<TableFlaw>, Alloc
 /// The flaw of a name that the row at that place shares with one before it.
 fn clash(alloc: Global, rows: &[Syntax], place: usize) -> Result<Option<TableFlaw>, AllocError>
     requires { place < length rows.now }
-    ensures cause { IfOk result (λ o. IfSome o (λ f. f.cause ≡ NamedTwice)) }
     ensures found { IfOk result (λ o. is_some o ≡ shares_earlier (map row_of rows.now) place) }
-    ensures name { IfOk result (λ o. IfSome o (TellsName (map row_of rows.now))) }
+    ensures tells { IfOk result (λ o. IfSome o (Tells (Err NamedTwice) (map row_of rows.now))) }
 {
     let row = &rows[place];
     for earlier in &rows[..place] {
@@ -196,9 +170,8 @@ fn clash(alloc: Global, rows: &[Syntax], place: usize) -> Result<Option<TableFla
 }
 
 fn name_flaw(alloc: Global, rows: &[Syntax]) -> Result<Option<TableFlaw>, AllocError>
-    ensures cause { IfOk result (λ o. IfSome o (λ f. f.cause ≡ NamedTwice)) }
     ensures found { IfOk result (λ o. is_some o ≡ names_twice (map row_of rows.now)) }
-    ensures name { IfOk result (λ o. IfSome o (TellsName (map row_of rows.now))) }
+    ensures tells { IfOk result (λ o. IfSome o (Tells (Err NamedTwice) (map row_of rows.now))) }
 {
     match second_of_name(alloc, rows)? {
         Some(place) => clash(alloc, rows, place),
@@ -207,9 +180,8 @@ fn name_flaw(alloc: Global, rows: &[Syntax]) -> Result<Option<TableFlaw>, AllocE
 }
 
 fn total_flaw(alloc: Global, rows: &[Syntax]) -> Result<Option<TableFlaw>, AllocError>
-    ensures cause { IfOk result (λ o. IfSome o (λ f. f.cause ≡ NamedTotal)) }
     ensures found { IfOk result (λ o. is_some o ≡ list_any is_total (map row_of rows.now)) }
-    ensures total { IfOk result (λ o. IfSome o (TellsTotal (map row_of rows.now))) }
+    ensures tells { IfOk result (λ o. IfSome o (Tells (Err NamedTotal) (map row_of rows.now))) }
 {
     for row in rows {
         if is_total(row) {
@@ -220,10 +192,9 @@ fn total_flaw(alloc: Global, rows: &[Syntax]) -> Result<Option<TableFlaw>, Alloc
 }
 
 fn fallback_flaw(alloc: Global, rows: &[Syntax]) -> Result<Option<TableFlaw>, AllocError>
-    ensures cause { IfOk result (λ o. IfSome o (λ f. f.cause ≡ Fallback)) }
     ensures found { IfOk result (λ o. is_some o
         ≡ not (list_all (has_fallbacks (map row_of rows.now)) (map row_of rows.now))) }
-    ensures fallback { IfOk result (λ o. IfSome o (TellsFallback (map row_of rows.now))) }
+    ensures tells { IfOk result (λ o. IfSome o (Tells (Err Fallback) (map row_of rows.now))) }
 {
     for row in rows {
         if let Some(key) = missing_key(rows, row) {
@@ -233,29 +204,23 @@ fn fallback_flaw(alloc: Global, rows: &[Syntax]) -> Result<Option<TableFlaw>, Al
     Ok(None)
 }
 
-/// What of the rows forbids a count.
+/// What of the rows, which are in the order of their keys, forbids a count.
 #[tactic(auto, unfolding(crate::specs::Outcome::tested))]
 fn row_flaw(alloc: Global, rows: &[Syntax]) -> Result<Option<TableFlaw>, AllocError>
-    ensures cause { IfOk result (λ o. IfSome o (λ f. tested (map row_of rows.now) ≡ Err f.cause)) }
+    requires { IsInKeyOrder (map row_of rows.now) }
     ensures found { IfOk result (λ o. is_some o ≡ is_err (tested (map row_of rows.now))) }
-    ensures token { IfOk result (λ o. IfSome o (TellsToken (map row_of rows.now))) }
-    ensures name { IfOk result (λ o. IfSome o (TellsName (map row_of rows.now))) }
-    ensures total { IfOk result (λ o. IfSome o (TellsTotal (map row_of rows.now))) }
-    ensures fallback { IfOk result (λ o. IfSome o (TellsFallback (map row_of rows.now))) }
+    ensures tells { IfOk result (λ o. IfSome o
+        (Tells (tested (map row_of rows.now)) (map row_of rows.now))) }
 {
-    if !all_have_tokens(rows) {
-        return token_flaw(alloc, rows);
+    match test(alloc, rows) {
+        Ok(()) => Ok(None),
+        Err(TableError::Token) => token_flaw(alloc, rows),
+        Err(TableError::NamedTwice) => name_flaw(alloc, rows),
+        Err(TableError::NamedTotal) => total_flaw(alloc, rows),
+        Err(TableError::Fallback) => fallback_flaw(alloc, rows),
+        // Rows are refused for no other cause.
+        Err(_) => Err(AllocError),
     }
-    if names_twice(alloc, rows)? {
-        return name_flaw(alloc, rows);
-    }
-    if names_total(rows) {
-        return total_flaw(alloc, rows);
-    }
-    if !all_have_fallbacks(rows) {
-        return fallback_flaw(alloc, rows);
-    }
-    Ok(None)
 }
 
 /// What of a text's JSON keeps it from being a table.
@@ -263,24 +228,17 @@ fn row_flaw(alloc: Global, rows: &[Syntax]) -> Result<Option<TableFlaw>, AllocEr
 fn reading_flaw(alloc: Global, read: &Reading<'_>) -> Result<Option<TableFlaw>, AllocError>
     requires ordered { IsOrdered (value_view read.now.tree) }
     requires fraction { read.now.has_fraction ≡ has_float (tree_data (value_view read.now.tree)) }
-    ensures cause { IfOk result (λ o. IfSome o
-        (λ f. outcome_of_value (tree_data (value_view read.now.tree)) ≡ Err f.cause)) }
     ensures found { IfOk result
         (λ o. is_some o ≡ is_flawed_value (tree_data (value_view read.now.tree))) }
-    ensures token { IfOk result
-        (λ o. IfSome o (TellsToken (rows_in_value (tree_data (value_view read.now.tree))))) }
-    ensures name { IfOk result
-        (λ o. IfSome o (TellsName (rows_in_value (tree_data (value_view read.now.tree))))) }
-    ensures total { IfOk result
-        (λ o. IfSome o (TellsTotal (rows_in_value (tree_data (value_view read.now.tree))))) }
-    ensures fallback { IfOk result
-        (λ o. IfSome o (TellsFallback (rows_in_value (tree_data (value_view read.now.tree))))) }
+    ensures tells { IfOk result (λ o. IfSome o
+        (Tells (outcome_of_value (tree_data (value_view read.now.tree)))
+        (rows_in_value (tree_data (value_view read.now.tree))))) }
 {
     if read.has_fraction || !has_layout(&read.tree) {
-        return layout_flaw(alloc, &read.tree);
+        return misfit(alloc, TableError::Layout, unfit_language(&read.tree));
     }
     if !is_escaped_table(&read.tree) {
-        return escape_flaw(alloc, &read.tree);
+        return misfit(alloc, TableError::Escape, misescaped_language(&read.tree));
     }
     let rows = rows_of(alloc, &read.tree)?;
     row_flaw(alloc, &rows)
@@ -288,17 +246,9 @@ fn reading_flaw(alloc: Global, read: &Reading<'_>) -> Result<Option<TableFlaw>, 
 
 /// What of a text keeps it from being a table.
 fn text_flaw(alloc: Global, text: &str) -> Result<Option<TableFlaw>, AllocError>
-    ensures cause { IfOk result
-        (λ o. IfSome o (λ f. outcome_of (read_text text.now) ≡ Err f.cause)) }
     ensures found { IfOk result (λ o. is_some o ≡ is_flawed_data (read_text text.now)) }
-    ensures token { IfOk result
-        (λ o. IfSome o (TellsToken (rows_in_data (read_text text.now)))) }
-    ensures name { IfOk result
-        (λ o. IfSome o (TellsName (rows_in_data (read_text text.now)))) }
-    ensures total { IfOk result
-        (λ o. IfSome o (TellsTotal (rows_in_data (read_text text.now)))) }
-    ensures fallback { IfOk result
-        (λ o. IfSome o (TellsFallback (rows_in_data (read_text text.now)))) }
+    ensures tells { IfOk result (λ o. IfSome o
+        (Tells (outcome_of (read_text text.now)) (rows_in_data (read_text text.now)))) }
 {
     let mut room = Room::new(alloc);
     match read(alloc, &mut room, text) {

@@ -96,7 +96,7 @@ fn rows_of_text(alloc: Global, text: &str) -> Result<Vec<Syntax>, TableError>
 
 /// Tests whether rows in the order of their keys can be counted with.
 #[tactic(auto, unfolding(crate::specs::Outcome::tested))]
-fn test(alloc: Global, rows: &[Syntax]) -> Result<(), TableError>
+pub(crate) fn test(alloc: Global, rows: &[Syntax]) -> Result<(), TableError>
     requires { IsInKeyOrder (map row_of rows.now) }
     ensures value { result ≢ Err MemoryFault
         → MatchResult result (λ _. tested (map row_of rows.now) ≡ Ok (map row_of rows.now))

@@ -1,4 +1,5 @@
 use Rattle.std.proofs.Common.{◌≡◌, ◌∙◌, ap, sym, subst, true, length, arith}
+use Rattle.std.proofs.lemmas.Grind.{common_steps}
 use Rattle.std.proofs.lemmas.List.{length-map}
 use Rattle.std.specs.List.{list_all}
 use Rattle.tokei_table_row.specs.RowOf.{row_of}
@@ -19,3 +20,12 @@ returns-clause-tokens c = tokens c
 
 pub returns-clause-sound : goal.returns-clause-sound
 returns-clause-sound c = sound_row (row_of c.index-rows-index.result) (tokens c)
+
+pub bounds-rows-index : goal.bounds-rows-index
+bounds-rows-index c = grind (arith, common_steps)
+
+pub offset_bounds-rows-index : goal.offset_bounds-rows-index
+offset_bounds-rows-index c = grind (arith, common_steps)
+
+pub returns-clause-row : goal.returns-clause-row
+returns-clause-row c = grind (arith, common_steps)
