@@ -1,7 +1,8 @@
-//! What tests give to calls: texts, files, and a table of two languages.
+//! What tests give to calls: texts, files, a table of two languages, and earlier lines of one.
 use std::alloc::{AllocError, Global};
 use tokei_folders::{Fault, MemoryFolders};
-use tokei_table::{LanguageTable, TableError};
+use tokei_languages::{Language, Languages};
+use tokei_table::{LanguageTable, LanguageType, TableError};
 
 /// The words as owned texts.
 pub fn texts(alloc: Global, words: &[&str]) -> Result<Vec<String>, AllocError> {
@@ -24,4 +25,15 @@ pub fn files(alloc: Global, contents: &[(&str, &str)]) -> Result<MemoryFolders, 
 /// A table of C and D.
 pub fn two_languages(alloc: Global) -> Result<LanguageTable, TableError> {
     LanguageTable::from_json(alloc, br#"{"languages":{"C":{"extensions":["c"]},"D":{}}}"#)
+}
+
+/// Languages of which that one has seven lines of code; `None` where there is no memory for it.
+pub fn seven_lines(alloc: Global, language: LanguageType) -> Option<Languages> {
+    let mut languages = Languages::new(alloc);
+    let mut seven = Language::new(alloc);
+    seven.code = 7;
+    match languages.insert(language, seven) {
+        Ok(_none) => Some(languages),
+        Err(_) => None,
+    }
 }

@@ -1,10 +1,10 @@
 //! Earlier results that are long, of which a read fails, or which are read in many reads.
-use crate::given::two_languages;
+use crate::given::{seven_lines, two_languages};
 use crate::readers::Slow;
 use std::alloc::{AllocError, Global};
 use tokei_earlier::{InputError, add_input};
 use tokei_io::{Counted, FailOnce};
-use tokei_languages::{Language, Languages};
+use tokei_languages::Languages;
 use tokei_table::{LanguageTable, LanguageType};
 
 /// Earlier results of C with a name of more bytes than one read takes.
@@ -23,24 +23,15 @@ type Left = (bool, Result<(), InputError>, usize, Option<usize>);
 /// What is left of a language of seven lines of code where this read of earlier results fails;
 /// `None` where there is no such language, or no memory for it.
 fn left_of(alloc: Global, table: &LanguageTable, text: &str, call: u64) -> Option<Left> {
-    let mut languages = Languages::new(alloc);
-    let mut seven = Language::new(alloc);
-    seven.code = 7;
-    match LanguageType::from_name(table, "D") {
-        Some(language) => match languages.insert(language, seven) {
-            Ok(_none) => {
-                let mut reader = FailOnce::new(Counted::new(text.as_bytes()), call);
-                let answer = add_input(alloc, table, &mut reader, &mut languages);
-                let code = match languages.get(language) {
-                    Some(left) => Some(left.code),
-                    None => None,
-                };
-                Some((reader.failed(), answer, languages.len(), code))
-            }
-            Err(_) => None,
-        },
+    let language = LanguageType::from_name(table, "D")?;
+    let mut languages = seven_lines(alloc, language)?;
+    let mut reader = FailOnce::new(Counted::new(text.as_bytes()), call);
+    let answer = add_input(alloc, table, &mut reader, &mut languages);
+    let code = match languages.get(language) {
+        Some(left) => Some(left.code),
         None => None,
-    }
+    };
+    Some((reader.failed(), answer, languages.len(), code))
 }
 
 const UNREADABLE: Left = (true, Err(InputError::Unreadable), 1, Some(7));

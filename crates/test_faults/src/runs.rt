@@ -1,6 +1,6 @@
 //! Runs over folders of which each call fails in turn: the languages from before stay, with those
 //! of the first files.
-use crate::given::{files, texts, two_languages};
+use crate::given::{files, seven_lines, texts, two_languages};
 use std::alloc::Global;
 use tokei_config::Config;
 use tokei_folders::{Call, FailingFolders, Fault, Folders, MemoryFolders};
@@ -85,19 +85,12 @@ fn left_behind(
     let Ok(tree) = tree(alloc) else {
         return None;
     };
+    let mut languages = seven_lines(alloc, c)?;
     let mut folders = FailingFolders::new(tree, passes);
-    let mut languages = Languages::new(alloc);
-    let mut earlier = Language::new(alloc);
-    earlier.code = 7;
-    match languages.insert(c, earlier) {
-        Ok(_none) => {
-            let refused = add_all(renews, table, &mut folders, roots, &mut languages);
-            match languages.get(c) {
-                Some(left) => Some((refused, left.code, named(left), left.inaccurate)),
-                None => None,
-            }
-        }
-        Err(_) => None,
+    let refused = add_all(renews, table, &mut folders, roots, &mut languages);
+    match languages.get(c) {
+        Some(left) => Some((refused, left.code, named(left), left.inaccurate)),
+        None => None,
     }
 }
 

@@ -3,7 +3,7 @@ use crate::compared::{put_difference, put_missed};
 use crate::error::RowError;
 use crate::page::Page;
 use crate::row::{Row, has_word};
-use crate::said::{Said, value_of};
+use crate::said::Said;
 use crate::subject::Members;
 use std::alloc::Global;
 use std::fmt::{Debug, Display};
@@ -21,7 +21,7 @@ pub struct Answers<'a> {
     row: Row<'a>,
     members: Members,
     said: Vec<&'static str>,
-    left: Vec<&'static str>,
+    left: Option<&'static str>,
     parts: Table,
     /// The lines that tell why the row doesn't hold; none where it holds.
     pub(crate) told: Page,
@@ -47,7 +47,7 @@ impl<'a> Answers<'a> {
             row,
             members,
             said: Vec::new(alloc),
-            left: Vec::new(alloc),
+            left: None,
             parts: Table::new(alloc),
             told: Page::new(alloc),
             wrong: None,
@@ -77,33 +77,12 @@ impl<'a> Answers<'a> {
         }
     }
 
-    /// What a call gives; where it gives nothing, why is kept, and another value stands for it. So
-    /// who reads a row needs no exit: of a row that can't be asked only what was kept first is told.
+    /// What a call gives; where it gives nothing, why is kept, and another value stands for it.
     pub fn read<T: Drop, E: Into<RowError>>(&mut self, given: Result<T, E>, other: T) -> T {
         match self.got(given) {
             Some(value) => value,
             None => other,
         }
-    }
-
-    /// The text of a member of a row, or an empty one.
-    pub fn text<'r>(&mut self, row: &Row<'r>, member: &'static str) -> &'r str {
-        self.read(row.text(member), "")
-    }
-
-    /// The text of a member of a row, where it has one.
-    pub fn text_if<'r>(&mut self, row: &Row<'r>, member: &'static str) -> Option<&'r str> {
-        self.read(row.text_if(member), None)
-    }
-
-    /// Whether a member of a row is true.
-    pub fn flag(&mut self, row: &Row, member: &'static str) -> bool {
-        self.read(row.flag(member), false)
-    }
-
-    /// The values of a member of a row that is a list, or none.
-    pub fn list<'r>(&mut self, row: &Row<'r>, member: &'static str) -> &'r [Value] {
-        self.read(row.list(member), &[])
     }
 
     /// Keeps why a call failed, where it did.
@@ -118,9 +97,8 @@ impl<'a> Answers<'a> {
     }
 
     /// Leaves a member out of what is compared, whatever is then answered for it.
-    pub fn leave(&mut self, member: &'static str) -> Result<(), RowError> {
-        self.left.push(member)?;
-        Ok(())
+    pub fn leave(&mut self, member: &'static str) {
+        self.left = Some(member);
     }
 
     /// Whether what came for a member is what is wanted.
@@ -135,7 +113,7 @@ impl<'a> Answers<'a> {
     fn compare(&mut self, member: &'static str, came: &Value) {
         let said = self.said.push(member);
         self.done(said);
-        if self.wrong.is_none() && !has_word(&self.left, member) && !self.agrees(member, came) {
+        if self.wrong.is_none() && self.left != Some(member) && !self.agrees(member, came) {
             let wanted = self.row.value(member);
             put_difference(self.alloc, &mut self.told, member, wanted, came);
         }
@@ -143,10 +121,8 @@ impl<'a> Answers<'a> {
 
     /// Answers for a member.
     pub fn say(&mut self, member: &'static str, said: Said<'_>) {
-        let came = value_of(self.alloc, said);
-        if let Some(came) = self.got(came) {
-            self.compare(member, &came);
-        }
+        let came = self.value_of(said);
+        self.compare(member, &came);
     }
 
     /// Answers for a member by what a page holds.
@@ -191,35 +167,31 @@ impl<'a> Answers<'a> {
 
     /// Answers for a member that is a list of texts by a text, in which all of them should stand.
     pub fn say_standing(&mut self, member: &'static str, text: &str) {
-        let parts = self.row.list(member);
-        let parts = self.read(parts, &[]);
+        let row = self.row;
+        let parts = self.list(&row, member);
         self.say_if(member, !has_other(parts, text, true), text);
     }
 
     /// Answers for a member that is a list of texts by a text, in which none of them should stand.
     pub fn say_absent(&mut self, member: &'static str, text: &str) {
-        let parts = self.row.list(member);
-        let parts = self.read(parts, &[]);
+        let row = self.row;
+        let parts = self.list(&row, member);
         self.say_if(member, !has_other(parts, text, false), text);
     }
 
     /// Answers for a member that is a text by another one, which should begin with it.
     pub fn say_begun(&mut self, member: &'static str, text: &str) {
-        let head = self.row.text(member);
-        let head = self.read(head, "");
+        let row = self.row;
+        let head = self.text(&row, member);
         self.say_if(member, text.starts_with(head), text);
     }
 
     /// Puts what is said under a name into the table that is said next.
     pub fn put(&mut self, name: &str, said: Said<'_>) {
-        let value = value_of(self.alloc, said);
-        if let Some(value) = self.got(value) {
-            let name = String::from_str(self.alloc, name);
-            if let Some(name) = self.got(name) {
-                let put = self.parts.insert(name, value);
-                self.done(put);
-            }
-        }
+        let value = self.value_of(said);
+        let name = self.string(name);
+        let put = self.parts.insert(name, value);
+        self.done(put);
     }
 
     /// Answers for a member by the table of what was put.
@@ -231,7 +203,7 @@ impl<'a> Answers<'a> {
     /// Tells the members of a list for which nothing came, though the row wants something.
     fn miss_all(&mut self, members: &'static [&'static str]) {
         for member in members {
-            if !has_word(&self.said, member) && !has_word(&self.left, member) {
+            if !has_word(&self.said, member) && self.left != Some(*member) {
                 if let Some(wanted) = self.row.value(member) {
                     put_missed(self.alloc, &mut self.told, member, wanted);
                 }

@@ -1,6 +1,7 @@
 //! Why a row can't be asked.
 use crate::page::Page;
 use std::alloc::{AllocError, AllocFailed};
+use tokei_folders::Fault;
 use tokei_stats::CountError;
 
 /// Why a row can't be asked. All but `Memory` is told of the row, which then doesn't hold. It owns
@@ -50,6 +51,15 @@ impl From<AllocError> for RowError {
 impl<T: Drop> From<AllocFailed<T>> for RowError {
     fn from(_refused: AllocFailed<T>) -> RowError {
         RowError::Memory
+    }
+}
+
+impl From<Fault> for RowError {
+    fn from(refused: Fault) -> RowError {
+        match refused {
+            Fault::Memory => RowError::Memory,
+            Fault::Refused => RowError::Words("the places aren't those of a tree of files"),
+        }
     }
 }
 

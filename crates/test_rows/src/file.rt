@@ -35,8 +35,7 @@ fn tell<S: Subject>(how: &How<S>, row: &Row, answers: &mut Answers) {
     let own = own_table(row, answers);
     let asked = how.tables.asked(own.as_ref());
     if !answers.is_wrong() {
-        let asking = how.subject.ask(&asked, row, answers);
-        answers.done(asking);
+        how.subject.ask(&asked, row, answers);
     }
     answers.finish();
 }
@@ -51,11 +50,7 @@ fn ask_named<S: Subject>(how: &How<S>, told: &mut Told, row: &Row) {
     }
     let mut answers = Answers::new(how.alloc, *row, members);
     tell(how, row, &mut answers);
-    match answers.told.text() {
-        Some("") => told.pass(),
-        Some(faults) => told.refuse_row(file, row.name, &[faults]),
-        None => told.lines.cut(),
-    }
+    told.add(file, row.name, &answers.told);
 }
 
 /// Tells that a row has no name.
@@ -176,9 +171,8 @@ fn print_told(rt: &HostRuntime, file: &str, told: &Told) -> anyhow::Result<bool>
     if fail == 0 {
         println!(rt; "{file}: {hold} rows hold")?;
     } else {
-        println!(rt; "{file}: {hold} rows hold, {fail} don't")?;
+        print!(rt; "{file}: {hold} rows hold, {fail} don't\n{lines}")?;
     }
-    print!(rt; "{lines}")?;
     Ok(fail == 0)
 }
 

@@ -1,6 +1,5 @@
 //! What is said of a member of a row.
-use crate::error::RowError;
-use std::alloc::Global;
+use crate::answers::Answers;
 use std::str::from_utf8;
 use toml::Value;
 
@@ -25,74 +24,83 @@ pub enum Said<'a> {
     Pairs(&'a [(String, String)]),
 }
 
-/// A number as a value.
-fn number(alloc: Global, number: u128) -> Result<Value, RowError> {
-    match i64::try_from(number) {
-        Ok(number) => Ok(Value::Integer(number)),
-        Err(_) => Ok(Value::String(format!(in alloc; "{number}")?)),
+impl Answers<'_> {
+    /// A number as a value.
+    fn number_value(&mut self, number: u128) -> Value {
+        match i64::try_from(number) {
+            Ok(number) => Value::Integer(number),
+            Err(_) => Value::String(self.made(format!(in self.alloc; "{number}"))),
+        }
     }
-}
 
-/// A text as a value.
-fn text(alloc: Global, text: &str) -> Result<Value, RowError> {
-    Ok(Value::string(alloc, text)?)
-}
-
-/// Bytes as a value.
-fn bytes(alloc: Global, bytes: &[u8]) -> Result<Value, RowError> {
-    if let Ok(plain) = from_utf8(bytes) {
-        return text(alloc, plain);
+    /// A text as a value.
+    fn text_value(&mut self, text: &str) -> Value {
+        Value::String(self.string(text))
     }
-    let digits = hex::encode(alloc, bytes)?;
-    Ok(Value::String(format!(in alloc; "hex {digits}")?))
-}
 
-/// A list of numbers as a value.
-fn numbers(alloc: Global, numbers: &[usize]) -> Result<Value, RowError> {
-    let mut values = Vec::new(alloc);
-    for wide in numbers {
-        values.push(number(alloc, *wide as u128)?)?;
+    /// Bytes as a value.
+    fn bytes_value(&mut self, bytes: &[u8]) -> Value {
+        match from_utf8(bytes) {
+            Ok(text) => self.text_value(text),
+            Err(_) => {
+                let digits = self.made(hex::encode(self.alloc, bytes));
+                Value::String(self.made(format!(in self.alloc; "hex {digits}")))
+            }
+        }
     }
-    Ok(Value::Array(values))
-}
 
-/// A list of texts as a value.
-fn texts(alloc: Global, texts: &[String]) -> Result<Value, RowError> {
-    let mut values = Vec::new(alloc);
-    for one in texts {
-        values.push(text(alloc, one.as_str())?)?;
+    /// A list of numbers as a value.
+    fn numbers_value(&mut self, numbers: &[usize]) -> Value {
+        let mut values = Vec::new(self.alloc);
+        for number in numbers {
+            let value = self.number_value(*number as u128);
+            self.done(values.push(value));
+        }
+        Value::Array(values)
     }
-    Ok(Value::Array(values))
-}
 
-/// Two texts as a value.
-fn pair(alloc: Global, first: &str, second: &str) -> Result<Value, RowError> {
-    let mut values = Vec::new(alloc);
-    values.push(text(alloc, first)?)?;
-    values.push(text(alloc, second)?)?;
-    Ok(Value::Array(values))
-}
-
-/// A list of pairs of texts as a value.
-fn pairs(alloc: Global, pairs: &[(String, String)]) -> Result<Value, RowError> {
-    let mut values = Vec::new(alloc);
-    for (first, second) in pairs {
-        values.push(pair(alloc, first.as_str(), second.as_str())?)?;
+    /// A list of texts as a value.
+    fn texts_value(&mut self, texts: &[String]) -> Value {
+        let mut values = Vec::new(self.alloc);
+        for text in texts {
+            let value = self.text_value(text.as_str());
+            self.done(values.push(value));
+        }
+        Value::Array(values)
     }
-    Ok(Value::Array(values))
-}
 
-/// What is said as a value.
-pub fn value_of(alloc: Global, said: Said<'_>) -> Result<Value, RowError> {
-    match said {
-        Said::Text(plain) => text(alloc, plain),
-        Said::Bytes(plain) => bytes(alloc, plain),
-        Said::Number(wide) => number(alloc, wide),
-        Said::Place(Some(place)) => number(alloc, place as u128),
-        Said::Place(None) => text(alloc, "none"),
-        Said::Flag(flag) => Ok(Value::Boolean(flag)),
-        Said::Numbers(list) => numbers(alloc, list),
-        Said::Texts(list) => texts(alloc, list),
-        Said::Pairs(list) => pairs(alloc, list),
+    /// Two texts as a value.
+    fn pair_value(&mut self, first: &str, second: &str) -> Value {
+        let mut values = Vec::new(self.alloc);
+        for text in [first, second] {
+            let value = self.text_value(text);
+            self.done(values.push(value));
+        }
+        Value::Array(values)
+    }
+
+    /// A list of pairs of texts as a value.
+    fn pairs_value(&mut self, pairs: &[(String, String)]) -> Value {
+        let mut values = Vec::new(self.alloc);
+        for (first, second) in pairs {
+            let value = self.pair_value(first.as_str(), second.as_str());
+            self.done(values.push(value));
+        }
+        Value::Array(values)
+    }
+
+    /// What is said as a value.
+    pub(crate) fn value_of(&mut self, said: Said<'_>) -> Value {
+        match said {
+            Said::Text(text) => self.text_value(text),
+            Said::Bytes(bytes) => self.bytes_value(bytes),
+            Said::Number(number) => self.number_value(number),
+            Said::Place(Some(place)) => self.number_value(place as u128),
+            Said::Place(None) => self.text_value("none"),
+            Said::Flag(flag) => Value::Boolean(flag),
+            Said::Numbers(numbers) => self.numbers_value(numbers),
+            Said::Texts(texts) => self.texts_value(texts),
+            Said::Pairs(pairs) => self.pairs_value(pairs),
+        }
     }
 }

@@ -1,6 +1,5 @@
 //! What rows are about.
 use crate::answers::Answers;
-use crate::error::RowError;
 use crate::row::Row;
 use crate::tables::Asked;
 
@@ -26,5 +25,5 @@ pub trait Subject {
     fn members(&self) -> Members;
 
     /// Asks the public calls, and says what they answer.
-    fn ask(&self, asked: &Asked, row: &Row, answers: &mut Answers) -> Result<(), RowError>;
+    fn ask(&self, asked: &Asked, row: &Row, answers: &mut Answers);
 }

@@ -102,7 +102,7 @@ fn read(alloc: Global, text: &str, answers: &mut Answers) -> Option<LanguageTabl
 
 /// The table that a row has itself: of its member `table_json`.
 pub fn own_table(row: &Row, answers: &mut Answers) -> Option<LanguageTable> {
-    match answers.read(row.text_if("table_json"), None) {
+    match answers.text_if(row, "table_json") {
         Some(text) => read(answers.alloc, text, answers),
         None => None,
     }

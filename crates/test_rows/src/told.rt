@@ -23,11 +23,6 @@ impl Told {
         }
     }
 
-    /// Adds a row that holds.
-    pub fn pass(&mut self) {
-        self.hold = self.hold.saturating_add(1);
-    }
-
     /// Adds a row, or a file, of which something is told.
     pub fn refuse(&mut self, file: &str, what: &[&str]) {
         self.fail = self.fail.saturating_add(1);
@@ -40,5 +35,14 @@ impl Told {
     pub fn refuse_row(&mut self, file: &str, name: &str, faults: &[&str]) {
         self.refuse(file, &["\"", name, "\" doesn't hold"]);
         self.lines.put_all(faults);
+    }
+
+    /// Adds a row with a name, and why it doesn't hold; it holds where nothing is told.
+    pub fn add(&mut self, file: &str, name: &str, faults: &Page) {
+        match faults.text() {
+            Some("") => self.hold = self.hold.saturating_add(1),
+            Some(faults) => self.refuse_row(file, name, &[faults]),
+            None => self.lines.cut(),
+        }
     }
 }

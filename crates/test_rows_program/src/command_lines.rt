@@ -43,9 +43,8 @@ fn say_parsed(words: &[&str], answers: &mut Answers) {
         match command.try_get_matches_from(words) {
             Ok(_) => answers.fail(RowError::Kind("words", "an error of the parser")),
             Err(error) => {
-                if let Some(text) = answers.got(format!(in answers.alloc; "{error}")) {
-                    answers.say("parser_text_is", Said::Text(name_of(text.as_str())));
-                }
+                let text = answers.made(format!(in answers.alloc; "{error}"));
+                answers.say("parser_text_is", Said::Text(name_of(text.as_str())));
             }
         }
     }
@@ -80,7 +79,7 @@ fn say_refusal(row: &Row, refusal: &CliError, answers: &mut Answers) {
 /// What words answer.
 pub fn came(row: &Row, answers: &mut Answers) {
     let alloc = answers.alloc;
-    let words = answers.read(row.texts(alloc, "words"), Vec::new(alloc));
+    let words = answers.texts(row, "words");
     if row.has("parser_text_is") {
         say_parsed(&words, answers);
     }

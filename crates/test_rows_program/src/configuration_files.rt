@@ -1,10 +1,8 @@
 //! Rows of configuration files: what they make of a run, and which languages gain extensions.
 use std::alloc::AllocError;
 use std::collections::BTreeMap;
-use test_rows::{Answers, Asked, Members, Row, RowError, Said, folders_of, text_of};
-use tokei::{
-    Config, ConfigDirs, FailingFolders, LanguageConfig, LanguageTable, LanguageType, MemoryFolders,
-};
+use test_rows::{Answers, Asked, Members, Row, RowError, Said, folders_of};
+use tokei::{Config, ConfigDirs, FailingFolders, LanguageConfig, LanguageTable, LanguageType};
 use toml::Value;
 
 /// The members of these rows. `configuration` has all members of a configuration as its `Debug`
@@ -33,11 +31,10 @@ pub const MEMBERS: Members = Members {
 
 /// The three folders of a user.
 fn dirs(answers: &mut Answers) -> ConfigDirs {
-    let alloc = answers.alloc;
     ConfigDirs {
-        config: answers.got(String::from_str(alloc, "/home/me/.config")),
-        home: answers.got(String::from_str(alloc, "/home/me/")),
-        current: answers.got(String::from_str(alloc, ".")),
+        config: Some(answers.string("/home/me/.config")),
+        home: Some(answers.string("/home/me/")),
+        current: Some(answers.string(".")),
     }
 }
 
@@ -48,16 +45,15 @@ fn read(
     calls: u64,
     answers: &mut Answers,
 ) -> Result<Config, AllocError> {
-    let alloc = answers.alloc;
-    let folders = answers.read(folders_of(alloc, row), MemoryFolders::new(alloc));
-    let mut folders = FailingFolders::new(folders, calls);
-    Config::from_config_files(alloc, table, &mut folders, &dirs(answers))
+    let mut folders = FailingFolders::new(folders_of(row, answers), calls);
+    let dirs = dirs(answers);
+    Config::from_config_files(answers.alloc, table, &mut folders, &dirs)
 }
 
 /// The configuration of a row's files; none where it is refused, which is answered where the
 /// folders fail behind so many `calls`.
 fn config_of_files(table: &LanguageTable, row: &Row, answers: &mut Answers) -> Option<Config> {
-    let calls = answers.read(row.number_if("calls"), None);
+    let calls = answers.number_if(row, "calls");
     match read(table, row, calls.unwrap_or(u64::MAX), answers) {
         Ok(config) => Some(config),
         Err(_) => {
@@ -73,20 +69,8 @@ fn config_of_files(table: &LanguageTable, row: &Row, answers: &mut Answers) -> O
 
 /// A language that gains the extensions of a list.
 fn added(value: &Value, answers: &mut Answers) -> LanguageConfig {
-    let mut texts = Vec::new(answers.alloc);
-    match value {
-        Value::Array(values) => {
-            for value in values.as_slice() {
-                let text = answers.read(text_of("adds", value), "");
-                if let Some(text) = answers.got(String::from_str(answers.alloc, text)) {
-                    answers.done(texts.push(text));
-                }
-            }
-        }
-        _ => answers.fail(RowError::Kind("adds", "lists of extensions")),
-    }
     let mut added = LanguageConfig::new(answers.alloc);
-    added.extensions(texts);
+    added.extensions(answers.strings_of("adds", value));
     added
 }
 
@@ -118,7 +102,7 @@ fn say_new(answers: &mut Answers) {
 
 /// The configuration that a row has: one made by hand, the default one, or that of its files.
 fn config_of(table: &LanguageTable, row: &Row, answers: &mut Answers) -> Option<Config> {
-    if let Some(adds) = answers.read(row.table_if("adds"), None) {
+    if let Some(adds) = answers.table_if(row, "adds") {
         Some(made_by_hand(table, &adds, answers))
     } else if answers.flag(row, "default") {
         say_new(answers);

@@ -1,6 +1,6 @@
 //! Rows of a walk's notes: their lines, by how often `--verbose` was given.
 use log::sink::Lines;
-use test_rows::{Answers, KINDS, Members, Page, Row, RowError, text_of};
+use test_rows::{Answers, Members, Page, Row, RowError};
 use tokei::{Note, NoteKind, Text};
 use tokei_program::log_notes;
 
@@ -12,6 +12,20 @@ pub const MEMBERS: Members = Members {
     optional: &[],
     by_table: false,
 };
+
+/// The kinds of a walk's notes, each behind its word.
+const KINDS: [(&str, NoteKind); 10] = [
+    ("BadExclude", NoteKind::BadExclude),
+    ("BadLine", NoteKind::BadLine),
+    ("LostEntry", NoteKind::LostEntry),
+    ("MissingRoot", NoteKind::MissingRoot),
+    ("TooDeep", NoteKind::TooDeep),
+    ("Unlisted", NoteKind::Unlisted),
+    ("Unnamed", NoteKind::Unnamed),
+    ("UnreadContent", NoteKind::UnreadContent),
+    ("UnreadIgnore", NoteKind::UnreadIgnore),
+    ("UnresolvedRoot", NoteKind::UnresolvedRoot),
+];
 
 /// The kind of that word.
 fn kind_of(word: &str) -> Option<NoteKind> {
@@ -38,7 +52,7 @@ fn push_note(notes: &mut Vec<Note>, text: &str, answers: &mut Answers) {
 
 /// How often `--verbose` was given.
 fn verbose(row: &Row, answers: &mut Answers) -> u8 {
-    match u8::try_from(answers.read(row.number("verbose"), 0)) {
+    match u8::try_from(answers.number(row, "verbose")) {
         Ok(verbose) => verbose,
         Err(_) => {
             answers.fail(RowError::Kind("verbose", "a number below 256"));
@@ -52,7 +66,7 @@ pub fn came(row: &Row, answers: &mut Answers) {
     let verbose = verbose(row, answers);
     let mut notes = Vec::new(answers.alloc);
     for value in answers.list(row, "notes") {
-        let text = answers.read(text_of("notes", value), "");
+        let text = answers.text_of("notes", value);
         push_note(&mut notes, text, answers);
     }
     let mut lines = Lines::new(answers.alloc);

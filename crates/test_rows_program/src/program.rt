@@ -46,7 +46,7 @@ pub const MEMBERS: Members = Members {
 /// A text as an owned one, where there is one.
 fn owned(text: Option<&str>, answers: &mut Answers) -> Option<String> {
     match text {
-        Some(text) => answers.got(String::from_str(answers.alloc, text)),
+        Some(text) => Some(answers.string(text)),
         None => None,
     }
 }
@@ -87,20 +87,15 @@ fn add_table(folders: &mut MemoryFolders, row: &Row, answers: &mut Answers) {
             Some(text) => text.as_bytes(),
             None => bench_json(),
         };
-        if folders.add_file(place, bytes).is_err() {
-            answers.fail(RowError::Memory);
-        }
+        answers.done(folders.add_file(place, bytes));
     }
 }
 
 /// The folders of a row, with its table and the files beside in them.
 fn around(row: &Row, answers: &mut Answers) -> MemoryFolders {
-    let alloc = answers.alloc;
-    let mut folders = answers.read(folders_of(alloc, row), MemoryFolders::new(alloc));
+    let mut folders = folders_of(row, answers);
     add_table(&mut folders, row, answers);
-    if let Some(beside) = answers.read(row.table_if("beside"), None) {
-        answers.done(add_texts(&mut folders, &beside));
-    }
+    add_texts(&mut folders, row, "beside", answers);
     folders
 }
 
@@ -113,11 +108,10 @@ pub fn status<S: Source, W: Sink>(
     err: &mut W,
     answers: &mut Answers,
 ) -> u8 {
-    let alloc = answers.alloc;
-    let words = answers.read(row.texts(alloc, "words"), Vec::new(alloc));
+    let words = answers.texts(row, "words");
     let env = variables(row, answers);
     let mut folders = FailingFolders::new(around(row, answers), calls);
-    program(alloc, &words, &env, &mut folders, input, out, err)
+    program(answers.alloc, &words, &env, &mut folders, input, out, err)
 }
 
 /// How a run of the program ended, and what it wrote.
@@ -178,7 +172,7 @@ fn is_line_without_memory(err: &[u8]) -> bool {
 fn is_without_memory(row: &Row, ended: &Outcome, answers: &mut Answers) -> bool {
     let out = answers.text_if(row, "out").unwrap_or("").as_bytes();
     ended.status == 1
-        && answers.read(row.number("status"), 0) == 0
+        && answers.number(row, "status") == 0
         && out.starts_with(ended.out)
         && is_line_without_memory(ended.err)
 }

@@ -21,7 +21,7 @@ pub fn say_first_words(text: &str, answers: &mut Answers) {
 /// Says the lines of a text at the places that a row wants, each under its place, which is written
 /// in digits.
 pub fn say_lines(text: &str, row: &Row, answers: &mut Answers) {
-    if let Some(wanted) = answers.read(row.table_if("out_lines"), None) {
+    if let Some(wanted) = answers.table_if(row, "out_lines") {
         for (digits, _) in wanted.members {
             if let Ok(place) = digits.parse::<usize>() {
                 if let Some(line) = text.lines().nth(place) {
@@ -49,9 +49,9 @@ fn put_narrowed(page: &mut Page, line: &str, bars: &str, blanks: &str) {
 /// Says a report without the characters by which each of its lines is wider, as many as a row says.
 pub fn say_narrowed(text: &str, row: &Row, answers: &mut Answers) {
     let alloc = answers.alloc;
-    let wider = answers.read(row.place("wider"), 0);
-    let bars = answers.read("━".repeat(alloc, wider), String::new(alloc));
-    let blanks = answers.read(" ".repeat(alloc, wider), String::new(alloc));
+    let wider = answers.place(row, "wider");
+    let bars = answers.made("━".repeat(alloc, wider));
+    let blanks = answers.made(" ".repeat(alloc, wider));
     let mut page = Page::new(alloc);
     for line in text.lines() {
         put_narrowed(&mut page, line, bars.as_str(), blanks.as_str());

@@ -1,6 +1,6 @@
 //! What the rows of this program are about.
 use crate::{command_lines, configuration_files, notes, program, program_faults};
-use test_rows::{Answers, Asked, Members, Row, RowError, Subject};
+use test_rows::{Answers, Asked, Members, Row, Subject};
 
 /// What rows are about: each has a file of this name, and a module that asks.
 #[derive(Clone, Copy)]
@@ -55,7 +55,7 @@ impl Subject for Rows {
         }
     }
 
-    fn ask(&self, asked: &Asked, row: &Row, answers: &mut Answers) -> Result<(), RowError> {
+    fn ask(&self, asked: &Asked, row: &Row, answers: &mut Answers) {
         match *self {
             Rows::CommandLines => command_lines::came(row, answers),
             Rows::ConfigurationFiles => configuration_files::came(asked, row, answers),
@@ -64,6 +64,5 @@ impl Subject for Rows {
             Rows::Program | Rows::ReportOrders | Rows::ReportWidths | Rows::RunSums | Rows::Runs =>
                 program::came(row, answers),
         }
-        Ok(())
     }
 }

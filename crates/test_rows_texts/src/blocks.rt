@@ -1,5 +1,4 @@
 //! Rows of what opens at a place of a text, and what it holds.
-use crate::asking::place_of;
 use test_rows::{Answers, Members, Row, RowError, Said};
 use tokei_embedding::{BlockSearch, FenceAt, Tag, TagAt, doc_text, fence_at, target_at};
 
@@ -77,9 +76,9 @@ fn target(text: &[u8], answers: &mut Answers) {
 
 /// The answers of a search between places.
 fn between(name: &str, row: &Row, text: &[u8], answers: &mut Answers) {
-    let from = place_of(row, "from", answers);
-    let place = place_of(row, "place", answers);
-    let to = place_of(row, "to", answers);
+    let from = answers.place(row, "from");
+    let place = answers.place(row, "place");
+    let to = answers.place(row, "to");
     if place < from || to <= place || text.len() < to {
         return answers.fail(RowError::Words("the places aren't within the text"));
     }
@@ -103,7 +102,7 @@ fn came_in(row: &Row, text: &[u8], answers: &mut Answers) {
     match answers.text(row, "block") {
         "target" => target(text, answers),
         "doc comment" => {
-            let place = place_of(row, "place", answers);
+            let place = answers.place(row, "place");
             doc_comment(text, place, answers);
         }
         name => between(name, row, text, answers),
@@ -112,7 +111,6 @@ fn came_in(row: &Row, text: &[u8], answers: &mut Answers) {
 
 /// What the calls answer.
 pub fn came(row: &Row, answers: &mut Answers) {
-    if let Some(text) = answers.got(row.bytes(answers.alloc, "text", "text_hex")) {
-        came_in(row, &text, answers);
-    }
+    let text = answers.bytes(row, "text", "text_hex");
+    came_in(row, &text, answers);
 }

@@ -1,5 +1,5 @@
 //! Rows of searches for one of a few bytes.
-use crate::asking::{place_of, say_all};
+use crate::asking::say_all;
 use test_rows::{Answers, Members, Row, RowError, Said};
 use tokei_bytes::{ByteSet, first_of_four};
 
@@ -54,10 +54,10 @@ fn of_four(row: &Row, text: &mut [u8], answers: &mut Answers) {
         return answers.fail(RowError::Words("these aren't four bytes"));
     };
     let four = [*one, *two, *three, *four];
-    let from = place_of(row, "from", answers);
-    let to = place_of(row, "to", answers);
+    let from = answers.place(row, "from");
+    let to = answers.place(row, "to");
     let first = if row.has("hit") {
-        let hit = place_of(row, "hit", answers);
+        let hit = answers.place(row, "hit");
         search_each(four, text, hit, from, to)
     } else {
         search(four, text, from, to)
@@ -91,11 +91,10 @@ fn of_set(row: &Row, text: &[u8], answers: &mut Answers) {
 
 /// What the calls answer.
 pub fn came(row: &Row, answers: &mut Answers) {
-    if let Some(mut text) = answers.got(row.bytes(answers.alloc, "text", "text_hex")) {
-        if row.has("set") {
-            of_set(row, &text, answers);
-        } else {
-            of_four(row, &mut text, answers);
-        }
+    let mut text = answers.bytes(row, "text", "text_hex");
+    if row.has("set") {
+        of_set(row, &text, answers);
+    } else {
+        of_four(row, &mut text, answers);
     }
 }

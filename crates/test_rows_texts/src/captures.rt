@@ -1,7 +1,6 @@
 //! Rows of the openings and closings of a part, as captures.
 ghost use Rattle.std.specs.Prelude.{◌≤◌, length};
 
-use crate::asking::place_of;
 use test_rows::{Answers, Members, Row, RowError, Said};
 use tokei_embedding::{
     Capture, HtmlLike, SimpleCapture, end_lf, end_markdown, end_script, end_style, end_template,
@@ -132,13 +131,10 @@ fn of_single(found: Option<Capture<'_>>, range: Option<(usize, usize)>, answers:
 
 /// What the calls answer.
 pub fn came(row: &Row, answers: &mut Answers) {
-    let from = place_of(row, "from", answers);
-    let to = place_of(row, "to", answers);
+    let from = answers.place(row, "from");
+    let to = answers.place(row, "to");
     let range = if row.has("starts") {
-        Some((
-            place_of(row, "starts", answers),
-            place_of(row, "ends", answers),
-        ))
+        Some((answers.place(row, "starts"), answers.place(row, "ends")))
     } else {
         None
     };

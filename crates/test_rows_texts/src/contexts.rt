@@ -1,5 +1,5 @@
 //! Rows of the debug texts of rules by which a text of another language opens, and of such a text.
-use crate::asking::{NO_LANGUAGE, place_of};
+use crate::asking::NO_LANGUAGE;
 use crate::made::stats_of;
 use test_rows::{Answers, Members, Row, RowError};
 use tokei_count::{FileContext, LanguageContext};
@@ -39,7 +39,7 @@ pub fn came(table: &LanguageTable, row: &Row, answers: &mut Answers) {
     };
     if row.has("end") {
         let stats = stats_of(table, row, answers);
-        let end = place_of(row, "end", answers);
+        let end = answers.place(row, "end");
         answers.say_debug("debug", &FileContext::new(rule, end, stats));
     } else {
         answers.say_debug("debug", &rule);

@@ -106,20 +106,18 @@ pub fn came(
     answers: &mut Answers,
 ) {
     let language = answers.text(row, "language");
-    let strings = answers.read(row.flag_if("doc_strings_are_comments"), None);
-    if let Some(text) = answers.got(row.bytes(answers.alloc, "text", "text_hex")) {
-        let text = Text {
-            language,
-            config: CountConfig {
-                treat_doc_strings_as_comments: strings,
-            },
-            text: &text,
-        };
-        if let Some(bench) = bench {
-            let left = answers.leave("steps");
-            answers.done(left);
-            compare_each(bench, table, &text, answers);
-        }
-        say(table, &text, answers);
+    let strings = answers.flag_if(row, "doc_strings_are_comments");
+    let bytes = answers.bytes(row, "text", "text_hex");
+    let text = Text {
+        language,
+        config: CountConfig {
+            treat_doc_strings_as_comments: strings,
+        },
+        text: &bytes,
+    };
+    if let Some(bench) = bench {
+        answers.leave("steps");
+        compare_each(bench, table, &text, answers);
     }
+    say(table, &text, answers);
 }

@@ -1,5 +1,5 @@
 //! Tables in which languages gain extensions.
-use test_rows::{Answers, Row, RowError, owned};
+use test_rows::{Answers, Row, RowError};
 use tokei_table::{LanguageTable, LanguageType};
 
 /// A language, and the extensions that it gains.
@@ -7,12 +7,11 @@ type Gain = (LanguageType, Vec<String>);
 
 /// Puts what one table of a row's `gains` adds.
 fn put_gain(table: &LanguageTable, row: &Row, gains: &mut Vec<Gain>, answers: &mut Answers) {
-    answers.done(row.only("gains", &["language", "extensions"]));
+    answers.only(row, "gains", &["language", "extensions"]);
     match LanguageType::from_name(table, answers.text(row, "language")) {
         Some(language) => {
-            if let Some(extensions) = answers.got(owned(answers.alloc, row, "extensions")) {
-                answers.done(gains.push((language, extensions)));
-            }
+            let extensions = answers.strings(row, "extensions");
+            answers.done(gains.push((language, extensions)));
         }
         None => answers.fail(RowError::Words("the table hasn't a language that gains")),
     }
@@ -35,7 +34,7 @@ fn extended(table: &LanguageTable, gains: &[Gain], answers: &mut Answers) -> Opt
 pub fn gained(table: &LanguageTable, row: &Row, answers: &mut Answers) -> Option<LanguageTable> {
     let mut gains = Vec::new(answers.alloc);
     for value in answers.list(row, "gains") {
-        if let Some(gain) = answers.got(row.inner("gains", value)) {
+        if let Some(gain) = answers.inner(row, "gains", value) {
             put_gain(table, &gain, &mut gains, answers);
         }
     }

@@ -50,17 +50,16 @@ fn found_by(
 
 /// Says the key of the language that a row's bytes find.
 fn look_up(table: &LanguageTable, by: &str, row: &Row, answers: &mut Answers) {
-    if let Some(asked) = answers.got(row.bytes(answers.alloc, "asked", "asked_hex")) {
-        let found = if by == "first line" {
-            LanguageType::from_shebang_bytes(table, &asked)
-        } else if let Ok(text) = from_utf8(&asked) {
-            found_by(table, by, text, answers)
-        } else {
-            answers.fail(RowError::Words("the text that is looked up isn't UTF-8"));
-            None
-        };
-        answers.say("found", Said::Text(key_of(table, found)));
-    }
+    let asked = answers.bytes(row, "asked", "asked_hex");
+    let found = if by == "first line" {
+        LanguageType::from_shebang_bytes(table, &asked)
+    } else if let Ok(text) = from_utf8(&asked) {
+        found_by(table, by, text, answers)
+    } else {
+        answers.fail(RowError::Words("the text that is looked up isn't UTF-8"));
+        None
+    };
+    answers.say("found", Said::Text(key_of(table, found)));
 }
 
 /// What the calls answer, by a table in which languages may gain extensions.

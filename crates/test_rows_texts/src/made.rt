@@ -1,5 +1,5 @@
 //! Statistics that rows say, and answers that statistics are.
-use test_rows::{Answers, Page, Row, RowError, Said, three_of};
+use test_rows::{Answers, Page, Row, RowError, Said};
 use tokei_stats::{CodeStats, CountError};
 use tokei_table::{LanguageTable, LanguageType};
 
@@ -9,8 +9,7 @@ fn put_blobs(table: &LanguageTable, blobs: &Row, stats: &mut CodeStats, answers:
         match LanguageType::from_name(table, key.as_str()) {
             Some(language) => {
                 let mut blob = CodeStats::new(answers.alloc);
-                let lines = three_of("blobs", lines);
-                (blob.blanks, blob.code, blob.comments) = answers.read(lines, (0, 0, 0));
+                (blob.blanks, blob.code, blob.comments) = answers.three_of("blobs", lines);
                 answers.done(stats.blobs.insert(language, blob));
             }
             None => answers.fail(RowError::Words("the table hasn't a language of blobs")),
@@ -21,8 +20,8 @@ fn put_blobs(table: &LanguageTable, blobs: &Row, stats: &mut CodeStats, answers:
 /// The statistics that a row says: its `counts`, and its `blobs` where it has some.
 pub fn stats_of(table: &LanguageTable, row: &Row, answers: &mut Answers) -> CodeStats {
     let mut stats = CodeStats::new(answers.alloc);
-    (stats.blanks, stats.code, stats.comments) = answers.read(row.three("counts"), (0, 0, 0));
-    if let Some(blobs) = answers.read(row.table_if("blobs"), None) {
+    (stats.blanks, stats.code, stats.comments) = answers.three(row, "counts");
+    if let Some(blobs) = answers.table_if(row, "blobs") {
         put_blobs(table, &blobs, &mut stats, answers);
     }
     stats

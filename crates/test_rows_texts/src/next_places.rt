@@ -1,5 +1,4 @@
 //! Rows of the next place at which a block can open.
-use crate::asking::place_of;
 use test_rows::{Answers, Members, Row, RowError, Said};
 use tokei_embedding::{BlockSearch, Tag, first_line, next_doc, next_fence, next_target};
 
@@ -30,8 +29,8 @@ fn next_doc_of(row: &Row, text: &[u8], at: usize) -> Option<usize> {
 /// The next place between places that a row asks for; none where they aren't within the text, or
 /// there is no such block.
 fn next_of(name: &str, row: &Row, text: &[u8], at: usize, answers: &mut Answers) -> Option<usize> {
-    let start = place_of(row, "start", answers);
-    let to = place_of(row, "to", answers);
+    let start = answers.place(row, "start");
+    let to = answers.place(row, "to");
     if at < start || to < at || text.len() < to {
         return None;
     }
@@ -50,7 +49,7 @@ fn next_of(name: &str, row: &Row, text: &[u8], at: usize, answers: &mut Answers)
 pub fn came(row: &Row, answers: &mut Answers) {
     let name = answers.text(row, "block");
     let text = answers.text(row, "text").as_bytes();
-    let at = place_of(row, "at", answers);
+    let at = answers.place(row, "at");
     let next = if name == "doc comment" {
         next_doc_of(row, text, at)
     } else {

@@ -34,12 +34,11 @@ fn of_language(table: &LanguageTable, key: &str, text: &str, answers: &mut Answe
 
 /// The answers for a list of openers.
 fn of_texts(row: &Row, text: &str, answers: &mut Answers) {
-    if let Some(openers) = answers.got(row.texts(answers.alloc, "openers")) {
-        if OpenerIndex::are_nonempty(&openers) {
-            say_first(OpenerIndex::new(answers.alloc, &openers), text, answers);
-        } else {
-            answers.say("first", Said::Text("an empty opener"));
-        }
+    let openers = answers.texts(row, "openers");
+    if OpenerIndex::are_nonempty(&openers) {
+        say_first(OpenerIndex::new(answers.alloc, &openers), text, answers);
+    } else {
+        answers.say("first", Said::Text("an empty opener"));
     }
 }
 

@@ -17,8 +17,7 @@ pub const MEMBERS: Members = Members {
 /// The report that a row says.
 fn report_of(table: &LanguageTable, row: &Row, answers: &mut Answers) -> Report {
     let called = answers.text(row, "called");
-    let mut name = String::new(answers.alloc);
-    answers.done(name.push_str(called));
+    let name = answers.string(called);
     let mut report = Report::new(answers.alloc, name);
     report.stats = stats_of(table, row, answers);
     report
@@ -29,7 +28,7 @@ fn report_of(table: &LanguageTable, row: &Row, answers: &mut Answers) -> Report 
 fn say_shown(report: &Report, row: &Row, answers: &mut Answers) {
     let mut page = Page::new(answers.alloc);
     if row.has("width") {
-        match u16::try_from(answers.read(row.number("width"), 0)) {
+        match u16::try_from(answers.number(row, "width")) {
             Ok(width) => page.put_shown(&report.display_in(usize::from(width))),
             Err(_) => answers.fail(RowError::Words("the width is above 65535")),
         }
@@ -47,8 +46,8 @@ fn say_equal(table: &LanguageTable, report: &Report, row: &Row, answers: &mut An
         Ok(copy) => answers.say("equals_copy", Said::Flag(copy == *report)),
         Err(cause) => answers.fail(refused(cause)),
     }
-    if let Some(other) = answers.read(row.table_if("other"), None) {
-        answers.done(other.only("other", &["called", "counts", "blobs"]));
+    if let Some(other) = answers.table_if(row, "other") {
+        answers.only(&other, "other", &["called", "counts", "blobs"]);
         let other = report_of(table, &other, answers);
         answers.say("equals_other", Said::Flag(*report == other));
     }

@@ -3,7 +3,7 @@ use crate::{
     blocks, bytes, captures, contexts, counting, look_ups, next_places, openers, reports, sums,
     syntaxes, tables, texts,
 };
-use test_rows::{Answers, Asked, Members, Row, RowError, Subject};
+use test_rows::{Answers, Asked, Members, Row, Subject};
 use tokei_table::LanguageTable;
 
 /// What rows are about: each has a module that asks.
@@ -54,7 +54,7 @@ impl Subject for Rows {
         *self.1
     }
 
-    fn ask(&self, asked: &Asked, row: &Row, answers: &mut Answers) -> Result<(), RowError> {
+    fn ask(&self, asked: &Asked, row: &Row, answers: &mut Answers) {
         match self.2 {
             About::Blocks => blocks::came(row, answers),
             About::Bytes => bytes::came(row, answers),
@@ -66,7 +66,6 @@ impl Subject for Rows {
                 Err(cause) => answers.fail(cause),
             },
         }
-        Ok(())
     }
 }
 

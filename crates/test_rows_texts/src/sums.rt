@@ -18,7 +18,7 @@ pub const MEMBERS: Members = Members {
 
 /// One of the statistics that are added.
 fn summand(table: &LanguageTable, row: &Row, answers: &mut Answers) -> CodeStats {
-    answers.done(row.only("sum", &["counts", "blobs", "language", "text"]));
+    answers.only(row, "sum", &["counts", "blobs", "language", "text"]);
     if !row.has("text") {
         return stats_of(table, row, answers);
     }
@@ -36,7 +36,7 @@ fn summand(table: &LanguageTable, row: &Row, answers: &mut Answers) -> CodeStats
 fn summands(table: &LanguageTable, row: &Row, answers: &mut Answers) -> Vec<CodeStats> {
     let mut all = Vec::new(answers.alloc);
     for value in answers.list(row, "sum") {
-        if let Some(told) = answers.got(row.inner("sum", value)) {
+        if let Some(told) = answers.inner(row, "sum", value) {
             let stats = summand(table, &told, answers);
             answers.done(all.push(stats));
         }

@@ -68,9 +68,8 @@ pub fn came(table: &LanguageTable, row: &Row, answers: &mut Answers) {
     } else if let Some(members) = answers.text_if(row, "members") {
         read_members(members, answers);
     } else if row.has("json") || row.has("json_hex") {
-        if let Some(text) = answers.got(row.bytes(answers.alloc, "json", "json_hex")) {
-            read(&text, answers);
-        }
+        let text = answers.bytes(row, "json", "json_hex");
+        read(&text, answers);
     } else if let Some(table) = gained(table, row, answers) {
         if !table.is_empty() {
             answers.say("languages", Said::Number(table.len() as u128));

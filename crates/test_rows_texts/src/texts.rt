@@ -1,6 +1,6 @@
 //! Rows of contents that are decoded, of boundaries of characters, and of blanks and slices of
 //! texts.
-use crate::asking::{place_of, say_all};
+use crate::asking::say_all;
 use test_rows::{Answers, Members, Row, RowError, Said};
 use tokei_bytes::{decode_text, find_char_boundary};
 use tokei_table_row::ext::{
@@ -43,7 +43,7 @@ fn kinds(text: &[u8], answers: &mut Answers) {
 /// The answer of the search for a boundary.
 fn boundary(row: &Row, answers: &mut Answers) {
     let text = answers.text(row, "text");
-    let place = place_of(row, "place", answers);
+    let place = answers.place(row, "place");
     if place > text.len() {
         return answers.fail(RowError::Words("the place isn't within the text"));
     }
@@ -93,7 +93,6 @@ fn came_in(row: &Row, text: &[u8], answers: &mut Answers) {
 
 /// What the calls answer.
 pub fn came(row: &Row, answers: &mut Answers) {
-    if let Some(text) = answers.got(row.bytes(answers.alloc, "text", "text_hex")) {
-        came_in(row, &text, answers);
-    }
+    let text = answers.bytes(row, "text", "text_hex");
+    came_in(row, &text, answers);
 }

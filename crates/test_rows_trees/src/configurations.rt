@@ -1,25 +1,21 @@
 //! Configurations of counting, as rows tell them.
 use crate::given_languages::named;
 use std::collections::BTreeMap;
-use test_rows::{Answers, Row, RowError, text_of};
+use test_rows::{Answers, Row, RowError};
 use tokei_config::{Config, LanguageConfig};
 use tokei_table::{LanguageTable, LanguageType};
-use toml::Value;
 
 /// A configuration in which the switches of the row are on, and the others off.
 fn switched(row: &Row, answers: &mut Answers) -> Config {
     let mut config = Config::new();
-    config.treat_doc_strings_as_comments = answers.read(
-        row.flag_if("doc_strings_are_comments"),
-        None,
-    );
+    config.treat_doc_strings_as_comments = answers.flag_if(row, "doc_strings_are_comments");
     config.hidden = Some(false);
     config.no_ignore = Some(false);
     config.no_ignore_parent = Some(false);
     config.no_ignore_dot = Some(false);
     config.no_ignore_vcs = Some(false);
     for value in answers.list(row, "switches") {
-        match answers.read(text_of("switches", value), "") {
+        match answers.text_of("switches", value) {
             "hidden" => config.hidden = Some(true),
             "no_ignore" => config.no_ignore = Some(true),
             "no_ignore_parent" => config.no_ignore_parent = Some(true),
@@ -35,29 +31,12 @@ fn switched(row: &Row, answers: &mut Answers) -> Config {
 fn types(table: &LanguageTable, row: &Row, answers: &mut Answers) -> Vec<LanguageType> {
     let mut types = Vec::new(answers.alloc);
     for value in answers.list(row, "types") {
-        let name = answers.read(text_of("types", value), "");
+        let name = answers.text_of("types", value);
         if let Some(language) = named(table, name, answers) {
             answers.done(types.push(language));
         }
     }
     types
-}
-
-/// The extensions that a value lists.
-fn extensions(value: &Value, answers: &mut Answers) -> Vec<String> {
-    let mut extensions = Vec::new(answers.alloc);
-    match value {
-        Value::Array(list) => {
-            for value in list.as_slice() {
-                let extension = answers.read(text_of("extensions", value), "");
-                if let Some(extension) = answers.got(String::from_str(answers.alloc, extension)) {
-                    answers.done(extensions.push(extension));
-                }
-            }
-        }
-        _ => answers.fail(RowError::Kind("extensions", "a table of lists")),
-    }
-    extensions
 }
 
 /// What languages gain.
@@ -70,7 +49,7 @@ fn gains(
     for (name, value) in told.members {
         if let Some(language) = named(table, name.as_str(), answers) {
             let mut gained = LanguageConfig::new(answers.alloc);
-            gained.extensions(extensions(value, answers));
+            gained.extensions(answers.strings_of("extensions", value));
             answers.done(languages.insert(language, gained));
         }
     }
@@ -84,7 +63,7 @@ pub fn configuration(table: &LanguageTable, row: &Row, answers: &mut Answers) ->
     if row.has("types") {
         config.types = Some(types(table, row, answers));
     }
-    if let Some(told) = answers.read(row.table_if("extensions"), None) {
+    if let Some(told) = answers.table_if(row, "extensions") {
         config.languages = Some(gains(table, &told, answers));
     }
     config

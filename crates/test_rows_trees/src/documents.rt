@@ -110,21 +110,19 @@ fn nested(alloc: Global, levels: usize) -> Result<String, AllocError> {
 
 /// Whether a document so deep is read, printed and read again as the same.
 fn came_of_levels(table: &LanguageTable, levels: u64, answers: &mut Answers) {
-    if let Some(text) = answers.got(nested(answers.alloc, levels as usize)) {
-        if read(table, text.as_str(), answers).is_some() {
-            answers.say("read_back", Said::Flag(true));
-        }
+    let text = answers.made(nested(answers.alloc, levels as usize));
+    if read(table, text.as_str(), answers).is_some() {
+        answers.say("read_back", Said::Flag(true));
     }
 }
 
 /// What earlier results add to languages, and why they are refused where they are.
 fn came_of_earlier(table: &LanguageTable, row: &Row, answers: &mut Answers) {
     let mut languages = given(table, row, "languages", answers);
-    if let Some(bytes) = answers.got(row.bytes(answers.alloc, "earlier", "earlier_hex")) {
-        let mut reader = Counted::new(bytes.as_slice());
-        if let Err(cause) = add_input(answers.alloc, table, &mut reader, &mut languages) {
-            say_cause(answers, cause);
-        }
+    let bytes = answers.bytes(row, "earlier", "earlier_hex");
+    let mut reader = Counted::new(bytes.as_slice());
+    if let Err(cause) = add_input(answers.alloc, table, &mut reader, &mut languages) {
+        say_cause(answers, cause);
     }
     say_languages("stand", table, &languages, answers);
 }
@@ -137,7 +135,7 @@ pub fn came(table: &LanguageTable, row: &Row, answers: &mut Answers) {
             say_languages("stand", table, &languages, answers);
         }
     } else if row.has("levels") {
-        let levels = answers.read(row.number("levels"), 0);
+        let levels = answers.number(row, "levels");
         came_of_levels(table, levels, answers);
     } else if row.has("earlier") || row.has("earlier_hex") {
         came_of_earlier(table, row, answers);

@@ -66,17 +66,15 @@ fn came_of_report(
     folders: &mut MemoryFolders,
     answers: &mut Answers,
 ) {
-    let alloc = answers.alloc;
-    let config = configuration(table, row, answers);
     let Some(language) = LanguageType::from_name(table, answers.text(row, "language")) else {
         return answers.fail(NO_LANGUAGE);
     };
-    match Counter::new(alloc, table) {
+    match Counter::new(answers.alloc, table) {
         Ok(counter) => {
-            if let Some(path) = answers.got(String::from_str(alloc, path)) {
-                let parsed = parse_file(alloc, &counter, language, folders, path, &config);
-                say_parsed(table, parsed, answers);
-            }
+            let path = answers.string(path);
+            let config = configuration(table, row, answers);
+            let parsed = parse_file(answers.alloc, &counter, language, folders, path, &config);
+            say_parsed(table, parsed, answers);
         }
         Err(_) => answers.fail(RowError::Memory),
     }
@@ -111,14 +109,11 @@ fn say_language(
 
 /// What the calls answer.
 pub fn came(table: &LanguageTable, row: &Row, answers: &mut Answers) {
-    let mut made = folders_of(answers.alloc, row);
-    if let Ok(folders) = &mut made {
-        let path = answers.text(row, "path");
-        if row.has("language") {
-            came_of_report(table, row, path, folders, answers);
-        } else {
-            say_language(table, row, path, folders, answers);
-        }
+    let mut folders = folders_of(row, answers);
+    let path = answers.text(row, "path");
+    if row.has("language") {
+        came_of_report(table, row, path, &mut folders, answers);
+    } else {
+        say_language(table, row, path, &mut folders, answers);
     }
-    answers.done(made);
 }

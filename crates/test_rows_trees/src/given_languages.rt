@@ -1,6 +1,6 @@
 //! Languages as rows tell them: each by its key or name, with its counts, its reports, and those of
 //! the languages inside it.
-use test_rows::{Answers, Row, RowError, three_of};
+use test_rows::{Answers, Row, RowError};
 use tokei_languages::{Language, Languages};
 use tokei_stats::{CodeStats, Report};
 use tokei_table::{LanguageTable, LanguageType};
@@ -23,7 +23,7 @@ pub fn named(table: &LanguageTable, name: &str, answers: &mut Answers) -> Option
 /// The counts of a row; none where they are left out.
 fn counts(row: &Row, answers: &mut Answers) -> (usize, usize, usize) {
     if row.has("counts") {
-        answers.read(row.three("counts"), (0, 0, 0))
+        answers.three(row, "counts")
     } else {
         (0, 0, 0)
     }
@@ -34,10 +34,7 @@ fn put_blobs(table: &LanguageTable, blobs: &Row, stats: &mut CodeStats, answers:
     for (name, value) in blobs.members {
         if let Some(language) = named(table, name.as_str(), answers) {
             let mut blob = CodeStats::new(answers.alloc);
-            (blob.blanks, blob.code, blob.comments) = answers.read(
-                three_of("blobs", value),
-                (0, 0, 0),
-            );
+            (blob.blanks, blob.code, blob.comments) = answers.three_of("blobs", value);
             answers.done(stats.blobs.insert(language, blob));
         }
     }
@@ -45,15 +42,13 @@ fn put_blobs(table: &LanguageTable, blobs: &Row, stats: &mut CodeStats, answers:
 
 /// The report that a row tells.
 pub fn report(table: &LanguageTable, row: &Row, answers: &mut Answers) -> Report {
-    let known = row.only("reports", &["language", "name", "counts", "blobs"]);
-    answers.done(known);
+    answers.only(row, "reports", &["language", "name", "counts", "blobs"]);
     let name = answers.text(row, "name");
-    let name = String::from_str(answers.alloc, name);
-    let name = answers.read(name, String::new(answers.alloc));
+    let name = answers.string(name);
     let mut report = Report::new(answers.alloc, name);
     let stats = &mut report.stats;
     (stats.blanks, stats.code, stats.comments) = counts(row, answers);
-    if let Some(blobs) = answers.read(row.table_if("blobs"), None) {
+    if let Some(blobs) = answers.table_if(row, "blobs") {
         put_blobs(table, &blobs, stats, answers);
     }
     report
@@ -63,7 +58,7 @@ pub fn report(table: &LanguageTable, row: &Row, answers: &mut Answers) -> Report
 fn reports(table: &LanguageTable, row: &Row, answers: &mut Answers) -> Vec<Report> {
     let mut reports = Vec::new(answers.alloc);
     for value in answers.list(row, "reports") {
-        if let Some(told) = answers.got(row.inner("reports", value)) {
+        if let Some(told) = answers.inner(row, "reports", value) {
             let report = report(table, &told, answers);
             answers.done(reports.push(report));
         }
@@ -74,7 +69,7 @@ fn reports(table: &LanguageTable, row: &Row, answers: &mut Answers) -> Vec<Repor
 /// Adds the reports that a row tells.
 fn add_reports(table: &LanguageTable, row: &Row, language: &mut Language, answers: &mut Answers) {
     for value in answers.list(row, "reports") {
-        if let Some(told) = answers.got(row.inner("reports", value)) {
+        if let Some(told) = answers.inner(row, "reports", value) {
             let report = report(table, &told, answers);
             answers.done(language.add_report(report));
         }
@@ -84,8 +79,8 @@ fn add_reports(table: &LanguageTable, row: &Row, language: &mut Language, answer
 /// Puts the reports of the languages inside a language.
 fn put_children(table: &LanguageTable, row: &Row, language: &mut Language, answers: &mut Answers) {
     for value in answers.list(row, "children") {
-        if let Some(told) = answers.got(row.inner("children", value)) {
-            answers.done(told.only("children", &["language", "reports"]));
+        if let Some(told) = answers.inner(row, "children", value) {
+            answers.only(&told, "children", &["language", "reports"]);
             let name = answers.text(&told, "language");
             if let Some(inside) = named(table, name, answers) {
                 let reports = reports(table, &told, answers);
@@ -97,7 +92,7 @@ fn put_children(table: &LanguageTable, row: &Row, language: &mut Language, answe
 
 /// Puts the language that a row tells.
 fn put(table: &LanguageTable, row: &Row, languages: &mut Languages, answers: &mut Answers) {
-    answers.done(row.only("languages", &MEMBERS));
+    answers.only(row, "languages", &MEMBERS);
     let name = answers.text(row, "name");
     if let Some(name) = named(table, name, answers) {
         let mut language = Language::new(answers.alloc);
@@ -118,7 +113,7 @@ pub fn given(
 ) -> Languages {
     let mut languages = Languages::new(answers.alloc);
     for value in answers.list(row, member) {
-        if let Some(told) = answers.got(row.inner(member, value)) {
+        if let Some(told) = answers.inner(row, member, value) {
             put(table, &told, &mut languages, answers);
         }
     }

@@ -38,11 +38,10 @@ fn came_of_file(file: &IgnoreFile, row: &Row, answers: &mut Answers) {
 
 /// What the calls answer.
 pub fn came(row: &Row, answers: &mut Answers) {
-    if let Some(bytes) = answers.got(row.bytes(answers.alloc, "text", "text_hex")) {
-        let made = IgnoreFile::parse(answers.alloc, &bytes);
-        if let Ok(file) = &made {
-            came_of_file(file, row, answers);
-        }
-        answers.done(made);
+    let bytes = answers.bytes(row, "text", "text_hex");
+    let made = IgnoreFile::parse(answers.alloc, &bytes);
+    if let Ok(file) = &made {
+        came_of_file(file, row, answers);
     }
+    answers.done(made);
 }

@@ -2,7 +2,7 @@
 use crate::given_languages::{given, named};
 use crate::shown_languages::{put_language, say_languages};
 use std::mem;
-use test_rows::{Answers, Members, Page, Row, RowError, text_of};
+use test_rows::{Answers, Members, Page, Row, RowError};
 use tokei_languages::{Language, Languages};
 use tokei_options::Sort;
 use tokei_stats::CountError;
@@ -23,13 +23,6 @@ pub const MEMBERS: Members = Members {
 struct Of<'t, 'r> {
     table: &'t LanguageTable,
     row: Row<'r>,
-}
-
-/// What a row calls: all its languages, or one with its name.
-#[derive(Drop)]
-enum Called<'r> {
-    All(Languages),
-    One(&'r str, Language),
 }
 
 /// Adds the line of an answer.
@@ -94,41 +87,48 @@ fn is_empty(table: &LanguageTable, languages: &Languages, name: &str) -> bool {
 fn put_of_all(
     of: &Of,
     languages: &mut Languages,
-    (call, argument): (&str, &str),
+    call: &str,
     page: &mut Page,
     answers: &mut Answers,
 ) {
     let answer = match call {
         "add" => languages.add(given(of.table, &of.row, "other", answers)),
-        "mark_inaccurate" => match named(of.table, argument, answers) {
-            Some(language) => languages.mark_inaccurate(language),
-            None => Ok(()),
-        },
         "renew_counts" => languages.renew_counts(),
-        "with_sorted_reports" => {
-            sort_all(languages, column(argument, answers), answers);
-            Ok(())
+        "total" => return put_made(of.table, "Total", languages.total(), page, answers),
+        "debug" => {
+            page.put_debug(languages);
+            return page.put("\n");
         }
-        _ => return put_told_of_all(of, languages, (call, argument), page, answers),
+        _ => return put_with_word(of.table, languages, call, page, answers),
     };
     put_answer(answer, page, answers);
 }
 
-/// Makes a call of languages that only asks, and adds what it answers.
-fn put_told_of_all(
-    of: &Of,
-    languages: &Languages,
-    (call, argument): (&str, &str),
+/// Makes a call of languages that has a word behind its name, and adds what it answers.
+fn put_with_word(
+    table: &LanguageTable,
+    languages: &mut Languages,
+    call: &str,
     page: &mut Page,
     answers: &mut Answers,
 ) {
-    match call {
-        "total" => return put_made(of.table, "Total", languages.total(), page, answers),
-        "is_empty" => page.put_shown(&is_empty(of.table, languages, argument)),
-        "debug" => page.put_debug(languages),
-        _ => answers.fail(RowError::Kind("calls", "a list of calls of languages")),
-    }
-    page.put("\n");
+    let (name, word) = call.split_once(' ').unwrap_or((call, ""));
+    let answer = match name {
+        "mark_inaccurate" => match named(table, word, answers) {
+            Some(language) => languages.mark_inaccurate(language),
+            None => Ok(()),
+        },
+        "with_sorted_reports" => {
+            sort_all(languages, column(word, answers), answers);
+            Ok(())
+        }
+        "is_empty" => {
+            page.put_shown(&is_empty(table, languages, word));
+            return page.put("\n");
+        }
+        _ => return answers.fail(RowError::Kind("calls", "a list of calls of languages")),
+    };
+    put_answer(answer, page, answers);
 }
 
 /// The language of that name that a member has; an empty one where it can't be read.
@@ -148,74 +148,61 @@ fn put_of_one(
     of: &Of,
     name: &str,
     one: &mut Language,
-    (call, argument): (&str, &str),
+    call: &str,
     page: &mut Page,
     answers: &mut Answers,
 ) {
     let answer = match call {
         "add" => one.add(language_of(of, "other", name, answers)),
-        "sort_by" => one.sort_by(column(argument, answers)),
         "total" => one.total(),
-        _ => return put_told_of_one(of, one, (call, argument), page, answers),
+        "summarise" => return put_made(of.table, "Summary", one.summarise(), page, answers),
+        "lines" => {
+            page.put_shown(&answers.read(one.lines(), 0));
+            return page.put("\n");
+        }
+        _ => match call.strip_prefix("sort_by ") {
+            Some(word) => one.sort_by(column(word, answers)),
+            None => {
+                return answers.fail(RowError::Kind("calls", "a list of calls of a language"));
+            }
+        },
     };
     put_answer(answer, page, answers);
 }
 
-/// Makes a call of one language that only asks, and adds what it answers.
-fn put_told_of_one(
-    of: &Of,
-    one: &Language,
-    called: (&str, &str),
-    page: &mut Page,
-    answers: &mut Answers,
-) {
-    match called {
-        ("summarise", "") => return put_made(of.table, "Summary", one.summarise(), page, answers),
-        ("lines", "") => page.put_shown(&answers.read(one.lines(), 0)),
-        _ => answers.fail(RowError::Kind("calls", "a list of calls of a language")),
-    }
-    page.put("\n");
-}
-
-/// Makes the calls of a row, and adds each with what it answers.
-fn put_all(of: &Of, called: &mut Called, page: &mut Page, answers: &mut Answers) {
+/// Makes the calls of a row that are of one language, and says what they answer and how it stands then.
+fn came_of_one(of: &Of, name: &str, answers: &mut Answers) {
+    let mut one = language_of(of, "languages", name, answers);
+    let mut page = Page::new(answers.alloc);
     for value in answers.list(&of.row, "calls") {
-        let call = answers.read(text_of("calls", value), "");
+        let call = answers.text_of("calls", value);
         page.put_all(&[call, ": "]);
-        let parts = call.split_once(' ').unwrap_or((call, ""));
-        match called {
-            Called::All(languages) => put_of_all(of, languages, parts, page, answers),
-            Called::One(name, one) => put_of_one(of, *name, one, parts, page, answers),
-        }
+        put_of_one(of, name, &mut one, call, &mut page, answers);
     }
+    answers.say_page("answers", &page);
+    let mut page = Page::new(answers.alloc);
+    put_language(of.table, name, &one, &mut page);
+    answers.say_page("stand", &page);
 }
 
-/// What a row calls.
-fn called_of<'r>(of: &Of<'_, 'r>, answers: &mut Answers) -> Called<'r> {
-    match answers.text_if(&of.row, "of") {
-        Some(name) => Called::One(name, language_of(of, "languages", name, answers)),
-        None => Called::All(given(of.table, &of.row, "languages", answers)),
+/// Makes the calls of a row that are of all its languages, and says what they answer and how these stand then.
+fn came_of_all(of: &Of, answers: &mut Answers) {
+    let mut languages = given(of.table, &of.row, "languages", answers);
+    let mut page = Page::new(answers.alloc);
+    for value in answers.list(&of.row, "calls") {
+        let call = answers.text_of("calls", value);
+        page.put_all(&[call, ": "]);
+        put_of_all(of, &mut languages, call, &mut page, answers);
     }
-}
-
-/// Says how it stands.
-fn say_standing(table: &LanguageTable, called: &Called, answers: &mut Answers) {
-    match called {
-        Called::All(languages) => say_languages("stand", table, languages, answers),
-        Called::One(name, one) => {
-            let mut page = Page::new(answers.alloc);
-            put_language(table, *name, one, &mut page);
-            answers.say_page("stand", &page);
-        }
-    }
+    answers.say_page("answers", &page);
+    say_languages("stand", of.table, &languages, answers);
 }
 
 /// What the calls answer.
 pub fn came(table: &LanguageTable, row: &Row, answers: &mut Answers) {
     let of = Of { table, row: *row };
-    let mut called = called_of(&of, answers);
-    let mut page = Page::new(answers.alloc);
-    put_all(&of, &mut called, &mut page, answers);
-    answers.say_page("answers", &page);
-    say_standing(table, &called, answers);
+    match answers.text_if(row, "of") {
+        Some(name) => came_of_one(&of, name, answers),
+        None => came_of_all(&of, answers),
+    }
 }

@@ -1,6 +1,6 @@
 //! Rows of what is printed: the rows of languages, of files and of a stream, 81 columns wide.
 use crate::given_languages::{given, named, report};
-use test_rows::{Answers, Members, Row, RowError, text_of};
+use test_rows::{Answers, Members, Row, RowError};
 use tokei_io::{Counted, OutputError};
 use tokei_languages::Languages;
 use tokei_options::NumberFormatStyle;
@@ -118,7 +118,7 @@ fn print(of: &Of, call: &str, page: &mut Page, answers: &mut Answers) -> Printed
 /// Makes the calls of a row, up to one that is refused.
 fn print_all(of: &Of, page: &mut Page, answers: &mut Answers) -> Printed {
     for call in answers.list(&of.row, "calls") {
-        let call = answers.read(text_of("calls", call), "");
+        let call = answers.text_of("calls", call);
         let printed = print(of, call, page, answers);
         if printed.is_err() {
             return printed;
@@ -183,7 +183,7 @@ fn came_of_stream(table: &LanguageTable, row: &Row, answers: &mut Answers) {
         answers.fail(RowError::Memory);
     }
     for value in answers.list(row, "stream") {
-        if let Some(told) = answers.got(row.inner("stream", value)) {
+        if let Some(told) = answers.inner(row, "stream", value) {
             print_report(table, &told, &mut writer, answers);
         }
     }

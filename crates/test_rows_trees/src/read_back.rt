@@ -45,11 +45,7 @@ fn is_read_back(table: &LanguageTable, languages: &Languages, answers: &mut Answ
 /// A list of the text of a member, or of another one where the row hasn't the member.
 fn one(row: &Row, member: &'static str, other: &str, answers: &mut Answers) -> Vec<String> {
     let text = answers.text_if(row, member).unwrap_or(other);
-    let mut list = Vec::new(answers.alloc);
-    if let Some(text) = answers.got(String::from_str(answers.alloc, text)) {
-        answers.done(list.push(text));
-    }
-    list
+    answers.one_string(text)
 }
 
 /// How many reports there are.
@@ -79,21 +75,19 @@ fn say_reports(
 /// Answers how many reports there are of a row's tree: where all ignore files are obeyed, where only
 /// those of git are, and where none is and names that begin with a dot are counted.
 fn came_of_tree(table: &LanguageTable, row: &Row, answers: &mut Answers) {
-    if let Some(folders) = answers.got(folders_of(answers.alloc, row)) {
-        let mut tree = Tree {
-            folders,
-            roots: one(row, "root", ".", answers),
-            excludes: one(row, "exclude", "", answers),
-            config: Config::new(),
-        };
-        say_reports("reports", table, &mut tree, answers);
-        tree.config.no_ignore_dot = Some(true);
-        say_reports("reports_by_git_alone", table, &mut tree, answers);
-        tree.config.no_ignore_dot = None;
-        tree.config.no_ignore = Some(true);
-        tree.config.hidden = Some(true);
-        say_reports("reports_of_all_files", table, &mut tree, answers);
-    }
+    let mut tree = Tree {
+        folders: folders_of(row, answers),
+        roots: one(row, "root", ".", answers),
+        excludes: one(row, "exclude", "", answers),
+        config: Config::new(),
+    };
+    say_reports("reports", table, &mut tree, answers);
+    tree.config.no_ignore_dot = Some(true);
+    say_reports("reports_by_git_alone", table, &mut tree, answers);
+    tree.config.no_ignore_dot = None;
+    tree.config.no_ignore = Some(true);
+    tree.config.hidden = Some(true);
+    say_reports("reports_of_all_files", table, &mut tree, answers);
 }
 
 /// What is answered of a row's tree, or of its languages.

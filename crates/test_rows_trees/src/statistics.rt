@@ -2,7 +2,7 @@
 use crate::configurations::configuration;
 use crate::given_languages::given;
 use crate::shown_languages::say_languages;
-use test_rows::{Answers, Members, Row, Said, folders_of, owned, roots};
+use test_rows::{Answers, Members, Row, Said, folders_of, roots};
 use tokei_config::Config;
 use tokei_folders::MemoryFolders;
 use tokei_languages::Languages;
@@ -61,21 +61,18 @@ pub fn run(
 
 /// Adds what a row has counted to languages, and says how many notes the last run leaves.
 fn count(table: &LanguageTable, row: &Row, languages: &mut Languages, answers: &mut Answers) {
-    let alloc = answers.alloc;
-    let runs = answers.read(row.number_if("runs"), None).unwrap_or(1);
-    if let Some(folders) = answers.got(folders_of(alloc, row)) {
-        let mut tree = Tree {
-            folders,
-            roots: answers.read(roots(alloc, row), Vec::new(alloc)),
-            excludes: answers.read(owned(alloc, row, "excludes"), Vec::new(alloc)),
-            config: configuration(table, row, answers),
-        };
-        let mut notes = 0;
-        for _ in 0..runs {
-            notes = run(table, &mut tree, languages, answers);
-        }
-        answers.say("notes", Said::Number(notes as u128));
+    let runs = answers.number_if(row, "runs").unwrap_or(1);
+    let mut tree = Tree {
+        folders: folders_of(row, answers),
+        roots: roots(row, answers),
+        excludes: answers.strings(row, "excludes"),
+        config: configuration(table, row, answers),
+    };
+    let mut notes = 0;
+    for _ in 0..runs {
+        notes = run(table, &mut tree, languages, answers);
     }
+    answers.say("notes", Said::Number(notes as u128));
 }
 
 /// What the calls answer.

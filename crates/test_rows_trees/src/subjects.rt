@@ -3,7 +3,7 @@ use crate::{
     documents, files, ignore_files, languages, patterns, printed, read_back, statistics, walks,
     words,
 };
-use test_rows::{Answers, Asked, Members, Row, RowError, Subject};
+use test_rows::{Answers, Asked, Members, Row, Subject};
 use tokei_table::LanguageTable;
 
 /// What rows are about: each has a module that asks.
@@ -52,7 +52,7 @@ impl Subject for Rows {
         *self.1
     }
 
-    fn ask(&self, asked: &Asked, row: &Row, answers: &mut Answers) -> Result<(), RowError> {
+    fn ask(&self, asked: &Asked, row: &Row, answers: &mut Answers) {
         match self.2 {
             About::IgnoreFiles => ignore_files::came(row, answers),
             About::Patterns => patterns::came(row, answers),
@@ -63,7 +63,6 @@ impl Subject for Rows {
                 Err(cause) => answers.fail(cause),
             },
         }
-        Ok(())
     }
 }
 

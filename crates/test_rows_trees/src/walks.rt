@@ -1,10 +1,8 @@
 //! Rows of walks: the files that are kept of a tree, and what is noted.
 use crate::odd_folders::Watched;
-use test_rows::{
-    Answers, KINDS, Members, Page, Row, RowError, Said, folders_of, owned, roots, text_of,
-};
+use test_rows::{Answers, Members, Page, Row, RowError, Said, folders_of, roots};
 use tokei_folders::Folders;
-use tokei_walk::{KeptFile, Note, NoteKind, Rules, Walk, kept_files};
+use tokei_walk::{KeptFile, Note, Rules, Walk, kept_files};
 
 /// The members of these rows: a tree, roots, excludes, and the rules that aren't asked for. Where
 /// they are `unnamed`, each folder has a name more, which isn't UTF-8. `kept` are the files and
@@ -44,7 +42,7 @@ fn rules(row: &Row, answers: &mut Answers) -> Rules {
         hidden: true,
     };
     for value in answers.list(row, "without") {
-        match answers.read(text_of("without", value), "") {
+        match answers.text_of("without", value) {
             "parents" => rules.parents = false,
             "dot" => rules.dot = false,
             "git" => rules.git = false,
@@ -53,16 +51,6 @@ fn rules(row: &Row, answers: &mut Answers) -> Rules {
         }
     }
     rules
-}
-
-/// The word for a kind of notes.
-fn word(kind: NoteKind) -> &'static str {
-    for (word, known) in &KINDS {
-        if *known == kind {
-            return *word;
-        }
-    }
-    ""
 }
 
 /// Adds a file's path; its place too, where it is another.
@@ -78,7 +66,7 @@ fn put_file(page: &mut Page, file: &KeptFile) {
 /// Adds the kind and the place of each note.
 fn put_notes(page: &mut Page, notes: &[Note]) {
     for note in notes {
-        page.put(word(note.kind));
+        page.put_debug(&note.kind);
         page.put_all(&[":", note.place.as_str(), "\n"]);
     }
 }
@@ -123,22 +111,19 @@ fn say_walked<F: Folders>(folders: &mut F, wanted: &Wanted, answers: &mut Answer
 
 /// What the calls answer.
 pub fn came(row: &Row, answers: &mut Answers) {
-    let alloc = answers.alloc;
     let wanted = Wanted {
-        roots: answers.read(roots(alloc, row), Vec::new(alloc)),
-        excludes: answers.read(owned(alloc, row, "excludes"), Vec::new(alloc)),
+        roots: roots(row, answers),
+        excludes: answers.strings(row, "excludes"),
         rules: rules(row, answers),
     };
-    if let Some(inner) = answers.got(folders_of(alloc, row)) {
-        let mut folders = Watched {
-            inner,
-            unnamed: answers.flag(row, "unnamed"),
-            calls: 0,
-            reads: 0,
-        };
-        say_kept(&mut folders, &wanted, answers);
-        answers.say("calls", Said::Number(folders.calls as u128));
-        answers.say("reads", Said::Number(folders.reads as u128));
-        say_walked(&mut folders, &wanted, answers);
-    }
+    let mut folders = Watched {
+        inner: folders_of(row, answers),
+        unnamed: answers.flag(row, "unnamed"),
+        calls: 0,
+        reads: 0,
+    };
+    say_kept(&mut folders, &wanted, answers);
+    answers.say("calls", Said::Number(folders.calls as u128));
+    answers.say("reads", Said::Number(folders.reads as u128));
+    say_walked(&mut folders, &wanted, answers);
 }

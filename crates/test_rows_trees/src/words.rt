@@ -60,7 +60,7 @@ fn say_words(words: &[&str], answers: &mut Answers) {
 fn say_style(word: &str, row: &Row, answers: &mut Answers) {
     match (
         word.parse::<NumberFormatStyle>(),
-        answers.read(row.number_if("number"), None),
+        answers.number_if(row, "number"),
     ) {
         (Ok(style), Some(number)) => {
             let text = style.get_format().grouped(answers.alloc, number as usize);
