@@ -1,5 +1,5 @@
 -- The answer to the words is what the program writes and what it says beside that.
-use Rattle.std.proofs.Common.{◌∙◌, string_bytes, subst, sym}
+use Rattle.std.proofs.Common.{string_bytes, subst}
 use Rattle.std.specs.Io.KnownBytes.{Appends}
 use Rattle.tokei_program.proofs.entry.program.Goals as goal
 
@@ -19,12 +19,3 @@ returns-in-Ok-put-clause-noted g c t told done = record {
   beside = c.in-Ok.ensures.noted t told;
   appended = subst (λ bs. Appends (g.E.Sink.contents c.args.err.now) (g.E.Sink.contents c.put.new.writer) bs) c.as_bytes.ensures.value c.in-Ok-put.ensures.bytes;
 }
-
-pub returns-in-Ok-say-clause-said : goal.returns-in-Ok-say-clause-said
-returns-in-Ok-say-clause-said g c below same failed = c.in-Ok-say.ensures.said (sym c.status.ensures.is ∙ failed)
-
-pub returns-in-Ok-say-clause-refused : goal.returns-in-Ok-say-clause-refused
-returns-in-Ok-say-clause-refused g c two = c.in-Err.ensures.unwritten (sym c.status.ensures.is ∙ two)
-
-pub returns-in-Ok-say-clause-unread : goal.returns-in-Ok-say-clause-unread
-returns-in-Ok-say-clause-unread g c two = c.in-Err.ensures.unread (sym c.status.ensures.is ∙ two)
