@@ -31,11 +31,7 @@ fn flush_output<W: Write>(rt: &HostRuntime, status: u8, out: &mut W) -> ExitCode
 }
 
 /// Runs the program with these words over real folders, and with the real ends.
-fn run_with_words(
-    rt: &HostRuntime,
-    words: &[&str],
-    env: &Env,
-) -> Result<ExitCode, Unstarted> {
+fn run_with_words(rt: &HostRuntime, words: &[&str], env: &Env) -> Result<ExitCode, Unstarted> {
     let system = rt.clone()?;
     let mut out = Counted::new(BufWriter::new(rt.alloc(), io::writer(rt))?);
     let mut folders = RealFolders::new(system);
