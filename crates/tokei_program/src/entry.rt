@@ -19,7 +19,7 @@ use crate::environment::Env;
 use crate::notes::passed_text;
 use crate::preparing::{Preparation, Request, prepare, table_of};
 use crate::reasons::{ended, run_ended};
-use crate::saying::conclude;
+use crate::saying::{conclude, say_beside};
 use crate::shown::shown_notes;
 use std::alloc::Global;
 use std::mem::forget;
@@ -35,8 +35,7 @@ fn write_prepared<F: Folders, W: Sink>(
     folders: &mut F,
     out: &mut W,
 ) -> Result<String, Ending>
-    requires excludes {
-        texts_of prepared.now.job.ignored.items ≡ excludes_of request.now.cli.now }
+    requires excludes { texts_of prepared.now.job.ignored.items ≡ excludes_of request.now.cli.now }
     ensures same { SameTree F.tree folders.old folders.new }
     ensures told { Told (F.tree folders.old) (λ t. OnOk result (Outputs prepared.now.job.wanted
         table.now prepared.now.job t (W.contents out.old) (W.contents out.new))) }
@@ -186,7 +185,6 @@ fn answer_words<F: Folders, S: Source, W: Sink>(
 /// neither writer had a fault. Where the status is 1 and `err` had no fault, one message stands in
 /// it. Once a run has begun, the memory of its table isn't given back, since the process mostly
 /// ends next.
-#[tactic(auto, using(tokei_io::proofs::Printing::printing_counts))]
 pub fn program<F: Folders, S: Source, W: Sink, E: Sink>(
     alloc: Global,
     words: &[&str],
@@ -217,10 +215,7 @@ pub fn program<F: Folders, S: Source, W: Sink, E: Sink>(
         → result ≡ 1 → Says (E.contents err.old) (E.contents err.new) }
 {
     match answer_words(alloc, words, env, folders, input, out) {
-        Ok(text) => match put(err, text.as_bytes()) {
-            Ok(()) => 0,
-            Err(_) => 1,
-        },
+        Ok(text) => say_beside(text.as_bytes(), err),
         Err(ending) => conclude(alloc, &ending, err),
     }
 }

@@ -60,3 +60,19 @@ pub fn conclude<E: Sink>(alloc: Global, ending: &Ending, err: &mut E) -> u8
         Err(_) => 1,
     }
 }
+
+/// Says what is to be said beside an answer, and answers the exit status: 0, or 1 where it can't be
+/// said.
+pub fn say_beside<E: Sink>(text: &[u8], err: &mut E) -> u8
+    ensures status { result ≤ 1 }
+    ensures bytes { result ≡ 0 → Appends (E.contents err.old) (E.contents err.new) text.now }
+    ensures fault { E.faults err.old < u64.MAX → result ≢ 1
+        → E.faults err.new ≡ E.faults err.old }
+    ensures failed { E.faults err.old < u64.MAX → E.faults err.new ≡ E.faults err.old
+        → result ≢ 1 }
+{
+    match put(err, text) {
+        Ok(()) => 0,
+        Err(_) => 1,
+    }
+}
