@@ -31,9 +31,10 @@ fn flush_output<W: Write>(rt: &HostRuntime, status: u8, out: &mut W) -> ExitCode
 }
 
 /// Runs the program with these words over real folders, and with the real ends.
-fn run_with_words(rt: &HostRuntime, words: &[&str], env: &Env) -> io::Result<ExitCode> {
-    let mut folders = RealFolders::new(rt.clone()?);
+fn run_with_words(rt: &HostRuntime, words: &[&str], env: &Env) -> Result<ExitCode, Unstarted> {
+    let system = rt.clone()?;
     let mut out = Counted::new(BufWriter::new(rt.alloc(), io::writer(rt))?);
+    let mut folders = RealFolders::new(system);
     let mut input = Counted::new(RetriedReader::new(rt.reader()));
     let stderr = rt.stderr();
     let mut err = Counted::new(io::writer(&stderr));
@@ -55,7 +56,7 @@ fn run_program(rt: &HostRuntime) -> Result<ExitCode, Unstarted> {
     let all = words(rt)?;
     let words: Vec<&str> = all.iter().map(|word| word.as_str()).collect(rt.alloc())?;
     let env = env_of(rt)?;
-    Ok(run_with_words(rt, &words, &env)?)
+    run_with_words(rt, &words, &env)
 }
 
 /// Says why the program isn't run, and returns the status of that.

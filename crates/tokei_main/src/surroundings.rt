@@ -11,25 +11,25 @@ const TABLE: &str = "share/tokei/languages.json";
 
 /// The text of an environment variable; none where it isn't set or is no text. It fails where
 /// memory runs out.
-fn variable(rt: &HostRuntime, name: &str) -> io::Result<Option<String>> {
+fn variable(rt: &HostRuntime, name: &str) -> Result<Option<String>, AllocError> {
     match env::var(rt, name) {
         Ok(text) => Ok(Some(text)),
-        Err(VarError::OutOfMemory) => Err(io::Error::from(AllocError)),
+        Err(VarError::OutOfMemory) => Err(AllocError),
         Err(_) => Ok(None),
     }
 }
 
 /// What was asked, where it could be told. It fails where memory runs out.
-fn known<T>(asked: io::Result<T>) -> io::Result<Option<T>> {
+fn known<T>(asked: io::Result<T>) -> Result<Option<T>, AllocError> {
     match asked {
         Ok(value) => Ok(Some(value)),
-        Err(error) if error.kind() == ErrorKind::OutOfMemory => Err(error),
+        Err(error) if error.kind() == ErrorKind::OutOfMemory => Err(AllocError),
         Err(_) => Ok(None),
     }
 }
 
 /// Where the table stands that is installed with a program, by the place of the program.
-fn table_beside(rt: &HostRuntime, program: &PathBuf) -> io::Result<Option<String>> {
+fn table_beside(rt: &HostRuntime, program: &PathBuf) -> Result<Option<String>, AllocError> {
     let Some(folder) = program.parent() else {
         return Ok(None);
     };
@@ -41,7 +41,7 @@ fn table_beside(rt: &HostRuntime, program: &PathBuf) -> io::Result<Option<String
 }
 
 /// The table that was installed with the program, where there is one.
-fn installed_table(rt: &HostRuntime) -> io::Result<Option<String>> {
+fn installed_table(rt: &HostRuntime) -> Result<Option<String>, AllocError> {
     let Some(program) = known(env::current_exe(rt))? else {
         return Ok(None);
     };
@@ -55,7 +55,7 @@ fn installed_table(rt: &HostRuntime) -> io::Result<Option<String>> {
 }
 
 /// The variables that the program asks for, and the table that was installed with it.
-pub fn env_of(rt: &HostRuntime) -> io::Result<Env> {
+pub fn env_of(rt: &HostRuntime) -> Result<Env, AllocError> {
     let xdg_config_home = variable(rt, "XDG_CONFIG_HOME")?;
     let home = variable(rt, "HOME")?;
     Ok(Env {

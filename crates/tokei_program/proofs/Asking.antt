@@ -1,6 +1,8 @@
 -- What a command line asks for is written, where the list or the counts are.
-use Rattle.std.proofs.Common.{◌≡◌, ◌≢◌, ℕ, List, [], true, false, Option, Result, Ok, Err, IfOk, OnOk, String, inr, string_bytes, sym, subst}
+use Rattle.std.proofs.Common.{◌≡◌, ◌≢◌, ℕ, List, [], true, false, Option, Some, Result, Ok, Err, IfOk, OnOk, String, inr, string_bytes, sym, subst}
 use Rattle.std.specs.Global.{Global}
+use Rattle.tokei.specs.declared.job.Job.{Job}
+use Rattle.tokei.specs.Output.{Outputs}
 use Rattle.tokei_cli.specs.CommandLines.{excludes_of, inputs_of}
 use Rattle.tokei_cli.specs.Lines.{IsLineOf}
 use Rattle.tokei_cli.specs.declared.cli.Cli.{Cli}
@@ -8,7 +10,9 @@ use Rattle.tokei_config.specs.declared.flaws.Flaw.{Flaw}
 use Rattle.tokei_folders.specs.Tree.{Tree}
 use Rattle.tokei_program.specs.Beside.{IsBeside, ShowsAsked, ShowsBy, ShowsNotes, Met}
 use Rattle.tokei_program.specs.declared.environment.Env.{Env}
+use Rattle.tokei_program.specs.Jobs.{IsJobOf}
 use Rattle.tokei_program.specs.NotesText.{passed_text}
+use Rattle.tokei_program.specs.Tables.{place_of_table, table_at}
 use Rattle.tokei_program.specs.Writing.{Writes, WritesAsked, WritesBy, WritesCounts, WritesList}
 use Rattle.tokei_table.specs.Row.{Row}
 use Rattle.tokei_walk.specs.declared.kept_file.Note.{Note}
@@ -28,6 +32,12 @@ module _ {A E : Type 0} (env : Env) (t : Tree) (c : Cli) (input old new : Option
     inputs = named;
     written = subst (λ b. WritesBy b c env t input old new) (sym counts) written;
   }
+
+  -- the counts are those of a run that is the command line's
+  pub counts_written : (rows : List Row) (job : Job) (r : Result A E) → table_at t (place_of_table env c) ≡ Some (Ok rows) → IsJobOf rows c env t input job
+      → OnOk r (Outputs job.wanted rows job t old new) → OnOk r (WritesCounts c env t input old new)
+  counts_written rows job (Err e) table is written = tt
+  counts_written rows job (Ok a) table is written = record { rows = rows; table = table; job = job; is = is; outputs = written }
 
 -- what the command line of the words asks for is written, and so either is
 pub either_is : {A E : Type 0} (words : List (List ℕ)) (c : Cli) (env : Env) (t : Tree) (input old new : Option (List ℕ)) (r : Result A E) → IsLineOf words c

@@ -1,26 +1,62 @@
 //! The whole program but for its real ends.
-ghost use Rattle.std.specs.Prelude.{◌≡◌, ◌≢◌, ◌<◌, ◌≤◌, [], IfErr, IfOk, OnOk, map, string_bytes};
-ghost use Rattle.tokei_cli.specs.CommandLines.{inputs_of};
+ghost use Rattle.std.specs.Prelude.{◌≡◌, ◌≢◌, ◌<◌, ◌≤◌, [], IfErr, IfOk, Ok, OnOk, Some, map, string_bytes};
+ghost use Rattle.tokei.specs.Output.{Outputs};
+ghost use Rattle.tokei_cli.specs.CommandLines.{excludes_of, inputs_of};
 ghost use Rattle.tokei_folders.specs.Answers.{Told};
 ghost use Rattle.tokei_program.specs.Choices.{Chooses};
 ghost use Rattle.tokei_program.specs.Beside.{AnyMet, IsBeside, SaysBeside, ShowsAsked, ShowsNotes, MetIn};
+ghost use Rattle.tokei_program.specs.Jobs.{AreFlaws};
 ghost use Rattle.tokei_program.specs.Messages.{Says};
 ghost use Rattle.tokei_program.specs.Statuses.{status_of};
+ghost use Rattle.tokei_program.specs.Tables.{place_of_table, table_at};
 ghost use Rattle.tokei_program.specs.Writing.{Writes, WritesAsked, WritesCounts, WritesList};
 ghost use Rattle.tokei_folders.specs.AsTheyWere.{SameTree};
+ghost use Rattle.tokei_walk.specs.Walks.{texts_of};
 
 use crate::choices::Choices;
 use crate::ending::Ending;
 use crate::environment::Env;
 use crate::notes::passed_text;
-use crate::preparing::{Request, prepare, table_of};
+use crate::preparing::{Preparation, Request, prepare, table_of};
 use crate::reasons::{ended, run_ended};
-use crate::saying::say;
+use crate::saying::{conclude, say_beside};
 use crate::shown::shown_notes;
 use std::alloc::Global;
 use std::mem::forget;
-use tokei::{Folders, Sink, Source, put, run};
+use tokei::{Folders, LanguageTable, Sink, Source, put, run};
 use tokei_cli::{Cli, CliError, print_supported_languages};
+
+/// Runs what was prepared over a table. What is to be said beside it is answered.
+fn write_prepared<F: Folders, W: Sink>(
+    alloc: Global,
+    request: &Request,
+    table: &LanguageTable,
+    prepared: &Preparation,
+    folders: &mut F,
+    out: &mut W,
+) -> Result<String, Ending>
+    requires excludes { texts_of prepared.now.job.ignored.items ≡ excludes_of request.now.cli.now }
+    ensures same { SameTree F.tree folders.old folders.new }
+    ensures told { Told (F.tree folders.old) (λ t. OnOk result (Outputs prepared.now.job.wanted
+        table.now prepared.now.job t (W.contents out.old) (W.contents out.new))) }
+    ensures beside { IfOk result (λ text. ShowsNotes AnyMet request.now.cli.now (string_bytes text)) }
+    ensures noted { Told (F.tree folders.old) (λ t.
+        table_at t (place_of_table request.now.env.now request.now.cli.now) ≡ Some (Ok table.now)
+        → AreFlaws table.now request.now.env.now t prepared.now.flaws.items
+        → IfOk result (λ text.
+        ShowsNotes (MetIn request.now.env.now t) request.now.cli.now (string_bytes text))) }
+    ensures fault { W.faults out.old < u64.MAX → OnOk result (W.faults out.new ≡ W.faults out.old) }
+    ensures failed { IfErr result (λ e. status_of e ≡ 1) }
+{
+    match run(alloc, table, folders, &prepared.job, out) {
+        Ok(notes) => {
+            let shown = shown_notes(alloc, folders, &notes)?;
+            let text = passed_text(alloc, table, request.cli, &shown, &prepared.flaws)?;
+            Ok(text)
+        }
+        Err(error) => Err(run_ended(alloc, error, folders, out)),
+    }
+}
 
 /// Counts what a command line names, and writes what it wants of that. What is to be said beside it
 /// is answered.
@@ -45,16 +81,10 @@ fn write_counts<F: Folders, S: Source, W: Sink>(
 {
     let table = table_of(alloc, request.cli, request.env, folders)?;
     let prepared = prepare(alloc, request, choices, &table, folders, input)?;
-    match run(alloc, &table, folders, &prepared.job, out) {
-        Ok(notes) => {
-            let shown = shown_notes(alloc, folders, &notes)?;
-            let text = passed_text(alloc, &table, request.cli, &shown, &prepared.flaws)?;
-            // the program ends next: to free each text of the table would be a tenth of a short run
-            forget(table);
-            Ok(text)
-        }
-        Err(error) => Err(run_ended(alloc, error, folders, out)),
-    }
+    let said = write_prepared(alloc, request, &table, &prepared, folders, out);
+    // the program ends next: to free each text of the table would be a tenth of a short run
+    forget(table);
+    said
 }
 
 /// Lists the languages of the table that a command line names.
@@ -153,9 +183,8 @@ fn answer_words<F: Folders, S: Source, W: Sink>(
 /// as many as the command line shows. A refused
 /// command line is seen before anything is read or written. Any other status than 1 says that
 /// neither writer had a fault. Where the status is 1 and `err` had no fault, one message stands in
-/// it. Where counts were written, the memory of their table isn't given back, since the process
-/// mostly ends next.
-#[tactic(auto, using(tokei_io::proofs::Printing::printing_counts))]
+/// it. Once a run has begun, the memory of its table isn't given back, since the process mostly
+/// ends next.
 pub fn program<F: Folders, S: Source, W: Sink, E: Sink>(
     alloc: Global,
     words: &[&str],
@@ -186,13 +215,7 @@ pub fn program<F: Folders, S: Source, W: Sink, E: Sink>(
         → result ≡ 1 → Says (E.contents err.old) (E.contents err.new) }
 {
     match answer_words(alloc, words, env, folders, input, out) {
-        Ok(text) => match put(err, text.as_bytes()) {
-            Ok(()) => 0,
-            Err(_) => 1,
-        },
-        Err(ending) => match say(alloc, &ending, err) {
-            Ok(()) => ending.status(),
-            Err(_) => 1,
-        },
+        Ok(text) => say_beside(text.as_bytes(), err),
+        Err(ending) => conclude(alloc, &ending, err),
     }
 }

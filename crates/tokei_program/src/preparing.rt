@@ -42,32 +42,44 @@ fn place_of_table<'a>(cli: &'a Cli, env: &'a Env) -> &'a str
 }
 
 /// Why no table can be read at a place, by what stands there.
-fn cause_at<F: Folders>(folders: &mut F, place: &str) -> Result<&'static str, Ending>
+fn cause_at<F: Folders>(folders: &mut F, place: &str) -> Result<&'static str, AllocError>
     ensures same { SameTree F.tree folders.old folders.new }
-    ensures failed { IfErr result (λ e. status_of e ≡ 1) }
 {
     match folders.kind(place) {
         Ok(Kind::File) => Ok("the file can't be read"),
         Ok(Kind::Folder) => Ok("it is a folder"),
         Ok(Kind::Other) => Ok("it is no file"),
         Err(Fault::Refused) => Ok("nothing can be found there"),
-        Err(Fault::Memory) => Err(Ending::Memory),
+        Err(Fault::Memory) => Err(AllocError),
     }
 }
 
-/// That no table can be read at a place, and why: in the system's words, or by what stands there.
-fn no_table<F: Folders>(alloc: Global, folders: &mut F, place: &str) -> Result<Ending, Ending>
+/// A place at which no table can be read, and why: in the system's words, or by what stands there.
+fn place_and_cause<F: Folders>(
+    alloc: Global,
+    folders: &mut F,
+    place: &str,
+) -> Result<String, AllocError>
     ensures same { SameTree F.tree folders.old folders.new }
-    ensures ends { IfOk result (λ e. status_of e ≡ 1) }
-    ensures failed { IfErr result (λ e. status_of e ≡ 1) }
 {
     let words = folders.cause(alloc)?;
-    let cause = if words.as_bytes().is_empty() {
+    let cause = if words.is_empty() {
         cause_at(folders, place)?
     } else {
         words.as_str()
     };
-    Ok(Ending::NoTable(format!(in alloc; "{place}: {cause}")?))
+    format!(in alloc; "{place}: {cause}")
+}
+
+/// That no table can be read at a place, and why.
+fn no_table<F: Folders>(alloc: Global, folders: &mut F, place: &str) -> Ending
+    ensures same { SameTree F.tree folders.old folders.new }
+    ensures failed { status_of result ≡ 1 }
+{
+    match place_and_cause(alloc, folders, place) {
+        Ok(text) => Ending::NoTable(text),
+        Err(_) => Ending::Memory,
+    }
 }
 
 /// The table that the command line names, else the one of the environment.
@@ -87,10 +99,10 @@ pub fn table_of<F: Folders>(
         Ok(bytes) => match LanguageTable::from_json(alloc, &bytes) {
             Ok(table) => Ok(table),
             Err(TableError::Memory) => Err(Ending::Memory),
-            Err(error) => Err(refused_table(alloc, error, &bytes)?),
+            Err(error) => Err(refused_table(alloc, error, &bytes)),
         },
         Err(Fault::Memory) => Err(no_memory(alloc, folders)),
-        Err(Fault::Refused) => Err(no_table(alloc, folders, place)?),
+        Err(Fault::Refused) => Err(no_table(alloc, folders, place)),
     }
 }
 
@@ -141,7 +153,7 @@ fn languages_of<S: Source>(
 /// doesn't begin as a document does.
 fn with_cause<F: Folders>(alloc: Global, name: &str, folders: &F) -> Result<String, AllocError> {
     let words = folders.cause(alloc)?;
-    if words.as_bytes().is_empty() || name.as_bytes().first() == Some(&b'{') {
+    if words.is_empty() || name.as_bytes().starts_with(b"{") {
         return String::from_str(alloc, name);
     }
     format!(in alloc; "{name}: {words}")

@@ -1,5 +1,5 @@
 //! How a run ends, in the words that folders, readers and writers have for it.
-ghost use Rattle.std.specs.Prelude.{◌≡◌, IfErr, IfOk};
+ghost use Rattle.std.specs.Prelude.{◌≡◌};
 ghost use Rattle.tokei_program.specs.Statuses.{status_of};
 
 use crate::ending::Ending;
@@ -11,11 +11,7 @@ use tokei_table::TableFlaw;
 /// The words, where there are some.
 fn some_words(words: Result<String, AllocError>) -> Option<String> {
     match words {
-        Ok(words) => if words.as_bytes().is_empty() {
-            None
-        } else {
-            Some(words)
-        },
+        Ok(words) => if words.is_empty() { None } else { Some(words) },
         Err(_) => None,
     }
 }
@@ -30,14 +26,22 @@ pub fn no_memory<F: Folders>(alloc: Global, folders: &F) -> Ending
     }
 }
 
-/// A table is refused: with the language and the member that go wrong, where those can be told.
-pub fn refused_table(alloc: Global, error: TableError, bytes: &[u8]) -> Result<Ending, Ending>
-    ensures ends { IfOk result (λ e. status_of e ≡ 1) }
-    ensures failed { IfErr result (λ e. status_of e ≡ 1) }
-{
+/// The language and the member that go wrong in a table, where those can be told.
+fn flaw_in(alloc: Global, bytes: &[u8]) -> Result<Option<String>, AllocError> {
     match TableFlaw::find(alloc, bytes)? {
-        Some(flaw) => Ok(Ending::TableFlaw(format!(in alloc; "{flaw}")?)),
-        None => Ok(Ending::Table(error)),
+        Some(flaw) => Ok(Some(format!(in alloc; "{flaw}")?)),
+        None => Ok(None),
+    }
+}
+
+/// A table is refused: with the language and the member that go wrong, where those can be told.
+pub fn refused_table(alloc: Global, error: TableError, bytes: &[u8]) -> Ending
+    ensures { status_of result ≡ 1 }
+{
+    match flaw_in(alloc, bytes) {
+        Ok(Some(flaw)) => Ending::TableFlaw(flaw),
+        Ok(None) => Ending::Table(error),
+        Err(_) => Ending::Memory,
     }
 }
 

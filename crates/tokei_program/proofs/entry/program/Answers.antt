@@ -1,30 +1,36 @@
 -- The answer to the words is what the program writes and what it says beside that.
-use Rattle.std.proofs.Common.{◌∙◌, string_bytes, subst, sym}
+use Rattle.std.proofs.Common.{arith, string_bytes, subst}
 use Rattle.std.specs.Io.KnownBytes.{Appends}
 use Rattle.tokei_program.proofs.entry.program.Goals as goal
 
-pub returns-in-Ok-put-clause-written : goal.returns-in-Ok-put-clause-written
-returns-in-Ok-put-clause-written g c t told done = c.in-Ok.ensures.told t told
+pub returns-in-Ok-clause-written : goal.returns-in-Ok-clause-written
+returns-in-Ok-clause-written g c t told done = c.in-Ok.ensures.told t told
 
-pub returns-in-Ok-put-clause-beside : goal.returns-in-Ok-put-clause-beside
-returns-in-Ok-put-clause-beside g c done = record {
+pub returns-in-Ok-clause-beside : goal.returns-in-Ok-clause-beside
+returns-in-Ok-clause-beside g c done = record {
   text = string_bytes c.in-Ok.text;
   beside = c.in-Ok.ensures.beside;
-  appended = subst (λ bs. Appends (g.E.Sink.contents c.args.err.now) (g.E.Sink.contents c.put.new.writer) bs) c.as_bytes.ensures.value c.in-Ok-put.ensures.bytes;
+  appended = subst (λ bs. Appends (g.E.Sink.contents c.args.err.now) (g.E.Sink.contents c.say_beside.new.err) bs) c.as_bytes.ensures.value (c.say_beside.ensures.bytes done);
 }
 
-pub returns-in-Ok-put-clause-noted : goal.returns-in-Ok-put-clause-noted
-returns-in-Ok-put-clause-noted g c t told done = record {
+pub returns-in-Ok-clause-noted : goal.returns-in-Ok-clause-noted
+returns-in-Ok-clause-noted g c t told done = record {
   text = string_bytes c.in-Ok.text;
   beside = c.in-Ok.ensures.noted t told;
-  appended = subst (λ bs. Appends (g.E.Sink.contents c.args.err.now) (g.E.Sink.contents c.put.new.writer) bs) c.as_bytes.ensures.value c.in-Ok-put.ensures.bytes;
+  appended = subst (λ bs. Appends (g.E.Sink.contents c.args.err.now) (g.E.Sink.contents c.say_beside.new.err) bs) c.as_bytes.ensures.value (c.say_beside.ensures.bytes done);
 }
 
-pub returns-in-Ok-say-clause-said : goal.returns-in-Ok-say-clause-said
-returns-in-Ok-say-clause-said g c below same failed = c.in-Ok-say.ensures.said (sym c.status.ensures.is ∙ failed)
+pub returns-in-Ok-clause-refused : goal.returns-in-Ok-clause-refused
+returns-in-Ok-clause-refused g c two = absurd (omega arith)
 
-pub returns-in-Ok-say-clause-refused : goal.returns-in-Ok-say-clause-refused
-returns-in-Ok-say-clause-refused g c two = c.in-Err.ensures.unwritten (sym c.status.ensures.is ∙ two)
+pub returns-in-Ok-clause-unread : goal.returns-in-Ok-clause-unread
+returns-in-Ok-clause-unread g c two = absurd (omega arith)
 
-pub returns-in-Ok-say-clause-unread : goal.returns-in-Ok-say-clause-unread
-returns-in-Ok-say-clause-unread g c two = c.in-Err.ensures.unread (sym c.status.ensures.is ∙ two)
+pub returns-in-Ok-clause-said : goal.returns-in-Ok-clause-said
+returns-in-Ok-clause-said g c below same failed = absurd (c.say_beside.ensures.failed below same failed)
+
+pub returns-in-Err-clause-refused : goal.returns-in-Err-clause-refused
+returns-in-Err-clause-refused g c two = c.in-Err.ensures.unwritten (c.conclude.ensures.refused two)
+
+pub returns-in-Err-clause-unread : goal.returns-in-Err-clause-unread
+returns-in-Err-clause-unread g c two = c.in-Err.ensures.unread (c.conclude.ensures.refused two)

@@ -1,62 +1,31 @@
 -- What is written is the output of the run that was prepared over the table.
-use Rattle.std.proofs.Common.{◌≡◌, ◌∙◌, List, ap, map, rules, string_bytes, subst}
-use Rattle.tokei_walk.specs.Walks.{texts_of}
-use Rattle.tokei_program.proofs.Asking.{notes_shown}
-use Rattle.tokei_program.specs.Beside.{AnyMet, MetIn}
-use Rattle.tokei_program.specs.NotesText.{passed_text}
-use Rattle.tokei_program.specs.Shown.{AreShown, shown_note}
-use Rattle.tokei_walk.specs.declared.kept_file.Note.{Note}
+use Rattle.std.proofs.Common.{◌∙◌}
+use Rattle.tokei_program.proofs.Asking.{counts_written}
 use Rattle.tokei_program.proofs.entry.write_counts.Goals as goal
 
-pub returns-in_ok-text-in-Ok-clause-told : goal.returns-in_ok-text-in-Ok-clause-told
-returns-in_ok-text-in-Ok-clause-told g c t told = record {
-  rows = c.in_ok-table.table;
-  table = c.in_ok-table.ensures.told t told;
-  job = c.in_ok-prepared.prepared.job;
-  is = c.in_ok-prepared.ensures.told t (c.table_of.ensures.same ∙ told);
-  outputs = c.in-Ok.ensures.told t (c.prepare.ensures.same ∙ (c.table_of.ensures.same ∙ told));
-}
+pub returns-clause-told : goal.returns-clause-told
+returns-clause-told g c t told =
+    let read = c.table_of.ensures.same ∙ told in
+    counts_written c.args.request.now.env.now t c.args.request.now.cli.now (g.S.Source.remaining c.args.input.now)
+    (g.W.Sink.contents c.args.out.now) (g.W.Sink.contents c.write_prepared-said.new.out) c.in_ok-table.table c.in_ok-prepared.prepared.job c.write_prepared-said.result
+    (c.in_ok-table.ensures.told t told) (c.in_ok-prepared.ensures.told t read) (c.write_prepared-said.ensures.told t (c.prepare.ensures.same ∙ read))
 
-pub returns-in_ok-text-in-Ok-clause-beside : goal.returns-in_ok-text-in-Ok-clause-beside
-returns-in_ok-text-in-Ok-clause-beside g c =
-    let flaws = c.in_ok-prepared.prepared.flaws.items in
-    let notes = c.in-Ok.notes.items in
-    let as_shown = c.in_ok-shown-in-Ok.shown.items in
-    let shown : string_bytes c.in_ok-text-in-Ok.text ≡ passed_text c.in_ok-table.table c.args.request.now.cli.now as_shown flaws = search rules in
-    let these : c.deref.result.now ≡ notes = search rules in
-    notes_shown AnyMet c.args.request.now.cli.now c.in_ok-table.table flaws
-    (texts_of c.in_ok-prepared.prepared.job.ignored.items) notes as_shown (string_bytes c.in_ok-text-in-Ok.text)
-    (subst (λ (ns : List Note). AreShown ns as_shown) these c.in_ok-shown-in-Ok.ensures.some)
-    c.in_ok-prepared.ensures.excludes c.in-Ok.ensures.notes shown
+pub returns-clause-beside : goal.returns-clause-beside
+returns-clause-beside g c = c.write_prepared-said.ensures.beside
 
-pub returns-in_ok-text-in-Ok-clause-noted : goal.returns-in_ok-text-in-Ok-clause-noted
-returns-in_ok-text-in-Ok-clause-noted g c t told =
-    let flaws = c.in_ok-prepared.prepared.flaws.items in
-    let notes = c.in-Ok.notes.items in
-    let as_shown = c.in_ok-shown-in-Ok.shown.items in
-    let shown : string_bytes c.in_ok-text-in-Ok.text ≡ passed_text c.in_ok-table.table c.args.request.now.cli.now as_shown flaws = search rules in
-    let these : c.deref.result.now ≡ notes = search rules in
-    let same = c.run.ensures.same ∙ (c.prepare.ensures.same ∙ (c.table_of.ensures.same ∙ told)) in
-    notes_shown (MetIn c.args.request.now.env.now t) c.args.request.now.cli.now c.in_ok-table.table flaws
-    (texts_of c.in_ok-prepared.prepared.job.ignored.items) notes as_shown (string_bytes c.in_ok-text-in-Ok.text)
-    (record {
-      table = c.in_ok-table.ensures.told t told;
-      empty = c.in_ok-prepared.ensures.flawed t (c.table_of.ensures.same ∙ told);
-      plain = c.in_ok-shown-in-Ok.ensures.silent t same ∙ ap (λ (ns : List Note). map shown_note ns) these;
-    })
-    c.in_ok-prepared.ensures.excludes c.in-Ok.ensures.notes shown
+pub returns-clause-noted : goal.returns-clause-noted
+returns-clause-noted g c t told =
+    let read = c.table_of.ensures.same ∙ told in
+    c.write_prepared-said.ensures.noted t (c.prepare.ensures.same ∙ read) (c.in_ok-table.ensures.told t told) (c.in_ok-prepared.ensures.flawed t read)
 
-pub returns-in_ok-text-in-Ok-clause-same : goal.returns-in_ok-text-in-Ok-clause-same
-returns-in_ok-text-in-Ok-clause-same g c = c.run.ensures.same ∙ (c.prepare.ensures.same ∙ c.table_of.ensures.same)
+pub returns-clause-fault : goal.returns-clause-fault
+returns-clause-fault g c = c.write_prepared-said.ensures.fault
 
-pub returns-in_err-text-in-Ok-clause-same : goal.returns-in_err-text-in-Ok-clause-same
-returns-in_err-text-in-Ok-clause-same g c = c.run.ensures.same ∙ (c.prepare.ensures.same ∙ c.table_of.ensures.same)
+pub returns-clause-failed : goal.returns-clause-failed
+returns-clause-failed g c = c.write_prepared-said.ensures.failed
 
-pub returns-in_err-shown-in-Ok-clause-same : goal.returns-in_err-shown-in-Ok-clause-same
-returns-in_err-shown-in-Ok-clause-same g c = c.run.ensures.same ∙ (c.prepare.ensures.same ∙ c.table_of.ensures.same)
-
-pub returns-in-Err-clause-same : goal.returns-in-Err-clause-same
-returns-in-Err-clause-same g c = c.run.ensures.same ∙ (c.prepare.ensures.same ∙ c.table_of.ensures.same)
+pub returns-clause-same : goal.returns-clause-same
+returns-clause-same g c = c.write_prepared-said.ensures.same ∙ (c.prepare.ensures.same ∙ c.table_of.ensures.same)
 
 pub returns-in_err-prepared-clause-same : goal.returns-in_err-prepared-clause-same
 returns-in_err-prepared-clause-same g c = c.prepare.ensures.same ∙ c.table_of.ensures.same
