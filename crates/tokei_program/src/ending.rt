@@ -3,38 +3,53 @@ ghost use Rattle.std.specs.Prelude.{IfOk, string_bytes};
 ghost use Rattle.tokei_program.specs.Messages.{IsMessage};
 
 use std::alloc::{AllocError, AllocFailed, Global};
+use thiserror::Error;
 use tokei::TableError;
 
 /// Why nothing is counted, or why the count isn't shown.
-#[derive(Drop)]
+#[derive(Debug, Drop, Error)]
 pub enum Ending {
     /// The command line is refused. The text is for standard error.
+    #[error("{0}")]
     Refused(String),
     /// The file of the table can't be read: its place, and why.
+    #[error("the table of languages can't be read: {0}")]
     NoTable(String),
     /// The table is refused.
+    #[error("{0}")]
     Table(TableError),
     /// The table is refused, with the language and the member that go wrong.
+    #[error("the table of languages is refused: {0}")]
     TableFlaw(String),
     /// The earlier results of this name are refused.
+    #[error("failed to parse input file: {0}")]
     Input(String),
     /// Standard input had a fault.
+    #[error("earlier results can't be read")]
     Unreadable,
     /// Standard input had a fault, in the system's words.
+    #[error("earlier results can't be read: {0}")]
     UnreadableBy(String),
     /// Standard input has more bytes than may be read.
+    #[error("the input has more than 4,294,967,296 bytes")]
     TooLong,
     /// Nothing stands at this root.
+    #[error("'{0}' not found.")]
     Missing(String),
     /// An allocation failed.
+    #[error("out of memory")]
     Memory,
     /// Memory didn't suffice for the content of this place.
+    #[error("out of memory: {0}")]
     NoRoom(String),
     /// A sum passes the greatest `usize`.
+    #[error("a sum passes the greatest usize")]
     Overflow,
     /// A writer had a fault.
+    #[error("the output can't be written")]
     Write,
     /// A writer had a fault, in the system's words.
+    #[error("the output can't be written: {0}")]
     Unwritten(String),
 }
 
@@ -53,35 +68,12 @@ impl Ending {
         }
     }
 
-    /// What went wrong, and behind a colon what is known of it.
-    fn cause(&self, alloc: Global) -> Result<String, AllocError> {
-        let (what, known) = match self {
-            Ending::Refused(text) => (text.as_str(), None),
-            Ending::NoTable(cause) => ("the table of languages can't be read", Some(cause)),
-            Ending::Table(error) => return format!(in alloc; "{error}"),
-            Ending::TableFlaw(flaw) => ("the table of languages is refused", Some(flaw)),
-            Ending::Input(name) => ("failed to parse input file", Some(name)),
-            Ending::Unreadable => ("earlier results can't be read", None),
-            Ending::UnreadableBy(cause) => ("earlier results can't be read", Some(cause)),
-            Ending::TooLong => ("the input has more than 4,294,967,296 bytes", None),
-            Ending::Missing(root) => return format!(in alloc; "'{root}' not found."),
-            Ending::Memory => ("out of memory", None),
-            Ending::NoRoom(place) => ("out of memory", Some(place)),
-            Ending::Overflow => ("a sum passes the greatest usize", None),
-            Ending::Write => ("the output can't be written", None),
-            Ending::Unwritten(cause) => ("the output can't be written", Some(cause)),
-        };
-        match known {
-            Some(known) => format!(in alloc; "{what}: {known}"),
-            None => String::from_str(alloc, what),
-        }
-    }
-
     /// The line that says on standard error how the run ended.
+    #[tactic(auto, using(crate::proofs::Causes::line_is_message))]
     pub fn line(&self, alloc: Global) -> Result<String, AllocError>
         ensures { IfOk result (λ line. IsMessage (string_bytes line)) }
     {
-        let cause = self.cause(alloc)?;
+        let cause = format!(in alloc; "{}", self)?;
         format!(in alloc; "Error: {cause}\n")
     }
 }
