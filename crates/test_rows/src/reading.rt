@@ -1,5 +1,6 @@
-//! How the members of a row are read. Where one can't be, why is kept, and something empty stands for it: so who reads a
-//! row needs no exit, and of a row that can't be asked only what was kept first is told.
+//! How the members of a row are read. Where one can't be, why is kept, and something empty stands
+//! for it: so who reads a row needs no exit, and of a row that can't be asked only what was kept
+//! first is told.
 use crate::answers::Answers;
 use crate::error::RowError;
 use crate::row::{Row, has_word};
