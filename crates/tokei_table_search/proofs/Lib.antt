@@ -1,4 +1,5 @@
 -- Lemmas on searches and groups of openers.
+pub mod Bits
 pub mod FirstBytes
 pub mod FirstPlaces
 pub mod OpenerGroups

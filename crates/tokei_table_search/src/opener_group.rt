@@ -8,15 +8,15 @@ ghost use Rattle.tokei_table_search.specs.OpenerGroups.{is_whole_behind, IsGroup
 ghost use Rattle.tokei_table_row.specs.RowOf.{tokens_of};
 ghost use Rattle.tokei_bytes.specs.ByteSets.{is_in};
 
-use tokei_bytes::ByteSet;
+use crate::bit_set::BitSet;
 
 /// What can follow one first byte of some openers, in those of them that begin with it.
 #[derive(Drop)]
 pub(crate) struct OpenerGroup {
     /// The bytes with which one of the openers can go on behind its first one.
-    pub seconds: ByteSet,
+    pub seconds: BitSet,
     /// The bytes with which one of the openers stands wherever they follow its first one.
-    pub wholes: ByteSet,
+    pub wholes: BitSet,
 }
 
 /// Whether the byte is the first one of the opener.
@@ -30,7 +30,7 @@ fn is_first_of(byte: u8, opener: &[u8]) -> bool
 }
 
 /// Adds the bytes with which the opener can go on behind its first one.
-fn add_seconds(seconds: &mut ByteSet, opener: &[u8])
+fn add_seconds(seconds: &mut BitSet, opener: &[u8])
     requires { length seconds.old ≡ 256 }
     ensures long { length seconds.new ≡ 256 }
     ensures each { (y : ℕ) → y < 256
@@ -43,7 +43,7 @@ fn add_seconds(seconds: &mut ByteSet, opener: &[u8])
 }
 
 /// Adds the bytes wherever which the opener stands, if they follow its first one.
-fn add_wholes(wholes: &mut ByteSet, opener: &[u8])
+fn add_wholes(wholes: &mut BitSet, opener: &[u8])
     requires { length wholes.old ≡ 256 }
     ensures long { length wholes.new ≡ 256 }
     ensures each { (y : ℕ) → y < 256
@@ -57,7 +57,7 @@ fn add_wholes(wholes: &mut ByteSet, opener: &[u8])
 }
 
 /// Adds what can follow the byte in the opener, where it begins with that one.
-fn add_opener(seconds: &mut ByteSet, wholes: &mut ByteSet, byte: u8, opener: &[u8])
+fn add_opener(seconds: &mut BitSet, wholes: &mut BitSet, byte: u8, opener: &[u8])
     requires seconds { length seconds.old ≡ 256 }
     requires wholes { length wholes.old ≡ 256 }
     ensures seconds_long { length seconds.new ≡ 256 }
@@ -79,12 +79,19 @@ impl OpenerGroup {
         requires { list_all is_nonempty (tokens_of openers.now) ≡ true }
         ensures { IsGroupOf byte (tokens_of openers.now) result }
     {
-        let mut seconds = ByteSet::empty();
-        let mut wholes = ByteSet::empty();
+        let mut group = OpenerGroup {
+            seconds: BitSet::empty(),
+            wholes: BitSet::empty(),
+        };
         for opener in openers {
-            add_opener(&mut seconds, &mut wholes, byte, opener.as_bytes());
+            add_opener(
+                &mut group.seconds,
+                &mut group.wholes,
+                byte,
+                opener.as_bytes(),
+            );
         }
-        OpenerGroup { seconds, wholes }
+        group
     }
 
     /// Up to which place the text, from a place on, goes on with the byte alone and each time with

@@ -12,12 +12,12 @@ pub loop-opener-init : goal.loop-opener-init
 loop-opener-init c =
     let openers = tokens_of c.args.openers.now in
     record {
-      seconds_long = ap length c.empty-seconds.ensures ∙ length-replicate 256 false;
-      wholes_long = ap length c.empty-wholes.ensures ∙ length-replicate 256 false;
+      seconds_long = ap length c.empty.ensures ∙ length-replicate 256 false;
+      wholes_long = ap length c.empty-2.ensures ∙ length-replicate 256 false;
       seconds_each = λ y l.
-          none_yet c.empty-seconds.result y (list_any (goes_on_behind c.args.byte y) openers) c.empty-seconds.ensures l;
+          none_yet c.empty.result y (list_any (goes_on_behind c.args.byte y) openers) c.empty.ensures l;
       wholes_each = λ y l.
-          none_yet c.empty-wholes.result y (list_any (is_whole_behind c.args.byte y) openers) c.empty-wholes.ensures l;
+          none_yet c.empty-2.result y (list_any (is_whole_behind c.args.byte y) openers) c.empty-2.ensures l;
     }
 
 pub loop-opener-preserved : goal.loop-opener-preserved
@@ -32,11 +32,11 @@ loop-opener-preserved c =
       wholes_long = c.add_opener.ensures.wholes_long;
       seconds_each = λ y l.
           any_more (goes_on_behind byte y) openers i c.opener-item.result c.loop-opener-test.true c.as_bytes.result.now here
-          (is_in c.loop-opener.seconds y) (is_in c.add_opener.new.seconds y)
+          (is_in c.loop-opener.group.seconds y) (is_in c.add_opener.new.seconds y)
           (list_any (goes_on_behind byte y) (tokens_of openers)) (c.add_opener.ensures.seconds y l) (known.seconds_each y l);
       wholes_each = λ y l.
           any_more (is_whole_behind byte y) openers i c.opener-item.result c.loop-opener-test.true c.as_bytes.result.now here
-          (is_in c.loop-opener.wholes y) (is_in c.add_opener.new.wholes y)
+          (is_in c.loop-opener.group.wholes y) (is_in c.add_opener.new.wholes y)
           (list_any (is_whole_behind byte y) (tokens_of openers)) (c.add_opener.ensures.wholes y l) (known.wholes_each y l);
     }
 

@@ -7,12 +7,12 @@ use Rattle.tokei_table_search.proofs.opener_group.OpenerGroup.new.Given as goal
 
 abbrev pub invariant-loop-opener : goal.invariant-loop-opener
 invariant-loop-opener l = record {
-  seconds_long : length l.seconds ≡ 256;
-  wholes_long : length l.wholes ≡ 256;
+  seconds_long : length l.group.seconds ≡ 256;
+  wholes_long : length l.group.wholes ≡ 256;
   seconds_each : (y : ℕ) → y < 256
-      → (is_in l.seconds y || list_any (goes_on_behind l.byte y) (tokens_of (drop l.opener-index l.openers)))
+      → (is_in l.group.seconds y || list_any (goes_on_behind l.byte y) (tokens_of (drop l.opener-index l.openers)))
       ≡ list_any (goes_on_behind l.byte y) (tokens_of l.openers);
   wholes_each : (y : ℕ) → y < 256
-      → (is_in l.wholes y || list_any (is_whole_behind l.byte y) (tokens_of (drop l.opener-index l.openers)))
+      → (is_in l.group.wholes y || list_any (is_whole_behind l.byte y) (tokens_of (drop l.opener-index l.openers)))
       ≡ list_any (is_whole_behind l.byte y) (tokens_of l.openers);
 }
