@@ -21,7 +21,7 @@ use crate::items::{Enclosure, ItemKind, kind_of};
 use crate::line_ends::line_stop;
 use crate::openings::{Block, block_at, next_child};
 use crate::place::Place;
-use crate::plain_bytes::{is_plain_byte, item_end, plain_end};
+use crate::plain_bytes::{item_end, plain_end};
 use std::alloc::AllocError;
 use tokei_embedding::BlockSearch;
 
@@ -276,47 +276,18 @@ fn take_step<'a>(
     Ok(taken)
 }
 
-/// Makes the choice at the newline that ends a line behind which the stack's items go on, where
-/// more than the newline itself can begin, and answers how many steps there were with it. No child
-/// opens there. It stands in no caller's code, since few newlines come to it.
-#[inline(never)]
-fn choose_at_newline<'a>(place: &Place<'_, 'a>, stack: &[Enclosure<'a>], steps: usize) -> usize
-    requires here { IsAt place.now }
-    requires last { place.now.at ≡ place.now.end }
-    requires some { place.now.at < length (text_of place.now) }
-    requires room { steps < length (text_of place.now) }
-    ensures { result ≡ steps + 1 }
-{
-    let _newline = match innermost(stack) {
-        Some(item) => choice_within(place, item),
-        None => choice_in_plain(place, false),
-    };
-    let _length = place.reading.text.len();
-    steps + 1
-}
-
-/// Takes the choice at the newline that ends a line behind which the stack's items go on, the
-/// innermost of which is that of the mode: one step.
+/// Takes the newline that ends a line behind which the stack's items go on: one step. No token holds
+/// a newline, and no child opens at one, so nothing but the byte itself can begin there.
 #[inline(always)]
-fn take_newline<'a>(
-    place: &Place<'_, 'a>,
-    stack: &[Enclosure<'a>],
-    mode: Option<Enclosure<'a>>,
-    steps: &mut usize,
-)
+fn take_newline<'a>(place: &Place<'_, 'a>, stack: &[Enclosure<'a>], steps: &mut usize)
+    requires closable { IsClosable (chain_of stack.now) }
     requires here { IsAt place.now }
     requires last { place.now.at ≡ place.now.end }
     requires some { place.now.at < length (text_of place.now) }
     requires room { steps.old < length (text_of place.now) }
     ensures { steps.new ≡ steps.old + 1 }
 {
-    if is_plain_byte(place.reading.matchers, mode, b'\n') {
-        take_byte(place, mode, steps);
-        return;
-    }
-    // a place of its own, so that the walk's stands in no memory
-    let here = Place { ..*place };
-    *steps = choose_at_newline(&here, stack, *steps);
+    take_byte(place, innermost(stack), steps);
 }
 
 /// Takes the bytes from the place that the walk has come to, which the item encloses, up to where a
@@ -471,14 +442,13 @@ fn end_line<'a>(
         part.now.start (text_of part.now) result }
     ensures line { (at : ℕ) → result.end ≡ PartEnd.Broken at → ⊥ }
 {
-    let ended = innermost(stack);
     let mut steps = reach.steps;
     if reach.at < stop {
         let newline = Place {
             at: reach.at,
             ..*part
         };
-        take_newline(&newline, stack, ended, &mut steps);
+        take_newline(&newline, stack, &mut steps);
     }
     let class = class_by(part.reading, begun, part.start, front, stop, stack);
     let end = PartEnd::Line(class, stop);
