@@ -10,10 +10,11 @@ use tokei_table_rules::Family;
 /// How many different values `mark_of` has.
 pub const MARKS: usize = 256;
 
-/// Adds the bytes of the text.
+/// Adds the bytes of the text, each with a weight by its place, so that texts of the same bytes in
+/// another order mostly have other sums.
 fn add_text(sum: &mut usize, text: &str) {
     for byte in text.as_bytes() {
-        *sum = sum.wrapping_add(usize::from(*byte));
+        *sum = sum.wrapping_mul(7).wrapping_add(usize::from(*byte));
     }
 }
 
