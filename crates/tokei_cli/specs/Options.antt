@@ -1,9 +1,10 @@
 -- The options of the command line, as its parser takes them: the name, the letter and the use of
 -- each.
-use Rattle.std.specs.Prelude.{ℕ, List, [], ◌∷◌, Some, true, false, codes, fold, is_some, not}
+use Rattle.std.specs.Prelude.{ℕ, ◌==◌, Bool, List, [], ◌∷◌, Some, true, false, codes, fold, length}
 use Rattle.std.specs.Prelude.{slice_get}
 use Rattle.clap.specs.Lexer.{usize_max}
-use Rattle.clap.specs.Words.{App, Rule, new_app, new_rule, with_rule}
+use Rattle.clap.specs.Words.{App, Rule, new_app, new_rule, rule_of, with_rule}
+use Rattle.clap.specs.declared.builder.arg.Arg.{Arg}
 use Rattle.clap.specs.declared.builder.action.ArgAction.TheVariants.{Append, Count, Set, SetTrue}
 use Rattle.clap.specs.declared.builder.value_parser.ValueParser.TheVariants.{Unsigned}
 use Rattle.tokei_cli.specs.declared.options.OptionRow.{OptionRow}
@@ -107,5 +108,13 @@ rule_of_row row = record (new_rule row.id.now) {
   short = row.letter;
   action = Some row.action;
   parser = row.parser;
-  is_free = not (is_some row.other);
+  is_free = length row.others.now == 0;
 }
+
+-- the rule of an option, and whether it is one of the commands below too
+abbrev pub ruled : Arg → Rule × Bool
+ruled a = (rule_of a, a.global)
+
+-- a rule of the whole command line, and of no command below it
+abbrev pub local : Rule → Rule × Bool
+local r = (r, false)

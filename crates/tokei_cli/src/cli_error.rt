@@ -2,7 +2,7 @@
 ghost use Rattle.std.specs.Prelude.{◌≡◌};
 ghost use Rattle.clap.specs.Values.{kind_of};
 ghost use Rattle.tokei_cli.specs.CommandLines.{status_of};
-ghost use Rattle.tokei_cli.specs.Texts.{Answers, IsShown, Refuses, Shows, help_text, version_line};
+ghost use Rattle.tokei_cli.specs.Texts.{Answers, IsShown, Refuses, Shows};
 
 use crate::help::{HELP, VERSION_LINE};
 use clap::Error;
@@ -70,20 +70,6 @@ fn asked(alloc: Global, text: &str) -> CliError
     }
 }
 
-/// The text of help.
-fn help(alloc: Global) -> CliError
-    ensures { Shows help_text result }
-{
-    asked(alloc, HELP)
-}
-
-/// The line of the version.
-fn version(alloc: Global) -> CliError
-    ensures { Shows version_line result }
-{
-    asked(alloc, VERSION_LINE)
-}
-
 /// Why the words are refused.
 fn refused(alloc: Global, error: &Error) -> CliError
     ensures { Refuses result }
@@ -101,8 +87,8 @@ pub(crate) fn answer(alloc: Global, error: &Error) -> CliError
 {
     match error.kind() {
         ErrorKind::OutOfMemory => CliError::Memory,
-        ErrorKind::DisplayHelp => help(alloc),
-        ErrorKind::DisplayVersion => version(alloc),
+        ErrorKind::DisplayHelp => asked(alloc, HELP),
+        ErrorKind::DisplayVersion => asked(alloc, VERSION_LINE),
         _ => refused(alloc, error),
     }
 }

@@ -1,9 +1,9 @@
 //! The options, and what help says of each.
-ghost use Rattle.std.specs.Prelude.{◌≡◌, IfOk, codes, false, map};
+ghost use Rattle.std.specs.Prelude.{◌≡◌, IfOk, codes, map};
 ghost use Rattle.clap.specs.Lexer.{usize_max};
-ghost use Rattle.clap.specs.Words.{app_of, new_rule, rule_of};
+ghost use Rattle.clap.specs.Words.{app_of, new_rule};
 ghost use Rattle.clap.specs.declared.builder.action.ArgAction.TheVariants.{Append};
-ghost use Rattle.tokei_cli.specs.Options.{line_app, rule_of_row, with_options};
+ghost use Rattle.tokei_cli.specs.Options.{line_app, local, rule_of_row, ruled};
 
 use crate::version::VERSION;
 use clap::builder::ValueParser;
@@ -20,8 +20,8 @@ struct OptionRow {
     action: ArgAction,
     /// What its value has to be, where it isn't any text.
     parser: Option<ValueParser<'static>>,
-    /// The option beside which it is refused.
-    other: Option<&'static str>,
+    /// The options beside which it is refused.
+    others: &'static [&'static str],
     /// What help says of it.
     help: &'static str,
 }
@@ -36,7 +36,7 @@ static OPTIONS: [OptionRow; 19] = [
         letter: Some('c'),
         action: ArgAction::Set,
         parser: Some(ValueParser::Unsigned(0, u64::MAX)),
-        other: Some("output"),
+        others: &["output"],
         help: "Prints the report at this width, in columns; at least 81.",
     },
     OptionRow {
@@ -45,7 +45,7 @@ static OPTIONS: [OptionRow; 19] = [
         letter: Some('f'),
         action: ArgAction::SetTrue,
         parser: None,
-        other: None,
+        others: &[],
         help: "Also lists every file.",
     },
     OptionRow {
@@ -54,7 +54,7 @@ static OPTIONS: [OptionRow; 19] = [
         letter: Some('C'),
         action: ArgAction::SetTrue,
         parser: None,
-        other: None,
+        others: &[],
         help: "Prints no statistics of embedded languages.",
     },
     OptionRow {
@@ -63,7 +63,7 @@ static OPTIONS: [OptionRow; 19] = [
         letter: Some('n'),
         action: ArgAction::Set,
         parser: None,
-        other: Some("output"),
+        others: &["output"],
         help: "How numbers are printed: plain (1234, the default), commas (1,234), dots (1.234) or \
                underscores (1_234).",
     },
@@ -73,7 +73,7 @@ static OPTIONS: [OptionRow; 19] = [
         letter: Some('o'),
         action: ArgAction::Set,
         parser: None,
-        other: None,
+        others: &[],
         help: "Writes the results in a format for other programs, in place of the report: json.",
     },
     OptionRow {
@@ -82,7 +82,7 @@ static OPTIONS: [OptionRow; 19] = [
         letter: None,
         action: ArgAction::Set,
         parser: None,
-        other: None,
+        others: &[],
         help: "Writes a record of each file as it is counted (language, path, lines, blanks, code, \
                comments): simple or json.",
     },
@@ -92,7 +92,7 @@ static OPTIONS: [OptionRow; 19] = [
         letter: Some('l'),
         action: ArgAction::SetTrue,
         parser: None,
-        other: Some("input"),
+        others: &["input"],
         help: "Lists the languages and their extensions, and counts nothing.",
     },
     OptionRow {
@@ -101,7 +101,7 @@ static OPTIONS: [OptionRow; 19] = [
         letter: Some('s'),
         action: ArgAction::Set,
         parser: None,
-        other: Some("rsort"),
+        others: &["rsort"],
         help: "Sorts the languages by a column: files, lines, blanks, code or comments.",
     },
     OptionRow {
@@ -110,7 +110,7 @@ static OPTIONS: [OptionRow; 19] = [
         letter: Some('r'),
         action: ArgAction::Set,
         parser: None,
-        other: None,
+        others: &[],
         help: "Sorts the languages by a column, and reverses the order.",
     },
     OptionRow {
@@ -119,7 +119,7 @@ static OPTIONS: [OptionRow; 19] = [
         letter: Some('t'),
         action: ArgAction::Append,
         parser: None,
-        other: None,
+        others: &[],
         help: "Counts only these languages, separated by commas, as in -t=Rust,Markdown.",
     },
     OptionRow {
@@ -128,7 +128,7 @@ static OPTIONS: [OptionRow; 19] = [
         letter: None,
         action: ArgAction::SetTrue,
         parser: None,
-        other: None,
+        others: &[],
         help: "Obeys no ignore file; implies --no-ignore-parent, --no-ignore-dot and --no-ignore-vcs.",
     },
     OptionRow {
@@ -137,7 +137,7 @@ static OPTIONS: [OptionRow; 19] = [
         letter: None,
         action: ArgAction::SetTrue,
         parser: None,
-        other: None,
+        others: &[],
         help: "Obeys no ignore file of the folders above.",
     },
     OptionRow {
@@ -146,7 +146,7 @@ static OPTIONS: [OptionRow; 19] = [
         letter: None,
         action: ArgAction::SetTrue,
         parser: None,
-        other: None,
+        others: &[],
         help: "Obeys neither .ignore nor .tokeignore.",
     },
     OptionRow {
@@ -155,7 +155,7 @@ static OPTIONS: [OptionRow; 19] = [
         letter: None,
         action: ArgAction::SetTrue,
         parser: None,
-        other: None,
+        others: &[],
         help: "Obeys none of git's ignore files, those of the folders above included.",
     },
     OptionRow {
@@ -164,7 +164,7 @@ static OPTIONS: [OptionRow; 19] = [
         letter: Some('e'),
         action: ArgAction::Append,
         parser: None,
-        other: None,
+        others: &[],
         help: "Leaves out all files and folders that match the pattern; may be given several times.",
     },
     OptionRow {
@@ -173,7 +173,7 @@ static OPTIONS: [OptionRow; 19] = [
         letter: None,
         action: ArgAction::SetTrue,
         parser: None,
-        other: None,
+        others: &[],
         help: "Counts hidden files too.",
     },
     OptionRow {
@@ -183,7 +183,7 @@ static OPTIONS: [OptionRow; 19] = [
         letter: Some('i'),
         action: ArgAction::Set,
         parser: None,
-        other: None,
+        others: &[],
         help: "Adds the statistics of an earlier run, written by -o json: a file, or stdin.",
     },
     OptionRow {
@@ -192,7 +192,7 @@ static OPTIONS: [OptionRow; 19] = [
         letter: None,
         action: ArgAction::Set,
         parser: None,
-        other: None,
+        others: &[],
         help: "The file of the table of languages; without it the one installed with the program, \
                else languages.json in the current folder.",
     },
@@ -202,7 +202,7 @@ static OPTIONS: [OptionRow; 19] = [
         letter: Some('v'),
         action: ArgAction::Count,
         parser: None,
-        other: None,
+        others: &[],
         help: "Shows more notes: -v warnings, -vv and -vvv everything; without it errors alone.",
     },
 ];
@@ -210,35 +210,28 @@ static OPTIONS: [OptionRow; 19] = [
 impl OptionRow {
     /// The option, as the parser takes it.
     fn option<'a>(&self, alloc: Global) -> Result<Arg<'a>, AllocError>
-        ensures rule { IfOk result (λ a. rule_of a ≡ rule_of_row self.now) }
-        ensures local { IfOk result (λ a. a.global ≡ false) }
+        ensures { IfOk result (λ a. ruled a ≡ local (rule_of_row self.now)) }
     {
-        let named = Arg::new(alloc, self.id)
+        let mut option = Arg::new(alloc, self.id)
             .long(self.long)
             .action(self.action)
             .help(self.help);
-        let lettered = match self.letter {
-            Some(letter) => named.short(letter),
-            None => named,
-        };
-        let parsed = match self.parser {
-            Some(parser) => lettered.value_parser(parser),
-            None => lettered,
-        };
-        match self.other {
-            Some(other) => parsed.conflicts_with(other),
-            None => Ok(parsed),
+        if let Some(letter) = self.letter {
+            option = option.short(letter);
         }
+        if let Some(parser) = self.parser {
+            option = option.value_parser(parser);
+        }
+        option.conflicts_with_all(self.others)
     }
 }
 
 /// The files and folders to be counted.
 fn input<'a>(alloc: Global) -> Arg<'a>
-    ensures rule { rule_of result ≡ record (new_rule (codes "input")) {
+    ensures { ruled result ≡ local (record (new_rule (codes "input")) {
       action = Some Append;
       range = Some (record { start_inclusive = 0; end_inclusive = usize_max });
-    } }
-    ensures local { result.global ≡ false }
+    }) }
 {
     Arg::new(alloc, "input")
         .action(ArgAction::Append)
@@ -246,29 +239,26 @@ fn input<'a>(alloc: Global) -> Arg<'a>
         .help("The files and folders to be counted; the current folder where none is given.")
 }
 
-/// The command with the options of these rows.
-fn with_rows<'a>(
-    alloc: Global,
-    command: Command<'a>,
-    rows: &[OptionRow],
-) -> Result<Command<'a>, AllocError>
-    ensures { IfOk result (λ c. app_of c
-        ≡ with_options (app_of command.entry) (map rule_of_row rows.now)) }
+/// The options of these rows.
+fn options_of<'a>(alloc: Global, rows: &[OptionRow]) -> Result<Vec<Arg<'a>>, AllocError>
+    ensures { IfOk result (λ v. map ruled v.items ≡ map local (map rule_of_row rows.now)) }
 {
-    let mut command = command;
+    let mut options = Vec::new(alloc);
     for row in rows {
-        command = command.arg(row.option(alloc)?)?;
+        options.push(row.option(alloc)?)?;
     }
-    Ok(command)
+    Ok(options)
 }
 
 /// The whole command line, as its parser takes it.
 pub fn command<'a>(alloc: Global) -> Result<Command<'a>, AllocError>
     ensures { IfOk result (λ c. app_of c ≡ line_app) }
 {
-    let named = Command::new(alloc, "tokei").bin_name("tokei")?;
-    let bare = named
+    let mut options = options_of(alloc, &OPTIONS)?;
+    options.push(input(alloc))?;
+    Command::new(alloc, "tokei")
         .version(VERSION)
-        .about("Counts blank, code and comment lines, by language.");
-    with_rows(alloc, bare, &OPTIONS)?.arg(input(alloc))
+        .about("Counts blank, code and comment lines, by language.")
+        .args(options)?
+        .bin_name("tokei")
 }

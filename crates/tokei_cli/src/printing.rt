@@ -18,14 +18,15 @@ fn list_line(alloc: Global, name: &str, beside: &str) -> Result<String, AllocErr
     format!(in alloc; "{name:<40} {beside}\n")
 }
 
-/// The extensions of a language.
-fn extensions_text(alloc: Global, extensions: &[String]) -> Result<String, AllocError>
-    ensures { IfOk result (λ s. string_bytes s ≡ extensions_text (tokens_of extensions.now)) }
+/// The line of a language with these extensions.
+fn row_line(alloc: Global, name: &str, extensions: &[String]) -> Result<String, AllocError>
+    ensures { IfOk result (λ s. string_bytes s
+        ≡ list_line name.now (extensions_text (tokens_of extensions.now))) }
 {
     if extensions.is_empty() {
-        String::from_str(alloc, "<None>")
+        list_line(alloc, name, "<None>")
     } else {
-        extensions.join(alloc, ", ")
+        list_line(alloc, name, &extensions.join(alloc, ", ")?)
     }
 }
 
@@ -33,12 +34,10 @@ fn extensions_text(alloc: Global, extensions: &[String]) -> Result<String, Alloc
 fn languages_text(alloc: Global, table: &LanguageTable) -> Result<String, AllocError>
     ensures { IfOk result (λ s. string_bytes s ≡ languages_text table.now) }
 {
-    let mut text = list_line(alloc, "Language", "Extensions")?;
     let languages = LanguageType::list(alloc, table)?;
+    let mut text = list_line(alloc, "Language", "Extensions")?;
     for (language, extensions) in &languages {
-        let extensions = extensions_text(alloc, extensions)?;
-        let line = list_line(alloc, language.name(table), extensions.as_str())?;
-        text.push_str(line.as_str())?;
+        text.push_str(&row_line(alloc, language.name(table), extensions)?)?;
     }
     Ok(text)
 }

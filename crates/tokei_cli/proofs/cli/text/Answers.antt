@@ -1,8 +1,0 @@
--- The first value is that of the rows.
-use Rattle.std.proofs.Common.{◌∙◌}
-use Rattle.clap.proofs.WalkLemmas.{first_value-rows}
-use Rattle.clap.specs.Words.{found_of}
-use Rattle.tokei_cli.proofs.cli.text.Goals as goal
-
-pub returns : goal.returns
-returns c = c.get_str.ensures ∙ first_value-rows (found_of c.args.matches.now) c.args.id.now
