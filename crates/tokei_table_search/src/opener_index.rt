@@ -455,6 +455,21 @@ impl OpenerIndex {
         }
     }
 
+    /// Whether an opener stands at the place. Those of the group begin with the byte, which mostly
+    /// stands there.
+    #[inline(always)]
+    fn stands_by_group(&self, group: &OpenerGroup, byte: u8, text: &[u8], at: usize) -> bool
+        requires inside { at < length text.now }
+        requires group { IsGroupOf byte self.now group.now }
+        ensures { result ≡ begins_with_one self.now (drop at text.now) }
+    {
+        if text[at] == byte {
+            self.stands(group, text, at)
+        } else {
+            self.stands_at(text, at)
+        }
+    }
+
     /// Up to which place no opener stands, from a place on and mostly no further than `to`. The
     /// byte, with which those of the group begin, is told by the one behind it. It stands in no
     /// caller's code, since it is rarely run.
@@ -479,7 +494,7 @@ impl OpenerIndex {
         if let (Some(near), Some(seconds)) = (self.near, group.seconds.few()) {
             while at < to {
                 at = next_pair(near, byte, seconds, text, at, to);
-                if to <= at || self.stands_at(text, at) {
+                if to <= at || self.stands_by_group(group, byte, text, at) {
                     return at;
                 }
                 at += 1;

@@ -28,5 +28,5 @@ loop-at-preserved c =
     record {
       low = omega (arith, c.loop-at.invariant.low, c.next_pair-at.ensures.low);
       within = omega (arith, c.if-to-at.false, c.requires.inside);
-      none = none_behind_one c.args.self.now c.args.text.now c.args.from c.next_pair-at.result before (sym c.stands_at.ensures ∙ c.if-stands_at.false);
+      none = none_behind_one c.args.self.now c.args.text.now c.args.from c.next_pair-at.result before (sym c.stands_by_group.ensures ∙ c.if-stands_by_group.false);
     }
