@@ -1,4 +1,4 @@
 pub mod FileReports
 pub mod Filling
-pub mod Putting
+pub mod StreamNotes
 pub mod WrittenRows

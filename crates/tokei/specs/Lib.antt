@@ -9,4 +9,5 @@ pub mod Rows
 pub mod Runs
 pub mod Streams
 pub mod Sums
+pub mod Texts
 pub mod Written

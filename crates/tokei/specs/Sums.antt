@@ -1,6 +1,6 @@
 -- When the sums of a run are at most the greatest `usize`: those of its readings and renewed
 -- counts, and those that its output shows.
-use Rattle.std.specs.Prelude.{List, ⊤}
+use Rattle.std.specs.Prelude.{List, Option, None, Some, ⊤}
 use Rattle.tokei_earlier.specs.declared.format.Format.{Format}
 use Rattle.tokei_earlier.specs.DocumentTexts.{DocumentSumsFit}
 use Rattle.tokei_folders.specs.Tree.{Tree}
@@ -31,6 +31,11 @@ pub record DocumentFits (format : Format) (rows : List Row) (job : Job) (tree : 
 pub record RunReportFits (rows : List Row) (job : Job) (tree : Tree) : Type 0 where
   pub tally : TallyFits rows job tree
   pub table : PrintedReportFits (sort_of job) (style_of job) (languages_after rows job tree)
+
+-- those of a run that writes a document in the format, or else a report
+abbrev pub CountedFits : Option Format → List Row → Job → Tree → Type 0
+CountedFits (Some format) rows job tree = DocumentFits format rows job tree
+CountedFits None rows job tree = RunReportFits rows job tree
 
 -- those of a run
 abbrev pub Fits : Wanted → List Row → Job → Tree → Type 0

@@ -2,7 +2,6 @@
 ghost use Rattle.std.specs.Prelude.{◌≡◌, ◌≢◌, ◌<◌, Err, OnOk};
 ghost use Rattle.std.specs.Io.KnownBytes.{Appends};
 ghost use Rattle.tokei_stats.specs.Reports.{report_of as report_value};
-ghost use Rattle.tokei_options.specs.declared.streaming.Streaming.TheVariants.{Simple, Json};
 ghost use Rattle.tokei_io.specs.declared.error.OutputError.TheVariants.{Overflow as SumOverflow, Write as WriteFault};
 ghost use Rattle.tokei.specs.Rows.{heading_of, report_row};
 ghost use Rattle.tokei_io.specs.Faults.{TellsFault, PassesNoFault};
@@ -24,43 +23,8 @@ pub struct Rows<'a> {
     pub form: Streaming,
 }
 
-/// Writes the columns of a report.
-#[tactic(auto, using(tokei_io::proofs::Printing::printing_tells, tokei_io::proofs::Printing::printing_passes))]
-fn write_columns<W: Sink>(
-    rows: &Rows,
-    language: LanguageType,
-    report: &Report,
-    writer: &mut W,
-) -> Result<(), OutputError>
-    ensures bytes { OnOk result (Appends (W.contents writer.old) (W.contents writer.new)
-        (report_row Simple rows.now.table.now language (report_value report.now))) }
-    ensures fault { TellsFault W.faults writer.old writer.new result WriteFault }
-    ensures no_fault { PassesNoFault W.faults writer.old writer.new result WriteFault }
-    ensures overflow { result ≢ Err SumOverflow }
-{
-    let name = name_of(rows.table, language);
-    print_stream_row(rows.alloc, writer, name, report)
-}
-
-/// Writes a report as one line of JSON.
-fn write_line<W: Sink>(
-    rows: &Rows,
-    language: LanguageType,
-    report: &Report,
-    writer: &mut W,
-) -> Result<(), OutputError>
-    ensures bytes { OnOk result (Appends (W.contents writer.old) (W.contents writer.new)
-        (report_row Json rows.now.table.now language (report_value report.now))) }
-    ensures fault { TellsFault W.faults writer.old writer.new result WriteFault }
-    ensures no_fault { PassesNoFault W.faults writer.old writer.new result WriteFault }
-    ensures overflow { result ≢ Err SumOverflow }
-{
-    let mut line = report_line(rows.alloc, rows.table, language, report)?;
-    line.push('\n')?;
-    put(writer, line.as_bytes())
-}
-
 /// Writes the row of a report.
+#[tactic(auto, using(tokei_io::proofs::Printing::printing_tells, tokei_io::proofs::Printing::printing_passes))]
 pub fn write_row<W: Sink>(
     rows: &Rows,
     language: LanguageType,
@@ -74,8 +38,15 @@ pub fn write_row<W: Sink>(
     ensures overflow { result ≢ Err SumOverflow }
 {
     match rows.form {
-        Streaming::Simple => write_columns(rows, language, report, writer),
-        Streaming::Json => write_line(rows, language, report, writer),
+        Streaming::Simple => {
+            let name = name_of(rows.table, language);
+            print_stream_row(rows.alloc, writer, name, report)
+        }
+        Streaming::Json => {
+            let mut line = report_line(rows.alloc, rows.table, language, report)?;
+            line.push('\n')?;
+            put(writer, line.as_bytes())
+        }
     }
 }
 

@@ -2,9 +2,11 @@
 ghost use Rattle.std.specs.Prelude.{◌≡◌, ◌≢◌, ◌<◌, Err, IfErr, IfOk, OnOk};
 ghost use Rattle.tokei_folders.specs.Answers.{Told};
 ghost use Rattle.tokei_io.specs.declared.error.OutputError.TheVariants.{Overflow as SumOverflow, Write as WriteFault};
-ghost use Rattle.tokei.specs.Output.{Outputs, WritesDocument, WritesReport};
+ghost use Rattle.tokei.specs.Output.{Outputs};
+ghost use Rattle.tokei.specs.Runs.{languages_after};
+ghost use Rattle.tokei.specs.Texts.{WritesText};
 ghost use Rattle.tokei.specs.Refused.{IsUntouched};
-ghost use Rattle.tokei.specs.Sums.{DocumentFits, EarlierFits, Fits, RunReportFits};
+ghost use Rattle.tokei.specs.Sums.{CountedFits, EarlierFits, Fits};
 ghost use Rattle.tokei_folders.specs.AsTheyWere.{SameTree, NoFault};
 ghost use Rattle.tokei_io.specs.Faults.{TellsFault, PassesNoFault};
 ghost use Rattle.tokei_statistics.specs.Unread.{EndsIn, unread_of};
@@ -16,53 +18,30 @@ use crate::counting::tally_of;
 use crate::job::{Job, Wanted};
 use crate::rows::Rows;
 use crate::streaming::stream;
-use crate::writing::{Documents, put_document, put_report};
+use crate::writing::text_of;
 use std::alloc::Global;
+use tokei_earlier::Format;
 use tokei_folders::Folders;
-use tokei_io::{OutputError, Sink};
+use tokei_io::{OutputError, Sink, put};
 use tokei_table::LanguageTable;
 use tokei_walk::Note;
 
-/// Counts the files of a job, and writes the document of what was counted.
-fn write_document<F: Folders, W: Sink>(
-    by: &Documents,
-    folders: &mut F,
-    job: &Job,
-    writer: &mut W,
-) -> Result<Vec<Note>, OutputError>
-    ensures same { SameTree F.tree folders.old folders.new }
-    ensures told { Told (F.tree folders.old) (λ t. OnOk result (WritesDocument by.now.format
-        by.now.table.now job.now t (W.contents writer.old) (W.contents writer.new))) }
-    ensures overflow { result ≡ Err SumOverflow → Told (F.tree folders.old) (λ t.
-        ¬ DocumentFits by.now.format by.now.table.now job.now t) }
-    ensures untouched { IfErr result (λ e. e ≢ WriteFault
-        → W.contents writer.new ≡ W.contents writer.old) }
-    ensures fault { TellsFault W.faults writer.old writer.new result WriteFault }
-    ensures no_fault { PassesNoFault W.faults writer.old writer.new result WriteFault }
-    ensures notes { IfOk result (λ n.
-        Grows (notes_of_excludes (texts_of job.now.ignored.items)) n.items) }
-    ensures unread { Told (F.tree folders.old) (λ t. IfOk result (λ n. EndsIn
-        (unread_of (counting_of by.now.table.now job.now) t (files_of job.now t)) n.items)) }
-    ensures honest { NoFault F.memory_faults folders.old folders.new result }
-{
-    let tally = tally_of(by.alloc, by.table, folders, job)?;
-    put_document(by, &tally.languages, writer)?;
-    Ok(tally.notes)
-}
-
-/// Counts the files of a job, and writes the report of what was counted.
-fn write_report<F: Folders, W: Sink>(
+/// Counts the files of a job, and writes what was counted: a document in the format, or else the
+/// printed report.
+fn write_counted<F: Folders, W: Sink>(
     alloc: Global,
     table: &LanguageTable,
     folders: &mut F,
     job: &Job,
+    format: Option<Format>,
     writer: &mut W,
 ) -> Result<Vec<Note>, OutputError>
     ensures same { SameTree F.tree folders.old folders.new }
-    ensures told { Told (F.tree folders.old) (λ t. OnOk result (WritesReport
-        table.now job.now t (W.contents writer.old) (W.contents writer.new))) }
+    ensures told { Told (F.tree folders.old) (λ t. OnOk result (WritesText format table.now
+        job.now (languages_after table.now job.now t)
+        (W.contents writer.old) (W.contents writer.new))) }
     ensures overflow { result ≡ Err SumOverflow → Told (F.tree folders.old) (λ t.
-        ¬ RunReportFits table.now job.now t) }
+        ¬ CountedFits format table.now job.now t) }
     ensures untouched { IfErr result (λ e. e ≢ WriteFault
         → W.contents writer.new ≡ W.contents writer.old) }
     ensures fault { TellsFault W.faults writer.old writer.new result WriteFault }
@@ -74,7 +53,8 @@ fn write_report<F: Folders, W: Sink>(
     ensures honest { NoFault F.memory_faults folders.old folders.new result }
 {
     let tally = tally_of(alloc, table, folders, job)?;
-    put_report(alloc, table, job, tally.languages, writer)?;
+    let text = text_of(alloc, table, job, format, tally.languages)?;
+    put(writer, &text)?;
     Ok(tally.notes)
 }
 
@@ -119,13 +99,8 @@ pub fn run<F: Folders, W: Sink>(
             stream(&rows, folders, job, writer)
         }
         Wanted::Document(format) => {
-            let by = Documents {
-                alloc,
-                table,
-                format: *format,
-            };
-            write_document(&by, folders, job, writer)
+            write_counted(alloc, table, folders, job, Some(*format), writer)
         }
-        Wanted::Report => write_report(alloc, table, folders, job, writer),
+        Wanted::Report => write_counted(alloc, table, folders, job, None, writer),
     }
 }

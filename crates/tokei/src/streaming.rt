@@ -1,5 +1,5 @@
 //! A row for each file, written as it is counted.
-ghost use Rattle.std.specs.Prelude.{◌≡◌, ◌≢◌, ◌<◌, ◌++◌, Err, IfOk, IsErrOf, OnOk, option_map, true};
+ghost use Rattle.std.specs.Prelude.{◌≡◌, ◌≢◌, ◌<◌, ◌++◌, Err, IfOk, IsErrOf, OnOk, true};
 ghost use Rattle.std.specs.Io.KnownBytes.{Appends};
 ghost use Rattle.tokei_folders.specs.Answers.{Told};
 ghost use Rattle.tokei_folders.specs.Tree.{Tree, is_sound};
@@ -7,14 +7,13 @@ ghost use Rattle.tokei_languages.specs.Renewing.{RenewalFits};
 ghost use Rattle.tokei_files.specs.Files.{FileFits, ReadingsFit};
 ghost use Rattle.tokei_files.specs.Seen.{counting_of as counting_value};
 ghost use Rattle.tokei_files.specs.Unread.{EndsIn, unread_of, unread_of_file};
-ghost use Rattle.tokei_stats.specs.Reports.{report_of as report_value};
 ghost use Rattle.tokei_walk.specs.Notes.{Grows, notes_of, notes_of_excludes};
 ghost use Rattle.tokei_walk.specs.Walks.{texts_of, to_come};
 ghost use Rattle.tokei_io.specs.declared.error.OutputError.TheVariants.{Overflow as SumOverflow, Write as WriteFault};
 ghost use Rattle.tokei.specs.Earlier.{earlier_of};
 ghost use Rattle.tokei.specs.Counted.{counting_of, files_of};
 ghost use Rattle.tokei.specs.JobStreams.{StreamFits, WritesStream};
-ghost use Rattle.tokei.specs.Streams.{file_row, report_of_file, rows_of, stream_text};
+ghost use Rattle.tokei.specs.Streams.{file_row, rows_of, stream_text};
 ghost use Rattle.tokei_folders.specs.AsTheyWere.{SameTree, NoFault};
 ghost use Rattle.tokei_io.specs.Faults.{TellsFault, PassesNoFault};
 
@@ -27,7 +26,6 @@ use tokei_files::{Counting, ParseFault, note_unread, rules, types};
 use tokei_folders::Folders;
 use tokei_io::{OutputError, Sink};
 use tokei_stats::{CountError, Report};
-use tokei_table::LanguageType;
 use tokei_walk::{KeptFile, Note, Walk};
 
 /// By what the files of a stream are counted, and how their rows are written.
@@ -37,44 +35,8 @@ struct Streamed<'a> {
     rows: &'a Rows<'a>,
 }
 
-/// The report of a file beside its language, where it counts in one and can be read; a note is
+/// Counts a file, and writes its row, where it counts in a language and can be read; a note is
 /// added where it can't.
-fn report_of<F: Folders>(
-    counting: &Counting,
-    folders: &mut F,
-    file: KeptFile,
-    unread: &mut Vec<Note>,
-) -> Result<Option<(LanguageType, Report)>, OutputError>
-    ensures same { SameTree F.tree folders.old folders.new }
-    ensures told { Told (F.tree folders.old) (λ t. IfOk result (λ o. option_map
-        (λ r. (r.0, report_value r.1)) o
-        ≡ report_of_file (counting_value counting.now) t file)) }
-    ensures unwritten { result ≢ Err WriteFault }
-    ensures overflow { result ≡ Err SumOverflow → Told (F.tree folders.old) (λ t.
-        ¬ FileFits (counting_value counting.now) t file) }
-    ensures unread { Told (F.tree folders.old) (λ t. OnOk result (unread.new.items
-        ≡ unread.old.items ++ unread_of_file (counting_value counting.now) t file)) }
-    ensures honest { NoFault F.memory_faults folders.old folders.new result }
-{
-    let language = match counting.language(folders, &file)? {
-        Some(language) => language,
-        None => return Ok(None),
-    };
-    match counting.count_file(folders, language, file.place.as_str(), true) {
-        Ok(stats) => {
-            let name = file.path.into_string();
-            Ok(Some((language, Report { stats, name })))
-        }
-        Err(ParseFault::Refused) => {
-            note_unread(unread, file)?;
-            Ok(None)
-        }
-        Err(ParseFault::Memory) => Err(OutputError::Memory),
-        Err(ParseFault::Overflow) => Err(OutputError::Overflow),
-    }
-}
-
-/// Counts a file, and writes its row, where it has one; a note is added where it can't be read.
 fn write_file<F: Folders, W: Sink>(
     by: &Streamed,
     folders: &mut F,
@@ -95,15 +57,26 @@ fn write_file<F: Folders, W: Sink>(
         ≡ unread.old.items ++ unread_of_file (counting_value by.now.counting.now) t file)) }
     ensures honest { NoFault F.memory_faults folders.old folders.new result }
 {
-    match report_of(by.counting, folders, file, unread)? {
-        None => Ok(()),
-        Some((language, report)) => write_row(by.rows, language, &report, writer),
+    let language = match by.counting.language(folders, &file)? {
+        Some(language) => language,
+        None => return Ok(()),
+    };
+    match by.counting.count_file(folders, language, file.place.as_str(), true) {
+        Ok(stats) => {
+            let name = file.path.into_string();
+            write_row(by.rows, language, &Report { stats, name }, writer)
+        }
+        Err(ParseFault::Refused) => {
+            note_unread(unread, file)?;
+            Ok(())
+        }
+        Err(ParseFault::Memory) => Err(OutputError::Memory),
+        Err(ParseFault::Overflow) => Err(OutputError::Overflow),
     }
 }
 
 /// Writes a row for each file that a walk still gives, as it gives it, and adds a note of each that
 /// can't be read.
-#[tactic(auto, using(tokei_walk::proofs::Growing::grows_same, tokei_walk::proofs::Growing::grows_on))]
 fn write_rows<F: Folders, W: Sink>(
     by: &Streamed,
     folders: &mut F,
@@ -120,7 +93,7 @@ fn write_rows<F: Folders, W: Sink>(
         ¬ ReadingsFit (counting_value by.now.counting.now) t (to_come t walk.old)) }
     ensures fault { TellsFault W.faults writer.old writer.new result WriteFault }
     ensures no_fault { PassesNoFault W.faults writer.old writer.new result WriteFault }
-    ensures notes { Grows (notes_of walk.old) (notes_of walk.new) }
+    ensures notes { OnOk result (Grows (notes_of walk.old) (notes_of walk.new)) }
     ensures unread { Told (F.tree folders.old) (λ t. OnOk result (unread.new.items
         ≡ unread.old.items
         ++ unread_of (counting_value by.now.counting.now) t (to_come t walk.old))) }
@@ -153,33 +126,6 @@ fn walk_of(alloc: Global, job: &Job) -> Result<Walk, AllocError>
     Walk::new(alloc, &job.paths, &job.ignored, &rules(&job.config))
 }
 
-/// Writes the heading of a stream, and a row for each file that a walk still gives.
-fn write_headed<F: Folders, W: Sink>(
-    by: &Streamed,
-    folders: &mut F,
-    walk: &mut Walk,
-    writer: &mut W,
-    unread: &mut Vec<Note>,
-) -> Result<(), OutputError>
-    ensures same { SameTree F.tree folders.old folders.new }
-    ensures told { Told (F.tree folders.old) (λ t. OnOk result
-        (Appends (W.contents writer.old) (W.contents writer.new)
-        (stream_text by.now.rows.now.form by.now.rows.now.table.now
-        (counting_value by.now.counting.now) t (to_come t walk.old)))) }
-    ensures overflow { result ≡ Err SumOverflow → Told (F.tree folders.old) (λ t.
-        ¬ ReadingsFit (counting_value by.now.counting.now) t (to_come t walk.old)) }
-    ensures fault { TellsFault W.faults writer.old writer.new result WriteFault }
-    ensures no_fault { PassesNoFault W.faults writer.old writer.new result WriteFault }
-    ensures notes { OnOk result (Grows (notes_of walk.old) (notes_of walk.new)) }
-    ensures unread { Told (F.tree folders.old) (λ t. OnOk result (unread.new.items
-        ≡ unread.old.items
-        ++ unread_of (counting_value by.now.counting.now) t (to_come t walk.old))) }
-    ensures honest { NoFault F.memory_faults folders.old folders.new result }
-{
-    write_heading(by.rows.form, writer)?;
-    write_rows(by, folders, walk, writer, unread)
-}
-
 /// Writes the heading of a stream, and a row for each file of a job.
 fn write_stream<F: Folders, W: Sink>(
     rows: &Rows,
@@ -203,11 +149,13 @@ fn write_stream<F: Folders, W: Sink>(
         (unread_of (counting_value counting.now) t (files_of job.now t)) n.items)) }
     ensures honest { NoFault F.memory_faults folders.old folders.new result }
 {
+    write_heading(rows.form, writer)?;
     let mut walk = walk_of(counting.alloc, job)?;
     let mut unread = Vec::new(counting.alloc);
     let by = Streamed { counting, rows };
-    write_headed(&by, folders, &mut walk, writer, &mut unread)?;
+    let written = write_rows(&by, folders, &mut walk, writer, &mut unread);
     let mut notes = walk.into_notes();
+    written?;
     notes.append(&mut unread)?;
     Ok(notes)
 }

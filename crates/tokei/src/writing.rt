@@ -1,49 +1,17 @@
-//! What a run's writer is given: the document of languages, or their printed report.
-ghost use Rattle.std.specs.Prelude.{◌≡◌, ◌≢◌, ◌<◌, Err, IfErr, OnOk};
-ghost use Rattle.std.specs.Io.KnownBytes.{Appends};
-ghost use Rattle.tokei_earlier.specs.DocumentTexts.{document_text, DocumentSumsFit};
+//! The text of what was counted: the document of languages, or their printed report.
+ghost use Rattle.std.specs.Prelude.{◌≡◌, Err, IfOk};
 ghost use Rattle.tokei_languages.specs.Seen.{languages_of};
-ghost use Rattle.tokei_io.specs.declared.error.OutputError.TheVariants.{Overflow as SumOverflow, Write as WriteFault};
-ghost use Rattle.tokei.specs.Written.{sort_of, style_of, AppendsReport};
-ghost use Rattle.tokei_print.specs.ReportSums.{PrintedReportFits};
-ghost use Rattle.tokei_io.specs.Faults.{TellsFault, PassesNoFault};
+ghost use Rattle.tokei_stats.specs.declared.error.CountError.TheVariants.{Overflow};
+ghost use Rattle.tokei.specs.Texts.{IsText, TextFits};
+ghost use Rattle.tokei.specs.Written.{style_of};
 
 use crate::job::Job;
 use std::alloc::Global;
 use tokei_earlier::Format;
-use tokei_io::{OutputError, Sink, put};
 use tokei_languages::Languages;
 use tokei_print::{ReportStyle, text_of_report};
+use tokei_stats::CountError;
 use tokei_table::LanguageTable;
-
-/// How a document is written.
-#[derive(Drop)]
-pub struct Documents<'a> {
-    pub alloc: Global,
-    /// The table that names the languages.
-    pub table: &'a LanguageTable,
-    pub format: Format,
-}
-
-/// Puts the document of languages behind what stands in the writer. Where memory runs out, or a sum
-/// passes the greatest `usize`, nothing is written.
-pub fn put_document<W: Sink>(
-    by: &Documents,
-    languages: &Languages,
-    writer: &mut W,
-) -> Result<(), OutputError>
-    ensures bytes { OnOk result (Appends (W.contents writer.old) (W.contents writer.new)
-        (document_text by.now.format by.now.table.now (languages_of languages.now))) }
-    ensures overflow { result ≡ Err SumOverflow
-        → ¬ DocumentSumsFit by.now.format (languages_of languages.now) }
-    ensures untouched { IfErr result (λ e. e ≢ WriteFault
-        → W.contents writer.new ≡ W.contents writer.old) }
-    ensures fault { TellsFault W.faults writer.old writer.new result WriteFault }
-    ensures no_fault { PassesNoFault W.faults writer.old writer.new result WriteFault }
-{
-    let text = by.format.print(by.alloc, by.table, languages)?;
-    put(writer, text.as_bytes())
-}
 
 /// How a job's report is laid out and sorted.
 fn style_of(job: &Job) -> ReportStyle
@@ -59,25 +27,22 @@ fn style_of(job: &Job) -> ReportStyle
     }
 }
 
-/// Puts the report of languages behind what stands in the writer, sorted where the job or its
-/// configuration says so. Where memory runs out, or a sum passes the greatest `usize`, nothing is
-/// written.
-pub fn put_report<W: Sink>(
+/// The document of languages in the format, or else their printed report, sorted where the job or
+/// its configuration says so. `Overflow` only where a sum that it shows passes the greatest
+/// `usize`, or `Memory`.
+pub fn text_of(
     alloc: Global,
     table: &LanguageTable,
     job: &Job,
+    format: Option<Format>,
     languages: Languages,
-    writer: &mut W,
-) -> Result<(), OutputError>
-    ensures bytes { OnOk result (AppendsReport table.now job.now (languages_of languages)
-        (W.contents writer.old) (W.contents writer.new)) }
-    ensures overflow { result ≡ Err SumOverflow
-        → ¬ PrintedReportFits (sort_of job.now) (style_of job.now) (languages_of languages) }
-    ensures untouched { IfErr result (λ e. e ≢ WriteFault
-        → W.contents writer.new ≡ W.contents writer.old) }
-    ensures fault { TellsFault W.faults writer.old writer.new result WriteFault }
-    ensures no_fault { PassesNoFault W.faults writer.old writer.new result WriteFault }
+) -> Result<Vec<u8>, CountError>
+    ensures text { IfOk result (λ v.
+        IsText format table.now job.now (languages_of languages) v.items) }
+    ensures overflow { result ≡ Err Overflow → ¬ TextFits format job.now (languages_of languages) }
 {
-    let text = text_of_report(alloc, table, style_of(job), languages)?;
-    put(writer, &text)
+    match format {
+        Some(format) => Ok(format.print(alloc, table, &languages)?.into_bytes()),
+        None => text_of_report(alloc, table, style_of(job), languages),
+    }
 }

@@ -51,3 +51,6 @@ returns-in_err-write_file-clause-overflow g c = λ q t e f.
     let same : c.in_err-write_file.field-0.0 ≡ Overflow = search rules in
     c.in_err-write_file.ensures.overflow (ap (λ x. Err x) same) t (c.next.ensures.same ∙ here)
     (subst (λ (ks : List KeptFile). ReadingsFit (counting_of c.args.by.now.counting.now) t ks) given (inv.fits t e f)).0
+
+pub returns-clause-notes : goal.returns-clause-notes
+returns-clause-notes g c = grows_on _ _ _ c.loop-file.invariant.notes c.next.ensures.notes

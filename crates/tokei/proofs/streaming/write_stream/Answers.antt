@@ -1,4 +1,5 @@
 use Rattle.std.proofs.Common.{◌≡◌, ◌++◌, Err, List, ap, subst, rules, ◌∙◌}
+use Rattle.std.proofs.KnownBytes.{Appends-trans}
 use Rattle.std.specs.Io.KnownBytes.{Appends}
 use Rattle.tokei_folders.proofs.Contents.{sound_of}
 use Rattle.tokei_files.specs.Files.{ReadingsFit}
@@ -9,24 +10,29 @@ use Rattle.tokei_walk.specs.declared.kept_file.Note.{Note}
 use Rattle.tokei_walk.specs.Walks.{to_come}
 use Rattle.tokei_walk.specs.declared.kept_file.KeptFile.{KeptFile}
 use Rattle.tokei_io.specs.declared.error.OutputError.TheVariants.{Overflow}
-use Rattle.tokei.specs.Streams.{stream_text}
+use Rattle.tokei.proofs.StreamNotes.{noted_behind}
+use Rattle.tokei.specs.Rows.{heading_of}
+use Rattle.tokei.specs.Streams.{rows_of, stream_text}
 use Rattle.tokei.proofs.streaming.write_stream.Goals as goal
 
 pub returns-clause-told : goal.returns-clause-told
 returns-clause-told g c = λ t e.
     let rows = c.args.rows.now in
+    let by = counting_of c.args.counting.now in
     let sound = sound_of _ t (g.met.F.Folders.sound c.args.folders.now) e in
+    let heading = c.in_ok-write_heading.ensures.bytes in
     subst (λ (files : List KeptFile). Appends (g.W.Sink.contents c.args.writer.now)
-    (g.W.Sink.contents c.write_headed.new.writer)
-    (stream_text rows.form rows.table.now (counting_of c.args.counting.now) t files))
-    (c.in_ok-walk.ensures.comes t sound) (c.in_ok-write_headed.ensures.told t e)
+    (g.W.Sink.contents c.write_rows-written.new.writer) (stream_text rows.form rows.table.now by t files))
+    (c.in_ok-walk.ensures.comes t sound)
+    (Appends-trans _ _ _ (heading_of rows.form) (rows_of rows.form rows.table.now by t (to_come t c.in_ok-walk.walk)) heading
+    (c.in_ok-written.ensures.told t e))
 
-pub returns-in_err-write_headed-clause-overflow : goal.returns-in_err-write_headed-clause-overflow
-returns-in_err-write_headed-clause-overflow g c = λ q t e.
-    let same : c.in_err-write_headed.field-0.0 ≡ Overflow = search rules in
+pub returns-in_err-written-clause-overflow : goal.returns-in_err-written-clause-overflow
+returns-in_err-written-clause-overflow g c = λ q t e.
+    let same : c.in_err-written.field-0.0 ≡ Overflow = search rules in
     let sound = sound_of _ t (g.met.F.Folders.sound c.args.folders.now) e in
     subst (λ (files : List KeptFile). ReadingsFit (counting_of c.args.counting.now) t files → ⊥)
-    (c.in_ok-walk.ensures.comes t sound) (c.in_err-write_headed.ensures.overflow (ap (λ x. Err x) same) t e)
+    (c.in_ok-walk.ensures.comes t sound) (c.in_err-written.ensures.overflow (ap (λ x. Err x) same) t e)
 
 pub returns-clause-unread : goal.returns-clause-unread
 returns-clause-unread g c = λ t e.
@@ -35,4 +41,8 @@ returns-clause-unread g c = λ t e.
     let comes = c.in_ok-walk.ensures.comes t sound in
     ends_in c.into_notes-notes.result.items _ _
     (c.in_ok-append.ensures.items ∙ ap (λ (q : List Note). c.into_notes-notes.result.items ++ q)
-    (c.in_ok-write_headed.ensures.unread t e ∙ ap (λ (q : List Note). q ++ unread_of by t (to_come t c.in_ok-walk.walk)) c.new-unread.ensures.items ∙ ap (unread_of by t) comes))
+    (c.in_ok-written.ensures.unread t e ∙ ap (λ (q : List Note). q ++ unread_of by t (to_come t c.in_ok-walk.walk)) c.new-unread.ensures.items ∙ ap (unread_of by t) comes))
+
+pub returns-clause-notes : goal.returns-clause-notes
+returns-clause-notes g c =
+    noted_behind _ _ _ _ _ _ c.in_ok-walk.ensures.notes c.in_ok-written.ensures.notes c.into_notes-notes.ensures c.in_ok-append.ensures.items
