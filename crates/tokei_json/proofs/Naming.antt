@@ -7,11 +7,9 @@ use Rattle.std.specs.List.Sorted.{IsStrictlySortedBy}
 use Rattle.std.specs.Map.{keys_of}
 use Rattle.std.specs.Ordering.{match_ordering}
 use Rattle.serde_json.specs.Data.{Data, Members, member, put}
-use Rattle.tokei_json.specs.ReportData.{name_of, named_data, blobs_data, statistics_data, reports_data}
+use Rattle.tokei_json.specs.ReportData.{name_of, named_data, blobs_data, statistics_data}
 use Rattle.tokei_json.specs.Tokens.{named, members_by}
 use Rattle.tokei_json.proofs.Writing.{IsBelow, Ascend}
-use Rattle.tokei_languages.specs.Summaries.{reports_by_language}
-use Rattle.tokei_languages.specs.Values.{LanguageValue}
 use Rattle.tokei_stats.specs.Seen.{blobs_of}
 use Rattle.tokei_stats.specs.Statistics.{Statistics}
 use Rattle.tokei_table.specs.Row.{Row}
@@ -76,9 +74,3 @@ named_members rows seen value_of (e ∷ es) found =
 pub named_blobs : (rows : List Row) (es : List (ℕ × Statistics)) (ms : Members) → blobs_data rows (blobs_of es) ms ≡ named_data rows (statistics_data rows) es ms
 named_blobs rows [] ms = refl
 named_blobs rows (e ∷ es) ms = named_blobs rows es (put (name_of rows e.0) (statistics_data rows e.1) ms)
-
--- the reports of each language, put one by one
-pub named_reports : (rows : List Row) (es : List (ℕ × LanguageValue)) (ms : Members)
-    → named_data rows (reports_data rows) (reports_by_language es) ms ≡ named_data rows (λ l. reports_data rows l.reports) es ms
-named_reports rows [] ms = refl
-named_reports rows (e ∷ es) ms = named_reports rows es (put (name_of rows e.0) (reports_data rows e.1.reports) ms)

@@ -8,7 +8,7 @@ use Rattle.tokei_stats.specs.Statistics.{Statistics, Blobs}
 use Rattle.tokei_stats.specs.Statistics.Statistics.{node}
 use Rattle.tokei_stats.specs.Statistics.Blobs.{none, blob}
 use Rattle.tokei_table.specs.Row.{Row}
-use Rattle.tokei_json.specs.ReportData.{name_of, statistics_data, blobs_data, report_data, line_data}
+use Rattle.tokei_json.specs.ReportData.{name_of, statistics_data, blobs_data, report_data}
 use Rattle.tokei_json.proofs.Members.{AllMembers, all_put}
 
 pub neither : (a b : Bool) → a ≡ false → b ≡ false → (a || b) ≡ false
@@ -37,6 +37,3 @@ whole_report rows r = neither (has_float (statistics_data rows r.stats)) false (
 pub whole_reports : (rows : List Row) (rs : List ReportValue) → items_have_float (items_of (map (report_data rows) rs)) ≡ false
 whole_reports rows [] = refl
 whole_reports rows (r ∷ rs) = neither (has_float (report_data rows r)) _ (whole_report rows r) (whole_reports rows rs)
-
-pub whole_line : (rows : List Row) (language : ℕ) (r : ReportValue) → has_float (line_data rows language r) ≡ false
-whole_line rows language r = neither (has_float (report_data rows r)) false (whole_report rows r) refl

@@ -1,13 +1,12 @@
 -- Objects of a document whose members are written one after another.
-use Rattle.std.proofs.Common.{◌≡◌, ℕ, List, [], ◌∷◌, ◌++◌, Bool, codes, refl}
+use Rattle.std.proofs.Common.{◌≡◌, ℕ, List, [], ◌∷◌, ◌++◌, Bool, codes, refl, Less, nat_cmp}
+use Rattle.std.specs.Cmp.Lexicographic.{slice_cmp}
 use Rattle.json.specs.Token.{begin_object, end_object}
 use Rattle.json.specs.Written.{Written}
 use Rattle.serde_json.specs.Data.{Data, boolean, string, object, no_members, member}
 use Rattle.tokei_json.specs.ReportData.{count}
 use Rattle.tokei_json.specs.Tokens.{IsWritten, IsMember}
 use Rattle.tokei_json.proofs.Writing.{Ascend, lacks_all, lacks_fewer, object_written}
-use Rattle.tokei_languages.specs.Summaries.{reports_by_language}
-use Rattle.tokei_languages.specs.Values.{LanguageValue}
 use Rattle.tokei_stats.specs.Statistics.{Counts}
 
 -- the writer after the opening brace, and after the closing one
@@ -36,16 +35,16 @@ statistics_written n blobs old first w1 w2 w3 w4 new begun m1 m2 m3 m4 ended =
     let l4 = lacks_fewer all (codes "comments") (count n.comments) no_members first w3 w4 l3 m4 in
     object_written all old first w4 new ((refl, (refl, (refl, tt))), ((refl, (refl, tt)), ((refl, tt), (tt, tt)))) begun.tokens begun.before l4 ended.tokens ended.before
 
--- a report
-pub report_written : (name : List ℕ) (stats : Data) (old first w1 w2 new : Written) → IsOpened old first
-    → IsMember (codes "name") (string name) first w1 → IsMember (codes "stats") stats w1 w2 → IsClosed w2 new
-    → IsWritten (object (member (codes "name") (string name) (member (codes "stats") stats no_members))) old new
-report_written name stats old first w1 w2 new begun m1 m2 ended =
+-- a report, and a line: a text beside statistics
+pub named_stats_written : (key name : List ℕ) (stats : Data) (old first w1 w2 new : Written) → slice_cmp nat_cmp key (codes "stats") ≡ Less → IsOpened old first
+    → IsMember key (string name) first w1 → IsMember (codes "stats") stats w1 w2 → IsClosed w2 new
+    → IsWritten (object (member key (string name) (member (codes "stats") stats no_members))) old new
+named_stats_written key name stats old first w1 w2 new below begun m1 m2 ended =
     let ms2 = member (codes "stats") stats no_members in
-    let all = member (codes "name") (string name) ms2 in
-    let l1 = lacks_fewer all (codes "name") (string name) ms2 first first w1 (lacks_all all first) m1 in
+    let all = member key (string name) ms2 in
+    let l1 = lacks_fewer all key (string name) ms2 first first w1 (lacks_all all first) m1 in
     let l2 = lacks_fewer all (codes "stats") stats no_members first w1 w2 l1 m2 in
-    object_written all old first w2 new ((refl, tt), (tt, tt)) begun.tokens begun.before l2 ended.tokens ended.before
+    object_written all old first w2 new ((below, tt), (tt, tt)) begun.tokens begun.before l2 ended.tokens ended.before
 
 -- a language, and the total
 pub language_written : (n : Counts) (children reports : Data) (mark : Bool) (old first w1 w2 w3 w4 w5 w6 new : Written) → IsOpened old first
@@ -68,7 +67,3 @@ language_written n children reports mark old first w1 w2 w3 w4 w5 w6 new begun m
     let l6 = lacks_fewer all (codes "reports") reports no_members first w5 w6 l5 m6 in
     let ascending : Ascend all = ((refl, (refl, (refl, (refl, (refl, tt))))), ((refl, (refl, (refl, (refl, tt)))), ((refl, (refl, (refl, tt))), ((refl, (refl, tt)), ((refl, tt), (tt, tt)))))) in
     object_written all old first w6 new ascending begun.tokens begun.before l6 ended.tokens ended.before
-
--- the total with these counts and this mark
-abbrev pub totalled : List (ℕ × LanguageValue) → Counts → Bool → LanguageValue
-totalled es n mark = record { counts = n; reports = []; children = reports_by_language es; inaccurate = mark }

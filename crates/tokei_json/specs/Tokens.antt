@@ -1,6 +1,9 @@
 -- What is written of values, token by token, and values by the names of their languages. For the
 -- clauses of private calls.
-use Rattle.std.specs.Prelude.{◌≡◌, ℕ, List, [], ◌∷◌, ◌++◌, Some}
+use Rattle.std.specs.Prelude.{◌≡◌, ℕ, List, [], ◌∷◌, ◌++◌, map, Some}
+use Rattle.std.specs.Borrow.{Bor}
+use Rattle.std.specs.declared.alloc.Global.{Global}
+use Rattle.std.specs.declared.vec.Vec.{Vec}
 use Rattle.std.specs.BTreeMap.{insert_entry}
 use Rattle.std.specs.Cmp.Lexicographic.{slice_cmp}
 use Rattle.std.specs.Ordering.{nat_cmp}
@@ -10,7 +13,9 @@ use Rattle.json.specs.Written as json
 use Rattle.serde_json.specs.Data.{Data, Members, no_members, member}
 use Rattle.serde_json.specs.Read.{of_json}
 use Rattle.serde_json.specs.Written.{outline}
-use Rattle.tokei_json.specs.ReportData.{name_of}
+use Rattle.tokei_json.specs.ReportData.{name_of, reports_data}
+use Rattle.tokei_stats.specs.Reports.{reports_of}
+use Rattle.tokei_stats.specs.declared.report.Report.{Report}
 use Rattle.tokei_table.specs.Row.{Row}
 
 -- the value's tokens stand behind the old ones, and read as the value
@@ -35,3 +40,8 @@ named rows (e ∷ es) found =
 abbrev pub members_by : {T : Type 0} → (T → Data) → List (List ℕ × T) → Members
 members_by value_of [] = no_members
 members_by value_of (e ∷ es) = member e.0 (value_of e.1) (members_by value_of es)
+
+-- reports that are borrowed, under names that are, as members
+abbrev pub children_members : List Row → List (Bor (List ℕ) × Bor (Vec Report Global)) → Members
+children_members rows es =
+    members_by (λ v. reports_data rows (reports_of v)) (map (λ e. (e.0.now, e.1.now)) es)

@@ -10,7 +10,9 @@ ghost use Rattle.tokei_stats.specs.Reports.{report_of, reports_of, children_of};
 ghost use Rattle.tokei_stats.specs.Seen.{blobs_of, entries_of, stats_of};
 
 use crate::counted_objects::count_members;
-use serde_json::{Map, Value, json, put};
+use crate::tokens::{text_of, write_line};
+use json::Writer;
+use serde_json::{Map, Value, put};
 use std::alloc::{AllocError, Global};
 use std::collections::BTreeMap;
 use tokei_stats::{CodeStats, Report};
@@ -78,8 +80,12 @@ fn blobs_value(
 fn report_value(alloc: Global, table: &LanguageTable, report: &Report) -> Result<Value, AllocError>
     ensures { IfOk result (λ v. view v ≡ report_data table.now (report_of report.now)) }
 {
+    let mut members = Map::new(alloc);
     let stats = statistics_value(alloc, table, &report.stats)?;
-    json!(in alloc; {"name": &report.name, "stats": stats})
+    put(&mut members, alloc, "stats", stats)?;
+    let name = Value::try_from_str(alloc, report.name.as_str())?;
+    put(&mut members, alloc, "name", name)?;
+    Ok(Value::Object(members))
 }
 
 /// The reports, in their order. Out of memory is the only refusal.
@@ -117,19 +123,6 @@ pub fn children_value(
     Ok(members)
 }
 
-/// A file's report beside the name of its language.
-fn line_value(
-    alloc: Global,
-    table: &LanguageTable,
-    language: LanguageType,
-    report: &Report,
-) -> Result<Value, AllocError>
-    ensures { IfOk result (λ v. view v ≡ line_data table.now language (report_of report.now)) }
-{
-    let stats = report_value(alloc, table, report)?;
-    json!(in alloc; {"language": name_of(table, language), "stats": stats})
-}
-
 /// A file's report beside the name of its language, as one compact JSON text with no newline: a
 /// line of a stream. Out of memory is the only refusal.
 pub fn report_line(
@@ -141,7 +134,7 @@ pub fn report_line(
     ensures { IfOk result (λ s. string_bytes s
         ≡ compact_text (line_data table.now language (report_of report.now))) }
 {
-    let value = line_value(alloc, table, language, report)?;
-    let text = value.to_string(alloc)?;
-    Ok(text)
+    let mut out = Writer::new(Vec::new(alloc));
+    write_line(alloc, table, language, report, &mut out)?;
+    Ok(text_of(out))
 }

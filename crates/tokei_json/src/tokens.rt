@@ -1,10 +1,12 @@
 //! Statistics and reports as JSON tokens, written without a value of them.
-ghost use Rattle.std.specs.Prelude.{◌≡◌, [], map, IfOk, OnOk};
-ghost use Rattle.serde_json.specs.Data.{object, no_members};
+ghost use Rattle.std.specs.Prelude.{◌≡◌, [], map, IfOk, OnOk, string_bytes};
+ghost use Rattle.json.specs.Lex.{tokens};
+ghost use Rattle.json.specs.Print.{print};
+ghost use Rattle.serde_json.specs.Data.{object, no_members, string};
 ghost use Rattle.tokei_json.specs.ReportData.{count as count_data, statistics_data, blobs_data, report_data};
-ghost use Rattle.tokei_json.specs.ReportData.{reports_data, named_data};
-ghost use Rattle.tokei_json.specs.Tokens.{IsMember, IsWritten, named};
-ghost use Rattle.tokei_stats.specs.Reports.{report_of, reports_of, children_of};
+ghost use Rattle.tokei_json.specs.ReportData.{line_data, reports_data};
+ghost use Rattle.tokei_json.specs.Tokens.{IsMember, IsWritten, children_members, named};
+ghost use Rattle.tokei_stats.specs.Reports.{report_of};
 ghost use Rattle.tokei_stats.specs.Seen.{blobs_of, entries_of, stats_of};
 
 use crate::reports::name_of;
@@ -40,6 +42,14 @@ pub(crate) fn write_count(out: &mut Writer, name: &str, count: usize) -> Result<
 {
     out.key(name)?;
     out.u64(count as u64)
+}
+
+/// Writes a member that is a text.
+fn write_text(out: &mut Writer, name: &str, text: &str) -> Result<(), AllocError>
+    ensures { OnOk result (IsMember name.now (string text.now) out.old out.new) }
+{
+    out.key(name)?;
+    out.string(text)
 }
 
 /// Writes a member that is statistics.
@@ -93,9 +103,26 @@ fn write_report(
         (IsWritten (report_data table.now (report_of report.now)) out.old out.new) }
 {
     out.begin_object()?;
-    out.key("name")?;
-    out.string(report.name.as_str())?;
+    write_text(out, "name", report.name.as_str())?;
     write_statistics(alloc, table, "stats", &report.stats, out)?;
+    out.end_object()
+}
+
+/// Writes a file's report beside the name of its language.
+pub(crate) fn write_line(
+    alloc: Global,
+    table: &LanguageTable,
+    language: LanguageType,
+    file: &Report,
+    out: &mut Writer,
+) -> Result<(), AllocError>
+    ensures { OnOk result
+        (IsWritten (line_data table.now language (report_of file.now)) out.old out.new) }
+{
+    out.begin_object()?;
+    write_text(out, "language", name_of(table, language))?;
+    out.key("stats")?;
+    write_report(alloc, table, file, out)?;
     out.end_object()
 }
 
@@ -104,11 +131,11 @@ pub(crate) fn write_reports(
     alloc: Global,
     table: &LanguageTable,
     name: &str,
-    reports: &Vec<Report>,
+    reports: &[Report],
     out: &mut Writer,
 ) -> Result<(), AllocError>
     ensures { OnOk result
-        (IsMember name.now (reports_data table.now (reports_of reports.now)) out.old out.new) }
+        (IsMember name.now (reports_data table.now (map report_of reports.now)) out.old out.new) }
 {
     out.key(name)?;
     out.begin_array()?;
@@ -118,21 +145,31 @@ pub(crate) fn write_reports(
     out.end_array()
 }
 
-/// Writes the reports of each language, by its name.
+/// Writes the reports under each name.
 pub(crate) fn write_children(
     alloc: Global,
     table: &LanguageTable,
-    children: &BTreeMap<LanguageType, Vec<Report>>,
+    children: &BTreeMap<&str, &Vec<Report>>,
     out: &mut Writer,
 ) -> Result<(), AllocError>
-    ensures { OnOk result (IsWritten
-        (object (named_data table.now (reports_data table.now) (children_of children.now.entries)
-        no_members)) out.old out.new) }
+    ensures { OnOk result
+        (IsWritten (object (children_members table.now children.now.entries)) out.old out.new) }
 {
     out.begin_object()?;
-    let members = by_name(alloc, table, children.iter())?;
-    for (name, reports) in &members {
-        write_reports(alloc, table, *name, *reports, out)?;
+    for (name, reports) in children {
+        write_reports(alloc, table, *name, reports.as_slice(), out)?;
     }
     out.end_object()
+}
+
+/// The text of what is written.
+pub(crate) fn text_of(out: Writer) -> String
+    requires { out.before ≡ [] }
+    ensures printed { string_bytes result ≡ print out.tokens }
+    ensures reads_back { tokens (string_bytes result) ≡ out.tokens }
+{
+    match String::from_utf8(out.into_inner()) {
+        Ok(text) => text,
+        Err(_) => unreachable!(),
+    }
 }

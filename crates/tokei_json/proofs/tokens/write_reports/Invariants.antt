@@ -7,5 +7,5 @@ use Rattle.tokei_json.proofs.tokens.write_reports.Given as goal
 
 abbrev pub invariant-loop-report : goal.invariant-loop-report
 invariant-loop-report l =
-    LacksItems (items_of (map (report_data l.table) (map report_of l.report-items)))
-    (items_of (map (report_data l.table) (map report_of (drop l.report-index l.report-items)))) l.initial.out l.out
+    LacksItems (items_of (map (report_data l.table) (map report_of l.reports)))
+    (items_of (map (report_data l.table) (map report_of (drop l.report-index l.reports)))) l.initial.out l.out
