@@ -61,7 +61,10 @@ fn write_file<F: Folders, W: Sink>(
         Some(language) => language,
         None => return Ok(()),
     };
-    match by.counting.count_file(folders, language, file.place.as_str(), true) {
+    match by
+        .counting
+        .count_file(folders, language, file.place.as_str(), true)
+    {
         Ok(stats) => {
             let name = file.path.into_string();
             write_row(by.rows, language, &Report { stats, name }, writer)

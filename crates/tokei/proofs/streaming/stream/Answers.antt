@@ -1,4 +1,4 @@
-use Rattle.std.proofs.Common.{◌≡◌, false, unwrap_or, List, option_map, IfOk, OnOk, ◌∙◌, subst}
+use Rattle.std.proofs.Common.{◌≡◌, false, unwrap_or, option_map, IfOk, OnOk, ◌∙◌, subst}
 use Rattle.std.specs.Io.KnownBytes.{Appends}
 use Rattle.tokei_config.specs.Seen.{settings_of}
 use Rattle.tokei_count.specs.Seen.{docs_of}

@@ -5,7 +5,7 @@ use Rattle.tokei_files.proofs.UnreadNotes.{noted_more}
 use Rattle.tokei_walk.specs.declared.kept_file.KeptFile.{KeptFile}
 use Rattle.tokei_walk.specs.Walks.{to_come, Advances}
 use Rattle.tokei_walk.proofs.Growing.{grows_same, grows_on}
-use Rattle.tokei.proofs.WrittenRows.{no_row_yet, one_row_more, all_rows}
+use Rattle.tokei.proofs.WrittenRows.{no_row_yet, one_row_more}
 use Rattle.tokei.specs.Streams.{file_row}
 use Rattle.tokei_io.specs.declared.error.OutputError.TheVariants.{Overflow}
 use Rattle.tokei.proofs.streaming.write_rows.Goals as goal
