@@ -1,4 +1,4 @@
-//! Statistics and reports as JSON values.
+//! Statistics and reports as JSON values, and a report as a line of a stream.
 ghost use Rattle.std.specs.Prelude.{◌≡◌, IfOk, OnOk, string_bytes};
 ghost use Rattle.std.specs.Result.{IsOkAnd};
 ghost use Rattle.serde_json.specs.Data.{no_members, put as with_member};
@@ -12,7 +12,7 @@ ghost use Rattle.tokei_stats.specs.Seen.{blobs_of, entries_of, stats_of};
 use crate::counted_objects::count_members;
 use crate::tokens::{text_of, write_line};
 use json::Writer;
-use serde_json::{Map, Value, put};
+use serde_json::{Map, Value, json, put};
 use std::alloc::{AllocError, Global};
 use std::collections::BTreeMap;
 use tokei_stats::{CodeStats, Report};
@@ -80,12 +80,8 @@ fn blobs_value(
 fn report_value(alloc: Global, table: &LanguageTable, report: &Report) -> Result<Value, AllocError>
     ensures { IfOk result (λ v. view v ≡ report_data table.now (report_of report.now)) }
 {
-    let mut members = Map::new(alloc);
     let stats = statistics_value(alloc, table, &report.stats)?;
-    put(&mut members, alloc, "stats", stats)?;
-    let name = Value::try_from_str(alloc, report.name.as_str())?;
-    put(&mut members, alloc, "name", name)?;
-    Ok(Value::Object(members))
+    json!(in alloc; {"name": &report.name, "stats": stats})
 }
 
 /// The reports, in their order. Out of memory is the only refusal.

@@ -143,7 +143,13 @@ fn write_member(
 {
     out.key(name)?;
     let children = children_of(alloc, counted, member)?;
-    write_shown(alloc, counted.table, shown_of(counted, member), &children, out)
+    write_shown(
+        alloc,
+        counted.table,
+        shown_of(counted, member),
+        &children,
+        out,
+    )
 }
 
 /// What stands under each name of the document.

@@ -1,4 +1,4 @@
-use Rattle.std.proofs.Common.{◌≡◌, ◌++◌, List, string_bytes, ap, ◌∙◌, subst}
+use Rattle.std.proofs.Common.{◌++◌, string_bytes, ap, ◌∙◌, subst}
 use Rattle.json.specs.Print.{print}
 use Rattle.json.specs.Tree.{json_tokens}
 use Rattle.serde_json.specs.Written.{outline}
