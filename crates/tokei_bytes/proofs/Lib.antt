@@ -1,3 +1,4 @@
+pub mod BitSets
 pub mod Bits
 pub mod Blocks
 pub mod Carries

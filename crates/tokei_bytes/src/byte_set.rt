@@ -11,7 +11,7 @@ use crate::slots::{NO_SLOTS, first_slotted, put_slot, slotted_end};
 use std::marker::Model;
 
 /// How many bytes are searched for at once.
-const FEW: usize = 4;
+pub(crate) const FEW: u8 = 4;
 
 /// A set of bytes. Contracts see a flag for each byte, which says whether it is in the set.
 #[derive(Drop)]
@@ -20,7 +20,7 @@ pub struct ByteSet {
     /// The first `count` of them are the bytes of the set, where those are at most four, and each
     /// is one where there are any.
     few: [u8; 4],
-    count: usize,
+    count: u8,
     /// Each byte of the set in the slot of its low half, where `has_slots`, here or in `others`;
     /// here alone, and no other byte, where `is_slotted`.
     slots: [u8; 16],
@@ -43,7 +43,7 @@ impl Model for ByteSet {
 }
 
 /// The byte in front of the first three of some few, or that byte alone where there are none.
-fn with_one(few: [u8; 4], count: usize, byte: u8) -> [u8; 4]
+pub(crate) fn with_one(few: [u8; 4], count: u8, byte: u8) -> [u8; 4]
     ensures { result ≡ with_one few count byte }
 {
     if count == 0 {
@@ -97,17 +97,6 @@ impl ByteSet {
         }
     }
 
-    /// Puts each byte into the set.
-    pub fn fill(&mut self)
-        ensures { self.new ≡ replicate 256 true }
-    {
-        self.flags = [true; 256];
-        self.few = [0; 4];
-        self.count = FEW + 1;
-        self.has_slots = false;
-        self.is_slotted = false;
-    }
-
     /// Whether the byte is in the set.
     #[inline(always)]
     pub fn has(&self, byte: u8) -> bool
@@ -118,7 +107,7 @@ impl ByteSet {
 
     /// The bytes of the set, some more than once, where they are one to four.
     #[inline(always)]
-    pub fn few(&self) -> Option<[u8; 4]>
+    fn few(&self) -> Option<[u8; 4]>
         ensures holds { IfSome result (λ few. (b : ℕ) → b < 256 → is_in self.now b ≡ true
             → is_one_of few b ≡ true) }
         ensures held { IfSome result (λ few. (b : ℕ) → is_one_of few b ≡ true
@@ -176,26 +165,5 @@ impl ByteSet {
             return from;
         }
         to.min(slotted_end(self.slots, self.others, text, from, to))
-    }
-
-    /// The same for the bytes of the set and another one.
-    #[inline(always)]
-    pub fn clear_end_with(&self, other: u8, text: &[u8], from: usize, to: usize) -> usize
-        requires order { from ≤ to }
-        requires within { to ≤ length text.now }
-        ensures { IsFirstPlace (λ x. x == other || is_in self.now x) text.now from to result }
-    {
-        if self.count == 0 {
-            return first_of_four([other; 4], text, from, to);
-        }
-        if self.count < FEW {
-            let few = [self.few[0], self.few[1], self.few[2], other];
-            return first_of_four(few, text, from, to);
-        }
-        let mut at = from;
-        while at < to && text[at] != other && !self.has(text[at]) {
-            at += 1;
-        }
-        at
     }
 }

@@ -6,6 +6,7 @@
 //! `first_of_one` leaves far ones to memchr.
 #![tactic(auto)]
 
+mod bit_set;
 mod boundaries;
 mod byte_set;
 mod decoding;
@@ -15,6 +16,7 @@ mod one_of;
 mod pairs;
 mod slots;
 
+pub use bit_set::BitSet;
 pub use boundaries::find_char_boundary;
 pub use byte_set::ByteSet;
 pub use decoding::decode_text;

@@ -1,5 +1,4 @@
 -- Lemmas on searches and groups of openers.
-pub mod Bits
 pub mod FirstBytes
 pub mod FirstPlaces
 pub mod OpenerGroups

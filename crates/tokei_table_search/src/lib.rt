@@ -2,7 +2,6 @@
 //! at its front.
 #![tactic(auto)]
 
-mod bit_set;
 pub mod blanks;
 mod opener_group;
 pub mod opener_index;

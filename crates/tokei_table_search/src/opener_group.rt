@@ -8,7 +8,7 @@ ghost use Rattle.tokei_table_search.specs.OpenerGroups.{is_whole_behind, IsGroup
 ghost use Rattle.tokei_table_row.specs.RowOf.{tokens_of};
 ghost use Rattle.tokei_bytes.specs.ByteSets.{is_in};
 
-use crate::bit_set::BitSet;
+use tokei_bytes::BitSet;
 
 /// What can follow one first byte of some openers, in those of them that begin with it.
 #[derive(Drop)]

@@ -1,7 +1,7 @@
 use Rattle.std.proofs.Common.{subst}
 use Rattle.tokei_bytes.specs.ByteSets.{HasFew}
 use Rattle.tokei_bytes.proofs.Sets.{among}
-use Rattle.tokei_table_search.proofs.bit_set.BitSet.few.Goals as goal
+use Rattle.tokei_bytes.proofs.bit_set.BitSet.few.Goals as goal
 
 pub returns-clause-holds : goal.returns-clause-holds
 returns-clause-holds c = λ b fits h.

@@ -1,12 +1,12 @@
 use Rattle.std.proofs.Common.{subst, get_or, [], ◌∷◌, slice_index, arith}
 use Rattle.tokei_bytes.specs.ByteSets.{HasFew, is_in}
 use Rattle.tokei_bytes.proofs.Sets.{outside, three, apart_of_three, met_of_three, neither}
-use Rattle.tokei_bytes.proofs.byte_set.ByteSet.clear_end_with.Goals as goal
+use Rattle.tokei_bytes.proofs.bit_set.BitSet.clear_end_with.Goals as goal
 
 pub returns-then-self-lt-FEW : goal.returns-then-self-lt-FEW
 returns-then-self-lt-FEW c =
     let few = c.self.inside.few in
-    let has : HasFew c.args.self.now few c.self.inside.count = subst (λ flags. HasFew flags few c.self.inside.count) c.self.view_is c.self.invariant.1.0 in
+    let has : HasFew c.args.self.now few c.self.inside.count = subst (λ flags. HasFew flags few c.self.inside.count) c.self.view_is c.self.invariant.1 in
     let there = c.first_of_four-then-self-lt-FEW in
     record {
       low = there.ensures.low;

@@ -1,8 +1,8 @@
 use Rattle.std.proofs.Common.{◌/◌, ◌%◌, ◌==◌, ◌∙◌, get_or, sym, ap}
 use Rattle.std.proofs.lemmas.Nat.Bits.{shr_and_one}
 use Rattle.tokei_bytes.specs.ByteSets.{is_in}
-use Rattle.tokei_table_search.proofs.Bits.{get_or-flags_of}
-use Rattle.tokei_table_search.proofs.bit_set.BitSet.has.Goals as goal
+use Rattle.tokei_bytes.proofs.BitSets.{get_or-flags_of}
+use Rattle.tokei_bytes.proofs.bit_set.BitSet.has.Goals as goal
 
 pub returns : goal.returns
 returns c =

@@ -9,7 +9,7 @@ use Rattle.std.specs.Int.{bit_at}
 use Rattle.tokei_bytes.specs.ByteSets.{HasFew, is_in}
 use Rattle.tokei_bytes.proofs.Blocks.{the_one}
 use Rattle.tokei_bytes.proofs.Sets.{put_in}
-use Rattle.tokei_table_search.specs.Bits.{has_bit, flags_of}
+use Rattle.tokei_bytes.specs.BitSets.{has_bit, flags_of}
 
 pub length-flags_of : (words : List ℕ) → length (flags_of words) ≡ 256
 unfolding flags_of

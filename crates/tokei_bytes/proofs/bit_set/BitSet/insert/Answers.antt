@@ -2,9 +2,9 @@ use Rattle.std.proofs.Common.{◌+◌, ◌<◌, ◌||◌, ◌==◌, ◌∙◌, l
 use Rattle.std.proofs.lemmas.List.{length-set}
 use Rattle.tokei_bytes.specs.ByteSets.{HasFew, is_in, with_one}
 use Rattle.tokei_bytes.proofs.Sets.{few_with_one}
-use Rattle.tokei_table_search.specs.Bits.{flags_of}
-use Rattle.tokei_table_search.proofs.Bits.{bit_put, flags_of-with_bit, length-flags_of, more_than_few, with_bit}
-use Rattle.tokei_table_search.proofs.bit_set.BitSet.insert.Goals as goal
+use Rattle.tokei_bytes.specs.BitSets.{flags_of}
+use Rattle.tokei_bytes.proofs.BitSets.{bit_put, flags_of-with_bit, length-flags_of, more_than_few, with_bit}
+use Rattle.tokei_bytes.proofs.bit_set.BitSet.insert.Goals as goal
 
 pub invariant_of-self : goal.invariant_of-self
 invariant_of-self c =

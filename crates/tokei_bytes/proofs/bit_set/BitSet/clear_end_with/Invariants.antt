@@ -1,6 +1,6 @@
 use Rattle.std.proofs.Common.{◌≡◌, ℕ, ◌-◌, ◌<◌, ◌≤◌, ◌==◌, ◌||◌, false, slice_index}
 use Rattle.tokei_bytes.specs.ByteSets.{is_in}
-use Rattle.tokei_bytes.proofs.byte_set.ByteSet.clear_end_with.Given as goal
+use Rattle.tokei_bytes.proofs.bit_set.BitSet.clear_end_with.Given as goal
 
 abbrev pub invariant-loop-at : goal.invariant-loop-at
 invariant-loop-at l = record {
