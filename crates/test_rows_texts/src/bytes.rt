@@ -1,7 +1,7 @@
 //! Rows of searches for one of a few bytes.
 use crate::asking::say_all;
 use test_rows::{Answers, Members, Row, RowError, Said};
-use tokei_bytes::{ByteSet, first_of_four};
+use tokei_bytes::{BitSet, ByteSet, first_of_four};
 
 /// The members of these rows. Either one of the bytes `four` is searched for between two places;
 /// where the text has a `hit`, each of the four is put there in turn, and all have to be found at
@@ -73,14 +73,16 @@ fn of_four(row: &Row, text: &mut [u8], answers: &mut Answers) {
 /// The answers of a set.
 fn of_set(row: &Row, text: &[u8], answers: &mut Answers) {
     let mut set = ByteSet::empty();
+    let mut bits = BitSet::empty();
     for byte in answers.text(row, "set").as_bytes() {
         set.insert(*byte);
+        bits.insert(*byte);
     }
     let [other] = answers.text(row, "other").as_bytes() else {
         return answers.fail(RowError::Words("the other one isn't one byte"));
     };
     let end = set.clear_end(text, 0, text.len());
-    let end_with = set.clear_end_with(*other, text, 0, text.len());
+    let end_with = bits.clear_end_with(*other, text, 0, text.len());
     let all = [
         ("clear_end", Said::Number(end as u128)),
         ("clear_end_with", Said::Number(end_with as u128)),

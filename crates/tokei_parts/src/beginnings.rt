@@ -6,7 +6,7 @@ ghost use Rattle.tokei_table.specs.FirstOpener.{is_first_of};
 ghost use Rattle.tokei_table.specs.RowOf.{row_of, pairs_of, tokens_of};
 ghost use Rattle.tokei_parts.specs.Matchers.{begins_opener, begins_choice, begins_in_comment, flags};
 
-use tokei_bytes::ByteSet;
+use tokei_bytes::{BitSet, ByteSet};
 use tokei_table_row::Syntax;
 
 /// Adds the token's first byte.
@@ -43,26 +43,43 @@ fn add_tokens(begins: &mut ByteSet, tokens: &[String])
     }
 }
 
+/// Adds each opener's first byte to those at which a choice can begin in a comment.
+fn add_in_comment(begins: &mut BitSet, pairs: &[(String, String)])
+    ensures long { length begins.new ≡ length begins.old }
+    ensures each { (x : ℕ) → is_in begins.new x
+        ≡ (is_in begins.old x || begins_opener (pairs_of pairs.now) x) }
+{
+    for pair in pairs {
+        match pair.0.as_bytes() {
+            [] => {}
+            [first, ..] => begins.insert(*first),
+        }
+    }
+}
+
 /// The bytes at which a choice other than the byte itself, a closer and a child can begin in plain
 /// text.
 pub fn beginnings(syntax: &Syntax) -> ByteSet
     ensures { result ≡ flags (begins_choice (row_of syntax.now)) 256 }
 {
-    let mut begins = beginnings_in_comment(syntax);
+    let mut begins = ByteSet::empty();
+    begins.insert(b'\\');
     add_openers(&mut begins, &syntax.quotes);
     add_openers(&mut begins, &syntax.verbatim_quotes);
     add_openers(&mut begins, &syntax.doc_quotes);
+    add_openers(&mut begins, &syntax.multi_line_comments);
+    add_openers(&mut begins, &syntax.nested_comments);
     add_tokens(&mut begins, &syntax.line_comment);
     begins
 }
 
 /// The same in a comment.
-pub fn beginnings_in_comment(syntax: &Syntax) -> ByteSet
+pub fn beginnings_in_comment(syntax: &Syntax) -> BitSet
     ensures { result ≡ flags (begins_in_comment (row_of syntax.now)) 256 }
 {
-    let mut begins = ByteSet::empty();
+    let mut begins = BitSet::empty();
     begins.insert(b'\\');
-    add_openers(&mut begins, &syntax.multi_line_comments);
-    add_openers(&mut begins, &syntax.nested_comments);
+    add_in_comment(&mut begins, &syntax.multi_line_comments);
+    add_in_comment(&mut begins, &syntax.nested_comments);
     begins
 }

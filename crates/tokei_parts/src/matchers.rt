@@ -11,7 +11,7 @@ use crate::beginnings::{beginnings, beginnings_in_comment};
 use crate::shared_matchers::SharedMatchers;
 use std::alloc::{AllocError, Global};
 use std::marker::Model;
-use tokei_bytes::ByteSet;
+use tokei_bytes::{BitSet, ByteSet};
 use tokei_table::{LanguageTable, LanguageType};
 use tokei_table_rules::Family;
 
@@ -22,7 +22,7 @@ use tokei_table_rules::Family;
 pub struct LanguageMatchers {
     shared: SharedMatchers,
     begins: ByteSet,
-    begins_in_comment: ByteSet,
+    begins_in_comment: BitSet,
     family: Family,
 }
 
