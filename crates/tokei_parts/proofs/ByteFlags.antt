@@ -21,7 +21,8 @@ in_comment r x a b c d e f =
     let n = begins_opener r.nested_comments x in
     f ∙ ap (λ y. y || n) (e ∙ ap (λ y. y || m) d) ∙ or_more (x == 92) m n
 
-regroup : (s q v d m n t : Bool) → ((((((s || q) || v) || d) || m) || n) || t) ≡ (s || (q || (v || (d || (m || (n || t))))))
+regroup : (s q v d m n t : Bool)
+    → ((((((s || q) || v) || d) || m) || n) || t) ≡ (s || (q || (v || (d || (m || (n || t))))))
 regroup true q v d m n t = refl
 regroup false true v d m n t = refl
 regroup false false true d m n t = refl
@@ -30,9 +31,11 @@ regroup false false false false true n t = refl
 regroup false false false false false true t = refl
 regroup false false false false false false t = refl
 
-pub in_plain : (r : Row) (x : ℕ) (s q v d m n t : Bool) → s ≡ (x == 92) → q ≡ (s || begins_opener r.quotes x) → v ≡ (q || begins_opener r.verbatim_quotes x)
-    → d ≡ (v || begins_opener r.doc_quotes x) → m ≡ (d || begins_opener r.multi_line_comments x) → n ≡ (m || begins_opener r.nested_comments x)
-    → t ≡ (n || list_any (is_first_of x) r.line_comment) → t ≡ begins_choice r x
+pub in_plain : (r : Row) (x : ℕ) (s q v d m n t : Bool) → s ≡ (x == 92)
+    → q ≡ (s || begins_opener r.quotes x) → v ≡ (q || begins_opener r.verbatim_quotes x)
+    → d ≡ (v || begins_opener r.doc_quotes x) → m ≡ (d || begins_opener r.multi_line_comments x)
+    → n ≡ (m || begins_opener r.nested_comments x) → t ≡ (n || list_any (is_first_of x) r.line_comment)
+    → t ≡ begins_choice r x
 in_plain r x s q v d m n t es eq ev ed em en et =
     let bq = begins_opener r.quotes x in
     let bv = begins_opener r.verbatim_quotes x in
@@ -41,5 +44,6 @@ in_plain r x s q v d m n t es eq ev ed em en et =
     let bn = begins_opener r.nested_comments x in
     let bt = list_any (is_first_of x) r.line_comment in
     et
-    ∙ ap (λ y. y || bt) (en ∙ ap (λ y. y || bn) (em ∙ ap (λ y. y || bm) (ed ∙ ap (λ y. y || bd) (ev ∙ ap (λ y. y || bv) (eq ∙ ap (λ y. y || bq) es)))))
+    ∙ ap (λ y. y || bt) (en ∙ ap (λ y. y || bn) (em ∙ ap (λ y. y || bm) (ed
+    ∙ ap (λ y. y || bd) (ev ∙ ap (λ y. y || bv) (eq ∙ ap (λ y. y || bq) es)))))
     ∙ regroup (x == 92) bq bv bd bm bn bt
