@@ -28,7 +28,8 @@ pub struct Answers<'a> {
     wrong: Option<RowError>,
 }
 
-/// Whether a value, which should be a list of texts, has one that stands in a text, or doesn't, other than wanted.
+/// Whether a value, which should be a list of texts, has one that stands in a text, or doesn't,
+/// other than wanted.
 fn has_other(values: &[Value], text: &str, stand: bool) -> bool {
     for value in values {
         match value {

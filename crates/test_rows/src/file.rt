@@ -1,23 +1,22 @@
-//! The rows of a file, and of all files of a program.
+//! The rows of a file, and of all files.
 use crate::answers::Answers;
 use crate::page::Page;
 use crate::request::Request;
 use crate::row::Row;
-use crate::subject::Subject;
+use crate::subject::{SUBJECTS, Subject};
 use crate::tables::{Tables, made_tables, own_table};
 use crate::told::Told;
 use anyhow::bail;
 use std::alloc::Global;
 use std::collections::BTreeSet;
 use std::fs;
-use std::process::ExitCode;
 use toml::{Table, Value};
 
 /// How a file's rows are asked.
 #[derive(Drop)]
-struct How<'a, 't, S> {
+struct How<'a, 't> {
     alloc: Global,
-    subject: &'a S,
+    subject: &'a Subject,
     only: Option<&'a str>,
     tables: &'t Tables,
 }
@@ -31,7 +30,7 @@ struct List<'a> {
 
 /// Asks what a row asks of the public calls, and tells where it doesn't hold. Where its own table
 /// can't be read, nothing is asked.
-fn tell<S: Subject>(how: &How<S>, row: &Row, answers: &mut Answers) {
+fn tell(how: &How, row: &Row, answers: &mut Answers) {
     let own = own_table(row, answers);
     let asked = how.tables.asked(own.as_ref());
     if !answers.is_wrong() {
@@ -41,7 +40,7 @@ fn tell<S: Subject>(how: &How<S>, row: &Row, answers: &mut Answers) {
 }
 
 /// Asks a row with its name.
-fn ask_named<S: Subject>(how: &How<S>, told: &mut Told, row: &Row) {
+fn ask_named(how: &How, told: &mut Told, row: &Row) {
     let (file, members) = (how.subject.file(), how.subject.members());
     let known = [&["name"], members.given, members.wanted, members.optional];
     if let Some(member) = row.unknown(&known) {
@@ -54,7 +53,7 @@ fn ask_named<S: Subject>(how: &How<S>, told: &mut Told, row: &Row) {
 }
 
 /// Tells that a row has no name.
-fn tell_nameless<S: Subject>(how: &How<S>, told: &mut Told, place: usize) {
+fn tell_nameless(how: &How, told: &mut Told, place: usize) {
     let mut shown = Page::new(how.alloc);
     shown.put_shown(&place.saturating_add(1));
     match shown.text() {
@@ -67,8 +66,8 @@ fn tell_nameless<S: Subject>(how: &How<S>, told: &mut Told, place: usize) {
 }
 
 /// Asks the row in a place, unless another one is asked for.
-fn ask<'a, S: Subject>(
-    how: &How<S>,
+fn ask<'a>(
+    how: &How,
     told: &mut Told,
     seen: &mut BTreeSet<&'a str>,
     list: &List<'a>,
@@ -93,7 +92,7 @@ fn ask<'a, S: Subject>(
 }
 
 /// Asks all rows of a file, unless memory runs out.
-fn ask_all<S: Subject>(how: &How<S>, told: &mut Told, list: &List) {
+fn ask_all(how: &How, told: &mut Told, list: &List) {
     let mut seen = BTreeSet::new(how.alloc);
     for place in 0..list.rows.len() {
         if told.lines.text().is_some() {
@@ -103,7 +102,7 @@ fn ask_all<S: Subject>(how: &How<S>, told: &mut Told, list: &List) {
 }
 
 /// Asks the rows of a file's members, and tells a member that is neither `row` nor `shared`.
-fn ask_members<S: Subject>(how: &How<S>, told: &mut Told, members: &Table) {
+fn ask_members(how: &How, told: &mut Told, members: &Table) {
     let file = how.subject.file();
     if let Some(member) = Row::new("", members, None).unknown(&[&["row", "shared"]]) {
         told.refuse(file, &["the member ", member, " isn't known"]);
@@ -121,7 +120,7 @@ fn ask_members<S: Subject>(how: &How<S>, told: &mut Told, members: &Table) {
 }
 
 /// Tells that a file isn't TOML, and why.
-fn tell_cause<S: Subject>(how: &How<S>, told: &mut Told, cause: toml::de::Error) {
+fn tell_cause(how: &How, told: &mut Told, cause: toml::de::Error) {
     if cause.is_memory() {
         told.lines.cut();
     } else {
@@ -133,7 +132,7 @@ fn tell_cause<S: Subject>(how: &How<S>, told: &mut Told, cause: toml::de::Error)
 }
 
 /// Asks the rows of a file's text.
-fn ask_text<S: Subject>(how: &How<S>, told: &mut Told, text: &str) {
+fn ask_text(how: &How, told: &mut Told, text: &str) {
     match toml::table_from_str(how.alloc, text) {
         Ok(members) => ask_members(how, told, &members),
         Err(cause) => tell_cause(how, told, cause),
@@ -141,9 +140,9 @@ fn ask_text<S: Subject>(how: &How<S>, told: &mut Told, text: &str) {
 }
 
 /// Asks the rows of a subject's file.
-fn ask_file<S: Subject>(
+fn ask_file(
     rt: &HostRuntime,
-    subject: &S,
+    subject: &Subject,
     request: &Request,
     told: &mut Told,
 ) -> anyhow::Result<()> {
@@ -176,14 +175,11 @@ fn print_told(rt: &HostRuntime, file: &str, told: &Told) -> anyhow::Result<bool>
     Ok(fail == 0)
 }
 
-/// Asks the rows of the file that is asked for, or of all, and prints what is told of each; whether all hold.
-pub fn ask_files<S: Subject>(
-    rt: &HostRuntime,
-    subjects: &[S],
-    request: &Request,
-) -> anyhow::Result<bool> {
+/// Asks the rows of the file that is asked for, or of all, and prints what is told of each; whether
+/// all hold.
+pub fn ask_files(rt: &HostRuntime, request: &Request) -> anyhow::Result<bool> {
     let mut all_hold = true;
-    for subject in subjects {
+    for subject in SUBJECTS {
         if request.asks(subject.file()) {
             let mut told = Told::new(rt.alloc());
             ask_file(rt, subject, request, &mut told)?;
@@ -191,14 +187,4 @@ pub fn ask_files<S: Subject>(
         }
     }
     Ok(all_hold)
-}
-
-/// Asks the rows that the program's arguments ask for; its status tells whether all hold.
-pub fn ended<S: Subject>(rt: &HostRuntime, subjects: &[S]) -> anyhow::Result<ExitCode> {
-    let request = crate::request::requested(rt)?;
-    if ask_files(rt, subjects, &request)? {
-        Ok(ExitCode::SUCCESS)
-    } else {
-        Ok(ExitCode::FAILURE)
-    }
 }

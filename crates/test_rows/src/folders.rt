@@ -28,7 +28,8 @@ pub fn add_texts(
     }
 }
 
-/// Adds the files of `files_hex`: each place, and the bytes of the file there, as hexadecimal digits.
+/// Adds the files of `files_hex`: each place, and the bytes of the file there, as hexadecimal
+/// digits.
 fn add_bytes(folders: &mut MemoryFolders, row: &Row, answers: &mut Answers) {
     if let Some(files) = answers.table_if(row, "files_hex") {
         for (place, content) in files.members {

@@ -2,7 +2,8 @@
 use std::alloc::{AllocError, Global};
 use std::fmt::{Debug, Display};
 
-/// A text that grows. Where memory runs out it is no text from then on, so that who adds to it needs no exit.
+/// A text that grows. Where memory runs out it is no text from then on, so that who adds to it
+/// needs no exit.
 #[derive(Drop)]
 pub struct Page {
     text: String,

@@ -18,7 +18,8 @@ impl Answers<'_> {
         value
     }
 
-    /// What a value of a member was read as, which has to be of a kind; where it isn't, another one stands for it.
+    /// What a value of a member was read as, which has to be of a kind; where it isn't, another one
+    /// stands for it.
     fn of_kind<T: Drop>(
         &mut self,
         member: &'static str,
@@ -57,8 +58,8 @@ impl Answers<'_> {
         }
     }
 
-    /// The bytes of a text, which may be written in hexadecimal digits instead, under a name of its own: so are bytes
-    /// that aren't UTF-8.
+    /// The bytes of a text, which may be written in hexadecimal digits instead, under a name of its
+    /// own: so are bytes that aren't UTF-8.
     pub fn bytes(&mut self, row: &Row, member: &'static str, hex: &'static str) -> Vec<u8> {
         match self.text_if(row, hex) {
             Some(digits) => self.decode(hex, digits),
@@ -206,7 +207,8 @@ impl Answers<'_> {
         strings
     }
 
-    /// The texts of a member of a row that is a list of texts, as owned ones. One that is left out is empty.
+    /// The texts of a member of a row that is a list of texts, as owned ones. One that is left out
+    /// is empty.
     pub fn strings(&mut self, row: &Row, member: &'static str) -> Vec<String> {
         match row.value(member) {
             Some(value) => self.strings_of(member, value),

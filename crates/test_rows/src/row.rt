@@ -1,8 +1,8 @@
 //! A row, and what its members are.
 use toml::{Table, Value};
 
-/// A row of a file, or a table in a row. Any member may be written as `{ shared = "NAME" }`: it is then what the file's
-/// table `[shared]` has under the name.
+/// A row of a file, or a table in a row. Any member may be written as `{ shared = "NAME" }`: it is
+/// then what the file's table `[shared]` has under the name.
 #[derive(Clone, Copy)]
 pub struct Row<'a> {
     /// The row's name.

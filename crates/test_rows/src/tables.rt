@@ -63,8 +63,8 @@ fn bench_table(rt: &HostRuntime) -> anyhow::Result<LanguageTable> {
     Ok(LanguageTable::from_json(rt.alloc(), bench_json())?)
 }
 
-/// The tables of a file whose rows may be asked by the table at a path, else by the bench table; none where they have
-/// tables of their own.
+/// The tables of a file whose rows may be asked by the table at a path, else by the bench table;
+/// none where they have tables of their own.
 pub fn made_tables(rt: &HostRuntime, by_table: bool, path: Option<&str>) -> anyhow::Result<Tables> {
     let bench = if by_table {
         Some(bench_table(rt)?)
