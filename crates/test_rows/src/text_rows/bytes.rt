@@ -82,6 +82,9 @@ fn of_set(row: &Row, text: &[u8], answers: &mut Answers) {
         return answers.fail(RowError::Words("the other one isn't one byte"));
     };
     let end = set.clear_end(text, 0, text.len());
+    if bits.clear_end(text, 0, text.len()) != end {
+        return answers.fail(RowError::Words("the two sets answer otherwise"));
+    }
     let end_with = bits.clear_end_with(*other, text, 0, text.len());
     let all = [
         ("clear_end", Said::Number(end as u128)),
