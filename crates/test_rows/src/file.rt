@@ -1,15 +1,12 @@
 //! The rows of a file, and of all files.
-use crate::answers::Answers;
-use crate::page::Page;
 use crate::request::Request;
-use crate::row::Row;
 use crate::subject::{SUBJECTS, Subject};
-use crate::tables::{Tables, made_tables, own_table};
 use crate::told::Told;
 use anyhow::bail;
 use std::alloc::Global;
 use std::collections::BTreeSet;
 use std::fs;
+use test_subjects::{Answers, Page, Row, Tables, made_tables, own_table};
 use toml::{Table, Value};
 
 /// How a file's rows are asked.

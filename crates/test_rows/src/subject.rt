@@ -1,30 +1,15 @@
 //! What rows are about.
-use crate::answers::Answers;
 use crate::program_rows::{command_lines, configuration_files, notes, program, program_faults};
-use crate::row::Row;
-use crate::tables::Asked;
-use crate::text_rows::{
+use test_subjects::text_rows::{
     blocks, bytes, captures, contexts, counting, look_ups, next_places, openers, reports, sums,
     syntaxes, tables, texts,
 };
-use crate::tree_rows::{
+use test_subjects::tree_rows::{
     documents, files, ignore_files, languages, patterns, printed, read_back, statistics, walks,
     words,
 };
-use tokei_table::LanguageTable;
-
-/// The members of a subject's rows, beside `name`.
-#[derive(Clone, Copy)]
-pub struct Members {
-    /// What is asked.
-    pub given: &'static [&'static str],
-    /// What is wanted. Such a member stands in a row where its subject answers it, and only there.
-    pub wanted: &'static [&'static str],
-    /// What is wanted too, and may be left out where it comes.
-    pub optional: &'static [&'static str],
-    /// Whether rows may be asked by a table that they don't have themselves.
-    pub by_table: bool,
-}
+use test_subjects::{Answers, Asked, Members, Row};
+use tokei::LanguageTable;
 
 /// What rows are about: each has a module that asks.
 #[derive(Clone, Copy)]

@@ -1,6 +1,6 @@
 //! What is told of the rows of a file.
-use crate::page::Page;
 use std::alloc::Global;
+use test_subjects::Page;
 
 /// What is told of the rows of a file.
 #[derive(Drop)]

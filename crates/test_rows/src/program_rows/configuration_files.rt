@@ -1,7 +1,7 @@
 //! Rows of configuration files: what they make of a run, and which languages gain extensions.
-use crate::tree_rows::configurations::gains;
-use crate::{Answers, Asked, Members, Row, RowError, Said, folders_of};
 use std::alloc::AllocError;
+use test_subjects::tree_rows::configurations::gains;
+use test_subjects::{Answers, Asked, Members, Row, RowError, Said, folders_of};
 use tokei::{Config, ConfigDirs, FailingFolders, LanguageConfig, LanguageTable, LanguageType};
 
 /// The members of these rows. `configuration` has all members of a configuration as its `Debug`

@@ -1,7 +1,7 @@
 //! Rows of the program over folders in memory: how it ends, and what it writes.
 use crate::program_rows::reports::{say_first_words, say_lines, say_narrowed};
-use crate::{Answers, Members, Row, RowError, Said, add_texts, folders_of};
 use std::str::from_utf8;
+use test_subjects::{Answers, Members, Row, RowError, Said, add_texts, folders_of};
 use test_table::bench_json;
 use tokei::{Counted, FailingFolders, MemoryFolders, Sink, Source};
 use tokei_program::{Env, program};

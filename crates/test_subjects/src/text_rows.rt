@@ -8,7 +8,7 @@ pub mod contexts;
 pub mod counting;
 mod gains;
 pub mod look_ups;
-pub mod made;
+pub(crate) mod made;
 pub mod next_places;
 pub mod openers;
 pub mod reports;

@@ -1,10 +1,10 @@
 //! What the public calls answer to a row, compared with what the row wants as it is said.
 use crate::compared::{put_difference, put_missed};
 use crate::error::RowError;
+use crate::members::Members;
 use crate::page::Page;
 use crate::row::{Row, has_word};
 use crate::said::Said;
-use crate::subject::Members;
 use std::alloc::Global;
 use std::fmt::{Debug, Display};
 use std::mem;
@@ -24,7 +24,7 @@ pub struct Answers<'a> {
     left: Option<&'static str>,
     parts: Table,
     /// The lines that tell why the row doesn't hold; none where it holds.
-    pub(crate) told: Page,
+    pub told: Page,
     wrong: Option<RowError>,
 }
 
