@@ -11,9 +11,9 @@ use Rattle.tokei_json_tree.specs.TreeData.{items_data}
 use Rattle.tokei_json_tree.proofs.Orderings.{item_ordered}
 use Rattle.tokei_table_json.specs.Escaped.{is_escaped_value, is_escaped_list, are_escaped_pairs}
 use Rattle.tokei_table_json.specs.Escapes.{is_escaped_text, unescaped_text}
-use Rattle.tokei_table_json.specs.Layout.{all_items, is_list, is_text, is_text_pair}
+use Rattle.tokei_table_json.specs.Layout.{all_items, is_list, is_text, is_text_pair, is_truth_value}
 use Rattle.tokei_table_json.specs.Next.{IsNext}
-use Rattle.tokei_table_json.specs.Rows.{text_of, texts_of, texts_at, pair_in, pairs_in, pairs_at}
+use Rattle.tokei_table_json.specs.Rows.{text_of, texts_of, texts_at, pair_in, pairs_in, pairs_at, truth_at}
 use Rattle.tokei_table_row.specs.Row.{Pair}
 
 pub if_some_weaker : {X : Type 0} {P Q : X → Type 0} (found : Option X) → ((x : X) → P x → Q x) → IfSome found P → IfSome found Q
@@ -43,6 +43,20 @@ text_next s old new it e escaped made depth = record {
   fits = refl;
   escaped = escaped;
   made = sym made;
+}
+
+boolean_plain : (b : Bool) → IsOrderingOf (json.boolean b) (json.boolean b)
+boolean_plain b = record { reads = refl; ordered = tt; whole = refl }
+
+pub truth_next : (b : Bool) (old new : List Token) → old ≡ Token.boolean b ∷ new → (depth : ℕ)
+    → IsNext is_truth_value (λ d. true) (λ d. truth_at (Some d)) depth old new b
+truth_next b old new e depth = record {
+  value = json.boolean b;
+  is = ap (json.value depth) e ∙ value_is depth (Token.boolean b ∷ new);
+  plain = boolean_plain b;
+  fits = refl;
+  escaped = refl;
+  made = refl;
 }
 
 -- no list ends where a value begins

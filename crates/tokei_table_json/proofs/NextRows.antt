@@ -11,23 +11,25 @@ use Rattle.json.specs.Lex.{tokens}
 use Rattle.json.specs.Token.{Token}
 use Rattle.json.proofs.Grammar.{value-begin_object, members_end, members_more}
 use Rattle.serde_json.specs.Data as plain_data
-use Rattle.serde_json.specs.Data.{Data, array, object, Items, no_items, item, Members, no_members, member}
+use Rattle.serde_json.specs.Data.{Data, boolean, string, array, object, Items, no_items, item, Members, no_members, member}
 use Rattle.serde_json.specs.Find.{get, get_member}
 use Rattle.serde_json.specs.Read.{of_json}
 use Rattle.tokei_json_tree.specs.Orderings.{IsOrderingOf}
 use Rattle.tokei_json_tree.specs.TreeData.{data_of, members_data}
-use Rattle.tokei_table_json.specs.Escaped.{is_escaped_language, is_escaped_list, are_escaped_pairs, are_escaped_languages, is_escaped_table}
+use Rattle.tokei_table_json.specs.Escaped.{is_escaped_language, is_escaped_value, is_escaped_list, are_escaped_pairs, are_escaped_languages, is_escaped_table}
+use Rattle.tokei_table_json.specs.Escapes.{unescaped_text}
 use Rattle.tokei_table_json.specs.Filled.{with_member, put_tags, filled}
-use Rattle.tokei_table_json.specs.Layout.{all_items, is_list, is_text, is_text_pair, is_context, is_language, are_languages, is_object_of_languages, is_html_kind, has_layout, stands_and}
+use Rattle.tokei_table_json.specs.Layout.{all_items, is_list, is_text, is_text_pair, is_truth_value, is_context, is_language, are_languages, is_object_of_languages, is_html_kind, has_layout, stands_and}
 use Rattle.tokei_table_json.specs.MemberEscapes.{keeps_escapes}
 use Rattle.tokei_table_json.specs.MemberLayout.{all_members, fits}
-use Rattle.tokei_table_json.specs.Members.{text_list_key, pair_list_key, member_of, fits_member, member_keeps_escapes}
+use Rattle.tokei_table_json.specs.Members.{text_list_key, pair_list_key, truth_key, member_of, fits_member, member_keeps_escapes}
 use Rattle.tokei_table_json.specs.Next.{IsNext, AreMembersNext, IsTableText}
-use Rattle.tokei_table_json.specs.Rows.{row_in, rows_in, rows_at, texts_of, texts_at, pairs_in, pairs_at}
+use Rattle.tokei_table_json.specs.Rows.{row_in, rows_in, rows_at, text_of, texts_of, texts_at, truth_at, pairs_in, pairs_at}
 use Rattle.tokei_table_json.specs.declared.members.Member.{Member}
 use Rattle.tokei_table_json.specs.declared.members.Member.TheVariants.{Texts, Pairs, Truth, Name, Kind, Contexts, Other}
 use Rattle.tokei_table_json.specs.declared.members.PairList.{PairList}
 use Rattle.tokei_table_json.specs.declared.members.TextList.{TextList}
+use Rattle.tokei_table_json.specs.declared.members.TruthValue.{TruthValue}
 use Rattle.tokei_table_json.specs.KeyOrder.{IsInKeyOrder}
 use Rattle.tokei_table_json.proofs.FilledRows.{row_of_members}
 use Rattle.tokei_table_json.proofs.KeyOrder.{in_key_order}
@@ -41,9 +43,9 @@ use Rattle.tokei_table_row.specs.Row.{Pair, Row, is_html}
 
 list_is : (test : Data → Bool) (d : Data) → is_list test d ≡ true → (ds : Items) × (d ≡ array ds)
 list_is test plain_data.null e = absurd cc
-list_is test (plain_data.boolean b) e = absurd cc
+list_is test (boolean b) e = absurd cc
 list_is test (plain_data.number n) e = absurd cc
-list_is test (plain_data.string s) e = absurd cc
+list_is test (string s) e = absurd cc
 list_is test (array ds) e = (ds, refl)
 list_is test (object ms) e = absurd cc
 
@@ -81,6 +83,59 @@ module _ (key : List ℕ) (row longer : Row) (depth : ℕ) (old new : List Token
         fits = sym (fits_tells true key d) ∙ ap (λ m. fits_member true m d) (sym named) ∙ h.fits;
         escaped = sym (keeps_tells true key d) ∙ ap (λ m. member_keeps_escapes true m d) (sym named) ∙ h.escaped;
         made = sym (row_by_key true key d (Pairs list) row longer named there);
+      }
+
+text_is : (d : Data) → is_text d ≡ true → (t : List ℕ) × (d ≡ string t)
+text_is plain_data.null e = absurd cc
+text_is (boolean b) e = absurd cc
+text_is (plain_data.number n) e = absurd cc
+text_is (string t) e = (t, refl)
+text_is (array ds) e = absurd cc
+text_is (object ms) e = absurd cc
+
+truth_is : (d : Data) → is_truth_value d ≡ true → (b : Bool) × (d ≡ boolean b)
+truth_is plain_data.null e = absurd cc
+truth_is (boolean b) e = (b, refl)
+truth_is (plain_data.number n) e = absurd cc
+truth_is (string t) e = absurd cc
+truth_is (array ds) e = absurd cc
+truth_is (object ms) e = absurd cc
+
+-- a text or a truth value that comes next is read into the row at its key
+module _ (key : List ℕ) (row longer : Row) (depth : ℕ) (old new : List Token) where
+  pub name_member : (its : List ℕ) → Name ≡ member_of key
+      → ((html : Bool) (t : List ℕ) → its ≡ unescaped_text t → longer ≡ with_member html (codes "name") (string t) row)
+      → IsNext is_text is_escaped_value text_of depth old new its
+      → IsNext (fits true key) (keeps_escapes true key) (λ d. with_member true key d row) depth old new longer
+  name_member its named put_there h =
+      let d = data_of h.value in
+      let t = text_is d h.fits in
+      let there = put_there true t.0 (sym h.made ∙ ap text_of t.1) ∙ ap (λ x. with_member true (codes "name") x row) (sym t.1) in
+      record {
+        value = h.value;
+        is = h.is;
+        plain = h.plain;
+        fits = sym (fits_tells true key d) ∙ ap (λ m. fits_member true m d) (sym named) ∙ h.fits;
+        escaped = sym (keeps_tells true key d) ∙ ap (λ m. member_keeps_escapes true m d) (sym named) ∙ h.escaped;
+        made = sym (row_by_key true key d Name row longer named there);
+      }
+
+  pub truth_member : (truth : TruthValue) (its : Bool) → Truth truth ≡ member_of key
+      → ((html : Bool) → longer ≡ with_member html (truth_key truth) (boolean its) row)
+      → IsNext is_truth_value (λ d. true) (λ d. truth_at (Some d)) depth old new its
+      → IsNext (fits true key) (keeps_escapes true key) (λ d. with_member true key d row) depth old new longer
+  truth_member truth its named put_there h =
+      let d = data_of h.value in
+      let b = truth_is d h.fits in
+      let same = sym h.made ∙ ap (λ x. truth_at (Some x)) b.1 in
+      let there = put_there true ∙ ap (λ x. with_member true (truth_key truth) (boolean x) row) same ∙ ap (λ x. with_member true (truth_key truth) x row) (sym b.1) in
+      record {
+        value = h.value;
+        is = h.is;
+        plain = h.plain;
+        fits = sym (fits_tells true key d) ∙ ap (λ m. fits_member true m d) (sym named) ∙ h.fits;
+        escaped = sym (keeps_tells true key d) ∙ ap (λ m. member_keeps_escapes true m d) (sym named);
+        made = sym (row_by_key true key d (Truth truth) row longer named there);
       }
 
 -- what a language of kind `html` may have, another one may have too

@@ -1,5 +1,5 @@
 //! The rows of a table that has its layout and but the known escapes.
-ghost use Rattle.std.specs.Prelude.{◌≡◌, Bool, Some, codes, map, IfOk, OnOk, string_bytes};
+ghost use Rattle.std.specs.Prelude.{◌≡◌, ℕ, Bool, List, Some, codes, map, IfOk, OnOk, string_bytes};
 ghost use Rattle.serde_json.specs.Data.{Items, string, boolean, array};
 ghost use Rattle.serde_json.specs.Find.{get};
 ghost use Rattle.json.specs.Value.{value_view, items_view, members_view};
@@ -11,7 +11,7 @@ ghost use Rattle.tokei_table_json.specs.Escapes.{unescaped_text};
 ghost use Rattle.tokei_table_json.specs.Filled.{with_member, filled};
 ghost use Rattle.tokei_table_json.specs.KeyOrder.{IsInKeyOrder};
 ghost use Rattle.tokei_table_json.specs.Members.{text_list_key, pair_list_key, truth_key, key_of};
-ghost use Rattle.tokei_table_json.specs.Rows.{text_of, text_at, texts_of, name_or};
+ghost use Rattle.tokei_table_json.specs.Rows.{text_of, text_at, texts_of};
 ghost use Rattle.tokei_table_json.specs.Rows.{two_texts, pair_in, pairs_in, tags_in, tags_at};
 ghost use Rattle.tokei_table_json.specs.Rows.{row_in, rows_in, rows_at};
 
@@ -138,7 +138,7 @@ pub(crate) fn put_pairs(row: &mut Syntax, list: PairList, pairs: Vec<(String, St
 }
 
 /// Puts the truth value in place of that of the member.
-fn put_truth(row: &mut Syntax, member: TruthValue, truth: bool)
+pub(crate) fn put_truth(row: &mut Syntax, member: TruthValue, truth: bool)
     ensures { (html : Bool)
         → row_of row.new ≡ with_member html (truth_key member) (boolean truth) (row_of row.old) }
 {
@@ -169,15 +169,13 @@ fn put_tags(
 }
 
 /// Puts the name in place of the one that is there, where it isn't empty.
-fn put_name(alloc: Global, name: &mut String, text: &str) -> Result<(), AllocError>
-    ensures { OnOk result
-        (string_bytes name.new ≡ name_or (string_bytes name.old) (unescaped_text text.now)) }
+pub(crate) fn put_name(row: &mut Syntax, name: String)
+    ensures { (html : Bool) (t : List ℕ) → string_bytes name ≡ unescaped_text t
+        → row_of row.new ≡ with_member html (codes "name") (string t) (row_of row.old) }
 {
-    let text = read_text(alloc, text)?;
-    if !text.is_empty() {
-        *name = text;
+    if !name.is_empty() {
+        row.name = name;
     }
-    Ok(())
 }
 
 /// Reads a member whose value is a list.
@@ -213,7 +211,7 @@ fn read_text_member(
         (row_of row.new ≡ with_member html (key_of member) (string text.now) (row_of row.old)) }
 {
     match member {
-        Member::Name => put_name(alloc, &mut row.name, text)?,
+        Member::Name => put_name(row, read_text(alloc, text)?),
         Member::Kind => row.kind = String::from_str(alloc, text)?,
         _ => {}
     }

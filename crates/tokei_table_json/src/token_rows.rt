@@ -13,8 +13,8 @@ ghost use Rattle.tokei_table_json.specs.Rows.{row_in, rows_in};
 use crate::escaped::keeps_escapes;
 use crate::layout::fits;
 use crate::members::{Member, member_of};
-use crate::rows::{put_pairs, put_texts, read_member};
-use crate::token_lists::{next_pairs, next_texts};
+use crate::rows::{put_name, put_pairs, put_texts, put_truth, read_member};
+use crate::token_lists::{next_pairs, next_text, next_texts, next_truth};
 use bumpalo::Bump;
 use json::{Reader, Scratch, Token, Value};
 use std::alloc::{AllocError, Global};
@@ -27,6 +27,13 @@ const MEMBER_DEPTH: usize = 124;
 
 /// How many bytes a language takes in a text, a little less than most do.
 const LANGUAGE_LEN: usize = 200;
+
+/// Room for the items of a list whose end isn't read yet.
+#[derive(Drop)]
+struct Lists {
+    texts: Vec<String>,
+    pairs: Vec<(String, String)>,
+}
 
 /// Whether an object begins here: takes one token.
 fn begins_object(reader: &mut Reader<'_>) -> bool
@@ -65,6 +72,7 @@ fn put_next<'t>(
     alloc: Global,
     bump: &'t Bump,
     reader: &mut Reader<'t>,
+    lists: &mut Lists,
     row: &mut Syntax,
     key: &str,
 ) -> Result<bool, AllocError>
@@ -74,15 +82,23 @@ fn put_next<'t>(
         (row_of row.new)) }
 {
     match member_of(key) {
-        Member::Texts(list) => match next_texts(alloc, reader)? {
+        Member::Texts(list) => match next_texts(alloc, reader, &mut lists.texts)? {
             Some(texts) => put_texts(row, list, texts),
             None => return Ok(false),
         },
-        Member::Pairs(list) => match next_pairs(alloc, reader)? {
+        Member::Pairs(list) => match next_pairs(alloc, reader, &mut lists.pairs)? {
             Some(pairs) => put_pairs(row, list, pairs),
             None => return Ok(false),
         },
-        Member::Truth(_) | Member::Name | Member::Kind | Member::Contexts | Member::Other => {
+        Member::Truth(member) => match next_truth(reader) {
+            Some(truth) => put_truth(row, member, truth),
+            None => return Ok(false),
+        },
+        Member::Name => match next_text(alloc, reader)? {
+            Some(name) => put_name(row, name),
+            None => return Ok(false),
+        },
+        Member::Kind | Member::Contexts | Member::Other => {
             return put_tree(alloc, bump, reader, row, key);
         }
     }
@@ -95,6 +111,7 @@ fn put_members<'t>(
     alloc: Global,
     bump: &'t Bump,
     reader: &mut Reader<'t>,
+    lists: &mut Lists,
     row: &mut Syntax,
 ) -> Result<bool, AllocError>
     ensures { IfOk result (λ done. done ≡ true → AreMembersNext (fits true) (keeps_escapes true)
@@ -105,7 +122,7 @@ fn put_members<'t>(
         match reader.next_key() {
             Ok(None) => return Ok(true),
             Ok(Some(key)) => {
-                if !ascends(last, key) || !put_next(alloc, bump, reader, row, key)? {
+                if !ascends(last, key) || !put_next(alloc, bump, reader, lists, row, key)? {
                     return Ok(false);
                 }
                 last = Some(key);
@@ -121,13 +138,14 @@ fn next_row<'t>(
     alloc: Global,
     bump: &'t Bump,
     reader: &mut Reader<'t>,
+    lists: &mut Lists,
     key: &str,
 ) -> Result<Option<Syntax>, AllocError>
     ensures { IfOk result (λ found. IfSome found (λ s. IsNext is_language is_escaped_language
         (row_in key.now) 125 reader.old reader.new (row_of s))) }
 {
     let mut row = Syntax::new(alloc, key)?;
-    if !begins_object(reader) || !put_members(alloc, bump, reader, &mut row)? {
+    if !begins_object(reader) || !put_members(alloc, bump, reader, lists, &mut row)? {
         return Ok(None);
     }
     if !row.is_html() {
@@ -148,6 +166,10 @@ fn next_rows<'t>(
         (λ k. is_escaped_language) rows_in 125 reader.old reader.new (map row_of v.items))) }
 {
     let mut made = Vec::with_capacity(alloc, room)?;
+    let mut lists = Lists {
+        texts: Vec::new(alloc),
+        pairs: Vec::new(alloc),
+    };
     let mut last = None;
     loop {
         match reader.next_key() {
@@ -156,7 +178,7 @@ fn next_rows<'t>(
                 if !ascends(last, key) {
                     return Ok(None);
                 }
-                let Some(row) = next_row(alloc, bump, reader, key)? else {
+                let Some(row) = next_row(alloc, bump, reader, &mut lists, key)? else {
                     return Ok(None);
                 };
                 made.push(row)?;

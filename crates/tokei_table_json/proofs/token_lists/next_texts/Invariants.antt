@@ -4,7 +4,7 @@ use Rattle.tokei_table_json.proofs.Next.{TextsSoFar}
 use Rattle.tokei_table_json.proofs.token_lists.next_texts.Given as goal
 
 abbrev pub invariant-loop-alloc : goal.invariant-loop-alloc
-invariant-loop-alloc l = (depth : ℕ) → TextsSoFar depth l.initial.reader l.reader (tokens_of l.made.items)
+invariant-loop-alloc l = (depth : ℕ) → TextsSoFar depth l.initial.reader l.reader (tokens_of l.room.items)
 
 abbrev pub decreases-loop-alloc : goal.decreases-loop-alloc
 decreases-loop-alloc l = length l.reader
