@@ -29,6 +29,10 @@ pub(crate) enum TextKind {
 /// How many groups of texts there are.
 const GROUPS: usize = 256;
 
+/// For how many places a group has room at first: most have fewer in a table of five hundred
+/// languages.
+const FIRST_ROOM: usize = 8;
+
 /// The places of the rows with a text of one group, which contracts see as a list.
 #[derive(Drop)]
 struct Group {
@@ -55,6 +59,9 @@ impl Group {
     fn push(&mut self, place: usize) -> Result<(), AllocError>
         ensures { OnOk result (self.new ≡ self.old ++ place ∷ []) }
     {
+        if self.places.is_empty() {
+            self.places.reserve(FIRST_ROOM)?;
+        }
         self.places.push(place)?;
         Ok(())
     }
