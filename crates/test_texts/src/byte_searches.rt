@@ -1,6 +1,6 @@
 //! Searches for one of a few bytes, held against a plain loop.
 use crate::verdict::{Wrong, all_right};
-use tokei_bytes::{first_not_of_four, first_of_four, first_of_one};
+use tokei_bytes::{first_not_of_four, first_of_four, first_of_one, first_of_two_or_four};
 
 /// The four bytes that are searched for.
 const FOUR: [u8; 4] = *b"abcd";
@@ -16,13 +16,19 @@ enum Search {
     OfFourAlike,
     /// For `a` alone.
     OfOne,
+    /// Of four, by the search that is quicker for two.
+    OfTwoOrFour([u8; 4]),
 }
 
-const SEARCHES: [Search; 4] = [
+const SEARCHES: [Search; 8] = [
     Search::OfFour,
     Search::OfOthers,
     Search::OfFourAlike,
     Search::OfOne,
+    Search::OfTwoOrFour(*b"abab"),
+    Search::OfTwoOrFour(*b"dbbb"),
+    Search::OfTwoOrFour(*b"adbd"),
+    Search::OfTwoOrFour(FOUR),
 ];
 
 /// What the search answers.
@@ -35,6 +41,7 @@ fn found(search: Search, text: &[u8], from: usize, to: usize) -> Option<usize> {
         Search::OfOthers => first_not_of_four(FOUR, text, from, to),
         Search::OfFourAlike => first_of_four(*b"aaaa", text, from, to),
         Search::OfOne => first_of_one(b'a', text, from, to),
+        Search::OfTwoOrFour(bytes) => first_of_two_or_four(bytes, text, from, to),
     })
 }
 
@@ -45,6 +52,7 @@ fn found_by_loop(search: Search, text: &[u8], from: usize, to: usize) -> Option<
             Search::OfFour => FOUR.contains(byte),
             Search::OfOthers => !FOUR.contains(byte),
             Search::OfFourAlike | Search::OfOne => *byte == b'a',
+            Search::OfTwoOrFour(bytes) => bytes.contains(byte),
         };
         if place == to || from <= place && is_hit {
             return Some(place);

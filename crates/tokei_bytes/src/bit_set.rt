@@ -6,7 +6,7 @@ ghost use Rattle.tokei_bytes.specs.FirstPlace.{IsFirstPlace};
 ghost use Rattle.tokei_bytes.specs.OneOf.{is_one_of};
 
 use crate::byte_set::{FEW, with_one};
-use crate::one_of::first_of_four;
+use crate::one_of::{first_of_four, first_of_two_or_four};
 use std::marker::Model;
 
 /// How many bytes one word has bits for.
@@ -103,7 +103,7 @@ impl BitSet {
         ensures { IsFirstPlace (is_in self.now) text.now from to result }
     {
         match self.few() {
-            Some(few) => first_of_four(few, text, from, to),
+            Some(few) => first_of_two_or_four(few, text, from, to),
             None => self.clear_end_of_many(text, from, to),
         }
     }

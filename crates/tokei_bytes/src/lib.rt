@@ -23,7 +23,8 @@ pub use decoding::decode_text;
 pub use lines::{LineCounts, LineMasks, count_lines, line_masks};
 pub use near::first_of_one;
 pub use one_of::{
-    BLOCK, SHORT_BLOCK, first_not_of_four, first_of_four, first_other_in_block, gap_in_block,
+    BLOCK, SHORT_BLOCK, first_not_of_four, first_of_four, first_of_two_or_four,
+    first_other_in_block, gap_in_block,
 };
 pub use pairs::next_pair;
 pub use slots::{NO_SLOTS, first_slotted, is_slotted, put_slot, told_end};

@@ -123,6 +123,22 @@ pub fn first_of_four(bytes: [u8; 4], text: &[u8], from: usize, to: usize) -> usi
     to
 }
 
+/// The same search for four bytes that mostly are two, as the last two repeat the first two or the
+/// second one: then each place is compared with two bytes, and not with four.
+#[inline(always)]
+pub fn first_of_two_or_four(bytes: [u8; 4], text: &[u8], from: usize, to: usize) -> usize
+    requires order { from ≤ to }
+    requires within { to ≤ length text.now }
+    ensures { IsFirstPlace (is_one_of bytes) text.now from to result }
+{
+    let [a, b, c, d] = bytes;
+    if d == b && (c == a || c == b) {
+        first_of_four([a, b, a, b], text, from, to)
+    } else {
+        first_of_four(bytes, text, from, to)
+    }
+}
+
 /// Bit k is set where lane k is none of the four.
 #[inline(always)]
 fn marks_of_others(bytes: [u8; 4], lanes: u8x16) -> u64

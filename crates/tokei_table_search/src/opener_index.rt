@@ -18,7 +18,9 @@ use crate::told::{Told, told_of};
 use memchr::{memchr, memchr2, memchr3};
 use std::alloc::{AllocError, Global};
 use std::marker::Model;
-use tokei_bytes::{BLOCK, NO_SLOTS, first_of_four, first_slotted, next_pair, put_slot, told_end};
+use tokei_bytes::{
+    BLOCK, NO_SLOTS, first_of_two_or_four, first_slotted, next_pair, put_slot, told_end,
+};
 use tokei_table_row::ext::begins_with_one;
 
 /// How many bytes are searched at first for more than three bytes.
@@ -254,13 +256,7 @@ fn first_near(near: [u8; 4], bytes: &[u8], text: &[u8], from: usize) -> usize
         → is_one_of bytes.now (slice_index text.now result) ≡ true }
 {
     let end = from + NEAR.min(text.len() - from);
-    let [a, b, c, d] = near;
-    // two bytes are half the work of four
-    let at = if c == a && d == b {
-        first_of_four([a, b, a, b], text, from, end)
-    } else {
-        first_of_four(near, text, from, end)
-    };
+    let at = first_of_two_or_four(near, text, from, end);
     if at < end {
         return at;
     }
@@ -456,18 +452,20 @@ impl OpenerIndex {
     }
 
     /// Whether an opener stands at the place. Those of the group begin with the byte, which mostly
-    /// stands there.
+    /// stands there before one with which some of them go on.
     #[inline(always)]
     fn stands_by_group(&self, group: &OpenerGroup, byte: u8, text: &[u8], at: usize) -> bool
         requires inside { at < length text.now }
         requires group { IsGroupOf byte self.now group.now }
         ensures { result ≡ begins_with_one self.now (drop at text.now) }
     {
-        if text[at] == byte {
-            self.stands(group, text, at)
-        } else {
-            self.stands_at(text, at)
+        if text[at] != byte {
+            return self.stands_at(text, at);
         }
+        if at + 1 < text.len() && group.wholes.has(text[at + 1]) {
+            return true;
+        }
+        begins_with_one(&self.openers, &text[at..])
     }
 
     /// Up to which place no opener stands, from a place on and mostly no further than `to`. The
