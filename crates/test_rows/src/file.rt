@@ -1,6 +1,6 @@
 //! The rows of a file, and of all files.
 use crate::request::Request;
-use crate::subject::{SUBJECTS, Subject};
+use crate::subject::Subject;
 use crate::told::Told;
 use anyhow::bail;
 use std::alloc::Global;
@@ -176,7 +176,7 @@ fn print_told(rt: &HostRuntime, file: &str, told: &Told) -> anyhow::Result<bool>
 /// all hold.
 pub fn ask_files(rt: &HostRuntime, request: &Request) -> anyhow::Result<bool> {
     let mut all_hold = true;
-    for subject in SUBJECTS {
+    for subject in Subject::all() {
         if request.asks(subject.file()) {
             let mut told = Told::new(rt.alloc());
             ask_file(rt, subject, request, &mut told)?;

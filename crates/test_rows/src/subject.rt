@@ -50,8 +50,8 @@ enum About {
 pub struct Subject(&'static str, &'static Members, About);
 
 /// All of them: rows of texts, of trees and of the program, each in the order of their files'
-/// names.
-pub const SUBJECTS: &[Subject] = &[
+/// names. A constant's parts would be code wherever it is named.
+static SUBJECTS: [Subject; 32] = [
     Subject("blocks.toml", &blocks::MEMBERS, About::Blocks),
     Subject("bytes.toml", &bytes::MEMBERS, About::Bytes),
     Subject("captures.toml", &captures::MEMBERS, About::Captures),
@@ -103,6 +103,11 @@ pub const SUBJECTS: &[Subject] = &[
 ];
 
 impl Subject {
+    /// All of them.
+    pub fn all() -> &'static [Subject] {
+        &SUBJECTS
+    }
+
     /// The name of the file with the subject's rows.
     pub fn file(&self) -> &'static str {
         self.0
