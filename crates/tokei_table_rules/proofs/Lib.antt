@@ -10,4 +10,5 @@ pub mod OfTable
 pub mod PathSuffixes
 pub mod RowSound
 pub mod SortedNames
+pub mod TextGroups
 pub mod TextIndex

@@ -1,7 +1,7 @@
 -- The places of a text's group lead to the first row that has the text.
 use Rattle.std.proofs.Common.{◌≡◌, ℕ, zero, suc, ◌+◌, ◌<◌, ◌≤◌, ◌==◌, ◌||◌, Bool, true, false, cond, List, [], ◌∷◌}
 use Rattle.std.proofs.Common.{◌++◌, length, get_or, Option, None, Some, option_map, refl, sym, ap, ◌∙◌, arith}
-use Rattle.std.proofs.Common.{true≢false, bytes_eq, append_assoc}
+use Rattle.std.proofs.Common.{true≢false, bytes_eq}
 use Rattle.std.specs.Str.{str_to_ascii_lowercase}
 use Rattle.std.proofs.lemmas.Bool.Decides.{Decides-eqb}
 use Rattle.std.proofs.lemmas.Slice.Eq.{bytes_eq-Decides}
@@ -23,24 +23,6 @@ apart : (u t : List ℕ) → (group_of u == group_of t) ≡ false → bytes_eq u
 apart u t q =
     not_true (bytes_eq u t) (λ e. true≢false (sym
     ((Decides-eqb (group_of u) (group_of t)).1 (ap group_of ((bytes_eq-Decides u t).0 e))) ∙ q))
-
-chosen : (b : Bool) (p : ℕ) (both here later : List ℕ) → both ≡ here ++ later
-    → cond b (p ∷ both) both ≡ cond b (p ∷ here) here ++ later
-chosen true p both here later e = ap (λ ps. p ∷ ps) e
-chosen false p both here later e = e
-
-in_group_append : (g : ℕ) (here later : List (ℕ × ℕ)) → in_group g (here ++ later) ≡ in_group g here ++ in_group g later
-in_group_append g [] later = refl
-in_group_append g (e ∷ es) later =
-    chosen (e.0 == g) e.1 (in_group g (es ++ later)) (in_group g es) (in_group g later) (in_group_append g es later)
-
--- what a group has when some entries are added, and what it will have
-pub with_later : (g : ℕ) (before after : List ℕ) (here later : List (ℕ × ℕ)) → after ≡ before ++ in_group g here
-    → after ++ in_group g later ≡ before ++ in_group g (here ++ later)
-with_later g before after here later e =
-    ap (λ ps. ps ++ in_group g later) e
-    ∙ append_assoc before (in_group g here) (in_group g later)
-    ∙ ap (λ ps. before ++ ps) (sym (in_group_append g here later))
 
 -- a search among the places of a group, with the entries of one row before further ones
 module _ (test : Row → Bool) (t : List ℕ) (all : List Row) where

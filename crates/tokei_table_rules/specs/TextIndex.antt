@@ -1,8 +1,8 @@
 -- Which rows have a text, by groups of texts: an index that a look-up goes by, in place of a walk
 -- over the table.
 use Rattle.std.specs.Prelude.{◌≡◌, ℕ, ◌+◌, ◌*◌, ◌%◌, ◌<◌, ◌==◌, Bool, false, if◌then◌else◌, List, [], ◌∷◌, ◌++◌, length}
-use Rattle.std.specs.Prelude.{slice_index_or, Option, Some, None}
-use Rattle.std.specs.List.{list_any}
+use Rattle.std.specs.Prelude.{zero, suc, ◌≤◌, nat_lt, slice_index, slice_index_or, Option, Some, None}
+use Rattle.std.specs.List.{list_any, slice_range}
 use Rattle.std.specs.Str.{str_to_ascii_lowercase}
 use Rattle.tokei_table_row.specs.Row.{Row}
 use Rattle.tokei_table_rules.specs.Lookups.{row_at, has_name, has_name_in_any_case}
@@ -78,9 +78,31 @@ in_group g (e ∷ es) = if e.0 == g then e.1 ∷ in_group g es else in_group g e
 abbrev pub places_of : TextKind → List ℕ → List Row → List ℕ
 places_of kind text rows = in_group (group_of (asked_by kind text)) (entries_from (texts_of kind) 0 rows)
 
--- Each group has the places that stand beside it behind its own.
-pub record AddsEntries (entries : List (ℕ × ℕ)) (before after : List (List ℕ)) : Type 0 where
-  pub each : (g : ℕ) → slice_index_or after g [] ≡ slice_index_or before g [] ++ in_group g entries
+-- How many entries the groups before that one have, which is where its places begin.
+abbrev pub begin_of : ℕ → List (ℕ × ℕ) → ℕ
+begin_of g [] = 0
+begin_of g (e ∷ es) = if nat_lt e.0 g then begin_of g es + 1 else begin_of g es
+
+-- A number for each of the 256 groups.
+pub record HasForEach (number : ℕ → ℕ) (numbers : List ℕ) : Type 0 where
+  pub all : length numbers ≡ 256
+  pub each : (g : ℕ) → g < 256 → slice_index numbers g ≡ number g
+
+-- The parts of a list that end there, one after the other, of which the first begins at that place.
+abbrev pub parts_from : ℕ → List ℕ → List ℕ → List (List ℕ)
+parts_from begin [] places = []
+parts_from begin (end ∷ ends) places = slice_range places begin end ∷ parts_from end ends places
+
+-- Where the part of that number begins: where the one before it ends.
+abbrev pub begin_at : List ℕ → ℕ → ℕ
+begin_at ends zero = 0
+begin_at ends (suc g) = slice_index ends g
+
+-- The ends of 256 parts of a list.
+pub record AreEnds (ends places : List ℕ) : Type 0 where
+  pub all : length ends ≡ 256
+  pub ascend : (g : ℕ) → g < 256 → begin_at ends g ≤ slice_index ends g
+  pub within : (g : ℕ) → g < 256 → slice_index ends g ≤ length places
 
 -- For each group the places that stand beside it.
 pub record AreGroups (entries : List (ℕ × ℕ)) (groups : List (List ℕ)) : Type 0 where
