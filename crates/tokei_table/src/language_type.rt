@@ -148,7 +148,7 @@ impl LanguageType {
         ensures { IfOk result (λ v. map listed v.items ≡ languages_from 0 table.now) }
     {
         let rows = table.rows();
-        let mut out = Vec::new(alloc);
+        let mut out = Vec::with_capacity(alloc, rows.len())?;
         for (i, row) in rows.iter().enumerate() {
             match out.push((LanguageType::at(i), row.extensions.as_slice())) {
                 Ok(()) => {}
