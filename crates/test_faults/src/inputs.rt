@@ -37,7 +37,7 @@ fn left_of(alloc: Global, table: &LanguageTable, text: &str, call: u64) -> Optio
 const UNREADABLE: Left = (true, Err(InputError::Unreadable), 1, Some(7));
 
 /// What is left where each of three reads fails, and where none does, since there is no fourth one.
-const LEFT: [Left; 4] = [
+static LEFT: [Left; 4] = [
     UNREADABLE,
     UNREADABLE,
     UNREADABLE,

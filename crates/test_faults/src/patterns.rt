@@ -22,7 +22,7 @@ fn is_no_match(alloc: Global, line: &str, length: usize) -> bool {
     }
 }
 
-const HOSTILE: [(&str, usize); 4] = [
+static HOSTILE: [(&str, usize); 4] = [
     ("*a*a*a*a*b", 10_000),
     ("*a*a*a*a*b", 1_000_000),
     ("*aaaaaaaab*aaaaaaaab", 1_000_000),

@@ -103,7 +103,7 @@ impl OpenFile for Changed<'_> {
 }
 
 /// The bytes of a buffer in which another file stood, and how many bytes the file is said to have.
-const BUFFERS: [(usize, u64); 9] = [
+static BUFFERS: [(usize, u64); 9] = [
     (0, 5),
     (1, 0),
     (2, 5),

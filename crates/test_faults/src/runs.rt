@@ -51,7 +51,7 @@ fn add_all<F: Folders>(
 type Left = (Option<CountError>, usize, usize, bool);
 
 /// The files that are read, in the order of a walk.
-const NAMES: [&str; 2] = ["./a.c", "./c.c"];
+static NAMES: [&str; 2] = ["./a.c", "./c.c"];
 
 /// How many files of a language are named, where they are the first that are read, in their order;
 /// else `usize::MAX`.
@@ -98,7 +98,7 @@ const MEMORY: Option<CountError> = Some(CountError::Memory);
 
 /// What is left where the call with this number fails: three calls find the files, one reads each
 /// of them, and one the head. No call has the last number; then counts may be renewed.
-const LEFT: [Left; 8] = [
+static LEFT: [Left; 8] = [
     (MEMORY, 7, 0, false),
     (MEMORY, 7, 0, false),
     (MEMORY, 7, 0, false),

@@ -13,7 +13,7 @@ const ALL: Rules = Rules {
 };
 
 /// A tree with an ignore file of each kind.
-const TREE: &[(&str, &str)] = &[
+static TREE: &[(&str, &str)] = &[
     (".git/info/exclude", "*.o"),
     (".gitignore", "*.a"),
     (".ignore", "[a\n*.b"),
@@ -26,10 +26,10 @@ const TREE: &[(&str, &str)] = &[
     ("f.o", ""),
 ];
 
-const ROOTS: &[&str] = &["d", ".", "f.c"];
+static ROOTS: &[&str] = &["d", ".", "f.c"];
 
 /// What is kept of it.
-const KEPT: [&str; 6] = ["d/a.c", "d/e/a.c", "./d/a.c", "./d/e/a.c", "./f.c", "f.c"];
+static KEPT: [&str; 6] = ["d/a.c", "d/e/a.c", "./d/a.c", "./d/e/a.c", "./f.c", "f.c"];
 
 /// Whether the file that is kept behind so many others has that path.
 fn is_kept(count: usize, path: &str) -> bool {

@@ -41,7 +41,7 @@ fn add_bytes(folders: &mut MemoryFolders, row: &Row, answers: &mut Answers) {
 }
 
 /// The calls that folders of a row may refuse: the member with the places, and the call.
-const REFUSED: [(&str, Call); 3] = [
+static REFUSED: [(&str, Call); 3] = [
     ("unread", Call::Read),
     ("headless", Call::Head),
     ("unlisted", Call::List),

@@ -34,7 +34,7 @@ fn is_same(text: &[u8], search: &mut BlockSearch<'_>, tag: Tag, from: usize, to:
     answer(search, tag, from, to) == fresh
 }
 
-const TEXTS: [&[u8]; 6] = [
+static TEXTS: [&[u8]; 6] = [
     b"<script>a<style> </style>",
     b"a</script><script>\n</script>b<script>c</script>",
     b"<style lang=\"x\">a</style><style>b</style>\"",
@@ -66,7 +66,7 @@ fn unlike(text: &[u8], falls: bool) -> usize {
     count
 }
 
-const DOC_TEXTS: [&[u8]; 5] = [
+static DOC_TEXTS: [&[u8]; 5] = [
     b"  \n\t /// a\n  //! b\n",
     b"x    //! c\n   \n//! d\n //! e",
     b"   // f\n \x0b\x0c\r///",

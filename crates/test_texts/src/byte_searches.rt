@@ -20,7 +20,7 @@ enum Search {
     OfTwoOrFour([u8; 4]),
 }
 
-const SEARCHES: [Search; 8] = [
+static SEARCHES: [Search; 8] = [
     Search::OfFour,
     Search::OfOthers,
     Search::OfFourAlike,
@@ -81,7 +81,7 @@ fn first_unlike(text: &[u8]) -> Option<usize> {
 }
 
 /// Texts of 70 bytes.
-const TEXTS: [&[u8]; 3] = [
+static TEXTS: [&[u8]; 3] = [
     b".....a..........................b......cd........................d....",
     b"d....................................................................a",
     b"......................................................................",
@@ -89,7 +89,7 @@ const TEXTS: [&[u8]; 3] = [
 
 /// Lengths of up to some blocks, and places, of which one stands in no text: near the front, where
 /// a near search ends, behind it and near the end, and where a block ends.
-const LENGTHS: [(usize, usize); 15] = [
+static LENGTHS: [(usize, usize); 15] = [
     (100, 99),
     (100, 63),
     (100, 64),

@@ -13,7 +13,7 @@ use tokei_stats::{CodeStats, CountError};
 use tokei_table::LanguageType;
 
 /// Texts in which each kind of opener and closer stands.
-const TEXTS: &[Row] = &[
+static TEXTS: &[Row] = &[
     ("Rust", None, Texts::Cut("/* a\n\nb */\n")),
     ("Rust", None, Texts::Cut("let s = \"// no\";\n")),
     ("C", None, Texts::Cut("/* a /*/ b\nc */\nd\n")),

@@ -24,7 +24,7 @@ fn languages_behind_lists(alloc: Global, depth: usize) -> Result<usize, TableErr
 
 /// How deep the lists are, and how many languages the table has. `serde_json` reads values that are
 /// up to 127 deep, the table itself counted.
-const DEPTHS: [(usize, Result<usize, TableError>); 4] = [
+static DEPTHS: [(usize, Result<usize, TableError>); 4] = [
     (126, Ok(0)),
     (127, Err(TableError::NotJson)),
     (128, Err(TableError::NotJson)),

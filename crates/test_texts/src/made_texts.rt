@@ -206,7 +206,7 @@ const LONG: &[Made] = &[(
 const C_TABLE: &[u8] =
     br#"{"languages":{"C":{"line_comment":["//"],"multi_line_comments":[["/*","*/"]],"quotes":[["\"","\""]]}}}"#;
 
-const ROWS: &[Row] = &[
+static ROWS: &[Row] = &[
     ("LinguaFranca", None, Texts::Made(OPENINGS)),
     ("Jupyter", None, Texts::Made(NOTEBOOKS)),
     ("C", None, Texts::Made(LONG)),
@@ -217,21 +217,21 @@ fn levels_lists_and_plain_lines(rt: HostRuntime) {
     all_right(&rt, first_wrong(rt.alloc(), bench_json(), ROWS));
 }
 
-const ROWS_OF_C: &[Row] = &[("C", None, Texts::Made(LONG))];
+static ROWS_OF_C: &[Row] = &[("C", None, Texts::Made(LONG))];
 
 #[test]
 fn plain_lines_in_a_table_of_c(rt: HostRuntime) {
     all_right(&rt, first_wrong(rt.alloc(), C_TABLE, ROWS_OF_C));
 }
 
-const WALKED: &[Row] = &[("C", None, Texts::Made(COMMENTED))];
+static WALKED: &[Row] = &[("C", None, Texts::Made(COMMENTED))];
 
 #[test]
 fn two_mebibytes_are_walked(rt: HostRuntime) {
     all_right(&rt, first_wrong(rt.alloc(), bench_json(), WALKED));
 }
 
-const IN_A_FENCE: &[Row] = &[("Markdown", None, Texts::Made(FENCED))];
+static IN_A_FENCE: &[Row] = &[("Markdown", None, Texts::Made(FENCED))];
 
 #[test]
 fn two_mebibytes_stand_in_a_fence(rt: HostRuntime) {

@@ -58,7 +58,7 @@ pub fn first_unlike(
 /// The pieces of languages that have comments and strings.
 const PLAIN: &[&str] = &["/", "*", "\"", "\\", "a", "\n"];
 
-const TEXTS: &[Row] = &[
+static TEXTS: &[Row] = &[
     ("C", None, Texts::Short(PLAIN)),
     ("Rust", None, Texts::Short(PLAIN)),
     ("D", None, Texts::Short(PLAIN)),
@@ -76,7 +76,7 @@ fn the_last_text_is_five_pieces_long(rt: HostRuntime) {
     assert!(rt; is_written && last.as_slice() == b"\n\n\n\n\n".as_slice());
 }
 
-const FAMILIES: &[Row] = &[
+static FAMILIES: &[Row] = &[
     (
         "Markdown",
         None,

@@ -7,7 +7,7 @@ use tokei_stats::Report;
 use tokei_table::{LanguageTable, LanguageType};
 
 /// The members of a language.
-const MEMBERS: [&str; 5] = ["name", "counts", "inaccurate", "reports", "children"];
+static MEMBERS: [&str; 5] = ["name", "counts", "inaccurate", "reports", "children"];
 
 /// Why a row can't be asked whose table hasn't a language that it names.
 pub const NO_LANGUAGE: RowError = RowError::Kind("name", "a language of the table");
