@@ -1,5 +1,8 @@
-# 5 lines 2 code 2 comments 1 blanks
+# 8 lines 4 code 3 comments 1 blanks
 # for people who read
 
 select User { name } # all
 filter .name = 'a # name';
+select $$a "text
+# none$$;
+# a

@@ -1,0 +1,8 @@
+/ 8 lines 3 code 4 comments 1 blanks
+/ for people who read
+
+name:"a / name" / of whom
+quote:"\""
+/ a comment, since no string is open
+total:+/1 2 3
+ / a
