@@ -1,4 +1,4 @@
-# 16 lines 9 code 6 comments 1 blanks
+# 19 lines 10 code 8 comments 1 blanks
 # for people who read
 /* a block
    of two lines */
@@ -14,3 +14,6 @@ don't
 # text
 EOT;
 // c
+#if it's a comment
+$d = 2;
+#END
