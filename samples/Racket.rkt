@@ -1,4 +1,4 @@
-; 8 lines 3 code 4 comments 1 blanks
+; 9 lines 3 code 5 comments 1 blanks
 ; for people who read
 #| a block #| in a block |#
    and its end |#
@@ -6,3 +6,4 @@
 #lang racket
 (define name "a ; name") ; of whom
 (displayln 'name)
+#;(displayln "left out")
