@@ -1,7 +1,11 @@
-# 10 lines 3 code 6 comments 1 blanks
+# 14 lines 3 code 10 comments 1 blanks
 # for people who read
 =begin pod
 a page
+=begin code
+say 1;
+=end code
+its end
 =end pod
 
 my $name = 'a # name'; # of whom
