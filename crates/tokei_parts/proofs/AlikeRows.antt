@@ -55,6 +55,7 @@ made f q v d m n l i t =
       openers = starts_of q ++ (starts_of d ++ (starts_of m ++ (starts_of n ++ (i ++ tag_starts t)))) ++ (starts_of v ++ child_openers f);
       begins = flags (begins_any q v d m n l) 256;
       begins_in_comment = flags (begins_one m n) 256;
+      begins_comment = flags (λ byte. begins_one m n byte || list_any (is_first_of byte) l) 256;
       family = f;
     }
   where

@@ -16,12 +16,12 @@ use Rattle.tokei_parts.specs.CodeHeads.{BeginsNoComment, FrontBeginsNone, HasCod
 use Rattle.tokei_parts.specs.PlainBytes.{BeginsNone}
 use Rattle.tokei_parts.specs.Derivation.{closer_of}
 use Rattle.tokei_parts.specs.Items.{Mode}
-use Rattle.tokei_parts.specs.Matchers.{Matchers, matchers_of, begins_in_comment, begins_opener, begins_choice}
+use Rattle.tokei_parts.specs.Matchers.{Matchers, matchers_of, begins_comment, begins_in_comment, begins_opener, begins_choice}
 use Rattle.tokei_parts.specs.declared.class.Class.TheVariants.{Blank, Code, Comment}
 use Rattle.tokei_parts.specs.declared.items.ItemKind.{ItemKind}
 use Rattle.tokei_parts.specs.declared.items.ItemKind.TheVariants.{DocString, VerbatimString, OrdinaryString, MultiLineComment}
 use Rattle.tokei_parts.proofs.Fits.{and_left, and_right}
-use Rattle.tokei_parts.proofs.PlainBytes.{flag_at, none_begun_in_comment, not_begun, token_some, none_begins, or_left, or_right}
+use Rattle.tokei_parts.proofs.PlainBytes.{flag_at, no_comment_begun, not_begun, token_some, none_begins, or_left, or_right}
 
 not_enclosed : (ps : List Pair) (b : ℕ) (t : List ℕ) → list_all is_pair ps ≡ true → begins_opener ps b ≡ false → encloses ps (b ∷ t) ≡ false
 not_enclosed [] b t s h = refl
@@ -170,14 +170,15 @@ module _ (g : Row) (s : IsSound g) (m : Matchers) (is : m ≡ matchers_of g) (do
           by_rules t a u b (trim_end w) e trimmed (front_not_blank t b w f) (starts_nothing g s m a u is i) (starts_nothing g s m b (trim_end w) is k)
 
 -- the same where no comment can begin at these bytes
-quiet_nothing : (g : Row) (s : IsSound g) (m : Matchers) (b : ℕ) (t : List ℕ) → m ≡ matchers_of g → BeginsNoComment g m b → StartsNothing g b t
+quiet_nothing : (g : Row) (s : IsSound g) (m : Matchers) (b : ℕ) (t : List ℕ) → m ≡ matchers_of g → BeginsNoComment m b → StartsNothing g b t
 quiet_nothing g s m b t is h =
-    let none : begins_in_comment g b ≡ false = none_begun_in_comment g b m is h.within in
+    let no_comment : begins_comment g b ≡ false = no_comment_begun g b m is h in
+    let none : begins_in_comment g b ≡ false = or_left (begins_in_comment g b) _ no_comment in
     let h1 = or_right (b == 92) _ none in
     let multi : begins_opener g.multi_line_comments b ≡ false = or_left (begins_opener g.multi_line_comments b) _ h1 in
     let nested : begins_opener g.nested_comments b ≡ false = or_right (begins_opener g.multi_line_comments b) _ h1 in
     record {
-      line = none_begins g.line_comment b t s.line_comment h.line;
+      line = none_begins g.line_comment b t s.line_comment (or_right (begins_in_comment g b) _ no_comment);
       multi_line = not_enclosed g.multi_line_comments b t s.multi_line_comments multi;
       nested = not_enclosed g.nested_comments b t s.nested_comments nested;
       opens_multi_line = λ c. not_opened g.multi_line_comments c b t s.multi_line_comments multi;
@@ -191,7 +192,7 @@ byte_there (a ∷ u) zero l = refl
 byte_there (a ∷ u) (suc h) l = byte_there u h (omega arith)
 
 module _ (g : Row) (s : IsSound g) (m : Matchers) (is : m ≡ matchers_of g) (docs_are_comments : Bool) (ended : Mode) (plain : g.literate ≡ false) (no_doc : in_doc_string ended ≡ false) where
-  pub quiet_head : (t : List ℕ) (h : ℕ) → h < length t → trim_start t ≡ drop h t → BeginsNoComment g m (get_or t 0 0) → BeginsNoComment g m (get_or t h 0)
+  pub quiet_head : (t : List ℕ) (h : ℕ) → h < length t → trim_start t ≡ drop h t → BeginsNoComment m (get_or t 0 0) → BeginsNoComment m (get_or t h 0)
       → class_of g docs_are_comments (record { begun = None; bytes = t; ended = ended }) ≡ Code
   quiet_head t h l e first head =
       let b : ℕ = get_or t h 0 in
@@ -278,7 +279,7 @@ module _ (t : List ℕ) (i j h : ℕ) (low : i ≤ h) (high : h ≤ j) (within :
 -- where no comment can begin at a part's first byte and at its head, it is code
 pub quiet_part : (g : Row) (s : IsSound g) (m : Matchers) → m ≡ matchers_of g → (docs_are_comments : Bool) (ended : Mode) → g.literate ≡ false → in_doc_string ended ≡ false
     → (t : List ℕ) (i j h : ℕ) → i ≤ h → h < j → j ≤ length t → ((p : ℕ) → i ≤ p → p < h → is_blank (get_or t p 0) ≡ true) → is_blank (get_or t h 0) ≡ false
-    → BeginsNoComment g m (get_or t i 0) → BeginsNoComment g m (get_or t h 0)
+    → BeginsNoComment m (get_or t i 0) → BeginsNoComment m (get_or t h 0)
     → class_of g docs_are_comments (record { begun = None; bytes = take (j - i) (drop i t); ended = ended }) ≡ Code
 quiet_part g s m is docs_are_comments ended plain no_doc t i j h low high within blank solid first head =
     let u : List ℕ = take (j - i) (drop i t) in
@@ -288,7 +289,7 @@ quiet_part g s m is docs_are_comments ended plain no_doc t i j h low high within
     let at_head : get_or t h 0 ≡ get_or u (h - i) 0 = ap (λ p. get_or t p 0) (omega (arith, low)) ∙ sym (there (h - i) (omega (arith, low, high))) in
     quiet_head g s m is docs_are_comments ended plain no_doc u (h - i) (omega (arith, long, low, high))
     (front_is t i j h low (omega (arith, high)) within blank (λ _. solid))
-    (subst (BeginsNoComment g m) at_first first) (subst (BeginsNoComment g m) at_head head)
+    (subst (BeginsNoComment m) at_first first) (subst (BeginsNoComment m) at_head head)
 
 -- the first byte from a place on that isn't blank
 record FirstSolid (t : List ℕ) (i e : ℕ) : Type 0 where

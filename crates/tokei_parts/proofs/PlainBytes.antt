@@ -12,7 +12,7 @@ use Rattle.tokei_table.specs.Sound.{is_token, is_pair, IsSound}
 use Rattle.tokei_parts.specs.Choice.{choice, choice_in_plain, choice_within, choice_in_string, choice_in_comment, opened, any_begins, is_escape, or_else, met_in_comment}
 use Rattle.tokei_parts.specs.Choice.Choice.{closes, escapes, opens, takes_byte}
 use Rattle.tokei_parts.specs.Items.{Block, Enclosure, Mode}
-use Rattle.tokei_parts.specs.Matchers.{begins_opener, begins_choice, begins_in_comment, flags, Matchers, matchers_of}
+use Rattle.tokei_parts.specs.Matchers.{begins_opener, begins_choice, begins_comment, begins_in_comment, flags, Matchers, matchers_of}
 use Rattle.tokei_parts.specs.PlainBytes.{BeginsNone, BeginsNoneWithin, IsOutside, IsPlainByte}
 use Rattle.tokei_parts.specs.SeenChoices.{choice_of}
 use Rattle.tokei_parts.specs.declared.choice.Choice as CodeChoice
@@ -177,6 +177,9 @@ none_begun r b m is h = sym (flag_at (begins_choice r) 256 b h.small) ∙ ap (λ
 
 pub none_begun_in_comment : (r : Row) (b : ℕ) (m : Matchers) → m ≡ matchers_of r → IsOutside m.begins_in_comment b → begins_in_comment r b ≡ false
 none_begun_in_comment r b m is h = sym (flag_at (begins_in_comment r) 256 b h.small) ∙ ap (λ (n : Matchers). slice_index_or n.begins_in_comment b false) (sym is) ∙ h.outside
+
+pub no_comment_begun : (r : Row) (b : ℕ) (m : Matchers) → m ≡ matchers_of r → IsOutside m.begins_comment b → begins_comment r b ≡ false
+no_comment_begun r b m is h = sym (flag_at (begins_comment r) 256 b h.small) ∙ ap (λ (n : Matchers). slice_index_or n.begins_comment b false) (sym is) ∙ h.outside
 
 -- in an item, where nothing but its closer can begin at the byte, and that doesn't stand there
 pub byte_within : (r : Row) (s : IsSound r) (i : Enclosure) (o : Option Block) (b : ℕ) (u : List ℕ)

@@ -1,9 +1,6 @@
 -- Parts at whose head nothing but code can begin.
 use Rattle.std.specs.Prelude.{◌≡◌, ℕ, ◌<◌, ◌≤◌, false, List, [], ◌∷◌, slice_index}
-use Rattle.std.specs.List.{list_any}
 use Rattle.tokei_table.specs.Bytes.{is_blank, trim_start}
-use Rattle.tokei_table.specs.FirstOpener.{is_first_of}
-use Rattle.tokei_table.specs.Row.{Row}
 use Rattle.tokei_parts.specs.Matchers.{Matchers}
 use Rattle.tokei_parts.specs.PlainBytes.{BeginsNone, IsOutside}
 
@@ -24,7 +21,6 @@ pub record HasSolid (text : List ℕ) (start end : ℕ) : Type 0 where
   pub high : place < end
   pub solid : is_blank (slice_index text place) ≡ false
 
--- no multi-line, nested or line comment begins at the byte
-pub record BeginsNoComment (row : Row) (matchers : Matchers) (byte : ℕ) : Type 0 where
-  pub within : IsOutside matchers.begins_in_comment byte
-  pub line : list_any (is_first_of byte) row.line_comment ≡ false
+-- no multi-line, nested or line comment begins at the byte, by the matchers
+abbrev pub BeginsNoComment : Matchers → ℕ → Type 0
+BeginsNoComment matchers byte = IsOutside matchers.begins_comment byte

@@ -29,17 +29,22 @@ begins_in_comment row byte =
     (byte == backslash) || (begins_opener row.multi_line_comments byte || begins_opener
     row.nested_comments byte)
 
+-- A comment can begin, of lines too: it is such a byte, or the first of a line comment.
+abbrev pub begins_comment : Row → ℕ → Bool
+begins_comment row byte = begins_in_comment row byte || list_any (is_first_of byte) row.line_comment
+
 -- the test's answers for the bytes below n
 abbrev pub flags : (ℕ → Bool) → ℕ → List Bool
 flags f zero = []
 flags f (suc n) = flags f n ++ f n ∷ []
 
 -- the openers that a part is searched for, for each byte whether a choice can begin at it, in plain
--- text and in a comment, and how the language opens children
+-- text and in a comment, and whether a comment can, and how the language opens children
 pub record Matchers : Type 0 where
   pub openers : List (List ℕ)
   pub begins : List Bool
   pub begins_in_comment : List Bool
+  pub begins_comment : List Bool
   pub family : Family
 
 -- the matchers that a row of the table gives
@@ -48,5 +53,6 @@ matchers_of row = record {
   openers = openers row;
   begins = flags (begins_choice row) 256;
   begins_in_comment = flags (begins_in_comment row) 256;
+  begins_comment = flags (begins_comment row) 256;
   family = family_of row.key;
 }

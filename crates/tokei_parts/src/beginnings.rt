@@ -4,7 +4,8 @@ ghost use Rattle.std.specs.List.{list_any};
 ghost use Rattle.tokei_bytes.specs.ByteSets.{is_in};
 ghost use Rattle.tokei_table.specs.FirstOpener.{is_first_of};
 ghost use Rattle.tokei_table.specs.RowOf.{row_of, pairs_of, tokens_of};
-ghost use Rattle.tokei_parts.specs.Matchers.{begins_opener, begins_choice, begins_in_comment, flags};
+ghost use Rattle.tokei_parts.specs.Matchers.{begins_opener, begins_choice, begins_in_comment, begins_comment};
+ghost use Rattle.tokei_parts.specs.Matchers.{flags};
 
 use tokei_bytes::{BitSet, ByteSet};
 use tokei_table_row::Syntax;
@@ -40,6 +41,20 @@ fn add_tokens(begins: &mut ByteSet, tokens: &[String])
 {
     for token in tokens {
         add_first(begins, token.as_bytes());
+    }
+}
+
+/// Adds each line comment's first byte to those at which a comment can begin.
+fn add_line_comments(begins: &mut BitSet, tokens: &[String])
+    ensures long { length begins.new ≡ length begins.old }
+    ensures each { (x : ℕ) → is_in begins.new x
+        ≡ (is_in begins.old x || list_any (is_first_of x) (tokens_of tokens.now)) }
+{
+    for token in tokens {
+        match token.as_bytes() {
+            [] => {}
+            [first, ..] => begins.insert(*first),
+        }
     }
 }
 
@@ -81,5 +96,14 @@ pub fn beginnings_in_comment(syntax: &Syntax) -> BitSet
     begins.insert(b'\\');
     add_in_comment(&mut begins, &syntax.multi_line_comments);
     add_in_comment(&mut begins, &syntax.nested_comments);
+    begins
+}
+
+/// The bytes at which a comment can begin, of lines too, and the backslash.
+pub fn beginnings_of_comments(syntax: &Syntax) -> BitSet
+    ensures { result ≡ flags (begins_comment (row_of syntax.now)) 256 }
+{
+    let mut begins = beginnings_in_comment(syntax);
+    add_line_comments(&mut begins, &syntax.line_comment);
     begins
 }

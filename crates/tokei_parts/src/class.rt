@@ -2,8 +2,6 @@
 ghost use Rattle.std.specs.Prelude.{◌≡◌, ℕ, List, ◌-◌, ◌<◌, ◌≤◌, true};
 ghost use Rattle.std.specs.Prelude.{false, None, Some, [], drop, length, slice_index, take};
 ghost use Rattle.tokei_table.specs.Bytes.{all_blank, is_blank, trim, trim_start};
-ghost use Rattle.std.specs.List.{list_any};
-ghost use Rattle.tokei_table.specs.FirstOpener.{is_first_of};
 ghost use Rattle.tokei_table.specs.RowOf.{pairs_of, row_of, tokens_of};
 ghost use Rattle.tokei_parts.specs.Items.{kind_in};
 ghost use Rattle.tokei_parts.specs.Class.{encloses, opens_with, class_of, head_of};
@@ -227,25 +225,12 @@ fn is_comment(kind: Option<ItemKind>) -> bool
     }
 }
 
-/// Whether a token begins with the byte.
-fn any_first(tokens: &[String], byte: u8) -> bool
-    ensures { result ≡ list_any (is_first_of byte) (tokens_of tokens.now) }
-{
-    for token in tokens {
-        match token.as_bytes() {
-            [first, ..] if *first == byte => return true,
-            _ => {}
-        }
-    }
-    false
-}
-
 /// Whether no comment can begin at the byte.
-fn begins_no_comment(reading: &Reading, byte: u8) -> bool
-    ensures { result ≡ true
-        → BeginsNoComment (row_in reading.now) reading.now.matchers.now byte }
+#[inline(always)]
+fn begins_no_comment(matchers: &LanguageMatchers, byte: u8) -> bool
+    ensures { result ≡ true → BeginsNoComment matchers.now byte }
 {
-    !reading.matchers.begins_in_comment(byte) && !any_first(&reading.syntax.line_comment, byte)
+    !matchers.begins_comment(byte)
 }
 
 /// The class of the part of the reading's text from `start` to before `stop`, which began in plain
@@ -268,8 +253,8 @@ fn class_begun_plain(reading: &Reading, start: usize, stop: usize, stack: &[Encl
     if head < stop
         && !reading.syntax.literate
         && !in_doc_string(ended)
-        && begins_no_comment(reading, text[start])
-        && begins_no_comment(reading, text[head])
+        && begins_no_comment(reading.matchers, text[start])
+        && begins_no_comment(reading.matchers, text[head])
     {
         return Class::Code;
     }

@@ -7,7 +7,7 @@ ghost use Rattle.tokei_table.specs.WellFormed.{IsWellFormed};
 ghost use Rattle.tokei_parts.specs.Matchers.{matchers_of};
 ghost use Rattle.tokei_parts.specs.PlainBytes.{IsOutside};
 
-use crate::beginnings::{beginnings, beginnings_in_comment};
+use crate::beginnings::{beginnings, beginnings_in_comment, beginnings_of_comments};
 use crate::shared_matchers::SharedMatchers;
 use std::alloc::{AllocError, Global};
 use std::marker::Model;
@@ -17,12 +17,13 @@ use tokei_table_rules::Family;
 
 /// What the texts of a language are searched and walked with: its openers, the bytes at which a
 /// choice other than the byte itself, a closer and a child can begin, in plain text and in a
-/// comment, and how they open children. Contracts see all four.
+/// comment, those at which a comment can, and how they open children. Contracts see all five.
 #[derive(Drop)]
 pub struct LanguageMatchers {
     shared: SharedMatchers,
     begins: ByteSet,
     begins_in_comment: BitSet,
+    begins_comment: BitSet,
     family: Family,
 }
 
@@ -35,6 +36,7 @@ impl Model for LanguageMatchers {
       openers = m.shared;
       begins = m.begins;
       begins_in_comment = m.begins_in_comment;
+      begins_comment = m.begins_comment;
       family = m.family;
     } };
 }
@@ -75,6 +77,14 @@ impl LanguageMatchers {
         ensures { result ≡ slice_index_or self.now.begins_in_comment byte false }
     {
         self.begins_in_comment.has(byte)
+    }
+
+    /// Whether a comment can begin at the byte, one of lines too; of a backslash it may be true.
+    #[inline(always)]
+    pub fn begins_comment(&self, byte: u8) -> bool
+        ensures { result ≡ slice_index_or self.now.begins_comment byte false }
+    {
+        self.begins_comment.has(byte)
     }
 
     /// How far, from the place `at` of the text on and no further than `to`, no such choice can
@@ -150,11 +160,13 @@ impl LanguageMatchers {
         let syntax = table.syntax(language);
         let begins = beginnings(syntax);
         let begins_in_comment = beginnings_in_comment(syntax);
+        let begins_comment = beginnings_of_comments(syntax);
         let family = Family::of_key(syntax.key.as_str());
         Ok(LanguageMatchers {
             shared,
             begins,
             begins_in_comment,
+            begins_comment,
             family,
         })
     }
