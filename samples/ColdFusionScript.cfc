@@ -1,9 +1,11 @@
-// 9 lines 3 code 5 comments 1 blanks
+// 11 lines 4 code 6 comments 1 blanks
 /* a block
    of two lines */
 
 component {
     function greet() { return "// no comment"; } // once
 }
+path = replace(path, "\", "/");
+// a comment, since a backslash is a byte like others
 <!--- a
       block --->
