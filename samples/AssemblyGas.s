@@ -1,4 +1,4 @@
-// 13 lines 5 code 7 comments 1 blanks
+// 18 lines 5 code 12 comments 1 blanks
 // for people who read
 /* a block
    of two lines */
@@ -11,3 +11,8 @@ msg: .ascii "// none"
 ; a
 	mov $'"', %al
 /* b */
+#	a
+## a
+#------
+! a
+!	a
