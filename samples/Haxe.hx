@@ -1,9 +1,11 @@
-// 9 lines 5 code 3 comments 1 blanks
+// 11 lines 6 code 4 comments 1 blanks
 /* a block
    of two lines */
 
 class Greeter {
     static function main() {
         trace('// no comment'); // said once
+        var mark = ~/"/;
+        // a comment, since the quote mark is in a regular expression
     }
 }
