@@ -1,4 +1,4 @@
-// 8 lines 2 code 5 comments 1 blanks
+// 11 lines 5 code 5 comments 1 blanks
 /* a block
    of two lines */
 
@@ -6,3 +6,6 @@ class Shape<string n> { string name = n; }
 def Square : Shape<"// none">; // one
 /* a /* in a */
    block */
+def Text : Shape<[{
+  // none
+}]>;

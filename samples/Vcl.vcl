@@ -1,5 +1,11 @@
-# 5 lines 2 code 2 comments 1 blanks
+# 11 lines 7 code 3 comments 1 blanks
 # for people who read
 
 vcl 4.0;
 backend default { .host = "# none"; } # ours
+sub vcl_synth {
+  synthetic({"<p>
+<a href="http://a.example/">a</a>
+</p>"});
+}
+# a
