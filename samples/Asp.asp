@@ -1,4 +1,4 @@
-' 10 lines 4 code 5 comments 1 blanks
+' 11 lines 4 code 6 comments 1 blanks
 REM for people who read
 <!-- a block
      of two lines -->
@@ -8,3 +8,4 @@ name = "' none" ' a text
 <p>Don't</p>
 <!-- a -->
 <p>b</p>
+rem a

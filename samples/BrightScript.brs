@@ -1,4 +1,4 @@
-' 8 lines 4 code 3 comments 1 blanks
+' 9 lines 4 code 4 comments 1 blanks
 ' for people who read
 
 sub Main()
@@ -6,3 +6,4 @@ sub Main()
 end sub
 print "a"; "b ' c
 ' a
+Rem a

@@ -1,4 +1,4 @@
-' 10 lines 5 code 4 comments 1 blanks
+' 11 lines 5 code 5 comments 1 blanks
 ' for people who read
 
 Sub Greet()
@@ -8,3 +8,4 @@ Const Folder = "C:\work\"
 ' a comment, since a backslash is a byte like others
 Name = "don't ""go"" there"
 ' a
+rem a

@@ -1,4 +1,4 @@
-' 8 lines 4 code 3 comments 1 blanks
+' 9 lines 4 code 4 comments 1 blanks
 ' for people who read
 
 Dim name
@@ -6,3 +6,4 @@ name = "' none" ' a text
 MsgBox name
 Name = "don't ""go"" there"
 ' a
+rem a

@@ -1,6 +1,7 @@
-' 6 lines 3 code 2 comments 1 blanks
+' 7 lines 3 code 3 comments 1 blanks
 ' for people who read
 
 Module Greeter
     Dim Mark As String = "' none" ' a text
 End Module
+rem a
