@@ -1,4 +1,4 @@
--- 14 lines 6 code 7 comments 1 blanks
+-- 16 lines 7 code 8 comments 1 blanks
 -- for people who read
 /* a block
    of two lines */
@@ -9,6 +9,8 @@ END;
 CREATE DIRECTORY work AS 'C:\work\';
 -- a comment, since a backslash is a byte like others
   raw := q'[don't]';
+-- a
+  raw := Q'|don't|';
 -- a
   b := 1; /* c
   d */
