@@ -1,4 +1,4 @@
-; 11 lines 2 code 8 comments 1 blanks
+; 17 lines 2 code 14 comments 1 blanks
 ; for people who read
 #cs
 a block
@@ -9,3 +9,9 @@ MsgBox(0, 'title', $name)
 #CS
  a block
 #CE
+#cs
+ a block
+#cs
+ in a block
+#ce
+#ce

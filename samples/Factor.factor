@@ -1,4 +1,4 @@
-! 10 lines 3 code 6 comments 1 blanks
+! 12 lines 3 code 8 comments 1 blanks
 ! for people who read
 
 USING: io ;
@@ -8,3 +8,5 @@ USING: io ;
 #! a
 /* a block
    of two lines */
+![[ a block
+    of two lines ]]
