@@ -1,5 +1,6 @@
-; 5 lines 2 code 2 comments 1 blanks
+; 6 lines 2 code 3 comments 1 blanks
 ; for people who read
 
 (def name "a ; name") ; of whom
 (println 'name)
+#_(def other 1)
