@@ -1,4 +1,4 @@
-" 8 lines 4 code 3 comments 1 blanks
+" 9 lines 4 code 4 comments 1 blanks
 " for people who read
 
 set number
@@ -6,3 +6,4 @@ let name = 'a " name'
 echo name
 syn match A +'+
 " a
+# a comment of Vim 9
