@@ -1,4 +1,4 @@
-; 10 lines 5 code 4 comments 1 blanks
+; 11 lines 5 code 5 comments 1 blanks
 ; for people who read
 
 section .text
@@ -8,3 +8,4 @@ msg db "; none", 0
 ; a
 	mov al, "'"
 ; b
+dnl a
