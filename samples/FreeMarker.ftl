@@ -1,4 +1,4 @@
-<#-- 10 lines 5 code 4 comments 1 blanks -->
+<#-- 12 lines 5 code 6 comments 1 blanks -->
 <#-- a block
      of two lines -->
 
@@ -8,3 +8,5 @@
 <p>Don't</p>
 <!-- a -->
 <p>b</p>
+[#-- a block
+     of two lines --]
