@@ -1,4 +1,4 @@
-# 12 lines 5 code 6 comments 1 blanks
+# 15 lines 6 code 8 comments 1 blanks
 # for people who read
 ###
 a block
@@ -10,3 +10,6 @@ d = """
   # "don't
   """
 # a
+#### a heading
+# a
+e = 1
