@@ -105,6 +105,19 @@ impl ByteSet {
         self.flags[byte as usize]
     }
 
+    /// The bytes of the set, each in the slot of its low half, and no others, where no two of them
+    /// have the same low half.
+    pub fn slots(&self) -> Option<[u8; 16]>
+        ensures { IfSome result (λ slots. (b : ℕ) → b < 256
+            → is_slotted slots b ≡ is_in self.now b) }
+    {
+        if self.is_slotted {
+            Some(self.slots)
+        } else {
+            None
+        }
+    }
+
     /// The bytes of the set, some more than once, where they are one to four.
     #[inline(always)]
     fn few(&self) -> Option<[u8; 4]>

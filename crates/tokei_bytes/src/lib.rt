@@ -27,4 +27,4 @@ pub use one_of::{
     first_other_in_block, gap_in_block,
 };
 pub use pairs::next_pair;
-pub use slots::{NO_SLOTS, first_slotted, is_slotted, put_slot, told_end};
+pub use slots::{NO_SLOTS, first_slotted, is_slotted, marks_in_block, put_slot, told_end};

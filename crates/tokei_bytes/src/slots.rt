@@ -1,6 +1,6 @@
 //! Sets of bytes that one look-up tests, 32 at a time: no two bytes of one have the same low half.
 ghost use Rattle.std.specs.Prelude.{◌≡◌, ℕ, ◌+◌, ◌%◌, ◌<◌, ◌≤◌, ◌⊎◌, true, false, length, map, slice_index};
-ghost use Rattle.std.specs.Simd.Lanes.{mask_l};
+ghost use Rattle.std.specs.Simd.Lanes.{chunk, mask_l};
 ghost use Rattle.tokei_bytes.specs.FirstPlace.{IsFirstPlace};
 ghost use Rattle.tokei_bytes.specs.Slots.{HasSlots, in_slots, is_slotted, is_told};
 
@@ -55,6 +55,16 @@ pub(crate) fn slotted_marks(slots: [u8; 16], lanes: u8x32) -> u64
     ensures { result ≡ mask_l (map (is_slotted slots) lanes) }
 {
     looked_up(slots, lanes).simd_eq(lanes).to_bitmask()
+}
+
+/// Bit k is set where byte k of the `BLOCK` bytes of the text from `from` on stands in the slot of
+/// its low half.
+#[inline(always)]
+pub fn marks_in_block(slots: [u8; 16], text: &[u8], from: usize) -> u64
+    requires { from + BLOCK ≤ length text.now }
+    ensures { result ≡ mask_l (map (is_slotted slots) (chunk from 32 text.now)) }
+{
+    slotted_marks(slots, u8x32::from_slice(&text[from..]))
 }
 
 /// Whether the byte stands in the slot of its low half.

@@ -29,5 +29,6 @@ pub mod ShortTokens
 pub mod Stack
 pub mod Stepping
 pub mod TokenEnds
+pub mod ToldOpeners
 pub mod Utf8
 pub mod Walking

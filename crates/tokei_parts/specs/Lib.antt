@@ -11,6 +11,7 @@ pub mod Glance
 pub mod Glanced
 pub mod HtmlChildren
 pub mod Items
+pub mod LineMarks
 pub mod Lines
 pub mod LinguaFrancaChildren
 pub mod MarkdownChildren

@@ -419,6 +419,17 @@ fn begins_comment(syntax: &Syntax, text: &[u8], start: usize, solid: usize, stop
     any_solid_begins(&syntax.line_comment, &text[head..stop])
 }
 
+/// Whether a line comment that doesn't end in a blank stands at the place of the text, in a language
+/// whose comments aren't told by their columns.
+pub fn line_comment_stands(syntax: &Syntax, text: &[u8], at: usize) -> bool
+    requires { at ≤ length text.now }
+    ensures line { result ≡ true
+        → any_solid_begins (row_of syntax.now).line_comment (drop at text.now) ≡ true }
+    ensures columns { result ≡ true → keeps_columns (row_of syntax.now).key ≡ false }
+{
+    !keeps_columns(syntax.key.as_str()) && any_solid_begins(&syntax.line_comment, &text[at..])
+}
+
 /// The class of the line of a text from `start` to before `stop`, in the reading's language, which
 /// no item encloses at either end, as `class_of` has it. Only blanks stand before `solid`.
 #[inline(always)]

@@ -1,13 +1,16 @@
 //! What the texts of a language are searched and walked with.
 ghost use Rattle.std.specs.Prelude.{◌≡◌, ℕ, ◌+◌, ◌<◌, ◌≤◌, ◌==◌, false, [], ◌∷◌, ◌++◌};
-ghost use Rattle.std.specs.Prelude.{length, map, IfOk, slice_index, slice_index_or};
+ghost use Rattle.std.specs.Prelude.{drop, length, map, IfOk, IfSome, slice_index, slice_index_or};
+ghost use Rattle.tokei_table.specs.Bytes.{begins_with_one};
 ghost use Rattle.tokei_table.specs.FirstOpener.{first_opener};
 ghost use Rattle.tokei_table.specs.Lookups.{row_at};
 ghost use Rattle.tokei_table.specs.WellFormed.{IsWellFormed};
+ghost use Rattle.tokei_parts.specs.LineMarks.{AreLineMarks, AreTellers};
 ghost use Rattle.tokei_parts.specs.Matchers.{matchers_of};
 ghost use Rattle.tokei_parts.specs.PlainBytes.{IsOutside};
 
 use crate::beginnings::{beginnings, beginnings_in_comment, beginnings_of_comments};
+use crate::line_marks::{Tellers, line_marks};
 use crate::shared_matchers::SharedMatchers;
 use std::alloc::{AllocError, Global};
 use std::marker::Model;
@@ -25,6 +28,9 @@ pub struct LanguageMatchers {
     begins_in_comment: BitSet,
     begins_comment: BitSet,
     family: Family,
+    /// The bytes at which an opener or such a choice can begin, in the slots of their low halves,
+    /// where each has one and none is blank.
+    line_marks: Option<[u8; 16]>,
 }
 
 impl Model for LanguageMatchers {
@@ -39,6 +45,12 @@ impl Model for LanguageMatchers {
       begins_comment = m.begins_comment;
       family = m.family;
     } };
+
+    ghost use Rattle.std.specs.Prelude.{IfSome};
+    ghost use Rattle.tokei_parts.specs.LineMarks.{AreLineMarks};
+
+    ghost invariant = { λ m. IfSome m.line_marks
+        (λ slots. AreLineMarks slots m.begins m.shared) };
 }
 
 impl LanguageMatchers {
@@ -54,6 +66,32 @@ impl LanguageMatchers {
         ensures { result ≡ first_opener self.now.openers text.now }
     {
         self.shared.first_in(text)
+    }
+
+    /// Whether an opener stands at the place of the text.
+    #[inline(always)]
+    pub fn opener_stands(&self, text: &[u8], at: usize) -> bool
+        requires { at < length text.now }
+        ensures { result ≡ begins_with_one self.now.openers (drop at text.now) }
+    {
+        self.shared.stands_at(text, at)
+    }
+
+    /// Each byte at which an opener or a choice other than the byte itself can begin, in the slot
+    /// of its low half, where each has one and none is blank.
+    #[inline(always)]
+    pub fn line_marks(&self) -> Option<[u8; 16]>
+        ensures { IfSome result (λ slots. AreLineMarks slots self.now.begins self.now.openers) }
+    {
+        self.line_marks
+    }
+
+    /// The bytes that tell the openers, where each has a slot.
+    #[inline(always)]
+    pub fn tellers(&self) -> Option<Tellers>
+        ensures { IfSome result (λ t. AreTellers t self.now.openers) }
+    {
+        self.shared.tellers()
     }
 
     /// How texts of the language open children.
@@ -162,12 +200,14 @@ impl LanguageMatchers {
         let begins_in_comment = beginnings_in_comment(syntax);
         let begins_comment = beginnings_of_comments(syntax);
         let family = Family::of_key(syntax.key.as_str());
+        let line_marks = line_marks(&begins, &shared);
         Ok(LanguageMatchers {
             shared,
             begins,
             begins_in_comment,
             begins_comment,
             family,
+            line_marks,
         })
     }
 }

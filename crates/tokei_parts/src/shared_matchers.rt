@@ -1,9 +1,13 @@
 //! What the texts of a language are searched for openers with.
-ghost use Rattle.std.specs.Prelude.{◌≡◌, ◌<◌, length, IfOk};
-ghost use Rattle.tokei_table.specs.FirstOpener.{first_opener};
+ghost use Rattle.std.specs.Prelude.{◌≡◌, ℕ, ◌<◌, true, drop, length, IfOk, IfSome};
+ghost use Rattle.tokei_bytes.specs.Slots.{is_slotted};
+ghost use Rattle.tokei_table.specs.Bytes.{begins_with_one};
+ghost use Rattle.tokei_table.specs.FirstOpener.{first_opener, is_first};
 ghost use Rattle.tokei_table.specs.Lookups.{row_at};
 ghost use Rattle.tokei_table.specs.Openers.{openers};
+ghost use Rattle.tokei_parts.specs.LineMarks.{AreTellers};
 
+use crate::line_marks::{Tellers, tellers_of};
 use std::alloc::{AllocError, Global};
 use std::marker::Model;
 use tokei_table::{LanguageTable, LanguageType};
@@ -13,6 +17,8 @@ use tokei_table_search::OpenerIndex;
 #[derive(Drop)]
 pub struct SharedMatchers {
     openers: OpenerIndex,
+    /// The bytes that tell its openers, where each has a slot.
+    tellers: Option<Tellers>,
 }
 
 impl Model for SharedMatchers {
@@ -20,7 +26,12 @@ impl Model for SharedMatchers {
 
     ghost Value = { List (List ℕ) };
 
+    ghost use Rattle.std.specs.Prelude.{IfSome};
+    ghost use Rattle.tokei_parts.specs.LineMarks.{AreTellers};
+
     ghost view = { λ m. m.openers };
+
+    ghost invariant = { λ m. IfSome m.tellers (λ t. AreTellers t m.openers) };
 }
 
 impl SharedMatchers {
@@ -46,8 +57,9 @@ impl SharedMatchers {
         ensures { IfOk result (λ m. m ≡ openers (row_at table.now language)) }
     {
         let texts = language.openers(alloc, table)?;
+        let tellers = tellers_of(&texts);
         let openers = OpenerIndex::of_texts(alloc, texts)?;
-        Ok(SharedMatchers { openers })
+        Ok(SharedMatchers { openers, tellers })
     }
 
     /// The least place of the text at which an opener stands, None where none does. It takes no
@@ -56,5 +68,33 @@ impl SharedMatchers {
         ensures { result ≡ first_opener self.now text.now }
     {
         self.openers.first_in(text)
+    }
+
+    /// Whether an opener stands at the place of the text.
+    #[inline(always)]
+    pub(crate) fn stands_at(&self, text: &[u8], at: usize) -> bool
+        requires { at < length text.now }
+        ensures { result ≡ begins_with_one self.now (drop at text.now) }
+    {
+        self.openers.stands_at(text, at)
+    }
+
+    /// The bytes that tell the openers, where each has a slot.
+    #[inline(always)]
+    pub(crate) fn tellers(&self) -> Option<Tellers>
+        ensures { IfSome result (λ t. AreTellers t self.now) }
+    {
+        self.tellers
+    }
+
+    /// Puts the first byte of each opener into the slot of its low half; whether none that had one
+    /// of these was put there before.
+    pub(crate) fn put_firsts(&self, slots: &mut [u8; 16]) -> bool
+        ensures stays { result ≡ true → (x : ℕ) → is_slotted slots.old x ≡ true
+            → is_slotted slots.new x ≡ true }
+        ensures put { result ≡ true → (x : ℕ) → is_first self.now x ≡ true
+            → is_slotted slots.new x ≡ true }
+    {
+        self.openers.put_firsts(slots)
     }
 }

@@ -5,6 +5,7 @@ ghost use Rattle.std.specs.Prelude.{IfOk, IfSome, IsSome, OnOk, MatchOption};
 ghost use Rattle.std.specs.List.{list_all};
 ghost use Rattle.tokei_table_row.specs.FirstOpener.{first_opener, is_first, is_first_of, is_nonempty};
 ghost use Rattle.tokei_bytes.specs.OneOf.{is_one_of};
+ghost use Rattle.tokei_bytes.specs.Slots.{is_slotted};
 ghost use Rattle.tokei_table_search.specs.OpenerGroups.{IsGroupOf, AreGroupsOf};
 ghost use Rattle.tokei_table_row.specs.Bytes.{begins_with_one};
 ghost use Rattle.tokei_table_search.specs.NearBytes.{SameBytes, AreNear};
@@ -144,6 +145,22 @@ fn slots_of(firsts: &[u8]) -> Option<[u8; 16]>
         }
     }
     Some(slots)
+}
+
+/// Puts each byte of the list into its slot; whether none that had one of these was put there
+/// before.
+fn put_all(slots: &mut [u8; 16], bytes: &[u8]) -> bool
+    ensures stays { result ≡ true → (x : ℕ) → is_slotted slots.old x ≡ true
+        → is_slotted slots.new x ≡ true }
+    ensures put { result ≡ true → (x : ℕ) → is_one_of bytes.now x ≡ true
+        → is_slotted slots.new x ≡ true }
+{
+    for byte in bytes {
+        if !put_slot(slots, *byte) {
+            return false;
+        }
+    }
+    true
 }
 
 /// For each of the first bytes what can follow it.
@@ -346,6 +363,17 @@ impl OpenerIndex {
         })
     }
 
+    /// Puts the first byte of each opener into the slot of its low half; whether none that had one
+    /// of these was put there before.
+    pub fn put_firsts(&self, slots: &mut [u8; 16]) -> bool
+        ensures stays { result ≡ true → (x : ℕ) → is_slotted slots.old x ≡ true
+            → is_slotted slots.new x ≡ true }
+        ensures put { result ≡ true → (x : ℕ) → is_first self.now x ≡ true
+            → is_slotted slots.new x ≡ true }
+    {
+        put_all(slots, &self.firsts)
+    }
+
     /// What can follow the byte in the openers that begin with it, where there are any.
     #[inline(always)]
     fn group_of(&self, byte: u8) -> Option<&OpenerGroup>
@@ -439,9 +467,9 @@ impl OpenerIndex {
         begins_with_one(&self.openers, &text[at..])
     }
 
-    /// Whether an opener stands at the place.
+    /// Whether an opener stands at the place of the text.
     #[inline(always)]
-    fn stands_at(&self, text: &[u8], at: usize) -> bool
+    pub fn stands_at(&self, text: &[u8], at: usize) -> bool
         requires { at < length text.now }
         ensures { result ≡ begins_with_one self.now (drop at text.now) }
     {
