@@ -47,20 +47,25 @@ first_clear : (m : Matchers) (u : List ℕ) → 0 < length u → AreClear m u �
 first_clear m [] some clear = absurd (omega (arith, some))
 first_clear m (b ∷ t) some clear = clear.0
 
--- what such a line is
-clear_class : (r : Reading) (line : List ℕ) → 0 < length line → AreClear r.matchers.now line → class_plain r line ≡ class_by (row_in r).literate (all_blank line)
-clear_class r line some clear = by_front (trim_start line) refl (front_clear r.matchers.now line clear)
+-- what a line is at whose head no choice can begin
+pub headed_class : (r : Reading) (line : List ℕ) → HasCodeHead r.matchers.now line → class_plain r line ≡ class_by (row_in r).literate (all_blank line)
+headed_class r line head =
+    let solid : all_blank line ≡ false = head_not_blank r.matchers.now line (trim_start line) refl head.head in
+    by_literate (row_in r).literate refl head ∙ sym (ap (class_by (row_in r).literate) solid)
   where
     by_literate : (x : Bool) → (row_in r).literate ≡ x → HasCodeHead r.matchers.now line → class_plain r line ≡ cond (row_in r).literate Comment Code
     by_literate true is head = literate_head (row_in r) r.docs_are_comments r.matchers.now line None is head ∙ sym (ap (λ y. cond y Comment Code) is)
     by_literate false is head = code_head (row_in r) r.sound r.matchers.now r.matched r.docs_are_comments None is refl line head ∙ sym (ap (λ y. cond y Comment Code) is)
 
+-- what such a line is
+clear_class : (r : Reading) (line : List ℕ) → 0 < length line → AreClear r.matchers.now line → class_plain r line ≡ class_by (row_in r).literate (all_blank line)
+clear_class r line some clear = by_front (trim_start line) refl (front_clear r.matchers.now line clear)
+  where
     by_front : (v : List ℕ) → trim_start line ≡ v → AreClear r.matchers.now v → class_plain r line ≡ class_by (row_in r).literate (all_blank line)
     by_front [] is none = blank_part (row_in r) r.docs_are_comments line None is ∙ sym (ap (class_by (row_in r).literate) (no_head line is))
     by_front (b ∷ w) is none =
         let head : HasCodeHead r.matchers.now line = record { first = first_clear r.matchers.now line some clear; head = subst (FrontBeginsNone r.matchers.now) (sym is) none.0 } in
-        let solid : all_blank line ≡ false = head_not_blank r.matchers.now line (b ∷ w) is none.0 in
-        by_literate (row_in r).literate refl head ∙ sym (ap (class_by (row_in r).literate) solid)
+        headed_class r line head
 
 never : false ≡ true → ⊥
 never h = cc

@@ -1,3 +1,4 @@
+pub mod BlockLooks
 pub mod ByChoices
 pub mod CalmChoices
 pub mod CalmLines
@@ -12,18 +13,24 @@ pub mod Glancing
 pub mod HeavyBlocks
 pub mod KnownLanguages
 pub mod KnownReadings
+pub mod LastLines
 pub mod LineWeight
 pub mod LinesBefore
 pub mod LinesLeft
 pub mod LinesWithin
 pub mod LoadedMarks
 pub mod Loads
+pub mod LookedAhead
+pub mod LookedLines
+pub mod MarkedLines
+pub mod NearOpeners
 pub mod NotebookReading
 pub mod OpeningsAhead
 pub mod QuietBlocks
 pub mod QuietSteps
 pub mod Refusals
 pub mod Running
+pub mod SetBits
 pub mod ShallowReadings
 pub mod Skipping
 pub mod SpelledItems
@@ -34,6 +41,7 @@ pub mod Summaries
 pub mod TableBounds
 pub mod TextReading
 pub mod TokenOpeners
+pub mod ToldPlaces
 pub mod UnderWay
 pub mod UnwalkedParts
 pub mod WalkedBytes

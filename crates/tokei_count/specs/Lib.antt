@@ -5,6 +5,7 @@ pub mod ClassLines
 pub mod Countings
 pub mod Gathered
 pub mod Languages
+pub mod LineLooks
 pub mod NoComments
 pub mod NotebookCells
 pub mod OpeningItems

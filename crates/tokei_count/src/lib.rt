@@ -9,6 +9,7 @@
 mod counter;
 mod file_context;
 pub mod laws;
+mod line_look;
 mod lines_left;
 mod newlines;
 mod parse;

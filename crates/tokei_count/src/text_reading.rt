@@ -27,6 +27,7 @@ ghost use Rattle.tokei_count.specs.UnderWay.{IsReadBy, IsUnderWay, reading_insid
 ghost use Rattle.tokei_stats.specs.Seen.{blobs_of, entries_of, stats_of, sums_of};
 ghost use Rattle.tokei_stats.specs.Statistics.{at, joined, lines_of, plus, put, sum};
 
+use crate::line_look::count_near_lines;
 use crate::lines_left::{count_clear_lines, count_lines_left, count_lines_within, has_no_comments};
 use crate::reader::Reader;
 use std::alloc::{AllocError, Global};
@@ -302,6 +303,51 @@ fn count_within(
     Ok(())
 }
 
+/// Counts the plain lines before the next part that is walked, wherever the first opener stands, and
+/// answers where the line of that part goes to. `end` and `next` are as in `skip_lines`.
+#[inline(always)]
+fn skip_far_lines(
+    reading: &Reading,
+    so_far: &mut ReadSoFar,
+    next: &mut usize,
+    end: usize,
+) -> Result<usize, CountError>
+    requires skips { reading.now.skips ≡ true }
+    requires under_way { IsUnderWay reading.now so_far.old }
+    requires plain { chain_of so_far.old.stack.items ≡ [] }
+    requires known { Knows (openers_in reading.now) reading.now.text.now so_far.old.start next.old }
+    requires line { so_far.old.start ≤ end
+        → end ≡ so_far.old.start + line_len (drop so_far.old.start reading.now.text.now) }
+    ensures under_way { OnOk result (IsUnderWay reading.now so_far.new) }
+    ensures known { OnOk result
+        (Knows (openers_in reading.now) reading.now.text.now so_far.new.start next.new) }
+    ensures on { OnOk result (so_far.old.start ≤ so_far.new.start) }
+    ensures end { IfOk result (λ end. end
+        ≡ so_far.new.start + line_len (drop so_far.new.start reading.now.text.now)) }
+    ensures walked { OnOk result (so_far.new.start < length reading.now.text.now
+        → is_walked (openers_in reading.now) (innermost (chain_of so_far.new.stack.items))
+        (line_from reading.now so_far.new.start)
+        ≡ true) }
+    ensures quiet { first_opener (openers (row_in reading.now)) reading.now.text.now ≡ None
+        → IsOk result }
+    ensures overflow { IsErrOf result CountError.Overflow → ¬ Fits (reading_of reading.now) }
+{
+    let text = reading.text;
+    let to = next_opener(reading.matchers, text, so_far.start, *next);
+    *next = to;
+    if to == reading.text.len() && has_no_comments(reading.syntax) {
+        count_lines_left(reading, so_far)?;
+        return Ok(to);
+    }
+    count_clear_lines(reading, so_far, to)?;
+    let end = line_end(text, so_far.start, so_far.start, end);
+    if to < line_stop(text, end) {
+        return Ok(end);
+    }
+    let end = count_lines(reading, so_far, to, end)?;
+    Ok(end)
+}
+
 /// Counts the lines before the next part that is walked, and answers where the line of that part
 /// goes to. `end` is where an earlier place's line went to, and `next` where an earlier search for
 /// openers came to, and becomes where this one does.
@@ -347,19 +393,12 @@ fn skip_lines(
         count_within(reading, so_far, item, to)?;
         return Ok(line_end(text, so_far.start, to, end));
     }
-    let to = next_opener(reading.matchers, text, so_far.start, *next);
-    *next = to;
-    if to == reading.text.len() && has_no_comments(reading.syntax) {
-        count_lines_left(reading, so_far)?;
-        return Ok(to);
+    let to = count_near_lines(reading, so_far)?;
+    if to < text.len() {
+        *next = to;
+        return Ok(line_end(text, so_far.start, to, end));
     }
-    count_clear_lines(reading, so_far, to)?;
-    let end = line_end(text, so_far.start, so_far.start, end);
-    if to < line_stop(text, end) {
-        return Ok(end);
-    }
-    let end = count_lines(reading, so_far, to, end)?;
-    Ok(end)
+    skip_far_lines(reading, so_far, next, end)
 }
 
 /// Reads a child of the text with one level less, and adds its statistics to those of its language,
