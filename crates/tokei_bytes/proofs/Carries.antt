@@ -77,7 +77,7 @@ others (b ∷ t) = by_test (is_blank b) (others t) ∙ omega (arith, two-pow-suc
     by_test false h = omega (arith, h)
 
 -- one bit more of two masks
-and_one : (x y : Bool) (a b : ℕ) → bit_and (cond x 1 0 + 2 * a) (cond y 1 0 + 2 * b) ≡ cond (x && y) 1 0 + 2 * bit_and a b
+pub and_one : (x y : Bool) (a b : ℕ) → bit_and (cond x 1 0 + 2 * a) (cond y 1 0 + 2 * b) ≡ cond (x && y) 1 0 + 2 * bit_and a b
 and_one x y a b =
     let ah : (cond x 1 0 + 2 * a) / 2 ≡ a = half x a in
     let bh : (cond y 1 0 + 2 * b) / 2 ≡ b = half y b in

@@ -26,11 +26,11 @@ ones_newlines [] = refl
 ones_newlines (b ∷ t) = ones-mask_l_cons (b == newline) (map (λ x. x == newline) t) ∙ ap (λ n. flag (b == newline) + n) (ones_newlines t)
 
 -- of a text and what follows
-fronts_over : (v u : List ℕ) (blank : Bool) → front_count blank (v ++ u) ≡ front_count blank v + front_count (blank_after blank v) u
+pub fronts_over : (v u : List ℕ) (blank : Bool) → front_count blank (v ++ u) ≡ front_count blank v + front_count (blank_after blank v) u
 fronts_over [] u blank = omega arith
 fronts_over (b ∷ v) u blank = omega (arith, fronts_over v u (blank_behind blank b))
 
-newlines_over : (v u : List ℕ) → newline_count (v ++ u) ≡ newline_count v + newline_count u
+pub newlines_over : (v u : List ℕ) → newline_count (v ++ u) ≡ newline_count v + newline_count u
 newlines_over [] u = omega arith
 newlines_over (b ∷ v) u = omega (arith, newlines_over v u)
 

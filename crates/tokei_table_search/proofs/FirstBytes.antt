@@ -233,19 +233,32 @@ or_either false true c f g h = g refl
 or_either false false true f g h = elim (h refl) [ inl e ↦ absurd (cc) | inr e ↦ absurd (cc) ]
 or_either false false false f g h = refl
 
-pub slotted_more : (slots new bytes : List ℕ) (i byte : ℕ) → i < length bytes → byte ≡ get_or bytes i 0
+pub or_none : (a : Bool) → a ≡ (a || false)
+or_none true = refl
+or_none false = refl
+
+pub or_assoc : (a b c : Bool) → ((a || b) || c) ≡ (a || (b || c))
+or_assoc true b c = refl
+or_assoc false b c = refl
+
+pub put_more : (old slots new bytes : List ℕ) (i byte : ℕ) → i < length bytes → byte ≡ get_or bytes i 0
     → ((x : ℕ) → is_slotted slots x ≡ true → is_slotted new x ≡ true) → is_slotted new byte ≡ true
     → ((x : ℕ) → is_slotted new x ≡ true → (is_slotted slots x ≡ true) ⊎ (x ≡ byte))
-    → ((x : ℕ) → is_slotted slots x ≡ is_one_of (take i bytes) x)
-    → (x : ℕ) → is_slotted new x ≡ is_one_of (take (i + 1) bytes) x
-slotted_more slots new bytes i byte l here stays put only so_far x =
+    → ((x : ℕ) → is_slotted slots x ≡ (is_slotted old x || is_one_of (take i bytes) x))
+    → (x : ℕ) → is_slotted new x ≡ (is_slotted old x || is_one_of (take (i + 1) bytes) x)
+put_more old slots new bytes i byte l here stays put only so_far x =
     or_either (is_slotted slots x) (x == byte) (is_slotted new x) (stays x)
     (λ e. ap (is_slotted new) ((Decides-eqb x byte).0 e) ∙ put)
     (λ h. elim (only x h) [ inl e ↦ inl e | inr e ↦ inr ((Decides-eqb x byte).1 e) ])
     ∙ ap (λ a. a || (x == byte)) (so_far x)
-    ∙ ap (λ b. is_one_of (take i bytes) x || (x == b)) here
+    ∙ or_assoc (is_slotted old x) (is_one_of (take i bytes) x) (x == byte)
+    ∙ ap (λ a. is_slotted old x || a)
+    (ap (λ b. is_one_of (take i bytes) x || (x == b)) here
     ∙ sym (is_one_of-push (take i bytes) (get_or bytes i 0) x)
-    ∙ ap (λ bs. is_one_of bs x) (sym (take_more bytes i 0 l))
+    ∙ ap (λ bs. is_one_of bs x) (sym (take_more bytes i 0 l)))
+
+pub put_none : (old : List ℕ) (x : ℕ) → is_slotted old x ≡ (is_slotted old x || is_one_of [] x)
+put_none old x = or_none (is_slotted old x)
 
 pub first_equals : (o : List ℕ) (x : ℕ) → 1 ≤ length o → (x == get_or o 0 0) ≡ is_first_of x o
 first_equals [] x l = absurd (omega (arith, l))

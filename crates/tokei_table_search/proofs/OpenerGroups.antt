@@ -1,14 +1,15 @@
 -- Which openers can stand at the front of a text: by its first byte those of a group, by its second one fewer.
 use Rattle.std.proofs.Common.{◌≡◌, ℕ, suc, zero, ◌+◌, ◌-◌, ◌<◌, ◌≤◌, Bool, true, false, ◌&&◌, ◌||◌, ◌==◌}
 use Rattle.std.proofs.Common.{nat_eq, List, [], ◌∷◌, length, take, drop, get_or, None, Some, refl, sym, ◌∙◌, ap}
-use Rattle.std.proofs.Common.{subst, arith, inl, inr, not, replicate, String, Global, string_bytes}
+use Rattle.std.proofs.Common.{◌++◌, bytes_eq, subst, arith, inl, inr, not, replicate, String, Global, string_bytes}
 use Rattle.std.specs.List.{list_any, list_all}
 use Rattle.std.proofs.lemmas.Bool.Decides.{Decides-eqb}
 use Rattle.std.proofs.lemmas.Bool.{cases_lt}
 use Rattle.std.proofs.lemmas.List.{get_or-replicate, drop_all, drop_more}
 use Rattle.memchr.specs.Find.{IsFirstByte}
-use Rattle.tokei_table_search.proofs.FirstBytes.{part_reads, part_len}
-use Rattle.tokei_table_row.specs.Bytes.{begins, begins_with_one}
+use Rattle.tokei_table_search.proofs.FirstBytes.{part_reads, part_len, or_assoc, or_none}
+use Rattle.tokei_table_row.specs.Bytes.{begins, begins_with_one, holds}
+use Rattle.std.proofs.lemmas.Slice.Eq.{bytes_eq-Decides}
 use Rattle.tokei_table_row.specs.RowOf.{tokens_of}
 use Rattle.tokei_table_row.specs.FirstOpener.{is_nonempty, is_first_of, is_first}
 use Rattle.tokei_bytes.specs.OneOf.{is_one_of}
@@ -146,10 +147,6 @@ module _ (os : List (List ℕ)) (x : ℕ) (g : OpenerGroup) (group : IsGroupOf x
       ∙ sym (group.wholes.each (get_or t (k + 1) 0) fits) ∙ h)
 
 -- one of some openers passes a test: the one at a place has been added to those before it
-or_assoc : (a b c : Bool) → ((a || b) || c) ≡ (a || (b || c))
-or_assoc true b c = refl
-or_assoc false b c = refl
-
 pub any_more : (test : List ℕ → Bool) (os : List (String Global)) (i : ℕ) (d : String Global) → i < length os
     → (o : List ℕ) → o ≡ string_bytes (get_or os i d) → (before after all : Bool) → after ≡ (before || test o)
     → (before || list_any test (tokens_of (drop i os))) ≡ all → (after || list_any test (tokens_of (drop (i + 1) os))) ≡ all
@@ -159,6 +156,11 @@ any_more test os i d l o here before after all added so_far =
     ∙ or_assoc before (test (string_bytes (get_or os i d))) rest
     ∙ sym (ap (λ s. before || list_any test (tokens_of s)) (drop_more os i d l))
     ∙ so_far
+
+-- and behind the last one none is left
+pub any_all : (test : List ℕ → Bool) (os : List (String Global)) (i : ℕ) → length os ≤ i → (b all : Bool)
+    → (b || list_any test (tokens_of (drop i os))) ≡ all → b ≡ all
+any_all test os i l b all h = or_none b ∙ sym (ap (λ s. b || list_any test (tokens_of s)) (drop_all i os l)) ∙ h
 
 -- where no first byte stands
 module _ (os : List (List ℕ)) (firsts : List ℕ) (groups : List OpenerGroup) (x : IsIndexOf os firsts groups) where
@@ -316,3 +318,58 @@ wholes_filled flags all o full l y r = filled flags all y (is_whole_with y o) fu
 -- none is in an empty set
 pub none_yet : (flags : List Bool) (y : ℕ) (b : Bool) → flags ≡ replicate 256 false → y < 256 → (is_in flags y || b) ≡ b
 none_yet flags y b none l = ap (λ fs. is_in fs y || b) none ∙ ap (λ c. c || b) (get_or-replicate 256 y false false l)
+
+-- where an opener stands that a list holds one of the list does
+holds_one : (os : List (List ℕ)) (o u : List ℕ) → holds os o ≡ true → begins o u ≡ true → begins_with_one os u ≡ true
+unfolding begins_with_one
+holds_one [] o u h e = h
+holds_one (p ∷ os) o u h e =
+    either (bytes_eq p o) (holds os o) (begins p u) (begins_with_one os u)
+    (λ i. ap (λ q. begins q u) ((bytes_eq-Decides p o).0 i) ∙ e) (λ i. holds_one os o u i e) h
+
+-- a group's own openers after one more: held already, without the byte at its front, or pushed
+or_known : (a b : Bool) → (b ≡ true → a ≡ true) → a ≡ (a || b)
+or_known true b f = refl
+or_known false true f = f refl
+or_known false false f = refl
+
+pub own_held : (os : List (List ℕ)) (o u : List ℕ) → holds os o ≡ true
+    → begins_with_one os u ≡ (begins_with_one os u || begins o u)
+own_held os o u h = or_known (begins_with_one os u) (begins o u) (holds_one os o u h)
+
+pub own_other : (os : List (List ℕ)) (o t : List ℕ) (byte : ℕ) → is_nonempty o ≡ true → is_first_of byte o ≡ false
+    → begins_with_one os (byte ∷ t) ≡ (begins_with_one os (byte ∷ t) || begins o (byte ∷ t))
+own_other os o t byte full h =
+    or_known (begins_with_one os (byte ∷ t)) (begins o (byte ∷ t))
+    (λ e. absurd (contrary (sym h ∙ begins_first o t byte full e)))
+
+pub own_pushed : (os : List (List ℕ)) (o u : List ℕ)
+    → begins_with_one (os ++ o ∷ []) u ≡ (begins_with_one os u || begins o u)
+unfolding begins_with_one
+own_pushed [] o u = sym (or_none (begins o u))
+own_pushed (p ∷ os) o u =
+    ap (λ b. begins p u || b) (own_pushed os o u) ∙ sym (or_assoc (begins p u) (begins_with_one os u) (begins o u))
+
+pub own_none : (u : List ℕ) (b : Bool) → (begins_with_one [] u || b) ≡ b
+unfolding begins_with_one
+own_none u b = refl
+
+pub own_all : (os : List (String Global)) (i : ℕ) → length os ≤ i → (u : List ℕ) (b all : Bool)
+    → (b || begins_with_one (tokens_of (drop i os)) u) ≡ all → b ≡ all
+unfolding begins_with_one
+own_all os i l u = any_all (λ o. begins o u) os i l
+
+pub own_more : (os : List (String Global)) (i : ℕ) (d : String Global) → i < length os → (o u : List ℕ)
+    → o ≡ string_bytes (get_or os i d) → (before after : Bool) → after ≡ (before || begins o u)
+    → (before || begins_with_one (tokens_of (drop i os)) u) ≡ begins_with_one (tokens_of os) u
+    → (after || begins_with_one (tokens_of (drop (i + 1) os)) u) ≡ begins_with_one (tokens_of os) u
+unfolding begins_with_one
+own_more os i d l o u here before after added so_far =
+    any_more (λ p. begins p u) os i d l o here before after (begins_with_one (tokens_of os) u) added so_far
+
+pub nonempty_at : (os : List (String Global)) (i : ℕ) (d : String Global) → i < length os
+    → list_all is_nonempty (tokens_of os) ≡ true → is_nonempty (string_bytes (get_or os i d)) ≡ true
+nonempty_at [] i d l all = absurd (omega (arith, l))
+nonempty_at (o ∷ os) zero d l all = and_left (is_nonempty (string_bytes o)) (list_all is_nonempty (tokens_of os)) all
+nonempty_at (o ∷ os) (suc i) d l all =
+    nonempty_at os i d (omega (arith, l)) (and_right (is_nonempty (string_bytes o)) (list_all is_nonempty (tokens_of os)) all)

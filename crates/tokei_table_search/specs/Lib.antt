@@ -1,4 +1,4 @@
--- The code's own words on searches, which no public contract has.
+-- The words of searches. The contracts of callers have only those on the bytes that tell openers.
 pub mod NearBytes
 pub mod OpenerGroups
-pub mod Told
+pub mod Tellers

@@ -3,6 +3,8 @@ use Rattle.std.specs.Prelude.{◌≡◌, ℕ, ◌<◌, Bool, true, false, ◌==�
 use Rattle.std.specs.Prelude.{List, [], ◌∷◌, length, slice_index, slice_index_or}
 use Rattle.std.specs.List.{list_any, list_all}
 use Rattle.tokei_table_row.specs.FirstOpener.{is_nonempty, is_first_of, is_first}
+use Rattle.tokei_table_row.specs.Bytes.{begins_with_one}
+use Rattle.tokei_table_row.specs.RowOf.{tokens_of}
 use Rattle.tokei_bytes.specs.OneOf.{is_one_of}
 use Rattle.tokei_table_search.specs.declared.opener_group.OpenerGroup.{OpenerGroup}
 
@@ -33,11 +35,14 @@ pub record HasFlags (test : ℕ → List ℕ → Bool) (openers : List (List ℕ
   pub all : length flags ≡ 256
   pub each : (y : ℕ) → y < 256 → slice_index_or flags y false ≡ list_any (test y) openers
 
--- The group has what can follow that first byte of the openers, none of which is empty.
+-- The group has what can follow that first byte of the openers, none of which is empty. At a text
+-- that begins with the byte one of its own openers stands where one of all does.
 pub record IsGroupOf (byte : ℕ) (openers : List (List ℕ)) (group : OpenerGroup) : Type 0 where
   pub nonempty : list_all is_nonempty openers ≡ true
   pub seconds : HasFlags (goes_on_behind byte) openers group.seconds
   pub wholes : HasFlags (is_whole_behind byte) openers group.wholes
+  pub own : (t : List ℕ)
+      → begins_with_one (tokens_of group.openers.items) (byte ∷ t) ≡ begins_with_one openers (byte ∷ t)
 
 -- Beside each of the first bytes stands its group.
 pub record AreGroupsOf (openers : List (List ℕ)) (firsts : List ℕ)

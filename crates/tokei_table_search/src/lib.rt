@@ -5,7 +5,8 @@
 pub mod blanks;
 mod opener_group;
 pub mod opener_index;
-mod told;
+mod tellers;
 
 pub use blanks::blanks_end;
 pub use opener_index::OpenerIndex;
+pub use tellers::Tellers;

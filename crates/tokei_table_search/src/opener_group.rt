@@ -1,14 +1,17 @@
 //! What can follow a first byte of openers.
 ghost use Rattle.std.specs.Prelude.{◌≡◌, ◌+◌, ◌≤◌, ◌<◌, ◌||◌, ℕ, true, false, length};
-ghost use Rattle.std.specs.Prelude.{slice_index};
+ghost use Rattle.std.specs.Prelude.{slice_index, List, ◌∷◌, IfOk, OnOk};
 ghost use Rattle.std.specs.List.{list_all};
 ghost use Rattle.tokei_table_row.specs.FirstOpener.{is_first_of, is_nonempty};
 ghost use Rattle.tokei_table_search.specs.OpenerGroups.{goes_on_with, is_whole_with, goes_on_behind};
 ghost use Rattle.tokei_table_search.specs.OpenerGroups.{is_whole_behind, IsGroupOf};
 ghost use Rattle.tokei_table_row.specs.RowOf.{tokens_of};
+ghost use Rattle.tokei_table_row.specs.Bytes.{begins, begins_with_one};
 ghost use Rattle.tokei_bytes.specs.ByteSets.{is_in};
 
+use std::alloc::{AllocError, Global};
 use tokei_bytes::BitSet;
+use tokei_table_row::ext::holds;
 
 /// What can follow one first byte of some openers, in those of them that begin with it.
 #[derive(Drop)]
@@ -17,6 +20,8 @@ pub(crate) struct OpenerGroup {
     pub seconds: BitSet,
     /// The bytes with which one of the openers stands wherever they follow its first one.
     pub wholes: BitSet,
+    /// Those of the openers that begin with the byte, each once.
+    pub openers: Vec<String>,
 }
 
 /// Whether the byte is the first one of the opener.
@@ -73,15 +78,32 @@ fn add_opener(seconds: &mut BitSet, wholes: &mut BitSet, byte: u8, opener: &[u8]
     }
 }
 
+/// Adds the opener, where it begins with the byte and isn't among the others yet.
+fn add_own(alloc: Global, own: &mut Vec<String>, byte: u8, opener: &str) -> Result<(), AllocError>
+    requires { is_nonempty opener.now ≡ true }
+    ensures { OnOk result ((t : List ℕ) → begins_with_one (tokens_of own.new.items) (byte ∷ t)
+        ≡ (begins_with_one (tokens_of own.old.items) (byte ∷ t) || begins opener.now (byte ∷ t))) }
+{
+    if is_first_of(byte, opener.as_bytes()) && !holds(own, opener.as_bytes()) {
+        own.push(String::from_str(alloc, opener)?)?;
+    }
+    Ok(())
+}
+
 impl OpenerGroup {
     /// The group of those of the openers, none of them empty, that begin with the byte.
-    pub(crate) fn new(byte: u8, openers: &[String]) -> OpenerGroup
+    pub(crate) fn new(
+        alloc: Global,
+        byte: u8,
+        openers: &[String],
+    ) -> Result<OpenerGroup, AllocError>
         requires { list_all is_nonempty (tokens_of openers.now) ≡ true }
-        ensures { IsGroupOf byte (tokens_of openers.now) result }
+        ensures { IfOk result (λ g. IsGroupOf byte (tokens_of openers.now) g) }
     {
         let mut group = OpenerGroup {
             seconds: BitSet::empty(),
             wholes: BitSet::empty(),
+            openers: Vec::new(alloc),
         };
         for opener in openers {
             add_opener(
@@ -90,8 +112,9 @@ impl OpenerGroup {
                 byte,
                 opener.as_bytes(),
             );
+            add_own(alloc, &mut group.openers, byte, opener.as_str())?;
         }
-        group
+        Ok(group)
     }
 
     /// Up to which place the text, from a place on, goes on with the byte alone and each time with

@@ -10,12 +10,12 @@ ghost use Rattle.tokei_table_search.specs.OpenerGroups.{IsGroupOf, AreGroupsOf};
 ghost use Rattle.tokei_table_row.specs.Bytes.{begins_with_one};
 ghost use Rattle.tokei_table_search.specs.NearBytes.{SameBytes, AreNear};
 ghost use Rattle.tokei_table_search.specs.NearBytes.{SameSlotted, AreSlots};
-ghost use Rattle.tokei_table_search.specs.Told.{AllTold};
+ghost use Rattle.tokei_table_search.specs.Tellers.{AreTellers};
 ghost use Rattle.memchr.specs.Find.{IsFirstByte};
 ghost use Rattle.tokei_table_row.specs.RowOf.{tokens_of};
 
 use crate::opener_group::OpenerGroup;
-use crate::told::{Told, told_of};
+use crate::tellers::{Tellers, tellers_of};
 use memchr::{memchr, memchr2, memchr3};
 use std::alloc::{AllocError, Global};
 use std::marker::Model;
@@ -56,25 +56,27 @@ pub struct OpenerIndex {
     slots: Option<[u8; 16]>,
     /// For each of the first bytes what can follow it.
     groups: Vec<OpenerGroup>,
-    /// The bytes that tell its openers, where it is searched by those.
-    told: Option<Told>,
+    /// The bytes that tell its openers, where slots have room for them.
+    tellers: Option<Tellers>,
+    /// Whether it is searched by the bytes that tell its openers.
+    by_two: bool,
 }
 
 impl Model for OpenerIndex {
-    ghost use Rattle.std.specs.Prelude.{ℕ, List};
+    ghost use Rattle.std.specs.Prelude.{ℕ, List, IfSome};
 
     ghost Value = { List (List ℕ) };
 
     ghost use Rattle.tokei_table_search.specs.NearBytes.{AreNear, AreSlots};
     ghost use Rattle.tokei_table_search.specs.OpenerGroups.{IsIndexOf};
-    ghost use Rattle.tokei_table_search.specs.Told.{AreTold};
+    ghost use Rattle.tokei_table_search.specs.Tellers.{AreTellers};
     ghost use Rattle.tokei_table_row.specs.RowOf.{tokens_of};
 
     ghost view = { λ x. tokens_of x.openers.items };
 
     ghost invariant = { λ x. IsIndexOf (tokens_of x.openers.items) x.firsts.items x.groups.items
         × (AreNear x.near x.firsts.items × (AreSlots x.slots x.firsts.items
-        × AreTold x.told (tokens_of x.openers.items))) };
+        × IfSome x.tellers (λ t. AreTellers t (tokens_of x.openers.items)))) };
 }
 
 #[inline(always)]
@@ -139,21 +141,18 @@ fn slots_of(firsts: &[u8]) -> Option<[u8; 16]>
         return None;
     }
     let mut slots = NO_SLOTS;
-    for first in firsts {
-        if !put_slot(&mut slots, *first) {
-            return None;
-        }
+    if put_all(&mut slots, firsts) {
+        Some(slots)
+    } else {
+        None
     }
-    Some(slots)
 }
 
 /// Puts each byte of the list into its slot; whether none that had one of these was put there
 /// before.
 fn put_all(slots: &mut [u8; 16], bytes: &[u8]) -> bool
-    ensures stays { result ≡ true → (x : ℕ) → is_slotted slots.old x ≡ true
-        → is_slotted slots.new x ≡ true }
-    ensures put { result ≡ true → (x : ℕ) → is_one_of bytes.now x ≡ true
-        → is_slotted slots.new x ≡ true }
+    ensures { result ≡ true → (x : ℕ)
+        → is_slotted slots.new x ≡ (is_slotted slots.old x || is_one_of bytes.now x) }
 {
     for byte in bytes {
         if !put_slot(slots, *byte) {
@@ -174,7 +173,7 @@ fn groups_of(
 {
     let mut groups = Vec::with_capacity(alloc, firsts.len())?;
     for byte in firsts {
-        match groups.push(OpenerGroup::new(*byte, openers)) {
+        match groups.push(OpenerGroup::new(alloc, *byte, openers)?) {
             Ok(()) => {}
             Err(_refused) => return Err(AllocError),
         }
@@ -348,30 +347,34 @@ impl OpenerIndex {
         let near = near_of(&firsts);
         let slots = slots_of(&firsts);
         let groups = groups_of(alloc, &firsts, &openers)?;
-        let told = if goes_by_two(&firsts) {
-            told_of(&openers)
-        } else {
-            None
-        };
+        let tellers = tellers_of(&openers);
+        let by_two = goes_by_two(&firsts);
         Ok(OpenerIndex {
             openers,
             firsts,
             near,
             slots,
             groups,
-            told,
+            tellers,
+            by_two,
         })
     }
 
     /// Puts the first byte of each opener into the slot of its low half; whether none that had one
     /// of these was put there before.
     pub fn put_firsts(&self, slots: &mut [u8; 16]) -> bool
-        ensures stays { result ≡ true → (x : ℕ) → is_slotted slots.old x ≡ true
-            → is_slotted slots.new x ≡ true }
-        ensures put { result ≡ true → (x : ℕ) → is_first self.now x ≡ true
-            → is_slotted slots.new x ≡ true }
+        ensures { result ≡ true → (x : ℕ)
+            → is_slotted slots.new x ≡ (is_slotted slots.old x || is_first self.now x) }
     {
         put_all(slots, &self.firsts)
+    }
+
+    /// The bytes that tell the openers, where slots have room for them.
+    #[inline(always)]
+    pub fn tellers(&self) -> Option<Tellers>
+        ensures { IfSome result (λ t. AreTellers t self.now) }
+    {
+        self.tellers
     }
 
     /// What can follow the byte in the openers that begin with it, where there are any.
@@ -409,18 +412,18 @@ impl OpenerIndex {
     /// The same by the bytes that tell an opener; in the text's last block by first bytes. It
     /// stands in no caller's code, since few languages are searched so.
     #[inline(never)]
-    fn next_told(&self, told: &Told, text: &[u8], from: usize) -> usize
+    fn next_told(&self, tellers: &Tellers, text: &[u8], from: usize) -> usize
         requires order { from ≤ length text.now }
-        requires told { AllTold told.now self.now }
+        requires told { AreTellers tellers.now self.now }
         ensures low { from ≤ result }
         ensures within { result ≤ length text.now }
         ensures none { (k : ℕ) → from ≤ k → k < result
             → begins_with_one self.now (drop k text.now) ≡ false }
     {
         let at = told_end(
-            told.alone,
-            told.firsts,
-            told.seconds,
+            tellers.alone,
+            tellers.firsts,
+            tellers.seconds,
             text,
             from,
             text.len(),
@@ -441,10 +444,12 @@ impl OpenerIndex {
         ensures none { (k : ℕ) → from ≤ k → k < result
             → begins_with_one self.now (drop k text.now) ≡ false }
     {
-        match &self.told {
-            Some(told) => self.next_told(told, text, from),
-            None => self.next_near(text, from),
+        if self.by_two {
+            if let Some(tellers) = &self.tellers {
+                return self.next_told(tellers, text, from);
+            }
         }
+        self.next_near(text, from)
     }
 
     /// Whether an opener stands at the place, with whose byte those of the group begin. Mostly the
@@ -464,7 +469,7 @@ impl OpenerIndex {
                 return false;
             }
         }
-        begins_with_one(&self.openers, &text[at..])
+        begins_with_one(&group.openers, &text[at..])
     }
 
     /// Whether an opener stands at the place of the text.
@@ -493,7 +498,7 @@ impl OpenerIndex {
         if at + 1 < text.len() && group.wholes.has(text[at + 1]) {
             return true;
         }
-        begins_with_one(&self.openers, &text[at..])
+        begins_with_one(&group.openers, &text[at..])
     }
 
     /// Up to which place no opener stands, from a place on and mostly no further than `to`. The

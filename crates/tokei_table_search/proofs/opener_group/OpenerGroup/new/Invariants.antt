@@ -1,7 +1,8 @@
-use Rattle.std.proofs.Common.{◌≡◌, ◌<◌, ◌||◌, ℕ, drop, length}
+use Rattle.std.proofs.Common.{◌≡◌, ◌<◌, ◌||◌, ℕ, List, ◌∷◌, drop, length}
 use Rattle.std.specs.List.{list_any}
 use Rattle.tokei_bytes.specs.ByteSets.{is_in}
 use Rattle.tokei_table_search.specs.OpenerGroups.{goes_on_behind, is_whole_behind}
+use Rattle.tokei_table_row.specs.Bytes.{begins_with_one}
 use Rattle.tokei_table_row.specs.RowOf.{tokens_of}
 use Rattle.tokei_table_search.proofs.opener_group.OpenerGroup.new.Given as goal
 
@@ -15,4 +16,8 @@ invariant-loop-opener l = record {
   wholes_each : (y : ℕ) → y < 256
       → (is_in l.group.wholes y || list_any (is_whole_behind l.byte y) (tokens_of (drop l.opener-index l.openers)))
       ≡ list_any (is_whole_behind l.byte y) (tokens_of l.openers);
+  own : (t : List ℕ)
+      → (begins_with_one (tokens_of l.group.openers.items) (l.byte ∷ t)
+      || begins_with_one (tokens_of (drop l.opener-index l.openers)) (l.byte ∷ t))
+      ≡ begins_with_one (tokens_of l.openers) (l.byte ∷ t);
 }

@@ -1,6 +1,6 @@
 use Rattle.std.proofs.Common.{arith}
 use Rattle.std.proofs.lemmas.Grind.{common_steps}
-use Rattle.tokei_table_search.proofs.told.tells_all.Goals as goal
+use Rattle.tokei_table_search.proofs.tellers.tells_all.Goals as goal
 
 pub returns : goal.returns
 returns c = grind (arith, common_steps)

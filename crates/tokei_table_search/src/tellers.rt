@@ -3,40 +3,40 @@ ghost use Rattle.std.specs.Prelude.{◌≡◌, ℕ, ◌≤◌, ◌<◌, ◌+◌,
 ghost use Rattle.std.specs.List.{list_all};
 ghost use Rattle.tokei_bytes.specs.Slots.{is_told};
 ghost use Rattle.tokei_table_row.specs.RowOf.{tokens_of};
-ghost use Rattle.tokei_table_search.specs.Told.{AreTold, tells};
+ghost use Rattle.tokei_table_search.specs.Tellers.{AreTellers, tells};
 
 use tokei_bytes::{NO_SLOTS, is_slotted, put_slot};
 
 /// The bytes that tell where one of some openers can stand: those that do alone, and those that do
-/// with one of the seconds behind them.
+/// with one of the seconds behind them, each in the slot of its low half.
 #[derive(Clone, Copy)]
-pub(crate) struct Told {
+pub struct Tellers {
     pub alone: [u8; 16],
     pub firsts: [u8; 16],
     pub seconds: [u8; 16],
 }
 
 /// Whether the opener's bytes tell it.
-fn tells(told: &Told, opener: &[u8]) -> bool
-    ensures { result ≡ tells told.now.alone told.now.firsts told.now.seconds opener.now }
+fn tells(tellers: &Tellers, opener: &[u8]) -> bool
+    ensures { result ≡ tells tellers.now.alone tellers.now.firsts tellers.now.seconds opener.now }
 {
     match opener {
         [] => false,
-        [first] => is_slotted(told.alone, *first),
+        [first] => is_slotted(tellers.alone, *first),
         [first, second, ..] => {
-            is_slotted(told.alone, *first)
-                || (is_slotted(told.firsts, *first) && is_slotted(told.seconds, *second))
+            is_slotted(tellers.alone, *first)
+                || (is_slotted(tellers.firsts, *first) && is_slotted(tellers.seconds, *second))
         }
     }
 }
 
 /// Whether each opener's bytes tell it.
-fn tells_all(told: &Told, openers: &[String]) -> bool
+fn tells_all(tellers: &Tellers, openers: &[String]) -> bool
     ensures { result ≡ list_all
-        (tells told.now.alone told.now.firsts told.now.seconds) (tokens_of openers.now) }
+        (tells tellers.now.alone tellers.now.firsts tellers.now.seconds) (tokens_of openers.now) }
 {
     for opener in openers {
-        if !tells(told, opener.as_bytes()) {
+        if !tells(tellers, opener.as_bytes()) {
             return false;
         }
     }
@@ -44,39 +44,39 @@ fn tells_all(told: &Told, openers: &[String]) -> bool
 }
 
 /// Adds the bytes that tell the opener, where there is room.
-fn add(told: &mut Told, opener: &[u8]) {
+fn add(tellers: &mut Tellers, opener: &[u8]) {
     match opener {
         [] => {}
         [first] => {
-            let _put = put_slot(&mut told.alone, *first);
+            let _put = put_slot(&mut tellers.alone, *first);
         }
         [first, second, ..] => {
-            if is_slotted(told.alone, *first) {
+            if is_slotted(tellers.alone, *first) {
                 return;
             }
-            let has_room = put_slot(&mut told.firsts, *first)
-                && put_slot(&mut told.seconds, *second);
+            let has_room = put_slot(&mut tellers.firsts, *first)
+                && put_slot(&mut tellers.seconds, *second);
             if !has_room {
-                let _put = put_slot(&mut told.alone, *first);
+                let _put = put_slot(&mut tellers.alone, *first);
             }
         }
     }
 }
 
 /// The bytes that tell each of the openers, where slots have room for them.
-pub(crate) fn told_of(openers: &[String]) -> Option<Told>
-    ensures { AreTold result (tokens_of openers.now) }
+pub(crate) fn tellers_of(openers: &[String]) -> Option<Tellers>
+    ensures { IfSome result (λ t. AreTellers t (tokens_of openers.now)) }
 {
-    let mut told = Told {
+    let mut tellers = Tellers {
         alone: NO_SLOTS,
         firsts: NO_SLOTS,
         seconds: NO_SLOTS,
     };
     for opener in openers {
-        add(&mut told, opener.as_bytes());
+        add(&mut tellers, opener.as_bytes());
     }
-    if tells_all(&told, openers) {
-        Some(told)
+    if tells_all(&tellers, openers) {
+        Some(tellers)
     } else {
         None
     }
