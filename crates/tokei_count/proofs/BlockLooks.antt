@@ -1,43 +1,24 @@
 -- What the masks of a block say of its first bytes: how many newlines, fronts of lines and marked
 -- fronts they have, and where the last newline of them stands. So a look goes on over these bytes.
-use Rattle.std.proofs.Common.{◌≡◌, ◌≢◌, ℕ, zero, suc, ◌+◌, ◌-◌, ◌*◌, ◌/◌, ◌%◌, ◌^◌, ◌<◌, ◌≤◌, ◌==◌, ◌&&◌, not, cond, min, Bool, true, false, List, [], ◌∷◌, ◌++◌, map, take, drop, length, get_or, bit_and, count_ones, refl, sym, subst, ap, ap₂, ◌∙◌, arith, length-drop, get_or-drop}
+use Rattle.std.proofs.Common.{◌≡◌, ◌≢◌, ℕ, zero, suc, ◌+◌, ◌-◌, ◌*◌, ◌%◌, ◌^◌, ◌<◌, ◌≤◌, ◌==◌, ◌&&◌, not, cond, Bool, true, false, List, [], ◌∷◌, ◌++◌, map, take, drop, length, get_or, bit_and, count_ones, refl, sym, subst, ap, ap₂, ◌∙◌, arith, length-drop, get_or-drop}
 use Rattle.std.proofs.lemmas.Simd.{mask_l-lt, ones-mask_l_cons, length-chunk}
 use Rattle.std.proofs.lemmas.List.{length-map, length-take-le, take-map, take-take, drop-drop, drop-take, get_or-take}
 use Rattle.std.proofs.lemmas.Nat.{one_shl, pow_pos, leading_top}
 use Rattle.std.proofs.Math.Nat.{pos_of_ne-zero, two-pow-succ}
 use Rattle.std.proofs.Math.Seq.{take-add}
 use Rattle.std.proofs.lemmas.Bool.Decides.{Decides-eqb}
-use lib.Bits.{and_step, and_zero_l, and_zero_r}
+use lib.Bits.{and_zero_l, and_zero_r}
 use lib.Count.{count_leading_zeros}
 use lib.Lanes.{chunk, mask_l}
 use lib.Pow.{pow_mono}
 use Rattle.tokei_bytes.specs.Lines.{newline, is_blank, flag, blank_behind, blank_after, fronts, front_count, newline_count}
 use Rattle.tokei_bytes.specs.Slots.{is_slotted}
-use Rattle.tokei_bytes.proofs.LineSums.{flag_small, ones_fronts, ones_newlines, newlines_within, fronts_within}
+use Rattle.tokei_bytes.proofs.Carries.{and_one}
+use Rattle.tokei_bytes.proofs.LineSums.{flag_small, ones_fronts, ones_newlines, fronts_over, newlines_over, newlines_within, fronts_within}
 use Rattle.tokei_bytes.specs.declared.lines.LineMasks.{LineMasks}
-use Rattle.tokei_count.specs.LineLooks.{IsLook, mark_count, stretch}
+use Rattle.tokei_table.specs.OuterLines.{between}
+use Rattle.tokei_count.specs.LineLooks.{IsLook, mark_count}
 use Rattle.tokei_count.specs.declared.line_look.Look.{Look}
-
--- one bit more of two masks
-and_one : (x y : Bool) (a b : ℕ) → bit_and (cond x 1 0 + 2 * a) (cond y 1 0 + 2 * b) ≡ cond (x && y) 1 0 + 2 * bit_and a b
-and_one x y a b =
-    and_step (cond x 1 0 + 2 * a) (cond y 1 0 + 2 * b)
-    ∙ ap₂ (λ u v. u * 2 + v) (ap₂ bit_and (half x a) (half y b)) (ap₂ min (odd x a) (odd y b))
-    ∙ last x y (bit_and a b)
-  where
-    half : (x : Bool) (a : ℕ) → (cond x 1 0 + 2 * a) / 2 ≡ a
-    half true a = omega arith
-    half false a = omega arith
-
-    odd : (x : Bool) (a : ℕ) → (cond x 1 0 + 2 * a) % 2 ≡ cond x 1 0
-    odd true a = omega arith
-    odd false a = omega arith
-
-    last : (x y : Bool) (n : ℕ) → n * 2 + min (cond x 1 0) (cond y 1 0) ≡ cond (x && y) 1 0 + 2 * n
-    last true true n = omega arith
-    last true false n = omega arith
-    last false true n = omega arith
-    last false false n = omega arith
 
 -- a mask cut to its n lowest bits is that of the first n lanes
 cut : (ms : List Bool) (n : ℕ) → bit_and (mask_l ms) (2 ^ n - 1) ≡ mask_l (take n ms)
@@ -81,15 +62,7 @@ ones_marks slots (b ∷ t) blank =
     ones-mask_l_cons ((blank && not (is_blank b)) && is_slotted slots b) (marks slots (blank_behind blank b) t)
     ∙ ap (λ n. flag ((blank && not (is_blank b)) && is_slotted slots b) + n) (ones_marks slots t (blank_behind blank b))
 
--- of a text and what follows
-pub fronts_over : (v u : List ℕ) (blank : Bool) → front_count blank (v ++ u) ≡ front_count blank v + front_count (blank_after blank v) u
-fronts_over [] u blank = omega arith
-fronts_over (b ∷ v) u blank = omega (arith, fronts_over v u (blank_behind blank b))
-
-pub newlines_over : (v u : List ℕ) → newline_count (v ++ u) ≡ newline_count v + newline_count u
-newlines_over [] u = omega arith
-newlines_over (b ∷ v) u = omega (arith, newlines_over v u)
-
+-- the marked fronts of a text and what follows
 pub marks_over : (slots v u : List ℕ) (blank : Bool) → mark_count slots blank (v ++ u) ≡ mark_count slots blank v + mark_count slots (blank_after blank v) u
 marks_over slots [] u blank = omega arith
 marks_over slots (b ∷ v) u blank = omega (arith, marks_over slots v u (blank_behind blank b))
@@ -135,15 +108,15 @@ last_newline (b ∷ t) (suc j) low high =
     below false high = omega (arith, high, two-pow-succ (suc j))
 
 -- the bytes up to a place, and n more
-pub stretch_more : (text : List ℕ) (from at n : ℕ) → from ≤ at → stretch text from (at + n) ≡ stretch text from at ++ take n (drop at text)
-stretch_more text from at n le =
+pub between_more : (text : List ℕ) (from at n : ℕ) → from ≤ at → between text from (at + n) ≡ between text from at ++ take n (drop at text)
+between_more text from at n le =
     let whole : at + n - from ≡ at - from + n = omega (arith, le) in
     let place : from + (at - from) ≡ at = omega (arith, le) in
     ap (λ k. take k (drop from text)) whole
     ∙ take-add (at - from) n (drop from text)
-    ∙ ap (λ u. stretch text from at ++ take n u) (drop-drop (at - from) from text ∙ ap (λ k. drop k text) place)
+    ∙ ap (λ u. between text from at ++ take n u) (drop-drop (at - from) from text ∙ ap (λ k. drop k text) place)
 
-length_stretch : (text : List ℕ) (from to : ℕ) → from ≤ to → to ≤ length text → length (stretch text from to) ≤ length text
+length_stretch : (text : List ℕ) (from to : ℕ) → from ≤ to → to ≤ length text → length (between text from to) ≤ length text
 length_stretch text from to le high =
     let room : to - from ≤ length (drop from text) = omega (arith, length-drop from text, le, high) in
     omega (arith, length-take-le (to - from) (drop from text) room, le, high)
@@ -152,7 +125,7 @@ length_stretch text from to le high =
 -- it ended in has no front yet.
 module _ (slots text : List ℕ) (start : ℕ) (look : Look) (x : Bool) (lines : LineMasks) (marked gap : ℕ)
     (is : IsLook slots text start look) (room : look.at + 32 ≤ length text) (few : gap ≤ 32)
-    (blank : x ≡ blank_after true (stretch text start look.at))
+    (blank : x ≡ blank_after true (between text start look.at))
     (ns : lines.newlines ≡ mask_l (map (λ b. b == newline) (chunk look.at 32 text)))
     (fs : lines.fronts ≡ mask_l (fronts x (chunk look.at 32 text)))
     (ms : marked ≡ mask_l (map (is_slotted slots) (chunk look.at 32 text))) where
@@ -181,8 +154,8 @@ module _ (slots text : List ℕ) (start : ℕ) (look : Look) (x : Bool) (lines :
   length-part : length part ≡ gap
   length-part = length-take-le gap v (omega (arith, few, length-chunk at 32 text room))
 
-  more : (low : ℕ) → low ≤ at → stretch text low (at + gap) ≡ stretch text low at ++ part
-  more low le = stretch_more text low at gap le ∙ ap (λ u. stretch text low at ++ u) (sym part_is)
+  more : (low : ℕ) → low ≤ at → between text low (at + gap) ≡ between text low at ++ part
+  more low le = between_more text low at gap le ∙ ap (λ u. between text low at ++ u) (sym part_is)
 
   abbrev ended : ℕ
   ended = bit_and lines.newlines within
@@ -194,25 +167,25 @@ module _ (slots text : List ℕ) (start : ℕ) (look : Look) (x : Bool) (lines :
   fronts_cut = ap₂ bit_and fs within_is ∙ cut (fronts x v) gap ∙ ap mask_l (take_fronts v x gap)
 
   abbrev all : List ℕ
-  all = stretch text start (at + gap)
+  all = between text start (at + gap)
 
   newlines_are : look.newlines + count_ones ended ≡ newline_count all
   newlines_are =
       ap₂ (λ a b. a + b) is.newlines (ap count_ones ended_is ∙ ones_newlines part)
-      ∙ sym (newlines_over (stretch text start at) part)
+      ∙ sym (newlines_over (between text start at) part)
       ∙ ap newline_count (sym (more start from))
 
   fronts_are : look.fronts + count_ones (bit_and lines.fronts within) ≡ front_count true all
   fronts_are =
       ap₂ (λ a b. a + b) is.fronts (ap count_ones fronts_cut ∙ ones_fronts part x ∙ ap (λ y. front_count y part) blank)
-      ∙ sym (fronts_over (stretch text start at) part true)
+      ∙ sym (fronts_over (between text start at) part true)
       ∙ ap (front_count true) (sym (more start from))
 
   comments_are : look.comments + count_ones (bit_and (bit_and lines.fronts within) marked) ≡ mark_count slots true all
   comments_are =
       let those = ap₂ bit_and fronts_cut ms ∙ marks_cut slots v x gap in
       ap₂ (λ a b. a + b) is.comments (ap count_ones those ∙ ones_marks slots part x ∙ ap (λ y. mark_count slots y part) blank)
-      ∙ sym (marks_over slots (stretch text start at) part true)
+      ∙ sym (marks_over slots (between text start at) part true)
       ∙ ap (mark_count slots true) (sym (more start from))
 
   -- the sums are no greater than the text
@@ -233,7 +206,7 @@ module _ (slots text : List ℕ) (start : ℕ) (look : Look) (x : Bool) (lines :
     pub low : start ≤ stop
     pub order : stop ≤ at + gap
     pub begun : start < stop → get_or text (stop - 1) 0 ≡ newline
-    pub on : newline_count (stretch text stop (at + gap)) ≡ 0
+    pub on : newline_count (between text stop (at + gap)) ≡ 0
 
   -- where no newline stands in the part, the line goes on
   stays : ended ≡ 0 → Stands look.stop
@@ -243,7 +216,7 @@ module _ (slots text : List ℕ) (start : ℕ) (look : Look) (x : Bool) (lines :
     begun = is.begun;
     on =
         ap newline_count (more look.stop is.order)
-        ∙ newlines_over (stretch text look.stop at) part
+        ∙ newlines_over (between text look.stop at) part
         ∙ ap₂ (λ a b. a + b) is.on (no_newline part (sym ended_is ∙ none));
   }
 
@@ -261,7 +234,7 @@ module _ (slots text : List ℕ) (start : ℕ) (look : Look) (x : Bool) (lines :
           let inside : j < gap = omega (arith, last.0, length-part) in
           let width : gap ≡ suc j + (gap - suc j) = omega (arith, inside) in
           let left : gap - suc j ≡ at + gap - (at + suc j) = omega (arith, inside) in
-          let rest : drop (suc j) part ≡ stretch text (at + suc j) (at + gap) =
+          let rest : drop (suc j) part ≡ between text (at + suc j) (at + gap) =
           ap (drop (suc j)) part_is
           ∙ ap (λ k. drop (suc j) (take k (drop at text))) width
           ∙ drop-take (suc j) (gap - suc j) (drop at text)
@@ -272,7 +245,7 @@ module _ (slots text : List ℕ) (start : ℕ) (look : Look) (x : Bool) (lines :
             low = omega (arith, from);
             order = omega (arith, e, inside);
             begun = λ h. ap (λ k. get_or text k 0) place ∙ sym (get_or-drop at text j 0) ∙ sym (get_or-take gap (drop at text) j 0 inside) ∙ ap (λ u. get_or u j 0) (sym part_is) ∙ last.1;
-            on = ap (λ k. newline_count (stretch text (at + k) (at + gap))) e ∙ ap newline_count (sym rest) ∙ last.2;
+            on = ap (λ k. newline_count (between text (at + k) (at + gap))) e ∙ ap newline_count (sym rest) ∙ last.2;
           }
 
   -- what the look shows behind them, with such a stop

@@ -4,12 +4,13 @@ use mir.Val.{bool_byte}
 use Rattle.std.proofs.Common.{◌≡◌, ◌≢◌, ℕ, zero, suc, ◌+◌, ◌-◌, ◌<◌, ◌≤◌, ◌==◌, ◌&&◌, ◌||◌, not, Bool, true, false, List, [], ◌∷◌, ◌++◌, take, drop, length, get_or, refl, sym, ap, ◌∙◌, arith, length-drop}
 use Rattle.std.proofs.lemmas.Bool.Decides.{Decides-eqb}
 use Rattle.std.proofs.lemmas.List.{drop_more, get_or-drop, get_or-take, length-take-le}
-use Rattle.tokei_bytes.proofs.LineSums.{fronts_in_lines}
+use Rattle.tokei_bytes.proofs.LineSums.{fronts_over, newlines_over, fronts_in_lines}
 use Rattle.tokei_bytes.specs.Lines.{blank_after, blank_behind, flag, front_count, goes_on, is_blank, newline, newline_count}
 use Rattle.tokei_bytes.specs.Slots.{is_slotted}
-use Rattle.tokei_count.proofs.BlockLooks.{fronts_over, marks_over, newlines_over, stretch_more}
+use Rattle.tokei_table.specs.OuterLines.{between}
+use Rattle.tokei_count.proofs.BlockLooks.{marks_over, between_more}
 use Rattle.tokei_count.proofs.LookedAhead.{blank_over}
-use Rattle.tokei_count.specs.LineLooks.{mark_count, stretch}
+use Rattle.tokei_count.specs.LineLooks.{mark_count}
 
 never : false ≡ true → ⊥
 never h = cc
@@ -96,46 +97,46 @@ marks_few slots (b ∷ t) blank = by_test (blank && not (is_blank b)) (is_slotte
 
 -- Whole lines stand from `start` to before `stop`, and bytes of the next up to `at`.
 module _ (slots text : List ℕ) (start stop at : ℕ) (low : start < stop) (order : stop ≤ at) (high : at ≤ length text)
-    (begun : get_or text (stop - 1) 0 ≡ newline) (on : newline_count (stretch text stop at) ≡ 0) where
-  last_byte : stretch text start stop ≡ stretch text start (stop - 1) ++ newline ∷ []
+    (begun : get_or text (stop - 1) 0 ≡ newline) (on : newline_count (between text stop at) ≡ 0) where
+  last_byte : between text start stop ≡ between text start (stop - 1) ++ newline ∷ []
   last_byte =
       let back : stop ≡ (stop - 1) + 1 = omega (arith, low) in
       let some : stop - 1 < length text = omega (arith, low, order, high) in
-      ap (stretch text start) back ∙ stretch_more text start (stop - 1) 1 (omega (arith, low))
-      ∙ ap (λ l. stretch text start (stop - 1) ++ take 1 l) (drop_more text (stop - 1) 0 some)
-      ∙ ap (λ b. stretch text start (stop - 1) ++ b ∷ []) begun
+      ap (between text start) back ∙ between_more text start (stop - 1) 1 (omega (arith, low))
+      ∙ ap (λ l. between text start (stop - 1) ++ take 1 l) (drop_more text (stop - 1) 0 some)
+      ∙ ap (λ b. between text start (stop - 1) ++ b ∷ []) begun
 
-  pub ends_line : blank_after true (stretch text start stop) ≡ true
-  ends_line = ap (blank_after true) last_byte ∙ blank_over (stretch text start (stop - 1)) (newline ∷ []) true
+  pub ends_line : blank_after true (between text start stop) ≡ true
+  ends_line = ap (blank_after true) last_byte ∙ blank_over (between text start (stop - 1)) (newline ∷ []) true
 
-  whole : stretch text start at ≡ stretch text start stop ++ stretch text stop at
+  whole : between text start at ≡ between text start stop ++ between text stop at
   whole =
       let size : at ≡ stop + (at - stop) = omega (arith, order) in
-      ap (stretch text start) size ∙ stretch_more text start stop (at - stop) (omega (arith, low))
+      ap (between text start) size ∙ between_more text start stop (at - stop) (omega (arith, low))
 
-  pub newlines_before : newline_count (stretch text start at) ≡ newline_count (stretch text start stop)
-  newlines_before = ap newline_count whole ∙ newlines_over (stretch text start stop) (stretch text stop at) ∙ omega (arith, on)
+  pub newlines_before : newline_count (between text start at) ≡ newline_count (between text start stop)
+  newlines_before = ap newline_count whole ∙ newlines_over (between text start stop) (between text stop at) ∙ omega (arith, on)
 
-  pub fronts_before : front_count true (stretch text start at) ≡ front_count true (stretch text start stop) + front_count true (stretch text stop at)
+  pub fronts_before : front_count true (between text start at) ≡ front_count true (between text start stop) + front_count true (between text stop at)
   fronts_before =
-      ap (front_count true) whole ∙ fronts_over (stretch text start stop) (stretch text stop at) true
-      ∙ ap (λ x. front_count true (stretch text start stop) + front_count x (stretch text stop at)) ends_line
+      ap (front_count true) whole ∙ fronts_over (between text start stop) (between text stop at) true
+      ∙ ap (λ x. front_count true (between text start stop) + front_count x (between text stop at)) ends_line
 
-  pub marks_before : mark_count slots true (stretch text start at) ≡ mark_count slots true (stretch text start stop) + mark_count slots true (stretch text stop at)
+  pub marks_before : mark_count slots true (between text start at) ≡ mark_count slots true (between text start stop) + mark_count slots true (between text stop at)
   marks_before =
-      ap (mark_count slots true) whole ∙ marks_over slots (stretch text start stop) (stretch text stop at) true
-      ∙ ap (λ x. mark_count slots true (stretch text start stop) + mark_count slots x (stretch text stop at)) ends_line
+      ap (mark_count slots true) whole ∙ marks_over slots (between text start stop) (between text stop at) true
+      ∙ ap (λ x. mark_count slots true (between text start stop) + mark_count slots x (between text stop at)) ends_line
 
-  size : length (stretch text stop at) ≡ at - stop
+  size : length (between text stop at) ≡ at - stop
   size = length-take-le (at - stop) (drop stop text) (omega (arith, length-drop stop text, order, high))
 
-  byte : (k : ℕ) → k < at - stop → get_or (stretch text stop at) k 0 ≡ get_or text (stop + k) 0
+  byte : (k : ℕ) → k < at - stop → get_or (between text stop at) k 0 ≡ get_or text (stop + k) 0
   byte k l = get_or-take (at - stop) (drop stop text) k 0 l ∙ get_or-drop stop text k 0
 
   -- each front has its newline
-  pub fronts_few : front_count true (stretch text start stop) ≤ newline_count (stretch text start stop)
+  pub fronts_few : front_count true (between text start stop) ≤ newline_count (between text start stop)
   fronts_few =
-      omega (arith, fronts_in_lines (stretch text start stop), ap flag (ap goes_on last_byte ∙ ends (stretch text start (stop - 1))))
+      omega (arith, fronts_in_lines (between text start stop), ap flag (ap goes_on last_byte ∙ ends (between text start (stop - 1))))
     where
       ends : (u : List ℕ) → goes_on (u ++ newline ∷ []) ≡ false
       ends [] = refl
@@ -143,35 +144,35 @@ module _ (slots text : List ℕ) (start stop at : ℕ) (low : start < stop) (ord
       ends (a ∷ b ∷ u) = ends (b ∷ u)
 
   -- what the last line has, where it has a front and where it has none
-  blank_seen : blank_after true (stretch text start at) ≡ blank_after true (stretch text stop at)
+  blank_seen : blank_after true (between text start at) ≡ blank_after true (between text stop at)
   blank_seen =
-      ap (blank_after true) whole ∙ blank_over (stretch text start stop) (stretch text stop at) true ∙ ap (λ x. blank_after x (stretch text stop at)) ends_line
+      ap (blank_after true) whole ∙ blank_over (between text start stop) (between text stop at) true ∙ ap (λ x. blank_after x (between text stop at)) ends_line
 
-  pub without_front : blank_after true (stretch text start at) ≡ true → (front_count true (stretch text start at) ≡ front_count true (stretch text start stop))
-      × (mark_count slots true (stretch text start at) ≡ mark_count slots true (stretch text start stop))
+  pub without_front : blank_after true (between text start at) ≡ true → (front_count true (between text start at) ≡ front_count true (between text start stop))
+      × (mark_count slots true (between text start at) ≡ mark_count slots true (between text start stop))
   without_front blank =
-      let none : front_count true (stretch text stop at) ≡ 0 = front_flag (stretch text stop at) on ∙ ap (λ x. flag (not x)) (sym blank_seen ∙ blank) in
-      (omega (arith, fronts_before, none), omega (arith, marks_before, none, marks_few slots (stretch text stop at) true))
+      let none : front_count true (between text stop at) ≡ 0 = front_flag (between text stop at) on ∙ ap (λ x. flag (not x)) (sym blank_seen ∙ blank) in
+      (omega (arith, fronts_before, none), omega (arith, marks_before, none, marks_few slots (between text stop at) true))
 
-  pub with_front : blank_after true (stretch text start at) ≡ false → front_count true (stretch text start at) ≡ front_count true (stretch text start stop) + 1
+  pub with_front : blank_after true (between text start at) ≡ false → front_count true (between text start at) ≡ front_count true (between text start stop) + 1
   with_front solid =
-      let one : front_count true (stretch text stop at) ≡ 1 = front_flag (stretch text stop at) on ∙ ap (λ x. flag (not x)) (sym blank_seen ∙ solid) in
+      let one : front_count true (between text stop at) ≡ 1 = front_flag (between text stop at) on ∙ ap (λ x. flag (not x)) (sym blank_seen ∙ solid) in
       omega (arith, fronts_before, one)
 
   -- the blanks of the last line end at `head`
   module _ (head : ℕ) (from : stop ≤ head) (to : head ≤ at) (blanks : (p : ℕ) → stop ≤ p → p < head → is_blank (get_or text p 0) ≡ true)
       (found : head < at → is_blank (get_or text head 0) ≡ false) where
-    first : (k : ℕ) → k < head - stop → is_blank (get_or (stretch text stop at) k 0) ≡ true
+    first : (k : ℕ) → k < head - stop → is_blank (get_or (between text stop at) k 0) ≡ true
     first k l = ap is_blank (byte k (omega (arith, l, from, to))) ∙ blanks (stop + k) (omega arith) (omega (arith, l, from))
 
-    pub none_behind_blanks : at ≤ head → mark_count slots true (stretch text stop at) ≡ 0
-    none_behind_blanks over = (blank_line slots (stretch text stop at) on (λ k l. first k (omega (arith, l, size, over, from)))).1
+    pub none_behind_blanks : at ≤ head → mark_count slots true (between text stop at) ≡ 0
+    none_behind_blanks over = (blank_line slots (between text stop at) on (λ k l. first k (omega (arith, l, size, over, from)))).1
 
-    pub front_behind_blanks : head < at → mark_count slots true (stretch text stop at) ≡ flag (is_slotted slots (get_or text head 0))
+    pub front_behind_blanks : head < at → mark_count slots true (between text stop at) ≡ flag (is_slotted slots (get_or text head 0))
     front_behind_blanks inside =
         let there : stop + (head - stop) ≡ head = omega (arith, from) in
-        let here : get_or (stretch text stop at) (head - stop) 0 ≡ get_or text head 0 = byte (head - stop) (omega (arith, inside, from)) ∙ ap (λ j. get_or text j 0) there in
-        (solid_line slots (stretch text stop at) (head - stop) on (omega (arith, size, inside, from)) first (ap is_blank here ∙ found inside)).1 ∙ ap (λ b. flag (is_slotted slots b)) here
+        let here : get_or (between text stop at) (head - stop) 0 ≡ get_or text head 0 = byte (head - stop) (omega (arith, inside, from)) ∙ ap (λ j. get_or text j 0) there in
+        (solid_line slots (between text stop at) (head - stop) on (omega (arith, size, inside, from)) first (ap is_blank here ∙ found inside)).1 ∙ ap (λ b. flag (is_slotted slots b)) here
 
 -- a place that isn't the end is before it
 pub seen_inside : (head at : ℕ) → head ≤ at → head ≢ at → head < at

@@ -16,9 +16,10 @@ use Rattle.tokei_bytes.specs.Slots.{is_slotted}
 use Rattle.tokei_table_row.specs.FirstOpener.{is_first, is_nonempty}
 use Rattle.tokei_table_row.specs.Bytes.{begins_with_one}
 use Rattle.tokei_table.specs.Row.{Row}
-use Rattle.tokei_count.proofs.BlockLooks.{stretch_more}
+use Rattle.tokei_table.specs.OuterLines.{between}
+use Rattle.tokei_count.proofs.BlockLooks.{between_more}
 use Rattle.tokei_count.proofs.SetBits.{unset_first}
-use Rattle.tokei_count.specs.LineLooks.{AreTold, HasLineComment, IsClear, IsLook, IsNext, mark_count, stretch}
+use Rattle.tokei_count.specs.LineLooks.{AreTold, HasLineComment, IsClear, IsLook, IsNext, mark_count}
 use Rattle.tokei_table_search.proofs.OpenerGroups.{not_true, starts_first}
 
 -- what a bit of a mask says
@@ -71,13 +72,13 @@ front_bit t x at k room low blank solid =
     ∙ ap (λ b. cond b 1 0) (front_at v x k inside ∙ ap₂ (λ a b. a && not b) blank (ap is_blank (get_or-chunk at 32 t k 0 low) ∙ solid))
 
 module _ (row : Row) (slots text : List ℕ) (start at gap blank : ℕ) (low : start ≤ at) (room : at + 32 ≤ length text) (few : gap ≤ 32)
-    (blank_is : (blank == 1) ≡ blank_after true (stretch text start at)) where
+    (blank_is : (blank == 1) ≡ blank_after true (between text start at)) where
   -- what a block leaves of the line that goes on behind it
-  pub blank_on : (carried : ℕ) → carried ≡ flag (blank_after (blank == 1) (chunk at 32 text)) → (carried == 1) ≡ blank_after true (stretch text start (at + 32))
+  pub blank_on : (carried : ℕ) → carried ≡ flag (blank_after (blank == 1) (chunk at 32 text)) → (carried == 1) ≡ blank_after true (between text start (at + 32))
   blank_on carried is =
       ap (λ n. n == 1) is ∙ told (blank_after (blank == 1) (chunk at 32 text))
       ∙ ap (λ x. blank_after x (chunk at 32 text)) blank_is
-      ∙ sym (ap (blank_after true) (stretch_more text start at 32 low) ∙ blank_over (stretch text start at) (chunk at 32 text) true)
+      ∙ sym (ap (blank_after true) (between_more text start at 32 low) ∙ blank_over (between text start at) (chunk at 32 text) true)
 
   -- a front of the block has its bit, and a marked one is a line comment
   pub told_on : (f m : ℕ) → f ≡ mask_l (fronts (blank == 1) (chunk at 32 text)) → m ≡ mask_l (map (is_slotted slots) (chunk at 32 text))
@@ -91,11 +92,11 @@ module _ (row : Row) (slots text : List ℕ) (start at gap blank : ℕ) (low : s
         let below : k < gap = omega (arith, h, b) in
         let inside : k < 32 = omega (arith, below, few) in
         let byte : get_or text (at + k) 0 ≡ get_or text p 0 = ap (λ j. get_or text j 0) place in
-        let up_to : stretch text start p ≡ stretch text start at ++ take k (drop at text) = ap (stretch text start) (sym place) ∙ stretch_more text start at k low in
+        let up_to : between text start p ≡ between text start at ++ take k (drop at text) = ap (between text start) (sym place) ∙ between_more text start at k low in
         let blanks : blank_after (blank == 1) (take k (chunk at 32 text)) ≡ true =
         ap (blank_after (blank == 1)) (take-take k 32 (drop at text) (omega (arith, inside)))
         ∙ ap (λ x. blank_after x (take k (drop at text))) blank_is
-        ∙ sym (blank_over (stretch text start at) (take k (drop at text)) true) ∙ sym (ap (blank_after true) up_to) ∙ front.blank in
+        ∙ sym (blank_over (between text start at) (take k (drop at text)) true) ∙ sym (ap (blank_after true) up_to) ∙ front.blank in
         let f_bit : bit_at f k ≡ 1 = ap (λ n. bit_at n k) fs ∙ front_bit text (blank == 1) at k room inside blanks (ap is_blank byte ∙ front.solid) in
         let m_bit : bit_at m k ≡ 1 = ap (λ n. bit_at n k) ms ∙ marked_bit (is_slotted slots) text at k room inside (ap (is_slotted slots) byte ∙ marked) in
         let set : bit_at (bit_and (bit_and f (2 ^ gap - 1)) m) k ≡ 1 =
@@ -111,7 +112,7 @@ clear_from os t from n none p low high =
     ap (λ j. begins_with_one os (drop j t)) (sym place) ∙ none (p - from) (omega (arith, low, high))
 
 -- a look that begins
-nothing_looked_at : (t : List ℕ) (s : ℕ) → stretch t s s ≡ []
+nothing_looked_at : (t : List ℕ) (s : ℕ) → between t s s ≡ []
 nothing_looked_at t s = let none : s - s ≡ 0 = omega arith in ap (λ n. take n (drop s t)) none
 
 pub look_begun : (slots t : List ℕ) (s : ℕ) → s ≤ length t → IsLook slots t s (record { at = s; stop = s; newlines = 0; fronts = 0; comments = 0 })
@@ -126,7 +127,7 @@ look_begun slots t s within = record {
   on = ap newline_count (nothing_looked_at t s);
 }
 
-pub blank_begun : (t : List ℕ) (s : ℕ) → true ≡ blank_after true (stretch t s s)
+pub blank_begun : (t : List ℕ) (s : ℕ) → true ≡ blank_after true (between t s s)
 blank_begun t s = sym (ap (blank_after true) (nothing_looked_at t s))
 
 pub clear_begun : (os : List (List ℕ)) (t : List ℕ) (s : ℕ) → IsClear os t s s
@@ -179,9 +180,9 @@ solid_opener os slots text n all none blanks inside here =
     (λ blank. clash (begins_with_one os (drop n text)) (none_at os text n all inside (none (get_or text n 0) (blanks (get_or text n 0) blank))) here)
 
 -- so its bit among the fronts says whether its line had none before
-pub blank_at : (os : List (List ℕ)) (slots text : List ℕ) (start at gap blank : ℕ) → start ≤ at → at + 32 ≤ length text → (blank == 1) ≡ blank_after true (stretch text start at)
+pub blank_at : (os : List (List ℕ)) (slots text : List ℕ) (start at gap blank : ℕ) → start ≤ at → at + 32 ≤ length text → (blank == 1) ≡ blank_after true (between text start at)
     → list_all is_nonempty os ≡ true → ((x : ℕ) → is_slotted slots x ≡ false → is_first os x ≡ false) → ((x : ℕ) → is_blank x ≡ true → is_slotted slots x ≡ false) → gap < 32
-    → begins_with_one os (drop (at + gap) text) ≡ true → (f : ℕ) → f ≡ mask_l (fronts (blank == 1) (chunk at 32 text)) → (bit_and (f / 2 ^ gap) 1 == 1) ≡ blank_after true (stretch text start (at + gap))
+    → begins_with_one os (drop (at + gap) text) ≡ true → (f : ℕ) → f ≡ mask_l (fronts (blank == 1) (chunk at 32 text)) → (bit_and (f / 2 ^ gap) 1 == 1) ≡ blank_after true (between text start (at + gap))
 blank_at os slots text start at gap blank low room blank_is all none blanks inside here f fs =
     let v : List ℕ = chunk at 32 text in
     let within : gap < length v = omega (arith, inside, length-chunk at 32 text room) in
@@ -189,8 +190,8 @@ blank_at os slots text start at gap blank low room blank_is all none blanks insi
     ap is_blank (get_or-chunk at 32 text gap 0 inside) ∙ solid_opener os slots text (at + gap) all none blanks (omega (arith, room, inside)) here in
     let front : get_or (fronts (blank == 1) v) gap false ≡ blank_after (blank == 1) (take gap v) =
     front_at v (blank == 1) gap within ∙ ap (λ x. blank_after (blank == 1) (take gap v) && not x) solid ∙ always (blank_after (blank == 1) (take gap v)) in
-    let up_to : blank_after true (stretch text start (at + gap)) ≡ blank_after (blank == 1) (take gap v) =
-    ap (blank_after true) (stretch_more text start at gap low) ∙ blank_over (stretch text start at) (take gap (drop at text)) true
+    let up_to : blank_after true (between text start (at + gap)) ≡ blank_after (blank == 1) (take gap v) =
+    ap (blank_after true) (between_more text start at gap low) ∙ blank_over (between text start at) (take gap (drop at text)) true
     ∙ ap (λ x. blank_after x (take gap (drop at text))) (sym blank_is) ∙ ap (blank_after (blank == 1)) (sym (take-take gap 32 (drop at text) (omega (arith, inside)))) in
     ap (λ n. n == 1) (shr_and_one f gap ∙ ap (λ n. bit_at n gap) fs ∙ bit_mask_l (fronts (blank == 1) v) gap)
     ∙ told (get_or (fronts (blank == 1) v) gap false) ∙ front ∙ sym up_to
@@ -218,7 +219,7 @@ unset_up_to zero k small low = bit_at-zero k
 unset_up_to (suc m) k small low = unset_first (suc m) small (λ e. absurd (omega (arith, e))) k low
 
 pub none_ended : (t : List ℕ) (at gap m : ℕ) → at + 32 ≤ length t → gap ≤ 32 → m ≡ mask_l (map (λ x. x == newline) (chunk at 32 t)) → gap ≤ count_trailing_zeros 64 m
-    → newline_count (stretch t at (at + gap)) ≡ 0
+    → newline_count (between t at (at + gap)) ≡ 0
 none_ended t at gap m room few ms low =
     let size : at + gap - at ≡ gap = omega arith in
     let small : m < 2 ^ 32 = omega (arith, ms, marks_small (λ x. x == newline) t at room) in

@@ -12,6 +12,7 @@ use Rattle.tokei_embedding.proofs.NextDocs.{drop_first}
 use Rattle.tokei_table.specs.Bytes.{all_blank, begins, begins_with_one, is_blank, trim_start}
 use Rattle.tokei_table.specs.FirstOpener.{first_opener}
 use Rattle.tokei_table.specs.Sound.{is_token, no_newline}
+use Rattle.tokei_table.specs.OuterLines.{between}
 use Rattle.tokei_parts.proofs.CodeHeads.{blank_part, no_head}
 use Rattle.tokei_parts.proofs.CommentHeads.{comment_head, comment_line}
 use Rattle.tokei_parts.proofs.Fits.{and_left, and_right}
@@ -22,14 +23,14 @@ use Rattle.tokei_parts.specs.Class.{keeps_columns}
 use Rattle.tokei_parts.specs.CodeHeads.{FrontBeginsNone, HasCodeHead}
 use Rattle.tokei_parts.specs.CommentHeads.{HasCommentHead, any_solid_begins, ends_solid}
 use Rattle.tokei_parts.specs.Glance.{opener_place}
-use Rattle.tokei_parts.specs.LineMarks.{AreLineMarks}
+use Rattle.tokei_parts.specs.LineMarks.{AreMarkSlots}
 use Rattle.tokei_parts.specs.Lines.{first_line}
 use Rattle.tokei_parts.specs.PlainBytes.{BeginsNone}
 use Rattle.tokei_parts.specs.ReadingOf.{row_in, openers_in}
 use Rattle.tokei_parts.specs.Seen.{chain_of}
 use Rattle.tokei_parts.specs.declared.class.Class.TheVariants.{Comment}
 use Rattle.tokei_parts.specs.declared.reading.Reading.{Reading}
-use Rattle.tokei_count.specs.LineLooks.{AreTold, HasLineComment, IsClear, IsFrontAt, mark_count, stretch}
+use Rattle.tokei_count.specs.LineLooks.{AreTold, HasLineComment, IsClear, IsFrontAt, mark_count}
 use Rattle.tokei_count.specs.NoComments.{counts_with}
 use Rattle.tokei_count.specs.UnderWay.{IsUnderWay}
 use Rattle.tokei_count.specs.declared.text_reading.ReadSoFar.{ReadSoFar}
@@ -101,16 +102,16 @@ line_ended (b ∷ c ∷ s) blank some h = by_ends (b == newline) refl (λ x. lin
     by_ends true e ih = ap (λ x. x || (blank && is_blank b)) e
     by_ends false e ih = ih (blank_behind blank b)
 
--- a stretch and the bytes behind it
-stretch_more : (text : List ℕ) (start at n : ℕ) → start ≤ at → stretch text start (at + n) ≡ stretch text start at ++ take n (drop at text)
-stretch_more text start at n low =
+-- a between and the bytes behind it
+between_more : (text : List ℕ) (start at n : ℕ) → start ≤ at → between text start (at + n) ≡ between text start at ++ take n (drop at text)
+between_more text start at n low =
     let size : at + n - start ≡ (at - start) + n = omega (arith, low) in
     let place : start + (at - start) ≡ at = omega (arith, low) in
     ap (λ k. take k (drop start text)) size ∙ take-add (at - start) n (drop start text)
-    ∙ ap (λ w. stretch text start at ++ take n w) (drop-drop (at - start) start text ∙ ap (λ k. drop k text) place)
+    ∙ ap (λ w. between text start at ++ take n w) (drop-drop (at - start) start text ∙ ap (λ k. drop k text) place)
 
 -- a stretch, by what the text is up to its end
-cut_at : (text : List ℕ) (start stop : ℕ) → start ≤ stop → drop start (take stop text) ≡ stretch text start stop
+cut_at : (text : List ℕ) (start stop : ℕ) → start ≤ stop → drop start (take stop text) ≡ between text start stop
 cut_at text start stop low =
     let place : stop ≡ start + (stop - start) = omega (arith, low) in
     ap (λ n. drop start (take n text)) place ∙ drop-take start (stop - start) text
@@ -183,7 +184,7 @@ find_front slots (b ∷ t) = by_test (is_blank b) refl (find_front slots t)
 
 -- What a line is: at a front that isn't marked no choice can begin, and at a marked one a line comment
 -- stands.
-module _ (r : Reading) (slots line : List ℕ) (marks : AreLineMarks slots r.matchers.now.begins r.matchers.now.openers) (small : (k : ℕ) → k < length line → get_or line k 0 < 256)
+module _ (r : Reading) (slots line : List ℕ) (marks : AreMarkSlots slots r.matchers.now.begins r.matchers.now.openers) (small : (k : ℕ) → k < length line → get_or line k 0 < 256)
     (told : (f : Front slots line) → is_slotted slots (get_or line f.place 0) ≡ true
     → (any_solid_begins (row_in r).line_comment (drop f.place line) ≡ true) × (keeps_columns (row_in r).key ≡ false)) where
   abbrev literate : Bool
@@ -230,7 +231,7 @@ module _ (r : Reading) (slots line : List ℕ) (marks : AreLineMarks slots r.mat
 
 -- The lines of the text from the place on up to `stop`, where a line begins.
 module _ (r : Reading) (p : ReadSoFar) (slots : List ℕ) (stop : ℕ) (bytes : (k : ℕ) → get_or r.text.now k 0 < 256)
-    (marks : AreLineMarks slots r.matchers.now.begins r.matchers.now.openers) (inside : stop ≤ length r.text.now)
+    (marks : AreMarkSlots slots r.matchers.now.begins r.matchers.now.openers) (inside : stop ≤ length r.text.now)
     (ends : p.start < stop → get_or r.text.now (stop - 1) 0 ≡ newline) (told : AreTold (row_in r) slots r.text.now p.start stop) where
   abbrev text : List ℕ
   text = r.text.now
@@ -243,7 +244,7 @@ module _ (r : Reading) (p : ReadSoFar) (slots : List ℕ) (stop : ℕ) (bytes : 
 
   -- a line begins at the place
   abbrev begun : ℕ → Bool
-  begun at = blank_after true (stretch text p.start at)
+  begun at = blank_after true (between text p.start at)
 
   seen_size : length seen ≡ stop
   seen_size = length-take-le stop text inside
@@ -269,8 +270,8 @@ module _ (r : Reading) (p : ReadSoFar) (slots : List ℕ) (stop : ℕ) (bytes : 
   goes at low some here =
       let ended : blank_after (begun at) (line_at at) ≡ true = ap (blank_after (begun at)) (sym (same at low some))
       ∙ line_ended (drop at seen) (begun at) (omega (arith, length-drop at seen, seen_size, some)) (done_there at low some) in
-      ap (blank_after true) (stretch_more text p.start at (length (line_at at)) low ∙ ap (λ w. stretch text p.start at ++ w) (take-first (drop at text)))
-      ∙ blank_over (stretch text p.start at) (line_at at) true ∙ ended
+      ap (blank_after true) (between_more text p.start at (length (line_at at)) low ∙ ap (λ w. between text p.start at ++ w) (take-first (drop at text)))
+      ∙ blank_over (between text p.start at) (line_at at) true ∙ ended
 
   byte_there : (at k : ℕ) → k < length (line_at at) → get_or (line_at at) k 0 ≡ get_or text (at + k) 0
   byte_there at k l =
@@ -286,7 +287,7 @@ module _ (r : Reading) (p : ReadSoFar) (slots : List ℕ) (stop : ℕ) (bytes : 
       let front : take f.place u ≡ take f.place (line_at at) =
       sym (take-take f.place (length (line_at at)) u (omega (arith, f.within))) ∙ ap (take f.place) (take-first u) in
       let is_front : IsFrontAt text p.start (at + f.place) = record {
-        blank = ap (blank_after true) (stretch_more text p.start at f.place low) ∙ blank_over (stretch text p.start at) (take f.place u) true
+        blank = ap (blank_after true) (between_more text p.start at f.place low) ∙ blank_over (between text p.start at) (take f.place u) true
             ∙ ap (λ x. blank_after x (take f.place u)) here ∙ ap (blank_after true) front ∙ f.blank;
         solid = ap is_blank (sym byte) ∙ f.solid;
       } in
@@ -320,15 +321,15 @@ module _ (r : Reading) (p : ReadSoFar) (slots : List ℕ) (stop : ℕ) (bytes : 
   -- all lines up to the place, by what was counted of them
   all_marked : (lines : Sums) (blank solid comments : ℕ) → r.skips ≡ true → IsUnderWay r p → chain_of p.stack.items ≡ [] → p.start ≤ stop
       → IsClear (openers_in r) text p.start stop
-      → solid ≡ front_count true (stretch text p.start stop) → comments ≡ mark_count slots true (stretch text p.start stop) → blank + solid ≡ newline_count (stretch text p.start stop)
+      → solid ≡ front_count true (between text p.start stop) → comments ≡ mark_count slots true (between text p.start stop) → blank + solid ≡ newline_count (between text p.start stop)
       → sums_of lines ≡ counts_with (row_in r).literate blank solid comments → IsUnderWay r (gone_on p lines stop)
   all_marked lines blank solid comments skipped way plain low clear solid_is comments_is whole sums =
       let next : ℕ = p.start + opener_place (openers_in r) (drop p.start text) in
-      let cut : drop p.start seen ≡ stretch text p.start stop = cut_at text p.start stop low in
+      let cut : drop p.start seen ≡ between text p.start stop = cut_at text p.start stop low in
       let far : stop - p.start ≤ opener_place (openers_in r) (drop p.start text) = clear_place (openers_in r) (drop p.start text) (stop - p.start) (omega (arith, length-drop p.start text, inside))
       (λ k l. ap (begins_with_one (openers_in r)) (drop-drop k p.start text) ∙ clear (p.start + k) (omega arith) (omega (arith, l))) in
       let here : begun p.start ≡ true = let none : p.start - p.start ≡ 0 = omega arith in ap (λ n. blank_after true (take n (drop p.start text))) none in
-      let lines_are : newline_count (stretch text p.start stop) ≡ line_count (drop p.start seen) = omega (arith, ap newline_count cut, ap flag (none_left low)) in
+      let lines_are : newline_count (between text p.start stop) ≡ line_count (drop p.start seen) = omega (arith, ap newline_count cut, ap flag (none_left low)) in
       marked_before r p skipped plain stop next inside (omega (arith, far, low)) same begun (λ at. front_slotted slots (line_at at)) (λ at. mark_count slots true (drop at seen)) goes class_is
       marks_are (λ at. marks_few slots (drop at seen) true) lines blank solid comments way low refl here
       (solid_is ∙ ap (front_count true) (sym cut)) (comments_is ∙ ap (mark_count slots true) (sym cut)) (whole ∙ lines_are) sums
@@ -336,11 +337,11 @@ module _ (r : Reading) (p : ReadSoFar) (slots : List ℕ) (stop : ℕ) (bytes : 
 -- Lines up to the place `stop`, where one begins, are counted right by their fronts and marks, where no
 -- opener stands before it and each marked front is that of a line comment.
 pub marked_way : (r : Reading) (p : ReadSoFar) (slots : List ℕ) (stop : ℕ) (lines : Sums) (blank solid comments : ℕ) → r.skips ≡ true → IsUnderWay r p → chain_of p.stack.items ≡ []
-    → ((k : ℕ) → get_or r.text.now k 0 < 256) → AreLineMarks slots r.matchers.now.begins r.matchers.now.openers
+    → ((k : ℕ) → get_or r.text.now k 0 < 256) → AreMarkSlots slots r.matchers.now.begins r.matchers.now.openers
     → p.start ≤ stop → stop ≤ length r.text.now → (p.start < stop → get_or r.text.now (stop - 1) 0 ≡ newline)
     → IsClear (openers_in r) r.text.now p.start stop → AreTold (row_in r) slots r.text.now p.start stop
-    → solid ≡ front_count true (stretch r.text.now p.start stop) → comments ≡ mark_count slots true (stretch r.text.now p.start stop)
-    → blank + solid ≡ newline_count (stretch r.text.now p.start stop) → sums_of lines ≡ counts_with (row_in r).literate blank solid comments
+    → solid ≡ front_count true (between r.text.now p.start stop) → comments ≡ mark_count slots true (between r.text.now p.start stop)
+    → blank + solid ≡ newline_count (between r.text.now p.start stop) → sums_of lines ≡ counts_with (row_in r).literate blank solid comments
     → IsUnderWay r (gone_on p lines stop)
 marked_way r p slots stop lines blank solid comments skipped way plain bytes marks low inside ends clear told solid_is comments_is whole sums =
     all_marked r p slots stop bytes marks inside ends told lines blank solid comments skipped way plain low clear solid_is comments_is whole sums

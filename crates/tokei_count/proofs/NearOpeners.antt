@@ -1,15 +1,17 @@
 -- The first opener of a text, which a look ahead came to: its place, and its line.
 use Rattle.std.proofs.Common.{◌≡◌, ℕ, zero, suc, ◌+◌, ◌-◌, ◌<◌, ◌≤◌, ◌==◌, cond, Bool, true, false, List, [], ◌∷◌, ◌++◌, take, drop, length, unwrap_or, Some, ap, ◌∙◌, arith, length-drop}
 use Rattle.std.proofs.lemmas.List.{drop-drop}
+use Rattle.tokei_bytes.proofs.LineSums.{newlines_over}
 use Rattle.tokei_bytes.specs.Lines.{flag, newline_count}
 use Rattle.tokei_table.specs.Bytes.{begins_with_one, newline}
 use Rattle.tokei_table.specs.FirstOpener.{first_opener}
 use Rattle.tokei_table_search.proofs.FirstPlaces.{first_at}
+use Rattle.tokei_table.specs.OuterLines.{between}
 use Rattle.tokei_parts.specs.Glance.{opener_place}
 use Rattle.tokei_parts.specs.Lines.{first_line, line_len}
-use Rattle.tokei_count.proofs.BlockLooks.{newlines_over, stretch_more}
+use Rattle.tokei_count.proofs.BlockLooks.{between_more}
 use Rattle.tokei_count.proofs.LookedAhead.{clear_on}
-use Rattle.tokei_count.specs.LineLooks.{IsClear, IsLook, IsNext, stretch}
+use Rattle.tokei_count.specs.LineLooks.{IsClear, IsLook, IsNext}
 use Rattle.tokei_count.specs.declared.line_look.Look.{Look}
 
 -- an opener before which none stands is the first
@@ -37,7 +39,7 @@ on_line (b ∷ t) (suc n) within none = by_test (b == newline) none (on_line t n
     by_test true h rest = absurd (some_none (newline_count (take n t)) h)
     by_test false h rest = let few : newline_count (take n t) ≡ 0 = omega (arith, h) in omega (arith, rest few)
 
-pub in_line : (t : List ℕ) (stop at : ℕ) → stop ≤ at → at ≤ length t → newline_count (stretch t stop at) ≡ 0 → at ≤ stop + line_len (drop stop t)
+pub in_line : (t : List ℕ) (stop at : ℕ) → stop ≤ at → at ≤ length t → newline_count (between t stop at) ≡ 0 → at ≤ stop + line_len (drop stop t)
 in_line t stop at low inside none = omega (arith, low, on_line (drop stop t) (at - stop) (omega (arith, length-drop stop t, inside, low)) none)
 
 -- a place up to the line's newline is one of the line
@@ -68,7 +70,7 @@ module _ (os : List (List ℕ)) (slots t : List ℕ) (start to : ℕ) (look : Lo
   pub next_in_line : to ≤ look.stop + line_len (drop look.stop t)
   next_in_line =
       let size : to ≡ look.at + (to - look.at) = omega (arith, next.order) in
-      let all : stretch t look.stop to ≡ stretch t look.stop look.at ++ stretch t look.at to =
-      ap (stretch t look.stop) size ∙ stretch_more t look.stop look.at (to - look.at) is.order in
+      let all : between t look.stop to ≡ between t look.stop look.at ++ between t look.at to =
+      ap (between t look.stop) size ∙ between_more t look.stop look.at (to - look.at) is.order in
       in_line t look.stop to (omega (arith, is.order, next.order)) (omega (arith, inside))
-      (ap newline_count all ∙ newlines_over (stretch t look.stop look.at) (stretch t look.at to) ∙ omega (arith, is.on, next.on))
+      (ap newline_count all ∙ newlines_over (between t look.stop look.at) (between t look.at to) ∙ omega (arith, is.on, next.on))

@@ -1,13 +1,17 @@
 -- Places between lines that are skipped or lie within an item: their order, what is left behind them,
 -- and whether the part that begins there is walked.
-use Rattle.std.proofs.Common.{◌≡◌, ℕ, ◌+◌, ◌-◌, ◌<◌, ◌≤◌, ◌||◌, ◌⊎◌, inl, inr, Bool, true, false, not, List, [], ◌∷◌, length, drop, None, sym, ap, ◌∙◌, arith, length-drop}
+use Rattle.std.proofs.Common.{◌≡◌, ℕ, ◌+◌, ◌-◌, ◌<◌, ◌≤◌, ◌||◌, ◌⊎◌, inl, inr, Bool, true, false, not, List, [], ◌∷◌, length, drop, Option, None, Some, refl, sym, ap, ◌∙◌, arith, length-drop}
 use Rattle.std.proofs.lemmas.Bool.{false≢true}
 use Rattle.tokei_parts.specs.Class.{is_plain}
 use Rattle.tokei_parts.specs.Glance.{holds, is_walked}
 use Rattle.tokei_parts.specs.Glanced.{Knows}
 use Rattle.tokei_parts.specs.Items.{Mode}
+use Rattle.tokei_parts.specs.LineWalk.{chain_in}
 use Rattle.tokei_parts.specs.Lines.{first_line, line_len}
 use Rattle.tokei_parts.specs.Modes.{Chain, innermost}
+use Rattle.tokei_parts.specs.Seen.{chain_of}
+use Rattle.tokei_parts.specs.SeenChoices.{mode_of}
+use Rattle.tokei_parts.specs.declared.items.Enclosure.{Enclosure}
 use Rattle.tokei_parts.proofs.LineEnds.{below_or}
 use Rattle.tokei_parts.proofs.PartFronts.{line_len_within}
 use Rattle.tokei_count.proofs.StepReading.{line_some}
@@ -91,3 +95,15 @@ no_item c m is empty within = false≢true (sym within ∙ ap is_plain (is ∙ a
 -- within an item all is walked
 pub walked_within : (os : List (List ℕ)) (m n : Mode) (line : List ℕ) → m ≡ n → is_plain m ≡ false → is_walked os n line ≡ true
 walked_within os m n line is within = ap (λ (x : Mode). is_walked os x line) (sym is) ∙ ap (λ (b : Bool). not b || holds os line) within
+
+-- where no more than one item encloses the place, the innermost is all
+abbrev chain_at : Mode → Chain
+chain_at None = []
+chain_at (Some e) = e ∷ []
+
+pub one_item : (es : List Enclosure) (item : Option Enclosure) → length es < 2 → mode_of item ≡ innermost (chain_of es) → chain_of es ≡ chain_in item
+one_item [] None few is = refl
+one_item [] (Some e) few is = cc
+one_item (e ∷ []) None few is = cc
+one_item (e ∷ []) (Some i) few is = ap (λ (m : Mode). chain_at m) (sym is)
+one_item (e ∷ i ∷ es) item few is = absurd (omega (arith, few))

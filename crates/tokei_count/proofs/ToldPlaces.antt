@@ -9,9 +9,9 @@ use lib.Lanes.{chunk, mask_l}
 use Rattle.tokei_bytes.specs.Slots.{is_slotted}
 use Rattle.tokei_table_row.specs.FirstOpener.{is_first, is_nonempty}
 use Rattle.tokei_table_row.specs.Bytes.{begins_with_one}
-use Rattle.tokei_parts.proofs.ToldOpeners.{untold}
-use Rattle.tokei_parts.specs.LineMarks.{AreTellers}
-use Rattle.tokei_parts.specs.declared.line_marks.Tellers.{Tellers}
+use Rattle.tokei_table_search.proofs.ToldOpeners.{untold}
+use Rattle.tokei_table_search.specs.Tellers.{AreTellers}
+use Rattle.tokei_table_search.specs.declared.tellers.Tellers.{Tellers}
 use Rattle.tokei_count.proofs.LookedAhead.{none_marked}
 
 -- a bit of the places, where the byte is marked
@@ -47,7 +47,7 @@ module _ (os : List (List ℕ)) (slots text : List ℕ) (t : Tellers) (from m ca
     | inl inside ↦
         let bytes = others k h set inside in
         let first : get_or (drop (from + k) text) 0 0 ≡ get_or text (from + k) 0 = let same : from + k + 0 ≡ from + k = omega arith in get_or-drop (from + k) text 0 0 ∙ ap (λ j. get_or text j 0) same in
-        untold t os (drop (from + k) text) tellers (ap (is_slotted t.alone) first ∙ bytes.0) (ap (is_slotted t.seconds) (get_or-drop (from + k) text 1 0) ∙ bytes.1)
+        untold t os (drop (from + k) text) tellers (ap (is_slotted t.alone) first ∙ bytes.0) (inr (ap (is_slotted t.seconds) (get_or-drop (from + k) text 1 0) ∙ bytes.1))
     | inr over ↦
         let there : k ≡ 31 = omega (arith, over, low) in
         let unset : bit_at m 31 ≡ 0 = last (ap (bit_at can) (sym there) ∙ h) in

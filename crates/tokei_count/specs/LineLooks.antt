@@ -1,9 +1,10 @@
 -- What a look at the lines of a text shows, block after block.
-use Rattle.std.specs.Prelude.{◌≡◌, ℕ, ◌+◌, ◌-◌, ◌<◌, ◌≤◌, ◌&&◌, not, Bool, true, false, List, [], ◌∷◌, take, drop, length, slice_index}
+use Rattle.std.specs.Prelude.{◌≡◌, ℕ, ◌+◌, ◌-◌, ◌<◌, ◌≤◌, ◌&&◌, not, Bool, true, false, List, [], ◌∷◌, drop, length, slice_index}
 use Rattle.tokei_bytes.specs.Lines.{blank_after, blank_behind, flag, front_count, is_blank, newline, newline_count}
 use Rattle.tokei_bytes.specs.Slots.{is_slotted}
 use Rattle.tokei_table.specs.Bytes.{begins_with_one}
 use Rattle.tokei_table.specs.Row.{Row}
+use Rattle.tokei_table.specs.OuterLines.{between}
 use Rattle.tokei_parts.specs.Class.{keeps_columns}
 use Rattle.tokei_parts.specs.CommentHeads.{any_solid_begins}
 use Rattle.tokei_count.specs.declared.line_look.Look.{Look}
@@ -16,13 +17,9 @@ mark_count slots blank (b ∷ t) =
     flag ((blank && not (is_blank b)) && is_slotted slots b)
     + mark_count slots (blank_behind blank b) t
 
--- the bytes of the text from a place to before another
-abbrev pub stretch : List ℕ → ℕ → ℕ → List ℕ
-stretch text from to = take (to - from) (drop from text)
-
 -- the place is the front of its line, where `start` begins one
 pub record IsFrontAt (text : List ℕ) (start place : ℕ) : Type 0 where
-  pub blank : blank_after true (stretch text start place) ≡ true
+  pub blank : blank_after true (between text start place) ≡ true
   pub solid : is_blank (slice_index text place) ≡ false
 
 -- a line comment stands at the place, by which its line is told
@@ -44,7 +41,7 @@ IsClear openers text start to = (p : ℕ) → start ≤ p → p < to
 pub record IsNext (openers : List (List ℕ)) (text : List ℕ) (at to : ℕ) : Type 0 where
   pub order : at ≤ to
   pub clear : IsClear openers text at to
-  pub on : newline_count (stretch text at to) ≡ 0
+  pub on : newline_count (between text at to) ≡ 0
   pub opener : begins_with_one openers (drop to text) ≡ true
 
 -- The look's numbers are those of the text from `start`, which begins a line, to before its place;
@@ -53,8 +50,8 @@ pub record IsLook (slots text : List ℕ) (start : ℕ) (look : Look) : Type 0 w
   pub low : start ≤ look.stop
   pub order : look.stop ≤ look.at
   pub high : look.at ≤ length text
-  pub newlines : look.newlines ≡ newline_count (stretch text start look.at)
-  pub fronts : look.fronts ≡ front_count true (stretch text start look.at)
-  pub comments : look.comments ≡ mark_count slots true (stretch text start look.at)
+  pub newlines : look.newlines ≡ newline_count (between text start look.at)
+  pub fronts : look.fronts ≡ front_count true (between text start look.at)
+  pub comments : look.comments ≡ mark_count slots true (between text start look.at)
   pub begun : start < look.stop → slice_index text (look.stop - 1) ≡ newline
-  pub on : newline_count (stretch text look.stop look.at) ≡ 0
+  pub on : newline_count (between text look.stop look.at) ≡ 0

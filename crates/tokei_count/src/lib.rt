@@ -10,6 +10,7 @@ mod counter;
 mod file_context;
 pub mod laws;
 mod line_look;
+mod line_reading;
 mod lines_left;
 mod newlines;
 mod parse;

@@ -10,32 +10,28 @@ ghost use Rattle.tokei_table.specs.FirstOpener.{first_opener};
 ghost use Rattle.tokei_table.specs.Openers.{openers};
 ghost use Rattle.tokei_table.specs.RowOf.{row_of};
 ghost use Rattle.tokei_table.specs.Tokens.{has_tokens};
+ghost use Rattle.tokei_table.specs.OuterLines.{between};
 ghost use Rattle.tokei_parts.specs.Glance.{opener_place};
-ghost use Rattle.tokei_parts.specs.LineMarks.{AreLineMarks, AreTellers};
+ghost use Rattle.tokei_parts.specs.LineMarks.{AreLineMarks};
 ghost use Rattle.tokei_parts.specs.Lines.{line_len};
 ghost use Rattle.tokei_parts.specs.ReadingOf.{openers_in, row_in};
 ghost use Rattle.tokei_parts.specs.Seen.{chain_of};
-ghost use Rattle.tokei_count.specs.LineLooks.{AreTold, HasLineComment, IsClear, IsLook, IsNext, mark_count, stretch};
+ghost use Rattle.tokei_count.specs.LineLooks.{AreTold, HasLineComment, IsClear, IsLook, IsNext, mark_count};
 ghost use Rattle.tokei_count.specs.NoComments.{counts_with};
 ghost use Rattle.tokei_count.specs.Readers.{reading_of};
 ghost use Rattle.tokei_count.specs.UnderWay.{IsUnderWay};
 ghost use Rattle.tokei_stats.specs.Overflow.{Fits};
 ghost use Rattle.tokei_stats.specs.Seen.{sums_of};
 
-use crate::lines_left::has_no_comments;
 use crate::text_reading::ReadSoFar;
 use tokei_bytes::{BLOCK, LineMasks, is_slotted, line_masks, marks_in_block};
-use tokei_parts::{LanguageMatchers, Reading, Tellers, line_comment_stands};
+use tokei_parts::{LanguageMatchers, LineMarks, Reading, line_comment_stands};
 use tokei_stats::{CountError, Sums};
 use tokei_table_row::Syntax;
-use tokei_table_rules::Family;
-use tokei_table_search::blanks_end;
+use tokei_table_search::{Tellers, blanks_end};
 
 /// How long a line is looked at: of longer ones other searches are quicker.
 const NEAR: usize = 256;
-
-/// How many bytes are left at least where a look ahead is worth its preparation.
-const LEAST: usize = 64;
 
 /// How many marked bytes of a block are looked at one after another; where more come, other
 /// searches are quicker.
@@ -45,7 +41,19 @@ const MANY: usize = 8;
 /// other searches are quicker.
 const MOST: u32 = 28;
 
-/// What a look at the lines of a text shows, from one's beginning on.
+/// Lines that are looked at: those of the reading's text from a place on, which begins one.
+#[derive(Clone, Copy)]
+struct Ahead<'r, 'a> {
+    reading: &'r Reading<'a>,
+    marks: &'r LineMarks,
+    start: usize,
+    ghost tokens: { has_tokens (row_in reading.now) ≡ true },
+    ghost marked: { AreLineMarks marks.now reading.now.matchers.now.begins
+        (openers_in reading.now) },
+    ghost inside: { start ≤ length reading.now.text.now },
+}
+
+/// What a look at such lines shows.
 #[derive(Clone, Copy)]
 pub(crate) struct Look {
     /// The place up to which it went.
@@ -173,59 +181,55 @@ fn can_open(tellers: Tellers, text: &[u8], from: usize, marked: u64) -> u64
 /// where none stands there, and more than all where too many can begin one to be looked at. Bit k
 /// of `marked` is set where byte k is in the slots.
 #[inline(always)]
-fn gap_in_block(
-    reading: &Reading,
-    slots: [u8; 16],
-    tellers: Tellers,
-    from: usize,
-    marked: u64,
-) -> usize
-    requires within { from + BLOCK ≤ length reading.now.text.now }
-    requires tokens { has_tokens (row_in reading.now) ≡ true }
-    requires marks { AreLineMarks slots reading.now.matchers.now.begins (openers_in reading.now) }
-    requires tellers { AreTellers tellers (openers_in reading.now) }
-    requires marked { marked
-        ≡ mask_l (map (is_slotted slots) (chunk from 32 reading.now.text.now)) }
+fn gap_in_block(ahead: &Ahead, from: usize, marked: u64) -> usize
+    requires within { from + BLOCK ≤ length ahead.now.reading.now.text.now }
+    requires marked { marked ≡ mask_l (map (is_slotted ahead.now.marks.now.slots)
+        (chunk from 32 ahead.now.reading.now.text.now)) }
     requires some { marked ≢ 0 }
-    ensures clear { result ≤ BLOCK
-        → IsClear (openers_in reading.now) reading.now.text.now from (from + result) }
-    ensures found { result < BLOCK
-        → begins_with_one (openers_in reading.now) (drop (from + result) reading.now.text.now)
-        ≡ true }
+    ensures clear { result ≤ BLOCK → IsClear (openers_in ahead.now.reading.now)
+        ahead.now.reading.now.text.now from (from + result) }
+    ensures found { result < BLOCK → begins_with_one (openers_in ahead.now.reading.now)
+        (drop (from + result) ahead.now.reading.now.text.now) ≡ true }
 {
-    let text = reading.text;
+    let text = ahead.reading.text;
+    let matchers = ahead.reading.matchers;
     let first = marked.trailing_zeros() as usize;
-    if reading.matchers.opener_stands(text, from + first) {
+    if matchers.opener_stands(text, from + first) {
         return first;
     }
-    let can = can_open(tellers, text, from, marked);
-    gap_to_opener(reading.matchers, text, from, can)
+    let can = can_open(ahead.marks.tellers, text, from, marked);
+    gap_to_opener(matchers, text, from, can)
 }
 
 /// What the look shows with the next `gap` bytes of the text, whose masks of a block these are.
 /// `blank` is 1 where the line that it ended in has no front yet, else 0.
 #[inline(always)]
 fn with_block(
-    slots: [u8; 16],
-    text: &[u8],
-    start: usize,
+    ahead: &Ahead,
     look: Look,
     blank: u64,
     lines: LineMasks,
     marked: u64,
     gap: usize,
 ) -> Look
-    requires look { IsLook slots text.now start look }
-    requires within { look.at + BLOCK ≤ length text.now }
+    requires look { IsLook ahead.now.marks.now.slots ahead.now.reading.now.text.now ahead.now.start
+        look }
+    requires within { look.at + BLOCK ≤ length ahead.now.reading.now.text.now }
     requires gap { gap ≤ BLOCK }
-    requires blank { (blank == 1) ≡ blank_after true (stretch text.now start look.at) }
+    requires blank { (blank == 1)
+        ≡ blank_after true (between ahead.now.reading.now.text.now ahead.now.start look.at) }
     requires newlines { lines.newlines
-        ≡ mask_l (map (λ x. x == newline) (chunk look.at 32 text.now)) }
-    requires fronts { lines.fronts ≡ mask_l (fronts (blank == 1) (chunk look.at 32 text.now)) }
-    requires marked { marked ≡ mask_l (map (is_slotted slots) (chunk look.at 32 text.now)) }
-    ensures look { IsLook slots text.now start result }
+        ≡ mask_l (map (λ x. x == newline) (chunk look.at 32 ahead.now.reading.now.text.now)) }
+    requires fronts { lines.fronts
+        ≡ mask_l (fronts (blank == 1) (chunk look.at 32 ahead.now.reading.now.text.now)) }
+    requires marked { marked ≡ mask_l (map (is_slotted ahead.now.marks.now.slots)
+        (chunk look.at 32 ahead.now.reading.now.text.now)) }
+    ensures look { IsLook ahead.now.marks.now.slots ahead.now.reading.now.text.now ahead.now.start
+        result }
     ensures at { result.at ≡ look.at + gap }
 {
+    // there are no more lines than bytes, and so many can be counted
+    let _length = ahead.reading.text.len();
     let within = (1u64 << gap) - 1;
     let ended = lines.newlines & within;
     let fronts = lines.fronts & within;
@@ -243,36 +247,32 @@ fn with_block(
     }
 }
 
-/// Looks ahead at the lines of the reading's text from `start` on, which begins one, up to the
-/// first opener or less far. The second answer is 1 where the line that it ended in has no front
-/// yet, else 0; the third is the place of the opener, with no newline before it that the look hasn't
-/// shown, or the text's end where it came to none.
+/// Looks at the lines up to the first opener or less far. The second answer is 1 where the line that
+/// the look ended in has no front yet, else 0; the third is the place of the opener, with no newline
+/// before it that the look hasn't shown, or the text's end where it came to none.
 #[inline(always)]
-fn look_ahead(
-    reading: &Reading,
-    slots: [u8; 16],
-    tellers: Tellers,
-    start: usize,
-) -> (Look, u64, usize)
-    requires start { start ≤ length reading.now.text.now }
-    requires tokens { has_tokens (row_in reading.now) ≡ true }
-    requires marks { AreLineMarks slots reading.now.matchers.now.begins (openers_in reading.now) }
-    requires tellers { AreTellers tellers (openers_in reading.now) }
-    ensures look { IsLook slots reading.now.text.now start result.0 }
+fn look_ahead(ahead: &Ahead) -> (Look, u64, usize)
+    ensures look { IsLook ahead.now.marks.now.slots ahead.now.reading.now.text.now ahead.now.start
+        result.0 }
     ensures blank { (result.1 == 1)
-        ≡ blank_after true (stretch reading.now.text.now start result.0.at) }
-    ensures clear { IsClear (openers_in reading.now) reading.now.text.now start result.0.at }
-    ensures told { AreTold (row_in reading.now) slots reading.now.text.now start result.0.at }
-    ensures found { result.2 < length reading.now.text.now
-        → IsNext (openers_in reading.now) reading.now.text.now result.0.at result.2 }
+        ≡ blank_after true (between ahead.now.reading.now.text.now ahead.now.start result.0.at) }
+    ensures clear { IsClear (openers_in ahead.now.reading.now) ahead.now.reading.now.text.now
+        ahead.now.start result.0.at }
+    ensures told { AreTold (row_in ahead.now.reading.now) ahead.now.marks.now.slots
+        ahead.now.reading.now.text.now ahead.now.start result.0.at }
+    ensures found { result.2 < length ahead.now.reading.now.text.now
+        → IsNext (openers_in ahead.now.reading.now) ahead.now.reading.now.text.now result.0.at
+        result.2 }
 {
+    let reading = ahead.reading;
+    let slots = ahead.marks.slots;
     let text = reading.text;
     // a block begins at each place before that
     let end = text.len().saturating_sub(BLOCK - 1);
     let mut blank = 1;
     let mut look = Look {
-        at: start,
-        stop: start,
+        at: ahead.start,
+        stop: ahead.start,
         newlines: 0,
         fronts: 0,
         comments: 0,
@@ -281,10 +281,10 @@ fn look_ahead(
         let marked = marks_in_block(slots, text, look.at);
         if marked == 0 {
             let lines = line_masks(text, look.at, blank);
-            look = with_block(slots, text, start, look, blank, lines, marked, BLOCK);
+            look = with_block(ahead, look, blank, lines, marked, BLOCK);
             blank = lines.blank;
         } else {
-            let gap = gap_in_block(reading, slots, tellers, look.at, marked);
+            let gap = gap_in_block(ahead, look.at, marked);
             let lines = line_masks(text, look.at, blank);
             if gap < BLOCK && gap <= lines.newlines.trailing_zeros() as usize {
                 // no line ends before the opener
@@ -297,7 +297,7 @@ fn look_ahead(
             if !are_comments(reading.syntax, text, look.at, heads) {
                 break;
             }
-            look = with_block(slots, text, start, look, blank, lines, marked, gap);
+            look = with_block(ahead, look, blank, lines, marked, gap);
             if gap < BLOCK {
                 // the opener is no blank: it is the front, where its line had none
                 return (look, lines.fronts >> gap & 1, look.at);
@@ -332,34 +332,40 @@ fn sums_with(literate: bool, blank: usize, solid: usize, comments: usize) -> Sum
 /// How many fronts the line has that a look ended in, of those that are marked: one or none. It
 /// stands in no caller's code, since few lines of a look are comments.
 #[inline(never)]
-fn marks_behind(slots: [u8; 16], text: &[u8], start: usize, look: Look) -> usize
-    requires look { IsLook slots text.now start look }
-    requires some { start < look.stop }
-    ensures { result ≡ mark_count slots true (stretch text.now look.stop look.at) }
+fn marks_behind(ahead: &Ahead, look: Look) -> usize
+    requires look { IsLook ahead.now.marks.now.slots ahead.now.reading.now.text.now ahead.now.start
+        look }
+    requires some { ahead.now.start < look.stop }
+    ensures { result ≡ mark_count ahead.now.marks.now.slots true
+        (between ahead.now.reading.now.text.now look.stop look.at) }
 {
+    let text = ahead.reading.text;
     let head = blanks_end(text, look.stop, look.at);
     if head == look.at {
         return 0;
     }
-    is_slotted(slots, text[head]) as usize
+    is_slotted(ahead.marks.slots, text[head]) as usize
 }
+
+/// Nothing but what the text's type says: contracts see it of no text in a struct.
+#[inline(always)]
+fn has_bytes(text: &[u8])
+    ensures { (p : ℕ) → slice_index text.now p < 256 }
+{}
 
 /// How many fronts the lines have that a look showed, but the one that it ended in, and how many of
 /// these are marked. `blank` is 1 where that one has no front yet, else 0.
 #[inline(always)]
-fn fronts_before(
-    slots: [u8; 16],
-    text: &[u8],
-    start: usize,
-    look: Look,
-    blank: u64,
-) -> (usize, usize)
-    requires look { IsLook slots text.now start look }
-    requires some { start < look.stop }
-    requires blank { (blank == 1) ≡ blank_after true (stretch text.now start look.at) }
-    ensures fronts { result.0 ≡ front_count true (stretch text.now start look.stop) }
-    ensures marks { result.1 ≡ mark_count slots true (stretch text.now start look.stop) }
-    ensures bytes { (p : ℕ) → slice_index text.now p < 256 }
+fn fronts_before(ahead: &Ahead, look: Look, blank: u64) -> (usize, usize)
+    requires look { IsLook ahead.now.marks.now.slots ahead.now.reading.now.text.now ahead.now.start
+        look }
+    requires some { ahead.now.start < look.stop }
+    requires blank { (blank == 1)
+        ≡ blank_after true (between ahead.now.reading.now.text.now ahead.now.start look.at) }
+    ensures fronts { result.0
+        ≡ front_count true (between ahead.now.reading.now.text.now ahead.now.start look.stop) }
+    ensures marks { result.1 ≡ mark_count ahead.now.marks.now.slots true
+        (between ahead.now.reading.now.text.now ahead.now.start look.stop) }
     ensures fits { look.stop < 2 ^ 64 }
 {
     if blank == 1 {
@@ -369,99 +375,59 @@ fn fronts_before(
     if look.comments == 0 {
         return (fronts, 0);
     }
-    (
-        fronts,
-        look.comments - marks_behind(slots, text, start, look),
-    )
+    (fronts, look.comments - marks_behind(ahead, look))
 }
 
 /// Counts the lines that a look showed, but the one that it ended in.
 #[inline(always)]
 fn count_looked(
-    reading: &Reading,
-    slots: [u8; 16],
+    ahead: &Ahead,
     so_far: &mut ReadSoFar,
     look: Look,
     blank: u64,
 ) -> Result<(), CountError>
-    requires skips { reading.now.skips ≡ true }
-    requires under_way { IsUnderWay reading.now so_far.old }
+    requires skips { ahead.now.reading.now.skips ≡ true }
+    requires start { ahead.now.start ≡ so_far.old.start }
+    requires under_way { IsUnderWay ahead.now.reading.now so_far.old }
     requires plain { chain_of so_far.old.stack.items ≡ [] }
-    requires marks { AreLineMarks slots reading.now.matchers.now.begins (openers_in reading.now) }
-    requires look { IsLook slots reading.now.text.now so_far.old.start look }
+    requires look { IsLook ahead.now.marks.now.slots ahead.now.reading.now.text.now
+        so_far.old.start look }
     requires blank { (blank == 1)
-        ≡ blank_after true (stretch reading.now.text.now so_far.old.start look.at) }
-    requires clear { IsClear (openers_in reading.now) reading.now.text.now so_far.old.start look.at }
-    requires told { AreTold (row_in reading.now) slots reading.now.text.now so_far.old.start look.at }
-    ensures under_way { OnOk result (IsUnderWay reading.now so_far.new) }
+        ≡ blank_after true (between ahead.now.reading.now.text.now so_far.old.start look.at) }
+    requires clear { IsClear (openers_in ahead.now.reading.now) ahead.now.reading.now.text.now
+        so_far.old.start look.at }
+    requires told { AreTold (row_in ahead.now.reading.now) ahead.now.marks.now.slots
+        ahead.now.reading.now.text.now so_far.old.start look.at }
+    ensures under_way { OnOk result (IsUnderWay ahead.now.reading.now so_far.new) }
     ensures start { OnOk result (so_far.new.start ≡ look.stop) }
     ensures plain { chain_of so_far.new.stack.items ≡ [] }
-    ensures quiet { first_opener (openers (row_in reading.now)) reading.now.text.now ≡ None
+    ensures quiet { first_opener (openers (row_in ahead.now.reading.now)) ahead.now.reading.now.text.now ≡ None
         → IsOk result }
-    ensures overflow { IsErrOf result CountError.Overflow → ¬ Fits (reading_of reading.now) }
+    ensures overflow { IsErrOf result CountError.Overflow → ¬ Fits (reading_of ahead.now.reading.now) }
 {
     if look.stop == so_far.start {
         return Ok(());
     }
-    let (solid, comments) = fronts_before(slots, reading.text, so_far.start, look, blank);
+    has_bytes(ahead.reading.text);
+    let (solid, comments) = fronts_before(ahead, look, blank);
     let blank = look.newlines - solid;
-    let lines = sums_with(reading.syntax.literate, blank, solid, comments);
+    let lines = sums_with(ahead.reading.syntax.literate, blank, solid, comments);
     so_far.own = so_far.own.plus(lines)?;
     so_far.start = look.stop;
     Ok(())
 }
 
-/// Whether a look ahead is quicker than other ways: not in a language that opens children, of which
-/// many can stand close to one another, nor in one without openers, whose lines are counted all at
-/// once.
-#[inline(always)]
-fn looks_ahead(reading: &Reading) -> bool {
-    let syntax = reading.syntax;
-    reading.family == Family::Plain
-        && !(has_no_comments(syntax)
-            && syntax.quotes.is_empty()
-            && syntax.important_syntax.is_empty())
-}
-
 /// Counts the next lines, up to the one of the first opener, where that is near, and answers its
 /// place; or fewer lines, and the text's end.
-#[inline(never)]
-fn count_lines_ahead(reading: &Reading, so_far: &mut ReadSoFar) -> Result<usize, CountError>
-    requires skips { reading.now.skips ≡ true }
-    requires under_way { IsUnderWay reading.now so_far.old }
-    requires plain { chain_of so_far.old.stack.items ≡ [] }
-    ensures under_way { OnOk result (IsUnderWay reading.now so_far.new) }
-    ensures low { OnOk result (so_far.old.start ≤ so_far.new.start) }
-    ensures plain { chain_of so_far.new.stack.items ≡ [] }
-    ensures next { IfOk result (λ to. to < length reading.now.text.now → to
-        ≡ so_far.new.start + opener_place (openers_in reading.now)
-        (drop so_far.new.start reading.now.text.now)) }
-    ensures line { IfOk result (λ to. to < length reading.now.text.now
-        → to ≤ so_far.new.start + line_len (drop so_far.new.start reading.now.text.now)) }
-    ensures high { IfOk result (λ to. to < length reading.now.text.now → so_far.new.start ≤ to) }
-    ensures quiet { first_opener (openers (row_in reading.now)) reading.now.text.now ≡ None
-        → IsOk result }
-    ensures overflow { IsErrOf result CountError.Overflow → ¬ Fits (reading_of reading.now) }
-{
-    let text = reading.text;
-    let Some(slots) = reading.matchers.line_marks() else {
-        return Ok(text.len());
-    };
-    let Some(tellers) = reading.matchers.tellers() else {
-        return Ok(text.len());
-    };
-    let (look, blank, to) = look_ahead(reading, slots, tellers, so_far.start);
-    count_looked(reading, slots, so_far, look, blank)?;
-    Ok(to)
-}
-
-/// The same where a look ahead is quicker than other ways; else no lines, and the text's end.
 #[inline(always)]
-pub(crate) fn count_near_lines(
+pub(crate) fn count_lines_ahead(
     reading: &Reading,
+    marks: &LineMarks,
     so_far: &mut ReadSoFar,
 ) -> Result<usize, CountError>
     requires skips { reading.now.skips ≡ true }
+    requires marks { AreLineMarks marks.now reading.now.matchers.now.begins
+        (openers_in reading.now) }
     requires under_way { IsUnderWay reading.now so_far.old }
     requires plain { chain_of so_far.old.stack.items ≡ [] }
     ensures under_way { OnOk result (IsUnderWay reading.now so_far.new) }
@@ -477,9 +443,12 @@ pub(crate) fn count_near_lines(
         → IsOk result }
     ensures overflow { IsErrOf result CountError.Overflow → ¬ Fits (reading_of reading.now) }
 {
-    let text = reading.text;
-    if text.len() - so_far.start < LEAST || !looks_ahead(reading) {
-        return Ok(text.len());
-    }
-    count_lines_ahead(reading, so_far)
+    let ahead = Ahead {
+        reading,
+        marks,
+        start: so_far.start,
+    };
+    let (look, blank, to) = look_ahead(&ahead);
+    count_looked(&ahead, so_far, look, blank)?;
+    Ok(to)
 }

@@ -27,7 +27,7 @@ ghost use Rattle.tokei_count.specs.UnderWay.{IsReadBy, IsUnderWay, reading_insid
 ghost use Rattle.tokei_stats.specs.Seen.{blobs_of, entries_of, stats_of, sums_of};
 ghost use Rattle.tokei_stats.specs.Statistics.{at, joined, lines_of, plus, put, sum};
 
-use crate::line_look::count_near_lines;
+use crate::line_reading::read_near;
 use crate::lines_left::{count_clear_lines, count_lines_left, count_lines_within, has_no_comments};
 use crate::reader::Reader;
 use std::alloc::{AllocError, Global};
@@ -195,7 +195,7 @@ fn one_more_of(count: usize) -> Result<usize, CountError>
 
 /// Counts one line more, of the class, where its number has room.
 #[inline(always)]
-fn add_line(lines: &mut Sums, class: Class) -> Result<(), CountError>
+pub(crate) fn add_line(lines: &mut Sums, class: Class) -> Result<(), CountError>
     ensures ok { OnOk result (sums_of lines.new ≡ plus (sums_of lines.old) (one_of class)) }
     ensures past { OnErr result (¬ CountsFit (plus (sums_of lines.old) (one_of class))) }
     ensures overflow { IfErr result (λ e. e ≡ CountError.Overflow) }
@@ -348,12 +348,43 @@ fn skip_far_lines(
     Ok(end)
 }
 
-/// Counts the lines before the next part that is walked, and answers where the line of that part
-/// goes to. `end` is where an earlier place's line went to, and `next` where an earlier search for
-/// openers came to, and becomes where this one does.
-fn skip_lines(
+/// Counts the lines, from where the reading has come to on, in which each choice takes its byte, all
+/// within the item that encloses them, and answers up to where the line behind them has no newline.
+#[inline(always)]
+pub(crate) fn skip_within(
     reading: &Reading,
     so_far: &mut ReadSoFar,
+    item: Enclosure,
+) -> Result<usize, CountError>
+    requires under_way { IsUnderWay reading.now so_far.old }
+    requires within { innermost (chain_of so_far.old.stack.items) ≡ mode_of (Some item) }
+    ensures under_way { OnOk result (IsUnderWay reading.now so_far.new) }
+    ensures low { OnOk result (so_far.old.start ≤ so_far.new.start) }
+    ensures behind { IfOk result (λ clear. so_far.new.start ≤ clear) }
+    ensures clear { IfOk result (λ clear. clear
+        ≤ so_far.new.start + line_len (drop so_far.new.start reading.now.text.now)) }
+    ensures same { so_far.new.stack ≡ so_far.old.stack }
+    ensures overflow { IsErrOf result CountError.Overflow → ¬ Fits (reading_of reading.now) }
+{
+    // a closer of one byte mostly stands in the same line
+    if item.closer.len() < 2 {
+        return Ok(so_far.start);
+    }
+    let to = calm_end(reading, item, so_far.start);
+    if to <= so_far.start {
+        return Ok(so_far.start);
+    }
+    count_lines_within(reading, so_far, item, to)?;
+    count_within(reading, so_far, item, to)?;
+    Ok(to)
+}
+
+/// Reads on up to the next part that `read_walked` walks, and answers where the line of that part goes
+/// to. `end` is where an earlier place's line went to, and `next` where an earlier search for openers
+/// came to, and becomes where this one does.
+fn skip_lines<'a>(
+    reading: &Reading<'a>,
+    so_far: &mut ReadSoFar<'a>,
     next: &mut usize,
     end: usize,
 ) -> Result<usize, CountError>
@@ -377,26 +408,13 @@ fn skip_lines(
     ensures overflow { IsErrOf result CountError.Overflow → ¬ Fits (reading_of reading.now) }
 {
     let text = reading.text;
+    let end = read_near(reading, so_far, end)?;
     if !reading.skips {
         return Ok(line_end(text, so_far.start, so_far.start, end));
     }
     if let Some(item) = innermost(&so_far.stack) {
-        // a closer of one byte mostly stands in the same line
-        if item.closer.len() < 2 {
-            return Ok(line_end(text, so_far.start, so_far.start, end));
-        }
-        let to = calm_end(reading, item, so_far.start);
-        if to <= so_far.start {
-            return Ok(line_end(text, so_far.start, so_far.start, end));
-        }
-        count_lines_within(reading, so_far, item, to)?;
-        count_within(reading, so_far, item, to)?;
-        return Ok(line_end(text, so_far.start, to, end));
-    }
-    let to = count_near_lines(reading, so_far)?;
-    if to < text.len() {
-        *next = to;
-        return Ok(line_end(text, so_far.start, to, end));
+        let clear = skip_within(reading, so_far, item)?;
+        return Ok(line_end(text, so_far.start, clear, end));
     }
     skip_far_lines(reading, so_far, next, end)
 }

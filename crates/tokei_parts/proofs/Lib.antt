@@ -14,10 +14,12 @@ pub mod ItemBytes
 pub mod Leading
 pub mod LineEnd
 pub mod LineEnds
+pub mod LineSteps
 pub mod Lines
 pub mod ListedLanguages
 pub mod NewlineHere
 pub mod NoChild
+pub mod OneItem
 pub mod OpenersInLines
 pub mod PartFronts
 pub mod PartReading
@@ -29,6 +31,5 @@ pub mod ShortTokens
 pub mod Stack
 pub mod Stepping
 pub mod TokenEnds
-pub mod ToldOpeners
 pub mod Utf8
 pub mod Walking

@@ -12,6 +12,7 @@ pub mod Glanced
 pub mod HtmlChildren
 pub mod Items
 pub mod LineMarks
+pub mod LineWalk
 pub mod Lines
 pub mod LinguaFrancaChildren
 pub mod MarkdownChildren

@@ -340,6 +340,93 @@ pub fn class_by(
     }
 }
 
+/// The stack of that item alone, or of none.
+#[inline(always)]
+fn stack_of<'t, 'a>(item: &'t Option<Enclosure<'a>>) -> &'t [Enclosure<'a>]
+    ensures { innermost (chain_of result.now) ≡ mode_of item.now }
+{
+    match item {
+        Some(item) => std::slice::from_ref(item),
+        None => &[],
+    }
+}
+
+/// The same of a part whose end that item alone encloses, or none. It stands in no caller's code, so
+/// that the caller's item stands in no memory but here.
+#[inline(never)]
+fn class_by_all(
+    reading: &Reading,
+    begun: Option<ItemKind>,
+    start: usize,
+    front: usize,
+    stop: usize,
+    ended: Option<Enclosure>,
+) -> Class
+    requires low { start ≤ front }
+    requires high { front ≤ stop }
+    requires within { stop ≤ length reading.now.text.now }
+    requires plain { (p : ℕ) → start ≤ p → p < front
+        → BeginsNone reading.now.matchers.now (slice_index reading.now.text.now p) }
+    ensures { (m : Mode) → kind_in m ≡ begun
+        → result ≡ class_of (row_in reading.now) reading.now.docs_are_comments (record {
+          begun = m;
+          bytes = take (stop - start) (drop start reading.now.text.now);
+          ended = mode_of ended.entry;
+        }) }
+{
+    class_by(reading, begun, start, front, stop, stack_of(&ended))
+}
+
+/// Whether a byte that is no blank stands at the place, before `to`.
+#[inline(always)]
+fn is_solid_at(text: &[u8], at: usize, to: usize) -> bool
+    requires { to ≤ length text.now }
+    ensures place { result ≡ true → at < to }
+    ensures solid { result ≡ true → is_blank (slice_index text.now at) ≡ false }
+{
+    at < to && !is_whitespace(text[at])
+}
+
+/// The same, where most lines are told at once by the kinds of the items and by a solid byte.
+#[inline(always)]
+pub fn class_by_item(
+    reading: &Reading,
+    begun: Option<ItemKind>,
+    start: usize,
+    front: usize,
+    stop: usize,
+    ended: Option<Enclosure>,
+) -> Class
+    requires low { start ≤ front }
+    requires high { front ≤ stop }
+    requires within { stop ≤ length reading.now.text.now }
+    requires plain { (p : ℕ) → start ≤ p → p < front
+        → BeginsNone reading.now.matchers.now (slice_index reading.now.text.now p) }
+    ensures { (m : Mode) → kind_in m ≡ begun
+        → result ≡ class_of (row_in reading.now) reading.now.docs_are_comments (record {
+          begun = m;
+          bytes = take (stop - start) (drop start reading.now.text.now);
+          ended = mode_of ended.entry;
+        }) }
+{
+    let literate = reading.syntax.literate;
+    match begun {
+        None if !literate && !in_doc_string(ended) && has_solid(reading.text, start, front) => {
+            Class::Code
+        }
+        None if !literate
+            && !reading.docs_are_comments
+            && in_string(ended)
+            && is_solid_at(reading.text, front, stop) =>
+        {
+            Class::Code
+        }
+        Some(_) if is_comment(begun) && !in_string(ended) => Class::Comment,
+        Some(_) if !is_comment(begun) && !reading.docs_are_comments && !literate => Class::Code,
+        _ => class_by_all(reading, begun, start, front, stop, ended),
+    }
+}
+
 /// The class of each line that begins and ends within the item, as `class_of` has it: its bytes say
 /// nothing.
 pub fn class_within(reading: &Reading, item: Enclosure) -> Class

@@ -1,51 +1,23 @@
-//! The bytes that a plain line is searched for.
-ghost use Rattle.std.specs.Prelude.{◌≡◌, ℕ, List, false, true, IfSome};
-ghost use Rattle.std.specs.List.{list_all};
+//! The bytes that the lines of a plain text are searched for.
+ghost use Rattle.std.specs.Prelude.{◌≡◌, ℕ, false, true, IfSome};
 ghost use Rattle.tokei_bytes.specs.Slots.{is_slotted};
 ghost use Rattle.tokei_table.specs.Bytes.{is_blank};
-ghost use Rattle.tokei_table.specs.RowOf.{tokens_of};
-ghost use Rattle.tokei_parts.specs.LineMarks.{AreLineMarks, AreTellers, is_told_by};
+ghost use Rattle.tokei_parts.specs.LineMarks.{AreLineMarks};
 
 use crate::shared_matchers::SharedMatchers;
-use tokei_bytes::{ByteSet, NO_SLOTS, is_slotted, put_slot};
+use tokei_bytes::{ByteSet, is_slotted};
+use tokei_table_row::Syntax;
+use tokei_table_rules::Family;
+use tokei_table_search::Tellers;
 
-/// The bytes that tell openers: those of one byte, and the second bytes of the others, each in the
-/// slot of its low half.
+/// What the lines of a plain text are searched for.
 #[derive(Clone, Copy)]
-pub struct Tellers {
-    pub alone: [u8; 16],
-    pub seconds: [u8; 16],
-}
-
-/// Puts the byte that tells the opener to the others; whether it has a slot.
-fn put_teller(tellers: &mut Tellers, opener: &[u8]) -> bool
-    ensures stays { result ≡ true → (o : List ℕ)
-        → is_told_by tellers.old.alone tellers.old.seconds o ≡ true
-        → is_told_by tellers.new.alone tellers.new.seconds o ≡ true }
-    ensures put { result ≡ true
-        → is_told_by tellers.new.alone tellers.new.seconds opener.now ≡ true }
-{
-    match opener {
-        [] => false,
-        [first] => put_slot(&mut tellers.alone, *first),
-        [_, second, ..] => put_slot(&mut tellers.seconds, *second),
-    }
-}
-
-/// The bytes that tell the openers, where each has a slot.
-pub fn tellers_of(openers: &[String]) -> Option<Tellers>
-    ensures { IfSome result (λ t. AreTellers t (tokens_of openers.now)) }
-{
-    let mut tellers = Tellers {
-        alone: NO_SLOTS,
-        seconds: NO_SLOTS,
-    };
-    for opener in openers {
-        if !put_teller(&mut tellers, opener.as_bytes()) {
-            return None;
-        }
-    }
-    Some(tellers)
+pub struct LineMarks {
+    /// The bytes at which a choice other than the byte itself can begin, and those at which an
+    /// opener can, each in the slot of its low half. None is blank.
+    pub slots: [u8; 16],
+    /// The bytes that tell the openers.
+    pub tellers: Tellers,
 }
 
 /// Whether none of the blanks stands in the slot of its low half.
@@ -60,15 +32,28 @@ fn has_no_blank(slots: [u8; 16]) -> bool
         && !is_slotted(slots, b'\r')
 }
 
-/// The bytes at which a choice other than the byte itself can begin, and those at which an opener
-/// can, in the slots of their low halves, where each has one and none is blank.
-pub fn line_marks(begins: &ByteSet, openers: &SharedMatchers) -> Option<[u8; 16]>
-    ensures { IfSome result (λ slots. AreLineMarks slots begins.now openers.now) }
+/// The marks of lines in a language with these openers, in which a choice other than the byte
+/// itself can begin at those bytes. There are none where a byte has no slot, or one is blank.
+pub fn line_marks(begins: &ByteSet, openers: &SharedMatchers) -> Option<LineMarks>
+    ensures { IfSome result (λ marks. AreLineMarks marks begins.now openers.now) }
 {
     let mut slots = begins.slots()?;
+    let tellers = openers.tellers()?;
     if openers.put_firsts(&mut slots) && has_no_blank(slots) {
-        Some(slots)
+        Some(LineMarks { slots, tellers })
     } else {
         None
     }
+}
+
+/// Whether a look at lines by their marks is quicker than other searches: not in a language that
+/// opens children, of which many can stand close to one another, nor in one without openers, whose
+/// lines are counted all at once.
+pub fn is_looked_at(syntax: &Syntax, family: Family) -> bool {
+    family == Family::Plain
+        && !(syntax.line_comment.is_empty()
+            && syntax.multi_line_comments.is_empty()
+            && syntax.nested_comments.is_empty()
+            && syntax.quotes.is_empty()
+            && syntax.important_syntax.is_empty())
 }

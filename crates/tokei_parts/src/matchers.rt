@@ -5,12 +5,12 @@ ghost use Rattle.tokei_table.specs.Bytes.{begins_with_one};
 ghost use Rattle.tokei_table.specs.FirstOpener.{first_opener};
 ghost use Rattle.tokei_table.specs.Lookups.{row_at};
 ghost use Rattle.tokei_table.specs.WellFormed.{IsWellFormed};
-ghost use Rattle.tokei_parts.specs.LineMarks.{AreLineMarks, AreTellers};
+ghost use Rattle.tokei_parts.specs.LineMarks.{AreLineMarks};
 ghost use Rattle.tokei_parts.specs.Matchers.{matchers_of};
 ghost use Rattle.tokei_parts.specs.PlainBytes.{IsOutside};
 
 use crate::beginnings::{beginnings, beginnings_in_comment, beginnings_of_comments};
-use crate::line_marks::{Tellers, line_marks};
+use crate::line_marks::{LineMarks, is_looked_at, line_marks};
 use crate::shared_matchers::SharedMatchers;
 use std::alloc::{AllocError, Global};
 use std::marker::Model;
@@ -28,9 +28,8 @@ pub struct LanguageMatchers {
     begins_in_comment: BitSet,
     begins_comment: BitSet,
     family: Family,
-    /// The bytes at which an opener or such a choice can begin, in the slots of their low halves,
-    /// where each has one and none is blank.
-    line_marks: Option<[u8; 16]>,
+    /// What plain lines are searched for, where a look at them by that is quicker than other searches.
+    line_marks: Option<LineMarks>,
 }
 
 impl Model for LanguageMatchers {
@@ -50,7 +49,7 @@ impl Model for LanguageMatchers {
     ghost use Rattle.tokei_parts.specs.LineMarks.{AreLineMarks};
 
     ghost invariant = { λ m. IfSome m.line_marks
-        (λ slots. AreLineMarks slots m.begins m.shared) };
+        (λ marks. AreLineMarks marks m.begins m.shared) };
 }
 
 impl LanguageMatchers {
@@ -77,21 +76,14 @@ impl LanguageMatchers {
         self.shared.stands_at(text, at)
     }
 
-    /// Each byte at which an opener or a choice other than the byte itself can begin, in the slot
-    /// of its low half, where each has one and none is blank.
+    /// What the lines of its texts are searched for, where a look at them by that is quicker than
+    /// other searches.
     #[inline(always)]
-    pub fn line_marks(&self) -> Option<[u8; 16]>
-        ensures { IfSome result (λ slots. AreLineMarks slots self.now.begins self.now.openers) }
+    pub fn line_marks(&self) -> Option<&LineMarks>
+        ensures { IfSome result
+            (λ marks. AreLineMarks marks.now self.now.begins self.now.openers) }
     {
-        self.line_marks
-    }
-
-    /// The bytes that tell the openers, where each has a slot.
-    #[inline(always)]
-    pub fn tellers(&self) -> Option<Tellers>
-        ensures { IfSome result (λ t. AreTellers t self.now.openers) }
-    {
-        self.shared.tellers()
+        self.line_marks.as_ref()
     }
 
     /// How texts of the language open children.
@@ -200,7 +192,11 @@ impl LanguageMatchers {
         let begins_in_comment = beginnings_in_comment(syntax);
         let begins_comment = beginnings_of_comments(syntax);
         let family = Family::of_key(syntax.key.as_str());
-        let line_marks = line_marks(&begins, &shared);
+        let line_marks = if is_looked_at(syntax, family) {
+            line_marks(&begins, &shared)
+        } else {
+            None
+        };
         Ok(LanguageMatchers {
             shared,
             begins,

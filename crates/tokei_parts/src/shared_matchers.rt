@@ -1,24 +1,21 @@
 //! What the texts of a language are searched for openers with.
-ghost use Rattle.std.specs.Prelude.{◌≡◌, ℕ, ◌<◌, true, drop, length, IfOk, IfSome};
+ghost use Rattle.std.specs.Prelude.{◌≡◌, ℕ, ◌<◌, ◌||◌, true, drop, length, IfOk, IfSome};
 ghost use Rattle.tokei_bytes.specs.Slots.{is_slotted};
 ghost use Rattle.tokei_table.specs.Bytes.{begins_with_one};
 ghost use Rattle.tokei_table.specs.FirstOpener.{first_opener, is_first};
 ghost use Rattle.tokei_table.specs.Lookups.{row_at};
 ghost use Rattle.tokei_table.specs.Openers.{openers};
-ghost use Rattle.tokei_parts.specs.LineMarks.{AreTellers};
+ghost use Rattle.tokei_table_search.specs.Tellers.{AreTellers};
 
-use crate::line_marks::{Tellers, tellers_of};
 use std::alloc::{AllocError, Global};
 use std::marker::Model;
 use tokei_table::{LanguageTable, LanguageType};
-use tokei_table_search::OpenerIndex;
+use tokei_table_search::{OpenerIndex, Tellers};
 
 /// What the texts of a language are searched for openers with. Contracts see its openers.
 #[derive(Drop)]
 pub struct SharedMatchers {
     openers: OpenerIndex,
-    /// The bytes that tell its openers, where each has a slot.
-    tellers: Option<Tellers>,
 }
 
 impl Model for SharedMatchers {
@@ -26,12 +23,7 @@ impl Model for SharedMatchers {
 
     ghost Value = { List (List ℕ) };
 
-    ghost use Rattle.std.specs.Prelude.{IfSome};
-    ghost use Rattle.tokei_parts.specs.LineMarks.{AreTellers};
-
     ghost view = { λ m. m.openers };
-
-    ghost invariant = { λ m. IfSome m.tellers (λ t. AreTellers t m.openers) };
 }
 
 impl SharedMatchers {
@@ -57,9 +49,8 @@ impl SharedMatchers {
         ensures { IfOk result (λ m. m ≡ openers (row_at table.now language)) }
     {
         let texts = language.openers(alloc, table)?;
-        let tellers = tellers_of(&texts);
         let openers = OpenerIndex::of_texts(alloc, texts)?;
-        Ok(SharedMatchers { openers, tellers })
+        Ok(SharedMatchers { openers })
     }
 
     /// The least place of the text at which an opener stands, None where none does. It takes no
@@ -79,21 +70,18 @@ impl SharedMatchers {
         self.openers.stands_at(text, at)
     }
 
-    /// The bytes that tell the openers, where each has a slot.
-    #[inline(always)]
+    /// The bytes that tell the openers, where slots have room for them.
     pub(crate) fn tellers(&self) -> Option<Tellers>
         ensures { IfSome result (λ t. AreTellers t self.now) }
     {
-        self.tellers
+        self.openers.tellers()
     }
 
     /// Puts the first byte of each opener into the slot of its low half; whether none that had one
     /// of these was put there before.
     pub(crate) fn put_firsts(&self, slots: &mut [u8; 16]) -> bool
-        ensures stays { result ≡ true → (x : ℕ) → is_slotted slots.old x ≡ true
-            → is_slotted slots.new x ≡ true }
-        ensures put { result ≡ true → (x : ℕ) → is_first self.now x ≡ true
-            → is_slotted slots.new x ≡ true }
+        ensures { result ≡ true → (x : ℕ)
+            → is_slotted slots.new x ≡ (is_slotted slots.old x || is_first self.now x) }
     {
         self.openers.put_firsts(slots)
     }

@@ -124,7 +124,7 @@ fn finds_child<'a>(
 
 /// The choice at the place in plain text; `opens` says whether a child can open there.
 #[inline(always)]
-fn choice_in_plain<'a>(place: &Place<'_, 'a>, opens: bool) -> Choice<'a>
+pub(crate) fn choice_in_plain<'a>(place: &Place<'_, 'a>, opens: bool) -> Choice<'a>
     requires here { IsAt place.now }
     requires child { opens ≡ true → is_some (block_here place.now) ≡ true }
     requires childless { opens ≡ false → block_here place.now ≡ None }
@@ -136,7 +136,7 @@ fn choice_in_plain<'a>(place: &Place<'_, 'a>, opens: bool) -> Choice<'a>
 
 /// The choice at the place in the item.
 #[inline(always)]
-fn choice_within<'a>(place: &Place<'_, 'a>, item: Enclosure<'a>) -> Choice<'a>
+pub(crate) fn choice_within<'a>(place: &Place<'_, 'a>, item: Enclosure<'a>) -> Choice<'a>
     requires here { IsAt place.now }
     ensures no_child { result ≢ Choice.ChildOpens }
     ensures choice { choice_of (block_here place.now) result
@@ -148,7 +148,7 @@ fn choice_within<'a>(place: &Place<'_, 'a>, item: Enclosure<'a>) -> Choice<'a>
 /// Takes the byte at a place at which nothing but the byte itself can begin: a choice, which is one
 /// step.
 #[inline(always)]
-fn take_byte<'a>(place: &Place<'_, 'a>, mode: Option<Enclosure<'a>>, steps: &mut usize)
+pub(crate) fn take_byte<'a>(place: &Place<'_, 'a>, mode: Option<Enclosure<'a>>, steps: &mut usize)
     requires room { steps.old < length (text_of place.now) }
     requires plain { choice_here place.now (mode_of mode) ≡ takes_byte }
     ensures { steps.new ≡ steps.old + 1 }
@@ -159,30 +159,27 @@ fn take_byte<'a>(place: &Place<'_, 'a>, mode: Option<Enclosure<'a>>, steps: &mut
 }
 
 /// Takes the bytes from the place that the walk has come to on to before `to`, if that lies ahead.
-/// Nothing but the byte itself can begin at any, in the mode of the stack's items. Each is a
-/// choice.
+/// Nothing but the byte itself can begin at any, in that mode. Each is a choice.
 #[inline(always)]
-fn take_bytes<'a>(
+pub(crate) fn take_bytes<'a>(
     part: &Place<'_, 'a>,
-    stack: &[Enclosure<'a>],
     mode: Option<Enclosure<'a>>,
     to: usize,
     reach: &mut Reach,
 )
-    requires mode { mode_of mode ≡ innermost (chain_of stack.now) }
-    requires reached { IsReached part.now (chain_of stack.now) reach.old }
+    requires reached { (last : Chain)
+        × ((innermost last ≡ mode_of mode) × IsReached part.now last reach.old) }
     requires some { reach.old.at < part.now.end }
     requires within { reach.old.at < to → to ≤ part.now.end }
     requires plain { (p : ℕ) → reach.old.at ≤ p → p < to
         → IsPlainByte part.now.reading.now.matchers.now (mode_of mode)
         (slice_index (text_of part.now) p) }
-    requires childless { innermost (chain_of stack.now) ≡ None
-        → IsChildless part.now reach.old.at to }
+    requires childless { mode_of mode ≡ None → IsChildless part.now reach.old.at to }
     ensures child { reach.new.child ≡ reach.old.child }
     ensures low { reach.old.at ≤ reach.new.at }
     ensures high { reach.new.at ≤ part.now.end }
-    ensures goes_on { GoesOn part.now (chain_of stack.now) reach.old
-        (chain_of stack.now) reach.new }
+    ensures goes_on { (last : Chain) → innermost last ≡ mode_of mode.entry
+        → GoesOn part.now last reach.old last reach.new }
 {
     while reach.at < to {
         let here = Place {
@@ -308,7 +305,7 @@ fn take_within<'a>(
 {
     let reading = part.reading;
     let plain = item_end(reading.matchers, item, reading.text, reach.at, part.end);
-    take_bytes(part, stack, Some(item), plain, reach);
+    take_bytes(part, Some(item), plain, reach);
     if part.end <= reach.at {
         return Ok(());
     }
@@ -343,7 +340,7 @@ fn take_string<'a>(
     let reading = part.reading;
     loop {
         let plain = item_end(reading.matchers, item, reading.text, reach.at, part.end);
-        take_bytes(part, stack, Some(item), plain, reach);
+        take_bytes(part, Some(item), plain, reach);
         if part.end <= reach.at {
             return Ok(());
         }
@@ -426,14 +423,14 @@ fn take_plain<'a>(
         reach.at,
         end.min(reach.child),
     );
-    take_bytes(part, stack, None, plain, reach);
+    take_bytes(part, None, plain, reach);
     plain
 }
 
 /// Up to where no choice can begin at any byte of the part: so it is before `front`, and from the
 /// place `from` to before `plain`.
 #[inline(always)]
-fn front_behind(part: &Place, front: usize, from: usize, plain: usize) -> usize
+pub(crate) fn front_behind(part: &Place, front: usize, from: usize, plain: usize) -> usize
     requires front { IsFront part.now front }
     requires low { from ≤ plain }
     requires high { plain ≤ part.now.end }

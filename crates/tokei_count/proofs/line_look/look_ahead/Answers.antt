@@ -9,8 +9,9 @@ use Rattle.tokei_table.specs.Bytes.{begins_with_one}
 use Rattle.tokei_table.specs.FirstOpener.{is_nonempty}
 use Rattle.tokei_table.specs.Row.{Row}
 use Rattle.tokei_table_rules.proofs.Nonempty.{openers_nonempty}
+use Rattle.tokei_table.specs.OuterLines.{between}
 use Rattle.tokei_parts.specs.ReadingOf.{openers_in, row_in}
-use Rattle.tokei_count.specs.LineLooks.{AreTold, HasLineComment, IsClear, stretch}
+use Rattle.tokei_count.specs.LineLooks.{AreTold, HasLineComment, IsClear}
 use Rattle.tokei_count.proofs.LookedAhead.{and_small, blank_at, blank_on, clear_from, clear_on, gap_stays, marks_small, next_here, none_ended, none_marked, told_on, unset, unset_with}
 use Rattle.tokei_count.proofs.UnderWay.{openers_are}
 use Rattle.tokei_count.proofs.line_look.look_ahead.Goals as goal
@@ -19,14 +20,14 @@ pub returns-then-gap-lt-BLOCK-2-clause-told : goal.returns-then-gap-lt-BLOCK-2-c
 returns-then-gap-lt-BLOCK-2-clause-told c =
     let look = c.loop-look in
     let i = look.invariant in
-    let r = c.args.reading.now in
+    let r = c.args.ahead.now.reading.now in
     let gap = c.gap_in_block-gap in
     let f = c.line_masks-lines-else-marked-eq0.result.fronts in
     let m = c.marks_in_block-marked.result in
     let few : gap.result ≤ 32 = omega (arith, c.if-gap-gt-BLOCK.false) in
-    subst (AreTold (row_in r) c.args.slots r.text.now c.args.start) (sym c.with_block-look-else-marked-eq0.ensures.at)
-    (told_on (row_in r) c.args.slots r.text.now c.args.start look.look.at gap.result look.blank (omega (arith, i.look.low, i.look.order))
-    (omega (arith, c.loop-look-test.true, c.requires.start)) few i.blank f m c.line_masks-lines-else-marked-eq0.ensures.fronts c.marks_in_block-marked.ensures i.told
+    subst (AreTold (row_in r) c.args.ahead.now.marks.now.slots r.text.now c.args.ahead.now.start) (sym c.with_block-look-else-marked-eq0.ensures.at)
+    (told_on (row_in r) c.args.ahead.now.marks.now.slots r.text.now c.args.ahead.now.start look.look.at gap.result look.blank (omega (arith, i.look.low, i.look.order))
+    (omega (arith, c.loop-look-test.true, c.args.ahead.now.inside)) few i.blank f m c.line_masks-lines-else-marked-eq0.ensures.fronts c.marks_in_block-marked.ensures i.told
     (λ k low set. subst (λ (g : Row). HasLineComment g r.text.now (look.look.at + k)) r.row
     (c.are_comments.ensures c.if-not-are_comments.false k low (ap (λ n. bit_at (bit_and (bit_and f (n - 1)) m) k) (gap_stays gap.result few) ∙ set))))
 
@@ -34,20 +35,20 @@ pub returns-then-gap-lt-BLOCK-2-clause-blank : goal.returns-then-gap-lt-BLOCK-2-
 returns-then-gap-lt-BLOCK-2-clause-blank c =
     let look = c.loop-look in
     let i = look.invariant in
-    let r = c.args.reading.now in
+    let r = c.args.ahead.now.reading.now in
     let gap = c.gap_in_block-gap in
     let inside : gap.result < 32 = c.if-gap-lt-BLOCK-2.true in
-    blank_at (openers_in r) c.args.slots r.text.now c.args.start look.look.at gap.result look.blank (omega (arith, i.look.low, i.look.order))
-    (omega (arith, c.loop-look-test.true, c.requires.start)) i.blank
-    (ap (list_all is_nonempty) (openers_are r) ∙ openers_nonempty (row_in r) c.requires.tokens) c.requires.marks.none c.requires.marks.blanks inside (gap.ensures.found inside)
+    blank_at (openers_in r) c.args.ahead.now.marks.now.slots r.text.now c.args.ahead.now.start look.look.at gap.result look.blank (omega (arith, i.look.low, i.look.order))
+    (omega (arith, c.loop-look-test.true, c.args.ahead.now.inside)) i.blank
+    (ap (list_all is_nonempty) (openers_are r) ∙ openers_nonempty (row_in r) c.args.ahead.now.tokens) c.args.ahead.now.marked.slots.none c.args.ahead.now.marked.slots.blanks inside (gap.ensures.found inside)
     c.line_masks-lines-else-marked-eq0.result.fronts c.line_masks-lines-else-marked-eq0.ensures.fronts
-    ∙ ap (λ n. blank_after true (stretch r.text.now c.args.start n)) (sym c.with_block-look-else-marked-eq0.ensures.at)
+    ∙ ap (λ n. blank_after true (between r.text.now c.args.ahead.now.start n)) (sym c.with_block-look-else-marked-eq0.ensures.at)
 
 pub loop-look-preserved-then-marked-eq0 : goal.loop-look-preserved-then-marked-eq0
 loop-look-preserved-then-marked-eq0 c =
     let look = c.loop-look in
     let i = look.invariant in
-    let r = c.args.reading.now in
+    let r = c.args.ahead.now.reading.now in
     let f = c.line_masks-lines.result.fronts in
     let m = c.marks_in_block-marked.result in
     let none : m ≡ 0 = c.if-marked-eq0.true in
@@ -56,17 +57,17 @@ loop-look-preserved-then-marked-eq0 c =
     record {
       look = c.with_block-look.ensures.look;
       flag = omega (arith, c.line_masks-lines.ensures.blank, flag_small (blank_after (look.blank == 1) (chunk look.look.at 32 text)));
-      blank = blank_on (row_in r) c.args.slots text c.args.start look.look.at 32 look.blank (omega (arith, i.look.low, i.look.order))
-          (omega (arith, c.loop-look-test.true, c.requires.start)) (omega arith) i.blank c.line_masks-lines.result.blank c.line_masks-lines.ensures.blank
-          ∙ ap (λ n. blank_after true (stretch text c.args.start n)) there;
-      clear = subst (IsClear (openers_in r) text c.args.start) there
-          (clear_on (openers_in r) text c.args.start look.look.at (look.look.at + 32) i.clear
+      blank = blank_on (row_in r) c.args.ahead.now.marks.now.slots text c.args.ahead.now.start look.look.at 32 look.blank (omega (arith, i.look.low, i.look.order))
+          (omega (arith, c.loop-look-test.true, c.args.ahead.now.inside)) (omega arith) i.blank c.line_masks-lines.result.blank c.line_masks-lines.ensures.blank
+          ∙ ap (λ n. blank_after true (between text c.args.ahead.now.start n)) there;
+      clear = subst (IsClear (openers_in r) text c.args.ahead.now.start) there
+          (clear_on (openers_in r) text c.args.ahead.now.start look.look.at (look.look.at + 32) i.clear
           (clear_from (openers_in r) text look.look.at 32
-          (λ k low. none_marked (openers_in r) c.args.slots text look.look.at (ap (list_all is_nonempty) (openers_are r) ∙ openers_nonempty (row_in r) c.requires.tokens) c.requires.marks.none
-          (omega (arith, c.loop-look-test.true, c.requires.start)) m c.marks_in_block-marked.ensures k low (unset m k none))));
-      told = subst (AreTold (row_in r) c.args.slots text c.args.start) there
-          (told_on (row_in r) c.args.slots text c.args.start look.look.at 32 look.blank (omega (arith, i.look.low, i.look.order))
-          (omega (arith, c.loop-look-test.true, c.requires.start)) (omega arith) i.blank f m c.line_masks-lines.ensures.fronts c.marks_in_block-marked.ensures i.told
+          (λ k low. none_marked (openers_in r) c.args.ahead.now.marks.now.slots text look.look.at (ap (list_all is_nonempty) (openers_are r) ∙ openers_nonempty (row_in r) c.args.ahead.now.tokens) c.args.ahead.now.marked.slots.none
+          (omega (arith, c.loop-look-test.true, c.args.ahead.now.inside)) m c.marks_in_block-marked.ensures k low (unset m k none))));
+      told = subst (AreTold (row_in r) c.args.ahead.now.marks.now.slots text c.args.ahead.now.start) there
+          (told_on (row_in r) c.args.ahead.now.marks.now.slots text c.args.ahead.now.start look.look.at 32 look.blank (omega (arith, i.look.low, i.look.order))
+          (omega (arith, c.loop-look-test.true, c.args.ahead.now.inside)) (omega arith) i.blank f m c.line_masks-lines.ensures.fronts c.marks_in_block-marked.ensures i.told
           (λ k low set. absurd (omega (arith, set, unset_with (bit_and f (2 ^ 32 - 1)) m k none))));
     }
 
@@ -74,7 +75,7 @@ pub loop-look-preserved : goal.loop-look-preserved
 loop-look-preserved c =
     let look = c.loop-look in
     let i = look.invariant in
-    let r = c.args.reading.now in
+    let r = c.args.ahead.now.reading.now in
     let gap = c.gap_in_block-gap in
     let f = c.line_masks-lines-else-marked-eq0.result.fronts in
     let m = c.marks_in_block-marked.result in
@@ -85,14 +86,14 @@ loop-look-preserved c =
     record {
       look = c.with_block-look-else-marked-eq0.ensures.look;
       flag = omega (arith, c.line_masks-lines-else-marked-eq0.ensures.blank, flag_small (blank_after (look.blank == 1) (chunk look.look.at 32 text)));
-      blank = blank_on (row_in r) c.args.slots text c.args.start look.look.at gap.result look.blank (omega (arith, i.look.low, i.look.order))
-          (omega (arith, c.loop-look-test.true, c.requires.start)) few i.blank c.line_masks-lines-else-marked-eq0.result.blank c.line_masks-lines-else-marked-eq0.ensures.blank
-          ∙ ap (λ n. blank_after true (stretch text c.args.start n)) there;
-      clear = subst (IsClear (openers_in r) text c.args.start) (sym c.with_block-look-else-marked-eq0.ensures.at)
-          (clear_on (openers_in r) text c.args.start look.look.at (look.look.at + gap.result) i.clear (gap.ensures.clear few));
-      told = subst (AreTold (row_in r) c.args.slots text c.args.start) (sym c.with_block-look-else-marked-eq0.ensures.at)
-          (told_on (row_in r) c.args.slots text c.args.start look.look.at gap.result look.blank (omega (arith, i.look.low, i.look.order))
-          (omega (arith, c.loop-look-test.true, c.requires.start)) few i.blank f m c.line_masks-lines-else-marked-eq0.ensures.fronts c.marks_in_block-marked.ensures i.told
+      blank = blank_on (row_in r) c.args.ahead.now.marks.now.slots text c.args.ahead.now.start look.look.at gap.result look.blank (omega (arith, i.look.low, i.look.order))
+          (omega (arith, c.loop-look-test.true, c.args.ahead.now.inside)) few i.blank c.line_masks-lines-else-marked-eq0.result.blank c.line_masks-lines-else-marked-eq0.ensures.blank
+          ∙ ap (λ n. blank_after true (between text c.args.ahead.now.start n)) there;
+      clear = subst (IsClear (openers_in r) text c.args.ahead.now.start) (sym c.with_block-look-else-marked-eq0.ensures.at)
+          (clear_on (openers_in r) text c.args.ahead.now.start look.look.at (look.look.at + gap.result) i.clear (gap.ensures.clear few));
+      told = subst (AreTold (row_in r) c.args.ahead.now.marks.now.slots text c.args.ahead.now.start) (sym c.with_block-look-else-marked-eq0.ensures.at)
+          (told_on (row_in r) c.args.ahead.now.marks.now.slots text c.args.ahead.now.start look.look.at gap.result look.blank (omega (arith, i.look.low, i.look.order))
+          (omega (arith, c.loop-look-test.true, c.args.ahead.now.inside)) few i.blank f m c.line_masks-lines-else-marked-eq0.ensures.fronts c.marks_in_block-marked.ensures i.told
           (λ k low set. subst (λ (g : Row). HasLineComment g r.text.now (look.look.at + k)) r.row
           (c.are_comments.ensures c.if-not-are_comments.false k low (ap (λ n. bit_at (bit_and (bit_and f (n - 1)) m) k) (gap_stays gap.result few) ∙ set))));
     }
@@ -103,13 +104,13 @@ are_comments-requires-clause-small c =
     and_small _ c.marks_in_block-marked.result (omega (
       arith,
       c.marks_in_block-marked.ensures,
-      marks_small (is_slotted c.args.slots) c.args.reading.now.text.now look.look.at (omega (arith, c.loop-look-test.true, c.requires.start)),
+      marks_small (is_slotted c.args.ahead.now.marks.now.slots) c.args.ahead.now.reading.now.text.now look.look.at (omega (arith, c.loop-look-test.true, c.args.ahead.now.inside)),
     ))
 
 pub returns-then-gap-lines-clause-found : goal.returns-then-gap-lines-clause-found
 returns-then-gap-lines-clause-found c = λ inside.
     let look = c.loop-look in
-    let r = c.args.reading.now in
+    let r = c.args.ahead.now.reading.now in
     let gap = c.gap_in_block-gap in
     let below : gap.result < 32 = c.if-gap-lt-BLOCK.true in
     let few : gap.result ≤ 32 = omega (arith, below) in
@@ -117,21 +118,21 @@ returns-then-gap-lines-clause-found c = λ inside.
     record {
       order = omega arith;
       clear = gap.ensures.clear few;
-      on = none_ended r.text.now look.look.at gap.result lines.result.newlines (omega (arith, c.loop-look-test.true, c.requires.start)) few lines.ensures.newlines c.if-gap-lines.true;
+      on = none_ended r.text.now look.look.at gap.result lines.result.newlines (omega (arith, c.loop-look-test.true, c.args.ahead.now.inside)) few lines.ensures.newlines c.if-gap-lines.true;
       opener = gap.ensures.found below;
     }
 
 pub returns-then-gap-lt-BLOCK-2-clause-clear : goal.returns-then-gap-lt-BLOCK-2-clause-clear
 returns-then-gap-lt-BLOCK-2-clause-clear c =
     let look = c.loop-look in
-    let r = c.args.reading.now in
+    let r = c.args.ahead.now.reading.now in
     let gap = c.gap_in_block-gap in
     let few : gap.result ≤ 32 = omega (arith, c.if-gap-gt-BLOCK.false) in
-    subst (IsClear (openers_in r) r.text.now c.args.start) (sym c.with_block-look-else-marked-eq0.ensures.at)
-    (clear_on (openers_in r) r.text.now c.args.start look.look.at (look.look.at + gap.result) look.invariant.clear (gap.ensures.clear few))
+    subst (IsClear (openers_in r) r.text.now c.args.ahead.now.start) (sym c.with_block-look-else-marked-eq0.ensures.at)
+    (clear_on (openers_in r) r.text.now c.args.ahead.now.start look.look.at (look.look.at + gap.result) look.invariant.clear (gap.ensures.clear few))
 
 pub returns-then-gap-lt-BLOCK-2-clause-found : goal.returns-then-gap-lt-BLOCK-2-clause-found
 returns-then-gap-lt-BLOCK-2-clause-found c = λ inside.
-    let r = c.args.reading.now in
+    let r = c.args.ahead.now.reading.now in
     next_here (openers_in r) r.text.now c.with_block-look-else-marked-eq0.result.at
     (ap (λ n. begins_with_one (openers_in r) (drop n r.text.now)) c.with_block-look-else-marked-eq0.ensures.at ∙ c.gap_in_block-gap.ensures.found c.if-gap-lt-BLOCK-2.true)

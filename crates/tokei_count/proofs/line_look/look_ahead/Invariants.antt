@@ -1,16 +1,17 @@
 use Rattle.std.proofs.Common.{◌≡◌, ◌-◌, ◌<◌, ◌==◌, true}
 use Rattle.tokei_bytes.specs.Lines.{blank_after}
+use Rattle.tokei_table.specs.OuterLines.{between}
 use Rattle.tokei_parts.specs.ReadingOf.{openers_in, row_in}
-use Rattle.tokei_count.specs.LineLooks.{AreTold, IsClear, IsLook, stretch}
+use Rattle.tokei_count.specs.LineLooks.{AreTold, IsClear, IsLook}
 use Rattle.tokei_count.proofs.line_look.look_ahead.Given as goal
 
 abbrev pub invariant-loop-look : goal.invariant-loop-look
 invariant-loop-look l = record {
-  look : IsLook l.slots l.reading.text.now l.start l.look;
+  look : IsLook l.ahead.marks.now.slots l.ahead.reading.now.text.now l.ahead.start l.look;
   flag : l.blank < 2;
-  blank : (l.blank == 1) ≡ blank_after true (stretch l.reading.text.now l.start l.look.at);
-  clear : IsClear (openers_in l.reading) l.reading.text.now l.start l.look.at;
-  told : AreTold (row_in l.reading) l.slots l.reading.text.now l.start l.look.at;
+  blank : (l.blank == 1) ≡ blank_after true (between l.ahead.reading.now.text.now l.ahead.start l.look.at);
+  clear : IsClear (openers_in l.ahead.reading.now) l.ahead.reading.now.text.now l.ahead.start l.look.at;
+  told : AreTold (row_in l.ahead.reading.now) l.ahead.marks.now.slots l.ahead.reading.now.text.now l.ahead.start l.look.at;
 }
 
 abbrev pub decreases-loop-look : goal.decreases-loop-look

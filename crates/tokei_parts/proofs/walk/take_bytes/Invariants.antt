@@ -1,6 +1,7 @@
 use Rattle.std.proofs.Common.{◌≡◌, ◌-◌, ◌≤◌}
 use Rattle.tokei_parts.specs.Reached.{GoesOn}
-use Rattle.tokei_parts.specs.Seen.{chain_of}
+use Rattle.tokei_parts.specs.Modes.{Chain, innermost}
+use Rattle.tokei_parts.specs.SeenChoices.{mode_of}
 use Rattle.tokei_parts.proofs.walk.take_bytes.Given as goal
 
 abbrev pub invariant-loop-reach : goal.invariant-loop-reach
@@ -8,7 +9,7 @@ invariant-loop-reach l = record {
   child : l.reach.child ≡ l.initial.reach.child;
   low : l.initial.reach.at ≤ l.reach.at;
   high : l.reach.at ≤ l.part.end;
-  goes_on : GoesOn l.part (chain_of l.stack) l.initial.reach (chain_of l.stack) l.reach;
+  goes_on : (last : Chain) → innermost last ≡ mode_of l.mode → GoesOn l.part last l.initial.reach last l.reach;
 }
 
 abbrev pub decreases-loop-reach : goal.decreases-loop-reach

@@ -1,4 +1,4 @@
-use Rattle.std.proofs.Common.{◌∙◌, inl, inr, sym, arith}
+use Rattle.std.proofs.Common.{◌∙◌, inl, inr, arith}
 use Rattle.tokei_parts.specs.Seen.{chain_of}
 use Rattle.tokei_parts.proofs.LineEnds.{below_or}
 use Rattle.tokei_parts.proofs.Reaching.{end_in_text, reach_here, stop_low, stops_here}
@@ -25,8 +25,8 @@ next_child-reach-requires-clause-line c =
 pub plain_end-plain-requires : goal.plain_end-plain-requires
 plain_end-plain-requires c = omega (arith, end_in_text c.args.part.now c.requires.reached.1.begins, c.min.ensures)
 
-pub take_bytes-requires-clause-mode : goal.take_bytes-requires-clause-mode
-take_bytes-requires-clause-mode c = sym c.requires.plain
+pub take_bytes-requires-clause-reached : goal.take_bytes-requires-clause-reached
+take_bytes-requires-clause-reached c = (chain_of c.args.stack.now, (c.requires.plain, c.requires.reached))
 
 pub take_bytes-requires-clause-childless : goal.take_bytes-requires-clause-childless
 take_bytes-requires-clause-childless c = λ _ q low high.
@@ -63,4 +63,4 @@ pub returns-clause-plain_low : goal.returns-clause-plain_low
 returns-clause-plain_low c = c.plain_end-plain.ensures.low
 
 pub returns-clause-goes_on : goal.returns-clause-goes_on
-returns-clause-goes_on c = c.take_bytes.ensures.goes_on
+returns-clause-goes_on c = c.take_bytes.ensures.goes_on (chain_of c.args.stack.now) c.requires.plain

@@ -16,33 +16,26 @@ begun c = λ chain reaches.
     subst (λ es. Reaches c.args.part.now chain (chain_of es) c.loop-reach.reach.at c.loop-reach.reach.steps) (sym c.loop-reach.invariant.kept)
     (c.loop-reach.invariant.goes_on chain reaches)
 
--- and to behind the turn's bytes
-led : (c : After-take_bytes) → GoesOn c.args.part.now (chain_of c.args.stack.now.items) c.args.reach.now (chain_of c.loop-reach.stack.items) c.take_bytes.new.reach
-led c = λ chain reaches.
-    let p = c.args.part.now in
-    subst (λ es. Reaches p chain (chain_of es) c.take_bytes.new.reach.at c.take_bytes.new.reach.steps) c.deref.ensures.value
-    (c.take_bytes.ensures.goes_on chain
-    (subst (λ es. Reaches p chain (chain_of es) c.loop-reach.reach.at c.loop-reach.reach.steps) (sym c.loop-reach.invariant.kept ∙ sym c.deref.ensures.value)
-    (c.loop-reach.invariant.goes_on chain reaches)))
-
 -- the item encloses each turn
 within : (c : At-loop-reach) → Some (enclosure_of c.args.item) ≡ innermost (chain_of c.loop-reach.stack.items)
 within c = c.requires.within ∙ ap (λ es. innermost (chain_of es)) (sym c.loop-reach.invariant.kept)
 
+-- and to behind the turn's bytes
+led : (c : After-take_bytes) → GoesOn c.args.part.now (chain_of c.args.stack.now.items) c.args.reach.now (chain_of c.loop-reach.stack.items) c.take_bytes.new.reach
+led c = λ chain reaches.
+    let is = c.requires.within ∙ ap (λ es. innermost (chain_of es)) (sym c.loop-reach.invariant.kept) in
+    c.take_bytes.ensures.goes_on (chain_of c.loop-reach.stack.items) (sym is) chain
+    (subst (λ es. Reaches c.args.part.now chain (chain_of es) c.loop-reach.reach.at c.loop-reach.reach.steps) (sym c.loop-reach.invariant.kept)
+    (c.loop-reach.invariant.goes_on chain reaches))
+
 pub item_end-plain-requires : goal.item_end-plain-requires
 item_end-plain-requires c = end_in_text c.args.part.now c.requires.reached.1.begins
 
-pub take_bytes-requires-clause-mode : goal.take_bytes-requires-clause-mode
-take_bytes-requires-clause-mode c =
-    within (goal.at.take_bytes-requires-clause-mode c).At-loop-reach ∙ ap (λ es. innermost (chain_of es)) (sym c.deref.ensures.value)
-
 pub take_bytes-requires-clause-reached : goal.take_bytes-requires-clause-reached
 take_bytes-requires-clause-reached c =
-    let before = c.requires.reached in (
-      before.0,
-      subst (λ es. Reaches c.args.part.now before.0 (chain_of es) c.loop-reach.reach.at c.loop-reach.reach.steps) (sym c.deref.ensures.value)
-          (begun (goal.at.take_bytes-requires-clause-reached c).At-loop-reach before.0 before.1),
-    )
+    let before = c.requires.reached in
+    let loop = (goal.at.take_bytes-requires-clause-reached c).At-loop-reach in
+    (chain_of c.loop-reach.stack.items, (sym (within loop), (before.0, begun loop before.0 before.1)))
 
 pub take_bytes-requires-clause-some : goal.take_bytes-requires-clause-some
 take_bytes-requires-clause-some c = c.loop-reach.invariant.some
@@ -58,10 +51,7 @@ no_item : (m : Mode) (item : Enclosure) → Some item ≡ m → m ≡ None → �
 no_item m item within plain = cc
 
 pub take_bytes-requires-clause-childless : goal.take_bytes-requires-clause-childless
-take_bytes-requires-clause-childless c = λ plain q low high.
-    absurd (no_item (innermost (chain_of c.loop-reach.stack.items)) (enclosure_of c.args.item)
-    (within (goal.at.take_bytes-requires-clause-childless c).At-loop-reach)
-    (ap (λ es. innermost (chain_of es)) (sym c.deref.ensures.value) ∙ plain))
+take_bytes-requires-clause-childless c = λ plain. absurd (no_item (Some (enclosure_of c.args.item)) (enclosure_of c.args.item) refl plain)
 
 pub choice_within-choice-requires : goal.choice_within-choice-requires
 choice_within-choice-requires c =

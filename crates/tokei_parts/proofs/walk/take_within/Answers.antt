@@ -1,9 +1,9 @@
-use Rattle.std.proofs.Common.{◌∙◌, inl, inr, sym, ap, subst, arith, ◌≡◌, None, Some}
+use Rattle.std.proofs.Common.{◌∙◌, inl, inr, sym, ap, subst, arith, ◌≡◌, None, Some, refl}
 use Rattle.tokei_parts.specs.SeenChoices.{enclosure_of}
 use Rattle.tokei_parts.specs.Items.{Enclosure, Mode}
 use Rattle.tokei_parts.specs.Modes.{innermost}
 use Rattle.tokei_parts.specs.Places.{choice_from}
-use Rattle.tokei_parts.specs.Reached.{Advances, GoesOn, Reaches, StepsTo}
+use Rattle.tokei_parts.specs.Reached.{Advances, GoesOn, StepsTo}
 use Rattle.tokei_parts.specs.Seen.{chain_of}
 use Rattle.tokei_parts.proofs.Reaching.{end_in_text, reach_here}
 use Rattle.tokei_parts.proofs.walk.take_within.Goals as goal
@@ -11,25 +11,16 @@ use Rattle.tokei_parts.proofs.walk.take_within.Goals.{After-take_bytes, In-On}
 
 -- where the bytes lead
 reached : (c : After-take_bytes) → GoesOn c.args.part.now (chain_of c.args.stack.now.items) c.args.reach.now (chain_of c.args.stack.now.items) c.take_bytes.new.reach
-reached c = λ chain reaches.
-    let p = c.args.part.now in
-    subst (λ es. Reaches p chain (chain_of es) c.take_bytes.new.reach.at c.take_bytes.new.reach.steps) c.deref.ensures.value
-    (c.take_bytes.ensures.goes_on chain
-    (subst (λ es. Reaches p chain (chain_of es) c.args.reach.now.at c.args.reach.now.steps) (sym c.deref.ensures.value) reaches))
+reached c = c.take_bytes.ensures.goes_on (chain_of c.args.stack.now.items) (sym c.requires.within)
 
 pub item_end-plain-requires : goal.item_end-plain-requires
 item_end-plain-requires c = end_in_text c.args.part.now c.requires.reached.1.begins
 
 pub take_bytes-requires-clause-reached : goal.take_bytes-requires-clause-reached
-take_bytes-requires-clause-reached c =
-    let begun = c.requires.reached in
-    (begun.0, subst (λ es. Reaches c.args.part.now begun.0 (chain_of es) c.args.reach.now.at c.args.reach.now.steps) (sym c.deref.ensures.value) begun.1)
+take_bytes-requires-clause-reached c = (chain_of c.args.stack.now.items, (sym c.requires.within, c.requires.reached))
 
 pub take_bytes-requires-clause-plain : goal.take_bytes-requires-clause-plain
 take_bytes-requires-clause-plain c = c.item_end-plain.ensures.plain
-
-pub take_bytes-requires-clause-mode : goal.take_bytes-requires-clause-mode
-take_bytes-requires-clause-mode c = c.requires.within ∙ ap (λ es. innermost (chain_of es)) (sym c.deref.ensures.value)
 
 pub choice_within-choice-requires : goal.choice_within-choice-requires
 choice_within-choice-requires c =
@@ -85,9 +76,7 @@ unreachable-requires c = elim c.in-Rest.is [
 ]
 
 pub take_bytes-requires-clause-childless : goal.take_bytes-requires-clause-childless
-take_bytes-requires-clause-childless c = λ plain q low high.
-    absurd (no_item (innermost (chain_of c.args.stack.now.items)) (enclosure_of c.args.item) c.requires.within
-    (ap (λ es. innermost (chain_of es)) (sym c.deref.ensures.value) ∙ plain))
+take_bytes-requires-clause-childless c = λ plain. absurd (no_item (Some (enclosure_of c.args.item)) (enclosure_of c.args.item) refl plain)
 
 pub take_bytes-requires-clause-within : goal.take_bytes-requires-clause-within
 take_bytes-requires-clause-within c = c.item_end-plain.ensures.high

@@ -1,0 +1,64 @@
+use Rattle.std.proofs.Common.{◌∙◌, ◌-◌, ap, arith, refl, slice_index, subst, sym}
+use Rattle.tokei_parts.specs.LineWalk.{chain_in, item_in, reach_of}
+use Rattle.tokei_parts.specs.PlainBytes.{IsPlainByte}
+use Rattle.tokei_parts.specs.Places.{choice_from, text_of}
+use Rattle.tokei_parts.specs.Reached.{GoesOn}
+use Rattle.tokei_parts.specs.SeenChoices.{mode_of}
+use Rattle.tokei_parts.specs.declared.line_walk.LineReach.{LineReach}
+use Rattle.tokei_parts.proofs.LineSteps.{bytes_go, plain_high}
+use Rattle.tokei_parts.proofs.OneItem.{block_none}
+use Rattle.tokei_parts.proofs.Reaching.{end_in_text, reach_here}
+use Rattle.tokei_parts.proofs.line_walk.go_plain.Goals as goal
+use Rattle.tokei_parts.proofs.line_walk.go_plain.Goals.{After-plain_end-plain}
+
+-- where the bytes lead
+abbrev to : After-plain_end-plain → LineReach
+to c = record { at = c.plain_end-plain.result; base = c.args.reach.now.base }
+
+led : (c : After-plain_end-plain) → GoesOn c.args.part.now (chain_in (item_in c.args.item.now)) (reach_of c.args.reach.now) (chain_in (item_in c.args.item.now)) (reach_of (to c))
+led c =
+    bytes_go c.args.part.now (item_in c.args.item.now) c.args.reach.now (to c) c.requires.low refl c.plain_end-plain.ensures.low
+    (plain_high c.args.reach.now.at c.plain_end-plain.result c.args.part.now.end c.requires.some c.plain_end-plain.ensures.high)
+    (λ q low high. subst (λ m. IsPlainByte c.args.part.now.reading.now.matchers.now (mode_of m) (slice_index (text_of c.args.part.now) q)) (sym c.requires.plain)
+    (c.plain_end-plain.ensures.plain q low high))
+    (λ _ q low high. block_none c.args.part.now q c.requires.childless)
+
+pub plain_end-plain-requires : goal.plain_end-plain-requires
+plain_end-plain-requires c = end_in_text c.args.part.now c.requires.reached.1.begins
+
+pub front_behind-requires-clause-high : goal.front_behind-requires-clause-high
+front_behind-requires-clause-high c =
+    plain_high c.args.reach.now.at c.plain_end-plain.result c.args.part.now.end c.requires.some c.plain_end-plain.ensures.high
+
+pub choice_in_plain-choice-requires-clause-here : goal.choice_in_plain-choice-requires-clause-here
+choice_in_plain-choice-requires-clause-here c =
+    let begun = c.requires.reached in
+    let d = (goal.at.choice_in_plain-choice-requires-clause-here c).After-plain_end-plain in
+    reach_here c.args.part.now begun.0 (chain_in (item_in c.args.item.now)) (to d).at ((to d).at - (to d).base) (led d begun.0 begun.1) c.if-part-reach.false
+
+pub choice_in_plain-choice-requires-clause-childless : goal.choice_in_plain-choice-requires-clause-childless
+choice_in_plain-choice-requires-clause-childless c = λ _. block_none c.args.part.now c.plain_end-plain.result c.requires.childless
+
+pub take_one-requires-clause-reached : goal.take_one-requires-clause-reached
+take_one-requires-clause-reached c =
+    let begun = c.requires.reached in
+    (begun.0, led (goal.at.take_one-requires-clause-reached c).After-plain_end-plain begun.0 begun.1)
+
+pub take_one-requires-clause-choice : goal.take_one-requires-clause-choice
+take_one-requires-clause-choice c =
+    c.choice_in_plain-choice.ensures.choice ∙ ap (λ m. choice_from c.args.part.now c.plain_end-plain.result (mode_of m)) (sym c.requires.plain)
+
+pub returns-then-part-reach-clause-advances : goal.returns-then-part-reach-clause-advances
+returns-then-part-reach-clause-advances c = λ _. record {
+  on = omega (arith, c.if-part-reach.true, c.requires.some);
+  goes_on = led (goal.at.returns-then-part-reach-clause-advances c).After-plain_end-plain;
+}
+
+pub returns-clause-advances : goal.returns-clause-advances
+returns-clause-advances c = λ is.
+    let step = c.take_one.ensures.advances is in
+    let before = led (goal.at.returns-clause-advances c).After-plain_end-plain in
+    record {
+      on = omega (arith, c.plain_end-plain.ensures.low, step.on);
+      goes_on = λ chain reaches. step.goes_on chain (before chain reaches);
+    }
