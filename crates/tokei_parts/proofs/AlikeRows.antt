@@ -8,6 +8,8 @@ use Rattle.tokei_table.specs.Family.{Family}
 use Rattle.tokei_table.specs.RowOf.{pair_of, pairs_of, tokens_of}
 use Rattle.tokei_parts.specs.Alike.{HaveSameQuotes, HaveSameComments, HaveSameTexts}
 use Rattle.tokei_parts.specs.Matchers.{Matchers, matchers_of, flags, begins_opener}
+use Rattle.tokei_parts.specs.PlainOpenings.{item_openings, line_openings}
+use Rattle.tokei_parts.specs.declared.items.ItemKind.TheVariants.{DocString, VerbatimString, OrdinaryString, MultiLineComment}
 use Rattle.std.specs.List.{list_any}
 use Rattle.tokei_table.specs.Bytes.{backslash}
 use Rattle.tokei_table.specs.FirstOpener.{is_first_of}
@@ -57,6 +59,7 @@ made f q v d m n l i t =
       begins_in_comment = flags (begins_one m n) 256;
       begins_comment = flags (λ byte. begins_one m n byte || list_any (is_first_of byte) l) 256;
       family = f;
+      openings = item_openings DocString d ++ (item_openings VerbatimString v ++ (item_openings OrdinaryString q ++ (item_openings MultiLineComment m ++ (item_openings MultiLineComment n ++ line_openings l))));
     }
   where
     begins_one : List Pair → List Pair → ℕ → Bool

@@ -26,8 +26,10 @@ pub mod PartReading
 pub mod PartWhole
 pub mod Pieces
 pub mod PlainBytes
+pub mod PlainOpenings
 pub mod Reaching
 pub mod ShortTokens
+pub mod Spans
 pub mod Stack
 pub mod Stepping
 pub mod TokenEnds

@@ -23,6 +23,7 @@ pub mod Openings
 pub mod Parts
 pub mod Places
 pub mod PlainBytes
+pub mod PlainOpenings
 pub mod Progress
 pub mod Reached
 pub mod ReadingOf
@@ -30,6 +31,7 @@ pub mod Running
 pub mod RustChildren
 pub mod Seen
 pub mod SeenChoices
+pub mod Spans
 pub mod Stretches
 pub mod TableMatchers
 pub mod Tally

@@ -7,6 +7,7 @@ use Rattle.tokei_table.specs.Family.{Family}
 use Rattle.tokei_table.specs.FirstOpener.{is_first_of}
 use Rattle.tokei_table.specs.Openers.{openers}
 use Rattle.tokei_table.specs.Row.{Pair, Row}
+use Rattle.tokei_parts.specs.PlainOpenings.{Opening, openings}
 
 -- the byte is the first of an opener
 abbrev pub begins_opener : List Pair → ℕ → Bool
@@ -39,13 +40,15 @@ flags f zero = []
 flags f (suc n) = flags f n ++ f n ∷ []
 
 -- the openers that a part is searched for, for each byte whether a choice can begin at it, in plain
--- text and in a comment, and whether a comment can, and how the language opens children
+-- text and in a comment, and whether a comment can, how the language opens children, and what opens
+-- in plain text
 pub record Matchers : Type 0 where
   pub openers : List (List ℕ)
   pub begins : List Bool
   pub begins_in_comment : List Bool
   pub begins_comment : List Bool
   pub family : Family
+  pub openings : List Opening
 
 -- the matchers that a row of the table gives
 abbrev pub matchers_of : Row → Matchers
@@ -55,4 +58,5 @@ matchers_of row = record {
   begins_in_comment = flags (begins_in_comment row) 256;
   begins_comment = flags (begins_comment row) 256;
   family = family_of row.key;
+  openings = openings row;
 }

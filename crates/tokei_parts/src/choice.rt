@@ -6,10 +6,11 @@ ghost use Rattle.tokei_table_row.specs.RowOf.{pair_of, pairs_of, tokens_of, row_
 ghost use Rattle.tokei_parts.specs.Items.{Block};
 ghost use Rattle.tokei_parts.specs.Choice.{opened, any_begins, is_escape, has_pair, met_in_comment};
 ghost use Rattle.tokei_parts.specs.Choice.{choice_in_string, choice_in_comment, choice};
-ghost use Rattle.tokei_parts.specs.Choice.{opening_in_plain};
+ghost use Rattle.tokei_parts.specs.PlainOpenings.{openings};
 ghost use Rattle.tokei_parts.specs.SeenChoices.{choice_of, mode_of};
 
 use crate::items::{Enclosure, ItemKind};
+use crate::matchers::LanguageMatchers;
 use tokei_table_row::Syntax;
 
 /// The choice at a place.
@@ -168,35 +169,17 @@ fn in_comment<'a>(syntax: &'a Syntax, closer: &[u8], text: &[u8]) -> Choice<'a>
     }
 }
 
-/// The choice in plain text where no child opens and no escape stands.
-#[inline(always)]
-fn opening_in_plain<'a>(syntax: &'a Syntax, text: &[u8]) -> Choice<'a>
-    ensures choice { (block : Option Block)
-        → choice_of block result ≡ opening_in_plain (row_of syntax.now) text.now }
-    ensures no_child { result ≢ Choice.ChildOpens }
-{
-    if let Some(pair) = opened(&syntax.doc_quotes, text) {
-        Choice::Opens(ItemKind::DocString, pair)
-    } else if let Some(pair) = opened(&syntax.verbatim_quotes, text) {
-        Choice::Opens(ItemKind::VerbatimString, pair)
-    } else if let Some(pair) = opened(&syntax.quotes, text) {
-        Choice::Opens(ItemKind::OrdinaryString, pair)
-    } else if let Some(pair) = opened(&syntax.multi_line_comments, text) {
-        Choice::Opens(ItemKind::MultiLineComment, pair)
-    } else if let Some(pair) = opened(&syntax.nested_comments, text) {
-        Choice::Opens(ItemKind::MultiLineComment, pair)
-    } else if any_begins(&syntax.line_comment, text) {
-        Choice::BeginsLineComment
-    } else {
-        Choice::TakesByte
-    }
-}
-
 /// The first choice that fits at the front of the text in plain text; `opens` says whether a child
 /// can open there.
 #[tactic(auto, unfolding(crate::specs::Choice::choice))]
 #[inline(always)]
-pub fn choose_in_plain<'a>(syntax: &'a Syntax, opens: bool, text: &[u8]) -> Choice<'a>
+pub fn choose_in_plain<'a>(
+    syntax: &Syntax,
+    matchers: &'a LanguageMatchers,
+    opens: bool,
+    text: &[u8],
+) -> Choice<'a>
+    requires matched { matchers.now.openings ≡ openings (row_of syntax.now) }
     ensures choice { (block : Option Block) → is_some block ≡ opens
         → choice_of block result ≡ choice (row_of syntax.now) None block text.now }
     ensures child { result ≡ Choice.ChildOpens → opens ≡ true }
@@ -206,7 +189,7 @@ pub fn choose_in_plain<'a>(syntax: &'a Syntax, opens: bool, text: &[u8]) -> Choi
     } else if opens {
         Choice::ChildOpens
     } else {
-        opening_in_plain(syntax, text)
+        matchers.opening(text)
     }
 }
 

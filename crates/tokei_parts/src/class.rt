@@ -340,6 +340,16 @@ pub fn class_by(
     }
 }
 
+/// Whether a byte that is no blank stands at the place, before `to`.
+#[inline(always)]
+fn is_solid_at(text: &[u8], at: usize, to: usize) -> bool
+    requires { to ≤ length text.now }
+    ensures place { result ≡ true → at < to }
+    ensures solid { result ≡ true → is_blank (slice_index text.now at) ≡ false }
+{
+    at < to && !is_whitespace(text[at])
+}
+
 /// The stack of that item alone, or of none.
 #[inline(always)]
 fn stack_of<'t, 'a>(item: &'t Option<Enclosure<'a>>) -> &'t [Enclosure<'a>]
@@ -377,16 +387,6 @@ fn class_by_all(
     class_by(reading, begun, start, front, stop, stack_of(&ended))
 }
 
-/// Whether a byte that is no blank stands at the place, before `to`.
-#[inline(always)]
-fn is_solid_at(text: &[u8], at: usize, to: usize) -> bool
-    requires { to ≤ length text.now }
-    ensures place { result ≡ true → at < to }
-    ensures solid { result ≡ true → is_blank (slice_index text.now at) ≡ false }
-{
-    at < to && !is_whitespace(text[at])
-}
-
 /// The same, where most lines are told at once by the kinds of the items and by a solid byte.
 #[inline(always)]
 pub fn class_by_item(
@@ -414,13 +414,11 @@ pub fn class_by_item(
         None if !literate && !in_doc_string(ended) && has_solid(reading.text, start, front) => {
             Class::Code
         }
-        None if !literate
-            && !reading.docs_are_comments
-            && in_string(ended)
-            && is_solid_at(reading.text, front, stop) =>
-        {
-            Class::Code
-        }
+        None
+            if !literate
+                && !reading.docs_are_comments
+                && in_string(ended)
+                && is_solid_at(reading.text, front, stop) => { Class::Code }
         Some(_) if is_comment(begun) && !in_string(ended) => Class::Comment,
         Some(_) if !is_comment(begun) && !reading.docs_are_comments && !literate => Class::Code,
         _ => class_by_all(reading, begun, start, front, stop, ended),

@@ -16,6 +16,7 @@ mod line_ends;
 mod line_marks;
 mod line_walk;
 mod matchers;
+mod opening_table;
 mod openings;
 mod place;
 mod plain_bytes;

@@ -1,16 +1,21 @@
 //! What the texts of a language are searched and walked with.
-ghost use Rattle.std.specs.Prelude.{◌≡◌, ℕ, ◌+◌, ◌<◌, ◌≤◌, ◌==◌, false, [], ◌∷◌, ◌++◌};
-ghost use Rattle.std.specs.Prelude.{drop, length, map, IfOk, IfSome, slice_index, slice_index_or};
+ghost use Rattle.std.specs.Prelude.{◌≡◌, ◌≢◌, ℕ, ◌+◌, ◌<◌, ◌≤◌, ◌==◌, false, [], ◌∷◌, ◌++◌};
+ghost use Rattle.std.specs.Prelude.{drop, length, map, IfOk, IfSome, Option, slice_index, slice_index_or};
 ghost use Rattle.tokei_table.specs.Bytes.{begins_with_one};
 ghost use Rattle.tokei_table.specs.FirstOpener.{first_opener};
 ghost use Rattle.tokei_table.specs.Lookups.{row_at};
 ghost use Rattle.tokei_table.specs.WellFormed.{IsWellFormed};
+ghost use Rattle.tokei_parts.specs.Items.{Block};
 ghost use Rattle.tokei_parts.specs.LineMarks.{AreLineMarks};
 ghost use Rattle.tokei_parts.specs.Matchers.{matchers_of};
 ghost use Rattle.tokei_parts.specs.PlainBytes.{IsOutside};
+ghost use Rattle.tokei_parts.specs.PlainOpenings.{first_opening};
+ghost use Rattle.tokei_parts.specs.SeenChoices.{choice_of};
 
 use crate::beginnings::{beginnings, beginnings_in_comment, beginnings_of_comments};
+use crate::choice::Choice;
 use crate::line_marks::{LineMarks, is_looked_at, line_marks};
+use crate::opening_table::OpeningTable;
 use crate::shared_matchers::SharedMatchers;
 use std::alloc::{AllocError, Global};
 use std::marker::Model;
@@ -20,7 +25,8 @@ use tokei_table_rules::Family;
 
 /// What the texts of a language are searched and walked with: its openers, the bytes at which a
 /// choice other than the byte itself, a closer and a child can begin, in plain text and in a
-/// comment, those at which a comment can, and how they open children. Contracts see all five.
+/// comment, those at which a comment can, how they open children, and what opens in plain text.
+/// Contracts see all six.
 #[derive(Drop)]
 pub struct LanguageMatchers {
     shared: SharedMatchers,
@@ -28,6 +34,7 @@ pub struct LanguageMatchers {
     begins_in_comment: BitSet,
     begins_comment: BitSet,
     family: Family,
+    openings: OpeningTable,
     /// What plain lines are searched for, where a look at them by that is quicker than other searches.
     line_marks: Option<LineMarks>,
 }
@@ -43,6 +50,7 @@ impl Model for LanguageMatchers {
       begins_in_comment = m.begins_in_comment;
       begins_comment = m.begins_comment;
       family = m.family;
+      openings = m.openings;
     } };
 
     ghost use Rattle.std.specs.Prelude.{IfSome};
@@ -91,6 +99,16 @@ impl LanguageMatchers {
         ensures { result ≡ self.now.family }
     {
         self.family
+    }
+
+    /// The choice at the front of the text in plain text where no child opens and no escape stands.
+    #[inline(always)]
+    pub fn opening<'a>(&'a self, text: &[u8]) -> Choice<'a>
+        ensures choice { (block : Option Block)
+            → choice_of block result ≡ first_opening self.entry.now.openings text.now }
+        ensures no_child { result ≢ Choice.ChildOpens }
+    {
+        self.openings.opening(text)
     }
 
     /// Whether a choice other than the byte itself, a closer and a child can begin at the byte.
@@ -192,6 +210,7 @@ impl LanguageMatchers {
         let begins_in_comment = beginnings_in_comment(syntax);
         let begins_comment = beginnings_of_comments(syntax);
         let family = Family::of_key(syntax.key.as_str());
+        let openings = OpeningTable::new(alloc, syntax)?;
         let line_marks = if is_looked_at(syntax, family) {
             line_marks(&begins, &shared)
         } else {
@@ -203,6 +222,7 @@ impl LanguageMatchers {
             begins_in_comment,
             begins_comment,
             family,
+            openings,
             line_marks,
         })
     }

@@ -131,7 +131,13 @@ pub(crate) fn choice_in_plain<'a>(place: &Place<'_, 'a>, opens: bool) -> Choice<
     ensures child { result ≡ Choice.ChildOpens → opens ≡ true }
     ensures choice { choice_of (block_here place.now) result ≡ choice_here place.now None }
 {
-    choose_in_plain(place.reading.syntax, opens, &place.reading.text[place.at..])
+    let reading = place.reading;
+    choose_in_plain(
+        reading.syntax,
+        reading.matchers,
+        opens,
+        &reading.text[place.at..],
+    )
 }
 
 /// The choice at the place in the item.
@@ -148,7 +154,7 @@ pub(crate) fn choice_within<'a>(place: &Place<'_, 'a>, item: Enclosure<'a>) -> C
 /// Takes the byte at a place at which nothing but the byte itself can begin: a choice, which is one
 /// step.
 #[inline(always)]
-pub(crate) fn take_byte<'a>(place: &Place<'_, 'a>, mode: Option<Enclosure<'a>>, steps: &mut usize)
+fn take_byte<'a>(place: &Place<'_, 'a>, mode: Option<Enclosure<'a>>, steps: &mut usize)
     requires room { steps.old < length (text_of place.now) }
     requires plain { choice_here place.now (mode_of mode) ≡ takes_byte }
     ensures { steps.new ≡ steps.old + 1 }
@@ -161,12 +167,7 @@ pub(crate) fn take_byte<'a>(place: &Place<'_, 'a>, mode: Option<Enclosure<'a>>, 
 /// Takes the bytes from the place that the walk has come to on to before `to`, if that lies ahead.
 /// Nothing but the byte itself can begin at any, in that mode. Each is a choice.
 #[inline(always)]
-pub(crate) fn take_bytes<'a>(
-    part: &Place<'_, 'a>,
-    mode: Option<Enclosure<'a>>,
-    to: usize,
-    reach: &mut Reach,
-)
+fn take_bytes<'a>(part: &Place<'_, 'a>, mode: Option<Enclosure<'a>>, to: usize, reach: &mut Reach)
     requires reached { (last : Chain)
         × ((innermost last ≡ mode_of mode) × IsReached part.now last reach.old) }
     requires some { reach.old.at < part.now.end }
