@@ -15,8 +15,8 @@ use tokei_table::LanguageType;
 
 /// A text, and in which language of the counter's table it is counted.
 #[derive(Clone, Copy)]
-pub struct Input<'a> {
-    pub counter: &'a Counter<'a>,
+pub struct Input<'a, 't> {
+    pub counter: &'a Counter<'t>,
     pub language: LanguageType,
     pub text: &'a [u8],
 }
@@ -103,9 +103,9 @@ fn parsed(alloc: Global, input: &Input) -> Result<CodeStats, CountError>
     parse_from_slice(alloc, input.counter, input.language, input.text, &CONFIG)
 }
 
-impl<'a> Input<'a> {
+impl<'a, 't> Input<'a, 't> {
     /// The first half of the text.
-    fn first_half(&self) -> Input<'a>
+    fn first_half(&self) -> Input<'a, 't>
         ensures text { result.text.now ≡ take (length self.now.text.now / 2) self.now.text.now }
         ensures language { result.language ≡ self.now.language }
         ensures table { result.counter.now ≡ self.now.counter.now }

@@ -30,8 +30,8 @@ use tokei_walk::{KeptFile, Note, Walk};
 
 /// By what the files of a stream are counted, and how their rows are written.
 #[derive(Drop)]
-struct Streamed<'a> {
-    counting: &'a Counting<'a>,
+struct Streamed<'a, 't> {
+    counting: &'a Counting<'a, 't>,
     rows: &'a Rows<'a>,
 }
 

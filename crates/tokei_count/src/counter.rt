@@ -15,7 +15,7 @@ use tokei_table::{LanguageTable, LanguageType};
 #[derive(Drop)]
 pub struct Counter<'a> {
     table: &'a LanguageTable,
-    matchers: TableMatchers,
+    matchers: TableMatchers<'a>,
     /// The language of doc comments, where the table has it.
     markdown: Option<LanguageType>,
 }
@@ -74,7 +74,7 @@ impl<'a> Counter<'a> {
     }
 
     /// The matchers of each language of the table, in its order.
-    pub(crate) fn matchers_by_language(&self) -> &TableMatchers
+    pub(crate) fn matchers_by_language(&self) -> &TableMatchers<'a>
         ensures { result.now ≡ map matchers_of self.entry.now }
     {
         &self.matchers

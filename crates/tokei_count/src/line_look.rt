@@ -43,8 +43,8 @@ const MOST: u32 = 28;
 
 /// Lines that are looked at: those of the reading's text from a place on, which begins one.
 #[derive(Clone, Copy)]
-struct Ahead<'r, 'a> {
-    reading: &'r Reading<'a>,
+struct Ahead<'r, 'a, 't> {
+    reading: &'r Reading<'a, 't>,
     marks: &'r LineMarks,
     start: usize,
     ghost tokens: { has_tokens (row_in reading.now) ≡ true },

@@ -37,9 +37,9 @@ fn end_behind(text: &[u8], start: usize, clear: usize) -> usize
 
 /// Makes that item the only one of the stack, or none.
 #[inline(always)]
-fn put_item<'a>(
-    stack: &mut Vec<Enclosure<'a>>,
-    item: Option<Enclosure<'a>>,
+fn put_item<'t>(
+    stack: &mut Vec<Enclosure<'t>>,
+    item: Option<Enclosure<'t>>,
 ) -> Result<(), AllocError>
     ensures { OnOk result (chain_of stack.new.items ≡ chain_in item.entry) }
 {
@@ -53,10 +53,10 @@ fn put_item<'a>(
 /// Walks the next line, which goes to `end`, and counts it; whether it did: not where an item opens
 /// within another. No more than that item encloses its beginning.
 #[inline(always)]
-fn read_next<'a>(
-    reading: &Reading<'a>,
-    so_far: &mut ReadSoFar<'a>,
-    item: Option<Enclosure<'a>>,
+fn read_next<'a, 't>(
+    reading: &Reading<'a, 't>,
+    so_far: &mut ReadSoFar<'a, 't>,
+    item: Option<Enclosure<'t>>,
     end: usize,
 ) -> Result<bool, CountError>
     requires family { reading.now.family ≡ Family.Plain }
@@ -91,10 +91,10 @@ fn read_next<'a>(
 /// Reads lines from where the reading has come to on: up to one before which no opener is near, or in
 /// which an item opens within another, or to the last few bytes.
 #[inline(never)]
-fn read_lines<'a>(
-    reading: &Reading<'a>,
+fn read_lines<'a, 't>(
+    reading: &Reading<'a, 't>,
     marks: &LineMarks,
-    so_far: &mut ReadSoFar<'a>,
+    so_far: &mut ReadSoFar<'a, 't>,
 ) -> Result<(), CountError>
     requires skips { reading.now.skips ≡ true }
     requires family { reading.now.family ≡ Family.Plain }
@@ -134,9 +134,9 @@ fn read_lines<'a>(
 /// Reads lines so where that is quicker. `end` is where an earlier place's line went to, and so is the
 /// answer.
 #[inline(always)]
-pub(crate) fn read_near<'a>(
-    reading: &Reading<'a>,
-    so_far: &mut ReadSoFar<'a>,
+pub(crate) fn read_near<'a, 't>(
+    reading: &Reading<'a, 't>,
+    so_far: &mut ReadSoFar<'a, 't>,
     end: usize,
 ) -> Result<usize, CountError>
     requires under_way { IsUnderWay reading.now so_far.old }

@@ -8,11 +8,11 @@ use tokei_table::{LanguageTable, LanguageType};
 
 /// How the texts of a table's languages are read.
 #[derive(Clone, Copy)]
-pub(crate) struct Reader<'a> {
+pub(crate) struct Reader<'a, 't> {
     pub alloc: Global,
-    pub table: &'a LanguageTable,
+    pub table: &'t LanguageTable,
     /// What texts are searched and walked with, by language.
-    pub matchers: &'a TableMatchers,
+    pub matchers: &'a TableMatchers<'t>,
     /// The language of doc comments, where the table has it: it is looked up once, and not for each
     /// of them.
     pub markdown: &'a Option<LanguageType>,

@@ -127,7 +127,7 @@ fn read_notebook(
 
 /// What was read of a text, up to where its next part begins.
 #[derive(Drop)]
-pub(crate) struct ReadSoFar<'a> {
+pub(crate) struct ReadSoFar<'a, 't> {
     pub own: Sums,
     pub blobs: BTreeMap<LanguageType, CodeStats>,
     /// How many choices were made in the text itself.
@@ -139,15 +139,15 @@ pub(crate) struct ReadSoFar<'a> {
     /// Where the next part begins.
     pub start: usize,
     /// The items that enclose that place.
-    pub stack: Vec<Enclosure<'a>>,
+    pub stack: Vec<Enclosure<'t>>,
     pub search: BlockSearch<'a>,
     /// The child that was found last; an empty one before any was.
     pub child: Block<'a>,
 }
 
-impl<'a> ReadSoFar<'a> {
+impl<'a, 't> ReadSoFar<'a, 't> {
     /// Nothing yet; takes no memory.
-    fn new(alloc: Global, reading: &Reading<'a>) -> ReadSoFar<'a>
+    fn new(alloc: Global, reading: &Reading<'a, 't>) -> ReadSoFar<'a, 't>
         requires lines { is_notebook (row_in reading.now) ≡ false }
         requires tokens { has_tokens (row_in reading.now) ≡ true }
         ensures under_way { IsUnderWay reading.now result }
@@ -382,9 +382,9 @@ pub(crate) fn skip_within(
 /// Reads on up to the next part that `read_walked` walks, and answers where the line of that part goes
 /// to. `end` is where an earlier place's line went to, and `next` where an earlier search for openers
 /// came to, and becomes where this one does.
-fn skip_lines<'a>(
-    reading: &Reading<'a>,
-    so_far: &mut ReadSoFar<'a>,
+fn skip_lines<'a, 't>(
+    reading: &Reading<'a, 't>,
+    so_far: &mut ReadSoFar<'a, 't>,
     next: &mut usize,
     end: usize,
 ) -> Result<usize, CountError>
@@ -423,9 +423,9 @@ fn skip_lines<'a>(
 /// and its steps. What it makes meanwhile has no place in its caller, which would clear it at each
 /// part.
 #[cycle(read_text)]
-fn read_child<'a>(
-    reader: Reader<'a>,
-    reading: &Reading<'a>,
+fn read_child<'a, 't>(
+    reader: Reader<'a, 't>,
+    reading: &Reading<'a, 't>,
     child: &Block<'a>,
     blobs: &mut BTreeMap<LanguageType, CodeStats>,
     steps: &mut u128,
@@ -462,10 +462,10 @@ fn read_child<'a>(
 /// Walks the next part, whose line goes to `end`, and counts that line, or reads the child that
 /// breaks the part off.
 #[cycle(read_text)]
-fn read_walked<'a>(
-    reader: Reader<'a>,
-    reading: &Reading<'a>,
-    so_far: &mut ReadSoFar<'a>,
+fn read_walked<'a, 't>(
+    reader: Reader<'a, 't>,
+    reading: &Reading<'a, 't>,
+    so_far: &mut ReadSoFar<'a, 't>,
     end: usize,
 ) -> Result<(), CountError>
     requires reader { IsReadBy reader reading.now }
@@ -518,7 +518,7 @@ fn read_walked<'a>(
 /// The statistics of a text, part by part. Its children are read with one level less.
 #[cycle(read_text)]
 pub(crate) fn read_text<'a>(
-    reader: Reader<'a>,
+    reader: Reader<'a, '_>,
     language: LanguageType,
     text: &'a [u8],
     levels: u32,

@@ -21,16 +21,16 @@ use tokei_table::LanguageType;
 
 /// By what files are counted.
 #[derive(Drop)]
-pub struct Counting<'a> {
+pub struct Counting<'a, 't> {
     pub alloc: Global,
     /// Of the table by which files have their languages.
-    pub counter: &'a Counter<'a>,
+    pub counter: &'a Counter<'t>,
     pub config: CountConfig,
     /// The languages that count; `None` means all.
     pub types: Option<&'a [LanguageType]>,
 }
 
-impl Counting<'_> {
+impl Counting<'_, '_> {
     /// The statistics of a content in a language, once it is decoded. `Overflow` comes only where
     /// one of its counts passes the greatest `usize`.
     fn count(&self, language: LanguageType, content: Vec<u8>) -> Result<CodeStats, ParseFault>

@@ -12,7 +12,7 @@ use tokei_folders::Folders;
 use tokei_table::LanguageType;
 use tokei_walk::KeptFile;
 
-impl Counting<'_> {
+impl Counting<'_, '_> {
     /// Whether files of the language are counted.
     fn counts(&self, language: LanguageType) -> bool
         ensures { result ≡ counts (counting_of self.now).types language }

@@ -1,5 +1,5 @@
 -- Where the openings that begin with a byte stand among all.
-use Rattle.std.proofs.Common.{◌≡◌, ◌≢◌, ℕ, zero, suc, ◌+◌, ◌-◌, ◌<◌, ◌≤◌, nat_eq, Bool, true, false, cond, List, [], ◌∷◌, ◌++◌, length, take, drop, get_or, refl, sym, ◌∙◌, ap, arith, subst, replicate, set, ◌⊎◌, inl, inr, string_bytes}
+use Rattle.std.proofs.Common.{◌≡◌, ◌≢◌, ℕ, zero, suc, ◌+◌, ◌-◌, ◌<◌, ◌≤◌, nat_eq, Bool, true, false, cond, List, [], ◌∷◌, ◌++◌, length, take, drop, get_or, refl, sym, ◌∙◌, ap, arith, subst, replicate, set, ◌⊎◌, inl, inr}
 use Rattle.std.proofs.lemmas.Bool.Decides.{Decides-eqb, Decides-ltb}
 use Rattle.std.proofs.lemmas.List.{take_more, take_all, get_or-set_same, get_or-set_other, get_or-replicate}
 use Rattle.tokei_table_row.specs.Bytes.{begins}
@@ -22,20 +22,20 @@ pub record IsSpanBefore (all : List CodeOpening.Opening) (x from to i : ℕ) : T
 pub append_or : (xs ys : List CodeOpening.Opening) (text : List ℕ) (d : Choice)
     → first_or (openings_of (xs ++ ys)) text d ≡ first_or (openings_of xs) text (first_or (openings_of ys) text d)
 append_or [] ys text d = refl
-append_or (x ∷ xs) ys text d = ap (λ c. cond (begins (string_bytes x.pair.0) text) (chosen x.item (opening_of x).pair) c) (append_or xs ys text d)
+append_or (x ∷ xs) ys text d = ap (λ c. cond (begins ((opening_of x).pair.opener) text) (chosen (opening_of x).item (opening_of x).pair) c) (append_or xs ys text d)
 
 -- one more that doesn't begin with the byte
 pub passed_one : (all : List CodeOpening.Opening) (x i : ℕ) (o : CodeOpening.Opening)
-    → i < length all → o ≡ get_or all i o → ((t : List ℕ) → begins (string_bytes o.pair.0) (x ∷ t) ≡ false)
+    → i < length all → o ≡ get_or all i o → ((t : List ℕ) → begins ((opening_of o).pair.opener) (x ∷ t) ≡ false)
     → (t : List ℕ) (d : Choice) → first_or (openings_of (take (i + 1) all)) (x ∷ t) d ≡ first_or (openings_of (take i all)) (x ∷ t) d
 passed_one all x i o some is h t d =
     ap (λ os. first_or (openings_of os) (x ∷ t) d) (take_more all i o some ∙ ap (λ p. take i all ++ p ∷ []) (sym is))
     ∙ append_or (take i all) (o ∷ []) (x ∷ t) d
-    ∙ ap (λ b. first_or (openings_of (take i all)) (x ∷ t) (cond b (chosen o.item (opening_of o).pair) d)) (h t)
+    ∙ ap (λ b. first_or (openings_of (take i all)) (x ∷ t) (cond b (chosen (opening_of o).item (opening_of o).pair) d)) (h t)
 
 pub span_passed : (all : List CodeOpening.Opening) (x from to i : ℕ) (o : CodeOpening.Opening)
     → IsSpanBefore all x from to i → i < length all → o ≡ get_or all i o
-    → ((t : List ℕ) → begins (string_bytes o.pair.0) (x ∷ t) ≡ false) → IsSpanBefore all x from to (i + 1)
+    → ((t : List ℕ) → begins ((opening_of o).pair.opener) (x ∷ t) ≡ false) → IsSpanBefore all x from to (i + 1)
 span_passed all x from to i o s some is h = record {
   order = s.order;
   within = omega (arith, s.within);

@@ -1,13 +1,15 @@
 -- Where the openings that begin with a byte stand among all.
-use Rattle.std.specs.Prelude.{◌≡◌, ℕ, ◌<◌, ◌≤◌, ◌-◌, nat_lt, if◌then◌else◌, List, ◌∷◌, length, map, drop, take, slice_index_or}
+use Rattle.std.specs.Prelude.{◌≡◌, ℕ, ◌<◌, ◌≤◌, ◌-◌, nat_lt, string_bytes, if◌then◌else◌, List, [], ◌∷◌, None, Some, length, map, drop, take, slice_index_or}
 use Rattle.tokei_table_row.specs.RowOf.{pair_of}
 use Rattle.tokei_parts.specs.PlainOpenings.{Opening, first_opening}
 use Rattle.tokei_parts.specs.declared.opening_table.Opening as CodeOpening
+use Rattle.tokei_parts.specs.declared.opening_table.Opening.TheVariants.{Item, LineComment}
 use Rattle.tokei_parts.specs.declared.opening_table.Span.{Span}
 
 -- an opening of the code
 abbrev pub opening_of : CodeOpening.Opening → Opening
-opening_of o = record { item = o.item; pair = pair_of o.pair }
+opening_of (Item kind pair) = record { item = Some kind; pair = pair_of pair.now }
+opening_of (LineComment token) = record { item = None; pair = record { opener = string_bytes token.now; closer = [] } }
 
 -- a list of them
 abbrev pub openings_of : List CodeOpening.Opening → List Opening

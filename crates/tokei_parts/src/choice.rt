@@ -173,12 +173,12 @@ fn in_comment<'a>(syntax: &'a Syntax, closer: &[u8], text: &[u8]) -> Choice<'a>
 /// can open there.
 #[tactic(auto, unfolding(crate::specs::Choice::choice))]
 #[inline(always)]
-pub fn choose_in_plain<'a>(
+pub fn choose_in_plain<'t>(
     syntax: &Syntax,
-    matchers: &'a LanguageMatchers,
+    matchers: &LanguageMatchers<'t>,
     opens: bool,
     text: &[u8],
-) -> Choice<'a>
+) -> Choice<'t>
     requires matched { matchers.now.openings ≡ openings (row_of syntax.now) }
     ensures choice { (block : Option Block) → is_some block ≡ opens
         → choice_of block result ≡ choice (row_of syntax.now) None block text.now }

@@ -56,7 +56,7 @@ struct LineReach {
 /// That item or none, as the walk of a line keeps it. Each field is then a local of its own, and no
 /// padding is copied.
 #[inline(always)]
-fn line_item<'a>(item: Option<Enclosure<'a>>) -> LineItem<'a>
+fn line_item<'t>(item: Option<Enclosure<'t>>) -> LineItem<'t>
     ensures { item_in result ≡ item.entry }
 {
     match item {
@@ -73,7 +73,7 @@ fn line_item<'a>(item: Option<Enclosure<'a>>) -> LineItem<'a>
 
 /// The same, the other way round.
 #[inline(always)]
-fn enclosure<'a>(item: LineItem<'a>) -> Option<Enclosure<'a>>
+fn enclosure<'t>(item: LineItem<'t>) -> Option<Enclosure<'t>>
     ensures { result ≡ item_in item.entry }
 {
     match item.kind {
@@ -102,10 +102,10 @@ fn take(part: &Place, len: usize, reach: &mut LineReach)
 /// Takes the choice at the place that the walk has come to, which that item alone encloses, or none,
 /// and goes on behind what it takes. It answers false where an item opens within the item.
 #[inline(always)]
-fn take_one<'a>(
-    part: &Place<'_, 'a>,
-    item: &mut LineItem<'a>,
-    choice: Choice<'a>,
+fn take_one<'t>(
+    part: &Place<'_, '_, 't>,
+    item: &mut LineItem<'t>,
+    choice: Choice<'t>,
     reach: &mut LineReach,
 ) -> bool
     requires reached { IsReached part.now (chain_in (item_in item.old)) (reach_of reach.old) }
@@ -167,10 +167,10 @@ fn take_one<'a>(
 /// where a choice can begin, and that choice, if the line goes on. It answers false where an item
 /// opens within the item.
 #[inline(always)]
-fn go_within<'a>(
-    part: &Place<'_, 'a>,
-    around: Enclosure<'a>,
-    item: &mut LineItem<'a>,
+fn go_within<'t>(
+    part: &Place<'_, '_, 't>,
+    around: Enclosure<'t>,
+    item: &mut LineItem<'t>,
     reach: &mut LineReach,
 ) -> bool
     requires within { item_in item.old ≡ Some around }
@@ -198,7 +198,7 @@ fn go_within<'a>(
 
 /// Takes the escape at the place that the walk has come to, which that item alone encloses.
 #[inline(always)]
-fn take_escape<'a>(part: &Place<'_, 'a>, around: Enclosure<'a>, reach: &mut LineReach)
+fn take_escape<'t>(part: &Place<'_, '_, 't>, around: Enclosure<'t>, reach: &mut LineReach)
     requires reached { IsReached part.now (chain_in (Some around)) (reach_of reach.old) }
     requires low { reach.old.base ≤ reach.old.at }
     requires some { reach.old.at < part.now.end }
@@ -213,10 +213,10 @@ fn take_escape<'a>(part: &Place<'_, 'a>, around: Enclosure<'a>, reach: &mut Line
 /// The same as `go_within` of all that a string with escapes has in the line, up to behind its
 /// closer. An escape takes no turn of the walk's loop.
 #[inline(always)]
-fn go_string<'a>(
-    part: &Place<'_, 'a>,
-    around: Enclosure<'a>,
-    item: &mut LineItem<'a>,
+fn go_string<'t>(
+    part: &Place<'_, '_, 't>,
+    around: Enclosure<'t>,
+    item: &mut LineItem<'t>,
     reach: &mut LineReach,
 ) -> bool
     requires within { item_in item.old ≡ Some around }
@@ -251,10 +251,10 @@ fn go_string<'a>(
 /// or to the line's end. Of a string with escapes whose closer is one byte, as most have, it takes
 /// all that the line has. It answers false where an item opens within the item.
 #[inline(always)]
-fn go_item<'a>(
-    part: &Place<'_, 'a>,
-    around: Enclosure<'a>,
-    item: &mut LineItem<'a>,
+fn go_item<'t>(
+    part: &Place<'_, '_, 't>,
+    around: Enclosure<'t>,
+    item: &mut LineItem<'t>,
     reach: &mut LineReach,
 ) -> bool
     requires within { item_in item.old ≡ Some around }
@@ -275,9 +275,9 @@ fn go_item<'a>(
 /// The same as `go_within` in plain text, in which no child opens. At no byte of the part before
 /// `front` can a choice begin.
 #[inline(always)]
-fn go_plain<'a>(
-    part: &Place<'_, 'a>,
-    item: &mut LineItem<'a>,
+fn go_plain<'t>(
+    part: &Place<'_, '_, 't>,
+    item: &mut LineItem<'t>,
     front: &mut usize,
     reach: &mut LineReach,
 ) -> bool
@@ -312,14 +312,14 @@ fn go_plain<'a>(
 /// What a line comes to which stops at `stop` and was walked to its end. It began in an item of the
 /// kind `begun`, or in plain text, and at no byte of it before `front` can a choice begin.
 #[inline(always)]
-fn line_read<'a>(
-    part: &Place<'_, 'a>,
+fn line_read<'t>(
+    part: &Place<'_, '_, 't>,
     begun: Option<ItemKind>,
     front: usize,
-    item: LineItem<'a>,
+    item: LineItem<'t>,
     stop: usize,
     reach: LineReach,
-) -> LineRead<'a>
+) -> LineRead<'t>
     requires front { IsFront part.now front }
     requires reached { IsReached part.now (chain_in (item_in item)) (reach_of reach) }
     requires low { reach.base ≤ reach.at }
@@ -348,7 +348,7 @@ fn line_read<'a>(
 /// Reads the line that begins at the place, where that item encloses it or none, in a language that
 /// opens no children. It answers None where an item opens within another.
 #[inline(always)]
-pub fn read_line<'a>(part: &Place<'_, 'a>, item: Option<Enclosure<'a>>) -> Option<LineRead<'a>>
+pub fn read_line<'t>(part: &Place<'_, '_, 't>, item: Option<Enclosure<'t>>) -> Option<LineRead<'t>>
     requires closable { IsClosable (chain_in item) }
     requires begins { Begins part.now }
     requires some { part.now.start < length (text_of part.now) }

@@ -28,18 +28,18 @@ use tokei_table_rules::Family;
 /// comment, those at which a comment can, how they open children, and what opens in plain text.
 /// Contracts see all six.
 #[derive(Drop)]
-pub struct LanguageMatchers {
+pub struct LanguageMatchers<'t> {
     shared: SharedMatchers,
     begins: ByteSet,
     begins_in_comment: BitSet,
     begins_comment: BitSet,
     family: Family,
-    openings: OpeningTable,
+    openings: OpeningTable<'t>,
     /// What plain lines are searched for, where a look at them by that is quicker than other searches.
     line_marks: Option<LineMarks>,
 }
 
-impl Model for LanguageMatchers {
+impl<'t> Model for LanguageMatchers<'t> {
     ghost use Rattle.tokei_parts.specs.Matchers.{Matchers};
 
     ghost Value = { Matchers };
@@ -60,7 +60,7 @@ impl Model for LanguageMatchers {
         (λ marks. AreLineMarks marks m.begins m.shared) };
 }
 
-impl LanguageMatchers {
+impl<'t> LanguageMatchers<'t> {
     /// Those of its openers alone.
     pub fn shared(&self) -> &SharedMatchers
         ensures { result.now ≡ self.entry.now.openers }
@@ -103,7 +103,7 @@ impl LanguageMatchers {
 
     /// The choice at the front of the text in plain text where no child opens and no escape stands.
     #[inline(always)]
-    pub fn opening<'a>(&'a self, text: &[u8]) -> Choice<'a>
+    pub fn opening(&self, text: &[u8]) -> Choice<'t>
         ensures choice { (block : Option Block)
             → choice_of block result ≡ first_opening self.entry.now.openings text.now }
         ensures no_child { result ≢ Choice.ChildOpens }
@@ -194,13 +194,13 @@ impl LanguageMatchers {
     }
 }
 
-impl LanguageMatchers {
+impl<'t> LanguageMatchers<'t> {
     /// The matchers of a language of the table. It fails where memory runs out.
     pub(crate) fn new(
         alloc: Global,
-        table: &LanguageTable,
+        table: &'t LanguageTable,
         language: LanguageType,
-    ) -> Result<LanguageMatchers, AllocError>
+    ) -> Result<LanguageMatchers<'t>, AllocError>
         requires { language < length table.now }
         ensures { IfOk result (λ m. m ≡ matchers_of (row_at table.now language)) }
     {

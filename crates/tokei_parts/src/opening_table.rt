@@ -6,7 +6,7 @@ ghost use Rattle.tokei_table_row.specs.RowOf.{pairs_of, row_of, tokens_of};
 ghost use Rattle.tokei_parts.specs.Items.{Block};
 ghost use Rattle.tokei_parts.specs.PlainOpenings.{first_opening, item_openings, line_openings, openings};
 ghost use Rattle.tokei_parts.specs.SeenChoices.{choice_of};
-ghost use Rattle.tokei_parts.specs.Spans.{openings_of, IsSpan, AreSpans};
+ghost use Rattle.tokei_parts.specs.Spans.{opening_of, openings_of, IsSpan, AreSpans};
 
 use crate::choice::{Choice, stands};
 use crate::items::ItemKind;
@@ -17,13 +17,26 @@ use tokei_table_row::Syntax;
 /// The end of a span that goes through to the end of all.
 const TO_THE_END: u8 = 255;
 
-/// A token that opens an item in plain text, or begins a line comment there.
-#[derive(Drop)]
-pub(crate) struct Opening {
-    /// What it opens; None where it begins a line comment.
-    pub item: Option<ItemKind>,
-    /// The token, and the closer of what it opens, which a line comment has none of.
-    pub pair: (String, String),
+/// A token of the table's that opens an item in plain text, or begins a line comment there.
+#[derive(Clone, Copy)]
+pub(crate) enum Opening<'t> {
+    /// It opens an item of that kind, and stands with the item's closer.
+    Item(ItemKind, &'t (String, String)),
+    /// It begins a line comment.
+    LineComment(&'t String),
+}
+
+impl<'t> Opening<'t> {
+    /// The token.
+    #[inline(always)]
+    fn token(self) -> &'t [u8]
+        ensures { result.now ≡ (opening_of self.entry).pair.opener }
+    {
+        match self {
+            Opening::Item(_, pair) => pair.0.as_bytes(),
+            Opening::LineComment(token) => token.as_bytes(),
+        }
+    }
 }
 
 /// Where the openings that begin with a byte stand among all: from the first of them to behind the
@@ -37,14 +50,14 @@ pub(crate) struct Span {
 /// The tokens that open something in plain text, by their first bytes. Contracts see it as the list
 /// of them.
 #[derive(Drop)]
-pub struct OpeningTable {
+pub struct OpeningTable<'t> {
     /// In the order of choices.
-    all: Vec<Opening>,
+    all: Vec<Opening<'t>>,
     /// For each byte those to look at where it stands first.
     spans: [Span; 256],
 }
 
-impl Model for OpeningTable {
+impl<'t> Model for OpeningTable<'t> {
     ghost use Rattle.std.specs.Prelude.{List};
     ghost use Rattle.tokei_parts.specs.PlainOpenings.{Opening};
 
@@ -58,75 +71,50 @@ impl Model for OpeningTable {
 }
 
 /// Adds the openers of items of a kind.
-fn add_pairs(
-    alloc: Global,
-    all: &mut Vec<Opening>,
+fn add_pairs<'t>(
+    all: &mut Vec<Opening<'t>>,
     kind: ItemKind,
-    pairs: &[(String, String)],
+    pairs: &'t [(String, String)],
 ) -> Result<(), AllocError>
     ensures { OnOk result (openings_of all.new.items
         ≡ openings_of all.old.items ++ item_openings kind (pairs_of pairs.now)) }
 {
     for pair in pairs {
-        let opening = Opening {
-            item: Some(kind),
-            pair: (
-                String::from_str(alloc, &pair.0)?,
-                String::from_str(alloc, &pair.1)?,
-            ),
-        };
-        match all.push(opening) {
-            Ok(()) => {}
-            Err(_refused) => return Err(AllocError),
-        }
+        all.push(Opening::Item(kind, pair))?;
     }
     Ok(())
 }
 
 /// Adds the beginnings of line comments.
-fn add_lines(alloc: Global, all: &mut Vec<Opening>, tokens: &[String]) -> Result<(), AllocError>
+fn add_lines<'t>(all: &mut Vec<Opening<'t>>, tokens: &'t [String]) -> Result<(), AllocError>
     ensures { OnOk result (openings_of all.new.items
         ≡ openings_of all.old.items ++ line_openings (tokens_of tokens.now)) }
 {
     for token in tokens {
-        let opening = Opening {
-            item: None,
-            pair: (String::from_str(alloc, token)?, String::new(alloc)),
-        };
-        match all.push(opening) {
-            Ok(()) => {}
-            Err(_refused) => return Err(AllocError),
-        }
+        all.push(Opening::LineComment(token))?;
     }
     Ok(())
 }
 
 /// What opens in plain text of the language, in the order of choices.
-fn openings_of(alloc: Global, syntax: &Syntax) -> Result<Vec<Opening>, AllocError>
+fn openings_of<'t>(alloc: Global, syntax: &'t Syntax) -> Result<Vec<Opening<'t>>, AllocError>
     ensures { IfOk result (λ all. openings_of all.items ≡ openings (row_of syntax.now)) }
 {
     let mut all = Vec::with_capacity(alloc, 8)?;
-    add_pairs(alloc, &mut all, ItemKind::DocString, &syntax.doc_quotes)?;
+    add_pairs(&mut all, ItemKind::DocString, &syntax.doc_quotes)?;
+    add_pairs(&mut all, ItemKind::VerbatimString, &syntax.verbatim_quotes)?;
+    add_pairs(&mut all, ItemKind::OrdinaryString, &syntax.quotes)?;
     add_pairs(
-        alloc,
-        &mut all,
-        ItemKind::VerbatimString,
-        &syntax.verbatim_quotes,
-    )?;
-    add_pairs(alloc, &mut all, ItemKind::OrdinaryString, &syntax.quotes)?;
-    add_pairs(
-        alloc,
         &mut all,
         ItemKind::MultiLineComment,
         &syntax.multi_line_comments,
     )?;
     add_pairs(
-        alloc,
         &mut all,
         ItemKind::MultiLineComment,
         &syntax.nested_comments,
     )?;
-    add_lines(alloc, &mut all, &syntax.line_comment)?;
+    add_lines(&mut all, &syntax.line_comment)?;
     Ok(all)
 }
 
@@ -147,7 +135,7 @@ fn span_of(all: &[Opening], byte: u8) -> Span
     let mut from = 0;
     let mut to = 0;
     for (i, opening) in all.iter().enumerate() {
-        if can_begin(opening.pair.0.as_bytes(), byte) {
+        if can_begin(opening.token(), byte) {
             if to == 0 {
                 from = i;
             }
@@ -196,7 +184,7 @@ fn spans_of(all: &[Opening]) -> [Span; 256]
     let mut spans = whole_spans(all);
     add_span(&mut spans, all, b'\\');
     for opening in all {
-        match opening.pair.0.as_bytes() {
+        match opening.token() {
             [] => {}
             [first, ..] => add_span(&mut spans, all, *first),
         }
@@ -206,25 +194,25 @@ fn spans_of(all: &[Opening]) -> [Span; 256]
 
 /// The choice by the first of them whose token stands at the front of the text.
 #[inline(always)]
-fn first_standing<'a>(openings: &'a [Opening], text: &[u8]) -> Choice<'a>
+fn first_standing<'t>(openings: &[Opening<'t>], text: &[u8]) -> Choice<'t>
     ensures choice { (block : Option Block)
         → choice_of block result ≡ first_opening (openings_of openings.now) text.now }
     ensures no_child { result ≢ Choice.ChildOpens }
 {
     for opening in openings {
-        if stands(opening.pair.0.as_bytes(), text) {
-            return match opening.item {
-                Some(kind) => Choice::Opens(kind, &opening.pair),
-                None => Choice::BeginsLineComment,
+        if stands(opening.token(), text) {
+            return match *opening {
+                Opening::Item(kind, pair) => Choice::Opens(kind, pair),
+                Opening::LineComment(_) => Choice::BeginsLineComment,
             };
         }
     }
     Choice::TakesByte
 }
 
-impl OpeningTable {
+impl<'t> OpeningTable<'t> {
     /// The table of a language. It fails where memory runs out.
-    pub fn new(alloc: Global, syntax: &Syntax) -> Result<OpeningTable, AllocError>
+    pub fn new(alloc: Global, syntax: &'t Syntax) -> Result<OpeningTable<'t>, AllocError>
         ensures { IfOk result (λ t. t ≡ openings (row_of syntax.now)) }
     {
         let all = openings_of(alloc, syntax)?;
@@ -234,7 +222,7 @@ impl OpeningTable {
 
     /// The choice at the front of the text in plain text where no child opens and no escape stands.
     #[inline(always)]
-    pub fn opening<'a>(&'a self, text: &[u8]) -> Choice<'a>
+    pub fn opening(&self, text: &[u8]) -> Choice<'t>
         ensures choice { (block : Option Block)
             → choice_of block result ≡ first_opening self.entry.now text.now }
         ensures no_child { result ≢ Choice.ChildOpens }

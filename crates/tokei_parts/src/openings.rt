@@ -38,7 +38,7 @@ pub struct Block<'a> {
 
 impl<'a> Block<'a> {
     /// An empty child at the front of the reading's text, of its language.
-    pub fn empty(reading: &Reading<'a>) -> Block<'a> {
+    pub fn empty(reading: &Reading<'a, '_>) -> Block<'a> {
         Block {
             language: reading.language,
             contents: &reading.text[..0],
@@ -102,7 +102,7 @@ fn known_piece(table: &LanguageTable, info: &[u8]) -> Option<LanguageType>
 }
 
 /// The child that a fence of Markdown opens at the place, whose part goes to `to`.
-fn markdown_block<'a>(place: &Place<'_, 'a>, to: usize) -> Option<Block<'a>>
+fn markdown_block<'a>(place: &Place<'_, 'a, '_>, to: usize) -> Option<Block<'a>>
     requires order { place.now.start ≤ place.now.at }
     requires inside { place.now.at < to }
     requires ends { to ≤ length (text_of place.now) }
@@ -159,7 +159,7 @@ fn element_language(
 
 /// The child that an element with the tag opens at the place, whose part goes to `to`.
 fn element_at<'a>(
-    place: &Place<'_, 'a>,
+    place: &Place<'_, 'a, '_>,
     search: &mut BlockSearch<'a>,
     tag: Tag,
     to: usize,
@@ -187,7 +187,7 @@ fn element_at<'a>(
 
 /// The child that an element opens at the place, whose part goes to `to`.
 fn html_block<'a>(
-    place: &Place<'_, 'a>,
+    place: &Place<'_, 'a, '_>,
     search: &mut BlockSearch<'a>,
     to: usize,
 ) -> Option<Block<'a>>
@@ -210,7 +210,7 @@ fn html_block<'a>(
 }
 
 /// The child that a doc comment opens at the place.
-fn rust_block<'a>(place: &Place<'_, 'a>, search: &mut BlockSearch<'a>) -> Option<Block<'a>>
+fn rust_block<'a>(place: &Place<'_, 'a, '_>, search: &mut BlockSearch<'a>) -> Option<Block<'a>>
     requires inside { place.now.at < length (text_of place.now) }
     requires searched { search.old ≡ text_of place.now }
     ensures same { search.new ≡ search.old }
@@ -257,7 +257,7 @@ fn target_language(
 
 /// The child that a block of the target language opens at the place, whose part goes to `to`.
 fn franca_block<'a>(
-    place: &Place<'_, 'a>,
+    place: &Place<'_, 'a, '_>,
     search: &mut BlockSearch<'a>,
     to: usize,
 ) -> Option<Block<'a>>
@@ -304,7 +304,7 @@ fn next_element(search: &mut BlockSearch, start: usize, at: usize, to: usize) ->
 /// nothing is to be skipped, nothing is searched anew.
 #[inline(always)]
 pub fn next_child<'a>(
-    place: &Place<'_, 'a>,
+    place: &Place<'_, 'a, '_>,
     search: &mut BlockSearch<'a>,
     to: usize,
     child: usize,
@@ -334,7 +334,7 @@ pub fn next_child<'a>(
 }
 
 /// The child that opens at the place.
-pub fn block_at<'a>(place: &Place<'_, 'a>, search: &mut BlockSearch<'a>) -> Option<Block<'a>>
+pub fn block_at<'a>(place: &Place<'_, 'a, '_>, search: &mut BlockSearch<'a>) -> Option<Block<'a>>
     requires here { IsAt place.now }
     requires some { place.now.at < place.now.end }
     requires searched { search.old ≡ text_of place.now }

@@ -3,8 +3,8 @@ use crate::reading::Reading;
 
 /// A place in a part that is read.
 #[derive(Clone, Copy)]
-pub struct Place<'r, 'a> {
-    pub reading: &'r Reading<'a>,
+pub struct Place<'r, 'a, 't> {
+    pub reading: &'r Reading<'a, 't>,
     /// How many bytes were left behind the last child.
     pub behind_child: usize,
     /// Where the part begins.

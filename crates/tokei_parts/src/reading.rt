@@ -14,16 +14,16 @@ use tokei_table_rules::family::Family;
 
 /// A text that is read, and how.
 #[derive(Clone, Copy)]
-pub struct Reading<'a> {
-    pub table: &'a LanguageTable,
+pub struct Reading<'a, 't> {
+    pub table: &'t LanguageTable,
     pub language: LanguageType,
     /// The row of the language, and how it opens children: both are asked for at each search.
-    pub syntax: &'a Syntax,
+    pub syntax: &'t Syntax,
     pub family: Family,
     /// The language of doc comments, where the table has it.
     pub markdown: &'a Option<LanguageType>,
     /// What texts of the language are searched and walked with.
-    pub matchers: &'a LanguageMatchers,
+    pub matchers: &'a LanguageMatchers<'t>,
     pub text: &'a [u8],
     /// Whether doc strings are treated as comments.
     pub docs_are_comments: bool,

@@ -15,11 +15,11 @@ use tokei_table::{LanguageTable, LanguageType};
 /// The matchers of each language of a table, in its order. Languages of which the table says the
 /// same share theirs. Contracts see the list of the matchers.
 #[derive(Drop)]
-pub struct TableMatchers {
-    all: Vec<Rc<LanguageMatchers>>,
+pub struct TableMatchers<'t> {
+    all: Vec<Rc<LanguageMatchers<'t>>>,
 }
 
-impl Model for TableMatchers {
+impl<'t> Model for TableMatchers<'t> {
     ghost use Rattle.std.specs.Prelude.{List};
     ghost use Rattle.tokei_parts.specs.Matchers.{Matchers};
     ghost use Rattle.tokei_parts.specs.TableMatchers.{behind};
@@ -30,10 +30,10 @@ impl Model for TableMatchers {
 }
 
 /// Adds matchers of a language of the table. It fails where memory runs out.
-fn push_new(
-    all: &mut Vec<Rc<LanguageMatchers>>,
+fn push_new<'t>(
+    all: &mut Vec<Rc<LanguageMatchers<'t>>>,
     alloc: Global,
-    table: &LanguageTable,
+    table: &'t LanguageTable,
     language: LanguageType,
 ) -> Result<(), AllocError>
     requires { language < length table.now }
@@ -47,7 +47,7 @@ fn push_new(
 }
 
 /// Adds those at the place once more. It fails where memory runs out.
-fn push_again(all: &mut Vec<Rc<LanguageMatchers>>, place: usize) -> Result<(), AllocError>
+fn push_again<'t>(all: &mut Vec<Rc<LanguageMatchers<'t>>>, place: usize) -> Result<(), AllocError>
     requires { place < length all.old.items }
     ensures { IfOk result (λ _. (d : Matchers) → behind all.new.items
         ≡ behind all.old.items ++ slice_index_or (behind all.old.items) place d ∷ []) }
@@ -60,10 +60,10 @@ fn push_again(all: &mut Vec<Rc<LanguageMatchers>>, place: usize) -> Result<(), A
 /// Adds the matchers of the table's next language. Another one may be named whose matchers it
 /// shares, if it has some by now and the table says the same of both. It fails where memory runs
 /// out.
-fn push_matchers(
-    all: &mut Vec<Rc<LanguageMatchers>>,
+fn push_matchers<'t>(
+    all: &mut Vec<Rc<LanguageMatchers<'t>>>,
     alloc: Global,
-    table: &LanguageTable,
+    table: &'t LanguageTable,
     like: Option<LanguageType>,
     language: LanguageType,
 ) -> Result<(), AllocError>
@@ -83,9 +83,9 @@ fn push_matchers(
     push_new(all, alloc, table, language)
 }
 
-impl TableMatchers {
+impl<'t> TableMatchers<'t> {
     /// The matchers of each language of the table. It fails where memory runs out.
-    pub fn new(alloc: Global, table: &LanguageTable) -> Result<TableMatchers, AllocError>
+    pub fn new(alloc: Global, table: &'t LanguageTable) -> Result<TableMatchers<'t>, AllocError>
         ensures matchers { IfOk result (λ m. m ≡ map matchers_of table.now) }
         ensures well_formed { IfOk result (λ _. IsWellFormed table.now) }
     {
@@ -102,7 +102,7 @@ impl TableMatchers {
     }
 
     /// The matchers of a language of the table.
-    pub fn of(&self, language: LanguageType) -> &LanguageMatchers
+    pub fn of(&self, language: LanguageType) -> &LanguageMatchers<'t>
         requires { language < length self.now }
         ensures { (d : Matchers) → result.now ≡ slice_index_or self.entry.now language d }
     {

@@ -68,7 +68,7 @@ pub struct PartRead {
 
 /// The innermost of the items, which is the last of the stack.
 #[inline(always)]
-pub fn innermost<'a>(stack: &[Enclosure<'a>]) -> Option<Enclosure<'a>>
+pub fn innermost<'t>(stack: &[Enclosure<'t>]) -> Option<Enclosure<'t>>
     ensures { mode_of result ≡ innermost (chain_of stack.now) }
 {
     stack.last().copied()
@@ -78,7 +78,7 @@ pub fn innermost<'a>(stack: &[Enclosure<'a>]) -> Option<Enclosure<'a>>
 /// since few choices come to it.
 #[inline(never)]
 fn finds_block<'a>(
-    place: &Place<'_, 'a>,
+    place: &Place<'_, 'a, '_>,
     search: &mut BlockSearch<'a>,
     found: &mut Block<'a>,
 ) -> bool
@@ -101,7 +101,7 @@ fn finds_block<'a>(
 /// The same in plain text, where none opens before `child`.
 #[inline(always)]
 fn finds_child<'a>(
-    place: &Place<'_, 'a>,
+    place: &Place<'_, 'a, '_>,
     child: usize,
     search: &mut BlockSearch<'a>,
     found: &mut Block<'a>,
@@ -124,7 +124,7 @@ fn finds_child<'a>(
 
 /// The choice at the place in plain text; `opens` says whether a child can open there.
 #[inline(always)]
-pub(crate) fn choice_in_plain<'a>(place: &Place<'_, 'a>, opens: bool) -> Choice<'a>
+pub(crate) fn choice_in_plain<'t>(place: &Place<'_, '_, 't>, opens: bool) -> Choice<'t>
     requires here { IsAt place.now }
     requires child { opens ≡ true → is_some (block_here place.now) ≡ true }
     requires childless { opens ≡ false → block_here place.now ≡ None }
@@ -142,7 +142,7 @@ pub(crate) fn choice_in_plain<'a>(place: &Place<'_, 'a>, opens: bool) -> Choice<
 
 /// The choice at the place in the item.
 #[inline(always)]
-pub(crate) fn choice_within<'a>(place: &Place<'_, 'a>, item: Enclosure<'a>) -> Choice<'a>
+pub(crate) fn choice_within<'t>(place: &Place<'_, '_, 't>, item: Enclosure<'t>) -> Choice<'t>
     requires here { IsAt place.now }
     ensures no_child { result ≢ Choice.ChildOpens }
     ensures choice { choice_of (block_here place.now) result
@@ -154,7 +154,7 @@ pub(crate) fn choice_within<'a>(place: &Place<'_, 'a>, item: Enclosure<'a>) -> C
 /// Takes the byte at a place at which nothing but the byte itself can begin: a choice, which is one
 /// step.
 #[inline(always)]
-fn take_byte<'a>(place: &Place<'_, 'a>, mode: Option<Enclosure<'a>>, steps: &mut usize)
+fn take_byte<'t>(place: &Place<'_, '_, 't>, mode: Option<Enclosure<'t>>, steps: &mut usize)
     requires room { steps.old < length (text_of place.now) }
     requires plain { choice_here place.now (mode_of mode) ≡ takes_byte }
     ensures { steps.new ≡ steps.old + 1 }
@@ -167,7 +167,12 @@ fn take_byte<'a>(place: &Place<'_, 'a>, mode: Option<Enclosure<'a>>, steps: &mut
 /// Takes the bytes from the place that the walk has come to on to before `to`, if that lies ahead.
 /// Nothing but the byte itself can begin at any, in that mode. Each is a choice.
 #[inline(always)]
-fn take_bytes<'a>(part: &Place<'_, 'a>, mode: Option<Enclosure<'a>>, to: usize, reach: &mut Reach)
+fn take_bytes<'t>(
+    part: &Place<'_, '_, 't>,
+    mode: Option<Enclosure<'t>>,
+    to: usize,
+    reach: &mut Reach,
+)
     requires reached { (last : Chain)
         × ((innermost last ≡ mode_of mode) × IsReached part.now last reach.old) }
     requires some { reach.old.at < part.now.end }
@@ -194,10 +199,10 @@ fn take_bytes<'a>(part: &Place<'_, 'a>, mode: Option<Enclosure<'a>>, to: usize, 
 
 /// Takes the choice at a place, which is one step, in the mode of the stack's items.
 #[inline(always)]
-fn take_choice<'a>(
-    place: &Place<'_, 'a>,
-    stack: &mut Vec<Enclosure<'a>>,
-    choice: Choice<'a>,
+fn take_choice<'t>(
+    place: &Place<'_, '_, 't>,
+    stack: &mut Vec<Enclosure<'t>>,
+    choice: Choice<'t>,
     steps: &mut usize,
 ) -> Result<Move, AllocError>
     requires closable { IsClosable (chain_of stack.old.items) }
@@ -242,10 +247,10 @@ fn take_choice<'a>(
 /// Takes the choice at the place that the walk has come to, in the mode of the stack's items, and
 /// goes on behind what it takes.
 #[inline(always)]
-fn take_step<'a>(
-    part: &Place<'_, 'a>,
-    stack: &mut Vec<Enclosure<'a>>,
-    choice: Choice<'a>,
+fn take_step<'t>(
+    part: &Place<'_, '_, 't>,
+    stack: &mut Vec<Enclosure<'t>>,
+    choice: Choice<'t>,
     reach: &mut Reach,
 ) -> Result<Move, AllocError>
     requires reached { IsReached part.now (chain_of stack.old.items) reach.old }
@@ -277,7 +282,7 @@ fn take_step<'a>(
 /// Takes the newline that ends a line behind which the stack's items go on: one step. No token holds
 /// a newline, and no child opens at one, so nothing but the byte itself can begin there.
 #[inline(always)]
-fn take_newline<'a>(place: &Place<'_, 'a>, stack: &[Enclosure<'a>], steps: &mut usize)
+fn take_newline<'t>(place: &Place<'_, '_, 't>, stack: &[Enclosure<'t>], steps: &mut usize)
     requires closable { IsClosable (chain_of stack.now) }
     requires here { IsAt place.now }
     requires last { place.now.at ≡ place.now.end }
@@ -291,10 +296,10 @@ fn take_newline<'a>(place: &Place<'_, 'a>, stack: &[Enclosure<'a>], steps: &mut 
 /// Takes the bytes from the place that the walk has come to, which the item encloses, up to where a
 /// choice can begin, and that choice, if the line goes on.
 #[inline(always)]
-fn take_within<'a>(
-    part: &Place<'_, 'a>,
-    stack: &mut Vec<Enclosure<'a>>,
-    item: Enclosure<'a>,
+fn take_within<'t>(
+    part: &Place<'_, '_, 't>,
+    stack: &mut Vec<Enclosure<'t>>,
+    item: Enclosure<'t>,
     reach: &mut Reach,
 ) -> Result<(), AllocError>
     requires within { mode_of (Some item) ≡ innermost (chain_of stack.old.items) }
@@ -325,10 +330,10 @@ fn take_within<'a>(
 /// or to the line's end, without a look at the stack for each escape. What a turn does is written
 /// out, as in `take_within`, which wouldn't stand in its callers' code if it were called twice.
 #[inline(always)]
-fn take_string<'a>(
-    part: &Place<'_, 'a>,
-    stack: &mut Vec<Enclosure<'a>>,
-    item: Enclosure<'a>,
+fn take_string<'t>(
+    part: &Place<'_, '_, 't>,
+    stack: &mut Vec<Enclosure<'t>>,
+    item: Enclosure<'t>,
     reach: &mut Reach,
 ) -> Result<(), AllocError>
     requires within { mode_of (Some item) ≡ innermost (chain_of stack.old.items) }
@@ -365,10 +370,10 @@ fn take_string<'a>(
 /// or to the line's end. Of a string with escapes whose closer is one byte, as most have, it takes
 /// all that the line has.
 #[inline(always)]
-fn take_item<'a>(
-    part: &Place<'_, 'a>,
-    stack: &mut Vec<Enclosure<'a>>,
-    item: Enclosure<'a>,
+fn take_item<'t>(
+    part: &Place<'_, '_, 't>,
+    stack: &mut Vec<Enclosure<'t>>,
+    item: Enclosure<'t>,
     reach: &mut Reach,
 ) -> Result<(), AllocError>
     requires within { mode_of (Some item) ≡ innermost (chain_of stack.old.items) }
@@ -388,10 +393,10 @@ fn take_item<'a>(
 /// a child can begin, and answers that place. Where the reading skips, it looks for the part's
 /// children ahead. The line stops at `stop`.
 #[inline(always)]
-fn take_plain<'a>(
-    part: &Place<'_, 'a>,
+fn take_plain<'a, 't>(
+    part: &Place<'_, 'a, 't>,
     search: &mut BlockSearch<'a>,
-    stack: &[Enclosure<'a>],
+    stack: &[Enclosure<'t>],
     stop: usize,
     reach: &mut Reach,
 ) -> usize
@@ -445,10 +450,10 @@ pub(crate) fn front_behind(part: &Place, front: usize, from: usize, plain: usize
 /// Takes the choice at the place of plain text that the walk has come to, and answers whether a
 /// child opens there and breaks the part off. The child is put into `found`.
 #[inline(always)]
-fn breaks_off<'a>(
-    part: &Place<'_, 'a>,
+fn breaks_off<'a, 't>(
+    part: &Place<'_, 'a, 't>,
     search: &mut BlockSearch<'a>,
-    stack: &mut Vec<Enclosure<'a>>,
+    stack: &mut Vec<Enclosure<'t>>,
     found: &mut Block<'a>,
     reach: &mut Reach,
 ) -> Result<bool, AllocError>
@@ -482,11 +487,11 @@ fn breaks_off<'a>(
 /// item of the kind `begun`, or in plain text, and at no byte of it before `front` can a choice
 /// begin.
 #[inline(always)]
-fn end_line<'a>(
-    part: &Place<'_, 'a>,
+fn end_line<'t>(
+    part: &Place<'_, '_, 't>,
     begun: Option<ItemKind>,
     front: usize,
-    stack: &[Enclosure<'a>],
+    stack: &[Enclosure<'t>],
     stop: usize,
     reach: Reach,
 ) -> PartRead
@@ -519,10 +524,10 @@ fn end_line<'a>(
 /// Reads the part that begins at the place. Where the reading skips, it looks for the part's
 /// children ahead, and at a byte at which no choice can begin it looks no further. The child that
 /// breaks the part off is put into `found`.
-pub fn read_part<'a>(
-    part: &Place<'_, 'a>,
+pub fn read_part<'a, 't>(
+    part: &Place<'_, 'a, 't>,
     search: &mut BlockSearch<'a>,
-    stack: &mut Vec<Enclosure<'a>>,
+    stack: &mut Vec<Enclosure<'t>>,
     found: &mut Block<'a>,
 ) -> Result<PartRead, AllocError>
     requires closable { IsClosable (chain_of stack.old.items) }

@@ -19,7 +19,7 @@ loop-i-preserved c =
       ]
       | else-can_begin w ↦ span_moved all x from to (i + 1) c.if-can_begin.from c.if-can_begin.to w.from-is w.to-is
           (span_passed all x from to i c.index-all-i.result s c.loop-i-test.true c.index-all-i.is
-          (λ t. ap (λ n. begins n (x ∷ t)) (sym c.as_bytes.ensures.value) ∙ c.can_begin.ensures w.if-can_begin.false t))
+          (λ t. ap (λ n. begins n (x ∷ t)) (sym c.token.ensures) ∙ c.can_begin.ensures w.if-can_begin.false t))
     ]
 
 pub returns-then-to-lt255 : goal.returns-then-to-lt255
