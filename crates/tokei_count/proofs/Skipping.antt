@@ -1,17 +1,21 @@
 -- Places between lines that are skipped or lie within an item: their order, what is left behind them,
 -- and whether the part that begins there is walked.
-use Rattle.std.proofs.Common.{◌≡◌, ℕ, ◌+◌, ◌-◌, ◌<◌, ◌≤◌, ◌||◌, ◌⊎◌, inl, inr, Bool, true, false, not, List, [], ◌∷◌, length, drop, Option, None, Some, refl, sym, ap, ◌∙◌, arith, length-drop}
+use Rattle.std.proofs.Common.{◌≡◌, ℕ, ◌+◌, ◌-◌, ◌<◌, ◌≤◌, ◌||◌, ◌⊎◌, inl, inr, Bool, true, false, not, List, [], ◌∷◌, length, drop, reverse, Option, None, Some}
+use Rattle.std.proofs.Common.{option_map, refl, sym, ap, ◌∙◌, arith, length-drop}
 use Rattle.std.proofs.lemmas.Bool.{false≢true}
+use Rattle.std.proofs.lemmas.List.{length-map, length-reverse}
 use Rattle.tokei_parts.specs.Class.{is_plain}
 use Rattle.tokei_parts.specs.Glance.{holds, is_walked}
 use Rattle.tokei_parts.specs.Glanced.{Knows}
 use Rattle.tokei_parts.specs.Items.{Mode}
-use Rattle.tokei_parts.specs.LineWalk.{chain_in}
+use Rattle.tokei_parts.specs.LineWalk.{chain_in, item_in}
 use Rattle.tokei_parts.specs.Lines.{first_line, line_len}
 use Rattle.tokei_parts.specs.Modes.{Chain, innermost}
 use Rattle.tokei_parts.specs.Seen.{chain_of}
-use Rattle.tokei_parts.specs.SeenChoices.{mode_of}
+use Rattle.tokei_parts.specs.SeenChoices.{enclosure_of, mode_of}
 use Rattle.tokei_parts.specs.declared.items.Enclosure.{Enclosure}
+use Rattle.tokei_parts.specs.declared.items.ItemKind.{ItemKind}
+use Rattle.tokei_parts.specs.declared.items.LineItem.{LineItem}
 use Rattle.tokei_parts.proofs.LineEnds.{below_or}
 use Rattle.tokei_parts.proofs.PartFronts.{line_len_within}
 use Rattle.tokei_count.proofs.StepReading.{line_some}
@@ -107,3 +111,22 @@ one_item [] (Some e) few is = cc
 one_item (e ∷ []) None few is = cc
 one_item (e ∷ []) (Some i) few is = ap (λ (m : Mode). chain_at m) (sym is)
 one_item (e ∷ i ∷ es) item few is = absurd (omega (arith, few))
+
+-- the item that the walk of a line keeps, by its kind
+pub item_is : (item : LineItem) (kind : ItemKind) → item.kind ≡ Some kind → item_in item ≡ Some (record { kind = kind; closer = item.closer })
+item_is item kind e = ap (option_map (λ k. record { kind = k; closer = item.closer })) e
+
+-- it keeps none
+pub no_item_is : (item : LineItem) → item.kind ≡ None → item_in item ≡ None
+no_item_is item e = ap (option_map (λ k. record { kind = k; closer = item.closer })) e
+
+-- where an item encloses the place, the innermost is no plain text
+pub item_within : (c : Chain) → 0 < length c → is_plain (innermost c) ≡ false
+item_within [] some = absurd (omega (arith, some))
+item_within (e ∷ c) some = refl
+
+-- where items enclose the place, all is walked
+pub walked_nested : (os : List (List ℕ)) (es : List Enclosure) (line : List ℕ) → 1 < length es → is_walked os (innermost (chain_of es)) line ≡ true
+walked_nested os es line nested =
+    walked_within os (innermost (chain_of es)) (innermost (chain_of es)) line refl
+    (item_within (chain_of es) (omega (arith, nested, length-map (reverse es) enclosure_of, length-reverse es)))

@@ -1,11 +1,12 @@
-//! Lines are read one after another in languages that open no children.
+//! Lines are read one after another in languages that open no children, and in comments that
+//! another encloses.
 ghost use Rattle.std.specs.Prelude.{◌≡◌, ◌+◌, ◌<◌, ◌≤◌, true, None, Some, drop, length};
 ghost use Rattle.std.specs.Prelude.{IfOk, IsErrOf, IsOk, OnOk};
 ghost use Rattle.tokei_table.specs.FirstOpener.{first_opener};
 ghost use Rattle.tokei_table.specs.Openers.{openers};
 ghost use Rattle.tokei_parts.specs.Glance.{is_walked};
 ghost use Rattle.tokei_parts.specs.LineMarks.{AreLineMarks};
-ghost use Rattle.tokei_parts.specs.LineWalk.{chain_in};
+ghost use Rattle.tokei_parts.specs.LineWalk.{chain_in, item_in};
 ghost use Rattle.tokei_parts.specs.Lines.{line_len};
 ghost use Rattle.tokei_parts.specs.Modes.{innermost};
 ghost use Rattle.tokei_parts.specs.ReadingOf.{line_from, openers_in, row_in};
@@ -17,7 +18,10 @@ ghost use Rattle.tokei_stats.specs.Overflow.{Fits};
 use crate::line_look::count_lines_ahead;
 use crate::text_reading::{ReadSoFar, add_line, skip_within};
 use std::alloc::AllocError;
-use tokei_parts::{Enclosure, LineMarks, Place, Reading, innermost, line_len, read_line};
+use tokei_parts::{
+    Class, Enclosure, LineItem, LineMarks, Place, Reading, line_item, line_len, read_line,
+    read_nested_line,
+};
 use tokei_stats::CountError;
 use tokei_table_rules::Family;
 
@@ -37,15 +41,13 @@ fn end_behind(text: &[u8], start: usize, clear: usize) -> usize
 
 /// Makes that item the only one of the stack, or none.
 #[inline(always)]
-fn put_item<'t>(
-    stack: &mut Vec<Enclosure<'t>>,
-    item: Option<Enclosure<'t>>,
-) -> Result<(), AllocError>
-    ensures { OnOk result (chain_of stack.new.items ≡ chain_in item.entry) }
+fn put_item<'t>(stack: &mut Vec<Enclosure<'t>>, item: LineItem<'t>) -> Result<(), AllocError>
+    ensures { OnOk result (chain_of stack.new.items ≡ chain_in (item_in item.entry)) }
 {
     stack.clear();
-    if let Some(item) = item {
-        stack.push(item)?;
+    let closer = item.closer;
+    if let Some(kind) = item.kind {
+        stack.push(Enclosure { kind, closer })?;
     }
     Ok(())
 }
@@ -56,12 +58,12 @@ fn put_item<'t>(
 fn read_next<'a, 't>(
     reading: &Reading<'a, 't>,
     so_far: &mut ReadSoFar<'a, 't>,
-    item: Option<Enclosure<'t>>,
+    item: LineItem<'t>,
     end: usize,
 ) -> Result<bool, CountError>
     requires family { reading.now.family ≡ Family.Plain }
     requires under_way { IsUnderWay reading.now so_far.old }
-    requires item { chain_of so_far.old.stack.items ≡ chain_in item }
+    requires item { chain_of so_far.old.stack.items ≡ chain_in (item_in item) }
     requires some { so_far.old.start < length reading.now.text.now }
     requires end { end ≡ so_far.old.start + line_len (drop so_far.old.start reading.now.text.now) }
     requires walked { is_walked (openers_in reading.now) (innermost (chain_of so_far.old.stack.items))
@@ -109,8 +111,9 @@ fn read_lines<'a, 't>(
 {
     let text = reading.text;
     while LEAST <= text.len() - so_far.start && so_far.stack.len() < 2 {
-        let item = innermost(&so_far.stack);
-        let clear = match item {
+        let item = line_item(&so_far.stack);
+        let closer = item.closer;
+        let clear = match item.kind {
             None => {
                 let to = count_lines_ahead(reading, marks, so_far)?;
                 if text.len() <= to {
@@ -118,13 +121,70 @@ fn read_lines<'a, 't>(
                 }
                 to
             }
-            Some(around) => skip_within(reading, so_far, around)?,
+            Some(kind) => skip_within(reading, so_far, Enclosure { kind, closer })?,
         };
         if text.len() <= so_far.start {
             return Ok(());
         }
         let end = end_behind(text, so_far.start, clear);
         if !read_next(reading, so_far, item, end)? {
+            return Ok(());
+        }
+    }
+    Ok(())
+}
+
+/// Reads the next line, which begins in a comment that another encloses, and counts it; whether it
+/// did: just where one comment opens or closes in it.
+#[inline(always)]
+fn read_next_nested<'a, 't>(
+    reading: &Reading<'a, 't>,
+    so_far: &mut ReadSoFar<'a, 't>,
+) -> Result<bool, CountError>
+    requires under_way { IsUnderWay reading.now so_far.old }
+    requires some { so_far.old.start < length reading.now.text.now }
+    requires walked { is_walked (openers_in reading.now)
+        (innermost (chain_of so_far.old.stack.items))
+        (line_from reading.now so_far.old.start) ≡ true }
+    ensures under_way { OnOk result (IsUnderWay reading.now so_far.new) }
+    ensures on { IfOk result (λ read. read ≡ true → so_far.old.start < so_far.new.start) }
+    ensures low { OnOk result (so_far.old.start ≤ so_far.new.start) }
+    ensures overflow { IsErrOf result CountError.Overflow → ¬ Fits (reading_of reading.now) }
+{
+    let end = end_behind(reading.text, so_far.start, so_far.start);
+    let place = Place {
+        reading,
+        behind_child: so_far.behind_child,
+        start: so_far.start,
+        at: so_far.start,
+        end,
+    };
+    let Some(nested) = read_nested_line(&place, &mut so_far.stack)? else {
+        return Ok(false);
+    };
+    so_far.own_steps += nested.steps;
+    add_line(&mut so_far.own, Class::Comment)?;
+    so_far.start = nested.stop;
+    Ok(true)
+}
+
+/// Reads lines that begin in a comment which another encloses, one after another, as long as just
+/// one comment opens or closes in each.
+#[inline(never)]
+fn read_nested<'a, 't>(
+    reading: &Reading<'a, 't>,
+    so_far: &mut ReadSoFar<'a, 't>,
+) -> Result<(), CountError>
+    requires under_way { IsUnderWay reading.now so_far.old }
+    ensures under_way { OnOk result (IsUnderWay reading.now so_far.new) }
+    ensures low { OnOk result (so_far.old.start ≤ so_far.new.start) }
+    ensures quiet { reading.now.skips ≡ true
+        → first_opener (openers (row_in reading.now)) reading.now.text.now ≡ None → IsOk result }
+    ensures overflow { IsErrOf result CountError.Overflow → ¬ Fits (reading_of reading.now) }
+{
+    let text = reading.text;
+    while so_far.start < text.len() && 1 < so_far.stack.len() {
+        if !read_next_nested(reading, so_far)? {
             return Ok(());
         }
     }
@@ -152,12 +212,16 @@ pub(crate) fn read_near<'a, 't>(
 {
     let text = reading.text;
     let start = so_far.start;
-    match (reading.family, reading.matchers.line_marks()) {
-        (Family::Plain, Some(marks)) if reading.skips && LEAST <= text.len() - start => {
-            read_lines(reading, marks, so_far)?;
-            // another line's end isn't known yet, and mostly not asked for
-            Ok(if so_far.start == start { end } else { 0 })
-        }
-        _ => Ok(end),
+    if !reading.skips {
+        return Ok(end);
     }
+    match (reading.family, reading.matchers.line_marks()) {
+        _ if 1 < so_far.stack.len() => read_nested(reading, so_far)?,
+        (Family::Plain, Some(marks)) if LEAST <= text.len() - start => {
+            read_lines(reading, marks, so_far)?
+        }
+        _ => return Ok(end),
+    }
+    // another line's end isn't known yet, and mostly not asked for
+    Ok(if so_far.start == start { end } else { 0 })
 }

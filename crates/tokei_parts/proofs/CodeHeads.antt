@@ -4,7 +4,7 @@ use Rattle.std.proofs.Common.{[], ◌∷◌, None, Some, drop, take, length, len
 use Rattle.std.proofs.lemmas.Bool.{cases_lt}
 use Rattle.std.proofs.lemmas.List.{length-take-le, get_or-take, get_or-drop}
 use Rattle.std.proofs.Math.ListN.{drop_of_length-le}
-use Rattle.std.specs.List.{list_all}
+use Rattle.std.specs.List.{list_all, list_any}
 use Rattle.std.specs.Str.{bytes_eq}
 use Rattle.tokei_table.specs.Bytes.{ends, is_blank, all_blank, trim, trim_start, trim_end}
 use Rattle.tokei_table.specs.FirstOpener.{is_first_of}
@@ -21,7 +21,7 @@ use Rattle.tokei_parts.specs.declared.class.Class.TheVariants.{Blank, Code, Comm
 use Rattle.tokei_parts.specs.declared.items.ItemKind.{ItemKind}
 use Rattle.tokei_parts.specs.declared.items.ItemKind.TheVariants.{DocString, VerbatimString, OrdinaryString, MultiLineComment}
 use Rattle.tokei_parts.proofs.Fits.{and_left, and_right}
-use Rattle.tokei_parts.proofs.PlainBytes.{flag_at, no_comment_begun, not_begun, token_some, none_begins, or_left, or_right}
+use Rattle.tokei_parts.proofs.PlainBytes.{flag_at, no_comment_begun, none_begun, not_begun, token_some, none_begins, or_left, or_right}
 
 not_enclosed : (ps : List Pair) (b : ℕ) (t : List ℕ) → list_all is_pair ps ≡ true → begins_opener ps b ≡ false → encloses ps (b ∷ t) ≡ false
 not_enclosed [] b t s h = refl
@@ -47,7 +47,7 @@ record StartsNothing (g : Row) (b : ℕ) (t : List ℕ) : Type 0 where
 
 starts_nothing : (g : Row) (s : IsSound g) (m : Matchers) (b : ℕ) (t : List ℕ) → m ≡ matchers_of g → BeginsNone m b → StartsNothing g b t
 starts_nothing g s m b t is h =
-    let none : begins_choice g b ≡ false = sym (flag_at (begins_choice g) 256 b h.small) ∙ ap (λ (n : Matchers). slice_index_or n.begins b false) (sym is) ∙ h.outside in
+    let none : begins_choice g b ≡ false = none_begun g b m is h in
     let h1 = or_right (b == 92) _ none in
     let h2 = or_right (begins_opener g.quotes b) _ h1 in
     let h3 = or_right (begins_opener g.verbatim_quotes b) _ h2 in
@@ -325,6 +325,39 @@ solid_front t i e j m high within plain s =
     let f : FirstSolid t i s.place = first_solid t i (s.place - i) s.place (omega (arith, s.low)) (is_blank (get_or t i 0)) refl s.solid in
     code_front t i j f.head f.low (omega (arith, f.high, s.high, high)) within f.blank (λ _. f.solid) m (omega (arith, f.high, s.high, high))
     (plain i (omega arith) (omega (arith, s.low, s.high))) (plain f.head f.low (omega (arith, f.high, s.high)))
+
+-- a byte at which no choice can begin is one at which no comment can
+none_comments : (g : Row) (m : Matchers) (b : ℕ) → m ≡ matchers_of g → BeginsNone m b → BeginsNoComment m b
+none_comments g m b is h =
+    let none : begins_choice g b ≡ false = none_begun g b m is h in
+    let h1 = or_right (b == 92) _ none in
+    let h2 = or_right (begins_opener g.quotes b) _ h1 in
+    let h3 = or_right (begins_opener g.verbatim_quotes b) _ h2 in
+    let h4 = or_right (begins_opener g.doc_quotes b) _ h3 in
+    let h5 = or_right (begins_opener g.multi_line_comments b) _ h4 in
+    let slash : (b == 92) ≡ false = or_left (b == 92) _ none in
+    let multi : begins_opener g.multi_line_comments b ≡ false = or_left (begins_opener g.multi_line_comments b) _ h4 in
+    let nested : begins_opener g.nested_comments b ≡ false = or_left (begins_opener g.nested_comments b) _ h5 in
+    let line : list_any (is_first_of b) g.line_comment ≡ false = or_right (begins_opener g.nested_comments b) _ h5 in
+    let no_comment : begins_comment g b ≡ false = rw (slash, multi, nested, line) refl in
+    record {
+      small = h.small;
+      outside = ap (λ (n : Matchers). slice_index_or n.begins_comment b false) is ∙ flag_at (begins_comment g) 256 b h.small ∙ no_comment;
+    }
+
+-- where no choice can begin at any byte of a front, and the byte behind it is no blank and can begin
+-- no comment, the part is code
+pub front_part : (g : Row) (s : IsSound g) (m : Matchers) → m ≡ matchers_of g → (docs_are_comments : Bool) (ended : Mode) → g.literate ≡ false → in_doc_string ended ≡ false
+    → (t : List ℕ) (i j e : ℕ) → i ≤ e → e < j → j ≤ length t → ((p : ℕ) → i ≤ p → p < e → BeginsNone m (get_or t p 0)) → is_blank (get_or t e 0) ≡ false
+    → BeginsNoComment m (get_or t e 0)
+    → class_of g docs_are_comments (record { begun = None; bytes = take (j - i) (drop i t); ended = ended }) ≡ Code
+front_part g s m is docs_are_comments ended plain no_doc t i j e low high within none solid behind =
+    let f : FirstSolid t i e = first_solid t i (e - i) e (omega (arith, low)) (is_blank (get_or t i 0)) refl solid in
+    let quiet : (p : ℕ) → i ≤ p → p ≤ e → BeginsNoComment m (get_or t p 0) = λ p l h. elim (cases_lt p e) [
+      | inl before ↦ none_comments g m (get_or t p 0) is (none p l before)
+      | inr here ↦ subst (λ q. BeginsNoComment m (get_or t q 0)) (omega (arith, h, here)) behind
+    ] in
+    quiet_part g s m is docs_are_comments ended plain no_doc t i j f.head f.low (omega (arith, f.high, high)) within f.blank f.solid (quiet i (omega arith) low) (quiet f.head f.low f.high)
 
 -- a part with a byte that isn't blank isn't blank
 not_all_blank : (u : List ℕ) (k : ℕ) → k < length u → is_blank (get_or u k 0) ≡ false → all_blank u ≡ false

@@ -17,6 +17,7 @@ pub mod LineEnds
 pub mod LineSteps
 pub mod Lines
 pub mod ListedLanguages
+pub mod NestedLines
 pub mod NewlineHere
 pub mod NoChild
 pub mod OneItem

@@ -6,8 +6,8 @@ use Rattle.tokei_table.specs.Lookups.{row_at}
 use Rattle.tokei_table.specs.Row.{Pair, Row}
 use Rattle.tokei_parts.specs.Choice.{Choice}
 use Rattle.tokei_parts.specs.Choice.Choice.{begins_line_comment, closes, escapes, opens, passes_over, takes_byte}
-use Rattle.tokei_parts.specs.Items.{enclosure}
-use Rattle.tokei_parts.specs.LineWalk.{chain_in}
+use Rattle.tokei_parts.specs.Items.{enclosure, kind_in}
+use Rattle.tokei_parts.specs.LineWalk.{chain_in, item_in, mode_in}
 use Rattle.tokei_parts.specs.Lines.{first_line, line_len}
 use Rattle.tokei_parts.specs.Modes.{innermost}
 use Rattle.tokei_parts.specs.Openings.{block_by, block_in}
@@ -20,12 +20,28 @@ use Rattle.tokei_parts.specs.SeenChoices.{enclosure_of, mode_of}
 use Rattle.tokei_parts.specs.Tally.{blocks_at}
 use Rattle.tokei_parts.specs.declared.items.Enclosure as Code
 use Rattle.tokei_parts.specs.declared.items.ItemKind.{ItemKind}
+use Rattle.tokei_parts.specs.declared.items.LineItem.{LineItem}
 use Rattle.tokei_parts.specs.declared.place.Place.{Place}
 use Rattle.tokei_parts.specs.declared.walk.Reach.{Reach}
 use Rattle.tokei_parts.proofs.Blocks.{blocks_fit}
 use Rattle.tokei_parts.proofs.Reaching.{reach_here}
 use Rattle.tokei_parts.proofs.Stepping.{goes_byte, goes_closer, goes_escape, goes_opener, goes_pass, goes_rest, no_closer}
 use Rattle.tokei_parts.proofs.Walking.{GoesIn}
+
+-- the kind and the closer that the walk of a line keeps are those of the item
+pub kind_of_item : (item : LineItem) → kind_in (mode_of (item_in item)) ≡ item.kind
+kind_of_item item = by_kind item.kind
+  where
+    by_kind : (kind : Option ItemKind) → kind_in (mode_of (item_in (record { kind = kind; closer = item.closer }))) ≡ kind
+    by_kind None = refl
+    by_kind (Some k) = refl
+
+pub mode_of_item : (item : LineItem) → mode_in item.kind item.closer.now ≡ mode_of (item_in item)
+mode_of_item item = by_kind item.kind
+  where
+    by_kind : (kind : Option ItemKind) → mode_in kind item.closer.now ≡ mode_of (item_in (record { kind = kind; closer = item.closer }))
+    by_kind None = refl
+    by_kind (Some k) = refl
 
 -- the innermost item is that one
 pub innermost_in : (item : Option Code.Enclosure) → innermost (chain_in item) ≡ mode_of item

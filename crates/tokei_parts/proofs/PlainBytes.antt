@@ -172,7 +172,7 @@ in_string r b t h false closer e =
     ∙ ap (λ y. cond y escapes takes_byte) (ap (λ y. y && (begins (92 ∷ []) t || is_some (opened r.quotes t))) h)
 
 -- by the matchers no choice begins at the byte
-none_begun : (r : Row) (b : ℕ) (m : Matchers) → m ≡ matchers_of r → BeginsNone m b → begins_choice r b ≡ false
+pub none_begun : (r : Row) (b : ℕ) (m : Matchers) → m ≡ matchers_of r → BeginsNone m b → begins_choice r b ≡ false
 none_begun r b m is h = sym (flag_at (begins_choice r) 256 b h.small) ∙ ap (λ (n : Matchers). slice_index_or n.begins b false) (sym is) ∙ h.outside
 
 pub none_begun_in_comment : (r : Row) (b : ℕ) (m : Matchers) → m ≡ matchers_of r → IsOutside m.begins_in_comment b → begins_in_comment r b ≡ false

@@ -19,6 +19,7 @@ pub mod MarkdownChildren
 pub mod Matchers
 pub mod Modes
 pub mod NamedLanguages
+pub mod NestedLine
 pub mod Openings
 pub mod Parts
 pub mod Places

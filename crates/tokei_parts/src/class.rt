@@ -6,6 +6,7 @@ ghost use Rattle.tokei_table.specs.RowOf.{pairs_of, row_of, tokens_of};
 ghost use Rattle.tokei_parts.specs.Items.{kind_in};
 ghost use Rattle.tokei_parts.specs.Class.{encloses, opens_with, class_of, head_of};
 ghost use Rattle.tokei_parts.specs.Items.{Mode};
+ghost use Rattle.tokei_parts.specs.LineWalk.{item_in, mode_in};
 ghost use Rattle.tokei_parts.specs.Class.{in_comment, in_string, in_doc_string, ends_opened};
 ghost use Rattle.tokei_parts.specs.Class.{keeps_columns};
 ghost use Rattle.tokei_parts.specs.CodeHeads.{BeginsNoComment, HasCodeHead, HasSolid};
@@ -17,7 +18,7 @@ ghost use Rattle.tokei_parts.specs.SeenChoices.{mode_of};
 ghost use Rattle.tokei_parts.specs.Seen.{chain_of};
 
 use crate::choice::{any_begins, begins};
-use crate::items::{Enclosure, ItemKind};
+use crate::items::{Enclosure, ItemKind, LineItem, kind_of};
 use crate::matchers::LanguageMatchers;
 use crate::reading::Reading;
 use crate::walk::innermost;
@@ -57,31 +58,58 @@ fn opens_with(pairs: &[(String, String)], text: &[u8], closer: &[u8]) -> bool
     false
 }
 
+/// Whether an item of that kind is a comment.
+#[inline(always)]
+fn is_comment(kind: Option<ItemKind>) -> bool
+    ensures { (m : Mode) → kind_in m ≡ kind → result ≡ in_comment m }
+{
+    match kind {
+        Some(kind) => kind == ItemKind::MultiLineComment,
+        None => false,
+    }
+}
+
+/// Whether an item of that kind is a string.
+#[inline(always)]
+fn is_string(kind: Option<ItemKind>) -> bool
+    ensures { (m : Mode) → kind_in m ≡ kind → result ≡ in_string m }
+{
+    match kind {
+        Some(kind) => kind != ItemKind::MultiLineComment,
+        None => false,
+    }
+}
+
+/// Whether an item of that kind is a doc string.
+#[inline(always)]
+fn is_doc_string(kind: Option<ItemKind>) -> bool
+    ensures { (m : Mode) → kind_in m ≡ kind → result ≡ in_doc_string m }
+{
+    match kind {
+        Some(kind) => kind == ItemKind::DocString,
+        None => false,
+    }
+}
+
+/// Whether a comment encloses the place.
 fn in_comment(mode: Option<Enclosure>) -> bool
     ensures { result ≡ in_comment (mode_of mode.entry) }
 {
-    match mode {
-        Some(enclosure) => enclosure.kind == ItemKind::MultiLineComment,
-        None => false,
-    }
+    is_comment(kind_of(mode))
 }
 
+/// Whether a string does.
 fn in_string(mode: Option<Enclosure>) -> bool
     ensures { result ≡ in_string (mode_of mode.entry) }
 {
-    match mode {
-        Some(enclosure) => enclosure.kind != ItemKind::MultiLineComment,
-        None => false,
-    }
+    is_string(kind_of(mode))
 }
 
+/// Whether a doc string does.
 fn in_doc_string(mode: Option<Enclosure>) -> bool
     ensures { result ≡ in_doc_string (mode_of mode.entry) }
 {
-    match mode {
-        Some(enclosure) => enclosure.kind == ItemKind::DocString,
-        None => false,
-    }
+    is_doc_string(kind_of(mode))
 }
 
 /// Whether comments are told by their column in the language.
@@ -213,16 +241,6 @@ fn has_solid(text: &[u8], start: usize, end: usize) -> bool
         }
     }
     false
-}
-
-/// Whether an item of that kind is a comment.
-fn is_comment(kind: Option<ItemKind>) -> bool
-    ensures { (m : Mode) → kind_in m ≡ kind → result ≡ in_comment m }
-{
-    match kind {
-        Some(kind) => kind == ItemKind::MultiLineComment,
-        None => false,
-    }
 }
 
 /// Whether no comment can begin at the byte.
@@ -361,33 +379,35 @@ fn stack_of<'t, 'a>(item: &'t Option<Enclosure<'a>>) -> &'t [Enclosure<'a>]
     }
 }
 
-/// The same of a part whose end that item alone encloses, or none. It stands in no caller's code, so
-/// that the caller's item stands in no memory but here.
+/// The same of a part whose end an item of that kind with that closer alone encloses, or none. It
+/// stands in no caller's code, so that the caller's item stands in no memory but here.
 #[inline(never)]
 fn class_by_all(
     reading: &Reading,
     begun: Option<ItemKind>,
     start: usize,
-    front: usize,
     stop: usize,
-    ended: Option<Enclosure>,
+    kind: Option<ItemKind>,
+    closer: &[u8],
 ) -> Class
-    requires low { start ≤ front }
-    requires high { front ≤ stop }
+    requires order { start ≤ stop }
     requires within { stop ≤ length reading.now.text.now }
-    requires plain { (p : ℕ) → start ≤ p → p < front
-        → BeginsNone reading.now.matchers.now (slice_index reading.now.text.now p) }
     ensures { (m : Mode) → kind_in m ≡ begun
         → result ≡ class_of (row_in reading.now) reading.now.docs_are_comments (record {
           begun = m;
           bytes = take (stop - start) (drop start reading.now.text.now);
-          ended = mode_of ended.entry;
+          ended = mode_in kind closer.now;
         }) }
 {
-    class_by(reading, begun, start, front, stop, stack_of(&ended))
+    let ended = match kind {
+        Some(kind) => Some(Enclosure { kind, closer }),
+        None => None,
+    };
+    class_by(reading, begun, start, start, stop, stack_of(&ended))
 }
 
-/// The same, where most lines are told at once by the kinds of the items and by a solid byte.
+/// The same, where most lines are told at once by the kinds of the items, by a solid byte, or by one
+/// that begins no comment.
 #[inline(always)]
 pub fn class_by_item(
     reading: &Reading,
@@ -395,7 +415,7 @@ pub fn class_by_item(
     start: usize,
     front: usize,
     stop: usize,
-    ended: Option<Enclosure>,
+    ended: LineItem,
 ) -> Class
     requires low { start ≤ front }
     requires high { front ≤ stop }
@@ -406,27 +426,33 @@ pub fn class_by_item(
         → result ≡ class_of (row_in reading.now) reading.now.docs_are_comments (record {
           begun = m;
           bytes = take (stop - start) (drop start reading.now.text.now);
-          ended = mode_of ended.entry;
+          ended = mode_of (item_in ended.entry);
         }) }
 {
     let literate = reading.syntax.literate;
     match begun {
-        None if !literate && !in_doc_string(ended) && has_solid(reading.text, start, front) => {
-            Class::Code
-        }
         None
             if !literate
                 && !reading.docs_are_comments
-                && in_string(ended)
+                && is_string(ended.kind)
                 && is_solid_at(reading.text, front, stop) => { Class::Code }
-        Some(_) if is_comment(begun) && !in_string(ended) => Class::Comment,
+        None if !literate && !is_doc_string(ended.kind) && has_solid(reading.text, start, front) =>
+            { Class::Code }
+        None
+            if !literate
+                && !is_doc_string(ended.kind)
+                && is_solid_at(reading.text, front, stop)
+                && begins_no_comment(reading.matchers, reading.text[front]) => { Class::Code }
+        Some(_) if is_comment(begun) && !is_string(ended.kind) => Class::Comment,
         Some(_) if !is_comment(begun) && !reading.docs_are_comments && !literate => Class::Code,
-        _ => class_by_all(reading, begun, start, front, stop, ended),
+        _ => class_by_all(reading, begun, start, stop, ended.kind, ended.closer),
     }
 }
 
 /// The class of each line that begins and ends within the item, as `class_of` has it: its bytes say
 /// nothing.
+#[tactic(auto, unfolding(crate::specs::Class::class_of))]
+#[inline(always)]
 pub fn class_within(reading: &Reading, item: Enclosure) -> Class
     ensures { (bytes : List ℕ)
         → result
@@ -437,14 +463,16 @@ pub fn class_within(reading: &Reading, item: Enclosure) -> Class
           ended = mode_of (Some item.entry);
         }) }
 {
-    let mode = Some(item);
-    class_of(
-        reading.syntax,
-        reading.docs_are_comments,
-        mode,
-        &reading.text[..0],
-        mode,
-    )
+    let is_comment = match item.kind {
+        ItemKind::MultiLineComment => true,
+        ItemKind::DocString => reading.docs_are_comments,
+        ItemKind::VerbatimString | ItemKind::OrdinaryString => false,
+    };
+    if is_comment || reading.syntax.literate {
+        Class::Comment
+    } else {
+        Class::Code
+    }
 }
 
 /// The class of a line that no item encloses at either end, as `class_of` has it. It stands in no

@@ -19,6 +19,16 @@ pub struct Enclosure<'a> {
     pub closer: &'a [u8],
 }
 
+/// The item that encloses a place of a line, or none. Each field is a local of its own in the walk,
+/// and no padding is copied.
+#[derive(Clone, Copy)]
+pub struct LineItem<'a> {
+    /// What it is, where one does.
+    pub kind: Option<ItemKind>,
+    /// The bytes of its closer, which mean nothing where none does.
+    pub closer: &'a [u8],
+}
+
 /// The kind of the item, where there is one.
 #[inline(always)]
 pub fn kind_of(mode: Option<Enclosure>) -> Option<ItemKind>

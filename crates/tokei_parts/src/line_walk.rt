@@ -9,12 +9,13 @@ ghost use Rattle.tokei_parts.specs.Places.{Begins, block_from, choice_from, text
 ghost use Rattle.tokei_parts.specs.Progress.{IsClosable};
 ghost use Rattle.tokei_parts.specs.Reached.{Advances, IsFront, IsReached, Reaches, part_stop};
 ghost use Rattle.tokei_parts.specs.ReadingOf.{row_in, blocks_of};
+ghost use Rattle.tokei_parts.specs.Seen.{chain_of};
 ghost use Rattle.tokei_parts.specs.SeenChoices.{choice_of, mode_of};
 ghost use Rattle.tokei_parts.specs.Walked.{IsLine};
 
 use crate::choice::Choice;
 use crate::class::{Class, class_by_item};
-use crate::items::{Enclosure, ItemKind, kind_of};
+use crate::items::{Enclosure, ItemKind, LineItem};
 use crate::line_ends::line_stop;
 use crate::place::Place;
 use crate::plain_bytes::{item_end, plain_end};
@@ -30,17 +31,8 @@ pub struct LineRead<'a> {
     pub steps: usize,
     /// Where it stops: behind its newline, or with the text.
     pub stop: usize,
-    /// The item that encloses that place, where one does.
-    pub item: Option<Enclosure<'a>>,
-}
-
-/// The item that encloses a place of a line, or none.
-#[derive(Clone, Copy)]
-struct LineItem<'a> {
-    /// What it is, where one does.
-    kind: Option<ItemKind>,
-    /// The bytes of its closer, which mean nothing where none does.
-    closer: &'a [u8],
+    /// The item that encloses that place, or none.
+    pub item: LineItem<'a>,
 }
 
 /// How far the walk of a line has come.
@@ -53,13 +45,12 @@ struct LineReach {
     base: usize,
 }
 
-/// That item or none, as the walk of a line keeps it. Each field is then a local of its own, and no
-/// padding is copied.
+/// The innermost of the items, which is the last of the stack, or none.
 #[inline(always)]
-fn line_item<'t>(item: Option<Enclosure<'t>>) -> LineItem<'t>
-    ensures { item_in result ≡ item.entry }
+pub fn line_item<'t>(stack: &[Enclosure<'t>]) -> LineItem<'t>
+    ensures { mode_of (item_in result) ≡ innermost (chain_of stack.now) }
 {
-    match item {
+    match stack.last() {
         Some(around) => LineItem {
             kind: Some(around.kind),
             closer: around.closer,
@@ -68,20 +59,6 @@ fn line_item<'t>(item: Option<Enclosure<'t>>) -> LineItem<'t>
             kind: None,
             closer: &[],
         },
-    }
-}
-
-/// The same, the other way round.
-#[inline(always)]
-fn enclosure<'t>(item: LineItem<'t>) -> Option<Enclosure<'t>>
-    ensures { result ≡ item_in item.entry }
-{
-    match item.kind {
-        Some(kind) => Some(Enclosure {
-            kind,
-            closer: item.closer,
-        }),
-        None => None,
     }
 }
 
@@ -330,12 +307,12 @@ fn line_read<'t>(
     ensures { (chain : Chain) → kind_in (innermost chain) ≡ begun
         → Reaches part.now chain (chain_in (item_in item.entry)) reach.at (reach.at - reach.base)
         → IsLine (row_in part.now.reading.now) (blocks_of part.now.reading.now)
-        part.now.behind_child part.now.reading.now.docs_are_comments chain (chain_in result.item)
+        part.now.behind_child part.now.reading.now.docs_are_comments chain
+        (chain_in (item_in result.item))
         part.now.start (text_of part.now) result.steps result.class result.stop }
 {
     // a newline that is left is one byte, and one choice
     let steps = stop - reach.base;
-    let item = enclosure(item);
     let class = class_by_item(part.reading, begun, part.start, front, stop, item);
     LineRead {
         class,
@@ -348,19 +325,20 @@ fn line_read<'t>(
 /// Reads the line that begins at the place, where that item encloses it or none, in a language that
 /// opens no children. It answers None where an item opens within another.
 #[inline(always)]
-pub fn read_line<'t>(part: &Place<'_, '_, 't>, item: Option<Enclosure<'t>>) -> Option<LineRead<'t>>
-    requires closable { IsClosable (chain_in item) }
+pub fn read_line<'t>(part: &Place<'_, '_, 't>, item: LineItem<'t>) -> Option<LineRead<'t>>
+    requires closable { IsClosable (chain_in (item_in item)) }
     requires begins { Begins part.now }
     requires some { part.now.start < length (text_of part.now) }
     requires childless { part.now.reading.now.family ≡ Family.Plain }
     ensures { IfSome result (λ line. IsLine (row_in part.now.reading.now)
         (blocks_of part.now.reading.now) part.now.behind_child
-        part.now.reading.now.docs_are_comments (chain_in item.entry) (chain_in line.item)
+        part.now.reading.now.docs_are_comments (chain_in (item_in item.entry))
+        (chain_in (item_in line.item))
         part.now.start (text_of part.now) line.steps line.class line.stop) }
 {
-    let begun = kind_of(item);
+    let begun = item.kind;
     let stop = line_stop(part.reading.text, part.end);
-    let mut item = line_item(item);
+    let mut item = item;
     let mut front = part.start;
     let mut reach = LineReach {
         at: part.start,

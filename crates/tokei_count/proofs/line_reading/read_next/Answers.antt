@@ -1,5 +1,5 @@
 use Rattle.std.proofs.Common.{sym, subst}
-use Rattle.tokei_parts.specs.LineWalk.{chain_in}
+use Rattle.tokei_parts.specs.LineWalk.{chain_in, item_in}
 use Rattle.tokei_parts.specs.Modes.{Chain}
 use Rattle.tokei_parts.specs.ReadingOf.{row_in, blocks_of}
 use Rattle.tokei_parts.specs.Seen.{chain_of}
@@ -19,7 +19,7 @@ line_is c =
     let line = c.in-Some.line in
     subst (λ (b : Chain). IsLine (row_in r) (blocks_of r) p.behind_child r.docs_are_comments b (chain_of c.put_item.new.stack.items) p.start r.text.now line.steps line.class line.stop)
     (sym c.requires.item)
-    (subst (λ (d : Chain). IsLine (row_in r) (blocks_of r) p.behind_child r.docs_are_comments (chain_in c.args.item) d p.start r.text.now line.steps line.class line.stop)
+    (subst (λ (d : Chain). IsLine (row_in r) (blocks_of r) p.behind_child r.docs_are_comments (chain_in (item_in c.args.item)) d p.start r.text.now line.steps line.class line.stop)
     (sym c.in_ok-put_item.ensures) c.in-Some.ensures)
 
 pub returns-in_err-add_line-clause-overflow : goal.returns-in_err-add_line-clause-overflow

@@ -1,6 +1,6 @@
 use Rattle.std.proofs.Common.{◌≡◌, ◌∙◌, ℕ, ◌+◌, ◌-◌, ◌<◌, ◌≤◌, Option, sym, ap, subst, take, arith}
 use Rattle.tokei_parts.specs.Class.{class_of}
-use Rattle.tokei_parts.specs.LineWalk.{chain_in}
+use Rattle.tokei_parts.specs.LineWalk.{chain_in, item_in}
 use Rattle.tokei_parts.specs.Lines.{first_line}
 use Rattle.tokei_parts.specs.Modes.{Chain, innermost}
 use Rattle.tokei_parts.specs.Places.{text_of}
@@ -30,12 +30,12 @@ class_by_item-class-requires-clause-plain c = c.requires.front.plain
 pub returns : goal.returns
 returns c = λ chain kind begun.
     let p : Place = c.args.part.now in
-    let item : Option Code.Enclosure = c.enclosure-item.result in
+    let item : Option Code.Enclosure = item_in c.args.item in
     let ended : Chain = chain_in item in
     let at : ℕ = c.args.reach.at in
     let steps : ℕ = at - c.args.reach.base in
     let all : ℕ = c.args.stop - c.args.reach.base in
-    let reaches : Reaches p chain ended at steps = subst (λ i. Reaches p chain (chain_in i) at steps) (sym c.enclosure-item.ensures) begun in
+    let reaches : Reaches p chain ended at steps = begun in
     let bytes_are : take (c.args.stop - p.start) (ahead p) ≡ first_line (ahead p) = ap (λ n. take n (ahead p)) (omega (arith, c.requires.stop)) ∙ take-first (ahead p) in
     let class_is : c.class_by_item-class.result ≡ class_of (row_in p.reading.now) p.reading.now.docs_are_comments
     (record { begun = innermost chain; bytes = first_line (ahead p); ended = innermost ended }) =

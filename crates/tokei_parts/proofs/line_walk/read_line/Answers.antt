@@ -5,7 +5,7 @@ use Rattle.tokei_parts.specs.Places.{text_of}
 use Rattle.tokei_parts.specs.Reached.{Advances, IsFront, Reaches}
 use Rattle.tokei_parts.specs.declared.line_walk.LineReach.{LineReach}
 use Rattle.tokei_parts.proofs.LineEnds.{end_is}
-use Rattle.tokei_parts.proofs.OneItem.{innermost_in}
+use Rattle.tokei_parts.proofs.OneItem.{innermost_in, kind_of_item}
 use Rattle.tokei_parts.proofs.Reaching.{end_in_text, front_none, reach_none}
 use Rattle.tokei_parts.proofs.line_walk.read_line.Goals as goal
 use Rattle.tokei_parts.proofs.line_walk.read_line.Goals.{Else-not-goes_on, in-Some, in-None}
@@ -16,21 +16,20 @@ line_stop-stop-requires c = end_in_text c.args.part.now c.requires.begins
 pub loop-reach-init : goal.loop-reach-init
 loop-reach-init c =
     let p = c.args.part.now in
-    let chain = chain_in c.args.item in
+    let chain = chain_in (item_in c.args.item) in
     let none : 0 ≡ p.start - p.start = omega arith in
     record {
       reaches =
-          subst (λ i. Reaches p chain (chain_in i) p.start (p.start - p.start)) (sym c.line_item-item.ensures)
-          (subst (Reaches p chain chain p.start) none (reach_none p chain c.requires.begins c.requires.closable));
+          subst (Reaches p chain chain p.start) none (reach_none p chain c.requires.begins c.requires.closable);
       low = omega arith;
       front = front_none p c.requires.begins;
     }
 
 pub go_item-goes_on-requires-clause-reached : goal.go_item-goes_on-requires-clause-reached
-go_item-goes_on-requires-clause-reached c = (chain_in c.args.item, c.loop-reach.invariant.reaches)
+go_item-goes_on-requires-clause-reached c = (chain_in (item_in c.args.item), c.loop-reach.invariant.reaches)
 
 pub go_plain-goes_on-requires-clause-reached : goal.go_plain-goes_on-requires-clause-reached
-go_plain-goes_on-requires-clause-reached c = (chain_in c.args.item, c.loop-reach.invariant.reaches)
+go_plain-goes_on-requires-clause-reached c = (chain_in (item_in c.args.item), c.loop-reach.invariant.reaches)
 
 -- where a turn leads, in an item and in plain text
 turned : (c : Else-not-goes_on) → Advances c.args.part.now (chain_in (item_in c.loop-reach.item)) (reach_of c.loop-reach.reach) (chain_in (item_in c.match-item.item)) (reach_of c.match-item.reach)
@@ -50,7 +49,7 @@ turned c =
 
 pub loop-reach-preserved : goal.loop-reach-preserved
 loop-reach-preserved c = record {
-  reaches = (turned c).goes_on (chain_in c.args.item) c.loop-reach.invariant.reaches;
+  reaches = (turned c).goes_on (chain_in (item_in c.args.item)) c.loop-reach.invariant.reaches;
   low = elim c.match-item.branch [
     | in-Some w ↦ subst (λ (r : LineReach). r.base ≤ r.at) (sym w.reach-is) w.go_item-goes_on.ensures.low
     | in-None w ↦ subst (λ (r : LineReach). r.base ≤ r.at) (sym w.reach-is) w.go_plain-goes_on.ensures.low
@@ -69,7 +68,7 @@ pub loop-reach-smaller : goal.loop-reach-smaller
 loop-reach-smaller c = nearer c.args.part.now.end c.loop-reach.reach.at c.match-item.reach.at c.loop-reach-test.true (turned c).on
 
 pub line_read-requires-clause-reached : goal.line_read-requires-clause-reached
-line_read-requires-clause-reached c = (chain_in c.args.item, c.loop-reach.invariant.reaches)
+line_read-requires-clause-reached c = (chain_in (item_in c.args.item), c.loop-reach.invariant.reaches)
 
 pub line_read-requires-clause-stop : goal.line_read-requires-clause-stop
 line_read-requires-clause-stop c =
@@ -78,5 +77,5 @@ line_read-requires-clause-stop c =
 
 pub returns : goal.returns
 returns c =
-    let kind = ap kind_in (innermost_in c.args.item) ∙ sym c.kind_of-begun.ensures in
-    c.line_read.ensures (chain_in c.args.item) kind c.loop-reach.invariant.reaches
+    let kind = ap kind_in (innermost_in (item_in c.args.item)) ∙ kind_of_item c.args.item in
+    c.line_read.ensures (chain_in (item_in c.args.item)) kind c.loop-reach.invariant.reaches

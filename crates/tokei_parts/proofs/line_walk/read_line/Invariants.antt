@@ -5,7 +5,7 @@ use Rattle.tokei_parts.proofs.line_walk.read_line.Given as goal
 
 abbrev pub invariant-loop-reach : goal.invariant-loop-reach
 invariant-loop-reach l = record {
-  reaches : Reaches l.part (chain_in l.fn.item) (chain_in (item_in l.item)) l.reach.at (l.reach.at - l.reach.base);
+  reaches : Reaches l.part (chain_in (item_in l.fn.item)) (chain_in (item_in l.item)) l.reach.at (l.reach.at - l.reach.base);
   low : l.reach.base ≤ l.reach.at;
   front : IsFront l.part l.front;
 }

@@ -10,7 +10,7 @@ use Rattle.tokei_parts.specs.SeenChoices.{choice_of, enclosure_of, mode_of}
 use Rattle.tokei_parts.specs.declared.choice.Choice as CodeChoice
 use Rattle.tokei_parts.specs.declared.items.Enclosure as Code
 use Rattle.tokei_parts.specs.declared.items.ItemKind.{ItemKind}
-use Rattle.tokei_parts.specs.declared.line_walk.LineItem.{LineItem}
+use Rattle.tokei_parts.specs.declared.items.LineItem.{LineItem}
 use Rattle.tokei_parts.specs.declared.place.Place.{Place}
 use Rattle.tokei_parts.specs.declared.walk.Reach.{Reach}
 use Rattle.tokei_parts.proofs.LineEnds.{end_is}
