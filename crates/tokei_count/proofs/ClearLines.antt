@@ -1,5 +1,5 @@
--- Lines of bytes at which no choice can begin are counted by their fronts: such a line is blank, or
--- code, and a comment in a literate language.
+-- Lines of bytes at which no choice can begin, and in a literate language lines of any bytes, are
+-- counted by their fronts: such a line is blank, or code, and a comment in a literate language.
 use Rattle.std.proofs.Common.{◌≡◌, ℕ, zero, suc, ◌+◌, ◌-◌, ◌<◌, ◌≤◌, ◌==◌, cond, Bool, true, false, List, [], ◌∷◌, length, take, drop, get_or, None, refl, sym, ◌∙◌, ap, subst, arith, length-drop}
 use Rattle.std.specs.Prelude.{⊤}
 use Rattle.std.proofs.lemmas.Bool.Decides.{Decides-eqb}
@@ -8,6 +8,7 @@ use Rattle.tokei_bytes.specs.Lines.{front_count, line_count}
 use Rattle.tokei_table.specs.Bytes.{all_blank, is_blank, newline, trim_start}
 use Rattle.tokei_parts.proofs.CodeHeads.{blank_part, code_head, head_not_blank, literate_head, no_head}
 use Rattle.tokei_parts.proofs.Lines.{take-first, first_within}
+use Rattle.tokei_parts.specs.Class.{class_of}
 use Rattle.tokei_parts.specs.CodeHeads.{FrontBeginsNone, HasCodeHead}
 use Rattle.tokei_parts.specs.Glance.{opener_place}
 use Rattle.tokei_parts.specs.Lines.{first_line}
@@ -57,7 +58,7 @@ headed_class r line head =
     by_literate true is head = literate_head (row_in r) r.docs_are_comments r.matchers.now line None is head ∙ sym (ap (λ y. cond y Comment Code) is)
     by_literate false is head = code_head (row_in r) r.sound r.matchers.now r.matched r.docs_are_comments None is refl line head ∙ sym (ap (λ y. cond y Comment Code) is)
 
--- what such a line is
+-- what a line is at whose bytes no choice can begin
 clear_class : (r : Reading) (line : List ℕ) → 0 < length line → AreClear r.matchers.now line → class_plain r line ≡ class_by (row_in r).literate (all_blank line)
 clear_class r line some clear = by_front (trim_start line) refl (front_clear r.matchers.now line clear)
   where
@@ -66,6 +67,21 @@ clear_class r line some clear = by_front (trim_start line) refl (front_clear r.m
     by_front (b ∷ w) is none =
         let head : HasCodeHead r.matchers.now line = record { first = first_clear r.matchers.now line some clear; head = subst (FrontBeginsNone r.matchers.now) (sym is) none.0 } in
         headed_class r line head
+
+-- what a line is in a literate language, whatever bytes it has
+literate_class : (r : Reading) (line : List ℕ) → (row_in r).literate ≡ true → class_plain r line ≡ class_by (row_in r).literate (all_blank line)
+unfolding class_of
+literate_class r line is = rw is refl
+
+-- what a line is that is told by its front alone: no choice can begin at its bytes, unless the language
+-- is literate
+told_class : (r : Reading) (line : List ℕ) → 0 < length line → ((row_in r).literate ≡ false → AreClear r.matchers.now line)
+    → class_plain r line ≡ class_by (row_in r).literate (all_blank line)
+told_class r line some clear = by_literate (row_in r).literate refl
+  where
+    by_literate : (x : Bool) → (row_in r).literate ≡ x → class_plain r line ≡ class_by (row_in r).literate (all_blank line)
+    by_literate true is = literate_class r line is
+    by_literate false is = clear_class r line some (clear is)
 
 never : false ≡ true → ⊥
 never h = cc
@@ -108,10 +124,11 @@ module _ (text : List ℕ) (start clear last : ℕ) (low : start ≤ clear) (wit
   pub start_taken : start ≤ length (take (start + last + 1) text)
   start_taken = omega (arith, newline_taken)
 
--- the lines of the text from the place on whose last byte, before `stop`, is a newline
-module _ (r : Reading) (p : ReadSoFar) (clear stop : ℕ) (some : p.start < stop) (high : stop ≤ clear) (within : clear ≤ length r.text.now)
+-- The lines of the text from the place on whose last byte, before `stop`, is a newline. Unless the
+-- language is literate, no choice can begin at their bytes.
+module _ (r : Reading) (p : ReadSoFar) (told stop : ℕ) (some : p.start < stop) (high : stop ≤ told) (within : told ≤ length r.text.now)
     (ends : get_or r.text.now (stop - 1) 0 ≡ newline)
-    (none : (k : ℕ) → p.start ≤ k → k < clear → BeginsNone r.matchers.now (get_or r.text.now k 0)) where
+    (none : (row_in r).literate ≡ false → (k : ℕ) → p.start ≤ k → k < told → BeginsNone r.matchers.now (get_or r.text.now k 0)) where
   abbrev text : List ℕ
   text = r.text.now
 
@@ -124,10 +141,10 @@ module _ (r : Reading) (p : ReadSoFar) (clear stop : ℕ) (some : p.start < stop
       let line : List ℕ = first_line u in
       let cut : List ℕ = drop at (take stop text) in
       let short : at + length line ≤ stop = omega (arith, ap (λ (w : List ℕ). length w) (same at low below), first_within cut, length-drop at (take stop text), length_seen, below) in
-      let byte : (k : ℕ) → k < length line → BeginsNone r.matchers.now (get_or line k 0) = λ k l.
+      let byte : (row_in r).literate ≡ false → (k : ℕ) → k < length line → BeginsNone r.matchers.now (get_or line k 0) = λ plain k l.
       let there : get_or line k 0 ≡ get_or text (at + k) 0 = ap (λ (w : List ℕ). get_or w k 0) (sym (take-first u)) ∙ get_or-take (length line) u k 0 l ∙ get_or-drop at text k 0 in
-      subst (BeginsNone r.matchers.now) (sym there) (none (at + k) (omega (arith, low)) (omega (arith, l, short, high))) in
-      clear_class r line (line_some text at (omega (arith, below, high, within))) (all_clear r.matchers.now line byte)
+      subst (BeginsNone r.matchers.now) (sym there) (none plain (at + k) (omega (arith, low)) (omega (arith, l, short, high))) in
+      told_class r line (line_some text at (omega (arith, below, high, within))) (λ plain. all_clear r.matchers.now line (byte plain))
     where
       length_seen : length (take stop text) ≡ stop
       length_seen = length-take-le stop text (omega (arith, high, within))
@@ -139,14 +156,14 @@ module _ (r : Reading) (p : ReadSoFar) (clear stop : ℕ) (some : p.start < stop
       all_before r p skipped plain stop next (omega (arith, high, within)) before same class_is all blank solid way (omega (arith, some)) known is whole sums
 
 -- the same by what the searches find
-pub clear_way : (r : Reading) (p : ReadSoFar) (next clear last blank solid : ℕ) (lines : Sums) → r.skips ≡ true → IsUnderWay r p → chain_of p.stack.items ≡ []
-    → next ≡ p.start + opener_place (openers_in r) (drop p.start r.text.now) → next ≤ length r.text.now → p.start ≤ clear → clear ≤ next
-    → ((k : ℕ) → p.start ≤ k → k < clear → BeginsNone r.matchers.now (get_or r.text.now k 0))
-    → last < length (take (clear - p.start) (drop p.start r.text.now)) → (get_or (take (clear - p.start) (drop p.start r.text.now)) last 0 == newline) ≡ true
+pub clear_way : (r : Reading) (p : ReadSoFar) (next told last blank solid : ℕ) (lines : Sums) → r.skips ≡ true → IsUnderWay r p → chain_of p.stack.items ≡ []
+    → next ≡ p.start + opener_place (openers_in r) (drop p.start r.text.now) → next ≤ length r.text.now → p.start ≤ told → told ≤ next
+    → ((row_in r).literate ≡ false → (k : ℕ) → p.start ≤ k → k < told → BeginsNone r.matchers.now (get_or r.text.now k 0))
+    → last < length (take (told - p.start) (drop p.start r.text.now)) → (get_or (take (told - p.start) (drop p.start r.text.now)) last 0 == newline) ≡ true
     → solid ≡ front_count true (drop p.start (take (p.start + last + 1) r.text.now)) → blank + solid ≡ line_count (drop p.start (take (p.start + last + 1) r.text.now))
     → sums_of lines ≡ counts_in (row_in r).literate blank solid → IsUnderWay r (gone_on p lines (p.start + last + 1))
-clear_way r p next clear last blank solid lines skipped way plain known within low high none below is solid_is whole sums =
-    let found = newline_at r.text.now p.start clear last low (omega (arith, high, within)) below is in
+clear_way r p next told last blank solid lines skipped way plain known within low high none below is solid_is whole sums =
+    let found = newline_at r.text.now p.start told last low (omega (arith, high, within)) below is in
     let ends : get_or r.text.now (p.start + last + 1 - 1) 0 ≡ newline = ap (λ n. get_or r.text.now n 0) (omega arith) ∙ found.1 in
-    clear_lines r p clear (p.start + last + 1) (omega arith) found.0 (omega (arith, high, within)) ends none skipped plain next (omega (arith, found.0, high)) known lines blank solid way
+    clear_lines r p told (p.start + last + 1) (omega arith) found.0 (omega (arith, high, within)) ends none skipped plain next (omega (arith, found.0, high)) known lines blank solid way
     solid_is whole sums

@@ -1,7 +1,8 @@
 //! Lines that are counted all at once, by their bytes alone: those that are left of a text without
-//! openers, in a language without comments, those of bytes at which nothing can begin, and those
-//! within an item.
-ghost use Rattle.std.specs.Prelude.{◌≡◌, ◌+◌, ◌≤◌, true, [], None, Some, drop, length};
+//! openers, in a language without comments, those of bytes at which nothing can begin, those before
+//! an opener in a literate language, and those within an item.
+ghost use Rattle.std.specs.Prelude.{◌≡◌, ℕ, ◌+◌, ◌<◌, ◌≤◌, true, false, [], None, Some, drop};
+ghost use Rattle.std.specs.Prelude.{length, slice_index};
 ghost use Rattle.std.specs.Prelude.{IsErrOf, IsOk, OnOk};
 ghost use Rattle.tokei_table.specs.FirstOpener.{first_opener};
 ghost use Rattle.tokei_table.specs.Openers.{openers};
@@ -9,6 +10,7 @@ ghost use Rattle.tokei_table.specs.RowOf.{row_of};
 ghost use Rattle.tokei_parts.specs.Calm.{IsCalm};
 ghost use Rattle.tokei_parts.specs.Glance.{opener_place};
 ghost use Rattle.tokei_parts.specs.Modes.{innermost};
+ghost use Rattle.tokei_parts.specs.PlainBytes.{BeginsNone};
 ghost use Rattle.tokei_parts.specs.ReadingOf.{openers_in, row_in};
 ghost use Rattle.tokei_parts.specs.Seen.{chain_of};
 ghost use Rattle.tokei_parts.specs.SeenChoices.{mode_of};
@@ -77,8 +79,27 @@ pub(crate) fn count_lines_left(reading: &Reading, so_far: &mut ReadSoFar) -> Res
     Ok(())
 }
 
-/// Counts the next lines at whose bytes no choice can begin, of those that stop before the first
-/// opener, at `next`, or with the text: by its front alone each is blank or not.
+/// Up to where the lines before the opener at `next` are told by their fronts alone: up to a byte
+/// at which a choice can begin, or in a literate language, where any line that isn't blank is a
+/// comment, up to the opener.
+#[inline(always)]
+fn told_end(reading: &Reading, start: usize, next: usize) -> usize
+    requires order { start ≤ next }
+    requires within { next ≤ length reading.now.text.now }
+    ensures low { start ≤ result }
+    ensures high { result ≤ next }
+    ensures told { (row_in reading.now).literate ≡ false → (p : ℕ) → start ≤ p → p < result
+        → BeginsNone reading.now.matchers.now (slice_index reading.now.text.now p) }
+{
+    if reading.syntax.literate {
+        return next;
+    }
+    reading.matchers.plain_end(reading.text, start, next)
+}
+
+/// Counts the next lines at whose bytes no choice can begin, or in a literate language whatever
+/// bytes they have, of those that stop before the first opener, at `next`, or with the text: by its
+/// front alone each is blank or not.
 #[inline(never)]
 fn count_stretch(reading: &Reading, so_far: &mut ReadSoFar, next: usize) -> Result<(), CountError>
     requires skips { reading.now.skips ≡ true }
@@ -99,8 +120,8 @@ fn count_stretch(reading: &Reading, so_far: &mut ReadSoFar, next: usize) -> Resu
     ensures overflow { IsErrOf result CountError.Overflow → ¬ Fits (reading_of reading.now) }
 {
     let text = reading.text;
-    let clear = reading.matchers.plain_end(text, so_far.start, next);
-    let Some(last) = memrchr(b'\n', &text[so_far.start..clear]) else {
+    let told = told_end(reading, so_far.start, next);
+    let Some(last) = memrchr(b'\n', &text[so_far.start..told]) else {
         return Ok(());
     };
     let stop = so_far.start + last + 1;
@@ -117,8 +138,12 @@ fn count_stretch(reading: &Reading, so_far: &mut ReadSoFar, next: usize) -> Resu
 /// at them all at once takes some preparation.
 const LONG: usize = 256;
 
-/// Counts the next lines at whose bytes no choice can begin, where the first opener, at `next`, is
-/// far enough away.
+/// The same in a literate language, where the lines before an opener are looked at all at once with
+/// no preparation by a search for a byte at which a choice can begin.
+const SHORT: usize = 64;
+
+/// Counts the next lines at whose bytes no choice can begin, or in a literate language whatever
+/// bytes they have, where the first opener, at `next`, is far enough away.
 #[inline(always)]
 pub(crate) fn count_clear_lines(
     reading: &Reading,
@@ -142,7 +167,8 @@ pub(crate) fn count_clear_lines(
         → IsOk result }
     ensures overflow { IsErrOf result CountError.Overflow → ¬ Fits (reading_of reading.now) }
 {
-    if next - so_far.start < LONG {
+    let far = if reading.syntax.literate { SHORT } else { LONG };
+    if next - so_far.start < far {
         return Ok(());
     }
     count_stretch(reading, so_far, next)

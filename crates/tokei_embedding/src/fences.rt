@@ -101,16 +101,21 @@ fn next_backticks(text: &[u8], from: usize, to: usize) -> usize
     to
 }
 
-/// The place of the first fence opening in the part `text[from..to]`, counted from its front: three
-/// backticks, bytes that aren't blank, and one blank.
-pub fn first_fence(text: &[u8], from: usize, to: usize) -> Option<usize>
+/// The place of the first fence opening in the part `text[from..to]`, counted from its front, where
+/// none stands at the front itself.
+#[inline(never)]
+fn search_fence(text: &[u8], from: usize, to: usize) -> Option<usize>
     requires order { from ≤ to }
     requires ends { to ≤ length text.now }
+    requires front { opens_fence (take (to - from) (drop from text.now)) ≡ false }
     ensures value { result ≡ first_fence (take (to - from) (drop from text.now)) }
     ensures within { let part = take (to - from) (drop from text.now)
         in IfSome result (λ i. i + (info_len (drop i part) + 4) ≤ to - from) }
 {
-    let mut at = next_backticks(text, from, to);
+    if from == to {
+        return None;
+    }
+    let mut at = next_backticks(text, from + 1, to);
     while at < to {
         let rest = &text[at..to];
         if opens_fence(rest) {
@@ -122,6 +127,23 @@ pub fn first_fence(text: &[u8], from: usize, to: usize) -> Option<usize>
         at = next_backticks(text, at + 1, to);
     }
     None
+}
+
+/// The place of the first fence opening in the part `text[from..to]`, counted from its front: three
+/// backticks, bytes that aren't blank, and one blank. Mostly one stands at the front itself, and
+/// nothing is searched.
+#[inline(always)]
+pub fn first_fence(text: &[u8], from: usize, to: usize) -> Option<usize>
+    requires order { from ≤ to }
+    requires ends { to ≤ length text.now }
+    ensures value { result ≡ first_fence (take (to - from) (drop from text.now)) }
+    ensures within { let part = take (to - from) (drop from text.now)
+        in IfSome result (λ i. i + (info_len (drop i part) + 4) ≤ to - from) }
+{
+    if opens_fence(&text[from..to]) {
+        return Some(0);
+    }
+    search_fence(text, from, to)
 }
 
 /// The first place in the text at which three backticks stand.

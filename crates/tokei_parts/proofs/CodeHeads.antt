@@ -218,12 +218,18 @@ pub head_not_blank : (m : Matchers) (t v : List ℕ) → trim_start t ≡ v → 
 head_not_blank m t [] e k = absurd k
 head_not_blank m t (b ∷ w) e k = front_not_blank t b w e
 
--- in a literate language a part with such a head is a comment
+-- in a literate language a part that isn't blank is a comment
+pub literate_part : (g : Row) (docs_are_comments : Bool) (t : List ℕ) (ended : Mode)
+    → g.literate ≡ true → all_blank t ≡ false
+    → class_of g docs_are_comments (record { begun = None; bytes = t; ended = ended }) ≡ Comment
+unfolding class_of
+literate_part g docs_are_comments t ended literate solid = rw (solid, literate) refl
+
+-- so is one with such a head
 pub literate_head : (g : Row) (docs_are_comments : Bool) (m : Matchers) (t : List ℕ) (ended : Mode)
     → g.literate ≡ true → HasCodeHead m t
     → class_of g docs_are_comments (record { begun = None; bytes = t; ended = ended }) ≡ Comment
-unfolding class_of
-literate_head g docs_are_comments m t ended literate h = rw (head_not_blank m t (trim_start t) refl h.head, literate) refl
+literate_head g docs_are_comments m t ended literate h = literate_part g docs_are_comments t ended literate (head_not_blank m t (trim_start t) refl h.head)
 
 -- no byte before place h is no blank, and the one there, where there is one, isn't
 pub front_at : (u : List ℕ) (h : ℕ) → h ≤ length u → ((k : ℕ) → k < h → is_blank (get_or u k 0) ≡ true) → (h < length u → is_blank (get_or u h 0) ≡ false) → trim_start u ≡ drop h u

@@ -350,6 +350,8 @@ pub fn class_by(
             Some(Class::Blank) => Class::Blank,
             Some(Class::Code) if !syntax.literate && !in_doc_string(ended) => Class::Code,
             None if !syntax.literate && !docs_are_comments && in_string(ended) => Class::Code,
+            None if syntax.literate => Class::Comment,
+            Some(Class::Code) if syntax.literate => Class::Comment,
             _ => class_begun_plain(reading, start, stop, stack),
         },
         Some(_) if is_comment(begun) && !in_string(ended) => Class::Comment,

@@ -36,13 +36,13 @@ pub at_entries : (es : List (ℕ × CodeStats)) (k : ℕ) → at (blobs_of (entr
 at_entries es k = at_seen es k
 
 -- what is put at a language
-pub put_one : (old new : List (ℕ × CodeStats)) (k : ℕ) (v w : CodeStats)
-    → stats_of v ≡ joined (option_map stats_of (lookup (is_at (nat_cmp k)) old)) (λ s. sum s (stats_of w)) (stats_of w)
+pub put_one : (old new : List (ℕ × CodeStats)) (k : ℕ) (v : CodeStats) (t : Statistics)
+    → stats_of v ≡ joined (option_map stats_of (lookup (is_at (nat_cmp k)) old)) (λ s. sum s t) t
     → new ≡ insert_entry nat_cmp old k v
-    → blobs_of (entries_of new) ≡ put (blobs_of (entries_of old)) k (joined (at (blobs_of (entries_of old)) k) (λ s. sum s (stats_of w)) (stats_of w))
-put_one old new k v w e f =
+    → blobs_of (entries_of new) ≡ put (blobs_of (entries_of old)) k (joined (at (blobs_of (entries_of old)) k) (λ s. sum s t) t)
+put_one old new k v t e f =
     ap (λ es. blobs_of (entries_of es)) f ∙ ap blobs_of (insert_seen old k v) ∙ sym (put_seen (entries_of old) k (stats_of v))
-    ∙ ap (put (blobs_of (entries_of old)) k) (e ∙ ap (λ o. joined o (λ s. sum s (stats_of w)) (stats_of w)) (sym (at_seen old k)))
+    ∙ ap (put (blobs_of (entries_of old)) k) (e ∙ ap (λ o. joined o (λ s. sum s t) t) (sym (at_seen old k)))
 
 -- what one turn of the loop does
 pub add_one : (old new rest : List (ℕ × CodeStats)) (k : ℕ) (v w : CodeStats)

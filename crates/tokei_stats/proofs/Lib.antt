@@ -4,6 +4,7 @@ pub mod BlobsSet
 pub mod Cloning
 pub mod Equality
 pub mod Fitting
+pub mod Joining
 pub mod MapsOrdered
 pub mod Members
 pub mod NoBlobs

@@ -32,10 +32,11 @@ impl fmt::Debug for CodeStats {
 }
 
 impl CodeStats {
-    ghost use Rattle.std.specs.Prelude.{◌≡◌, ◌≢◌, ◌<◌, Err, IfOk, IsOk, OnOk, OnErr, IfErr, IsErrOf, IsTrue};
+    ghost use Rattle.std.specs.Prelude.{◌≡◌, ◌≢◌, ◌<◌, Err, IfOk, IsOk, OnOk, OnErr};
+    ghost use Rattle.std.specs.Prelude.{IfErr, IfSome, IsErrOf, IsTrue};
     ghost use Rattle.tokei_stats.specs.Statistics.{blobs, empty, sum, summary, lines_of, plus};
     ghost use Rattle.tokei_stats.specs.Statistics.Statistics.{node};
-    ghost use Rattle.tokei_stats.specs.Statistics.Blobs.{none};
+    ghost use Rattle.tokei_stats.specs.Statistics.Blobs.{blob, none};
     ghost use Rattle.tokei_stats.specs.Overflow.{CountsFit, Fits};
     ghost use Rattle.tokei_stats.specs.Seen.{stats_of, counts_of, sums_of, blobs_of, entries_of};
 
@@ -168,13 +169,37 @@ impl CodeStats {
         ensures err { OnErr result (self.new ≡ self.old) }
     {
         let both = self.own_counts().plus(other.own_counts())?;
-        self.blanks = both.blanks;
-        self.code = both.code;
-        self.comments = both.comments;
+        self.set_counts(both);
         Ok(())
     }
 
-    /// Adds the other statistics, as `add`; where they have no blobs, the three numbers alone.
+    /// Gives the text itself these counts.
+    fn set_counts(&mut self, counts: Sums)
+        ensures { stats_of self.new ≡ node (sums_of counts) (blobs (stats_of self.old)) }
+    {
+        self.blanks = counts.blanks;
+        self.code = counts.code;
+        self.comments = counts.comments;
+    }
+
+    /// The language and the counts of the blob, where there is just one, and none inside it.
+    fn only_blob(&self) -> Option<(LanguageType, Sums)>
+        ensures { IfSome result (λ b. blobs (stats_of self.now)
+            ≡ blob b.0 (node (sums_of b.1) none) none) }
+    {
+        if self.blobs.len() != 1 {
+            return None;
+        }
+        match self.blobs.first_key_value() {
+            Some((language, stats)) if stats.blobs.is_empty() => {
+                Some((*language, stats.own_counts()))
+            }
+            _ => None,
+        }
+    }
+
+    /// Adds the other statistics, as `add`; with no copy where they have no blobs, or just one, of
+    /// a language that stands here too.
     fn join(&mut self, other: &CodeStats) -> Result<(), CountError>
         ensures ok { OnOk result
             (stats_of self.new ≡ sum (stats_of self.old) (stats_of other.now)) }
@@ -184,6 +209,18 @@ impl CodeStats {
     {
         if other.blobs.is_empty() {
             return self.add_lines(other);
+        }
+        if let Some((language, counts)) = other.only_blob() {
+            if let Some(there) = self.blobs.get(&language) {
+                let own = self.own_counts().plus(other.own_counts())?;
+                let inner = there.own_counts().plus(counts)?;
+                // Up to here nothing has changed; from here nothing is refused.
+                if let Some(there) = self.blobs.get_mut(&language) {
+                    there.set_counts(inner);
+                }
+                self.set_counts(own);
+                return Ok(());
+            }
         }
         self.add(other)
     }

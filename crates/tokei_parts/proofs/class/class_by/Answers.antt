@@ -1,4 +1,4 @@
-use Rattle.std.proofs.Common.{◌≡◌, ℕ, List, Bool, None, Some, [], ◌-◌, drop, take, false, refl, sym, ap, ◌∙◌}
+use Rattle.std.proofs.Common.{◌≡◌, ℕ, List, Bool, None, Some, [], ◌-◌, drop, take, true, false, refl, sym, ap, ◌∙◌}
 use Rattle.tokei_table.specs.Bytes.{trim_start}
 use Rattle.tokei_table.specs.Row.{Row}
 use Rattle.tokei_parts.specs.Items.{kind_in}
@@ -11,7 +11,7 @@ use Rattle.tokei_parts.specs.ReadingOf.{row_in}
 use Rattle.tokei_parts.specs.declared.items.ItemKind.{ItemKind}
 use Rattle.tokei_parts.specs.declared.items.ItemKind.TheVariants.{DocString, VerbatimString, OrdinaryString, MultiLineComment}
 use Rattle.tokei_parts.specs.declared.reading.Reading.{Reading}
-use Rattle.tokei_parts.proofs.CodeHeads.{code_head, blank_part, comment_part, ends_in_string, solid_front, string_part}
+use Rattle.tokei_parts.proofs.CodeHeads.{code_head, blank_part, comment_part, ends_in_string, literate_head, literate_part, solid_front, string_part}
 use Rattle.tokei_parts.proofs.class.class_by.Goals as goal
 
 plain_of : (m : Mode) → kind_in m ≡ None → m ≡ None
@@ -78,6 +78,14 @@ returns-in-None-class_by_front c = λ m is.
     ∙ ends_in_string (row_in r) part (ended c.args.stack.now) literate (c.class_by_front.ensures.solid c.in-None-class_by_front.is)
     (sym (ap in_string c.innermost-ended.ensures) ∙ sym c.in_string.ensures ∙ c.if-in_string.true))
 
+pub returns-in-None-2-class_by_front : goal.returns-in-None-2-class_by_front
+returns-in-None-2-class_by_front c = λ m is.
+    let r : Reading = c.args.reading.now in
+    let part : List ℕ = part_bytes r c.args.start c.args.stop in
+    let literate : (row_in r).literate ≡ true = ap (λ (g : Row). g.literate) (sym r.row) ∙ c.if-syntax-2.true in
+    sym (ap (λ (n : Mode). class_of (row_in r) r.docs_are_comments (record { begun = n; bytes = part; ended = ended c.args.stack.now })) (plain_of m (is ∙ c.in-None.is))
+    ∙ literate_part (row_in r) r.docs_are_comments part (ended c.args.stack.now) literate (c.class_by_front.ensures.solid c.in-None-2-class_by_front.is))
+
 pub returns-in-Some-Code : goal.returns-in-Some-Code
 returns-in-Some-Code c = λ m is.
     let r : Reading = c.args.reading.now in
@@ -86,6 +94,15 @@ returns-in-Some-Code c = λ m is.
     sym (ap (λ (n : Mode). class_of (row_in r) r.docs_are_comments (record { begun = n; bytes = part; ended = ended c.args.stack.now })) (plain_of m (is ∙ c.in-None.is))
     ∙ code_head (row_in r) r.sound r.matchers.now r.matched r.docs_are_comments (ended c.args.stack.now) literate
     (sym (ap in_doc_string c.innermost-ended.ensures) ∙ sym c.in_doc_string-then-not-syntax-2.ensures ∙ c.if-not-in_doc_string-2.true) part
+    (c.class_by_front.ensures.code (c.in-Some-Code.is ∙ ap Some c.in-Some-Code.field-0-is)))
+
+pub returns-in-Some-Code-2 : goal.returns-in-Some-Code-2
+returns-in-Some-Code-2 c = λ m is.
+    let r : Reading = c.args.reading.now in
+    let part : List ℕ = part_bytes r c.args.start c.args.stop in
+    let literate : (row_in r).literate ≡ true = ap (λ (g : Row). g.literate) (sym r.row) ∙ c.if-syntax.true in
+    sym (ap (λ (n : Mode). class_of (row_in r) r.docs_are_comments (record { begun = n; bytes = part; ended = ended c.args.stack.now })) (plain_of m (is ∙ c.in-None.is))
+    ∙ literate_head (row_in r) r.docs_are_comments r.matchers.now part (ended c.args.stack.now) literate
     (c.class_by_front.ensures.code (c.in-Some-Code.is ∙ ap Some c.in-Some-Code.field-0-is)))
 
 pub returns-in-Some : goal.returns-in-Some

@@ -1,6 +1,6 @@
 use Rattle.std.proofs.Common.{◌≡◌, ℕ, ◌-◌, ◌<◌, ◌≤◌, false, take, drop}
 use Rattle.tokei_embedding.specs.Fences.{opens_fence}
-use Rattle.tokei_embedding.proofs.fences.first_fence.Given as goal
+use Rattle.tokei_embedding.proofs.fences.search_fence.Given as goal
 
 abbrev pub invariant-loop-at : goal.invariant-loop-at
 invariant-loop-at l = record {
