@@ -3,7 +3,7 @@ use std::alloc::Global;
 use std::fs::{Metadata, OpenFile};
 use std::io;
 use std::io::{Error, ErrorKind, Read};
-use tokei_real::reading::{all_by, all_of, all_within, head_of};
+use tokei_real::reading::{all_into, all_of, all_within, head_of};
 
 /// A reader that gives a text, two bytes a read at most, and has then ended or fails.
 #[derive(Clone, Copy)]
@@ -102,8 +102,8 @@ impl OpenFile for Changed<'_> {
     }
 }
 
-/// The bytes of a buffer in which another file stood, and how many bytes the file is said to have.
-static BUFFERS: [(usize, u64); 9] = [
+/// How many bytes the memory has in which another file stood, and how many the file is said to have.
+static ROOMS: [(usize, u64); 9] = [
     (0, 5),
     (1, 0),
     (2, 5),
@@ -115,8 +115,8 @@ static BUFFERS: [(usize, u64); 9] = [
     (100, 5),
 ];
 
-/// Whether a file of five bytes is read by a buffer, or its reader's fault is answered.
-fn is_read_by(alloc: Global, buffer: &mut [u8], said: u64, fails: bool) -> bool {
+/// Whether a file of five bytes is read into room of that many, or its reader's fault is answered.
+fn is_read_into(alloc: Global, length: usize, said: u64, fails: bool) -> bool {
     let reader = Changed {
         inner: Slow {
             left: b"abcde",
@@ -125,28 +125,22 @@ fn is_read_by(alloc: Global, buffer: &mut [u8], said: u64, fails: bool) -> bool 
         said,
         interrupts: false,
     };
-    match all_by(alloc, reader, buffer) {
-        Ok(bytes) => !fails && bytes.as_slice() == b"abcde".as_slice(),
-        Err(_) => fails,
-    }
-}
-
-/// The same by one buffer of that length, of a file that is read and then of one that fails.
-fn is_read_twice(alloc: Global, length: usize, said: u64) -> bool {
     match vec![in alloc; b'x'; length] {
-        Ok(mut buffer) => {
-            is_read_by(alloc, &mut buffer, said, false)
-                && is_read_by(alloc, &mut buffer, said, true)
-        }
+        Ok(room) => match all_into(reader, room) {
+            Ok(content) => !fails && content.as_slice() == b"abcde".as_slice(),
+            Err(_) => fails,
+        },
         Err(_) => false,
     }
 }
 
-// A buffer that is too small, as large as the file, and larger; a file that grew or shrank since
-// its length was asked.
+// Room that is too small, as large as the file, and larger; a file that grew or shrank since its
+// length was asked.
 #[test]
-fn files_by_a_kept_buffer(rt: HostRuntime) {
-    for (length, said) in BUFFERS {
-        assert!(rt; is_read_twice(rt.alloc(), length, said), "{length}, {said}");
+fn files_into_room_of_another(rt: HostRuntime) {
+    for (length, said) in ROOMS {
+        let is_read = is_read_into(rt.alloc(), length, said, false)
+            && is_read_into(rt.alloc(), length, said, true);
+        assert!(rt; is_read, "{length}, {said}");
     }
 }

@@ -1,5 +1,5 @@
 //! The decoding of a file's contents.
-ghost use Rattle.std.specs.Prelude.{◌≡◌, None, Ok, IfOk, slice_index};
+ghost use Rattle.std.specs.Prelude.{◌≡◌, None, Ok, IfOk, MatchOption, slice_index};
 ghost use Rattle.tokei_bytes.specs.Decoding.{order_of, unit_of, units_of, text_of_units, decoded};
 
 use std::alloc::{AllocError, Global};
@@ -18,9 +18,22 @@ pub fn decode_text(alloc: Global, bytes: Vec<u8>) -> Result<Vec<u8>, AllocError>
     ensures decoded { IfOk result (λ text. text.items ≡ decoded bytes.items) }
     ensures unmarked { order_of bytes.items ≡ None → result ≡ Ok bytes }
 {
-    match mark_of(&bytes) {
-        Some(order) => text_of_units(alloc, order, &bytes[2..]),
+    match decode_marked(alloc, &bytes)? {
+        Some(text) => Ok(text),
         None => Ok(bytes),
+    }
+}
+
+/// What `decode_text` makes of contents with a mark; `None` where there is none, since they are
+/// counted as they stand, and then it takes no memory.
+pub fn decode_marked(alloc: Global, bytes: &[u8]) -> Result<Option<Vec<u8>>, AllocError>
+    ensures decoded { IfOk result (λ text. MatchOption text (decoded bytes.now ≡ bytes.now)
+        (λ text. text.items ≡ decoded bytes.now)) }
+    ensures unmarked { order_of bytes.now ≡ None → result ≡ Ok None }
+{
+    match mark_of(bytes) {
+        Some(order) => Ok(Some(text_of_units(alloc, order, &bytes[2..])?)),
+        None => Ok(None),
     }
 }
 

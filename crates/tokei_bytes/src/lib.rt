@@ -19,7 +19,7 @@ mod slots;
 pub use bit_set::BitSet;
 pub use boundaries::find_char_boundary;
 pub use byte_set::ByteSet;
-pub use decoding::decode_text;
+pub use decoding::{decode_marked, decode_text};
 pub use lines::{LineCounts, LineMasks, count_lines, line_masks};
 pub use near::first_of_one;
 pub use one_of::{

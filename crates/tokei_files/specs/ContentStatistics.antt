@@ -8,11 +8,14 @@ use Rattle.tokei_bytes.specs.Decoding.{decoded}
 use Rattle.tokei_folders.specs.Tree.{Tree}
 use Rattle.tokei_files.specs.Contents.{content_at}
 
--- the statistics of a content in a language, where `docs` says whether doc strings count as
--- comments
+-- the statistics of a text in a language, where `docs` says whether doc strings count as comments
+abbrev pub stats_of_text : List Row → Bool → ℕ → List ℕ → Statistics
+stats_of_text rows docs language text =
+    reading (languages_of rows) docs outermost_levels language text
+
+-- the statistics of a content, decoded
 unfoldable pub stats_in : List Row → Bool → ℕ → List ℕ → Statistics
-stats_in rows docs language content =
-    reading (languages_of rows) docs outermost_levels language (decoded content)
+stats_in rows docs language content = stats_of_text rows docs language (decoded content)
 
 -- the statistics of the file at a place, where it can be read
 abbrev pub stats_at : Tree → List Row → Bool → ℕ → List ℕ → Option Statistics

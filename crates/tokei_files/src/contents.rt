@@ -5,14 +5,14 @@ ghost use Rattle.tokei_folders.specs.declared.fs.Fault.TheVariants.{Refused as R
 ghost use Rattle.tokei_files.specs.Contents.{content_at};
 ghost use Rattle.tokei_folders.specs.AsTheyWere.{SameTree, FaultsStay};
 
-use tokei_folders::{Fault, Folders};
+use tokei_folders::{Content, Fault, Folders};
 
 /// The content of the file at a place; whether the walk has just listed it. `Refused` where it
 /// can't be read, else `Memory`; the folders keep their tree.
-pub fn content<F: Folders>(folders: &mut F, place: &str, listed: bool) -> Result<Vec<u8>, Fault>
+pub fn content<F: Folders>(folders: &mut F, place: &str, listed: bool) -> Result<Content, Fault>
     ensures same { SameTree F.tree folders.old folders.new }
     ensures told { Told (F.tree folders.old) (λ t. IfOk result (λ c.
-        content_at t place.now ≡ Some c.items)) }
+        content_at t place.now ≡ Some c)) }
     ensures refused { result ≡ Err RefusedFault → Told (F.tree folders.old) (λ t.
         content_at t place.now ≡ None) }
     ensures honest { result ≢ Err MemoryFault → FaultsStay F.memory_faults folders.old folders.new }
@@ -20,6 +20,6 @@ pub fn content<F: Folders>(folders: &mut F, place: &str, listed: bool) -> Result
     if listed {
         folders.read_listed(place)
     } else {
-        folders.read(place)
+        Ok(Content::from_vec(folders.read(place)?))
     }
 }

@@ -6,13 +6,13 @@ ghost use Rattle.tokei_stats.specs.Seen.{stats_of};
 ghost use Rattle.tokei_folders.specs.Answers.{Told};
 ghost use Rattle.tokei_files.specs.declared.error.ParseFault.TheVariants.{Refused as NotRead, Memory as OutOfMemory, Overflow as TooMany};
 ghost use Rattle.tokei_files.specs.Contents.{content_at};
-ghost use Rattle.tokei_files.specs.ContentStatistics.{stats_at, stats_in};
+ghost use Rattle.tokei_files.specs.ContentStatistics.{stats_at, stats_in, stats_of_text};
 ghost use Rattle.tokei_folders.specs.AsTheyWere.{SameTree, FaultsStay};
 
 use crate::contents::content;
 use crate::error::ParseFault;
 use std::alloc::Global;
-use tokei_bytes::decode_text;
+use tokei_bytes::decode_marked;
 use tokei_count::{Counter, parse_from_slice};
 use tokei_folders::Folders;
 use tokei_options::CountConfig;
@@ -31,19 +31,35 @@ pub struct Counting<'a, 't> {
 }
 
 impl Counting<'_, '_> {
-    /// The statistics of a content in a language, once it is decoded. `Overflow` comes only where
-    /// one of its counts passes the greatest `usize`.
-    fn count(&self, language: LanguageType, content: Vec<u8>) -> Result<CodeStats, ParseFault>
+    /// The statistics of a text in a language. `Overflow` comes only where one of its counts passes
+    /// the greatest `usize`.
+    fn count_text(&self, language: LanguageType, text: &[u8]) -> Result<CodeStats, ParseFault>
         requires { language < length self.now.counter.now }
         ensures stats { IfOk result (λ s. stats_of s
-            ≡ stats_in self.now.counter.now (docs_of self.now.config) language content.items) }
+            ≡ stats_of_text self.now.counter.now (docs_of self.now.config) language text.now) }
         ensures overflow { result ≡ Err TooMany
             → ¬ Fits
-            (stats_in self.now.counter.now (docs_of self.now.config) language content.items) }
+            (stats_of_text self.now.counter.now (docs_of self.now.config) language text.now) }
         ensures counted { result ≢ Err NotRead }
     {
-        let text = decode_text(self.alloc, content)?;
-        Ok(parse_from_slice(self.alloc, self.counter, language, &text, &self.config)?)
+        Ok(parse_from_slice(self.alloc, self.counter, language, text, &self.config)?)
+    }
+
+    /// The statistics of a content in a language, once it is decoded. `Overflow` comes only where
+    /// one of its counts passes the greatest `usize`.
+    fn count(&self, language: LanguageType, content: &[u8]) -> Result<CodeStats, ParseFault>
+        requires { language < length self.now.counter.now }
+        ensures stats { IfOk result (λ s. stats_of s
+            ≡ stats_in self.now.counter.now (docs_of self.now.config) language content.now) }
+        ensures overflow { result ≡ Err TooMany
+            → ¬ Fits
+            (stats_in self.now.counter.now (docs_of self.now.config) language content.now) }
+        ensures counted { result ≢ Err NotRead }
+    {
+        match decode_marked(self.alloc, content)? {
+            Some(text) => self.count_text(language, &text),
+            None => self.count_text(language, content),
+        }
     }
 
     /// The statistics of the file at a place, in a language. A file that the walk has just listed
@@ -69,6 +85,8 @@ impl Counting<'_, '_> {
             → FaultsStay F.memory_faults folders.old folders.new }
     {
         let content = content(folders, place, listed)?;
-        self.count(language, content)
+        let counted = self.count(language, content.as_slice());
+        folders.take_back(content);
+        counted
     }
 }

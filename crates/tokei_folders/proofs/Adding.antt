@@ -2,7 +2,6 @@
 use Rattle.std.proofs.Common.{◌≡◌, ℕ, List, [], ◌∷◌, ◌++◌, Bool, true, false, not, cond, ◌||◌, Some, None, is_some, sym, ap, ap₂, ◌∙◌}
 use Rattle.tokei_folders.specs.declared.nodes.Call.{Call}
 use Rattle.tokei_folders.specs.declared.nodes.Call.TheVariants.{List as ListCall, Read, Head}
-use Rattle.tokei_folders.specs.declared.nodes.PlacedNode.{PlacedNode}
 use Rattle.tokei_folders.specs.Additions.{with_all, with_folder, with_file, folders_to, new_folder, new_file, is_below_file, is_file}
 use Rattle.tokei_folders.specs.Refusals.{with_refusal, with_refusals, refused_at}
 use Rattle.tokei_folders.specs.Tree.{Names, Tree, node_at}

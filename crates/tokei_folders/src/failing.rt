@@ -2,6 +2,7 @@
 ghost use Rattle.std.specs.Prelude.{◌≡◌, ◌≤◌, ◌+◌, ◌-◌, ◌<◌, nat_lt, true, false};
 ghost use Rattle.tokei_folders.specs.Failing.{calls_left, inside};
 
+use crate::content::Content;
 use crate::fs::{Above, Fault, Folders, Kind, Listing};
 use std::alloc::{AllocError, Global};
 
@@ -133,6 +134,15 @@ impl<F: Folders> Folders for FailingFolders<F> {
             return Err(Fault::Memory);
         }
         self.inner.above(place)
+    }
+
+    fn take_back(&mut self, content: Content)
+        ensures passes { calls_left self.new ≡ calls_left self.old }
+        ensures same { F.tree (inside self.new) ≡ F.tree (inside self.old) }
+        ensures no_fault { all_faults F.memory_faults self.new
+            ≡ all_faults F.memory_faults self.old }
+    {
+        self.inner.take_back(content);
     }
 
     fn cause(&self, alloc: Global) -> Result<String, AllocError> {

@@ -3,6 +3,7 @@ ghost use Rattle.std.specs.Prelude.{◌≡◌, ◌<◌, ℕ, [], IfOk, Ok, Optio
 ghost use Rattle.tokei_folders.specs.Tree.{Tree, IsSound, node_at, names_of};
 ghost use Rattle.tokei_folders.specs.Answers.{Told, Tells, BytesTell, AboveTells, ListTells, LosesNone, NamesTell, StaysFull, counted, kind_answer, node_kind, read_answer, head_answer};
 
+use crate::content::Content;
 use crate::texts::Text;
 use std::alloc::{AllocError, AllocFailed, Global};
 
@@ -129,16 +130,23 @@ pub trait Folders {
     /// The content of a file that a listing or `kind` has just told. Folders that ask the system
     /// trust that answer and don't ask anew what stands there, so a pipe that is put in the file's
     /// place meanwhile is waited for.
-    fn read_listed(&mut self, place: &str) -> Result<Vec<u8>, Fault>
-        ensures told { BytesTell (tree self.old)
+    fn read_listed(&mut self, place: &str) -> Result<Content, Fault>
+        ensures told { Tells (tree self.old)
             (λ t. read_answer (node_at t (names_of place.now))) result }
         ensures same { tree self.new ≡ tree self.old }
         ensures counts { memory_faults self.old < u64.MAX
             → memory_faults self.new ≡ counted result (memory_faults self.old) }
         ensures full { StaysFull (memory_faults self.old) (memory_faults self.new) }
     {
-        self.read(place)
+        Ok(Content::from_vec(self.read(place)?))
     }
+
+    /// Takes back a content that nobody needs any more, so that the next listed file can be read
+    /// into its memory.
+    fn take_back(&mut self, _content: Content)
+        ensures same { tree self.new ≡ tree self.old }
+        ensures no_fault { memory_faults self.new ≡ memory_faults self.old }
+    {}
 
     /// The content of a file that a user names as a single input, as a table or earlier results.
     /// Folders that ask the system also read what a pipe or a device there gives, to its end, and

@@ -5,6 +5,7 @@
 //! what an addition or a refusal makes of it, and the place of an entry.
 #![tactic(auto)]
 
+mod content;
 mod failing;
 mod fs;
 pub mod laws;
@@ -16,6 +17,7 @@ pub mod places;
 mod texts;
 mod told;
 
+pub use content::Content;
 pub use failing::FailingFolders;
 pub use fs::{Above, Entry, Fault, Folders, Kind, Listing};
 pub use lists::Items;

@@ -7,25 +7,19 @@ ghost use Rattle.std.specs.Io.KnownBytes.{Consumes, IsAtEnd};
 use crate::limited::{Limited, MAX_READS};
 use crate::retried::retried;
 use crate::status::status;
-use std::alloc::{AllocError, Global};
+use std::alloc::Global;
 use std::fs::{File, Metadata, OpenFile};
 use std::io;
 use std::io::{Error, ErrorKind, Read};
 use std::rt::Files;
+use tokei_folders::Content;
 
 /// How many bytes the head of a file has at most.
 const HEAD: u64 = 128;
 
-/// How many bytes the buffer has that is kept between files. Most files of source code have fewer.
-const KEPT: usize = 65_536;
-
-/// The buffer that is kept between files, which the first call makes.
-fn kept(buffer: &mut Vec<u8>) -> Result<&mut [u8], AllocError> {
-    if buffer.len() < KEPT {
-        buffer.resize(KEPT, 0)?;
-    }
-    Ok(buffer)
-}
+/// How many bytes the memory has at least into which listed files are read. Most files of source
+/// code have fewer.
+const ROOM: usize = 65_536;
 
 /// The most bytes that are read at a place that a user names.
 pub const MAX_NAMED_BYTES: u64 = 4_294_967_296;
@@ -36,30 +30,15 @@ fn too_many(alloc: Global, most: u64) -> io::Result<Error> {
     Ok(Error::new(ErrorKind::FileTooLarge, words.as_str()))
 }
 
-/// The first bytes of a file, and behind them all that its reader has left. Room is made once for
-/// the number of bytes that the file is said to have; where it has more or fewer, all of them are
-/// read.
-fn all_behind<R: Read + Drop>(
-    alloc: Global,
-    front: &[u8],
-    reader: R,
-    said: usize,
-) -> io::Result<Vec<u8>>
-    ensures { IfOk result (λ v. IfSome (R.remaining reader) (λ text. v.items ≡ front.now ++ text)) }
-{
-    // One byte more, so that the read that meets the end needs no further room.
-    let mut bytes = Vec::with_capacity(alloc, said.saturating_add(1))?;
-    bytes.extend_from_slice(front)?;
-    Limited::new(reader).read_to_end(&mut bytes)?;
-    Ok(bytes)
-}
-
 /// All that a reader has left. Room is made once for the number of bytes that it is said to have;
 /// where it has more or fewer, all of them are read.
 pub fn all_of<R: Read + Drop>(alloc: Global, reader: R, said: usize) -> io::Result<Vec<u8>>
     ensures { IfOk result (λ v. IfSome (R.remaining reader) (λ text. v.items ≡ text)) }
 {
-    all_behind(alloc, &[], reader, said)
+    // One byte more, so that the read that meets the end needs no further room.
+    let mut bytes = Vec::with_capacity(alloc, said.saturating_add(1))?;
+    Limited::new(reader).read_to_end(&mut bytes)?;
+    Ok(bytes)
 }
 
 /// Reads what a reader has left to the front of a buffer, until that is full or the reader has
@@ -111,22 +90,21 @@ fn said_of_file<F: OpenFile>(file: &F) -> io::Result<Metadata>
     retried!(file.metadata())
 }
 
-/// All that an open file has left, read by a buffer that is kept between files. Only where that is
-/// filled is the length asked, and room made for the rest; where the file has more or fewer bytes,
-/// all of them are read.
-pub fn all_by<R: Read + OpenFile + Drop>(
-    alloc: Global,
-    mut reader: R,
-    buffer: &mut [u8],
-) -> io::Result<Vec<u8>>
-    ensures { IfOk result (λ v. IfSome (R.remaining reader) (λ text. v.items ≡ text)) }
+/// All that an open file has left, read to the front of the room. Only where that is filled is the
+/// length asked, and room made for the rest; where the file has more or fewer bytes, all of them are
+/// read.
+pub fn all_into<R: Read + OpenFile + Drop>(mut reader: R, mut room: Vec<u8>) -> io::Result<Content>
+    ensures { IfOk result (λ c. IfSome (R.remaining reader) (λ text. c ≡ text)) }
 {
-    let filled = fill(&mut reader, buffer)?;
-    if filled < buffer.len() {
-        return Ok(Vec::from_slice(alloc, &buffer[..filled])?);
+    let filled = fill(&mut reader, &mut room)?;
+    if filled < room.len() {
+        return Ok(Content::front_of(room, filled));
     }
-    let said = said_of_file(&reader)?.len();
-    all_behind(alloc, buffer, reader, said as usize)
+    let said = said_of_file(&reader)?.len() as usize;
+    // One byte more, so that the read that meets the end needs no further room.
+    room.reserve(said.saturating_sub(filled).saturating_add(1))?;
+    Limited::new(reader).read_to_end(&mut room)?;
+    Ok(Content::from_vec(room))
 }
 
 /// The first 128 bytes of what a reader has left, or all where there are fewer.
@@ -155,15 +133,17 @@ pub(crate) fn content<R: Files + AllocGlobal>(rt: &R, place: &str) -> io::Result
 }
 
 /// The content of the file at a place, of which a listing or a status has told that it is one. Only
-/// a change since then could make the opening wait. It is read by a buffer that is kept between
-/// files.
-pub(crate) fn listed_content<R: Files + AllocGlobal>(
+/// a change since then could make the opening wait. It is read into the room, which gains `ROOM`
+/// bytes where it has fewer.
+pub(crate) fn listed_content<R: Files>(
     rt: &R,
     place: &str,
-    buffer: &mut Vec<u8>,
-) -> io::Result<Vec<u8>> {
-    let buffer = kept(buffer)?;
-    all_by(rt.alloc(), File::open(rt, place)?, buffer)
+    mut room: Vec<u8>,
+) -> io::Result<Content> {
+    if room.len() < ROOM {
+        room.resize(ROOM, 0)?;
+    }
+    all_into(File::open(rt, place)?, room)
 }
 
 /// All that is read at a place that a user names, a pipe or a device too, which are waited for; a

@@ -11,8 +11,13 @@ use std::alloc::{AllocError, Global};
 use std::collections::BTreeSet;
 use std::io;
 use std::io::ErrorKind;
+use std::mem::replace;
 use std::rt::Files;
-use tokei_folders::{Above, Fault, Folders, Kind, Listing};
+use tokei_folders::{Above, Content, Fault, Folders, Kind, Listing};
+
+/// How many bytes memory has at most that is kept for the next listed file. What a greater file
+/// took is given back to the system.
+const MAX_KEPT: usize = 1_048_576;
 
 /// The folders of the system, which tell no tree. Places are paths, read from the current folder
 /// on.
@@ -20,8 +25,8 @@ use tokei_folders::{Above, Fault, Folders, Kind, Listing};
 pub struct RealFolders<R> {
     rt: R,
     memory_faults: u64,
-    /// By which listed files are read, one after another; made for the first of them.
-    buffer: Vec<u8>,
+    /// Into which the next listed file is read.
+    room: Vec<u8>,
     /// Why the last call without an answer had none.
     refusal: Option<io::Error>,
     /// Why calls on places were refused.
@@ -38,14 +43,14 @@ impl<R: Files + AllocGlobal + Clone + Drop> RealFolders<R> {
     pub fn new(rt: R) -> RealFolders<R>
         ensures none { result.memory_faults ≡ 0 }
     {
-        let buffer = Vec::new(rt.alloc());
+        let room = Vec::new(rt.alloc());
         let refusals = Refusals::new(rt.alloc());
         let unheld = String::new(rt.alloc());
         let nothing = BTreeSet::new(rt.alloc());
         RealFolders {
             rt,
             memory_faults: 0,
-            buffer,
+            room,
             refusal: None,
             refusals,
             unheld,
@@ -85,11 +90,7 @@ impl<R: Files + AllocGlobal + Clone + Drop> RealFolders<R> {
     }
 
     /// The content of a place, or why there is none; the place is kept where memory didn't suffice.
-    fn answered_content(
-        &mut self,
-        place: &str,
-        given: io::Result<Vec<u8>>,
-    ) -> Result<Vec<u8>, Fault>
+    fn answered_content<T>(&mut self, place: &str, given: io::Result<T>) -> Result<T, Fault>
         ensures counts { self.old.memory_faults < u64.MAX
             → self.new.memory_faults ≡ counted result (self.old.memory_faults) }
         ensures full { StaysFull self.old.memory_faults self.new.memory_faults }
@@ -137,9 +138,19 @@ impl<R: Files + AllocGlobal + Clone + Drop> Folders for RealFolders<R> {
         self.answered_content(place, bytes)
     }
 
-    fn read_listed(&mut self, place: &str) -> Result<Vec<u8>, Fault> {
-        let bytes = listed_content(&self.rt, place, &mut self.buffer);
-        self.answered_content(place, bytes)
+    fn read_listed(&mut self, place: &str) -> Result<Content, Fault> {
+        let room = replace(&mut self.room, Vec::new(self.rt.alloc()));
+        let content = listed_content(&self.rt, place, room);
+        self.answered_content(place, content)
+    }
+
+    fn take_back(&mut self, content: Content)
+        ensures no_fault { self.new.memory_faults ≡ self.old.memory_faults }
+    {
+        let room = content.into_room();
+        if room.len() <= MAX_KEPT {
+            self.room = room;
+        }
     }
 
     fn read_named(&mut self, named: &str) -> Result<Vec<u8>, Fault> {

@@ -1,4 +1,4 @@
-use Rattle.std.proofs.Common.{◌≡◌, ℕ, List, Option, IfOk, subst, ap}
+use Rattle.std.proofs.Common.{◌≡◌, ℕ, List, Option, IfOk, subst}
 use Rattle.tokei_config.specs.Seen.{settings_of}
 use Rattle.tokei_config.specs.Settings.{additions_in}
 use Rattle.tokei_table.specs.Row.{Row}
