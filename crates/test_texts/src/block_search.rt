@@ -2,6 +2,7 @@
 ghost use Rattle.std.specs.Prelude.{◌≡◌, ◌≤◌, ◌<◌, length};
 
 use crate::verdict::{Wrong, all_right};
+use std::alloc::Global;
 use tokei_embedding::{BlockSearch, Tag};
 
 /// Where the tag's element can open; its value, contents and size, if there is one.
@@ -23,15 +24,20 @@ fn answer<'t>(search: &mut BlockSearch<'t>, tag: Tag, from: usize, to: usize) ->
     }
 }
 
-/// Whether the search and a new one answer the same of the tag in that part.
-fn is_same(text: &[u8], search: &mut BlockSearch<'_>, tag: Tag, from: usize, to: usize) -> bool
-    requires same { search.old ≡ text.now }
+/// Whether the search and a fresh one answer the same of the tag in that part.
+fn is_same(
+    search: &mut BlockSearch<'_>,
+    fresh: &mut BlockSearch<'_>,
+    tag: Tag,
+    from: usize,
+    to: usize,
+) -> bool
+    requires same { search.old ≡ fresh.old }
     requires order { from < to }
-    requires ends { to ≤ length text.now }
+    requires ends { to ≤ length fresh.old }
     ensures { search.new ≡ search.old }
 {
-    let fresh = answer(&mut BlockSearch::new(text), tag, from, to);
-    answer(search, tag, from, to) == fresh
+    answer(search, tag, from, to) == answer(fresh, tag, from, to)
 }
 
 static TEXTS: [&[u8]; 6] = [
@@ -45,17 +51,18 @@ static TEXTS: [&[u8]; 6] = [
 
 /// How many questions for a tag in a part of a text are answered otherwise by one search, which is
 /// asked from the text's front on, or from its end back.
-fn unlike(text: &[u8], falls: bool) -> usize {
-    let mut search = BlockSearch::new(text);
+fn unlike(alloc: Global, text: &[u8], falls: bool) -> usize {
+    let mut search = BlockSearch::new(alloc, text);
     let end = text.len();
     let mut count = 0_usize;
     for low in 0..end {
         for high in low + 1..end + 1 {
             for tag in [Tag::Script, Tag::Style, Tag::Template] {
+                let mut fresh = BlockSearch::new(alloc, text);
                 let is_same = if falls {
-                    is_same(text, &mut search, tag, end - high, end - low)
+                    is_same(&mut search, &mut fresh, tag, end - high, end - low)
                 } else {
-                    is_same(text, &mut search, tag, low, high)
+                    is_same(&mut search, &mut fresh, tag, low, high)
                 };
                 if !is_same {
                     count = count.saturating_add(1);
@@ -76,13 +83,13 @@ static DOC_TEXTS: [&[u8]; 5] = [
 
 /// How many places of a text one search answers otherwise of, first from its front on, then from
 /// its end back.
-fn unlike_docs(text: &[u8]) -> usize {
-    let mut search = BlockSearch::new(text);
+fn unlike_docs(alloc: Global, text: &[u8]) -> usize {
+    let mut search = BlockSearch::new(alloc, text);
     let mut count = 0_usize;
     for falls in [false, true] {
         for step in 0..text.len() {
             let place = if falls { text.len() - 1 - step } else { step };
-            if search.doc_at(place) != BlockSearch::new(text).doc_at(place) {
+            if search.doc_at(place) != BlockSearch::new(alloc, text).doc_at(place) {
                 count = count.saturating_add(1);
             }
         }
@@ -92,15 +99,15 @@ fn unlike_docs(text: &[u8]) -> usize {
 
 /// The place of the first text of which something is answered otherwise, and how often, if there is
 /// one; those of doc comments come behind the others.
-fn first_unlike() -> Option<Wrong> {
+fn first_unlike(alloc: Global) -> Option<Wrong> {
     for (at, text) in TEXTS.iter().enumerate() {
-        let count = unlike(text, false).saturating_add(unlike(text, true));
+        let count = unlike(alloc, text, false).saturating_add(unlike(alloc, text, true));
         if count > 0 {
             return Some((at, count));
         }
     }
     for (at, text) in DOC_TEXTS.iter().enumerate() {
-        let count = unlike_docs(text);
+        let count = unlike_docs(alloc, text);
         if count > 0 {
             return Some((TEXTS.len() + at, count));
         }
@@ -110,5 +117,5 @@ fn first_unlike() -> Option<Wrong> {
 
 #[test]
 fn rising_and_falling_questions(rt: HostRuntime) {
-    all_right(&rt, first_unlike());
+    all_right(&rt, first_unlike(rt.alloc()));
 }

@@ -161,7 +161,7 @@ impl<'a, 't> ReadSoFar<'a, 't> {
             behind_child: reading.text.len(),
             start: 0,
             stack: Vec::new(alloc),
-            search: BlockSearch::new(reading.text),
+            search: BlockSearch::new(alloc, reading.text),
             child: Block::empty(reading),
         }
     }

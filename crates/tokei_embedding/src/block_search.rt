@@ -14,6 +14,7 @@ use crate::mark_search::MarkSearch;
 use crate::tag_searches::TagSearches;
 use crate::tags::{Tag, TagAt};
 use crate::target_blocks::target_of;
+use std::alloc::Global;
 use std::marker::Model;
 
 /// Finds the elements, the doc comments and the target of one text, and remembers what each search
@@ -21,9 +22,10 @@ use std::marker::Model;
 /// take time that grows with its length. Contracts see it as the text.
 #[derive(Drop)]
 pub struct BlockSearch<'a> {
+    alloc: Global,
     text: &'a [u8],
-    /// None until an element is asked for: most texts have none.
-    tags: Option<TagSearches<'a>>,
+    /// None until an element is asked for: most texts have none, so that room for it stands apart.
+    tags: Option<Box<TagSearches<'a>>>,
     marks: MarkSearch<'a>,
     outer_docs: DocSearch<'a>,
     inner_docs: DocSearch<'a>,
@@ -36,17 +38,19 @@ impl<'a> Model for BlockSearch<'a> {
 
     ghost view = { λ s. s.text.now };
 
-    ghost invariant = { λ s. IfSome s.tags (λ tags. tags ≡ s.text.now)
+    ghost invariant = { λ s. IfSome s.tags (λ tags. tags.value ≡ s.text.now)
         × SearchDocs s.text.now s.marks s.outer_docs s.inner_docs
         × IfSome s.target (λ t. option_map (λ w. w.now) t ≡ target_of s.text.now) };
 }
 
 impl<'a> BlockSearch<'a> {
-    /// Searches the text, of which nothing is searched yet.
-    pub fn new(text: &'a [u8]) -> BlockSearch<'a>
+    /// Searches the text, of which nothing is searched yet. It takes no memory; to remember searches
+    /// for elements takes some, and where that is refused they are made anew for each question.
+    pub fn new(alloc: Global, text: &'a [u8]) -> BlockSearch<'a>
         ensures { result ≡ text.now }
     {
         BlockSearch {
+            alloc,
             text,
             tags: None,
             marks: MarkSearch::new(text),
@@ -86,8 +90,18 @@ impl<'a> BlockSearch<'a> {
     {
         let mut tags = TagSearches::new(self.text);
         let found = tags.tag_at(tag, from, place, to);
-        self.tags = Some(tags);
+        self.keep(tags);
         found
+    }
+
+    /// Keeps the searches for elements, where memory suffices for that.
+    fn keep(&mut self, tags: TagSearches<'a>)
+        requires { tags ≡ self.old }
+        ensures { self.new ≡ self.old }
+    {
+        if let Ok(tags) = Box::new(self.alloc, tags) {
+            self.tags = Some(tags);
+        }
     }
 
     /// The first place from `at` on at which an element with the tag can open in the part
@@ -126,7 +140,7 @@ impl<'a> BlockSearch<'a> {
     {
         let mut tags = TagSearches::new(self.text);
         let place = tags.next_tag(tag, start, at, to);
-        self.tags = Some(tags);
+        self.keep(tags);
         place
     }
 

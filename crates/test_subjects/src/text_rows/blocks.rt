@@ -48,7 +48,7 @@ fn doc_comment(text: &[u8], place: usize, answers: &mut Answers) {
     if text.len() <= place {
         return answers.fail(RowError::Words("the place isn't within the text"));
     }
-    let Some(size) = BlockSearch::new(text).doc_at(place) else {
+    let Some(size) = BlockSearch::new(answers.alloc, text).doc_at(place) else {
         return answers.say("opens", Said::Flag(false));
     };
     match text[place..].get(..size) {
@@ -63,7 +63,7 @@ fn doc_comment(text: &[u8], place: usize, answers: &mut Answers) {
 
 /// The answers of the search for the target, which is asked twice.
 fn target(text: &[u8], answers: &mut Answers) {
-    let mut search = BlockSearch::new(text);
+    let mut search = BlockSearch::new(answers.alloc, text);
     let first = search.target();
     if search.target() != first {
         answers.fail(RowError::Words("the second question is answered otherwise"));
@@ -93,7 +93,7 @@ fn between(name: &str, row: &Row, text: &[u8], answers: &mut Answers) {
         "template" => Tag::Template,
         _ => return answers.fail(RowError::Words("there is no such block")),
     };
-    let found = BlockSearch::new(text).tag_at(tag, from, place, to);
+    let found = BlockSearch::new(answers.alloc, text).tag_at(tag, from, place, to);
     element(found, answers);
 }
 

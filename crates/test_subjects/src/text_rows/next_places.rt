@@ -42,7 +42,7 @@ fn next_of(name: &str, row: &Row, text: &[u8], at: usize, answers: &mut Answers)
         "template" => Tag::Template,
         _ => return None,
     };
-    Some(BlockSearch::new(text).next_tag(tag, start, at, to))
+    Some(BlockSearch::new(answers.alloc, text).next_tag(tag, start, at, to))
 }
 
 /// What the calls answer.
