@@ -1,10 +1,10 @@
-//! Counts a text in a language of the bench table, by the plain reading and as callers count, and counts its
-//! newlines. It prints a line for each way of counting: its name, and the newlines, or the blank, code and comment
-//! lines of the text and of all texts inside it.
+//! Counts a text in a language of the bench table, by the plain reading and as callers count, and
+//! counts its newlines. It prints a line for each way of counting: its name, and the newlines, or
+//! the blank, code and comment lines of the text and of all texts inside it.
 //!
-//! The language's key is the first word. Behind it may stand `times`, with which each line ends in the nanoseconds of
-//! the quickest run, and `without-plain`, which leaves the plain reading out. Where the two readings differ, it
-//! refuses.
+//! The language's key is the first word. Behind it may stand `times`, with which each line ends in
+//! the nanoseconds of the quickest run, and `without-plain`, which leaves the plain reading out.
+//! Where the two readings differ, it refuses.
 ghost use Rattle.std.specs.Prelude.{◌<◌, length};
 
 use crate::count_times::{Measured, time};
@@ -99,7 +99,8 @@ pub fn show(
     compare(rt, alloc, &input, timed, with_plain)
 }
 
-/// Counts the text as the words ask for. It fails where there is none, and at a word that isn't known.
+/// Counts the text as the words ask for. It fails where there is none, and at a word that isn't
+/// known.
 pub fn measure(rt: &HostRuntime, words: &[String], text: &[u8]) -> anyhow::Result<()> {
     let [key, options @ ..] = words else {
         bail!("behind count stands the key of a language");

@@ -45,7 +45,8 @@ impl Measured {
     }
 }
 
-/// Times some runs of each, in turn, so that a while in which the machine is slow meets all of them.
+/// Times some runs of each, in turn, so that a while in which the machine is slow meets all of
+/// them.
 pub fn time(
     rt: &impl Clock,
     alloc: Global,

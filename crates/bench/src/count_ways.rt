@@ -65,7 +65,8 @@ fn newlines(text: &[u8]) -> usize
     memchr_iter(b'\n', text).count()
 }
 
-/// The same, by a search from each newline on to the next: `Iterator`'s own `count` goes step by step.
+/// The same, by a search from each newline on to the next: `Iterator`'s own `count` goes step by
+/// step.
 fn newlines_in_turn(text: &[u8]) -> usize
     ensures { result ≡ length (places (is_byte 10) text.now) }
 {

@@ -91,7 +91,8 @@ fn printed(alloc: Global, input: &Input) -> anyhow::Result<String>
 
 /// The languages of the input's text.
 fn parsed(alloc: Global, input: &Input) -> anyhow::Result<Languages>
-    ensures { IfOk result (λ ls. outcome_of_text input.now.table.now input.now.text.now ≡ Ok (languages_of ls)) }
+    ensures { IfOk result (λ ls.
+        outcome_of_text input.now.table.now input.now.text.now ≡ Ok (languages_of ls)) }
 {
     Ok(Format::parse(alloc, input.table, input.text)?)
 }

@@ -1,11 +1,13 @@
-//! Prints languages as a JSON document and parses them back, and has `serde_json` alone print and parse the same
-//! text. It prints a line for each of these ways: its name and how many bytes the text has.
+//! Prints languages as a JSON document and parses them back, and has `serde_json` alone print and
+//! parse the same text. It prints a line for each of these ways: its name and how many bytes the
+//! text has.
 //!
-//! The first two words are how many languages there are, and how many files each of them has; each file holds a
-//! text of one more language, and so has two reports. Behind them may stand a word: with `times` each line ends in
-//! the nanoseconds of the quickest run; with `make` the languages are only made, with `print` they are printed too,
-//! with `parse` the text is parsed too. Behind that may stand `alone`: then each file is of one language, and has
-//! one report. Where what is parsed differs from what was printed, it refuses.
+//! The first two words are how many languages there are, and how many files each of them has; each
+//! file holds a text of one more language, and so has two reports. Behind them may stand a word:
+//! with `times` each line ends in the nanoseconds of the quickest run; with `make` the languages
+//! are only made, with `print` they are printed too, with `parse` the text is parsed too. Behind
+//! that may stand `alone`: then each file is of one language, and has one report. Where what is
+//! parsed differs from what was printed, it refuses.
 use crate::document_times::{Measured, time};
 use crate::document_ways::{Input, Way};
 use crate::making::{made_languages, made_table};

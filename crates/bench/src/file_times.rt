@@ -33,8 +33,8 @@ fn counted(alloc: Global, table: &LanguageTable, each: usize) -> anyhow::Result<
 }
 
 impl Measured {
-    /// The number of files, counted once, with no run timed yet. It fails where the folders can't hold as many each,
-    /// and where not each file is counted.
+    /// The number of files, counted once, with no run timed yet. It fails where the folders can't
+    /// hold as many each, and where not each file is counted.
     pub fn new(alloc: Global, table: &LanguageTable, files: usize) -> anyhow::Result<Measured> {
         if files % FOLDERS != 0 {
             bail!("{FOLDERS} folders can't have as many of {files} files each");
@@ -69,7 +69,8 @@ impl Measured {
     }
 }
 
-/// Times some runs of each, in turn, so that a while in which the machine is slow meets all of them.
+/// Times some runs of each, in turn, so that a while in which the machine is slow meets all of
+/// them.
 pub fn time(
     rt: &impl Clock,
     alloc: Global,

@@ -1,9 +1,9 @@
-//! Counts the files of folders that make their answers as they are asked. It prints a line for each number of files:
-//! that number, and how many lines of them are blank, code and comments.
+//! Counts the files of folders that make their answers as they are asked. It prints a line for each
+//! number of files: that number, and how many lines of them are blank, code and comments.
 //!
-//! Each word is a number of files, of which each of 200 folders has as many; a file has 1 KiB. Behind them may stand
-//! `times`, with which each line ends in the nanoseconds of the quickest run. Where not every file is counted, it
-//! refuses.
+//! Each word is a number of files, of which each of 200 folders has as many; a file has 1 KiB.
+//! Behind them may stand `times`, with which each line ends in the nanoseconds of the quickest run.
+//! Where not every file is counted, it refuses.
 use crate::file_times::{Measured, time};
 use anyhow::bail;
 use std::alloc::Global;
@@ -46,7 +46,8 @@ pub fn show(rt: &HostRuntime, numbers: &[usize], timed: bool) -> anyhow::Result<
     Ok(())
 }
 
-/// Counts as many files as the words ask for. It fails at a word that is neither a number nor `times`.
+/// Counts as many files as the words ask for. It fails at a word that is neither a number nor
+/// `times`.
 pub fn measure(rt: &HostRuntime, words: &[String]) -> anyhow::Result<()> {
     let mut numbers = Vec::new(rt.alloc());
     let mut timed = false;

@@ -17,7 +17,8 @@ const TIMES: usize = 16;
 /// How many blank, code and comment lines a file has.
 pub const LINES_OF_FILE: (usize, usize, usize) = (TIMES, 3 * TIMES, TIMES);
 
-/// The root `.`, which holds as many folders, each with the same number of files. They tell no tree.
+/// The root `.`, which holds as many folders, each with the same number of files. They tell no
+/// tree.
 #[derive(Drop)]
 pub struct MadeFolders {
     alloc: Global,

@@ -1,12 +1,14 @@
-//! Measures calls of the product on data in memory. The first word says which, the others are its own:
+//! Measures calls of the product on data in memory. The first word says which, the others are its
+//! own:
 //!
-//!     bench count KEY [times] [without-plain]          counts standard input in a language of the bench table
-//!     bench search KEY [times]                         searches it for the openers of the language
+//!     bench count KEY [times] [without-plain]          counts standard input by the bench table
+//!     bench search KEY [times]                         searches it for a language's openers
 //!     bench files NUMBER.. [times]                     counts so many made files
 //!     bench documents LANGUAGES FILES [TASK [alone]]   prints a made document and parses it
-//!     bench example                                    each of them once, of standard input and of few files
+//!     bench example                                    each once, of standard input, of few files
 //!
-//! Each module says what it prints. Where `times` stands, the quickest of five runs is printed in nanoseconds.
+//! Each module says what it prints. Where `times` stands, the quickest of five runs is printed in
+//! nanoseconds.
 #![tactic(auto)]
 
 mod count;

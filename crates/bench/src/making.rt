@@ -35,8 +35,9 @@ fn made_report(
     Ok(report)
 }
 
-/// All languages of the table with so many reports each. Inside each file stands a text of the language listed before
-/// its own, so that it has a report there too, or none where files are to be of one language alone.
+/// All languages of the table with so many reports each. Inside each file stands a text of the
+/// language listed before its own, so that it has a report there too, or none where files are to be
+/// of one language alone.
 pub fn made_languages(
     alloc: Global,
     table: &LanguageTable,

@@ -1,6 +1,7 @@
-//! Searches a text for the openers of a language of the bench table, and prints the place of the first one, or
-//! `none`. The language's key is the first word. Where the second one is `times`, it prints instead how many
-//! nanoseconds the search takes, and how many the search for one byte that C texts haven't.
+//! Searches a text for the openers of a language of the bench table, and prints the place of the
+//! first one, or `none`. The language's key is the first word. Where the second one is `times`, it
+//! prints instead how many nanoseconds the search takes, and how many the search for one byte that
+//! C texts haven't.
 use anyhow::bail;
 use memchr::memchr;
 use std::alloc::Global;
@@ -74,7 +75,8 @@ pub fn show(rt: &HostRuntime, key: &str, text: &[u8], timed: bool) -> anyhow::Re
     Ok(())
 }
 
-/// Searches the text as the words ask for. It fails where there is none, and at a word that isn't known.
+/// Searches the text as the words ask for. It fails where there is none, and at a word that isn't
+/// known.
 pub fn measure(rt: &HostRuntime, words: &[String], text: &[u8]) -> anyhow::Result<()> {
     match words {
         [key] => show(rt, key.as_str(), text, false),

@@ -102,7 +102,8 @@ impl OpenFile for Changed<'_> {
     }
 }
 
-/// How many bytes the memory has in which another file stood, and how many the file is said to have.
+/// How many bytes the memory has in which another file stood, and how many the file is said to
+/// have.
 static ROOMS: [(usize, u64); 9] = [
     (0, 5),
     (1, 0),

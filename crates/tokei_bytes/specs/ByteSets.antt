@@ -8,8 +8,8 @@ use Rattle.tokei_bytes.specs.Slots.{in_slots, is_slotted}
 abbrev pub is_in : List Bool → ℕ → Bool
 is_in flags byte = slice_index_or flags byte false
 
--- the first `number` of the four are the bytes of the set, unless those are more than four; where there
--- are any, each of the four is one
+-- the first `number` of the four are the bytes of the set, unless those are more than four; where
+-- there are any, each of the four is one
 pub record HasFew (flags : List Bool) (few : List ℕ) (number : ℕ) : Type 0 where
   pub four : length few ≡ 4
   pub holds : number ≤ 4 → (b : ℕ) → b < 256 → is_in flags b ≡ true
@@ -26,7 +26,8 @@ abbrev pub AreSlotted : List Bool → List ℕ → List ℕ → Bool → Type 0
 AreSlotted flags slots others have =
     have ≡ true → (b : ℕ) → b < 256 → is_in flags b ≡ true → in_slots slots others b ≡ true
 
--- where the slots are those of the set alone, a byte stands in the slot of its low half if it is in the set
+-- where the slots are those of the set alone, a byte stands in the slot of its low half if it is in
+-- the set
 abbrev pub AreSlottedAlone : List Bool → List ℕ → Bool → Type 0
 AreSlottedAlone flags slots alone =
     alone ≡ true → (b : ℕ) → b < 256 → is_slotted slots b ≡ is_in flags b

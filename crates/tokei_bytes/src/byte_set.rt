@@ -53,7 +53,8 @@ pub(crate) fn with_one(few: [u8; 4], count: u8, byte: u8) -> [u8; 4]
     }
 }
 
-/// Puts the byte that isn't `put` yet into its slot, where the others have theirs; whether all have.
+/// Puts the byte that isn't `put` yet into its slot, where the others have theirs; whether all
+/// have.
 fn put_beside(put: bool, others: &mut [u8; 16], have_slots: bool, byte: u8) -> bool
     ensures before { result ≡ true → have_slots ≡ true }
     ensures stays { result ≡ true → (x : ℕ) → is_slotted others.old x ≡ true

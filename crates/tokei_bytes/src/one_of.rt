@@ -31,8 +31,8 @@ pub(crate) fn marks_of_one(byte: u8, lanes: u8x32) -> u64
     lanes.simd_eq(u8x32::splat(byte)).to_bitmask()
 }
 
-/// How many of the `BLOCK` bytes of the text from the place `from` on stand before the first that is
-/// one of the four: all where none is. A place counts the bytes of the text before it.
+/// How many of the `BLOCK` bytes of the text from the place `from` on stand before the first that
+/// is one of the four: all where none is. A place counts the bytes of the text before it.
 #[inline(always)]
 pub fn gap_in_block(bytes: [u8; 4], text: &[u8], from: usize) -> usize
     requires { from + BLOCK ≤ length text.now }

@@ -181,8 +181,10 @@ solid_opener os slots text n all none blanks inside here =
 
 -- so its bit among the fronts says whether its line had none before
 pub blank_at : (os : List (List ℕ)) (slots text : List ℕ) (start at gap blank : ℕ) → start ≤ at → at + 32 ≤ length text → (blank == 1) ≡ blank_after true (between text start at)
-    → list_all is_nonempty os ≡ true → ((x : ℕ) → is_slotted slots x ≡ false → is_first os x ≡ false) → ((x : ℕ) → is_blank x ≡ true → is_slotted slots x ≡ false) → gap < 32
-    → begins_with_one os (drop (at + gap) text) ≡ true → (f : ℕ) → f ≡ mask_l (fronts (blank == 1) (chunk at 32 text)) → (bit_and (f / 2 ^ gap) 1 == 1) ≡ blank_after true (between text start (at + gap))
+    → list_all is_nonempty os ≡ true → ((x : ℕ) → is_slotted slots x ≡ false → is_first os x ≡ false)
+    → ((x : ℕ) → is_blank x ≡ true → is_slotted slots x ≡ false) → gap < 32 → begins_with_one os (drop (at + gap) text) ≡ true
+    → (f : ℕ) → f ≡ mask_l (fronts (blank == 1) (chunk at 32 text))
+    → (bit_and (f / 2 ^ gap) 1 == 1) ≡ blank_after true (between text start (at + gap))
 blank_at os slots text start at gap blank low room blank_is all none blanks inside here f fs =
     let v : List ℕ = chunk at 32 text in
     let within : gap < length v = omega (arith, inside, length-chunk at 32 text room) in

@@ -46,7 +46,8 @@ module _ (os : List (List ℕ)) (slots text : List ℕ) (t : Tellers) (from m ca
   none_told k low h set = elim (cases_lt k 31) [
     | inl inside ↦
         let bytes = others k h set inside in
-        let first : get_or (drop (from + k) text) 0 0 ≡ get_or text (from + k) 0 = let same : from + k + 0 ≡ from + k = omega arith in get_or-drop (from + k) text 0 0 ∙ ap (λ j. get_or text j 0) same in
+        let same : from + k + 0 ≡ from + k = omega arith in
+        let first : get_or (drop (from + k) text) 0 0 ≡ get_or text (from + k) 0 = get_or-drop (from + k) text 0 0 ∙ ap (λ j. get_or text j 0) same in
         untold t os (drop (from + k) text) tellers (ap (is_slotted t.alone) first ∙ bytes.0) (inr (ap (is_slotted t.seconds) (get_or-drop (from + k) text 1 0) ∙ bytes.1))
     | inr over ↦
         let there : k ≡ 31 = omega (arith, over, low) in

@@ -14,8 +14,8 @@ abbrev pub counts_in : Bool → ℕ → ℕ → Counts
 counts_in true blank solid = record { blanks = blank; code = 0; comments = solid }
 counts_in false blank solid = record { blanks = blank; code = solid; comments = 0 }
 
--- the counts of so many blank lines and so many others, of which so many are comments, in a language
--- that is literate or not
+-- the counts of so many blank lines and so many others, of which so many are comments, in a
+-- language that is literate or not
 abbrev pub counts_with : Bool → ℕ → ℕ → ℕ → Counts
 counts_with true blank solid comments =
     record { blanks = blank; code = 0; comments = solid }

@@ -1,4 +1,5 @@
--- The steps of a text: how many choices a reading has to make that looks at a part only where it must.
+-- The steps of a text: how many choices a reading has to make that looks at a part only where it
+-- must.
 use Rattle.std.specs.Prelude.{ℕ, zero, suc, ◌+◌, Bool, true, false, if◌then◌else◌, List, [], ◌∷◌, length, None, nat_le}
 use Rattle.tokei_table.specs.Openers.{openers}
 use Rattle.tokei_table.specs.Row.{Row}
@@ -79,7 +80,8 @@ own_work row text is = walked_bytes (openers row) (stretches None [] text (marks
 abbrev pub steps : Languages → ℕ → ℕ → List ℕ → ℕ
 steps = with_children own_steps
 
--- The steps of the plain reading, which skips nothing: a step for each choice, and one for each child.
+-- The steps of the plain reading, which skips nothing: a step for each choice, and one for each
+-- child.
 abbrev pub plain_steps : Languages → ℕ → ℕ → List ℕ → ℕ
 plain_steps = with_children own_choices
 

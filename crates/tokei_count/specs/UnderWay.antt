@@ -65,7 +65,8 @@ counts_ahead reading so_far =
     (chain_of so_far.stack.items) (ahead reading so_far))
     (shares (children_ahead reading so_far))
 
--- the steps of the text itself, one for each child with them, and of what is left of it, for the reading at hand
+-- the steps of the text itself, one for each child with them, and of what is left of it, for the
+-- reading at hand
 abbrev pub all_steps : Reading → ℕ
 all_steps reading = steps_left (row_in reading) (blocks_of reading) (length reading.text.now)
     reading.skips [] reading.text.now + length (all_children reading)
@@ -81,8 +82,8 @@ steps_ahead reading so_far =
 abbrev pub blobs_with : Reading → Blobs → List Block → Blobs
 blobs_with reading = gathered (reading_inside reading)
 
--- The next part of the text, which is no notebook, begins where `so_far` says. In a text without opener
--- that is read with skipping, each line so far was skipped.
+-- The next part of the text, which is no notebook, begins where `so_far` says. In a text without
+-- opener that is read with skipping, each line so far was skipped.
 pub record IsUnderWay (reading : Reading) (so_far : ReadSoFar) : Type 0 where
   pub lines : is_notebook (row_in reading) ≡ false
   pub tokens : has_tokens (row_in reading) ≡ true

@@ -247,9 +247,9 @@ fn with_block(
     }
 }
 
-/// Looks at the lines up to the first opener or less far. The second answer is 1 where the line that
-/// the look ended in has no front yet, else 0; the third is the place of the opener, with no newline
-/// before it that the look hasn't shown, or the text's end where it came to none.
+/// Looks at the lines up to the first opener or less far. The second answer is 1 where the line
+/// that the look ended in has no front yet, else 0; the third is the place of the opener, with no
+/// newline before it that the look hasn't shown, or the text's end where it came to none.
 #[inline(always)]
 fn look_ahead(ahead: &Ahead) -> (Look, u64, usize)
     ensures look { IsLook ahead.now.marks.now.slots ahead.now.reading.now.text.now ahead.now.start
@@ -401,9 +401,10 @@ fn count_looked(
     ensures under_way { OnOk result (IsUnderWay ahead.now.reading.now so_far.new) }
     ensures start { OnOk result (so_far.new.start ≡ look.stop) }
     ensures plain { chain_of so_far.new.stack.items ≡ [] }
-    ensures quiet { first_opener (openers (row_in ahead.now.reading.now)) ahead.now.reading.now.text.now ≡ None
-        → IsOk result }
-    ensures overflow { IsErrOf result CountError.Overflow → ¬ Fits (reading_of ahead.now.reading.now) }
+    ensures quiet { first_opener (openers (row_in ahead.now.reading.now))
+        ahead.now.reading.now.text.now ≡ None → IsOk result }
+    ensures overflow { IsErrOf result CountError.Overflow
+        → ¬ Fits (reading_of ahead.now.reading.now) }
 {
     if look.stop == so_far.start {
         return Ok(());

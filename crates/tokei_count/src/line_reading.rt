@@ -66,7 +66,8 @@ fn read_next<'a, 't>(
     requires item { chain_of so_far.old.stack.items ≡ chain_in (item_in item) }
     requires some { so_far.old.start < length reading.now.text.now }
     requires end { end ≡ so_far.old.start + line_len (drop so_far.old.start reading.now.text.now) }
-    requires walked { is_walked (openers_in reading.now) (innermost (chain_of so_far.old.stack.items))
+    requires walked { is_walked (openers_in reading.now)
+        (innermost (chain_of so_far.old.stack.items))
         (line_from reading.now so_far.old.start) ≡ true }
     ensures under_way { OnOk result (IsUnderWay reading.now so_far.new) }
     ensures on { IfOk result (λ read. read ≡ true → so_far.old.start < so_far.new.start) }
@@ -90,8 +91,8 @@ fn read_next<'a, 't>(
     Ok(true)
 }
 
-/// Reads lines from where the reading has come to on: up to one before which no opener is near, or in
-/// which an item opens within another, or to the last few bytes.
+/// Reads lines from where the reading has come to on: up to one before which no opener is near, or
+/// in which an item opens within another, or to the last few bytes.
 #[inline(never)]
 fn read_lines<'a, 't>(
     reading: &Reading<'a, 't>,
@@ -191,8 +192,8 @@ fn read_nested<'a, 't>(
     Ok(())
 }
 
-/// Reads lines so where that is quicker. `end` is where an earlier place's line went to, and so is the
-/// answer.
+/// Reads lines so where that is quicker. `end` is where an earlier place's line went to, and so is
+/// the answer.
 #[inline(always)]
 pub(crate) fn read_near<'a, 't>(
     reading: &Reading<'a, 't>,

@@ -16,11 +16,12 @@ use tokei_table::LanguageType;
 /// How deep children of the outermost text are read.
 pub(crate) const OUTERMOST_LEVELS: u32 = 50;
 
-/// Counts a text in a language of the counter's table by the plain reading, in which no line is skipped, and the steps
-/// that the reading took: one for each choice in the text and one for each child, through all children.
+/// Counts a text in a language of the counter's table by the plain reading, in which no line is
+/// skipped, and the steps that the reading took: one for each choice in the text and one for each
+/// child, through all children.
 ///
-/// `Overflow` comes only where a count of the reading, at some depth, passes the greatest `usize`; `Memory` only where
-/// an allocation failed. Children are read 50 levels deep.
+/// `Overflow` comes only where a count of the reading, at some depth, passes the greatest `usize`;
+/// `Memory` only where an allocation failed. Children are read 50 levels deep.
 pub fn count_plain_counted(
     alloc: Global,
     counter: &Counter,
@@ -49,7 +50,8 @@ pub fn count_plain_counted(
     Ok((read.stats, read.steps))
 }
 
-/// Counts a text in a language of the counter's table by the plain reading, in which no line is skipped.
+/// Counts a text in a language of the counter's table by the plain reading, in which no line is
+/// skipped.
 ///
 /// `Overflow` comes only where a count of the reading, at some depth, passes the greatest `usize`;
 /// `Memory` only where an allocation failed. Children are read 50 levels deep.

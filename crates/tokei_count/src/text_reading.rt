@@ -303,8 +303,8 @@ fn count_within(
     Ok(())
 }
 
-/// Counts the plain lines before the next part that is walked, wherever the first opener stands, and
-/// answers where the line of that part goes to. `end` and `next` are as in `skip_lines`.
+/// Counts the plain lines before the next part that is walked, wherever the first opener stands,
+/// and answers where the line of that part goes to. `end` and `next` are as in `skip_lines`.
 #[inline(always)]
 fn skip_far_lines(
     reading: &Reading,
@@ -348,8 +348,9 @@ fn skip_far_lines(
     Ok(end)
 }
 
-/// Counts the lines, from where the reading has come to on, in which each choice takes its byte, all
-/// within the item that encloses them, and answers up to where the line behind them has no newline.
+/// Counts the lines, from where the reading has come to on, in which each choice takes its byte,
+/// all within the item that encloses them, and answers up to where the line behind them has no
+/// newline.
 #[inline(always)]
 pub(crate) fn skip_within(
     reading: &Reading,
@@ -379,9 +380,9 @@ pub(crate) fn skip_within(
     Ok(to)
 }
 
-/// Reads on up to the next part that `read_walked` walks, and answers where the line of that part goes
-/// to. `end` is where an earlier place's line went to, and `next` where an earlier search for openers
-/// came to, and becomes where this one does.
+/// Reads on up to the next part that `read_walked` walks, and answers where the line of that part
+/// goes to. `end` is where an earlier place's line went to, and `next` where an earlier search for
+/// openers came to, and becomes where this one does.
 fn skip_lines<'a, 't>(
     reading: &Reading<'a, 't>,
     so_far: &mut ReadSoFar<'a, 't>,

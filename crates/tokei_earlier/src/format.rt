@@ -36,8 +36,8 @@ pub enum FormatError {
 }
 
 impl Format {
-    /// The text of languages in this format; in JSON the compact text of `to_value`. `Overflow` only
-    /// where a sum that it shows passes the greatest `usize`, or `Memory`.
+    /// The text of languages in this format; in JSON the compact text of `to_value`. `Overflow`
+    /// only where a sum that it shows passes the greatest `usize`, or `Memory`.
     pub fn print(
         self,
         alloc: Global,

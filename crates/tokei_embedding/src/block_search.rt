@@ -44,8 +44,9 @@ impl<'a> Model for BlockSearch<'a> {
 }
 
 impl<'a> BlockSearch<'a> {
-    /// Searches the text, of which nothing is searched yet. It takes no memory; to remember searches
-    /// for elements takes some, and where that is refused they are made anew for each question.
+    /// Searches the text, of which nothing is searched yet. It takes no memory; to remember
+    /// searches for elements takes some, and where that is refused they are made anew for each
+    /// question.
     pub fn new(alloc: Global, text: &'a [u8]) -> BlockSearch<'a>
         ensures { result ≡ text.now }
     {

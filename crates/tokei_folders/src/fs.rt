@@ -186,8 +186,8 @@ pub trait Folders {
     }
 
     /// Why the last refused call on a place was refused, in the system's words; empty where the
-    /// folders have no words for it, as those with a known tree. It is for messages alone: nothing is
-    /// promised of the words.
+    /// folders have no words for it, as those with a known tree. It is for messages alone: nothing
+    /// is promised of the words.
     fn cause_at(&self, alloc: Global, _place: &str) -> Result<String, AllocError>
         ensures silent { Told (tree self.now) (λ t. IfOk result (λ text. string_bytes text ≡ [])) }
     {

@@ -1,5 +1,5 @@
--- An index of patterns by their keys: each has a slot, and each slot leads to its last pattern, each
--- pattern to the one before it in its slot.
+-- An index of patterns by their keys: each has a slot, and each slot leads to its last pattern,
+-- each pattern to the one before it in its slot.
 use Rattle.std.specs.Prelude.{◌≡◌, ℕ, suc, zero, ◌+◌, ◌-◌, ◌%◌, ◌<◌, ◌==◌, ◌&&◌, List, [], ◌∷◌, Bool, false, Option, Some, None, if◌then◌else◌, length, take, slice_index_or}
 use Rattle.tokei_ignore.specs.declared.patterns.Pattern.{Pattern}
 use Rattle.tokei_ignore.specs.Patterns.{fits_entry}

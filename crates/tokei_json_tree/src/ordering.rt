@@ -107,9 +107,9 @@ fn are_members_plain(members: &TreeMembers<'_>) -> bool
     true
 }
 
-/// The tree with the keys of its objects in order. None where it has a number that isn't a whole one
-/// of 64 bits from 0 on, a key twice in an object, or a member with more than `MOST` before it that
-/// belong behind it. It fails where memory runs out.
+/// The tree with the keys of its objects in order. None where it has a number that isn't a whole
+/// one of 64 bits from 0 on, a key twice in an object, or a member with more than `MOST` before it
+/// that belong behind it. It fails where memory runs out.
 #[cycle(ordered)]
 #[inline(always)]
 pub fn ordered<'t>(bump: &'t Bump, tree: &Tree<'t>) -> Result<Option<Tree<'t>>, AllocError>

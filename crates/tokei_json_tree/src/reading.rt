@@ -105,9 +105,9 @@ fn value_of(alloc: Global, text: &str) -> Result<Value, ReadError>
 }
 
 /// Reads a text. Refused is exactly what `serde_json` has no reading of; `Memory` comes only where
-/// an allocation failed. A text takes longer that has a number but whole ones of 64 bits from 0 on, a
-/// key twice in an object, or members that stand far from the place of their keys: its tree is made
-/// of the value that `serde_json` makes of it.
+/// an allocation failed. A text takes longer that has a number but whole ones of 64 bits from 0 on,
+/// a key twice in an object, or members that stand far from the place of their keys: its tree is
+/// made of the value that `serde_json` makes of it.
 pub fn read<'t>(alloc: Global, room: &'t mut Room, text: &'t str) -> Result<Reading<'t>, ReadError>
     ensures tree { IfOk result (λ r. IsReadingOf text.now (value_view r.tree)) }
     ensures fraction { IfOk result

@@ -59,7 +59,8 @@ made f q v d m n l i t =
       begins_in_comment = flags (begins_one m n) 256;
       begins_comment = flags (λ byte. begins_one m n byte || list_any (is_first_of byte) l) 256;
       family = f;
-      openings = item_openings DocString d ++ (item_openings VerbatimString v ++ (item_openings OrdinaryString q ++ (item_openings MultiLineComment m ++ (item_openings MultiLineComment n ++ line_openings l))));
+      openings = item_openings DocString d ++ (item_openings VerbatimString v ++ (item_openings OrdinaryString q
+          ++ (item_openings MultiLineComment m ++ (item_openings MultiLineComment n ++ line_openings l))));
     }
   where
     begins_one : List Pair → List Pair → ℕ → Bool

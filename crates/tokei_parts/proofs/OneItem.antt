@@ -60,17 +60,25 @@ module _ (p : Place) (item : Option Code.Enclosure) (reach : Reach) (reached : I
   at_chain x e = ap (choice_from p reach.at) (innermost_in item) ∙ e
 
   pub byte_goes : choice_from p reach.at (mode_of item) ≡ takes_byte → GoesIn p (chain_in item) 1 1 (chain_in item) reach.at
-  byte_goes e = goes_byte (row_in p.reading.now) (blocks_of p.reading.now) p.behind_child p.reading.now.sound calm (chain_in item) (drop reach.at (text_of p)) reached.1.closable some (at_chain takes_byte e)
+  byte_goes e =
+      goes_byte (row_in p.reading.now) (blocks_of p.reading.now) p.behind_child p.reading.now.sound calm (chain_in item)
+      (drop reach.at (text_of p)) reached.1.closable some (at_chain takes_byte e)
 
   pub escape_goes : choice_from p reach.at (mode_of item) ≡ escapes → GoesIn p (chain_in item) 2 1 (chain_in item) reach.at
-  escape_goes e = goes_escape (row_in p.reading.now) (blocks_of p.reading.now) p.behind_child p.reading.now.sound calm (chain_in item) (drop reach.at (text_of p)) reached.1.closable some (at_chain escapes e)
+  escape_goes e =
+      goes_escape (row_in p.reading.now) (blocks_of p.reading.now) p.behind_child p.reading.now.sound calm (chain_in item)
+      (drop reach.at (text_of p)) reached.1.closable some (at_chain escapes e)
 
   pub pass_goes : (pair : Pair) → choice_from p reach.at (mode_of item) ≡ passes_over pair → GoesIn p (chain_in item) (length pair.opener) 1 (chain_in item) reach.at
-  pass_goes pair e = goes_pass (row_in p.reading.now) (blocks_of p.reading.now) p.behind_child p.reading.now.sound calm (chain_in item) (drop reach.at (text_of p)) reached.1.closable some pair (at_chain (passes_over pair) e)
+  pass_goes pair e =
+      goes_pass (row_in p.reading.now) (blocks_of p.reading.now) p.behind_child p.reading.now.sound calm (chain_in item)
+      (drop reach.at (text_of p)) reached.1.closable some pair (at_chain (passes_over pair) e)
 
   pub rest_goes : choice_from p reach.at (mode_of item) ≡ begins_line_comment
       → GoesIn p (chain_in item) (line_len (drop reach.at (text_of p))) (1 - newlines (drop reach.at (text_of p))) (chain_in item) reach.at
-  rest_goes e = goes_rest (row_in p.reading.now) (blocks_of p.reading.now) p.behind_child p.reading.now.sound calm (chain_in item) (drop reach.at (text_of p)) reached.1.closable some (at_chain begins_line_comment e)
+  rest_goes e =
+      goes_rest (row_in p.reading.now) (blocks_of p.reading.now) p.behind_child p.reading.now.sound calm (chain_in item)
+      (drop reach.at (text_of p)) reached.1.closable some (at_chain begins_line_comment e)
 
 -- the closer of the item
 pub closer_goes : (p : Place) (around : Code.Enclosure) (reach : Reach) → IsReached p (chain_in (Some around)) reach → reach.at < p.end

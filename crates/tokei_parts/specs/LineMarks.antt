@@ -9,12 +9,14 @@ use Rattle.tokei_parts.specs.declared.line_marks.LineMarks.{LineMarks}
 
 -- At a byte that doesn't stand in the slot of its low half no choice of the flags can begin and no
 -- opener, and the blanks are such bytes.
-pub record AreMarkSlots (slots : List ℕ) (begins : List Bool) (openers : List (List ℕ)) : Type 0 where
+pub record AreMarkSlots (slots : List ℕ) (begins : List Bool)
+    (openers : List (List ℕ)) : Type 0 where
   pub choices : (x : ℕ) → x < 256 → is_slotted slots x ≡ false → is_in begins x ≡ false
   pub none : (x : ℕ) → is_slotted slots x ≡ false → is_first openers x ≡ false
   pub blanks : (x : ℕ) → is_blank x ≡ true → is_slotted slots x ≡ false
 
 -- The slots are such, and the other bytes tell the openers.
-pub record AreLineMarks (marks : LineMarks) (begins : List Bool) (openers : List (List ℕ)) : Type 0 where
+pub record AreLineMarks (marks : LineMarks) (begins : List Bool)
+    (openers : List (List ℕ)) : Type 0 where
   pub slots : AreMarkSlots marks.slots begins openers
   pub tellers : AreTellers marks.tellers openers

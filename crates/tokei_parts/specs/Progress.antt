@@ -75,7 +75,8 @@ module _ (r : Row) (block : ℕ → List ℕ → Option Block) (l : ℕ) where
   abbrev pub children_left : Chain → List ℕ → List Block
   children_left c t = children (marks_ahead r block l c t)
 
-  -- the choices that are left in the parts that a reading walks, which skips the others or not, given these items
+  -- the choices that are left in the parts that a reading walks, which skips the others or not,
+  -- given these items
   abbrev pub steps_left : Bool → Chain → List ℕ → ℕ
   steps_left skips c t = choices_made skips (openers r)
       (running (innermost c) [] 0 t (marks_ahead r block l c t))

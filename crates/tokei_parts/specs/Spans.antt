@@ -9,7 +9,8 @@ use Rattle.tokei_parts.specs.declared.opening_table.Span.{Span}
 -- an opening of the code
 abbrev pub opening_of : CodeOpening.Opening → Opening
 opening_of (Item kind pair) = record { item = Some kind; pair = pair_of pair.now }
-opening_of (LineComment token) = record { item = None; pair = record { opener = string_bytes token.now; closer = [] } }
+opening_of (LineComment token) =
+    record { item = None; pair = record { opener = string_bytes token.now; closer = [] } }
 
 -- a list of them
 abbrev pub openings_of : List CodeOpening.Opening → List Opening
@@ -28,7 +29,8 @@ pub record IsSpan (all : List CodeOpening.Opening) (byte : ℕ) (span : Span) : 
   pub order : span.from ≤ span_end all span
   pub within : span_end all span ≤ length all
   pub enough : (t : List ℕ)
-      → first_opening (openings_of (spanned all span)) (byte ∷ t) ≡ first_opening (openings_of all) (byte ∷ t)
+      → first_opening (openings_of (spanned all span)) (byte ∷ t)
+      ≡ first_opening (openings_of all) (byte ∷ t)
 
 -- each byte has its span
 pub record AreSpans (all : List CodeOpening.Opening) (spans : List Span) : Type 0 where

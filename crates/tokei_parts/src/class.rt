@@ -408,8 +408,8 @@ fn class_by_all(
     class_by(reading, begun, start, start, stop, stack_of(&ended))
 }
 
-/// The same, where most lines are told at once by the kinds of the items, by a solid byte, or by one
-/// that begins no comment.
+/// The same, where most lines are told at once by the kinds of the items, by a solid byte, or by
+/// one that begins no comment.
 #[inline(always)]
 pub fn class_by_item(
     reading: &Reading,
@@ -534,8 +534,8 @@ fn begins_comment(syntax: &Syntax, text: &[u8], start: usize, solid: usize, stop
     any_solid_begins(&syntax.line_comment, &text[head..stop])
 }
 
-/// Whether a line comment that doesn't end in a blank stands at the place of the text, in a language
-/// whose comments aren't told by their columns.
+/// Whether a line comment that doesn't end in a blank stands at the place of the text, in a
+/// language whose comments aren't told by their columns.
 pub fn line_comment_stands(syntax: &Syntax, text: &[u8], at: usize) -> bool
     requires { at ≤ length text.now }
     ensures line { result ≡ true

@@ -76,8 +76,8 @@ fn take(part: &Place, len: usize, reach: &mut LineReach)
     reach.base += len - 1;
 }
 
-/// Takes the choice at the place that the walk has come to, which that item alone encloses, or none,
-/// and goes on behind what it takes. It answers false where an item opens within the item.
+/// Takes the choice at the place that the walk has come to, which that item alone encloses, or
+/// none, and goes on behind what it takes. It answers false where an item opens within the item.
 #[inline(always)]
 fn take_one<'t>(
     part: &Place<'_, '_, 't>,

@@ -35,7 +35,8 @@ pub struct LanguageMatchers<'t> {
     begins_comment: BitSet,
     family: Family,
     openings: OpeningTable<'t>,
-    /// What plain lines are searched for, where a look at them by that is quicker than other searches.
+    /// What plain lines are searched for, where a look at them by that is quicker than other
+    /// searches.
     line_marks: Option<LineMarks>,
 }
 

@@ -279,8 +279,8 @@ fn take_step<'t>(
     Ok(taken)
 }
 
-/// Takes the newline that ends a line behind which the stack's items go on: one step. No token holds
-/// a newline, and no child opens at one, so nothing but the byte itself can begin there.
+/// Takes the newline that ends a line behind which the stack's items go on: one step. No token
+/// holds a newline, and no child opens at one, so nothing but the byte itself can begin there.
 #[inline(always)]
 fn take_newline<'t>(place: &Place<'_, '_, 't>, stack: &[Enclosure<'t>], steps: &mut usize)
     requires closable { IsClosable (chain_of stack.now) }
@@ -326,9 +326,10 @@ fn take_within<'t>(
     }
 }
 
-/// Takes what a string encloses from the place that the walk has come to on, up to behind its closer
-/// or to the line's end, without a look at the stack for each escape. What a turn does is written
-/// out, as in `take_within`, which wouldn't stand in its callers' code if it were called twice.
+/// Takes what a string encloses from the place that the walk has come to on, up to behind its
+/// closer or to the line's end, without a look at the stack for each escape. What a turn does is
+/// written out, as in `take_within`, which wouldn't stand in its callers' code if it were called
+/// twice.
 #[inline(always)]
 fn take_string<'t>(
     part: &Place<'_, '_, 't>,

@@ -13,8 +13,8 @@ use Rattle.tokei_walk.specs.declared.kept_file.Note.{Note}
 abbrev pub ended : List ℕ → List ℕ
 ended line = line ++ newline ∷ []
 
--- the lines that a command line shows: of notes as they are shown, of configuration files that count
--- as empty, and of its own words that name no language
+-- the lines that a command line shows: of notes as they are shown, of configuration files that
+-- count as empty, and of its own words that name no language
 abbrev pub passed_lines : List Row → Cli → List Note → List Flaw → List (List ℕ)
 passed_lines rows line notes flaws =
     (lines_of (filter_of line.verbose) notes ++ flaw_lines line flaws)

@@ -39,7 +39,8 @@ fn write_prepared<F: Folders, W: Sink>(
     ensures same { SameTree F.tree folders.old folders.new }
     ensures told { Told (F.tree folders.old) (λ t. OnOk result (Outputs prepared.now.job.wanted
         table.now prepared.now.job t (W.contents out.old) (W.contents out.new))) }
-    ensures beside { IfOk result (λ text. ShowsNotes AnyMet request.now.cli.now (string_bytes text)) }
+    ensures beside { IfOk result (λ text.
+        ShowsNotes AnyMet request.now.cli.now (string_bytes text)) }
     ensures noted { Told (F.tree folders.old) (λ t.
         table_at t (place_of_table request.now.env.now request.now.cli.now) ≡ Some (Ok table.now)
         → AreFlaws table.now request.now.env.now t prepared.now.flaws.items
@@ -73,7 +74,8 @@ fn write_counts<F: Folders, S: Source, W: Sink>(
     ensures told { Told (F.tree folders.old) (λ t. OnOk result (WritesCounts
         request.now.cli.now request.now.env.now t (S.remaining input.old)
         (W.contents out.old) (W.contents out.new))) }
-    ensures beside { IfOk result (λ text. ShowsNotes AnyMet request.now.cli.now (string_bytes text)) }
+    ensures beside { IfOk result (λ text.
+        ShowsNotes AnyMet request.now.cli.now (string_bytes text)) }
     ensures noted { Told (F.tree folders.old) (λ t. IfOk result (λ text.
         ShowsNotes (MetIn request.now.env.now t) request.now.cli.now (string_bytes text))) }
     ensures fault { W.faults out.old < u64.MAX → OnOk result (W.faults out.new ≡ W.faults out.old) }

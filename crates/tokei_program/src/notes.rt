@@ -33,8 +33,8 @@ fn text_of(alloc: Global, lines: &[String]) -> Result<String, AllocError>
 }
 
 /// The lines of what a run passed over, by notes as they are shown, of the configuration files that
-/// count as empty, and of the words of its command line that name no language of the table; of those
-/// that are shown where `--verbose` was given so often. It fails where memory runs out.
+/// count as empty, and of the words of its command line that name no language of the table; of
+/// those that are shown where `--verbose` was given so often. It fails where memory runs out.
 pub fn passed_text(
     alloc: Global,
     table: &LanguageTable,

@@ -62,8 +62,8 @@ fn shown_note<F: Folders>(alloc: Global, folders: &F, note: &Note) -> Result<Not
     })
 }
 
-/// The notes as they are shown, each with why its place gave no answer, where the folders have words
-/// for that.
+/// The notes as they are shown, each with why its place gave no answer, where the folders have
+/// words for that.
 pub fn shown_notes<F: Folders>(
     alloc: Global,
     folders: &F,

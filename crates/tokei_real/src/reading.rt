@@ -91,8 +91,8 @@ fn said_of_file<F: OpenFile>(file: &F) -> io::Result<Metadata>
 }
 
 /// All that an open file has left, read to the front of the room. Only where that is filled is the
-/// length asked, and room made for the rest; where the file has more or fewer bytes, all of them are
-/// read.
+/// length asked, and room made for the rest; where the file has more or fewer bytes, all of them
+/// are read.
 pub fn all_into<R: Read + OpenFile + Drop>(mut reader: R, mut room: Vec<u8>) -> io::Result<Content>
     ensures { IfOk result (λ c. IfSome (R.remaining reader) (λ text. c ≡ text)) }
 {

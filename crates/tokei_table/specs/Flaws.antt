@@ -63,7 +63,8 @@ TellsFallback rows flaw = flaw.cause ≡ Fallback
     × (has_key rows (string_bytes flaw.word) ≡ false)
 
 -- The outcome is a refusal for the flaw's cause, and of the rows the flaw tells what goes with it.
-pub record Tells (outcome : Result (List Row) TableError) (rows : List Row) (flaw : TableFlaw) : Type 0 where
+pub record Tells (outcome : Result (List Row) TableError) (rows : List Row)
+    (flaw : TableFlaw) : Type 0 where
   pub cause : outcome ≡ Err flaw.cause
   pub token : TellsToken rows flaw
   pub name : TellsName rows flaw

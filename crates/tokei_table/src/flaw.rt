@@ -260,8 +260,8 @@ fn text_flaw(alloc: Global, text: &str) -> Result<Option<TableFlaw>, AllocError>
 
 impl TableFlaw {
     /// Where a text that `LanguageTable::from_json` refuses goes wrong. None is told of a table, of
-    /// what is no JSON text, or where no language of its own is at fault. It fails where memory runs
-    /// out.
+    /// what is no JSON text, or where no language of its own is at fault. It fails where memory
+    /// runs out.
     pub fn find(alloc: Global, bytes: &[u8]) -> Result<Option<TableFlaw>, AllocError>
         ensures cause { IfOk result (λ o. IfSome o (λ f. outcome bytes.now ≡ Err f.cause)) }
         ensures found { IfOk result (λ o. is_some o ≡ is_flawed bytes.now) }

@@ -15,8 +15,8 @@ use Rattle.tokei_table_json.specs.Rows.{rows_at}
 use Rattle.tokei_table_row.specs.Row.{Row}
 
 -- The tokens begin with a value, nested no deeper than the number, that has the layout and but the
--- known escapes; its objects have their keys in order, its numbers are whole ones of 64 bits, and it is
--- read as that. The new tokens are those behind it.
+-- known escapes; its objects have their keys in order, its numbers are whole ones of 64 bits, and
+-- it is read as that. The new tokens are those behind it.
 pub record IsNext {X : Type 0} (layout escapes : Data → Bool) (read : Data → X) (depth : ℕ)
     (old new : List Token) (it : X) : Type 0 where
   pub value : json.Json

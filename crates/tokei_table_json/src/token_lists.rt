@@ -1,6 +1,6 @@
-//! Members of a table's languages as its tokens come, without a tree. Each function answers None where
-//! something else comes, or a text with an unknown escape. A list of the table is put together in room
-//! that all share, so that what it takes at last is no more than its items do.
+//! Members of a table's languages as its tokens come, without a tree. Each function answers None
+//! where something else comes, or a text with an unknown escape. A list of the table is put
+//! together in room that all share, so that what it takes at last is no more than its items do.
 ghost use Rattle.std.specs.Prelude.{◌≡◌, ◌<◌, ◌∷◌, ℕ, true, Some, IfOk, IfSome, string_bytes};
 ghost use Rattle.json.specs.Token.{Token as SpecToken};
 ghost use Rattle.tokei_table_row.specs.RowOf.{pair_of, pairs_of, tokens_of};
@@ -52,7 +52,8 @@ pub(crate) fn next_text(
 /// The next truth value.
 pub(crate) fn next_truth(reader: &mut Reader<'_>) -> Option<bool>
     ensures { IfSome result (λ b. (depth : ℕ)
-        → IsNext is_truth_value (λ d. true) (λ d. truth_at (Some d)) depth reader.old reader.new b) }
+        → IsNext is_truth_value (λ d. true) (λ d. truth_at (Some d)) depth
+        reader.old reader.new b) }
 {
     match reader.next() {
         Some(Token::Bool(truth)) => Some(truth),

@@ -132,8 +132,8 @@ fn put_members<'t>(
     }
 }
 
-/// The row of the language that comes next under that key. Tags are read before the kind is known, as
-/// those of a language of kind `html`, and dropped where it is of another.
+/// The row of the language that comes next under that key. Tags are read before the kind is known,
+/// as those of a language of kind `html`, and dropped where it is of another.
 fn next_row<'t>(
     alloc: Global,
     bump: &'t Bump,
@@ -210,10 +210,10 @@ fn ends(reader: &mut Reader<'_>) -> bool
     }
 }
 
-/// The rows of a table's text, in the order of their keys, without a tree of the text. None where the
-/// text is no table, and also where a table has members beside `languages`, keys of an object that
-/// aren't in byte order, or a number but whole ones of 64 bits from 0 on: its tree tells then. It
-/// fails where memory runs out.
+/// The rows of a table's text, in the order of their keys, without a tree of the text. None where
+/// the text is no table, and also where a table has members beside `languages`, keys of an object
+/// that aren't in byte order, or a number but whole ones of 64 bits from 0 on: its tree tells then.
+/// It fails where memory runs out.
 pub fn rows_in_order(alloc: Global, text: &str) -> Result<Option<Vec<Syntax>>, AllocError>
     ensures { IfOk result
         (λ found. IfSome found (λ v. IsTableText text.now (map row_of v.items))) }

@@ -27,7 +27,8 @@ pub record NamesBoth (rows : List Row) (word key other : List ℕ) : Type 0 wher
   pub in_order : place < later
   pub inside : later < length rows
   pub keys : ((row_at rows place).key ≡ key) × ((row_at rows later).key ≡ other)
-  pub names : (has_name word (row_at rows place) ≡ true) × (has_name word (row_at rows later) ≡ true)
+  pub names : (has_name word (row_at rows place) ≡ true)
+      × (has_name word (row_at rows later) ≡ true)
 
 -- The keys of the languages.
 abbrev pub keys_of : List Row → List (List ℕ)

@@ -76,7 +76,8 @@ in_group g (e ∷ es) = if e.0 == g then e.1 ∷ in_group g es else in_group g e
 
 -- The places that an index of that kind has for the text.
 abbrev pub places_of : TextKind → List ℕ → List Row → List ℕ
-places_of kind text rows = in_group (group_of (asked_by kind text)) (entries_from (texts_of kind) 0 rows)
+places_of kind text rows =
+    in_group (group_of (asked_by kind text)) (entries_from (texts_of kind) 0 rows)
 
 -- How many entries the groups before that one have, which is where its places begin.
 abbrev pub begin_of : ℕ → List (ℕ × ℕ) → ℕ

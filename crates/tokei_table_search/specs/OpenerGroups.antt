@@ -42,7 +42,8 @@ pub record IsGroupOf (byte : ℕ) (openers : List (List ℕ)) (group : OpenerGro
   pub seconds : HasFlags (goes_on_behind byte) openers group.seconds
   pub wholes : HasFlags (is_whole_behind byte) openers group.wholes
   pub own : (t : List ℕ)
-      → begins_with_one (tokens_of group.openers.items) (byte ∷ t) ≡ begins_with_one openers (byte ∷ t)
+      → begins_with_one (tokens_of group.openers.items) (byte ∷ t)
+      ≡ begins_with_one openers (byte ∷ t)
 
 -- Beside each of the first bytes stands its group.
 pub record AreGroupsOf (openers : List (List ℕ)) (firsts : List ℕ)

@@ -55,7 +55,9 @@ returns-in-Ok-clause-unread g c = λ t e.
     let by = counting_of c.args.by.now.counting.now in
     let here = c.language.ensures.same ∙ e in
     let read = c.in-Ok.ensures.told t here ∙ ap (stats_at t by.rows by.docs c.in-Some.language) c.as_str.ensures in
-    on_ok_weaker c.write_row.result (λ _. none_more c.args.unread.now.items _ (read_unnoted by t c.args.file c.in_ok-language.field-0 (c.in_ok-language.ensures.told t e) c.in-Some.language (stats_of c.in-Ok.stats) c.in-Some.is read))
+    on_ok_weaker c.write_row.result
+    (λ _. none_more c.args.unread.now.items _
+    (read_unnoted by t c.args.file c.in_ok-language.field-0 (c.in_ok-language.ensures.told t e) c.in-Some.language (stats_of c.in-Ok.stats) c.in-Some.is read))
     c.write_row.ensures.bytes
 
 pub returns-in_ok-note_unread-in-Err-Refused-clause-unread : goal.returns-in_ok-note_unread-in-Err-Refused-clause-unread

@@ -18,22 +18,34 @@ fronts_before-solid-requires c = record {
 
 pub overflow_sub-blank : goal.overflow_sub-blank
 overflow_sub-blank c =
+    let text = c.args.ahead.now.reading.now.text.now in
+    let slots = c.args.ahead.now.marks.now.slots in
     let e = c.fronts_before-solid in
-    solid_few c.args.ahead.now.reading.now c.args.so_far.now c.args.ahead.now.marks.now.slots c.args.look (seen_inside c.args.so_far.now.start c.args.look.stop c.requires.look.low (λ e. c.if-look-so_far.false (sym e))) c.requires.look
-    e.result.0 e.result.1 (e.ensures.fronts ∙ ap (λ s. front_count true (between c.args.ahead.now.reading.now.text.now s c.args.look.stop)) c.requires.start) (e.ensures.marks ∙ ap (λ s. mark_count c.args.ahead.now.marks.now.slots true (between c.args.ahead.now.reading.now.text.now s c.args.look.stop)) c.requires.start)
+    let fronts = e.ensures.fronts ∙ ap (λ s. front_count true (between text s c.args.look.stop)) c.requires.start in
+    let marks = e.ensures.marks ∙ ap (λ s. mark_count slots true (between text s c.args.look.stop)) c.requires.start in
+    let some = seen_inside c.args.so_far.now.start c.args.look.stop c.requires.look.low (λ e. c.if-look-so_far.false (sym e)) in
+    solid_few c.args.ahead.now.reading.now c.args.so_far.now slots c.args.look some c.requires.look e.result.0 e.result.1 fronts marks
 
 pub sums_with-lines-requires : goal.sums_with-lines-requires
 sums_with-lines-requires c =
+    let text = c.args.ahead.now.reading.now.text.now in
+    let slots = c.args.ahead.now.marks.now.slots in
     let e = c.fronts_before-solid in
-    omega (arith, (e.ensures.fronts ∙ ap (λ s. front_count true (between c.args.ahead.now.reading.now.text.now s c.args.look.stop)) c.requires.start), (e.ensures.marks ∙ ap (λ s. mark_count c.args.ahead.now.marks.now.slots true (between c.args.ahead.now.reading.now.text.now s c.args.look.stop)) c.requires.start), marks_few c.args.ahead.now.marks.now.slots (between c.args.ahead.now.reading.now.text.now c.args.so_far.now.start c.args.look.stop) true)
+    let fronts = e.ensures.fronts ∙ ap (λ s. front_count true (between text s c.args.look.stop)) c.requires.start in
+    let marks = e.ensures.marks ∙ ap (λ s. mark_count slots true (between text s c.args.look.stop)) c.requires.start in
+    omega (arith, fronts, marks, marks_few slots (between text c.args.so_far.now.start c.args.look.stop) true)
 
 pub returns-in_err-so_far-clause-quiet : goal.returns-in_err-so_far-clause-quiet
 returns-in_err-so_far-clause-quiet c = λ none.
     let r = c.args.ahead.now.reading.now in
     let p = c.args.so_far.now in
+    let text = c.args.ahead.now.reading.now.text.now in
+    let slots = c.args.ahead.now.marks.now.slots in
     let e = c.fronts_before-solid in
+    let fronts = e.ensures.fronts ∙ ap (λ s. front_count true (between text s c.args.look.stop)) c.requires.start in
+    let marks = e.ensures.marks ∙ ap (λ s. mark_count slots true (between text s c.args.look.stop)) c.requires.start in
     let some = seen_inside p.start c.args.look.stop c.requires.look.low (λ e. c.if-look-so_far.false (sym e)) in
-    let way = looked_way r p c.args.ahead.now.marks.now.slots c.args.look some c.requires.look e.result.0 e.result.1 (e.ensures.fronts ∙ ap (λ s. front_count true (between c.args.ahead.now.reading.now.text.now s c.args.look.stop)) c.requires.start) (e.ensures.marks ∙ ap (λ s. mark_count c.args.ahead.now.marks.now.slots true (between c.args.ahead.now.reading.now.text.now s c.args.look.stop)) c.requires.start) c.sums_with-lines.result
+    let way = looked_way r p slots c.args.look some c.requires.look e.result.0 e.result.1 fronts marks c.sums_with-lines.result
     c.requires.skips c.requires.under_way c.requires.plain c.has_bytes.ensures c.args.ahead.now.marked.slots c.requires.clear c.requires.told
     (c.sums_with-lines.ensures ∙ ap (λ (g : Row). counts_with g.literate (c.args.look.newlines - e.result.0) e.result.0 e.result.1) r.row) in
     absurd (c.in_err-so_far.ensures.past (looked_fits r p c.sums_with-lines.result c.args.look.stop c.requires.skips e.ensures.fits way none))
@@ -42,9 +54,13 @@ pub returns-in_err-so_far-clause-overflow : goal.returns-in_err-so_far-clause-ov
 returns-in_err-so_far-clause-overflow c =
     let r = c.args.ahead.now.reading.now in
     let p = c.args.so_far.now in
+    let text = c.args.ahead.now.reading.now.text.now in
+    let slots = c.args.ahead.now.marks.now.slots in
     let e = c.fronts_before-solid in
+    let fronts = e.ensures.fronts ∙ ap (λ s. front_count true (between text s c.args.look.stop)) c.requires.start in
+    let marks = e.ensures.marks ∙ ap (λ s. mark_count slots true (between text s c.args.look.stop)) c.requires.start in
     let some = seen_inside p.start c.args.look.stop c.requires.look.low (λ e. c.if-look-so_far.false (sym e)) in
-    let way = looked_way r p c.args.ahead.now.marks.now.slots c.args.look some c.requires.look e.result.0 e.result.1 (e.ensures.fronts ∙ ap (λ s. front_count true (between c.args.ahead.now.reading.now.text.now s c.args.look.stop)) c.requires.start) (e.ensures.marks ∙ ap (λ s. mark_count c.args.ahead.now.marks.now.slots true (between c.args.ahead.now.reading.now.text.now s c.args.look.stop)) c.requires.start) c.sums_with-lines.result
+    let way = looked_way r p slots c.args.look some c.requires.look e.result.0 e.result.1 fronts marks c.sums_with-lines.result
     c.requires.skips c.requires.under_way c.requires.plain c.has_bytes.ensures c.args.ahead.now.marked.slots c.requires.clear c.requires.told
     (c.sums_with-lines.ensures ∙ ap (λ (g : Row). counts_with g.literate (c.args.look.newlines - e.result.0) e.result.0 e.result.1) r.row) in
     λ is fits. c.in_err-so_far.ensures.past (counts_fit r (gone_on p c.sums_with-lines.result c.args.look.stop) way fits)
@@ -53,9 +69,13 @@ pub returns-clause-under_way : goal.returns-clause-under_way
 returns-clause-under_way c =
     let r = c.args.ahead.now.reading.now in
     let p = c.args.so_far.now in
+    let text = c.args.ahead.now.reading.now.text.now in
+    let slots = c.args.ahead.now.marks.now.slots in
     let e = c.fronts_before-solid in
+    let fronts = e.ensures.fronts ∙ ap (λ s. front_count true (between text s c.args.look.stop)) c.requires.start in
+    let marks = e.ensures.marks ∙ ap (λ s. mark_count slots true (between text s c.args.look.stop)) c.requires.start in
     let some = seen_inside p.start c.args.look.stop c.requires.look.low (λ e. c.if-look-so_far.false (sym e)) in
-    let way = looked_way r p c.args.ahead.now.marks.now.slots c.args.look some c.requires.look e.result.0 e.result.1 (e.ensures.fronts ∙ ap (λ s. front_count true (between c.args.ahead.now.reading.now.text.now s c.args.look.stop)) c.requires.start) (e.ensures.marks ∙ ap (λ s. mark_count c.args.ahead.now.marks.now.slots true (between c.args.ahead.now.reading.now.text.now s c.args.look.stop)) c.requires.start) c.sums_with-lines.result
+    let way = looked_way r p slots c.args.look some c.requires.look e.result.0 e.result.1 fronts marks c.sums_with-lines.result
     c.requires.skips c.requires.under_way c.requires.plain c.has_bytes.ensures c.args.ahead.now.marked.slots c.requires.clear c.requires.told
     (c.sums_with-lines.ensures ∙ ap (λ (g : Row). counts_with g.literate (c.args.look.newlines - e.result.0) e.result.0 e.result.1) r.row) in
     counted_on r p c.in_ok-so_far.field-0 c.args.look.stop c.sums_with-lines.result c.in_ok-so_far.ensures.ok way

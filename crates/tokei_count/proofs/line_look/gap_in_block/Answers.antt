@@ -12,28 +12,32 @@ use Rattle.tokei_count.proofs.line_look.gap_in_block.Goals as goal
 
 pub gap_to_opener-requires-clause-small : goal.gap_to_opener-requires-clause-small
 gap_to_opener-requires-clause-small c =
-    c.can_open-can.ensures.low (omega (arith, c.requires.marked, marks_small (is_slotted c.args.ahead.now.marks.now.slots) c.args.ahead.now.reading.now.text.now c.args.from c.requires.within))
+    let slots = c.args.ahead.now.marks.now.slots in
+    let text = c.args.ahead.now.reading.now.text.now in
+    c.can_open-can.ensures.low (omega (arith, c.requires.marked, marks_small (is_slotted slots) text c.args.from c.requires.within))
 
 pub gap_to_opener-requires-clause-others : goal.gap_to_opener-requires-clause-others
 gap_to_opener-requires-clause-others c =
     let r = c.args.ahead.now.reading.now in
     let can = c.can_open-can in
-    none_can (openers_in r) c.args.ahead.now.marks.now.slots r.text.now c.args.ahead.now.marks.now.tellers c.args.from c.args.marked can.result (ap (list_all is_nonempty) (openers_are r) ∙ openers_nonempty (row_in r) c.args.ahead.now.tokens)
+    let marks = c.args.ahead.now.marks.now in
+    let all = ap (list_all is_nonempty) (openers_are r) ∙ openers_nonempty (row_in r) c.args.ahead.now.tokens in
+    none_can (openers_in r) marks.slots r.text.now marks.tellers c.args.from c.args.marked can.result all
     c.args.ahead.now.marked.slots.none c.args.ahead.now.marked.tellers c.requires.within c.requires.marked can.ensures.marked can.ensures.last
 
 pub opener_stands-requires : goal.opener_stands-requires
 opener_stands-requires c =
-    omega (
-      arith,
-      c.requires.within,
-      first_within c.args.marked
-          (omega (arith, c.requires.marked, marks_small (is_slotted c.args.ahead.now.marks.now.slots) c.args.ahead.now.reading.now.text.now c.args.from c.requires.within)) c.requires.some,
-    )
+    let slots = c.args.ahead.now.marks.now.slots in
+    let text = c.args.ahead.now.reading.now.text.now in
+    let small : c.args.marked < 2 ^ 32 = omega (arith, c.requires.marked, marks_small (is_slotted slots) text c.args.from c.requires.within) in
+    omega (arith, c.requires.within, first_within c.args.marked small c.requires.some)
 
 pub returns-then-opener_stands-clause-clear : goal.returns-then-opener_stands-clause-clear
 returns-then-opener_stands-clause-clear c = λ few.
     let r = c.args.ahead.now.reading.now in
-    let small : c.args.marked < 2 ^ 32 = omega (arith, c.requires.marked, marks_small (is_slotted c.args.ahead.now.marks.now.slots) r.text.now c.args.from c.requires.within) in
+    let slots = c.args.ahead.now.marks.now.slots in
+    let small : c.args.marked < 2 ^ 32 = omega (arith, c.requires.marked, marks_small (is_slotted slots) r.text.now c.args.from c.requires.within) in
+    let all = ap (list_all is_nonempty) (openers_are r) ∙ openers_nonempty (row_in r) c.args.ahead.now.tokens in
     clear_from (openers_in r) r.text.now c.args.from _
-    (λ k low. none_marked (openers_in r) c.args.ahead.now.marks.now.slots r.text.now c.args.from (ap (list_all is_nonempty) (openers_are r) ∙ openers_nonempty (row_in r) c.args.ahead.now.tokens) c.args.ahead.now.marked.slots.none
+    (λ k low. none_marked (openers_in r) slots r.text.now c.args.from all c.args.ahead.now.marked.slots.none
     c.requires.within c.args.marked c.requires.marked k (omega (arith, low, first_within c.args.marked small c.requires.some)) (unset_first c.args.marked small c.requires.some k low))

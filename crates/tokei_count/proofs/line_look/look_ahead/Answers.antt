@@ -40,7 +40,8 @@ returns-then-gap-lt-BLOCK-2-clause-blank c =
     let inside : gap.result < 32 = c.if-gap-lt-BLOCK-2.true in
     blank_at (openers_in r) c.args.ahead.now.marks.now.slots r.text.now c.args.ahead.now.start look.look.at gap.result look.blank (omega (arith, i.look.low, i.look.order))
     (omega (arith, c.loop-look-test.true, c.args.ahead.now.inside)) i.blank
-    (ap (list_all is_nonempty) (openers_are r) ∙ openers_nonempty (row_in r) c.args.ahead.now.tokens) c.args.ahead.now.marked.slots.none c.args.ahead.now.marked.slots.blanks inside (gap.ensures.found inside)
+    (ap (list_all is_nonempty) (openers_are r) ∙ openers_nonempty (row_in r) c.args.ahead.now.tokens)
+    c.args.ahead.now.marked.slots.none c.args.ahead.now.marked.slots.blanks inside (gap.ensures.found inside)
     c.line_masks-lines-else-marked-eq0.result.fronts c.line_masks-lines-else-marked-eq0.ensures.fronts
     ∙ ap (λ n. blank_after true (between r.text.now c.args.ahead.now.start n)) (sym c.with_block-look-else-marked-eq0.ensures.at)
 
@@ -63,7 +64,8 @@ loop-look-preserved-then-marked-eq0 c =
       clear = subst (IsClear (openers_in r) text c.args.ahead.now.start) there
           (clear_on (openers_in r) text c.args.ahead.now.start look.look.at (look.look.at + 32) i.clear
           (clear_from (openers_in r) text look.look.at 32
-          (λ k low. none_marked (openers_in r) c.args.ahead.now.marks.now.slots text look.look.at (ap (list_all is_nonempty) (openers_are r) ∙ openers_nonempty (row_in r) c.args.ahead.now.tokens) c.args.ahead.now.marked.slots.none
+          (λ k low. none_marked (openers_in r) c.args.ahead.now.marks.now.slots text look.look.at
+          (ap (list_all is_nonempty) (openers_are r) ∙ openers_nonempty (row_in r) c.args.ahead.now.tokens) c.args.ahead.now.marked.slots.none
           (omega (arith, c.loop-look-test.true, c.args.ahead.now.inside)) m c.marks_in_block-marked.ensures k low (unset m k none))));
       told = subst (AreTold (row_in r) c.args.ahead.now.marks.now.slots text c.args.ahead.now.start) there
           (told_on (row_in r) c.args.ahead.now.marks.now.slots text c.args.ahead.now.start look.look.at 32 look.blank (omega (arith, i.look.low, i.look.order))

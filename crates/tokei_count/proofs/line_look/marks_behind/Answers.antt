@@ -6,13 +6,19 @@ pub returns-then-head-look : goal.returns-then-head-look
 returns-then-head-look c =
     let look = c.requires.look in
     let head = c.blanks_end-head in
-    sym (none_behind_blanks c.args.ahead.now.marks.now.slots c.args.ahead.now.reading.now.text.now c.args.ahead.now.start c.args.look.stop c.args.look.at c.requires.some look.order look.high (look.begun c.requires.some) look.on
+    let slots = c.args.ahead.now.marks.now.slots in
+    let text = c.args.ahead.now.reading.now.text.now in
+    let start = c.args.ahead.now.start in
+    sym (none_behind_blanks slots text start c.args.look.stop c.args.look.at c.requires.some look.order look.high (look.begun c.requires.some) look.on
     head.result head.ensures.low head.ensures.high head.ensures.blank head.ensures.found (omega (arith, c.if-head-look.true)))
 
 pub returns : goal.returns
 returns c =
     let look = c.requires.look in
     let head = c.blanks_end-head in
+    let slots = c.args.ahead.now.marks.now.slots in
+    let text = c.args.ahead.now.reading.now.text.now in
+    let start = c.args.ahead.now.start in
     marked_byte c.is_slotted.result _ c.is_slotted.ensures
-    ∙ sym (front_behind_blanks c.args.ahead.now.marks.now.slots c.args.ahead.now.reading.now.text.now c.args.ahead.now.start c.args.look.stop c.args.look.at c.requires.some look.order look.high (look.begun c.requires.some) look.on
+    ∙ sym (front_behind_blanks slots text start c.args.look.stop c.args.look.at c.requires.some look.order look.high (look.begun c.requires.some) look.on
     head.result head.ensures.low head.ensures.high head.ensures.blank head.ensures.found (seen_inside head.result c.args.look.at head.ensures.high c.if-head-look.false))

@@ -42,7 +42,8 @@ loop-at-preserved c =
       few = omega (arith, c.loop-at.invariant.few, ap lines_of c.one_more.ensures, lines_of-one (sums_of c.loop-at.lines) c.class_of_plain.result, stop_is, line_some text at some);
       high = c.if-next-stop.false;
       next = opener_later (openers_in c.args.reading.now) text at c.line_stop-stop.result c.args.next low c.if-next-stop.false c.loop-at.invariant.next;
-      line = front_line text c.line_stop-stop.result c.line_front-front.result.newline c.line_stop-stop.ensures.within c.line_front-front.ensures.high c.line_front-front.ensures.line c.line_front-front.ensures.found;
+      line = front_line text c.line_stop-stop.result c.line_front-front.result.newline c.line_stop-stop.ensures.within
+          c.line_front-front.ensures.high c.line_front-front.ensures.line c.line_front-front.ensures.found;
       low = c.line_front-front.ensures.low;
       blank = c.line_front-front.ensures.blank;
     }

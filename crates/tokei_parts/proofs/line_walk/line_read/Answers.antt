@@ -45,5 +45,7 @@ returns c = λ chain kind begun.
     let one : at < part_stop p → all ≡ steps + 1 = λ left.
     omega (arith, left, newline_is p chain ended at steps reaches c.requires.ended left, c.requires.low, c.requires.stop, reaches.begins.line, first_line-high (ahead p)) in
     let none : part_stop p ≤ at → all ≡ steps = λ over. omega (arith, over, reaches.high, c.requires.stop) in
-    subst (IsLine (row_in p.reading.now) (blocks_of p.reading.now) p.behind_child p.reading.now.docs_are_comments chain ended p.start (text_of p) all c.class_by_item-class.result) (sym c.requires.stop)
+    let class = c.class_by_item-class.result in
+    subst (IsLine (row_in p.reading.now) (blocks_of p.reading.now) p.behind_child p.reading.now.docs_are_comments chain ended p.start (text_of p) all class)
+    (sym c.requires.stop)
     (line_is p chain ended at steps reaches c.requires.ended c.requires.some c.class_by_item-class.result class_is all one none)

@@ -23,7 +23,8 @@ use Rattle.tokei_parts.proofs.line_walk.take_one.Goals.{After-as_bytes-closer, A
 
 -- the choice there, as the code has it
 made : (p : Place) (at : ℕ) (item : Option Code.Enclosure) (x y : CodeChoice.Choice)
-    → choice_of (block_from p at) x ≡ choice_from p at (mode_of item) → x ≡ y → choice_from p at (mode_of item) ≡ choice_of (block_from p at) y
+    → choice_of (block_from p at) x ≡ choice_from p at (mode_of item) → x ≡ y
+    → choice_from p at (mode_of item) ≡ choice_of (block_from p at) y
 made p at item x y e is = sym e ∙ ap (choice_of (block_from p at)) is
 
 -- what encloses the place, by its kind
@@ -38,7 +39,8 @@ unreachable-requires c =
     ∙ made c.args.part.now at (item_in c.args.item.now) c.args.choice _ c.requires.choice c.in-Closes.is)
 
 -- the closer of the item that is there
-closing : (p : Place) (item : Option Code.Enclosure) (around : Code.Enclosure) (reach : Reach) → item ≡ Some around → IsReached p (chain_in item) reach → reach.at < p.end
+closing : (p : Place) (item : Option Code.Enclosure) (around : Code.Enclosure) (reach : Reach) → item ≡ Some around
+    → IsReached p (chain_in item) reach → reach.at < p.end
     → choice_from p reach.at (mode_of item) ≡ closes → GoesIn p (chain_in item) (length around.closer.now) 1 [] reach.at
 closing p None around reach is reached more e = absurd cc
 closing p (Some other) around reach is reached more e =
@@ -47,8 +49,12 @@ closing p (Some other) around reach is reached more e =
 
 closes_here : (c : In-Some) → GoesIn c.args.part.now (chain_in (item_in c.args.item.now)) (length c.args.item.now.closer.now) 1 [] c.args.reach.now.at
 closes_here c =
-    closing c.args.part.now (item_in c.args.item.now) (record { kind = c.in-Some.field-0; closer = c.args.item.now.closer }) (reach_of c.args.reach.now) (kind_is c.args.item.now (Some c.in-Some.field-0) c.in-Some.is) c.requires.reached c.requires.some
-    (made c.args.part.now c.args.reach.now.at (item_in c.args.item.now) c.args.choice _ c.requires.choice c.in-Closes.is)
+    let p = c.args.part.now in
+    let item = item_in c.args.item.now in
+    let around : Code.Enclosure = record { kind = c.in-Some.field-0; closer = c.args.item.now.closer } in
+    let is = kind_is c.args.item.now (Some c.in-Some.field-0) c.in-Some.is in
+    closing p item around (reach_of c.args.reach.now) is c.requires.reached c.requires.some
+    (made p c.args.reach.now.at item c.args.choice _ c.requires.choice c.in-Closes.is)
 
 pub take-requires-clause-some : goal.take-requires-clause-some
 take-requires-clause-some c = (closes_here (goal.at.take-requires-clause-some c).In-Some).some
@@ -102,7 +108,9 @@ take-requires-in-PassesOver-clause-some c = (passes_here (goal.at.take-requires-
 
 pub take-requires-in-PassesOver-clause-high : goal.take-requires-in-PassesOver-clause-high
 take-requires-in-PassesOver-clause-high c =
-    choice_high c.args.part.now (chain_in (item_in c.args.item.now)) (chain_in (item_in c.args.item.now)) c.args.reach.now.at (length c.as_bytes-opener-in-PassesOver.result.now) c.requires.reached.1.begins c.requires.some
+    let chain = chain_in (item_in c.args.item.now) in
+    choice_high c.args.part.now chain chain c.args.reach.now.at (length c.as_bytes-opener-in-PassesOver.result.now)
+    c.requires.reached.1.begins c.requires.some
     (passes_here (goal.at.take-requires-in-PassesOver-clause-high c).After-as_bytes-opener-in-PassesOver)
 
 pub returns-in-PassesOver-clause-advances : goal.returns-in-PassesOver-clause-advances
@@ -152,8 +160,9 @@ none_of : (kind : Option ItemKind) → is_some kind ≡ false → kind ≡ None
 none_of None none = refl
 none_of (Some other) none = absurd cc
 
-opening : (p : Place) (item : Option Code.Enclosure) (new : Code.Enclosure) (reach : Reach) (kind : ItemKind) (pair : Pair) → item ≡ None
-    → IsReached p (chain_in item) reach → reach.at < p.end → choice_from p reach.at (mode_of item) ≡ opens kind pair → enclosure kind pair ≡ enclosure_of new
+opening : (p : Place) (item : Option Code.Enclosure) (new : Code.Enclosure) (reach : Reach) (kind : ItemKind) (pair : Pair)
+    → item ≡ None → IsReached p (chain_in item) reach → reach.at < p.end
+    → choice_from p reach.at (mode_of item) ≡ opens kind pair → enclosure kind pair ≡ enclosure_of new
     → GoesIn p (chain_in item) (length pair.opener) 1 (enclosure_of new ∷ []) reach.at
 opening p None new reach kind pair none reached more e same = opener_goes p new reach kind pair reached more e same
 opening p (Some other) new reach kind pair none reached more e same = absurd cc
@@ -169,7 +178,8 @@ opens_here c =
     let kind = c.in-Opens.kind in
     let pair = pair_of c.in-Opens.pair.now in
     subst (λ n. GoesIn p (chain_in item) n 1 (enclosure_of (item_here c) ∷ []) c.args.reach.now.at) (sym (ap length c.as_bytes-opener.ensures.value))
-    (opening p item (item_here c) (reach_of c.args.reach.now) kind pair (kind_is c.args.item.now None (none_of c.args.item.now.kind (sym c.is_some.ensures ∙ c.if-is_some.false))) c.requires.reached c.requires.some
+    (opening p item (item_here c) (reach_of c.args.reach.now) kind pair
+    (kind_is c.args.item.now None (none_of c.args.item.now.kind (sym c.is_some.ensures ∙ c.if-is_some.false))) c.requires.reached c.requires.some
     (made p c.args.reach.now.at item c.args.choice _ c.requires.choice c.in-Opens.is)
     (ap (λ w. record { kind = kind; closer = w }) (sym c.as_bytes-closer.ensures.value)))
 
@@ -179,7 +189,8 @@ take-requires-in-Opens-clause-some c = (opens_here (goal.at.take-requires-in-Ope
 pub take-requires-in-Opens-clause-high : goal.take-requires-in-Opens-clause-high
 take-requires-in-Opens-clause-high c =
     let d = (goal.at.take-requires-in-Opens-clause-high c).After-as_bytes-closer in
-    choice_high c.args.part.now (chain_in (item_in c.args.item.now)) (enclosure_of (item_here d) ∷ []) c.args.reach.now.at (length c.as_bytes-opener.result.now) c.requires.reached.1.begins c.requires.some
+    choice_high c.args.part.now (chain_in (item_in c.args.item.now)) (enclosure_of (item_here d) ∷ []) c.args.reach.now.at
+    (length c.as_bytes-opener.result.now) c.requires.reached.1.begins c.requires.some
     (opens_here d)
 
 pub returns-else-is_some-clause-advances : goal.returns-else-is_some-clause-advances

@@ -23,7 +23,9 @@ pub returns-in-None-clause-stats : goal.returns-in-None-clause-stats
 unfolding stats_in
 returns-in-None-clause-stats c =
     let text : decoded c.args.content.now ≡ c.args.content.now = search rules in
-    subst (λ t. IfOk c.count_text-in-None.result (λ s. stats_of s ≡ stats_of_text c.args.self.now.counter.now (docs_of c.args.self.now.config) c.args.language t)) (sym text) c.count_text-in-None.ensures.stats
+    subst (λ t. IfOk c.count_text-in-None.result
+    (λ s. stats_of s ≡ stats_of_text c.args.self.now.counter.now (docs_of c.args.self.now.config) c.args.language t))
+    (sym text) c.count_text-in-None.ensures.stats
 
 pub returns-in-None-clause-overflow : goal.returns-in-None-clause-overflow
 unfolding stats_in

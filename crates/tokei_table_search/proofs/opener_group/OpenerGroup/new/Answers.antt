@@ -19,7 +19,10 @@ loop-opener-init c =
           none_yet c.empty.result y (list_any (goes_on_behind c.args.byte y) openers) c.empty.ensures l;
       wholes_each = λ y l.
           none_yet c.empty-2.result y (list_any (is_whole_behind c.args.byte y) openers) c.empty-2.ensures l;
-      own = λ t. ap (λ os. begins_with_one (tokens_of os) (c.args.byte ∷ t) || begins_with_one openers (c.args.byte ∷ t)) c.new.ensures.items ∙ own_none (c.args.byte ∷ t) (begins_with_one openers (c.args.byte ∷ t));
+      own = λ t.
+          let text = c.args.byte ∷ t in
+          ap (λ os. begins_with_one (tokens_of os) text || begins_with_one openers text) c.new.ensures.items
+          ∙ own_none text (begins_with_one openers text);
     }
 
 pub loop-opener-preserved : goal.loop-opener-preserved
