@@ -11,6 +11,6 @@ PROGRAM = f"{CRATE}/out/bench"
 
 
 def build():
-    """Proves and builds the program where it isn't there or a source has changed since, with the libraries below it side by side."""
+    """Proves and builds the program, with the libraries below it, where it isn't there or a source has changed since."""
     if built("bench") is None:
         sys.exit("the crate bench can't be built: run rt check in its folder")
