@@ -326,70 +326,6 @@ fn take_within<'t>(
     }
 }
 
-/// Takes what a string encloses from the place that the walk has come to on, up to behind its
-/// closer or to the line's end, without a look at the stack for each escape. What a turn does is
-/// written out, as in `take_within`, which wouldn't stand in its callers' code if it were called
-/// twice.
-#[inline(always)]
-fn take_string<'t>(
-    part: &Place<'_, '_, 't>,
-    stack: &mut Vec<Enclosure<'t>>,
-    item: Enclosure<'t>,
-    reach: &mut Reach,
-) -> Result<(), AllocError>
-    requires within { mode_of (Some item) ≡ innermost (chain_of stack.old.items) }
-    requires reached { IsReached part.now (chain_of stack.old.items) reach.old }
-    requires some { reach.old.at < part.now.end }
-    ensures child { IfOk result (λ _. reach.new.child ≡ reach.old.child) }
-    ensures advances { IfOk result (λ _. Advances part.now (chain_of stack.old.items) reach.old
-        (chain_of stack.new.items) reach.new) }
-{
-    let reading = part.reading;
-    loop {
-        let plain = item_end(reading.matchers, item, reading.text, reach.at, part.end);
-        take_bytes(part, Some(item), plain, reach);
-        if part.end <= reach.at {
-            return Ok(());
-        }
-        let here = Place {
-            at: reach.at,
-            ..*part
-        };
-        let choice = choice_within(&here, item);
-        match take_step(part, stack, choice, reach)? {
-            Move::On(_) => {}
-            Move::Turn(_) => return Ok(()),
-            Move::Rest | Move::Child => unreachable!(),
-        }
-        if part.end <= reach.at {
-            return Ok(());
-        }
-    }
-}
-
-/// Takes what the item encloses from the place that the walk has come to on, up to behind a choice
-/// or to the line's end. Of a string with escapes whose closer is one byte, as most have, it takes
-/// all that the line has.
-#[inline(always)]
-fn take_item<'t>(
-    part: &Place<'_, '_, 't>,
-    stack: &mut Vec<Enclosure<'t>>,
-    item: Enclosure<'t>,
-    reach: &mut Reach,
-) -> Result<(), AllocError>
-    requires within { mode_of (Some item) ≡ innermost (chain_of stack.old.items) }
-    requires reached { IsReached part.now (chain_of stack.old.items) reach.old }
-    requires some { reach.old.at < part.now.end }
-    ensures child { IfOk result (λ _. reach.new.child ≡ reach.old.child) }
-    ensures advances { IfOk result (λ _. Advances part.now (chain_of stack.old.items) reach.old
-        (chain_of stack.new.items) reach.new) }
-{
-    match (item.kind, item.closer) {
-        (ItemKind::OrdinaryString, [_]) => take_string(part, stack, item, reach),
-        _ => take_within(part, stack, item, reach),
-    }
-}
-
 /// Takes the bytes of plain text from the place that the walk has come to, up to where a choice or
 /// a child can begin, and answers that place. Where the reading skips, it looks for the part's
 /// children ahead. The line stops at `stop`.
@@ -554,7 +490,7 @@ pub fn read_part<'a, 't>(
     };
     while reach.at < part.end {
         if let Some(item) = innermost(stack) {
-            take_item(part, stack, item, &mut reach)?;
+            take_within(part, stack, item, &mut reach)?;
             continue;
         }
         let from = reach.at;

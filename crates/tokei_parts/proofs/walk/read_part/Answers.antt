@@ -45,8 +45,8 @@ take_plain-plain-requires-clause-stop c = stop_is (goal.at.take_plain-plain-requ
 pub end_line-requires-clause-stop : goal.end_line-requires-clause-stop
 end_line-requires-clause-stop c = stop_is (goal.at.end_line-requires-clause-stop c).After-line_stop-stop
 
-pub take_item-requires-clause-reached : goal.take_item-requires-clause-reached
-take_item-requires-clause-reached c = (chain_of c.args.stack.now.items, c.loop-reach.invariant.reaches)
+pub take_within-requires-clause-reached : goal.take_within-requires-clause-reached
+take_within-requires-clause-reached c = (chain_of c.args.stack.now.items, c.loop-reach.invariant.reaches)
 
 pub take_plain-plain-requires-clause-reached : goal.take_plain-plain-requires-clause-reached
 take_plain-plain-requires-clause-reached c =
@@ -81,7 +81,7 @@ loop-reach-preserved-then-part-reach c = record {
 
 pub loop-reach-preserved-in-Some : goal.loop-reach-preserved-in-Some
 loop-reach-preserved-in-Some c =
-    let e = c.in_ok-take_item.ensures in
+    let e = c.in_ok-take_within.ensures in
     record {
       same = c.loop-reach.invariant.same;
       reaches = e.advances.goes_on (chain_of c.args.stack.now.items) c.loop-reach.invariant.reaches;
@@ -135,8 +135,8 @@ returns-then-branch-clause-same c = c.breaks_off.ensures.same ∙ c.take_plain-p
 pub returns-in_err-breaks_off-clause-same : goal.returns-in_err-breaks_off-clause-same
 returns-in_err-breaks_off-clause-same c = c.breaks_off.ensures.same ∙ c.take_plain-plain.ensures.same ∙ c.loop-reach.invariant.same
 
-pub returns-in_err-take_item-clause-same : goal.returns-in_err-take_item-clause-same
-returns-in_err-take_item-clause-same c = c.loop-reach.invariant.same
+pub returns-in_err-take_within-clause-same : goal.returns-in_err-take_within-clause-same
+returns-in_err-take_within-clause-same c = c.loop-reach.invariant.same
 
 pub returns-clause-found : goal.returns-clause-found
 returns-clause-found c = λ at is. absurd (c.end_line.ensures.line at is)
@@ -151,14 +151,14 @@ loop-reach-smaller-then-part-reach c = ended c.args.part.now.end c.loop-reach.re
 
 pub loop-reach-smaller-in-Some : goal.loop-reach-smaller-in-Some
 loop-reach-smaller-in-Some c =
-    nearer c.args.part.now.end c.loop-reach.reach.at c.loop-reach.reach.at c.take_item.new.reach.at c.loop-reach-test.true (omega arith)
-    c.in_ok-take_item.ensures.advances.on
+    nearer c.args.part.now.end c.loop-reach.reach.at c.loop-reach.reach.at c.take_within.new.reach.at c.loop-reach-test.true (omega arith)
+    c.in_ok-take_within.ensures.advances.on
 
-pub take_item-requires-clause-some : goal.take_item-requires-clause-some
-take_item-requires-clause-some c = c.loop-reach-test.true
+pub take_within-requires-clause-some : goal.take_within-requires-clause-some
+take_within-requires-clause-some c = c.loop-reach-test.true
 
-pub take_item-requires-clause-within : goal.take_item-requires-clause-within
-take_item-requires-clause-within c = c.in-Some.ensures ∙ ap (λ es. innermost (chain_of es)) c.deref-in-loop-reach.ensures.value
+pub take_within-requires-clause-within : goal.take_within-requires-clause-within
+take_within-requires-clause-within c = c.in-Some.ensures ∙ ap (λ es. innermost (chain_of es)) c.deref-in-loop-reach.ensures.value
 
 pub take_plain-plain-requires-clause-some : goal.take_plain-plain-requires-clause-some
 take_plain-plain-requires-clause-some c = c.loop-reach-test.true
