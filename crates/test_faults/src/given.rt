@@ -1,7 +1,8 @@
 //! What tests give to calls: texts, files, a table of two languages, and earlier lines of one.
 use std::alloc::{AllocError, Global};
-use tokei_folders::{Fault, MemoryFolders};
+use tokei_folders::Fault;
 use tokei_languages::{Language, Languages};
+use tokei_memory::MemoryFolders;
 use tokei_table::{LanguageTable, LanguageType, TableError};
 
 /// The words as owned texts.

@@ -3,8 +3,9 @@
 use crate::given::{files, seven_lines, texts, two_languages};
 use std::alloc::Global;
 use tokei_config::Config;
-use tokei_folders::{Call, FailingFolders, Fault, Folders, MemoryFolders};
+use tokei_folders::{Fault, Folders};
 use tokei_languages::{Language, Languages};
+use tokei_memory::{Call, FailingFolders, MemoryFolders};
 use tokei_statistics::CountFiles;
 use tokei_stats::CountError;
 use tokei_table::{LanguageTable, LanguageType};

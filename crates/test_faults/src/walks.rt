@@ -1,7 +1,8 @@
 //! Walks over folders of which each call fails in turn.
 use crate::given::{files, texts};
 use std::alloc::{AllocError, Global};
-use tokei_folders::{FailingFolders, Folders, MemoryFolders};
+use tokei_folders::Folders;
+use tokei_memory::{FailingFolders, MemoryFolders};
 use tokei_walk::{Rules, Walk, kept_files};
 
 /// All rules apply.

@@ -1,7 +1,7 @@
 //! Folders in memory, as a row has them.
 use crate::answers::Answers;
 use crate::row::Row;
-use tokei_folders::{Call, MemoryFolders};
+use tokei_memory::{Call, MemoryFolders};
 
 /// Adds a file, or a folder where the place ends in a slash.
 fn add_file(folders: &mut MemoryFolders, place: &str, content: &[u8], answers: &mut Answers) {

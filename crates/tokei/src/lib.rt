@@ -31,9 +31,7 @@ pub use tokei_embedding::{
     start_lf, start_markdown, start_script, start_style, start_template,
 };
 pub use tokei_files::{ParseFault, from_path, from_shebang, parse_file};
-pub use tokei_folders::{
-    Above, Call, Entry, FailingFolders, Fault, Folders, Items, Kind, Listing, MemoryFolders, Text,
-};
+pub use tokei_folders::{Above, Entry, Fault, Folders, Items, Kind, Listing, Text};
 pub use tokei_ignore::{IgnoreFile, Pattern, PatternError, Verdict};
 pub use tokei_io::{Counted, FailOnce, OutputError, Sink, Source, put};
 pub use tokei_json::{report_line, to_value};

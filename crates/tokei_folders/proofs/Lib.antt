@@ -1,10 +1,6 @@
-pub mod Adding
 pub mod Contents
-pub mod FoldersAbove
 pub mod Joining
 pub mod LastNames
 pub mod ListEnds
 pub mod NameOrder
-pub mod Placing
-pub mod Refusing
-pub mod TopEntries
+pub mod WholeNames

@@ -1,10 +1,6 @@
-pub mod Additions
 pub mod Answers
 pub mod AsTheyWere
 pub mod Ends
-pub mod Failing
 pub mod FolderLaws
-pub mod Memory
 pub mod Places
-pub mod Refusals
 pub mod Tree

@@ -5,6 +5,7 @@ use Rattle.std.specs.declared.cmp.Ordering.{Ordering}
 use Rattle.std.specs.Cmp.Lexicographic.{slice_cmp}
 use Rattle.std.specs.List.{slice_split, list_any, list_all}
 use Rattle.tokei_folders.specs.declared.nodes.Node.{Node}
+use Rattle.tokei_folders.specs.declared.nodes.Node.TheVariants.{File as file, Folder as folder}
 use Rattle.tokei_folders.specs.declared.nodes.PlacedNode.{PlacedNode}
 
 -- a place, as the names from the top down to it
@@ -72,6 +73,12 @@ abbrev pub node_at : Tree → Names → Option Node
 node_at [] names = None
 node_at (first ∷ rest) names =
     if is_eq (names_cmp first.names names) then Some first.node else node_at rest names
+
+-- a file stands there
+abbrev pub is_file : Option Node → Bool
+is_file None = false
+is_file (Some (file no_read no_head content)) = true
+is_file (Some (folder no_list)) = false
 
 -- the folders above a place from the top down, each with the name that leads down from it
 abbrev pub folders_above : Names → Names → List (Names × List ℕ)

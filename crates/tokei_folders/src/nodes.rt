@@ -22,11 +22,3 @@ pub struct PlacedNode {
     pub names: Items<Text>,
     pub node: Node,
 }
-
-/// A call on folders that a place can refuse.
-#[derive(Clone, Copy, Debug, PartialEq, Eq)]
-pub enum Call {
-    List,
-    Read,
-    Head,
-}

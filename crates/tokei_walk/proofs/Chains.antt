@@ -10,14 +10,13 @@ use Rattle.tokei_folders.specs.declared.nodes.Node.{Node}
 use Rattle.tokei_folders.specs.declared.nodes.Node.TheVariants.{File as file, Folder as folder}
 use Rattle.tokei_folders.specs.declared.nodes.PlacedNode.{PlacedNode}
 use Rattle.tokei_ignore.specs.declared.patterns.Pattern.{Pattern}
-use Rattle.tokei_folders.specs.Additions.{is_file}
 use Rattle.tokei_folders.specs.Answers.{can_list}
 use Rattle.tokei_folders.specs.Places.{joined}
 use Rattle.tokei_walk.specs.Descent.{with_level, descend, root_context, levels_above, of_root, of_node}
 use Rattle.tokei_ignore.specs.Fits.{is_empty}
 use Rattle.tokei_walk.specs.Kept.{context_at, last_name, is_dropped, between, is_entered, is_kept_below, names_from, names_below, is_kept, place_below, file_at, kept_file, kept_below, kept_at, kept_of, kept_in}
 use Rattle.tokei_walk.specs.Levels.{level_at, drops, drops_last, under}
-use Rattle.tokei_folders.specs.Tree.{Names, Tree, node_at, names_of, folders_above, below, is_sound}
+use Rattle.tokei_folders.specs.Tree.{Names, Tree, node_at, is_file, names_of, folders_above, below, is_sound}
 use Rattle.tokei_walk.specs.Walks.{descended}
 use Rattle.tokei_walk.proofs.Filtering.{walked_down, walked_end, nothing, none_by, descends}
 use Rattle.tokei_walk.proofs.Inside.{inside, put_below}

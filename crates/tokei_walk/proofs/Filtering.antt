@@ -16,11 +16,11 @@ use Rattle.tokei_folders.specs.Places.{joined}
 use Rattle.tokei_walk.specs.Descent.{kept, with_level, of_entry, of_entries, of_listing, descend}
 use Rattle.tokei_walk.specs.Levels.{level_at, drops, under}
 use Rattle.tokei_folders.specs.Tree.{Names, Tree, node_at, names_of, is_sound, is_in_order, has_names, is_whole_name}
-use Rattle.tokei_folders.proofs.FoldersAbove.{one_name}
 use Rattle.tokei_walk.proofs.Groups.{Gives, place_gives, all_give, entry_gives, entries_give, group, Ends, Closed, entries_same, named_whole, grouped}
 use Rattle.tokei_walk.proofs.Inside.{inside, inside_order, inside_names, inside_further, node_inside, entries_inside}
 use Rattle.tokei_folders.proofs.Joining.{names_of-joined}
 use Rattle.tokei_folders.proofs.NameOrder.{left_of_and, right_of_and}
+use Rattle.tokei_folders.proofs.WholeNames.{one_name}
 
 -- the step of a walk down to a place: what its next name gives, in a folder whose rules the context has
 abbrev below_entry : List Pattern → Rules → (Context → List ℕ → Names → Names → Node → List KeptFile) → Context → List ℕ → Names → Gives

@@ -7,12 +7,11 @@ use Rattle.std.proofs.lemmas.List.Folds.{list_all-append}
 use Rattle.tokei_folders.specs.declared.nodes.Node.{Node}
 use Rattle.tokei_folders.specs.declared.nodes.Node.TheVariants.{File as file, Folder as folder}
 use Rattle.tokei_folders.specs.declared.nodes.PlacedNode.{PlacedNode}
-use Rattle.tokei_folders.specs.Additions.{is_file}
 use Rattle.tokei_folders.specs.Places.{joined}
-use Rattle.tokei_folders.specs.Tree.{Names, Tree, names_cmp, is_first, is_in_order, is_before, is_sound, is_whole_name, has_names, node_at, names_of, below}
-use Rattle.tokei_folders.proofs.FoldersAbove.{one_name}
+use Rattle.tokei_folders.specs.Tree.{Names, Tree, names_cmp, is_first, is_in_order, is_before, is_sound, is_whole_name, has_names, node_at, is_file, names_of, below}
 use Rattle.tokei_folders.proofs.Joining.{names_of-joined}
 use Rattle.tokei_folders.proofs.NameOrder.{left_of_and, right_of_and, both, is_less, names_total}
+use Rattle.tokei_folders.proofs.WholeNames.{one_name}
 use Rattle.tokei_ignore.specs.declared.patterns.Pattern.{Pattern}
 use Rattle.tokei_ignore.specs.Fits.{is_empty}
 use Rattle.tokei_walk.specs.declared.kept_file.KeptFile.{KeptFile}

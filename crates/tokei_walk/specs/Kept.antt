@@ -8,12 +8,11 @@ use Rattle.tokei_folders.specs.declared.nodes.Node.{Node}
 use Rattle.tokei_folders.specs.declared.nodes.Node.TheVariants.{File as file, Folder as folder}
 use Rattle.tokei_folders.specs.declared.nodes.PlacedNode.{PlacedNode}
 use Rattle.tokei_ignore.specs.declared.patterns.Pattern.{Pattern}
-use Rattle.tokei_folders.specs.Additions.{is_file}
 use Rattle.tokei_folders.specs.Answers.{can_list}
 use Rattle.tokei_folders.specs.Places.{joined}
 use Rattle.tokei_ignore.specs.Fits.{is_empty}
 use Rattle.tokei_walk.specs.Levels.{level_at, drops_last}
-use Rattle.tokei_folders.specs.Tree.{Names, Tree, node_at, names_of, folders_above, below}
+use Rattle.tokei_folders.specs.Tree.{Names, Tree, node_at, is_file, names_of, folders_above, below}
 
 -- the folders whose ignore files hold for an entry below a root, each with the name that leads down
 -- from it: those from the root to the entry's folder and, where the rules say so, those above the

@@ -1,11 +1,7 @@
-pub use Rattle.tokei_folders.specs.Additions
 pub use Rattle.tokei_folders.specs.Answers
 pub use Rattle.tokei_folders.specs.AsTheyWere
 pub use Rattle.tokei_folders.specs.Ends
-pub use Rattle.tokei_folders.specs.Failing
-pub use Rattle.tokei_folders.specs.Memory
 pub use Rattle.tokei_folders.specs.Places
-pub use Rattle.tokei_folders.specs.Refusals
 pub use Rattle.tokei_folders.specs.Tree
 pub use Rattle.tokei_ignore.specs.Fits
 pub use Rattle.tokei_ignore.specs.IgnoreFiles

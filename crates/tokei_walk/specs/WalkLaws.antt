@@ -1,13 +1,12 @@
 -- What holds of the definitions of a walk alone.
 use Rattle.std.specs.Prelude.{◌≡◌, ℕ, List, Bool, true}
 use Rattle.std.specs.List.{list_all}
-use Rattle.tokei_folders.specs.Additions.{is_file}
 use Rattle.tokei_walk.specs.declared.kept_file.KeptFile.{KeptFile}
 use Rattle.tokei_walk.specs.declared.kept_file.Note.{Note}
 use Rattle.tokei_walk.specs.declared.levels.Rules.{Rules}
 use Rattle.tokei_ignore.specs.declared.patterns.Pattern.{Pattern}
 use Rattle.tokei_walk.specs.Kept.{kept_in}
-use Rattle.tokei_folders.specs.Tree.{Tree, is_sound, node_at, names_of}
+use Rattle.tokei_folders.specs.Tree.{Tree, is_sound, node_at, is_file, names_of}
 use Rattle.tokei_walk.specs.Notes.{Grows}
 use Rattle.tokei_walk.specs.Walks.{descended}
 

@@ -2,7 +2,8 @@
 use std::alloc::AllocError;
 use test_subjects::tree_rows::configurations::gains;
 use test_subjects::{Answers, Asked, Members, Row, RowError, Said, folders_of};
-use tokei::{Config, ConfigDirs, FailingFolders, LanguageConfig, LanguageTable, LanguageType};
+use tokei::{Config, ConfigDirs, LanguageConfig, LanguageTable, LanguageType};
+use tokei_memory::FailingFolders;
 
 /// The members of these rows. `configuration` has all members of a configuration as its `Debug`
 /// shows them; `languages` and `language` tell how many languages the table has by the

@@ -5,7 +5,7 @@ use crate::tree_rows::shown_languages::put_stats;
 use crate::{Answers, Members, Page, Row, RowError, Said, folders_of};
 use tokei_count::Counter;
 use tokei_files::{ParseFault, from_path, from_shebang, parse_file};
-use tokei_folders::MemoryFolders;
+use tokei_memory::MemoryFolders;
 use tokei_print::name_of;
 use tokei_stats::Report;
 use tokei_table::{LanguageTable, LanguageType};

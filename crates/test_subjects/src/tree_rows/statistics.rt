@@ -4,8 +4,8 @@ use crate::tree_rows::given_languages::given;
 use crate::tree_rows::shown_languages::say_languages;
 use crate::{Answers, Members, Row, Said, folders_of, roots};
 use tokei_config::Config;
-use tokei_folders::MemoryFolders;
 use tokei_languages::Languages;
+use tokei_memory::MemoryFolders;
 use tokei_statistics::CountFiles;
 use tokei_table::LanguageTable;
 

@@ -1,7 +1,0 @@
-use Rattle.std.proofs.Common.{◌≡◌, take, drop}
-use Rattle.tokei_folders.specs.Additions.{is_below_file}
-use Rattle.tokei_folders.proofs.FoldersAbove.{file_among}
-use Rattle.tokei_folders.proofs.told.ToldTree.is_below_file.Given as goal
-
-abbrev pub invariant-loop-i : goal.invariant-loop-i
-invariant-loop-i l = is_below_file l.self l.names ≡ file_among l.self (take l.i l.names) (drop l.i l.names)

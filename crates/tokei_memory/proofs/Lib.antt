@@ -1,0 +1,5 @@
+pub mod Adding
+pub mod FoldersAbove
+pub mod Placing
+pub mod Refusing
+pub mod TopEntries

@@ -1,0 +1,4 @@
+pub mod Additions
+pub mod Failing
+pub mod Memory
+pub mod Refusals
