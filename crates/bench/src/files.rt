@@ -7,7 +7,7 @@
 use crate::file_times::{Measured, time};
 use anyhow::bail;
 use std::alloc::Global;
-use test_table::bench_json;
+use test_texts::bench_json;
 use tokei_table::LanguageTable;
 
 /// Prints the line of a number of files.

@@ -7,7 +7,7 @@ use memchr::memchr;
 use std::alloc::Global;
 use std::io;
 use std::time::{Duration, Instant};
-use test_table::bench_json;
+use test_texts::bench_json;
 use tokei_table::{LanguageTable, LanguageType, TableError};
 use tokei_table_search::OpenerIndex;
 

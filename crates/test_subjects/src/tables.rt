@@ -5,7 +5,7 @@ use crate::page::Page;
 use crate::row::Row;
 use std::alloc::Global;
 use std::fs;
-use test_table::bench_json;
+use test_texts::bench_json;
 use tokei_table::{LanguageTable, TableError};
 
 /// The tables by which a file's rows are asked.

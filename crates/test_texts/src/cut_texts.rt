@@ -2,11 +2,11 @@
 //! nor its steps are more than its bytes.
 ghost use Rattle.std.specs.Prelude.{◌<◌, length};
 
+use crate::bench_table::bench_json;
 use crate::every_call::agreed;
 use crate::rows::{Row, Texts, first_wrong};
 use crate::verdict::all_right;
 use std::alloc::Global;
-use test_table::bench_json;
 use tokei_count::Counter;
 use tokei_options::CountConfig;
 use tokei_stats::{CodeStats, CountError};

@@ -3,11 +3,11 @@
 //! skips takes no step.
 ghost use Rattle.std.specs.Prelude.{◌<◌, length};
 
+use crate::bench_table::bench_json;
 use crate::every_call::agreed;
 use crate::rows::{Row, Texts, first_wrong};
 use crate::verdict::all_right;
 use std::alloc::{AllocError, Global};
-use test_table::bench_json;
 use tokei_count::{Counter, count_plain_counted};
 use tokei_options::CountConfig;
 use tokei_stats::CodeStats;

@@ -1,11 +1,11 @@
 //! Every text of a few pieces, in languages of all families: every call tells the same of it.
 ghost use Rattle.std.specs.Prelude.{◌<◌, length};
 
+use crate::bench_table::bench_json;
 use crate::every_call::agreed;
 use crate::rows::{Row, Texts, first_wrong};
 use crate::verdict::all_right;
 use std::alloc::{AllocError, Global};
-use test_table::bench_json;
 use tokei_count::Counter;
 use tokei_options::CountConfig;
 use tokei_table::LanguageType;

@@ -2,7 +2,7 @@
 use crate::program_rows::reports::{say_first_words, say_lines, say_narrowed};
 use std::str::from_utf8;
 use test_subjects::{Answers, Members, Row, RowError, Said, add_texts, folders_of};
-use test_table::bench_json;
+use test_texts::bench_json;
 use tokei::{Counted, Sink, Source};
 use tokei_memory::{FailingFolders, MemoryFolders};
 use tokei_program::{Env, program};

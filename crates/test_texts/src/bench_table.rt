@@ -1,6 +1,4 @@
 //! The bench table, on which tests and measurements of this repository stand.
-#![tactic(auto)]
-
 ghost use Rattle.std.specs.Prelude.{◌≡◌};
 
 /// Twenty languages in the layout of a table: the text of `bench/languages.json`, byte for byte.
