@@ -4,11 +4,11 @@ use test_subjects::text_rows::{
     blocks, bytes, captures, contexts, counting, look_ups, next_places, openers, reports, sums,
     syntaxes, tables, texts,
 };
-use test_subjects::tree_rows::{
+use test_subjects::{Answers, Asked, Members, Row};
+use test_trees::{
     documents, files, ignore_files, languages, patterns, printed, read_back, statistics, walks,
     words,
 };
-use test_subjects::{Answers, Asked, Members, Row};
 use tokei::LanguageTable;
 
 /// What rows are about: each has a module that asks.

@@ -1,8 +1,9 @@
 //! Rows of one file: its report, or the language of its path or of its head.
-use crate::tree_rows::configurations::configuration;
-use crate::tree_rows::given_languages::NO_LANGUAGE;
-use crate::tree_rows::shown_languages::put_stats;
-use crate::{Answers, Members, Page, Row, RowError, Said, folders_of};
+use crate::configurations::configuration;
+use crate::folders::folders_of;
+use crate::given_languages::NO_LANGUAGE;
+use crate::shown_languages::put_stats;
+use test_subjects::{Answers, Members, Page, Row, RowError, Said};
 use tokei_count::Counter;
 use tokei_files::{ParseFault, from_path, from_shebang, parse_file};
 use tokei_memory::MemoryFolders;

@@ -1,6 +1,5 @@
 //! Folders in memory, as a row has them.
-use crate::answers::Answers;
-use crate::row::Row;
+use test_subjects::{Answers, Row};
 use tokei_memory::{Call, MemoryFolders};
 
 /// Adds a file, or a folder where the place ends in a slash.

@@ -1,6 +1,6 @@
 //! Rows of words: of formats, of styles of numbers, of streams and of columns.
-use crate::{Answers, Members, Page, Row, RowError, Said};
 use std::fmt::{Debug, Display};
+use test_subjects::{Answers, Members, Page, Row, RowError, Said};
 use tokei_earlier::Format;
 use tokei_options::{NumberFormatStyle, Sort, Streaming};
 

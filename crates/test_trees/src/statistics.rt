@@ -1,8 +1,9 @@
 //! Rows of what trees in memory count.
-use crate::tree_rows::configurations::configuration;
-use crate::tree_rows::given_languages::given;
-use crate::tree_rows::shown_languages::say_languages;
-use crate::{Answers, Members, Row, Said, folders_of, roots};
+use crate::configurations::configuration;
+use crate::folders::{folders_of, roots};
+use crate::given_languages::given;
+use crate::shown_languages::say_languages;
+use test_subjects::{Answers, Members, Row, Said};
 use tokei_config::Config;
 use tokei_languages::Languages;
 use tokei_memory::MemoryFolders;

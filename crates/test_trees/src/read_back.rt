@@ -1,7 +1,8 @@
 //! Rows of documents that are read back: what trees count, and languages that a row has.
-use crate::tree_rows::given_languages::given;
-use crate::tree_rows::statistics::{Tree, run};
-use crate::{Answers, Members, Row, RowError, Said, folders_of};
+use crate::folders::folders_of;
+use crate::given_languages::given;
+use crate::statistics::{Tree, run};
+use test_subjects::{Answers, Members, Row, RowError, Said};
 use tokei_config::Config;
 use tokei_earlier::{Format, InputError};
 use tokei_languages::Languages;

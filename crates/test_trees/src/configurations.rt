@@ -1,7 +1,7 @@
 //! Configurations of counting, as rows tell them.
-use crate::tree_rows::given_languages::named;
-use crate::{Answers, Row, RowError};
+use crate::given_languages::named;
 use std::collections::BTreeMap;
+use test_subjects::{Answers, Row, RowError};
 use tokei_config::{Config, LanguageConfig};
 use tokei_table::{LanguageTable, LanguageType};
 

@@ -1,8 +1,8 @@
 //! Rows of documents: what is printed, what is read, and what earlier results add.
-use crate::tree_rows::given_languages::given;
-use crate::tree_rows::shown_languages::say_languages;
-use crate::{Answers, Members, Row, RowError, Said};
+use crate::given_languages::given;
+use crate::shown_languages::say_languages;
 use std::alloc::{AllocError, Global};
+use test_subjects::{Answers, Members, Row, RowError, Said};
 use tokei_earlier::{Format, InputError, add_input, from_value};
 use tokei_io::Counted;
 use tokei_json::to_value;

@@ -1,8 +1,8 @@
 //! Rows of languages: what their calls answer, made in turn, and how they stand then.
-use crate::tree_rows::given_languages::{given, named};
-use crate::tree_rows::shown_languages::{put_language, say_languages};
-use crate::{Answers, Members, Page, Row, RowError};
+use crate::given_languages::{given, named};
+use crate::shown_languages::{put_language, say_languages};
 use std::mem;
+use test_subjects::{Answers, Members, Page, Row, RowError};
 use tokei_languages::{Language, Languages};
 use tokei_options::Sort;
 use tokei_stats::CountError;

@@ -1,7 +1,6 @@
 //! Languages as rows tell them: each by its key or name, with its counts, its reports, and those of
 //! the languages inside it.
-use crate::text_rows::made::put_blobs;
-use crate::{Answers, Row, RowError};
+use test_subjects::{Answers, Row, RowError, put_blobs};
 use tokei_languages::{Language, Languages};
 use tokei_stats::Report;
 use tokei_table::{LanguageTable, LanguageType};
