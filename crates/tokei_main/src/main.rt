@@ -12,8 +12,9 @@ use std::io;
 use std::io::{BufWriter, Write};
 use std::process::ExitCode;
 use surroundings::env_of;
+use tokei_invocation::Env;
 use tokei_io::Counted;
-use tokei_program::{Env, program};
+use tokei_program::program;
 use tokei_real::{RealFolders, RetriedReader};
 use unstarted::Unstarted;
 

@@ -4,7 +4,7 @@ use std::env::VarError;
 use std::io::ErrorKind;
 use std::path::PathBuf;
 use std::{env, fs, io};
-use tokei_program::Env;
+use tokei_invocation::Env;
 
 /// The table of languages, below the folder in which the program's folder stands.
 const TABLE: &str = "share/tokei/languages.json";

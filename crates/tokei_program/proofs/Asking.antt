@@ -9,10 +9,10 @@ use Rattle.tokei_cli.specs.declared.cli.Cli.{Cli}
 use Rattle.tokei_config.specs.declared.flaws.Flaw.{Flaw}
 use Rattle.tokei_folders.specs.Tree.{Tree}
 use Rattle.tokei_program.specs.Beside.{IsBeside, ShowsAsked, ShowsBy, ShowsNotes, Met}
-use Rattle.tokei_program.specs.declared.environment.Env.{Env}
+use Rattle.tokei_invocation.specs.declared.environment.Env.{Env}
 use Rattle.tokei_program.specs.Jobs.{IsJobOf}
-use Rattle.tokei_program.specs.NotesText.{passed_text}
-use Rattle.tokei_program.specs.Tables.{place_of_table, table_at}
+use Rattle.tokei_invocation.specs.NotesText.{passed_text}
+use Rattle.tokei_invocation.specs.Tables.{place_of_table, table_at}
 use Rattle.tokei_program.specs.Writing.{Writes, WritesAsked, WritesBy, WritesCounts, WritesList}
 use Rattle.tokei_table.specs.Row.{Row}
 use Rattle.tokei_walk.specs.declared.kept_file.Note.{Note}

@@ -9,11 +9,12 @@ use Rattle.tokei_folders.specs.Tree.{Tree}
 use Rattle.tokei_languages.specs.declared.languages.Languages.{Languages}
 use Rattle.tokei_options.specs.declared.number_format.NumberFormatStyle.{NumberFormatStyle}
 use Rattle.tokei_options.specs.declared.sort.Sort.{Sort}
-use Rattle.tokei_program.specs.declared.environment.Env.{Env}
+use Rattle.tokei_invocation.specs.declared.environment.Env.{Env}
 use Rattle.tokei_program.specs.Choices.{Chooses}
-use Rattle.tokei_program.specs.Earlier.{AreEarlier}
-use Rattle.tokei_program.specs.Jobs.{IsConfig, IsJob, IsJobOf}
-use Rattle.tokei_program.specs.Roots.{AllStand}
+use Rattle.tokei_invocation.specs.Earlier.{AreEarlier}
+use Rattle.tokei_invocation.specs.Configs.{IsConfig}
+use Rattle.tokei_program.specs.Jobs.{IsJob, IsJobOf}
+use Rattle.tokei_invocation.specs.Roots.{AllStand}
 use Rattle.tokei_table.specs.Row.{Row}
 
 -- a run is that of the command line

@@ -9,9 +9,9 @@ use Rattle.tokei_cli.specs.Lines.{IsLineOf}
 use Rattle.tokei_cli.specs.Printing.{languages_text}
 use Rattle.tokei_cli.specs.Texts.{IsAskedFor}
 use Rattle.tokei_folders.specs.Tree.{Tree}
-use Rattle.tokei_program.specs.declared.environment.Env.{Env}
+use Rattle.tokei_invocation.specs.declared.environment.Env.{Env}
 use Rattle.tokei_program.specs.Jobs.{IsJobOf}
-use Rattle.tokei_program.specs.Tables.{place_of_table, table_at}
+use Rattle.tokei_invocation.specs.Tables.{place_of_table, table_at}
 use Rattle.tokei_table.specs.Row.{Row}
 
 -- behind what stood there a writer has what the run of a command line outputs

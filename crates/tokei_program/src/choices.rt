@@ -3,11 +3,11 @@ ghost use Rattle.std.specs.Prelude.{◌≡◌, IfOk};
 ghost use Rattle.tokei_program.specs.Choices.{Chooses, GivesFormat, wanted_of};
 ghost use Rattle.tokei_program.specs.Words.{ReadsAs};
 
-use crate::ending::Ending;
 use std::alloc::{AllocError, Global};
 use std::str::FromStr;
 use tokei::{Format, FormatError, NumberFormatStyle, Sort, Streaming, Wanted};
 use tokei_cli::{Cli, refused_because, refused_word};
+use tokei_invocation::Ending;
 
 /// The words that choose a column.
 const COLUMNS: [&str; 5] = ["files", "lines", "blanks", "code", "comments"];

@@ -5,26 +5,23 @@ ghost use Rattle.tokei_cli.specs.CommandLines.{excludes_of, inputs_of};
 ghost use Rattle.tokei_folders.specs.Answers.{Told};
 ghost use Rattle.tokei_program.specs.Choices.{Chooses};
 ghost use Rattle.tokei_program.specs.Beside.{AnyMet, IsBeside, SaysBeside, ShowsAsked, ShowsNotes, MetIn};
-ghost use Rattle.tokei_program.specs.Jobs.{AreFlaws};
-ghost use Rattle.tokei_program.specs.Messages.{Says};
-ghost use Rattle.tokei_program.specs.Statuses.{status_of};
-ghost use Rattle.tokei_program.specs.Tables.{place_of_table, table_at};
+ghost use Rattle.tokei_invocation.specs.Configs.{AreFlaws};
+ghost use Rattle.tokei_invocation.specs.Messages.{Says};
+ghost use Rattle.tokei_invocation.specs.Statuses.{status_of};
+ghost use Rattle.tokei_invocation.specs.Tables.{place_of_table, table_at};
 ghost use Rattle.tokei_program.specs.Writing.{Writes, WritesAsked, WritesCounts, WritesList};
 ghost use Rattle.tokei_folders.specs.AsTheyWere.{SameTree};
 ghost use Rattle.tokei_walk.specs.Walks.{texts_of};
 
 use crate::choices::Choices;
-use crate::ending::Ending;
-use crate::environment::Env;
-use crate::notes::passed_text;
-use crate::preparing::{Preparation, Request, prepare, table_of};
-use crate::reasons::{ended, run_ended};
-use crate::saying::{conclude, say_beside};
-use crate::shown::shown_notes;
+use crate::preparing::{Preparation, Request, prepare};
 use std::alloc::Global;
 use std::mem::forget;
 use tokei::{Folders, LanguageTable, Sink, Source, put, run};
 use tokei_cli::{Cli, CliError, print_supported_languages};
+use tokei_invocation::{
+    Ending, Env, conclude, ended, passed_text, run_ended, say_beside, shown_notes, table_of,
+};
 
 /// Runs what was prepared over a table. What is to be said beside it is answered.
 fn write_prepared<F: Folders, W: Sink>(

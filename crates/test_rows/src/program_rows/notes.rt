@@ -2,7 +2,7 @@
 use log::sink::Lines;
 use test_subjects::{Answers, Members, Page, Row, RowError};
 use tokei::{Note, NoteKind, Text};
-use tokei_program::log_notes;
+use tokei_invocation::log_notes;
 
 /// The members of these rows: the notes, each by its kind and place, and how often `--verbose` was
 /// given.

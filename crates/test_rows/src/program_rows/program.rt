@@ -5,8 +5,9 @@ use test_subjects::{Answers, Members, Row, RowError, Said};
 use test_texts::bench_json;
 use test_trees::{add_texts, folders_of};
 use tokei::{Counted, Sink, Source};
+use tokei_invocation::Env;
 use tokei_memory::{FailingFolders, MemoryFolders};
-use tokei_program::{Env, program};
+use tokei_program::program;
 
 /// The members of these rows. `languages.json` beside the row's files is the bench table, unless
 /// the row is `without_table`; with `hidden_table` or a table of its own, `table_json`, the table

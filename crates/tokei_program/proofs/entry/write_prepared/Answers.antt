@@ -3,8 +3,8 @@ use Rattle.std.proofs.Common.{◌≡◌, ◌∙◌, List, ap, map, rules, string
 use Rattle.tokei_walk.specs.Walks.{texts_of}
 use Rattle.tokei_program.proofs.Asking.{notes_shown}
 use Rattle.tokei_program.specs.Beside.{AnyMet, MetIn}
-use Rattle.tokei_program.specs.NotesText.{passed_text}
-use Rattle.tokei_program.specs.Shown.{AreShown, shown_note}
+use Rattle.tokei_invocation.specs.NotesText.{passed_text}
+use Rattle.tokei_invocation.specs.Shown.{AreShown, shown_note}
 use Rattle.tokei_walk.specs.declared.kept_file.Note.{Note}
 use Rattle.tokei_program.proofs.entry.write_prepared.Goals as goal
 

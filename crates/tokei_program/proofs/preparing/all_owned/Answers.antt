@@ -1,7 +1,7 @@
 -- Each text is copied in its turn.
 use Rattle.std.proofs.Common.{◌≡◌, ◌∙◌, List, [], ◌∷◌, ◌++◌, ℕ, ap, map, rules, string_bytes, take}
 use Rattle.std.proofs.lemmas.List.{map-append}
-use Rattle.tokei_program.proofs.Taken.{texts_all, texts_next}
+use Rattle.tokei_invocation.proofs.Taken.{texts_all, texts_next}
 use Rattle.tokei_program.proofs.preparing.all_owned.Goals as goal
 
 pub loop-text-preserved : goal.loop-text-preserved

@@ -1,0 +1,4 @@
+pub mod Causes
+pub mod Messages
+pub mod Showing
+pub mod Taken

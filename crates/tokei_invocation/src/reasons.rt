@@ -1,0 +1,93 @@
+//! How a run ends, in the words that folders, readers and writers have for it.
+ghost use Rattle.std.specs.Prelude.{◌≡◌};
+ghost use Rattle.tokei_invocation.specs.Statuses.{status_of};
+
+use crate::ending::Ending;
+use std::alloc::{AllocError, Global};
+use tokei_folders::Folders;
+use tokei_io::{OutputError, Sink, Source};
+use tokei_stats::shown::shown;
+use tokei_table::{TableError, TableFlaw};
+
+/// The words, where there are some.
+fn some_words(words: Result<String, AllocError>) -> Option<String> {
+    match words {
+        Ok(words) => if words.is_empty() { None } else { Some(words) },
+        Err(_) => None,
+    }
+}
+
+/// Memory ran out: for the content of the place that folders name, where they do.
+pub fn no_memory<F: Folders>(alloc: Global, folders: &F) -> Ending
+    ensures { status_of result ≡ 1 }
+{
+    match some_words(shown(alloc, folders.unheld())) {
+        Some(place) => Ending::NoRoom(place),
+        None => Ending::Memory,
+    }
+}
+
+/// The language and the member that go wrong in a table, where those can be told.
+fn flaw_in(alloc: Global, bytes: &[u8]) -> Result<Option<String>, AllocError> {
+    match TableFlaw::find(alloc, bytes)? {
+        Some(flaw) => Ok(Some(format!(in alloc; "{flaw}")?)),
+        None => Ok(None),
+    }
+}
+
+/// A table is refused: with the language and the member that go wrong, where those can be told.
+pub fn refused_table(alloc: Global, error: TableError, bytes: &[u8]) -> Ending
+    ensures { status_of result ≡ 1 }
+{
+    match flaw_in(alloc, bytes) {
+        Ok(Some(flaw)) => Ending::TableFlaw(flaw),
+        Ok(None) => Ending::Table(error),
+        Err(_) => Ending::Memory,
+    }
+}
+
+/// Earlier results couldn't be read from a source.
+pub fn unreadable<S: Source>(alloc: Global, source: &S) -> Ending
+    ensures { status_of result ≡ 1 }
+{
+    match some_words(source.cause(alloc)) {
+        Some(cause) => Ending::UnreadableBy(cause),
+        None => Ending::Unreadable,
+    }
+}
+
+/// A writer had a fault.
+fn unwritten<W: Sink>(alloc: Global, writer: &W) -> Ending
+    ensures { status_of result ≡ 1 }
+{
+    match some_words(writer.cause(alloc)) {
+        Some(cause) => Ending::Unwritten(cause),
+        None => Ending::Write,
+    }
+}
+
+/// An output ended.
+pub fn ended<W: Sink>(alloc: Global, error: OutputError, writer: &W) -> Ending
+    ensures { status_of result ≡ 1 }
+{
+    match error {
+        OutputError::Memory => Ending::Memory,
+        OutputError::Overflow => Ending::Overflow,
+        OutputError::Write => unwritten(alloc, writer),
+    }
+}
+
+/// A run over these folders ended.
+pub fn run_ended<F: Folders, W: Sink>(
+    alloc: Global,
+    error: OutputError,
+    folders: &F,
+    writer: &W,
+) -> Ending
+    ensures { status_of result ≡ 1 }
+{
+    match error {
+        OutputError::Memory => no_memory(alloc, folders),
+        error => ended(alloc, error, writer),
+    }
+}
