@@ -15,6 +15,7 @@ use std::time::Clock;
 use test_texts::bench_json;
 use tokei_count::Counter;
 use tokei_table::{LanguageTable, LanguageType};
+use tokei_table_json::FromJson;
 
 /// Prints the line of a way of counting.
 fn print_line(

@@ -9,6 +9,7 @@ use anyhow::bail;
 use std::alloc::Global;
 use test_texts::bench_json;
 use tokei_table::LanguageTable;
+use tokei_table_json::FromJson;
 
 /// Prints the line of a number of files.
 fn print_line(

@@ -3,6 +3,7 @@ use std::alloc::Global;
 use tokei_languages::Languages;
 use tokei_stats::{CodeStats, Report};
 use tokei_table::{LanguageTable, LanguageType};
+use tokei_table_json::FromJson;
 
 /// A table of languages whose names aren't their keys.
 pub fn made_table(alloc: Global, languages: usize) -> anyhow::Result<LanguageTable> {

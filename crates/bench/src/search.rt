@@ -8,7 +8,8 @@ use std::alloc::Global;
 use std::io;
 use std::time::{Duration, Instant};
 use test_texts::bench_json;
-use tokei_table::{LanguageTable, LanguageType, TableError};
+use tokei_table::{LanguageTable, LanguageType};
+use tokei_table_json::{FromJson, TableError};
 use tokei_table_search::OpenerIndex;
 
 /// Of so many runs the quickest one stands.

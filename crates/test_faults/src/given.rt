@@ -3,7 +3,8 @@ use std::alloc::{AllocError, Global};
 use tokei_folders::Fault;
 use tokei_languages::{Language, Languages};
 use tokei_memory::MemoryFolders;
-use tokei_table::{LanguageTable, LanguageType, TableError};
+use tokei_table::{LanguageTable, LanguageType};
+use tokei_table_json::{FromJson, TableError};
 
 /// The words as owned texts.
 pub fn texts(alloc: Global, words: &[&str]) -> Result<Vec<String>, AllocError> {

@@ -6,7 +6,8 @@ use crate::row::Row;
 use std::alloc::Global;
 use std::fs;
 use test_texts::bench_json;
-use tokei_table::{LanguageTable, TableError};
+use tokei_table::LanguageTable;
+use tokei_table_json::{FromJson, TableError};
 
 /// The tables by which a file's rows are asked.
 #[derive(Drop)]

@@ -2,7 +2,8 @@
 use crate::made_texts::text_of;
 use crate::verdict::{Wrong, all_right};
 use std::alloc::Global;
-use tokei_table::{LanguageTable, TableError};
+use tokei_table::LanguageTable;
+use tokei_table_json::{FromJson, TableError};
 
 /// How many languages the table of a text has that has a member to be passed over that is so many
 /// lists deep.

@@ -7,6 +7,7 @@ use std::alloc::Global;
 use tokei_count::Counter;
 use tokei_options::CountConfig;
 use tokei_table::{LanguageTable, LanguageType};
+use tokei_table_json::FromJson;
 
 /// The texts of a row.
 pub enum Texts {

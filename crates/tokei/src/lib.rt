@@ -44,7 +44,8 @@ pub use tokei_parts::SharedMatchers;
 pub use tokei_print::{Printer, print_stream_heading, print_stream_row};
 pub use tokei_statistics::CountFiles;
 pub use tokei_stats::{CodeStats, CountError, Report, ReportRow};
-pub use tokei_table::{LanguageTable, LanguageType, TableError, has_extension};
+pub use tokei_table::{LanguageTable, LanguageType, has_extension};
+pub use tokei_table_json::{FromJson, TableError};
 pub use tokei_table_row::{
     Syntax, contains_slice, is_blank_text, is_line_ending_whitespace, is_whitespace, trim,
     trim_first_and_last_line_of_whitespace, trim_start,

@@ -7,8 +7,8 @@ use Rattle.tokei_folders.specs.Answers.{node_content}
 use Rattle.tokei_folders.specs.Tree.{Tree, names_of, node_at}
 use Rattle.tokei_invocation.specs.declared.environment.Env.{Env}
 use Rattle.tokei_invocation.specs.Directories.{text_of}
-use Rattle.tokei_table.specs.declared.error.TableError.{TableError}
-use Rattle.tokei_table.specs.Outcome.{outcome}
+use Rattle.tokei_table_json.specs.declared.error.TableError.{TableError}
+use Rattle.tokei_table_json.specs.Outcome.{outcome}
 use Rattle.tokei_table.specs.Row.{Row}
 
 -- the table in the current folder, for where neither of them names one

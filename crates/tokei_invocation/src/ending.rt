@@ -4,7 +4,7 @@ ghost use Rattle.tokei_invocation.specs.Messages.{IsMessage};
 
 use std::alloc::{AllocError, AllocFailed, Global};
 use thiserror::Error;
-use tokei_table::TableError;
+use tokei_table_json::TableError;
 
 /// Why nothing is counted, or why the count isn't shown.
 #[derive(Debug, Drop, Error)]

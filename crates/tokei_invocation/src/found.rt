@@ -22,7 +22,8 @@ use tokei_folders::{Fault, Folders, Kind};
 use tokei_io::{Counted, Source};
 use tokei_languages::Languages;
 use tokei_stats::shown::shown;
-use tokei_table::{LanguageTable, TableError};
+use tokei_table::LanguageTable;
+use tokei_table_json::{FromJson, TableError};
 
 /// The table in the current folder, for where neither the command line nor the environment names
 /// one.

@@ -7,7 +7,7 @@ use std::alloc::{AllocError, Global};
 use tokei_folders::Folders;
 use tokei_io::{OutputError, Sink, Source};
 use tokei_stats::shown::shown;
-use tokei_table::{TableError, TableFlaw};
+use tokei_table_json::{TableError, TableFlaw};
 
 /// The words, where there are some.
 fn some_words(words: Result<String, AllocError>) -> Option<String> {

@@ -10,7 +10,7 @@ use Rattle.tokei_languages.specs.Summaries.{total_of}
 use Rattle.tokei_stats.specs.Statistics.{Statistics, Blobs}
 use Rattle.tokei_stats.specs.Statistics.Statistics.{node}
 use Rattle.tokei_stats.specs.Statistics.Blobs.{none, blob}
-use Rattle.tokei_table.specs.Layout.{all_items}
+use Rattle.tokei_table_json.specs.Layout.{all_items}
 use Rattle.tokei_table.specs.Row.{Row}
 use Rattle.tokei_json.specs.Document.{name_of, statistics_data, blobs_data, report_data, reports_data, named_data, language_data, document}
 use Rattle.tokei_json.specs.Layout.{has_counts, is_statistics, all_statistics, is_report, are_reports, all_reports, is_language, are_languages, has_layout}

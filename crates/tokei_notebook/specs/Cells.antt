@@ -4,9 +4,9 @@ use Rattle.std.specs.Prelude.{Option, Some, None, option_and_then, unwrap_or}
 use Rattle.serde_json.specs.Data.{Data, string, array, Items, no_items, item}
 use Rattle.serde_json.specs.Find.{get}
 use Rattle.tokei_table.specs.Families.{fallback}
-use Rattle.tokei_table.specs.Layout.{stands_and}
+use Rattle.tokei_table_json.specs.Layout.{stands_and}
 use Rattle.tokei_table.specs.Lookups.{first_where, or_else, has_name_in_any_case, has_extension}
-use Rattle.tokei_table.specs.Outcome.{data_of}
+use Rattle.tokei_table_json.specs.Outcome.{data_of}
 use Rattle.tokei_table.specs.Row.{Row}
 use Rattle.tokei_notebook.specs.Layout.{is_markdown, has_notebook_layout}
 use Rattle.tokei_notebook.specs.declared.notebook.Cell.{Cell as CodeCell}

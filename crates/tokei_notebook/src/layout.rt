@@ -1,7 +1,7 @@
 //! The layout of a notebook.
 ghost use Rattle.std.specs.Prelude.{◌≡◌, ◌||◌, option_map};
 ghost use Rattle.serde_json.specs.View.{view, items_view};
-ghost use Rattle.tokei_table.specs.Layout.{all_items, is_list, is_text, stands_and};
+ghost use Rattle.tokei_table_json.specs.Layout.{all_items, is_list, is_text, stands_and};
 ghost use Rattle.tokei_notebook.specs.Layout.{is_markdown, is_code, is_cell, has_metadata, has_notebook_layout};
 
 use serde_json::Value;

@@ -4,7 +4,7 @@ ghost use Rattle.serde_json.specs.View.{view, items_view};
 ghost use Rattle.tokei_notebook.specs.Cells.{cell_of, by_kernel, by_extension, get_in, code_language, text_of, joined};
 ghost use Rattle.tokei_notebook.specs.Cells.{source_of, cells_in, cells_at, cells_of, notebook_cells, AreKnown};
 ghost use Rattle.tokei_table.specs.Families.{fallback};
-ghost use Rattle.tokei_table.specs.Outcome.{data_of};
+ghost use Rattle.tokei_table_json.specs.Outcome.{data_of};
 
 use crate::layout::{has_notebook_layout, is_markdown};
 use serde_json::Value;

@@ -1,15 +1,19 @@
 -- Further extensions leave a table well formed.
-use Rattle.std.proofs.Common.{◌≡◌, ℕ, ◌+◌, ◌<◌, List, [], ◌∷◌, ◌++◌, length, map, drop, get_or, refl, sym, ◌∙◌, ap, subst, append_assoc}
+use Rattle.std.proofs.Common.{◌≡◌, ℕ, suc, ◌+◌, ◌<◌, List, [], ◌∷◌, ◌++◌, length, map, drop, get_or, refl, sym, ◌∙◌, ap, subst, add-one, append_assoc, drop-cons}
 use Rattle.std.proofs.lemmas.List.{append-nil, map-append}
 use Rattle.std.specs.List.Sorted.{IsStrictlySortedBy}
 use Rattle.std.specs.Ordering.{nat_cmp}
 use Rattle.std.specs.Cmp.Lexicographic.{slice_cmp}
 use Rattle.tokei_table_rules.proofs.ExtendedRows.{same_tokens, same_names, same_totals, same_fallbacks}
 use Rattle.tokei_table_rules.specs.Extended.{gained, listed_for, extended_from, extended, extensions_of, with_extensions}
-use Rattle.tokei_table_json.specs.KeyOrder.{keys_of}
+use Rattle.tokei_table.specs.KeyOrder.{keys_of}
 use Rattle.tokei_table_row.specs.Row.{Row}
 use Rattle.tokei_table.specs.WellFormed.{IsWellFormed}
-use Rattle.tokei_table.proofs.Flaws.{drop_here}
+
+-- what is left at a place is its item and what is left behind that
+pub drop_here : {X : Type 0} (xs : List X) (i : ℕ) (x : X) → i < length xs → x ≡ get_or xs i x → drop i xs ≡ x ∷ drop (i + 1) xs
+drop_here {X} xs i x l at =
+    drop-cons xs i x l ∙ ap (λ (y : X). y ∷ drop (suc i) xs) (sym at) ∙ ap (λ (n : ℕ). x ∷ drop n xs) (sym (add-one i))
 
 module _ (adds : List (ℕ × List (List ℕ))) where
   same_keys : (rs : List Row) (n : ℕ) (known : List (List ℕ)) → keys_of (extended_from n known adds rs) ≡ keys_of rs
@@ -32,7 +36,7 @@ module _ (adds : List (ℕ × List (List ℕ))) where
       ∙ ap (λ rs. rs ++ behind all) (map-append view done (extended_row ∷ []))
       ∙ append_assoc (map view done) (view extended_row ∷ []) (behind all)
       ∙ ap (λ r. map view done ++ r ∷ behind all) row
-      ∙ ap (λ ys. map view done ++ extended_from i known adds (map view ys)) (sym (drop_here view xs i x l at))
+      ∙ ap (λ ys. map view done ++ extended_from i known adds (map view ys)) (sym (drop_here xs i x l at))
       ∙ kept
 
   pub extended_well_formed : (rs : List Row) → IsWellFormed rs → IsWellFormed (extended rs adds)

@@ -1,9 +1,4 @@
 -- What contracts say of a table: which texts are tables, the rows of one, and its look-ups.
-pub use Rattle.tokei_table_json.specs.Escaped
-pub use Rattle.tokei_table_json.specs.Escapes
-pub use Rattle.tokei_table_json.specs.Layout
-pub use Rattle.tokei_table_json.specs.RowLaws
-pub use Rattle.tokei_table_json.specs.Rows
 pub use Rattle.tokei_table_row.specs.Bytes
 pub use Rattle.tokei_table_row.specs.FirstOpener
 pub use Rattle.tokei_table_row.specs.NewRow
@@ -22,9 +17,7 @@ pub use Rattle.tokei_table_rules.specs.RowNames
 pub use Rattle.tokei_table_rules.specs.Shebangs
 pub use Rattle.tokei_table_rules.specs.Tokens
 pub use Rattle.tokei_table_rules.specs.declared.family.Family
-pub mod Flaws
+pub mod KeyOrder
 pub mod Listed
-pub mod Outcome
-pub mod ReadErrors
 pub mod TableLaws
 pub mod WellFormed

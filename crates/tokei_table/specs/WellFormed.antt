@@ -4,7 +4,7 @@ use Rattle.std.specs.List.{list_all, list_any}
 use Rattle.tokei_table_rules.specs.Fallbacks.{has_fallbacks}
 use Rattle.tokei_table_rules.specs.RowNames.{names_twice, is_total}
 use Rattle.tokei_table_rules.specs.Tokens.{has_tokens}
-use Rattle.tokei_table_json.specs.KeyOrder.{IsInKeyOrder}
+use Rattle.tokei_table.specs.KeyOrder.{IsInKeyOrder}
 use Rattle.tokei_table_row.specs.Row.{Row}
 
 -- The keys ascend, all texts that a count looks for are tokens, no text names two languages, none

@@ -2,17 +2,13 @@
 //! names it is found.
 #![tactic(auto)]
 
-pub mod error;
 mod extend;
-pub mod flaw;
 pub mod language_type;
 pub mod lookups;
 mod openers;
 pub mod table;
 pub mod table_laws;
 
-pub use error::TableError;
-pub use flaw::TableFlaw;
 pub use language_type::LanguageType;
 pub use lookups::has_extension;
 pub use table::LanguageTable;

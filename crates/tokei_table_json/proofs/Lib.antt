@@ -1,6 +1,7 @@
 pub mod Backslashes
 pub mod Characters
 pub mod FilledRows
+pub mod Flaws
 pub mod KeyOrder
 pub mod Left
 pub mod Made
@@ -13,4 +14,6 @@ pub mod NextRows
 pub mod NoPairs
 pub mod NumberData
 pub mod Pairs
+pub mod PlainTables
 pub mod RowKinds
+pub mod Utf8

@@ -30,7 +30,7 @@ use Rattle.tokei_table_json.specs.declared.members.Member.TheVariants.{Texts, Pa
 use Rattle.tokei_table_json.specs.declared.members.PairList.{PairList}
 use Rattle.tokei_table_json.specs.declared.members.TextList.{TextList}
 use Rattle.tokei_table_json.specs.declared.members.TruthValue.{TruthValue}
-use Rattle.tokei_table_json.specs.KeyOrder.{IsInKeyOrder}
+use Rattle.tokei_table.specs.KeyOrder.{IsInKeyOrder}
 use Rattle.tokei_table_json.proofs.FilledRows.{row_of_members}
 use Rattle.tokei_table_json.proofs.KeyOrder.{in_key_order}
 use Rattle.tokei_table_json.proofs.MemberKeys.{fits_tells, keeps_tells, row_by_key}

@@ -2,12 +2,14 @@
 pub mod Escaped
 pub mod Escapes
 pub mod Filled
-pub mod KeyOrder
+pub mod Flaws
 pub mod Layout
 pub mod MemberEscapes
 pub mod MemberLayout
 pub mod Members
 pub mod Misfits
 pub mod Next
+pub mod Outcome
+pub mod ReadErrors
 pub mod RowLaws
 pub mod Rows

@@ -8,7 +8,7 @@ use Rattle.serde_json.specs.Read.{read as read_text}
 use Rattle.tokei_json_tree.specs.Orderings.{IsOrderingOf, AreMembersOrderingOf}
 use Rattle.tokei_json_tree.specs.TreeData.{data_of, members_data}
 use Rattle.tokei_table_json.specs.Escaped.{is_escaped_table}
-use Rattle.tokei_table_json.specs.KeyOrder.{IsInKeyOrder}
+use Rattle.tokei_table.specs.KeyOrder.{IsInKeyOrder}
 use Rattle.tokei_table_json.specs.Layout.{has_layout}
 use Rattle.tokei_table_json.specs.MemberLayout.{all_members}
 use Rattle.tokei_table_json.specs.Rows.{rows_at}

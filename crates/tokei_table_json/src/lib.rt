@@ -1,20 +1,21 @@
-//! A table of languages in JSON: its layout, the escapes in its texts, and the rows of languages
-//! that it holds.
+//! A table of languages in JSON: its layout, the escapes in its texts, the rows of languages that it
+//! holds, and the table of them, or why there is none.
 #![tactic(auto)]
 
+pub mod error;
 pub mod escaped;
 pub mod escapes;
+pub mod flaw;
 pub mod laws;
 pub mod layout;
 pub mod members;
 pub mod misfits;
+pub mod reading;
 pub mod rows;
 pub mod token_lists;
 pub mod token_rows;
 pub mod values;
 
-pub use escaped::is_escaped_table;
-pub use layout::has_layout;
-pub use misfits::{misescaped_language, unfit_language};
-pub use rows::rows_of;
-pub use token_rows::rows_in_order;
+pub use error::TableError;
+pub use flaw::TableFlaw;
+pub use reading::FromJson;

@@ -9,7 +9,7 @@ ghost use Rattle.tokei_table_row.specs.NewRow.{new_row};
 ghost use Rattle.tokei_table_row.specs.RowOf.{pair_of, pairs_of, tokens_of, row_of};
 ghost use Rattle.tokei_table_json.specs.Escapes.{unescaped_text};
 ghost use Rattle.tokei_table_json.specs.Filled.{with_member, filled};
-ghost use Rattle.tokei_table_json.specs.KeyOrder.{IsInKeyOrder};
+ghost use Rattle.tokei_table.specs.KeyOrder.{IsInKeyOrder};
 ghost use Rattle.tokei_table_json.specs.Members.{text_list_key, pair_list_key, truth_key, key_of};
 ghost use Rattle.tokei_table_json.specs.Rows.{text_of, text_at, texts_of};
 ghost use Rattle.tokei_table_json.specs.Rows.{two_texts, pair_in, pairs_in, tags_in, tags_at};

@@ -1,7 +1,8 @@
 //! Rows of texts that are tables of languages, or aren't, for each cause.
 use crate::text_rows::gains::gained;
 use crate::{Answers, Members, Page, Row, RowError, Said};
-use tokei_table::{LanguageTable, TableError, TableFlaw};
+use tokei_table::LanguageTable;
+use tokei_table_json::{FromJson, TableError, TableFlaw};
 
 /// The members of these rows. The text is `json`, or that of one language `X` with these `members`;
 /// without both it is the bench table. Wanted is how many languages it has, or why it is refused;

@@ -1,6 +1,6 @@
 use Rattle.std.proofs.Common.{◌≡◌, drop}
 use Rattle.serde_json.specs.View.{items_view}
-use Rattle.tokei_table.specs.Layout.{all_items}
+use Rattle.tokei_table_json.specs.Layout.{all_items}
 use Rattle.tokei_notebook.specs.Layout.{is_cell}
 use Rattle.tokei_notebook.proofs.layout.all_cells.Given as goal
 

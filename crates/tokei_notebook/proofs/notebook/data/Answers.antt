@@ -1,7 +1,7 @@
 use Rattle.std.proofs.Common.{Some, None, false, sym, ap, ◌∙◌}
 use Rattle.serde_json.specs.Read.{read}
 use Rattle.serde_json.specs.View.{view}
-use Rattle.tokei_table.proofs.Utf8.{data_read, data_none}
+use Rattle.tokei_table_json.proofs.Utf8.{data_read, data_none}
 use Rattle.std.specs.Bool.{IsTrue}
 use Rattle.tokei_notebook.proofs.notebook.data.Goals as goal
 

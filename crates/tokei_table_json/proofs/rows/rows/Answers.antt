@@ -3,7 +3,7 @@ use Rattle.std.proofs.lemmas.List.{drop_all}
 use Rattle.json.specs.Value.{value_view, members_view}
 use Rattle.tokei_json_tree.specs.TreeData.{data_of, members_data}
 use Rattle.tokei_table_row.specs.RowOf.{row_of}
-use Rattle.tokei_table_json.specs.KeyOrder.{IsInKeyOrder}
+use Rattle.tokei_table.specs.KeyOrder.{IsInKeyOrder}
 use Rattle.tokei_table_json.specs.Rows.{row_in, rows_in}
 use Rattle.tokei_table_json.proofs.KeyOrder.{in_key_order}
 use Rattle.tokei_table_json.proofs.Left.{members_here, member_ordered, members_ordered}

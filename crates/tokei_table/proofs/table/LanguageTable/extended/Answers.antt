@@ -7,8 +7,8 @@ use Rattle.tokei_table_row.specs.RowOf.{row_of}
 use Rattle.tokei_table.proofs.ExtendedTables.{extended_well_formed, same_well_formed, extended_by_none}
 use Rattle.tokei_table.proofs.table.LanguageTable.extended.Goals as goal
 
-pub indexed-requires : goal.indexed-requires
-indexed-requires c =
+pub of_rows-requires : goal.of_rows-requires
+of_rows-requires c =
     let before = map row_of c.rows.result.now in
     same_well_formed (map row_of c.in_ok-rows.rows.items)
     (extended before (map addition_of c.args.additions.now)) c.in_ok-rows.ensures

@@ -1,9 +1,9 @@
 use Rattle.std.proofs.Common.{◌≡◌, is_some, sym, subst}
 use Rattle.std.specs.Option.{IfSome}
 use Rattle.std.specs.Result.{IfOk}
-use Rattle.tokei_table.specs.Flaws.{Tells, rows_in_data, is_flawed_data}
-use Rattle.tokei_table.specs.Outcome.{outcome_of}
-use Rattle.tokei_table.proofs.flaw.text_flaw.Goals as goal
+use Rattle.tokei_table_json.specs.Flaws.{Tells, rows_in_data, is_flawed_data}
+use Rattle.tokei_table_json.specs.Outcome.{outcome_of}
+use Rattle.tokei_table_json.proofs.flaw.text_flaw.Goals as goal
 
 pub returns-in-Ok-clause-found : goal.returns-in-Ok-clause-found
 returns-in-Ok-clause-found c =

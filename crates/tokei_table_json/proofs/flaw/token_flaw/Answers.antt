@@ -1,8 +1,8 @@
 use Rattle.std.proofs.Common.{◌∙◌, ap, not, sym}
 use Rattle.tokei_table_row.specs.RowOf.{row_of}
 use Rattle.tokei_table_rules.specs.Tokens.{has_tokens}
-use Rattle.tokei_table.proofs.Flaws.{token_told, tells_token, row_passes, row_fails, refused, unrefused}
-use Rattle.tokei_table.proofs.flaw.token_flaw.Goals as goal
+use Rattle.tokei_table_json.proofs.Flaws.{token_told, tells_token, row_passes, row_fails, refused, unrefused}
+use Rattle.tokei_table_json.proofs.flaw.token_flaw.Goals as goal
 
 pub returns-in-Some-clause-tells : goal.returns-in-Some-clause-tells
 returns-in-Some-clause-tells c =

@@ -1,8 +1,8 @@
 use Rattle.std.proofs.Common.{IfSome, map, subst}
 use Rattle.tokei_table_json.specs.Next.{IsTableText}
 use Rattle.tokei_table_row.specs.RowOf.{row_of}
-use Rattle.tokei_table.proofs.PlainTables.{outcome_of_text}
-use Rattle.tokei_table.proofs.table.rows_of_text.Goals as goal
+use Rattle.tokei_table_json.proofs.PlainTables.{outcome_of_text}
+use Rattle.tokei_table_json.proofs.reading.rows_of_text.Goals as goal
 
 pub returns-in-Some-clause-value : goal.returns-in-Some-clause-value
 returns-in-Some-clause-value c never =

@@ -7,26 +7,27 @@ ghost use Rattle.serde_json.specs.Read.{read as read_text};
 ghost use Rattle.serde_json.specs.Written.{has_float};
 ghost use Rattle.tokei_json_tree.specs.Ordered.{IsOrdered};
 ghost use Rattle.tokei_json_tree.specs.TreeData.{data_of as tree_data};
-ghost use Rattle.tokei_table.specs.Flaws.{IsFlaw, Tells, TellsToken, TellsName, TellsTotal, TellsFallback};
-ghost use Rattle.tokei_table.specs.Flaws.{rows_in, rows_in_data, rows_in_value};
-ghost use Rattle.tokei_table.specs.Flaws.{is_flawed_value, is_flawed_data, is_flawed};
-ghost use Rattle.tokei_table.specs.Outcome.{outcome, outcome_of, outcome_of_value, tested};
-ghost use Rattle.tokei_table_json.specs.KeyOrder.{IsInKeyOrder};
+ghost use Rattle.tokei_table_json.specs.Flaws.{IsFlaw, Tells, TellsToken, TellsName, TellsTotal, TellsFallback};
+ghost use Rattle.tokei_table_json.specs.Flaws.{rows_in, rows_in_data, rows_in_value};
+ghost use Rattle.tokei_table_json.specs.Flaws.{is_flawed_value, is_flawed_data, is_flawed};
+ghost use Rattle.tokei_table_json.specs.Outcome.{outcome, outcome_of, outcome_of_value, tested};
+ghost use Rattle.tokei_table.specs.KeyOrder.{IsInKeyOrder};
 ghost use Rattle.tokei_table_row.specs.RowOf.{row_of};
 ghost use Rattle.tokei_table_rules.specs.Fallbacks.{has_fallbacks};
 ghost use Rattle.tokei_table_rules.specs.RowNames.{is_total, names_twice, shares_earlier};
 ghost use Rattle.tokei_table_rules.specs.Tokens.{has_tokens};
-ghost use Rattle.tokei_table.specs.declared.error.TableError.TheVariants.{Token, NamedTwice, NamedTotal};
-ghost use Rattle.tokei_table.specs.declared.error.TableError.TheVariants.{Fallback};
+ghost use Rattle.tokei_table_json.specs.declared.error.TableError.TheVariants.{Token, NamedTwice, NamedTotal};
+ghost use Rattle.tokei_table_json.specs.declared.error.TableError.TheVariants.{Fallback};
 
 use crate::error::TableError;
-use crate::table::{test, text_of};
+use crate::escaped::is_escaped_table;
+use crate::layout::has_layout;
+use crate::misfits::{misescaped_language, unfit_language};
+use crate::reading::{test, text_of};
+use crate::rows::rows_of;
 use std::alloc::{AllocError, Global};
 use std::fmt;
 use tokei_json_tree::{ReadError, Reading, Room, read};
-use tokei_table_json::{
-    has_layout, is_escaped_table, misescaped_language, rows_of, unfit_language,
-};
 use tokei_table_row::Syntax;
 use tokei_table_rules::names::{second_of_name, shared_name};
 use tokei_table_rules::well_formed::{bad_member, is_total, missing_key};
@@ -224,7 +225,7 @@ fn row_flaw(alloc: Global, rows: &[Syntax]) -> Result<Option<TableFlaw>, AllocEr
 }
 
 /// What of a text's JSON keeps it from being a table.
-#[tactic(auto, unfolding(crate::specs::Outcome::outcome_of_value, tokei_table_json::specs::Layout::has_layout))]
+#[tactic(auto, unfolding(crate::specs::Outcome::outcome_of_value, crate::specs::Layout::has_layout))]
 fn reading_flaw(alloc: Global, read: &Reading<'_>) -> Result<Option<TableFlaw>, AllocError>
     requires ordered { IsOrdered (value_view read.now.tree) }
     requires fraction { read.now.has_fraction ≡ has_float (tree_data (value_view read.now.tree)) }

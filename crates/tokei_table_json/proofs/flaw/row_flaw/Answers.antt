@@ -1,9 +1,9 @@
 use Rattle.std.proofs.Common.{◌≡◌, Err, map, rules}
 use Rattle.tokei_table_row.specs.RowOf.{row_of}
-use Rattle.tokei_table.specs.Outcome.{tested}
-use Rattle.tokei_table.specs.declared.error.TableError.TheVariants.{NamedTwice, NamedTotal, Fallback}
-use Rattle.tokei_table.proofs.Flaws.{refused_twice, refused_total, refused_fallback, found_refused}
-use Rattle.tokei_table.proofs.flaw.row_flaw.Goals as goal
+use Rattle.tokei_table_json.specs.Outcome.{tested}
+use Rattle.tokei_table_json.specs.declared.error.TableError.TheVariants.{NamedTwice, NamedTotal, Fallback}
+use Rattle.tokei_table_json.proofs.Flaws.{refused_twice, refused_total, refused_fallback, found_refused}
+use Rattle.tokei_table_json.proofs.flaw.row_flaw.Goals as goal
 
 pub returns-in-Err-NamedTwice-clause-found : goal.returns-in-Err-NamedTwice-clause-found
 returns-in-Err-NamedTwice-clause-found c =

@@ -2,8 +2,8 @@ use Rattle.std.proofs.Common.{◌++◌, ap, sym, ◌∙◌, arith}
 use Rattle.std.proofs.lemmas.Grind.{common_steps}
 use Rattle.tokei_table_row.specs.RowOf.{row_of}
 use Rattle.tokei_table_row.specs.FirstRows.{has_name}
-use Rattle.tokei_table.proofs.Flaws.{one_shares, none_shares, name_told, tells_name}
-use Rattle.tokei_table.proofs.flaw.clash.Goals as goal
+use Rattle.tokei_table_json.proofs.Flaws.{one_shares, none_shares, name_told, tells_name}
+use Rattle.tokei_table_json.proofs.flaw.clash.Goals as goal
 
 pub returns-in-Some-clause-found : goal.returns-in-Some-clause-found
 returns-in-Some-clause-found c =

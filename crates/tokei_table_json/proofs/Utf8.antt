@@ -4,7 +4,7 @@ use Rattle.std.proofs.lemmas.Str.{is_utf8-from_IsUtf8, IsUtf8-from_is_utf8}
 use Rattle.std.specs.Str.{is_utf8, IsUtf8}
 use Rattle.serde_json.specs.Data.{Data}
 use Rattle.serde_json.specs.Read.{read}
-use Rattle.tokei_table.specs.Outcome.{data_of}
+use Rattle.tokei_table_json.specs.Outcome.{data_of}
 
 chosen : (b : Bool) (x : Option Data) → b ≡ true → (if b then x else None) ≡ x
 chosen true x e = refl

@@ -2,7 +2,7 @@ use Rattle.std.proofs.Common.{◌≡◌, drop, map}
 use Rattle.std.specs.List.{list_all}
 use Rattle.tokei_table_row.specs.RowOf.{row_of}
 use Rattle.tokei_table_rules.specs.Fallbacks.{has_fallbacks}
-use Rattle.tokei_table.proofs.flaw.fallback_flaw.Given as goal
+use Rattle.tokei_table_json.proofs.flaw.fallback_flaw.Given as goal
 
 abbrev pub invariant-loop-row : goal.invariant-loop-row
 invariant-loop-row l =

@@ -3,8 +3,8 @@ use Rattle.tokei_table_row.specs.Bytes.{holds}
 use Rattle.tokei_table_row.specs.RowOf.{row_of}
 use Rattle.tokei_table_rules.specs.Fallbacks.{has_key, has_fallbacks}
 use Rattle.tokei_table_rules.specs.Families.{family_of, needed_keys}
-use Rattle.tokei_table.proofs.Flaws.{tells_fallback, row_told, row_passes, row_fails, refused, unrefused}
-use Rattle.tokei_table.proofs.flaw.fallback_flaw.Goals as goal
+use Rattle.tokei_table_json.proofs.Flaws.{tells_fallback, row_told, row_passes, row_fails, refused, unrefused}
+use Rattle.tokei_table_json.proofs.flaw.fallback_flaw.Goals as goal
 
 pub returns-in-Some-clause-tells : goal.returns-in-Some-clause-tells
 returns-in-Some-clause-tells c = tells_fallback _ c.in_ok-flaw.field-0 c.in_ok-flaw.ensures.cause λ _. (

@@ -5,8 +5,8 @@ use Rattle.serde_json.specs.Read.{read}
 use Rattle.tokei_table_json.specs.Next.{IsTableText}
 use Rattle.tokei_table_json.specs.Rows.{rows_at}
 use Rattle.tokei_table_row.specs.Row.{Row}
-use Rattle.tokei_table.specs.Outcome.{outcome_of, outcome_of_value, tested}
-use Rattle.tokei_table.specs.declared.error.TableError.TheVariants.{Layout, Escape}
+use Rattle.tokei_table_json.specs.Outcome.{outcome_of, outcome_of_value, tested}
+use Rattle.tokei_table_json.specs.declared.error.TableError.TheVariants.{Layout, Escape}
 
 pub outcome_of_text : (text : List ℕ) (rows : List Row) → IsTableText text rows → outcome_of (read text) ≡ tested rows
 unfolding outcome_of_value

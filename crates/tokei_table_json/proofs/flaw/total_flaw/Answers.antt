@@ -2,8 +2,8 @@ use Rattle.std.proofs.Common.{◌≡◌, true, string_bytes, sym, ◌∙◌, ari
 use Rattle.std.proofs.lemmas.Grind.{common_steps}
 use Rattle.tokei_table_row.specs.RowOf.{row_of}
 use Rattle.tokei_table_rules.specs.RowNames.{is_total}
-use Rattle.tokei_table.proofs.Flaws.{row_told, tells_total}
-use Rattle.tokei_table.proofs.flaw.total_flaw.Goals as goal
+use Rattle.tokei_table_json.proofs.Flaws.{row_told, tells_total}
+use Rattle.tokei_table_json.proofs.flaw.total_flaw.Goals as goal
 
 pub returns-then-is_total-clause-tells : goal.returns-then-is_total-clause-tells
 returns-then-is_total-clause-tells c =

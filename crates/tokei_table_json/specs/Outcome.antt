@@ -12,9 +12,9 @@ use Rattle.tokei_table_json.specs.Rows.{rows_at}
 use Rattle.tokei_table_rules.specs.Fallbacks.{has_fallbacks}
 use Rattle.tokei_table_rules.specs.RowNames.{names_twice, is_total}
 use Rattle.tokei_table_rules.specs.Tokens.{has_tokens}
-use Rattle.tokei_table.specs.declared.error.TableError.{TableError}
-use Rattle.tokei_table.specs.declared.error.TableError.TheVariants.{NotJson, Layout, Escape, Token, NamedTwice}
-use Rattle.tokei_table.specs.declared.error.TableError.TheVariants.{NamedTotal, Fallback}
+use Rattle.tokei_table_json.specs.declared.error.TableError.{TableError}
+use Rattle.tokei_table_json.specs.declared.error.TableError.TheVariants.{NotJson, Layout, Escape, Token, NamedTwice}
+use Rattle.tokei_table_json.specs.declared.error.TableError.TheVariants.{NamedTotal, Fallback}
 
 -- The JSON value of the bytes, which are UTF-8.
 unfoldable pub data_of : List ℕ → Option Data

@@ -1,5 +1,5 @@
 -- A row that a flaw tells of is one of the table's.
-use Rattle.std.proofs.Common.{◌≡◌, ℕ, zero, suc, ◌+◌, ◌<◌, ◌≤◌, Bool, true, false, not, ◌&&◌, List, [], ◌∷◌, map, length, take, drop, get_or, refl, ap, sym, ◌∙◌, add-one, drop-cons, arith}
+use Rattle.std.proofs.Common.{◌≡◌, ℕ, zero, suc, ◌+◌, ◌<◌, ◌≤◌, Bool, true, false, not, ◌&&◌, List, [], ◌∷◌, map, length, take, drop, get_or, refl, ap, sym, ◌∙◌, arith}
 use Rattle.std.proofs.lemmas.List.{drop_all, length-map, length-take-le, take-map, get_or-map, get_or-take}
 use Rattle.std.proofs.lemmas.List.Folds.{list_any_at}
 use Rattle.std.proofs.Common.{Option, Result, Ok, Err, string_bytes, is_some, is_err, if◌then◌else◌}
@@ -13,11 +13,12 @@ use Rattle.tokei_table_rules.specs.Lookups.{row_at, has_name}
 use Rattle.tokei_table_rules.specs.RowNames.{shares_name, shares_earlier, names_twice, is_total, NamesBoth}
 use Rattle.tokei_table_rules.specs.Fallbacks.{has_fallbacks}
 use Rattle.tokei_table_rules.specs.Tokens.{has_tokens, member_has_tokens, HasBadToken}
-use Rattle.tokei_table.specs.Outcome.{tested}
-use Rattle.tokei_table.specs.Flaws.{Tells, TellsFallback}
-use Rattle.tokei_table.specs.declared.error.TableError.{TableError}
-use Rattle.tokei_table.specs.declared.error.TableError.TheVariants.{Token, NamedTwice, NamedTotal, Fallback}
-use Rattle.tokei_table.specs.declared.flaw.TableFlaw.{TableFlaw}
+use Rattle.tokei_table.proofs.ExtendedTables.{drop_here}
+use Rattle.tokei_table_json.specs.Outcome.{tested}
+use Rattle.tokei_table_json.specs.Flaws.{Tells, TellsFallback}
+use Rattle.tokei_table_json.specs.declared.error.TableError.{TableError}
+use Rattle.tokei_table_json.specs.declared.error.TableError.TheVariants.{Token, NamedTwice, NamedTotal, Fallback}
+use Rattle.tokei_table_json.specs.declared.flaw.TableFlaw.{TableFlaw}
 
 module _ {X : Type 0} (view : X → Row) where
   at_map : (xs : List X) (i : ℕ) (x : X) → i < length xs → x ≡ get_or xs i x → get_or (map view xs) i (view x) ≡ view x
@@ -33,9 +34,6 @@ module _ {X : Type 0} (view : X → Row) where
 
   pub row_told : (P : Row → Type 0) (xs : List X) (i : ℕ) (x : X) → i < length xs → x ≡ get_or xs i x → P (view x) → Any P (map view xs)
   row_told P xs i x l at p = (i, view x, omega (arith, l, length-map xs view), at_map xs i x l at, p)
-
-  pub drop_here : (xs : List X) (i : ℕ) (x : X) → i < length xs → x ≡ get_or xs i x → drop i xs ≡ x ∷ drop (i + 1) xs
-  drop_here xs i x l at = drop-cons xs i x l ∙ ap (λ y. y ∷ drop (suc i) xs) (sym at) ∙ ap (λ n. x ∷ drop n xs) (sym (add-one i))
 
   row_here : (xs : List X) (i : ℕ) (x : X) → i < length xs → x ≡ get_or xs i x → row_at (map view xs) i ≡ view x
   row_here xs i x l at = get_or-map view xs i x (new_row []) l ∙ ap view (sym at)

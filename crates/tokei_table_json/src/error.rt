@@ -35,7 +35,7 @@ pub enum TableError {
 }
 
 impl<T: Drop> From<AllocFailed<T>> for TableError {
-    ghost use Rattle.tokei_table.specs.declared.error.TableError.TheVariants.{Memory};
+    ghost use Rattle.tokei_table_json.specs.declared.error.TableError.TheVariants.{Memory};
     ghost use Rattle.std.specs.Prelude.{◌≡◌};
 
     ghost from_gives = { λ _ e. e ≡ Memory };
@@ -46,7 +46,7 @@ impl<T: Drop> From<AllocFailed<T>> for TableError {
 }
 
 impl From<AllocError> for TableError {
-    ghost use Rattle.tokei_table.specs.declared.error.TableError.TheVariants.{Memory};
+    ghost use Rattle.tokei_table_json.specs.declared.error.TableError.TheVariants.{Memory};
     ghost use Rattle.std.specs.Prelude.{◌≡◌};
 
     ghost from_gives = { λ _ e. e ≡ Memory };
@@ -57,7 +57,7 @@ impl From<AllocError> for TableError {
 }
 
 impl From<ReadError> for TableError {
-    ghost use Rattle.tokei_table.specs.ReadErrors.{table_error};
+    ghost use Rattle.tokei_table_json.specs.ReadErrors.{table_error};
     ghost use Rattle.std.specs.Prelude.{◌≡◌};
 
     ghost from_gives = { λ refused e. e ≡ table_error refused };

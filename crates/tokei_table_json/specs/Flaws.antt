@@ -13,10 +13,10 @@ use Rattle.tokei_table_rules.specs.Fallbacks.{has_key}
 use Rattle.tokei_table_rules.specs.Families.{family_of, needed_keys}
 use Rattle.tokei_table_rules.specs.RowNames.{NamesBoth, is_total}
 use Rattle.tokei_table_rules.specs.Tokens.{HasBadToken}
-use Rattle.tokei_table.specs.Outcome.{data_of, outcome_of_value}
-use Rattle.tokei_table.specs.declared.error.TableError.{TableError}
-use Rattle.tokei_table.specs.declared.error.TableError.TheVariants.{Token, NamedTwice, NamedTotal, Fallback}
-use Rattle.tokei_table.specs.declared.flaw.TableFlaw.{TableFlaw}
+use Rattle.tokei_table_json.specs.Outcome.{data_of, outcome_of_value}
+use Rattle.tokei_table_json.specs.declared.error.TableError.{TableError}
+use Rattle.tokei_table_json.specs.declared.error.TableError.TheVariants.{Token, NamedTwice, NamedTotal, Fallback}
+use Rattle.tokei_table_json.specs.declared.flaw.TableFlaw.{TableFlaw}
 
 -- The rows of a JSON value.
 abbrev pub rows_in_value : Data → List Row
