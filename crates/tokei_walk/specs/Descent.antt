@@ -18,6 +18,7 @@ use Rattle.tokei_folders.specs.Answers.{list_answer}
 use Rattle.tokei_folders.specs.Ends.{without_last}
 use Rattle.tokei_folders.specs.Places.{joined}
 use Rattle.tokei_ignore.specs.Fits.{is_empty}
+use Rattle.tokei_walk.specs.Kept.{greatest_depth, most_names}
 use Rattle.tokei_walk.specs.Levels.{level_at, drops, under}
 use Rattle.tokei_folders.specs.Tree.{Names, Tree, node_at, names_of, folders_above}
 
@@ -88,7 +89,7 @@ abbrev pub of_node : List Pattern → Rules → Tree → List ℕ → Option Nod
 of_node excludes rules tree root None = []
 of_node excludes rules tree root (Some (file r h content)) = kept root
 of_node excludes rules tree root (Some (folder r)) =
-    descend excludes rules tree 257 (root_context tree rules (names_of root)) root
+    descend excludes rules tree most_names (root_context tree rules (names_of root)) root
 
 -- the files of a root; an empty root gives nothing
 unfoldable pub of_root : List Pattern → Rules → Tree → List ℕ → List KeptFile
@@ -112,14 +113,14 @@ outer context = record {
 unfoldable pub of_frames : List Pattern → Rules → Tree → Context → List Frame → List KeptFile
 of_frames excludes rules tree context [] = []
 of_frames excludes rules tree context (f ∷ fs) =
-    of_entries excludes rules (descend excludes rules tree (256 - length fs)) context f.place
-    (reverse f.left)
+    of_entries excludes rules (descend excludes rules tree (greatest_depth - length fs))
+    context f.place (reverse f.left)
     ++ of_frames excludes rules tree (outer context) fs
 
 -- what the folder that is walked still gives
 abbrev pub of_top : List Pattern → Rules → Tree → Stack → List KeptFile
 of_top excludes rules tree stack =
-    of_entries excludes rules (descend excludes rules tree (256 - length stack.holders))
+    of_entries excludes rules (descend excludes rules tree (greatest_depth - length stack.holders))
     stack.context stack.place
     (reverse stack.left)
 

@@ -51,7 +51,12 @@ abbrev pub is_entered : List Pattern → Rules → Tree → Names → Names → 
 is_entered excludes rules tree root inner =
     can_list (node_at tree (root ++ inner)) && not (is_dropped excludes rules tree root inner true)
 
--- the most names that lead from a root down to a file below it
+-- the greatest depth below a root at which a folder is entered
+abbrev pub greatest_depth : ℕ
+greatest_depth = 256
+
+-- the most names that lead from a root down to a file below it; so many folders are entered on the
+-- way to it, the root among them
 abbrev pub most_names : ℕ
 most_names = 257
 

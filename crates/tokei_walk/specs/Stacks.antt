@@ -10,6 +10,7 @@ use Rattle.tokei_ignore.specs.declared.patterns.Pattern.{Pattern}
 use Rattle.tokei_folders.specs.Answers.{list_answer}
 use Rattle.tokei_walk.specs.Descent.{outer, descend, of_top, of_stack}
 use Rattle.tokei_folders.specs.Ends.{without_last}
+use Rattle.tokei_walk.specs.Kept.{greatest_depth}
 use Rattle.tokei_walk.specs.Levels.{level_at, drops, under}
 use Rattle.tokei_folders.specs.Tree.{Tree, names_of}
 
@@ -50,7 +51,8 @@ at_entry stack name = record stack { context = under stack.context name }
 abbrev pub of_folder : List Pattern → Rules → Tree → Stack → List ℕ → List ℕ → List KeptFile
 of_folder excludes rules tree stack name place =
     cond (drops excludes rules stack.context name true) []
-    (descend excludes rules tree (256 - length stack.holders) (under stack.context name) place)
+    (descend excludes rules tree (greatest_depth - length stack.holders)
+    (under stack.context name) place)
 
 -- a file that isn't dropped is found
 abbrev pub file_kept : Bool → List ℕ → Step

@@ -1,8 +1,11 @@
 //! The walk over the files that the ignore rules keep.
 //!
+//! A caller takes all kept files of some roots at once by `kept_files`, or makes a `Walk` and asks
+//! it for one file after the other by `next`. Either reads any `Folders`, by `Rules` that say which
+//! ignore files are obeyed, and leaves a `Note` for what it passed over.
+//!
 //! `specs/` holds the rules, one idea a file: what the rules of folders inside one another decide,
-//! the kept files, a filter of all places of a tree, and what a walk still has to come. The names
-//! of the two crates below are handed on.
+//! the kept files, a filter of all places of a tree, and what a walk still has to come.
 #![tactic(auto)]
 
 mod collect;

@@ -83,7 +83,7 @@ fn read_over<F: Folders>(
 }
 
 /// Makes the context that of a root's entries, but for the rules of the root itself.
-pub fn context_of_root<F: Folders>(
+pub fn set_root_context<F: Folders>(
     settings: &Settings,
     folders: &mut F,
     notes: &mut Items<Note>,

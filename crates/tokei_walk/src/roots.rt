@@ -5,6 +5,7 @@ ghost use Rattle.tokei_folders.specs.AsTheyWere.{AsTheyWere};
 ghost use Rattle.tokei_folders.specs.Tree.{names_of, node_at};
 ghost use Rattle.tokei_ignore.specs.Fits.{is_empty};
 ghost use Rattle.tokei_walk.specs.Descent.{root_context, with_level, of_root, of_stack, descend};
+ghost use Rattle.tokei_walk.specs.Kept.{most_names};
 ghost use Rattle.tokei_walk.specs.Notes.{Grows, missing_note};
 ghost use Rattle.tokei_walk.specs.Ranks.{weight, stack_rank};
 ghost use Rattle.tokei_walk.specs.Sought.{level_of};
@@ -13,7 +14,7 @@ ghost use Rattle.tokei_walk.specs.Walks.{RootGives, RootIs, file_of_root, texts_
 use crate::kept_file::{KeptFile, Note, NoteKind};
 use crate::levels::Context;
 use crate::listings::listing;
-use crate::parents::context_of_root;
+use crate::parents::set_root_context;
 use crate::rules_files::{Sought, read_sought, sought_among};
 use crate::stack::{Settings, Stack};
 use std::alloc::{AllocError, Global};
@@ -32,7 +33,7 @@ pub fn copied_roots(alloc: Global, roots: &[String]) -> Result<Items<Text>, Allo
 
 /// Makes the context that of a root's entries, with the rules of the root itself, by those of its
 /// ignore files that are sought.
-fn context_in_root<F: Folders>(
+fn set_context_in_root<F: Folders>(
     settings: &Settings,
     folders: &mut F,
     notes: &mut Items<Note>,
@@ -46,7 +47,7 @@ fn context_in_root<F: Folders>(
         ≡ with_level (root_context t settings.now.rules (names_of root.now))
         (level_of t sought (names_of root.now)))) }
 {
-    context_of_root(settings, folders, notes, root, context)?;
+    set_root_context(settings, folders, notes, root, context)?;
     read_sought(
         settings.alloc,
         folders,
@@ -83,10 +84,11 @@ fn enter_root<F: Folders>(
     ensures folders { AsTheyWere F.tree F.memory_faults folders.old folders.new result }
     ensures notes { Grows notes.old notes.new }
     ensures holders { OnOk result (length stack.new.holders ≤ length stack.old.holders) }
-    ensures bounded { OnOk result (stack_rank stack.new < stack_rank stack.old + weight 257) }
+    ensures bounded { OnOk result
+        (stack_rank stack.new < stack_rank stack.old + weight most_names) }
     ensures told { Told (F.tree folders.old) (λ t. OnOk result
         (stack.old.left ≡ [] → stack.old.holders ≡ [] →
-        descend settings.now.excludes settings.now.rules t 257
+        descend settings.now.excludes settings.now.rules t most_names
         (root_context t settings.now.rules (names_of root)) root
         ≡ of_stack settings.now.excludes settings.now.rules t stack.new)) }
 {
@@ -96,7 +98,7 @@ fn enter_root<F: Folders>(
     let sought = sought_among(&settings.rules, listing.entries.as_slice());
     walk_root(stack, root, listing.entries);
     let place = stack.place.as_str();
-    context_in_root(settings, folders, notes, sought, place, &mut stack.context)
+    set_context_in_root(settings, folders, notes, sought, place, &mut stack.context)
 }
 
 fn is_empty_place(text: &Text) -> bool
@@ -148,7 +150,8 @@ fn begin_known<F: Folders>(
         (notes.new ≡ notes.old ++ missing_note root.place ∷ []) }
     ensures kept { IfOk result (λ o. o ≡ file_of_root root.kind root.place) }
     ensures holders { OnOk result (length stack.new.holders ≤ length stack.old.holders) }
-    ensures bounded { OnOk result (stack_rank stack.new < stack_rank stack.old + weight 257) }
+    ensures bounded { OnOk result
+        (stack_rank stack.new < stack_rank stack.old + weight most_names) }
     ensures told { Told (F.tree folders.old) (λ t. RootIs t root.place root.kind
         → IfOk result (λ o. stack.old.left ≡ [] → stack.old.holders ≡ [] → RootGives
         (of_root settings.now.excludes settings.now.rules t root.place)
@@ -186,7 +189,8 @@ pub fn begin_root<F: Folders>(
     ensures folders { AsTheyWere F.tree F.memory_faults folders.old folders.new result }
     ensures notes { Grows notes.old notes.new }
     ensures holders { OnOk result (length stack.new.holders ≤ length stack.old.holders) }
-    ensures bounded { OnOk result (stack_rank stack.new < stack_rank stack.old + weight 257) }
+    ensures bounded { OnOk result
+        (stack_rank stack.new < stack_rank stack.old + weight most_names) }
     ensures told { Told (F.tree folders.old) (λ t. IfOk result (λ o.
         stack.old.left ≡ [] → stack.old.holders ≡ [] → RootGives
         (of_root settings.now.excludes settings.now.rules t root)

@@ -7,6 +7,7 @@ ghost use Rattle.tokei_folders.specs.AsTheyWere.{AsTheyWere};
 ghost use Rattle.tokei_folders.specs.declared.fs.Fault.TheVariants.{Refused as RefusedFault};
 ghost use Rattle.tokei_folders.specs.Places.{joined as joined_places};
 ghost use Rattle.tokei_folders.specs.Tree.{Tree, names_of};
+ghost use Rattle.tokei_walk.specs.Kept.{greatest_depth};
 ghost use Rattle.tokei_walk.specs.Levels.{drops, under};
 ghost use Rattle.tokei_walk.specs.Descent.{without_name, of_top};
 ghost use Rattle.tokei_walk.specs.Walks.{is_spent as spent};
@@ -22,6 +23,9 @@ use std::mem;
 use tokei_folders::places::joined;
 use tokei_folders::{Entry, Folders, Items, Kind, Text};
 use tokei_ignore::Pattern;
+
+/// The greatest depth below its root at which a folder is entered.
+const MAX_DEPTH: usize = 256;
 
 /// A folder that is entered and not yet left.
 #[derive(Drop)]
@@ -192,7 +196,7 @@ fn push_folder_name(
     ensures place { IfOk result (λ o. IfSome o
         (λ p. p ≡ joined_places stack.old.place name)) }
     ensures named { IfOk result (λ o. OnSome o (stack.new ≡ at_entry stack.old name)) }
-    ensures shallow { IfOk result (λ o. OnSome o (length stack.old.holders < 256)) }
+    ensures shallow { IfOk result (λ o. OnSome o (length stack.old.holders < greatest_depth)) }
     ensures kept { IfOk result (λ o. OnSome o
         (drops settings.now.excludes settings.now.rules stack.old.context name true ≡ false)) }
     ensures same { IfOk result (λ o. o ≡ None → stack.new ≡ stack.old) }
@@ -205,7 +209,7 @@ fn push_folder_name(
         return Ok(None);
     }
     let place = joined(settings.alloc, stack.place.as_str(), name.as_str())?;
-    if stack.holders.len() >= 256 {
+    if stack.holders.len() >= MAX_DEPTH {
         let kind = NoteKind::TooDeep;
         notes.push(Note { kind, place })?;
         return Ok(None);
@@ -226,7 +230,7 @@ fn enter_entry<F: Folders>(
     ensures folders { AsTheyWere F.tree F.memory_faults folders.old folders.new result }
     ensures notes { Grows notes.old notes.new }
     ensures refused { IfOk result (λ b. b ≡ false → stack.new ≡ stack.old) }
-    ensures shallow { IfOk result (λ b. b ≡ true → length stack.old.holders < 256) }
+    ensures shallow { IfOk result (λ b. b ≡ true → length stack.old.holders < greatest_depth) }
     ensures entered { IfOk result (λ b. b ≡ true
         → Enters (at_entry stack.old name) stack.new (joined_places stack.old.place name)) }
     ensures told { Told (F.tree folders.old) (λ t. IfOk result (λ b.
@@ -257,7 +261,7 @@ fn visit<F: Folders>(
     ensures notes { Grows notes.old notes.new }
     ensures stays { IfOk result (λ o. NoneIsSame stack.old stack.new o) }
     ensures falls { IfOk result (λ o. OnSome o (stack_rank stack.new
-        < stack_rank stack.old + weight (256 - length stack.old.holders))) }
+        < stack_rank stack.old + weight (greatest_depth - length stack.old.holders))) }
     ensures told { Told (F.tree folders.old) (λ t. IfOk result (λ o.
         VisitTells settings.now.excludes settings.now.rules t stack.old stack.new
         name (joined_places stack.old.place name) o)) }

@@ -35,16 +35,16 @@ returns-clause-told g c = λ t e.
     let entries = ap (λ p. list_answer t (names_of p)) (sym c.as_str.ensures) ∙ told in
     let sought = c.sought_among-sought.ensures ∙ ap (listed x.rules) c.as_slice.ensures.value in
     let walked = c.walk_root.ensures in let s = c.walk_root.new.stack in
-    on_ok_by c.context_in_root.result
+    on_ok_by c.set_context_in_root.result
     (λ made left below.
-    root_walked x.excludes x.rules t (record { context = c.context_in_root.new.context; place = s.place; left = s.left; holders = s.holders })
-    c.context_in_root.new.context c.sought_among-sought.result
+    root_walked x.excludes x.rules t (record { context = c.set_context_in_root.new.context; place = s.place; left = s.left; holders = s.holders })
+    c.set_context_in_root.new.context c.sought_among-sought.result
     root c.as_str-place.result.now c.in-Some.listing.entries.items entries sought (c.as_str-place.ensures ∙ walked.place)
     made refl walked.place walked.entries walked.holders)
-    (c.context_in_root.ensures.told t (c.listing.ensures.folders.same ∙ e))
+    (c.set_context_in_root.ensures.told t (c.listing.ensures.folders.same ∙ e))
 
 pub returns-clause-holders : goal.returns-clause-holders
-returns-clause-holders g c = on_ok c.context_in_root.result (omega (arith, ap length c.walk_root.ensures.holders))
+returns-clause-holders g c = on_ok c.set_context_in_root.result (omega (arith, ap length c.walk_root.ensures.holders))
 
 pub returns-in_default-clause-bounded : goal.returns-in_default-clause-bounded
 returns-in_default-clause-bounded g c = below_root c.args.stack.now
@@ -52,18 +52,18 @@ returns-in_default-clause-bounded g c = below_root c.args.stack.now
 pub returns-clause-bounded : goal.returns-clause-bounded
 returns-clause-bounded g c =
     let s = c.walk_root.new.stack in
-    on_ok c.context_in_root.result
+    on_ok c.set_context_in_root.result
     (omega (
       arith,
-      root_rank (record { context = c.context_in_root.new.context; place = s.place; left = s.left; holders = s.holders })
+      root_rank (record { context = c.set_context_in_root.new.context; place = s.place; left = s.left; holders = s.holders })
           c.walk_root.ensures.holders c.walk_root.ensures.few,
     ))
 
 pub returns-clause-notes : goal.returns-clause-notes
-returns-clause-notes g c = grows_on _ _ _ c.listing.ensures.notes c.context_in_root.ensures.notes
+returns-clause-notes g c = grows_on _ _ _ c.listing.ensures.notes c.set_context_in_root.ensures.notes
 
 pub returns-in_default-clause-folders : goal.returns-in_default-clause-folders
 returns-in_default-clause-folders g c = answers c.in_ok-listing.ensures.folders
 
 pub returns-clause-folders : goal.returns-clause-folders
-returns-clause-folders g c = lasts c.in_ok-listing.ensures.folders c.context_in_root.ensures.folders
+returns-clause-folders g c = lasts c.in_ok-listing.ensures.folders c.set_context_in_root.ensures.folders

@@ -11,8 +11,8 @@ returns-then-dropped-clause-passed c = λ q t.
     let x = c.args.settings.now in let s = c.args.stack.now in
     visit_dropped x.excludes x.rules t s c.args.name (joined s.place c.args.name) (sym c.in_ok-dropped.ensures.dropped ∙ c.if-dropped.true)
 
-pub returns-then-len-ge256-clause-passed : goal.returns-then-len-ge256-clause-passed
-returns-then-len-ge256-clause-passed c = λ q t.
+pub returns-then-len-ge-MAX_DEPTH-clause-passed : goal.returns-then-len-ge-MAX_DEPTH-clause-passed
+returns-then-len-ge-MAX_DEPTH-clause-passed c = λ q t.
     let x = c.args.settings.now in let s = c.args.stack.now in
     let deep : 256 ≤ length s.holders = omega (arith, c.len.ensures) in
     visit_deep x.excludes x.rules t s c.args.name (joined s.place c.args.name) deep
@@ -41,8 +41,8 @@ returns-then-dropped-clause-notes c = grows_same _ _ refl
 pub returns-in_err-place-clause-notes : goal.returns-in_err-place-clause-notes
 returns-in_err-place-clause-notes c = grows_same _ _ refl
 
-pub returns-then-len-ge256-clause-notes : goal.returns-then-len-ge256-clause-notes
-returns-then-len-ge256-clause-notes c = grows_by _ _ _ c.in_ok-push.ensures.ok
+pub returns-then-len-ge-MAX_DEPTH-clause-notes : goal.returns-then-len-ge-MAX_DEPTH-clause-notes
+returns-then-len-ge-MAX_DEPTH-clause-notes c = grows_by _ _ _ c.in_ok-push.ensures.ok
 
 pub returns-in_err-push_name-clause-notes : goal.returns-in_err-push_name-clause-notes
 returns-in_err-push_name-clause-notes c = grows_same _ _ refl
@@ -53,8 +53,8 @@ returns-clause-notes c = grows_same _ _ refl
 pub returns-then-dropped-clause-same : goal.returns-then-dropped-clause-same
 returns-then-dropped-clause-same c = λ q. ap (with_context c.args.stack.now) c.in_ok-dropped.ensures.context
 
-pub returns-then-len-ge256-clause-same : goal.returns-then-len-ge256-clause-same
-returns-then-len-ge256-clause-same c = λ q. ap (with_context c.args.stack.now) c.in_ok-dropped.ensures.context
+pub returns-then-len-ge-MAX_DEPTH-clause-same : goal.returns-then-len-ge-MAX_DEPTH-clause-same
+returns-then-len-ge-MAX_DEPTH-clause-same c = λ q. ap (with_context c.args.stack.now) c.in_ok-dropped.ensures.context
 
 pub returns-in_err-push-clause-notes : goal.returns-in_err-push-clause-notes
 returns-in_err-push-clause-notes c = grows_same _ _ c.in_err-push.ensures.err

@@ -5,7 +5,7 @@ use Rattle.tokei_walk.specs.Walks.{names_over, levels_over}
 use Rattle.tokei_walk.proofs.RootSteps.{context_told, context_alone}
 use Rattle.tokei_walk.proofs.Growing.{grows_same, grows_on}
 use Rattle.tokei_walk.proofs.Lasting.{lasts, on_ok_by3}
-use Rattle.tokei_walk.proofs.parents.context_of_root.Goals as goal
+use Rattle.tokei_walk.proofs.parents.set_root_context.Goals as goal
 
 pub returns-clause-told : goal.returns-clause-told
 returns-clause-told g c = λ t e.
