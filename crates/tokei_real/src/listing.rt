@@ -93,7 +93,7 @@ fn add_entry(
 }
 
 /// What the system says of an entry, no link followed.
-fn said_of_entry<R: Files + Clone + Drop>(entry: &DirEntry<R>) -> io::Result<Metadata>
+fn ask_status_of_entry<R: Files + Clone + Drop>(entry: &DirEntry<R>) -> io::Result<Metadata>
     ensures { IfErr result (λ e. error_kind e ≢ ErrorKind.Interrupted) }
 {
     retried!(entry.metadata())
@@ -101,7 +101,7 @@ fn said_of_entry<R: Files + Clone + Drop>(entry: &DirEntry<R>) -> io::Result<Met
 
 /// What stands at an entry, no link followed.
 fn kind_of_entry<R: Files + Clone + Drop>(entry: &DirEntry<R>) -> io::Result<Kind> {
-    Ok(kind_of(&said_of_entry(entry)?))
+    Ok(kind_of(&ask_status_of_entry(entry)?))
 }
 
 /// Nothing of a folder.

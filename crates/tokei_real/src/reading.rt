@@ -84,7 +84,7 @@ pub fn all_within<R: Read + Drop>(
 }
 
 /// What the system says of an open file.
-fn said_of_file<F: OpenFile>(file: &F) -> io::Result<Metadata>
+fn ask_status_of_file<F: OpenFile>(file: &F) -> io::Result<Metadata>
     ensures { IfErr result (λ e. error_kind e ≢ ErrorKind.Interrupted) }
 {
     retried!(file.metadata())
@@ -100,7 +100,7 @@ pub fn all_into<R: Read + OpenFile + Drop>(mut reader: R, mut room: Vec<u8>) -> 
     if filled < room.len() {
         return Ok(Content::front_of(room, filled));
     }
-    let said = said_of_file(&reader)?.len() as usize;
+    let said = ask_status_of_file(&reader)?.len() as usize;
     // One byte more, so that the read that meets the end needs no further room.
     room.reserve(said.saturating_sub(filled).saturating_add(1))?;
     Limited::new(reader).read_to_end(&mut room)?;
@@ -150,7 +150,7 @@ pub(crate) fn listed_content<R: Files>(
 /// folder and more than `MAX_NAMED_BYTES` bytes are refused.
 pub(crate) fn named_content<R: Files + AllocGlobal>(rt: &R, place: &str) -> io::Result<Vec<u8>> {
     let file = File::open(rt, place)?;
-    let said = said_of_file(&file)?.len();
+    let said = ask_status_of_file(&file)?.len();
     if said > MAX_NAMED_BYTES {
         return Err(too_many(rt.alloc(), MAX_NAMED_BYTES)?);
     }

@@ -58,9 +58,9 @@ impl<R: Files + AllocGlobal + Clone + Drop> RealFolders<R> {
         }
     }
 
-    /// The answer of a call on a place, or why there is none, which is kept; out of memory is
-    /// counted.
-    fn answered<T>(&mut self, place: &str, given: io::Result<T>) -> Result<T, Fault>
+    /// Keeps why a call on a place has no answer, where it has none, and counts it where memory
+    /// didn't suffice. Returns the answer.
+    fn keep_cause<T>(&mut self, place: &str, given: io::Result<T>) -> Result<T, Fault>
         ensures counts { self.old.memory_faults < u64.MAX
             → self.new.memory_faults ≡ counted result (self.old.memory_faults) }
         ensures full { StaysFull self.old.memory_faults self.new.memory_faults }
@@ -89,13 +89,14 @@ impl<R: Files + AllocGlobal + Clone + Drop> RealFolders<R> {
         }
     }
 
-    /// The content of a place, or why there is none; the place is kept where memory didn't suffice.
-    fn answered_content<T>(&mut self, place: &str, given: io::Result<T>) -> Result<T, Fault>
+    /// The same of a call that asks for a content. Keeps the place too, where memory didn't
+    /// suffice.
+    fn keep_content_cause<T>(&mut self, place: &str, given: io::Result<T>) -> Result<T, Fault>
         ensures counts { self.old.memory_faults < u64.MAX
             → self.new.memory_faults ≡ counted result (self.old.memory_faults) }
         ensures full { StaysFull self.old.memory_faults self.new.memory_faults }
     {
-        let answer = self.answered(place, given);
+        let answer = self.keep_cause(place, given);
         if matches!(answer, Err(Fault::Memory)) {
             // Memory for so little may be left where there was none for the content.
             self.unheld.clear();
@@ -114,7 +115,7 @@ impl<R: Files + AllocGlobal + Clone + Drop> Folders for RealFolders<R> {
 
     fn kind(&mut self, place: &str) -> Result<Kind, Fault> {
         let found = kind(&self.rt, place);
-        self.answered(place, found)
+        self.keep_cause(place, found)
     }
 
     fn kind_if_any(&mut self, place: &str) -> Result<Option<Kind>, Fault> {
@@ -125,23 +126,23 @@ impl<R: Files + AllocGlobal + Clone + Drop> Folders for RealFolders<R> {
         if matches!(found, Ok(None)) {
             self.keep_nothing(place);
         }
-        self.answered(place, found)
+        self.keep_cause(place, found)
     }
 
     fn list(&mut self, place: &str) -> Result<Listing, Fault> {
         let found = listing(&self.rt, place, &mut self.refusals);
-        self.answered(place, found)
+        self.keep_cause(place, found)
     }
 
     fn read(&mut self, place: &str) -> Result<Vec<u8>, Fault> {
         let bytes = content(&self.rt, place);
-        self.answered_content(place, bytes)
+        self.keep_content_cause(place, bytes)
     }
 
     fn read_listed(&mut self, place: &str) -> Result<Content, Fault> {
         let room = replace(&mut self.room, Vec::new(self.rt.alloc()));
         let content = listed_content(&self.rt, place, room);
-        self.answered_content(place, content)
+        self.keep_content_cause(place, content)
     }
 
     fn take_back(&mut self, content: Content)
@@ -155,17 +156,17 @@ impl<R: Files + AllocGlobal + Clone + Drop> Folders for RealFolders<R> {
 
     fn read_named(&mut self, named: &str) -> Result<Vec<u8>, Fault> {
         let bytes = named_content(&self.rt, named);
-        self.answered_content(named, bytes)
+        self.keep_content_cause(named, bytes)
     }
 
     fn head(&mut self, place: &str) -> Result<Vec<u8>, Fault> {
         let bytes = head(&self.rt, place);
-        self.answered(place, bytes)
+        self.keep_cause(place, bytes)
     }
 
     fn above(&mut self, place: &str) -> Result<Vec<Above>, Fault> {
         let found = folders_above(&self.rt, place);
-        self.answered(place, found)
+        self.keep_cause(place, found)
     }
 
     fn cause(&self, alloc: Global) -> Result<String, AllocError> {

@@ -1,4 +1,4 @@
--- The answer is that of `answered`; no tree is told.
+-- The answer is that of `keep_cause`; no tree is told.
 use Rattle.std.proofs.Common.{refl}
 use Rattle.tokei_real.proofs.Untold.{untold}
 use Rattle.tokei_real.proofs.real_folders.RealFoldersFolders.above.Goals as goal
@@ -7,6 +7,6 @@ pub returns : goal.returns
 returns g c = record {
   told = λ tree e. untold tree e;
   same = refl;
-  counts = c.answered.ensures.counts;
-  full = c.answered.ensures.full;
+  counts = c.keep_cause.ensures.counts;
+  full = c.keep_cause.ensures.full;
 }

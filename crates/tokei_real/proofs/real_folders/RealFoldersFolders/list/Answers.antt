@@ -1,4 +1,4 @@
--- The answer is that of `answered`; no tree is told.
+-- The answer is that of `keep_cause`; no tree is told.
 use Rattle.std.proofs.Common.{refl}
 use Rattle.tokei_real.proofs.Untold.{untold}
 use Rattle.tokei_real.proofs.real_folders.RealFoldersFolders.list.Goals as goal
@@ -9,6 +9,6 @@ returns g c = record {
   named = λ tree e. untold tree e;
   lost = λ tree e. untold tree e;
   same = refl;
-  counts = c.answered.ensures.counts;
-  full = c.answered.ensures.full;
+  counts = c.keep_cause.ensures.counts;
+  full = c.keep_cause.ensures.full;
 }
