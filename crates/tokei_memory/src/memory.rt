@@ -132,8 +132,8 @@ impl MemoryFolders {
         Ok(())
     }
 
-    /// Counts an answer that is out of memory.
-    fn counted<T>(&mut self, answer: Result<T, Fault>) -> Result<T, Fault>
+    /// Counts an answer that is out of memory. Returns the answer.
+    fn count_fault<T>(&mut self, answer: Result<T, Fault>) -> Result<T, Fault>
         ensures same { result ≡ answer }
         ensures tree { tree_of self.new ≡ tree_of self.old }
         ensures counts { faults_of self.old < u64.MAX
@@ -252,26 +252,26 @@ impl Folders for MemoryFolders {
 
     fn kind(&mut self, place: &str) -> Result<Kind, Fault> {
         let answer = self.kind_answer(place);
-        self.counted(answer)
+        self.count_fault(answer)
     }
 
     fn list(&mut self, place: &str) -> Result<Listing, Fault> {
         let answer = self.list_answer(place);
-        self.counted(answer)
+        self.count_fault(answer)
     }
 
     fn read(&mut self, place: &str) -> Result<Vec<u8>, Fault> {
         let answer = self.read_answer(place);
-        self.counted(answer)
+        self.count_fault(answer)
     }
 
     fn head(&mut self, place: &str) -> Result<Vec<u8>, Fault> {
         let answer = self.head_answer(place);
-        self.counted(answer)
+        self.count_fault(answer)
     }
 
     fn above(&mut self, place: &str) -> Result<Vec<Above>, Fault> {
         let answer = self.above_answer(place);
-        self.counted(answer)
+        self.count_fault(answer)
     }
 }
