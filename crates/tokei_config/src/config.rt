@@ -1,4 +1,9 @@
 //! The configuration of a run.
+ghost use Rattle.std.specs.Prelude.{◌≡◌, ◌++◌, ◌∷◌, [], map, IfOk, OnOk, string_bytes};
+ghost use Rattle.tokei_config.specs.Seen.{additions_of};
+ghost use Rattle.tokei_table.specs.Extended.{addition_of};
+ghost use Rattle.tokei_folders.specs.AsTheyWere.{SameTree, NoFault};
+
 use crate::files::{ConfigDirs, config_behind, config_in};
 use crate::flaws::Flaw;
 use crate::language_config::LanguageConfig;
@@ -168,11 +173,6 @@ impl Config {
         }
     }
 }
-
-ghost use Rattle.std.specs.Prelude.{◌≡◌, ◌++◌, ◌∷◌, [], map, IfOk, OnOk, string_bytes};
-ghost use Rattle.tokei_config.specs.Seen.{additions_of};
-ghost use Rattle.tokei_table.specs.Extended.{addition_of};
-ghost use Rattle.tokei_folders.specs.AsTheyWere.{SameTree, NoFault};
 
 /// The extensions that each language gains, in the order of the table.
 fn extensions_gained(
