@@ -1,4 +1,5 @@
--- What contracts say of the program: its job, its words, what it writes and what it says beside that.
+-- What contracts say of the program: its job, its words, what it writes and what it says beside
+-- that.
 pub mod Beside
 pub mod Choices
 pub mod Columns

@@ -10,7 +10,7 @@ ghost use Rattle.tokei_invocation.specs.Messages.{Says};
 ghost use Rattle.tokei_invocation.specs.Statuses.{status_of};
 ghost use Rattle.tokei_invocation.specs.Tables.{place_of_table, table_at};
 ghost use Rattle.tokei_program.specs.Writing.{Writes, WritesAsked, WritesCounts, WritesList};
-ghost use Rattle.tokei_folders.specs.AsTheyWere.{SameTree};
+ghost use Rattle.tokei_folders.specs.AsTheyWere.{SameTree, NoFault};
 ghost use Rattle.tokei_walk.specs.Walks.{texts_of};
 
 use crate::choices::Choices;
@@ -43,7 +43,7 @@ fn write_prepared<F: Folders, W: Sink>(
         → AreFlaws table.now request.now.env.now t prepared.now.flaws.items
         → IfOk result (λ text.
         ShowsNotes (MetIn request.now.env.now t) request.now.cli.now (string_bytes text))) }
-    ensures fault { W.faults out.old < u64.MAX → OnOk result (W.faults out.new ≡ W.faults out.old) }
+    ensures fault { NoFault W.faults out.old out.new result }
     ensures failed { IfErr result (λ e. status_of e ≡ 1) }
 {
     match run(alloc, table, folders, &prepared.job, out) {
@@ -75,7 +75,7 @@ fn write_counts<F: Folders, S: Source, W: Sink>(
         ShowsNotes AnyMet request.now.cli.now (string_bytes text)) }
     ensures noted { Told (F.tree folders.old) (λ t. IfOk result (λ text.
         ShowsNotes (MetIn request.now.env.now t) request.now.cli.now (string_bytes text))) }
-    ensures fault { W.faults out.old < u64.MAX → OnOk result (W.faults out.new ≡ W.faults out.old) }
+    ensures fault { NoFault W.faults out.old out.new result }
     ensures failed { IfErr result (λ e. status_of e ≡ 1) }
 {
     let table = table_of(alloc, request.cli, request.env, folders)?;
@@ -98,7 +98,7 @@ fn write_list<F: Folders, W: Sink>(
     ensures told { Told (F.tree folders.old) (λ t. OnOk result (WritesList
         cli.now env.now t (W.contents out.old) (W.contents out.new))) }
     ensures beside { IfOk result (λ text. string_bytes text ≡ []) }
-    ensures fault { W.faults out.old < u64.MAX → OnOk result (W.faults out.new ≡ W.faults out.old) }
+    ensures fault { NoFault W.faults out.old out.new result }
     ensures failed { IfErr result (λ e. status_of e ≡ 1) }
 {
     let table = table_of(alloc, cli, env, folders)?;
@@ -125,7 +125,7 @@ fn carry_out<F: Folders, S: Source, W: Sink>(
     ensures beside { IfOk result (λ text. ShowsAsked AnyMet cli.now (string_bytes text)) }
     ensures noted { Told (F.tree folders.old) (λ t. IfOk result (λ text.
         ShowsAsked (MetIn env.now t) cli.now (string_bytes text))) }
-    ensures fault { W.faults out.old < u64.MAX → OnOk result (W.faults out.new ≡ W.faults out.old) }
+    ensures fault { NoFault W.faults out.old out.new result }
     ensures unwritten { IfErr result (λ e. status_of e ≡ 2 → out.new ≡ out.old) }
     ensures unread { IfErr result (λ e. status_of e ≡ 2
         → (folders.new ≡ folders.old) × (input.new ≡ input.old)) }
@@ -156,7 +156,7 @@ fn answer_words<F: Folders, S: Source, W: Sink>(
     ensures noted { Told (F.tree folders.old) (λ t. IfOk result (λ text.
         IsBeside (MetIn env.now t) (map (λ w. w.now) words.now)
         (W.contents out.old) (W.contents out.new) (string_bytes text))) }
-    ensures fault { W.faults out.old < u64.MAX → OnOk result (W.faults out.new ≡ W.faults out.old) }
+    ensures fault { NoFault W.faults out.old out.new result }
     ensures unwritten { IfErr result (λ e. status_of e ≡ 2 → out.new ≡ out.old) }
     ensures unread { IfErr result (λ e. status_of e ≡ 2
         → (folders.new ≡ folders.old) × (input.new ≡ input.old)) }
