@@ -1,5 +1,5 @@
--- What contracts say of a run: what it counts, its output, the sums that have to fit, and why it
--- ended.
+-- What contracts say of a run: what it counts, its output, the sums that have to fit, and what it
+-- leaves in its writer where one doesn't, or memory ran out.
 pub mod Counted
 pub mod Earlier
 pub mod JobStreams

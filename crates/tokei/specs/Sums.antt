@@ -11,7 +11,7 @@ use Rattle.tokei.specs.declared.job.Job.{Job}
 use Rattle.tokei.specs.declared.job.Wanted.{Wanted}
 use Rattle.tokei.specs.declared.job.Wanted.TheVariants.{Stream, Document, Report}
 use Rattle.tokei.specs.Earlier.{earlier_of}
-use Rattle.tokei.specs.Written.{sort_of, style_of}
+use Rattle.tokei.specs.Written.{style_of}
 use Rattle.tokei_print.specs.ReportSums.{PrintedReportFits}
 use Rattle.tokei.specs.Counted.{counting_of, files_of}
 use Rattle.tokei.specs.JobStreams.{StreamFits}
@@ -30,7 +30,7 @@ pub record DocumentFits (format : Format) (rows : List Row) (job : Job) (tree : 
 -- those of a run that writes a report
 pub record RunReportFits (rows : List Row) (job : Job) (tree : Tree) : Type 0 where
   pub tally : TallyFits rows job tree
-  pub table : PrintedReportFits (sort_of job) (style_of job) (languages_after rows job tree)
+  pub shown : PrintedReportFits (style_of job) (languages_after rows job tree)
 
 -- those of a run that writes a document in the format, or else a report
 abbrev pub CountedFits : Option Format → List Row → Job → Tree → Type 0

@@ -8,13 +8,12 @@ use Rattle.tokei_print.specs.PrintedReports.{IsPrintedReport}
 use Rattle.tokei_print.specs.ReportSums.{PrintedReportFits}
 use Rattle.tokei_table.specs.Row.{Row}
 use Rattle.tokei.specs.declared.job.Job.{Job}
-use Rattle.tokei.specs.Written.{sort_of, style_of, AppendsReport}
+use Rattle.tokei.specs.Written.{style_of, AppendsReport}
 
 -- a text is that of languages
 abbrev pub IsText : Option Format → List Row → Job → List (ℕ × LanguageValue) → List ℕ → Type 0
 IsText (Some format) rows job languages text = text ≡ document_text format rows languages
-IsText None rows job languages text =
-    IsPrintedReport (sort_of job) rows (style_of job) languages text
+IsText None rows job languages text = IsPrintedReport rows (style_of job) languages text
 
 -- behind what stood there a writer has the text of languages, and nothing else
 abbrev pub WritesText : Option Format → List Row → Job → List (ℕ × LanguageValue)
@@ -26,4 +25,4 @@ WritesText None rows job languages old new = AppendsReport rows job languages ol
 -- the sums that it shows are at most the greatest `usize`
 abbrev pub TextFits : Option Format → Job → List (ℕ × LanguageValue) → Type 0
 TextFits (Some format) job languages = DocumentSumsFit format languages
-TextFits None job languages = PrintedReportFits (sort_of job) (style_of job) languages
+TextFits None job languages = PrintedReportFits (style_of job) languages

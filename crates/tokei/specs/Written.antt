@@ -29,5 +29,5 @@ style_of job = record {
 pub record AppendsReport (rows : List Row) (job : Job) (languages : List (ℕ × LanguageValue))
     (old new : Option (List ℕ)) : Type 0 where
   pub text : List ℕ
-  pub report : IsPrintedReport (sort_of job) rows (style_of job) languages text
+  pub report : IsPrintedReport rows (style_of job) languages text
   pub appended : Appends old new text

@@ -41,9 +41,13 @@ pub record IsReport (rows : List Row) (style : ReportStyle)
   pub shown : text ≡ report_text layout rows style listed languages
 
 -- a text is the report of languages: in the table's order, or in the order of the sort
-abbrev pub IsPrintedReport : Option Sort → List Row → ReportStyle → List (ℕ × LanguageValue)
-    → List ℕ → Type 0
-IsPrintedReport None rows style languages text = IsReport rows style languages languages text
-IsPrintedReport (Some sort) rows style languages text =
+abbrev IsReportBy : Option Sort → List Row → ReportStyle → List (ℕ × LanguageValue) → List ℕ
+    → Type 0
+IsReportBy None rows style languages text = IsReport rows style languages languages text
+IsReportBy (Some sort) rows style languages text =
     IsReport rows style (listed_by sort style.reverse languages) (sorted_languages sort languages)
     text
+
+-- a text is the report of languages, in the order of its style's sort, if that has one
+abbrev pub IsPrintedReport : List Row → ReportStyle → List (ℕ × LanguageValue) → List ℕ → Type 0
+IsPrintedReport rows style languages text = IsReportBy style.sort rows style languages text

@@ -14,8 +14,12 @@ pub record ReportFits (style : ReportStyle)
   pub results : ResultsFit style.files style.compact (is_some style.sort) listed
   pub total : TotalFits languages
 
--- those of a report of these languages, in the order of its sort, if it has one
-abbrev pub PrintedReportFits : Option Sort → ReportStyle → List (ℕ × LanguageValue) → Type 0
-PrintedReportFits None style languages = ReportFits style languages languages
-PrintedReportFits (Some sort) style languages =
+-- those of a report of these languages: in the table's order, or in the order of the sort
+abbrev ReportFitsBy : Option Sort → ReportStyle → List (ℕ × LanguageValue) → Type 0
+ReportFitsBy None style languages = ReportFits style languages languages
+ReportFitsBy (Some sort) style languages =
     ReportFits style (listed_by sort style.reverse languages) (sorted_languages sort languages)
+
+-- those of a report of these languages, in the order of its style's sort, if that has one
+abbrev pub PrintedReportFits : ReportStyle → List (ℕ × LanguageValue) → Type 0
+PrintedReportFits style languages = ReportFitsBy style.sort style languages

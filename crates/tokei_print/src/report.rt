@@ -150,10 +150,10 @@ pub fn text_of_report(
     style: ReportStyle,
     languages: Languages,
 ) -> Result<Vec<u8>, CountError>
-    ensures text { IfOk result (λ v. IsPrintedReport style.sort table.now style
+    ensures text { IfOk result (λ v. IsPrintedReport table.now style
         (languages_of languages) v.items) }
     ensures overflow { result ≡ Err Overflow
-        → ¬ PrintedReportFits style.sort style (languages_of languages) }
+        → ¬ PrintedReportFits style (languages_of languages) }
 {
     match style.sort {
         None => report(alloc, table, style, &languages),
