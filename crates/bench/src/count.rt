@@ -12,7 +12,7 @@ use crate::count_ways::{Answer, Input, Way};
 use anyhow::bail;
 use std::alloc::Global;
 use std::time::Clock;
-use test_texts::bench_json;
+use test_answers::bench_json;
 use tokei_count::Counter;
 use tokei_table::{LanguageTable, LanguageType};
 use tokei_table_json::FromJson;

@@ -7,7 +7,7 @@
 use crate::file_times::{Measured, time};
 use anyhow::bail;
 use std::alloc::Global;
-use test_texts::bench_json;
+use test_answers::bench_json;
 use tokei_table::LanguageTable;
 use tokei_table_json::FromJson;
 

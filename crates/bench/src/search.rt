@@ -7,7 +7,7 @@ use memchr::memchr;
 use std::alloc::Global;
 use std::io;
 use std::time::{Duration, Instant};
-use test_texts::bench_json;
+use test_answers::bench_json;
 use tokei_table::{LanguageTable, LanguageType};
 use tokei_table_json::{FromJson, TableError};
 use tokei_table_search::OpenerIndex;

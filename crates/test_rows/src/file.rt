@@ -6,7 +6,7 @@ use anyhow::bail;
 use std::alloc::Global;
 use std::collections::BTreeSet;
 use std::fs;
-use test_subjects::{Answers, Page, Row, Tables, made_tables, own_table};
+use test_answers::{Answers, Page, Row, Tables, made_tables, own_table};
 use toml::{Table, Value};
 
 /// How a file's rows are asked.

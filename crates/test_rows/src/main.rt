@@ -1,7 +1,7 @@
 //! Asks rows of data: a row is read from TOML, public calls are asked, and what they answer is
 //! compared with what the row wants. What is asked is told by a `Subject`. How rows are read and
-//! compared, and what asks the calls of texts, is in `test_subjects`. What asks those of trees is
-//! in `test_trees`; what asks those of runs and of the program is here.
+//! compared is in `test_answers`. What asks the calls of texts is in `test_texts`, and what asks
+//! those of trees in `test_trees`; what asks those of runs and of the program is here.
 #![tactic(auto)]
 
 mod file;

@@ -1,10 +1,10 @@
 //! What rows are about.
 use crate::program_rows::{command_lines, configuration_files, notes, program, program_faults};
-use test_subjects::text_rows::{
+use test_answers::{Answers, Asked, Members, Row};
+use test_texts::{
     blocks, bytes, captures, contexts, counting, look_ups, next_places, openers, reports, sums,
     syntaxes, tables, texts,
 };
-use test_subjects::{Answers, Asked, Members, Row};
 use test_trees::{
     documents, files, ignore_files, languages, patterns, printed, read_back, statistics, walks,
     words,

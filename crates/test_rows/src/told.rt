@@ -1,6 +1,6 @@
 //! What is told of the rows of a file.
 use std::alloc::Global;
-use test_subjects::Page;
+use test_answers::Page;
 
 /// What is told of the rows of a file.
 #[derive(Drop)]

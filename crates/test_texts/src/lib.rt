@@ -1,30 +1,26 @@
-//! Texts for tests: the bench table, and texts that a test makes in a loop: each text of a few
-//! pieces, worked texts cut after each byte, texts many levels deep, and searches between each pair
-//! of places, which are compared with a plain loop. Of each text all calls that count texts have to
-//! return the same. They are here, above those crates, since the tests of a crate are proved
-//! together with the whole of it.
+//! Rows of texts in memory: what asks the calls that count a text, read tables of languages, search
+//! and add up statistics. How rows are read and compared is in `test_answers`. Nothing here stands
+//! on a walk, on what trees count or on what is printed of them, so this crate is proved while the
+//! crates of those are.
 //!
-//! Callers ask `bench_json` for the text of the bench table, and `every_call` for what all calls
-//! tell of one text.
+//! A module that has `MEMBERS` is a subject: a program that asks rows calls its `came`. Tests that
+//! are loops ask `every_call` for what all calls tell of one text.
 #![tactic(auto)]
 
-mod bench_table;
-#[cfg(test)]
-mod block_search;
-#[cfg(test)]
-mod byte_searches;
-#[cfg(test)]
-mod cut_texts;
-#[cfg(test)]
-mod deep_tables;
+mod asking;
+pub mod blocks;
+pub mod bytes;
+pub mod captures;
+pub mod contexts;
+pub mod counting;
 pub mod every_call;
-#[cfg(test)]
-mod made_texts;
-#[cfg(test)]
-mod rows;
-#[cfg(test)]
-mod short_texts;
-#[cfg(test)]
-mod verdict;
-
-pub use bench_table::bench_json;
+mod gains;
+pub mod look_ups;
+mod made;
+pub mod next_places;
+pub mod openers;
+pub mod reports;
+pub mod sums;
+pub mod syntaxes;
+pub mod tables;
+pub mod texts;

@@ -1,7 +1,7 @@
 //! Configurations of counting, as rows tell them.
 use crate::given_languages::named;
 use std::collections::BTreeMap;
-use test_subjects::{Answers, Row, RowError};
+use test_answers::{Answers, Row, RowError};
 use tokei_config::{Config, LanguageConfig};
 use tokei_table::{LanguageTable, LanguageType};
 

@@ -2,7 +2,7 @@
 use crate::given_languages::given;
 use crate::shown_languages::say_languages;
 use std::alloc::{AllocError, Global};
-use test_subjects::{Answers, Members, Row, RowError, Said};
+use test_answers::{Answers, Members, Row, RowError, Said};
 use tokei_earlier::{Format, InputError, add_input, from_value};
 use tokei_io::Counted;
 use tokei_json::to_value;

@@ -3,7 +3,7 @@ use crate::configurations::configuration;
 use crate::folders::folders_of;
 use crate::given_languages::NO_LANGUAGE;
 use crate::shown_languages::put_stats;
-use test_subjects::{Answers, Members, Page, Row, RowError, Said};
+use test_answers::{Answers, Members, Page, Row, RowError, Said};
 use tokei_count::Counter;
 use tokei_files::{ParseFault, from_path, from_shebang, parse_file};
 use tokei_memory::MemoryFolders;

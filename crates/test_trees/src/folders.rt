@@ -1,5 +1,5 @@
 //! Folders in memory, as a row has them.
-use test_subjects::{Answers, Row};
+use test_answers::{Answers, Row};
 use tokei_memory::{Call, MemoryFolders};
 
 /// Adds a file, or a folder where the place ends in a slash.

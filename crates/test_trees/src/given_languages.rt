@@ -1,6 +1,6 @@
 //! Languages as rows tell them: each by its key or name, with its counts, its reports, and those of
 //! the languages inside it.
-use test_subjects::{Answers, Row, RowError, put_blobs};
+use test_answers::{Answers, Row, RowError, put_blobs};
 use tokei_languages::{Language, Languages};
 use tokei_stats::Report;
 use tokei_table::{LanguageTable, LanguageType};

@@ -1,5 +1,5 @@
 //! Rows of ignore files: what the lines of one decide about a file.
-use test_subjects::{Answers, Members, Row, RowError, Said};
+use test_answers::{Answers, Members, Row, RowError, Said};
 use tokei_folders::Text;
 use tokei_folders::names::names;
 use tokei_ignore::{IgnoreFile, Verdict};

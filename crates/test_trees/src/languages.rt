@@ -2,7 +2,7 @@
 use crate::given_languages::{given, named};
 use crate::shown_languages::{put_language, say_languages};
 use std::mem;
-use test_subjects::{Answers, Members, Page, Row, RowError};
+use test_answers::{Answers, Members, Page, Row, RowError};
 use tokei_languages::{Language, Languages};
 use tokei_options::Sort;
 use tokei_stats::CountError;

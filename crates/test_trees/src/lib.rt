@@ -1,7 +1,6 @@
 //! Rows of trees in memory: what asks the calls of ignore files, of walks, of what trees count, of
 //! languages, of documents and of what is printed. How rows are read and compared is in
-//! `test_subjects`, which stands on none of these crates, so it is proved while they are. Nothing
-//! here stands on a run or on the program.
+//! `test_answers`. Nothing here stands on what asks the calls of texts, on a run or on the program.
 //!
 //! A module that has `MEMBERS` is a subject: a program that asks rows calls its `came`. Subjects of
 //! runs and of the program ask `folders_of`, `add_texts` and `roots` for the tree of a row, and

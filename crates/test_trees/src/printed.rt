@@ -1,6 +1,6 @@
 //! Rows of what is printed: the rows of languages, of files and of a stream, 81 columns wide.
 use crate::given_languages::{given, named, report};
-use test_subjects::{Answers, Members, Row, RowError};
+use test_answers::{Answers, Members, Row, RowError};
 use tokei_io::{Counted, OutputError};
 use tokei_languages::Languages;
 use tokei_options::NumberFormatStyle;

@@ -2,7 +2,7 @@
 use crate::folders::folders_of;
 use crate::given_languages::given;
 use crate::statistics::{Tree, run};
-use test_subjects::{Answers, Members, Row, RowError, Said};
+use test_answers::{Answers, Members, Row, RowError, Said};
 use tokei_config::Config;
 use tokei_earlier::{Format, InputError};
 use tokei_languages::Languages;

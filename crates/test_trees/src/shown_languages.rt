@@ -1,7 +1,7 @@
 //! Languages as one text: each with its counts and its reports, and then those of the languages
 //! inside it. Three numbers are blank, code and comment lines, and `(!)` marks a language of which
 //! a file couldn't be read.
-use test_subjects::{Answers, Page};
+use test_answers::{Answers, Page};
 use tokei_languages::{Language, Languages};
 use tokei_print::name_of;
 use tokei_stats::{CodeStats, Report};

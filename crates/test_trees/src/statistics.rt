@@ -3,7 +3,7 @@ use crate::configurations::configuration;
 use crate::folders::{folders_of, roots};
 use crate::given_languages::given;
 use crate::shown_languages::say_languages;
-use test_subjects::{Answers, Members, Row, Said};
+use test_answers::{Answers, Members, Row, Said};
 use tokei_config::Config;
 use tokei_languages::Languages;
 use tokei_memory::MemoryFolders;

@@ -1,7 +1,7 @@
 //! Rows of walks: the files that are kept of a tree, and what is noted.
 use crate::folders::{folders_of, roots};
 use crate::odd_folders::Watched;
-use test_subjects::{Answers, Members, Page, Row, RowError, Said};
+use test_answers::{Answers, Members, Page, Row, RowError, Said};
 use tokei_folders::Folders;
 use tokei_walk::{KeptFile, Note, Rules, Walk, kept_files};
 

@@ -1,6 +1,6 @@
 //! Rows of words: of formats, of styles of numbers, of streams and of columns.
 use std::fmt::{Debug, Display};
-use test_subjects::{Answers, Members, Page, Row, RowError, Said};
+use test_answers::{Answers, Members, Page, Row, RowError, Said};
 use tokei_earlier::Format;
 use tokei_options::{NumberFormatStyle, Sort, Streaming};
 

@@ -1,6 +1,6 @@
 //! Rows of command lines, and what they answer.
 use crate::program_rows::taken::taken;
-use test_subjects::{Answers, Members, Row, RowError, Said};
+use test_answers::{Answers, Members, Row, RowError, Said};
 use tokei_cli::{Cli, CliError, HELP, VERSION_LINE, command, crate_version};
 
 /// The members of these rows. Words that are taken have `members`, `readers` or `options`; those

@@ -1,6 +1,6 @@
 //! Rows of configuration files: what they make of a run, and which languages gain extensions.
 use std::alloc::AllocError;
-use test_subjects::{Answers, Asked, Members, Row, RowError, Said};
+use test_answers::{Answers, Asked, Members, Row, RowError, Said};
 use test_trees::configurations::gains;
 use test_trees::folders_of;
 use tokei::{Config, ConfigDirs, LanguageConfig, LanguageTable, LanguageType};

@@ -1,6 +1,6 @@
 //! Rows of a walk's notes: their lines, by how often `--verbose` was given.
 use log::sink::Lines;
-use test_subjects::{Answers, Members, Page, Row, RowError};
+use test_answers::{Answers, Members, Page, Row, RowError};
 use tokei::{Note, NoteKind, Text};
 use tokei_invocation::log_notes;
 

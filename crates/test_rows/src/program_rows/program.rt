@@ -1,8 +1,7 @@
 //! Rows of the program over folders in memory: how it ends, and what it writes.
 use crate::program_rows::reports::{say_first_words, say_lines, say_narrowed};
 use std::str::from_utf8;
-use test_subjects::{Answers, Members, Row, RowError, Said};
-use test_texts::bench_json;
+use test_answers::{Answers, Members, Row, RowError, Said, bench_json};
 use test_trees::{add_texts, folders_of};
 use tokei::{Counted, Sink, Source};
 use tokei_invocation::Env;

@@ -1,7 +1,7 @@
 //! Rows of the program of which one write or one read fails.
 use crate::program_rows::program::status;
 use std::str::from_utf8;
-use test_subjects::{Answers, Members, Row, RowError, Said};
+use test_answers::{Answers, Members, Row, RowError, Said};
 use tokei::{Counted, FailOnce};
 
 /// The members of these rows: those of a run of the program, and what `fails`.

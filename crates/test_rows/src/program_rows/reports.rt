@@ -1,5 +1,5 @@
 //! Parts of a printed report that rows speak of.
-use test_subjects::{Answers, Page, Row, Said};
+use test_answers::{Answers, Page, Row, Said};
 
 /// Says the first words of a report's rows, which are the lines that begin with a blank.
 pub fn say_first_words(text: &str, answers: &mut Answers) {

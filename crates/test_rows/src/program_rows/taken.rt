@@ -1,5 +1,5 @@
 //! What a command line that is taken holds.
-use test_subjects::{Answers, Row, Said};
+use test_answers::{Answers, Row, Said};
 use tokei_cli::Cli;
 
 /// Says what the readers of a command line answer.
