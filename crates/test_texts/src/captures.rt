@@ -8,9 +8,9 @@ use tokei_embedding::{
 };
 
 /// The members of these rows. `call` is the call's name, `none` for no capture; `from` and `to` are
-/// the ends of the part, `starts` and `ends` those of the range in which a capture has to start.
-/// `capture` is where it starts and ends and how long its text is, and `value` the same of the
-/// value in an opening tag.
+/// the ends of the part. With `starts` and `ends` a capture has to begin at the one and to end by
+/// the other. `capture` is where it starts and ends and how long its text is, and `value` the same
+/// of the value in an opening tag.
 pub const MEMBERS: Members = Members {
     given: &["call", "text", "from", "to", "starts", "ends"],
     wanted: &["capture", "value"],
