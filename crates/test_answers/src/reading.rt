@@ -224,6 +224,16 @@ impl Answers<'_> {
         strings
     }
 
+    /// Tells a member of a row, or of a table in it, whose shared value isn't there: read as one
+    /// that is left out, it might pass.
+    pub fn refuse_unshared(&mut self, row: &Row) {
+        if let Some(member) = row.unshared() {
+            let told = ["  the member ", member, ": there is no such shared value\n"];
+            self.told.put_all(&told);
+            self.fail(RowError::Told);
+        }
+    }
+
     /// A value that is a table, read as a row.
     pub fn inner<'r>(
         &mut self,
@@ -232,8 +242,9 @@ impl Answers<'_> {
         value: &'r Value,
     ) -> Option<Row<'r>> {
         let inner = row.inner(value);
-        if inner.is_none() {
-            self.fail(RowError::Kind(member, "a table"));
+        match &inner {
+            Some(table) => self.refuse_unshared(table),
+            None => self.fail(RowError::Kind(member, "a table")),
         }
         inner
     }

@@ -68,6 +68,16 @@ impl<'a> Row<'a> {
         }
     }
 
+    /// The first name of a member whose value is written as a shared one that isn't there.
+    pub fn unshared(&self) -> Option<&'a str> {
+        for (member, value) in self.members {
+            if self.resolved(value).is_none() {
+                return Some(member.as_str());
+            }
+        }
+        None
+    }
+
     /// The first name of a member that is in none of these lists.
     pub fn unknown(&self, lists: &[&[&str]]) -> Option<&'a str> {
         for (member, _) in self.members {

@@ -25,9 +25,10 @@ struct List<'a> {
     shared: Option<&'a Table>,
 }
 
-/// Asks what a row asks of the public calls, and tells where it doesn't hold. Where its own table
-/// can't be read, nothing is asked.
+/// Asks what a row asks of the public calls, and tells where it doesn't hold. Where a shared value
+/// isn't there, or its own table can't be read, nothing is asked.
 fn tell(how: &How, row: &Row, answers: &mut Answers) {
+    answers.refuse_unshared(row);
     let own = own_table(row, answers);
     let asked = how.tables.asked(own.as_ref());
     if !answers.is_wrong() {
