@@ -122,6 +122,8 @@ struct Outcome<'a> {
     status: u8,
     out: &'a [u8],
     err: &'a [u8],
+    /// Whether `err` had a fault, as only where its own allocation fails.
+    is_mute: bool,
 }
 
 /// The text that bytes are.
@@ -161,22 +163,21 @@ fn say(row: &Row, ended: &Outcome, answers: &mut Answers) {
     }
 }
 
-/// Whether bytes are the line of a run that memory ended, or a beginning without it.
+/// Whether bytes are the line of a run that memory ended.
 fn is_line_without_memory(err: &[u8]) -> bool {
-    err.is_empty()
-        || err == "Error: out of memory\n".as_bytes()
+    err == "Error: out of memory\n".as_bytes()
         || err == "Error: the output can't be written: out of memory\n".as_bytes()
 }
 
 /// Whether a run that should have succeeded was ended by memory, and its output is the beginning
 /// of what is wanted. The writers are in memory too, and have a fault where their own allocation
-/// fails.
+/// fails: then nothing may be said.
 fn is_without_memory(row: &Row, ended: &Outcome, answers: &mut Answers) -> bool {
     let out = answers.text_if(row, "out").unwrap_or("").as_bytes();
     ended.status == 1
         && answers.number(row, "status") == 0
         && out.starts_with(ended.out)
-        && is_line_without_memory(ended.err)
+        && (ended.is_mute || is_line_without_memory(ended.err))
 }
 
 /// What a run of the program answers.
@@ -188,6 +189,7 @@ pub fn came(row: &Row, answers: &mut Answers) {
         status: status(row, u64::MAX, &mut input, &mut out, &mut err, answers),
         out: out.inner.as_slice(),
         err: err.inner.as_slice(),
+        is_mute: err.faults != 0,
     };
     if is_without_memory(row, &ended, answers) {
         answers.fail(RowError::Memory);
