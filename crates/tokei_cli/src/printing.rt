@@ -1,10 +1,10 @@
 //! What the program prints beside reports: the list of languages, and that earlier results were
 //! refused.
-ghost use Rattle.std.specs.Prelude.{◌≡◌, ◌≢◌, ◌<◌, Err, IfOk, OnOk, string_bytes};
+ghost use Rattle.std.specs.Prelude.{◌≡◌, ◌≢◌, Err, IfOk, OnOk, string_bytes};
 ghost use Rattle.std.specs.Io.KnownBytes.{Appends};
 ghost use Rattle.tokei_table_row.specs.RowOf.{tokens_of};
 ghost use Rattle.tokei_cli.specs.Printing.{list_line, extensions_text, languages_text, failure_text};
-ghost use Rattle.tokei_io.specs.Printing.{faults_after_printing};
+ghost use Rattle.tokei_io.specs.Printing.{CountsWriteFault};
 
 use std::alloc::{AllocError, Global};
 use tokei_io::{OutputError, Sink, put};
@@ -51,8 +51,7 @@ pub fn print_supported_languages<S: Sink>(
 ) -> Result<(), OutputError>
     ensures bytes { OnOk result
         (Appends (S.contents writer.old) (S.contents writer.new) (languages_text table.now)) }
-    ensures faults { S.faults writer.old < u64.MAX
-        → S.faults writer.new ≡ faults_after_printing result (S.faults writer.old) }
+    ensures faults { CountsWriteFault S.faults writer.old writer.new result }
     ensures memory { result ≡ Err OutputError.Memory → writer.new ≡ writer.old }
     ensures overflow { result ≢ Err OutputError.Overflow }
 {
@@ -69,8 +68,7 @@ pub fn print_input_parse_failure<S: Sink>(
 ) -> Result<(), OutputError>
     ensures bytes { OnOk result
         (Appends (S.contents writer.old) (S.contents writer.new) (failure_text name.now)) }
-    ensures faults { S.faults writer.old < u64.MAX
-        → S.faults writer.new ≡ faults_after_printing result (S.faults writer.old) }
+    ensures faults { CountsWriteFault S.faults writer.old writer.new result }
     ensures memory { result ≡ Err OutputError.Memory → writer.new ≡ writer.old }
     ensures overflow { result ≢ Err OutputError.Overflow }
 {

@@ -1,9 +1,9 @@
 //! A text that is put behind what a writer holds.
-ghost use Rattle.std.specs.Prelude.{◌≡◌, ◌≢◌, ◌<◌, Err, IfErr, OnOk};
+ghost use Rattle.std.specs.Prelude.{◌≡◌, ◌≢◌, Err, IfErr, OnOk};
 ghost use Rattle.std.specs.Io.KnownBytes.{Appends};
 ghost use Rattle.tokei_io.specs.declared.error.OutputError.TheVariants.{Memory as NoMemory, Overflow as SumOverflow, Write as WriteFault};
 ghost use Rattle.tokei_io.specs.Faults.{TellsFault, PassesNoFault};
-ghost use Rattle.tokei_io.specs.Printing.{faults_after_printing};
+ghost use Rattle.tokei_io.specs.Printing.{CountsWriteFault};
 
 use crate::error::OutputError;
 use crate::sink::Sink;
@@ -12,8 +12,7 @@ use crate::sink::Sink;
 /// nothing is said of what was written.
 pub fn put<W: Sink>(writer: &mut W, text: &[u8]) -> Result<(), OutputError>
     ensures bytes { OnOk result (Appends (W.contents writer.old) (W.contents writer.new) text.now) }
-    ensures faults { W.faults writer.old < u64.MAX
-        → W.faults writer.new ≡ faults_after_printing result (W.faults writer.old) }
+    ensures faults { CountsWriteFault W.faults writer.old writer.new result }
     ensures fault { TellsFault W.faults writer.old writer.new result WriteFault }
     ensures no_fault { PassesNoFault W.faults writer.old writer.new result WriteFault }
     ensures untouched { IfErr result (λ e. e ≢ WriteFault

@@ -20,14 +20,14 @@ pub struct Printer<W> {
 }
 
 impl<W: Sink + Drop> Printer<W> {
-    ghost use Rattle.std.specs.Prelude.{◌≡◌, ◌≢◌, ◌<◌, ◌≤◌, ℕ, List, Ok, Err, None, Some, IfOk, IfErr, IsErrOf, IsOk, OnOk, option_map, string_bytes};
+    ghost use Rattle.std.specs.Prelude.{◌≡◌, ◌≢◌, ◌≤◌, ℕ, List, Ok, Err, None, Some, IfOk, IfErr, IsErrOf, IsOk, OnOk, option_map, string_bytes};
     ghost use Rattle.std.specs.Io.KnownBytes.{Appends};
     ghost use Rattle.tokei_languages.specs.Seen.{language_of, languages_of};
     ghost use Rattle.tokei_print.specs.LinesFit.{LinesFit};
     ghost use Rattle.tokei_print.specs.Heading.{header, warning};
     ghost use Rattle.tokei_print.specs.LanguageRow.{language_row};
     ghost use Rattle.tokei_print.specs.NameSection.{name_section, prefix_of};
-    ghost use Rattle.tokei_io.specs.Printing.{faults_after_printing};
+    ghost use Rattle.tokei_io.specs.Printing.{CountsWriteFault};
     ghost use Rattle.tokei_print.specs.ListedLanguages.{languages_in};
     ghost use Rattle.tokei_print.specs.Names.{name_in};
     ghost use Rattle.tokei_print.specs.Results.{results_text};
@@ -63,8 +63,7 @@ impl<W: Sink + Drop> Printer<W> {
     fn put(&mut self, text: &str) -> Result<(), OutputError>
         ensures bytes { OnOk result
             (Appends (W.contents self.old.writer) (W.contents self.new.writer) text.now) }
-        ensures faults { W.faults self.old.writer < u64.MAX
-            → W.faults self.new.writer ≡ faults_after_printing result (W.faults self.old.writer) }
+        ensures faults { CountsWriteFault W.faults self.old.writer self.new.writer result }
         ensures overflow { result ≢ Err OutputError.Overflow }
         ensures layout { self.new.layout ≡ self.old.layout }
     {
@@ -75,8 +74,7 @@ impl<W: Sink + Drop> Printer<W> {
     fn put_made(&mut self, text: Result<String, CountError>) -> Result<(), OutputError>
         ensures bytes { (bytes : List ℕ) → IfOk text (λ s. string_bytes s ≡ bytes) → OnOk result
             (Appends (W.contents self.old.writer) (W.contents self.new.writer) bytes) }
-        ensures faults { W.faults self.old.writer < u64.MAX
-            → W.faults self.new.writer ≡ faults_after_printing result (W.faults self.old.writer) }
+        ensures faults { CountsWriteFault W.faults self.old.writer self.new.writer result }
         ensures made { OnOk result (IsOk text) }
         ensures overflow { IsErrOf result OutputError.Overflow → IsErrOf text CountError.Overflow }
         ensures layout { self.new.layout ≡ self.old.layout }
@@ -88,8 +86,7 @@ impl<W: Sink + Drop> Printer<W> {
     pub fn print_header(&mut self) -> Result<(), OutputError>
         ensures bytes { OnOk result (Appends (W.contents self.old.writer)
             (W.contents self.new.writer) (header self.old.layout.columns)) }
-        ensures faults { W.faults self.old.writer < u64.MAX
-            → W.faults self.new.writer ≡ faults_after_printing result (W.faults self.old.writer) }
+        ensures faults { CountsWriteFault W.faults self.old.writer self.new.writer result }
         ensures overflow { result ≢ Err OutputError.Overflow }
         ensures layout { self.new.layout ≡ self.old.layout }
     {
@@ -101,8 +98,7 @@ impl<W: Sink + Drop> Printer<W> {
     pub fn print_inaccuracy_warning(&mut self) -> Result<(), OutputError>
         ensures bytes { OnOk result
             (Appends (W.contents self.old.writer) (W.contents self.new.writer) warning) }
-        ensures faults { W.faults self.old.writer < u64.MAX
-            → W.faults self.new.writer ≡ faults_after_printing result (W.faults self.old.writer) }
+        ensures faults { CountsWriteFault W.faults self.old.writer self.new.writer result }
         ensures overflow { result ≢ Err OutputError.Overflow }
         ensures layout { self.new.layout ≡ self.old.layout }
     {
@@ -120,8 +116,7 @@ impl<W: Sink + Drop> Printer<W> {
             (W.contents self.new.writer)
             (name_section self.old.layout.columns inaccurate name.now
             (prefix_of (option_map (λ p. p.now) prefix.entry)))) }
-        ensures faults { W.faults self.old.writer < u64.MAX
-            → W.faults self.new.writer ≡ faults_after_printing result (W.faults self.old.writer) }
+        ensures faults { CountsWriteFault W.faults self.old.writer self.new.writer result }
         ensures overflow { result ≢ Err OutputError.Overflow }
         ensures layout { self.new.layout ≡ self.old.layout }
     {
@@ -137,8 +132,7 @@ impl<W: Sink + Drop> Printer<W> {
         ensures bytes { OnOk result (Appends (W.contents self.old.writer)
             (W.contents self.new.writer)
             (language_row self.old.layout (language_of language.now) name.now)) }
-        ensures faults { W.faults self.old.writer < u64.MAX
-            → W.faults self.new.writer ≡ faults_after_printing result (W.faults self.old.writer) }
+        ensures faults { CountsWriteFault W.faults self.old.writer self.new.writer result }
         ensures fits { OnOk result (LinesFit (language_of language.now).counts) }
         ensures overflow { IsErrOf result OutputError.Overflow
             → ¬ LinesFit (language_of language.now).counts }
@@ -163,8 +157,7 @@ impl<W: Sink + Drop> Printer<W> {
             (W.contents self.new.writer)
             (results_text self.old.layout (name_in table.now) compact sorted
             (languages_in languages.now))) }
-        ensures faults { W.faults self.old.writer < u64.MAX
-            → W.faults self.new.writer ≡ faults_after_printing result (W.faults self.old.writer) }
+        ensures faults { CountsWriteFault W.faults self.old.writer self.new.writer result }
         ensures overflow { IsErrOf result OutputError.Overflow
             → ¬ ResultsFit self.old.layout.list_files compact sorted (languages_in languages.now) }
         ensures layout { self.new.layout ≡ self.old.layout }
@@ -184,8 +177,7 @@ impl<W: Sink + Drop> Printer<W> {
         ensures bytes { OnOk result (Appends (W.contents self.old.writer)
             (W.contents self.new.writer)
             (total_text self.old.layout (languages_of languages.now))) }
-        ensures faults { W.faults self.old.writer < u64.MAX
-            → W.faults self.new.writer ≡ faults_after_printing result (W.faults self.old.writer) }
+        ensures faults { CountsWriteFault W.faults self.old.writer self.new.writer result }
         ensures overflow { IsErrOf result OutputError.Overflow
             → ¬ TotalFits (languages_of languages.now) }
         ensures layout { self.new.layout ≡ self.old.layout }

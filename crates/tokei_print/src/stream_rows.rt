@@ -1,8 +1,8 @@
 //! The rows of a stream of columns.
-ghost use Rattle.std.specs.Prelude.{◌≡◌, ◌≢◌, ◌<◌, Err, IfOk, OnOk, string_bytes};
+ghost use Rattle.std.specs.Prelude.{◌≡◌, ◌≢◌, Err, IfOk, OnOk, string_bytes};
 ghost use Rattle.std.specs.Io.KnownBytes.{Appends};
 ghost use Rattle.tokei_stats.specs.Seen.{counts_of};
-ghost use Rattle.tokei_io.specs.Printing.{faults_after_printing};
+ghost use Rattle.tokei_io.specs.Printing.{CountsWriteFault};
 ghost use Rattle.tokei_print.specs.StreamRows.{stream_heading, stream_row};
 
 use std::alloc::{AllocError, Global};
@@ -18,8 +18,7 @@ const HEADING: &str =
 pub fn print_stream_heading<W: Sink>(writer: &mut W) -> Result<(), OutputError>
     ensures bytes { OnOk result
         (Appends (W.contents writer.old) (W.contents writer.new) stream_heading) }
-    ensures faults { W.faults writer.old < u64.MAX
-        → W.faults writer.new ≡ faults_after_printing result (W.faults writer.old) }
+    ensures faults { CountsWriteFault W.faults writer.old writer.new result }
     ensures overflow { result ≢ Err OutputError.Overflow }
 {
     put(writer, HEADING.as_bytes())
@@ -50,8 +49,7 @@ pub fn print_stream_row<W: Sink>(
 ) -> Result<(), OutputError>
     ensures bytes { OnOk result (Appends (W.contents writer.old) (W.contents writer.new)
         (stream_row language.now (string_bytes report.now.name) (counts_of report.now.stats))) }
-    ensures faults { W.faults writer.old < u64.MAX
-        → W.faults writer.new ≡ faults_after_printing result (W.faults writer.old) }
+    ensures faults { CountsWriteFault W.faults writer.old writer.new result }
     ensures overflow { result ≢ Err OutputError.Overflow }
 {
     let text = stream_row(alloc, language, report)?;
