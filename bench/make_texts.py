@@ -65,6 +65,20 @@ MARKDOWN = [
     "\n",
     "\n",
 ]
+JAVASCRIPT = [
+    "const total{n} = rows.map((row) => row.length / 2).reduce((a, b) => a + b, {n});\n",
+    "if (count > {n} && found !== null) {{\n",
+    "}}\n",
+    "  return table.get(key, {n});\n",
+    "    console.log('{n} items in ' + name);\n",
+    "  const path = \"http://example.org/{n}\"; // where it comes from\n",
+    "    const text = `${{total{n}}} of ${{name}}`;\n",
+    "export function entry{n}(table, key) {{\n",
+    "// the next {n} entries are sorted\n",
+    "/**\n * Returns the entry {n}, or null.\n *\n * The caller keeps the table.\n */\n",
+    "\n",
+    "\n",
+]
 JSON = [
     "  {{\n    \"id\": {n},\n    \"name\": \"entry {n}\",\n    \"tags\": [\"first\", \"second\"],\n    \"url\": \"http://example.org/{n}\"\n  }},\n",
     "  {{\n    \"id\": {n},\n    \"note\": \"it says \\\"no\\\" // twice\",\n    \"size\": {{ \"rows\": {n}, \"bytes\": null }}\n  }},\n",
@@ -105,8 +119,10 @@ TEXTS = {
     "target blocks, no target": ("LinguaFranca", "", lambda: "{=a=}\n" * SHARE),
 }
 
-# further hostile texts, of which `bench/instructions` counts instructions
-HOSTILE = {
+# further texts, nearly all hostile, of which `bench/instructions` counts instructions
+FURTHER = {
+    "JavaScript": ("JavaScript", "", lambda: mixed(JAVASCRIPT)),
+    "a slash and a byte in turn, in one line": ("C", "", lambda: "/x" * SHARE),
     "slashes and blanks in one line": ("C", "", lambda: "/ " * SHARE),
     "lines of 79 slashes": ("C", "", lambda: ("/" * 79 + "\n") * 10_000),
     "a string of backslashes": ("C", '"', lambda: "\\" * SHARE),
@@ -118,12 +134,12 @@ HOSTILE = {
 
 def key_of(name):
     """The key of a text's language."""
-    return (TEXTS | HOSTILE)[name][0]
+    return (TEXTS | FURTHER)[name][0]
 
 
 def write(file, name, size):
     """Writes so many bytes of the text."""
-    _, front, repeated = (TEXTS | HOSTILE)[name]
+    _, front, repeated = (TEXTS | FURTHER)[name]
     left = size - file.write(front[:size].encode("ascii"))
     share = repeated().encode("ascii")
     while left > 0:
@@ -132,8 +148,8 @@ def write(file, name, size):
 
 def main():
     if len(sys.argv) == 1:
-        print("\n".join([*TEXTS, *HOSTILE]))
-    elif len(sys.argv) == 3 and sys.argv[1] in TEXTS | HOSTILE:
+        print("\n".join([*TEXTS, *FURTHER]))
+    elif len(sys.argv) == 3 and sys.argv[1] in TEXTS | FURTHER:
         write(sys.stdout.buffer, sys.argv[1], int(sys.argv[2]))
     else:
         sys.exit(__doc__)
