@@ -2,6 +2,7 @@
 use Rattle.std.proofs.Common.{◌≡◌, ℕ, zero, suc, ◌+◌, ◌*◌, ◌/◌, ◌%◌, ◌^◌, ◌<◌, ◌≤◌, List, [], ◌∷◌, Bool, cond, eqb, length, get_or, map, replicate, bit_and, bit_or, min, max, set, ap₂, ◌&&◌, ◌||◌, false, ◌==◌, true, ◌⊎◌, inl, inr, refl, sym, ap, ◌∙◌, arith, w8, get_or-set_same, get_or-set_other}
 use Rattle.std.proofs.lemmas.Bool.{cases_eq}
 use Rattle.std.proofs.lemmas.Bool.Decides.{Decides-eqb}
+use lib.Bits.{or_step}
 use lib.Lanes.{chunk, zip2, mask_l, top}
 use Rattle.std.specs.Int.{bit_at}
 use Rattle.std.proofs.lemmas.Nat.Bits.{bit_at_and, bit_at_or}
@@ -204,3 +205,35 @@ put_first new others x h = in_first (is_slotted new x) (is_slotted others x) h
 
 pub put_second : (slots new : List ℕ) (x : ℕ) → is_slotted new x ≡ true → in_slots slots new x ≡ true
 put_second slots new x h = in_second (is_slotted slots x) (is_slotted new x) h
+
+either_bit : (x y : Bool) (m n : ℕ) → bit_or (cond x 1 0 + 2 * m) (cond y 1 0 + 2 * n) ≡ cond (x || y) 1 0 + 2 * bit_or m n
+either_bit x y m n =
+    or_step (cond x 1 0 + 2 * m) (cond y 1 0 + 2 * n)
+    ∙ ap₂ (λ a b. a * 2 + b)
+    (ap₂ bit_or (half x m) (half y n))
+    (ap₂ max (low x m) (low y n) ∙ either_by_tests x y)
+    ∙ omega arith
+  where
+    half : (x : Bool) (m : ℕ) → (cond x 1 0 + 2 * m) / 2 ≡ m
+    half true m = omega arith
+    half false m = omega arith
+
+    low : (x : Bool) (m : ℕ) → (cond x 1 0 + 2 * m) % 2 ≡ cond x 1 0
+    low true m = omega arith
+    low false m = omega arith
+
+-- of two masks of the same bytes either is the mask of those of which one of both holds
+pub mask_of_either : (p q : ℕ → Bool) (v : List ℕ) → bit_or (mask_l (map p v)) (mask_l (map q v)) ≡ mask_l (map (λ x. p x || q x) v)
+mask_of_either p q [] = refl
+mask_of_either p q (x ∷ v) =
+    either_bit (p x) (q x) (mask_l (map p v)) (mask_l (map q v)) ∙ ap (λ m. cond (p x || q x) 1 0 + 2 * m) (mask_of_either p q v)
+
+-- the bytes that stand in the one table are all where the other one has none
+pub mask_of_one : (slots others v : List ℕ) → ((x : ℕ) → is_slotted others x ≡ false) → mask_l (map (is_slotted slots) v) ≡ mask_l (map (in_slots slots others) v)
+mask_of_one slots others [] none = refl
+mask_of_one slots others (x ∷ v) none =
+    ap₂ (λ b m. cond b 1 0 + 2 * m) (sym (ap (λ b. is_slotted slots x || b) (none x) ∙ or_false (is_slotted slots x))) (mask_of_one slots others v none)
+  where
+    or_false : (b : Bool) → (b || false) ≡ b
+    or_false true = refl
+    or_false false = refl

@@ -4,7 +4,7 @@ ghost use Rattle.std.specs.Prelude.{slice_index};
 ghost use Rattle.tokei_bytes.specs.ByteSets.{AreSlotted, AreSlottedAlone, HasFew, is_in, with_one};
 ghost use Rattle.tokei_bytes.specs.FirstPlace.{IsFirstPlace};
 ghost use Rattle.tokei_bytes.specs.OneOf.{is_one_of};
-ghost use Rattle.tokei_bytes.specs.Slots.{is_slotted};
+ghost use Rattle.tokei_bytes.specs.Slots.{in_slots, is_slotted};
 
 use crate::one_of::first_of_four;
 use crate::slots::{NO_SLOTS, first_slotted, put_slot, slotted_end};
@@ -106,14 +106,14 @@ impl ByteSet {
         self.flags[byte as usize]
     }
 
-    /// The bytes of the set, each in the slot of its low half, and no others, where no two of them
-    /// have the same low half.
-    pub fn slots(&self) -> Option<[u8; 16]>
-        ensures { IfSome result (λ slots. (b : ℕ) → b < 256
-            → is_slotted slots b ≡ is_in self.now b) }
+    /// Two tables of slots, in one of which each byte of the set stands, where no three of them have
+    /// the same low half. The second one has none where no two have.
+    pub fn slots(&self) -> Option<([u8; 16], [u8; 16])>
+        ensures { IfSome result (λ tables. (b : ℕ) → b < 256 → is_in self.now b ≡ true
+            → in_slots tables.0 tables.1 b ≡ true) }
     {
-        if self.is_slotted {
-            Some(self.slots)
+        if self.has_slots {
+            Some((self.slots, self.others))
         } else {
             None
         }

@@ -27,4 +27,7 @@ pub use one_of::{
     first_other_in_block, gap_in_block,
 };
 pub use pairs::next_pair;
-pub use slots::{NO_SLOTS, first_slotted, is_slotted, marks_in_block, put_slot, told_end};
+pub use slots::{
+    NO_SLOTS, are_no_slots, first_slotted, is_slotted, marks_in_block, marks_of_two, put_slot,
+    put_slot_of_two, told_end,
+};

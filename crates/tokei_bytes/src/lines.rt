@@ -35,7 +35,8 @@ pub struct LineCounts {
 fn blank_marks(lanes: u8x32) -> u64
     ensures { result ≡ mask_l (map is_blank lanes) }
 {
-    slotted_marks(BLANKS, lanes)
+    let blanks = BLANKS;
+    slotted_marks(&blanks, lanes)
 }
 
 /// The lines of the `BLOCK` bytes of the text from `from` on. `blank` is 1 where the line that they

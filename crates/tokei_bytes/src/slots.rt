@@ -30,12 +30,29 @@ pub fn put_slot(slots: &mut [u8; 16], byte: u8) -> bool
     true
 }
 
+/// Puts the byte into its slot in the first table, or where that has another byte in the second;
+/// whether one of them has it then.
+pub fn put_slot_of_two(slots: &mut [u8; 16], others: &mut [u8; 16], byte: u8) -> bool
+    ensures stays { result ≡ true → (x : ℕ) → in_slots slots.old others.old x ≡ true
+        → in_slots slots.new others.new x ≡ true }
+    ensures put { result ≡ true → in_slots slots.new others.new byte ≡ true }
+{
+    put_slot(slots, byte) || put_slot(others, byte)
+}
+
+/// Whether these are the slots of no bytes.
+pub fn are_no_slots(slots: &[u8; 16]) -> bool
+    ensures { result ≡ true → (x : ℕ) → is_slotted slots.now x ≡ false }
+{
+    *slots == NO_SLOTS
+}
+
 /// The slots twice, one after the other.
 #[inline(always)]
-fn twice(slots: [u8; 16]) -> u8x32
-    ensures { HasSlots slots result }
+fn twice(slots: &[u8; 16]) -> u8x32
+    ensures { HasSlots slots.now result }
 {
-    u8x16::from_slice(&slots).swizzle([
+    u8x16::from_slice(slots).swizzle([
         0, 1, 2, 3, 4, 5, 6, 7, 8, 9, 10, 11, 12, 13, 14, 15, 0, 1, 2, 3, 4, 5, 6, 7, 8, 9, 10, 11,
         12, 13, 14, 15,
     ])
@@ -43,16 +60,16 @@ fn twice(slots: [u8; 16]) -> u8x32
 
 /// What stands in the slot of each lane's low half.
 #[inline(always)]
-fn looked_up(slots: [u8; 16], lanes: u8x32) -> u8x32
-    ensures { result ≡ map (λ x. slice_index slots (x % 16)) lanes }
+fn looked_up(slots: &[u8; 16], lanes: u8x32) -> u8x32
+    ensures { result ≡ map (λ x. slice_index slots.now (x % 16)) lanes }
 {
     twice(slots).swizzle_dyn_within::<16>(lanes & u8x32::splat(15))
 }
 
 /// Bit k is set where lane k stands in the slot of its low half.
 #[inline(always)]
-pub(crate) fn slotted_marks(slots: [u8; 16], lanes: u8x32) -> u64
-    ensures { result ≡ mask_l (map (is_slotted slots) lanes) }
+pub(crate) fn slotted_marks(slots: &[u8; 16], lanes: u8x32) -> u64
+    ensures { result ≡ mask_l (map (is_slotted slots.now) lanes) }
 {
     looked_up(slots, lanes).simd_eq(lanes).to_bitmask()
 }
@@ -60,11 +77,22 @@ pub(crate) fn slotted_marks(slots: [u8; 16], lanes: u8x32) -> u64
 /// Bit k is set where byte k of the `BLOCK` bytes of the text from `from` on stands in the slot of
 /// its low half.
 #[inline(always)]
-pub fn marks_in_block(slots: [u8; 16], text: &[u8], from: usize) -> u64
+pub fn marks_in_block(slots: &[u8; 16], text: &[u8], from: usize) -> u64
     requires { from + BLOCK ≤ length text.now }
-    ensures { result ≡ mask_l (map (is_slotted slots) (chunk from 32 text.now)) }
+    ensures { result ≡ mask_l (map (is_slotted slots.now) (chunk from 32 text.now)) }
 {
     slotted_marks(slots, u8x32::from_slice(&text[from..]))
+}
+
+/// Bit k is set where byte k of the `BLOCK` bytes of the text from `from` on stands in the slot of
+/// its low half in one of two tables.
+#[inline(always)]
+pub fn marks_of_two(slots: &[u8; 16], others: &[u8; 16], text: &[u8], from: usize) -> u64
+    requires { from + BLOCK ≤ length text.now }
+    ensures { result ≡ mask_l (map (in_slots slots.now others.now) (chunk from 32 text.now)) }
+{
+    let lanes = u8x32::from_slice(&text[from..]);
+    slotted_marks(slots, lanes) | slotted_marks(others, lanes)
 }
 
 /// Whether the byte stands in the slot of its low half.
@@ -103,7 +131,7 @@ pub fn first_slotted(slots: [u8; 16], text: &[u8], from: usize, to: usize) -> us
         if text.len() - at < BLOCK {
             return slotted_by_one(slots, text, at, to);
         }
-        let marked = slotted_marks(slots, u8x32::from_slice(&text[at..]));
+        let marked = slotted_marks(&slots, u8x32::from_slice(&text[at..]));
         if marked != 0 {
             // The block may go on past `to`, where a hit is none.
             return to.min(at + marked.trailing_zeros() as usize);
@@ -124,8 +152,8 @@ fn first_slotted_in_block(slots: [u8; 16], others: [u8; 16], text: &[u8], from: 
         → in_slots slots others (slice_index text.now p) ≡ false }
 {
     let lanes = u8x32::from_slice(&text[from..]);
-    let ones = slotted_marks(slots, lanes);
-    let twos = slotted_marks(others, lanes);
+    let ones = slotted_marks(&slots, lanes);
+    let twos = slotted_marks(&others, lanes);
     let marked = ones | twos;
     if marked == 0 {
         return from + BLOCK;
@@ -181,9 +209,9 @@ fn first_told_in_block(
 {
     let here = u8x32::from_slice(&text[from..]);
     let behind = u8x32::from_slice(&text[from + 1..]);
-    let alones = slotted_marks(alone, here);
-    let leads = slotted_marks(firsts, here);
-    let follows = slotted_marks(seconds, behind);
+    let alones = slotted_marks(&alone, here);
+    let leads = slotted_marks(&firsts, here);
+    let follows = slotted_marks(&seconds, behind);
     let marked = alones | (leads & follows);
     if marked == 0 {
         return from + BLOCK;

@@ -12,7 +12,6 @@ use lib.Count.{count_leading_zeros}
 use lib.Lanes.{chunk, mask_l}
 use lib.Pow.{pow_mono}
 use Rattle.tokei_bytes.specs.Lines.{newline, is_blank, flag, blank_behind, blank_after, fronts, front_count, newline_count}
-use Rattle.tokei_bytes.specs.Slots.{is_slotted}
 use Rattle.tokei_bytes.proofs.Carries.{and_one}
 use Rattle.tokei_bytes.proofs.LineSums.{flag_small, ones_fronts, ones_newlines, fronts_over, newlines_over, newlines_within, fronts_within}
 use Rattle.tokei_bytes.specs.declared.lines.LineMasks.{LineMasks}
@@ -41,36 +40,36 @@ take_fronts v blank zero = refl
 take_fronts [] blank (suc n) = refl
 take_fronts (b ∷ t) blank (suc n) = ap (λ r. (blank && not (is_blank b)) ∷ r) (take_fronts t (blank_behind blank b) n)
 
--- for each byte whether it is the front of its line and stands in its slot
-abbrev marks : List ℕ → Bool → List ℕ → List Bool
-marks slots blank [] = []
-marks slots blank (b ∷ t) = ((blank && not (is_blank b)) && is_slotted slots b) ∷ marks slots (blank_behind blank b) t
+-- for each byte whether it is the front of its line and marked
+abbrev marks : (ℕ → Bool) → Bool → List ℕ → List Bool
+marks is_mark blank [] = []
+marks is_mark blank (b ∷ t) = ((blank && not (is_blank b)) && is_mark b) ∷ marks is_mark (blank_behind blank b) t
 
-marks_cut : (slots v : List ℕ) (blank : Bool) (n : ℕ) → bit_and (mask_l (fronts blank (take n v))) (mask_l (map (is_slotted slots) v)) ≡ mask_l (marks slots blank (take n v))
-marks_cut slots v blank zero = and_zero_l (mask_l (map (is_slotted slots) v))
-marks_cut slots [] blank (suc n) = and_zero_l 0
-marks_cut slots (b ∷ t) blank (suc n) =
+marks_cut : (is_mark : ℕ → Bool) (v : List ℕ) (blank : Bool) (n : ℕ) → bit_and (mask_l (fronts blank (take n v))) (mask_l (map is_mark v)) ≡ mask_l (marks is_mark blank (take n v))
+marks_cut is_mark v blank zero = and_zero_l (mask_l (map is_mark v))
+marks_cut is_mark [] blank (suc n) = and_zero_l 0
+marks_cut is_mark (b ∷ t) blank (suc n) =
     let front : Bool = blank && not (is_blank b) in
     let behind : Bool = blank_behind blank b in
-    and_one front (is_slotted slots b) (mask_l (fronts behind (take n t))) (mask_l (map (is_slotted slots) t))
-    ∙ ap (λ k. cond (front && is_slotted slots b) 1 0 + 2 * k) (marks_cut slots t behind n)
+    and_one front (is_mark b) (mask_l (fronts behind (take n t))) (mask_l (map is_mark t))
+    ∙ ap (λ k. cond (front && is_mark b) 1 0 + 2 * k) (marks_cut is_mark t behind n)
 
-ones_marks : (slots v : List ℕ) (blank : Bool) → count_ones (mask_l (marks slots blank v)) ≡ mark_count slots blank v
+ones_marks : (is_mark : ℕ → Bool) (v : List ℕ) (blank : Bool) → count_ones (mask_l (marks is_mark blank v)) ≡ mark_count is_mark blank v
 unfolding lib.Count.ones
-ones_marks slots [] blank = refl
-ones_marks slots (b ∷ t) blank =
-    ones-mask_l_cons ((blank && not (is_blank b)) && is_slotted slots b) (marks slots (blank_behind blank b) t)
-    ∙ ap (λ n. flag ((blank && not (is_blank b)) && is_slotted slots b) + n) (ones_marks slots t (blank_behind blank b))
+ones_marks is_mark [] blank = refl
+ones_marks is_mark (b ∷ t) blank =
+    ones-mask_l_cons ((blank && not (is_blank b)) && is_mark b) (marks is_mark (blank_behind blank b) t)
+    ∙ ap (λ n. flag ((blank && not (is_blank b)) && is_mark b) + n) (ones_marks is_mark t (blank_behind blank b))
 
 -- the marked fronts of a text and what follows
-pub marks_over : (slots v u : List ℕ) (blank : Bool) → mark_count slots blank (v ++ u) ≡ mark_count slots blank v + mark_count slots (blank_after blank v) u
-marks_over slots [] u blank = omega arith
-marks_over slots (b ∷ v) u blank = omega (arith, marks_over slots v u (blank_behind blank b))
+pub marks_over : (is_mark : ℕ → Bool) (v u : List ℕ) (blank : Bool) → mark_count is_mark blank (v ++ u) ≡ mark_count is_mark blank v + mark_count is_mark (blank_after blank v) u
+marks_over is_mark [] u blank = omega arith
+marks_over is_mark (b ∷ v) u blank = omega (arith, marks_over is_mark v u (blank_behind blank b))
 
 -- no more fronts are marked than there are bytes
-marks_within : (slots u : List ℕ) (blank : Bool) → mark_count slots blank u ≤ length u
-marks_within slots [] blank = omega arith
-marks_within slots (b ∷ t) blank = omega (arith, flag_small ((blank && not (is_blank b)) && is_slotted slots b), marks_within slots t (blank_behind blank b))
+marks_within : (is_mark : ℕ → Bool) (u : List ℕ) (blank : Bool) → mark_count is_mark blank u ≤ length u
+marks_within is_mark [] blank = omega arith
+marks_within is_mark (b ∷ t) blank = omega (arith, flag_small ((blank && not (is_blank b)) && is_mark b), marks_within is_mark t (blank_behind blank b))
 
 -- the highest bit of the newlines' mask is the last newline's
 abbrev newlines : List ℕ → ℕ
@@ -123,12 +122,12 @@ length_stretch text from to le high =
 
 -- The look goes on over the first gap of the 32 bytes behind it, whose masks these are; x says whether the line that
 -- it ended in has no front yet.
-module _ (slots text : List ℕ) (start : ℕ) (look : Look) (x : Bool) (lines : LineMasks) (marked gap : ℕ)
-    (is : IsLook slots text start look) (room : look.at + 32 ≤ length text) (few : gap ≤ 32)
+module _ (is_mark : ℕ → Bool) (text : List ℕ) (start : ℕ) (look : Look) (x : Bool) (lines : LineMasks) (marked gap : ℕ)
+    (is : IsLook is_mark text start look) (room : look.at + 32 ≤ length text) (few : gap ≤ 32)
     (blank : x ≡ blank_after true (between text start look.at))
     (ns : lines.newlines ≡ mask_l (map (λ b. b == newline) (chunk look.at 32 text)))
     (fs : lines.fronts ≡ mask_l (fronts x (chunk look.at 32 text)))
-    (ms : marked ≡ mask_l (map (is_slotted slots) (chunk look.at 32 text))) where
+    (ms : marked ≡ mask_l (map is_mark (chunk look.at 32 text))) where
   abbrev at : ℕ
   at = look.at
 
@@ -181,12 +180,12 @@ module _ (slots text : List ℕ) (start : ℕ) (look : Look) (x : Bool) (lines :
       ∙ sym (fronts_over (between text start at) part true)
       ∙ ap (front_count true) (sym (more start from))
 
-  comments_are : look.comments + count_ones (bit_and (bit_and lines.fronts within) marked) ≡ mark_count slots true all
+  comments_are : look.comments + count_ones (bit_and (bit_and lines.fronts within) marked) ≡ mark_count is_mark true all
   comments_are =
-      let those = ap₂ bit_and fronts_cut ms ∙ marks_cut slots v x gap in
-      ap₂ (λ a b. a + b) is.comments (ap count_ones those ∙ ones_marks slots part x ∙ ap (λ y. mark_count slots y part) blank)
-      ∙ sym (marks_over slots (between text start at) part true)
-      ∙ ap (mark_count slots true) (sym (more start from))
+      let those = ap₂ bit_and fronts_cut ms ∙ marks_cut is_mark v x gap in
+      ap₂ (λ a b. a + b) is.comments (ap count_ones those ∙ ones_marks is_mark part x ∙ ap (λ y. mark_count is_mark y part) blank)
+      ∙ sym (marks_over is_mark (between text start at) part true)
+      ∙ ap (mark_count is_mark true) (sym (more start from))
 
   -- the sums are no greater than the text
   long : length all ≤ length text
@@ -199,7 +198,7 @@ module _ (slots text : List ℕ) (start : ℕ) (look : Look) (x : Bool) (lines :
   fronts_fit = omega (arith, fronts_are, fronts_within all true, long)
 
   pub comments_fit : look.comments + count_ones (bit_and (bit_and lines.fronts within) marked) ≤ length text
-  comments_fit = omega (arith, comments_are, marks_within slots all true, long)
+  comments_fit = omega (arith, comments_are, marks_within is_mark all true, long)
 
   -- a line begins at the stop, which is before the new place, and goes on there
   record Stands (stop : ℕ) : Type 0 where
@@ -258,7 +257,7 @@ module _ (slots text : List ℕ) (start : ℕ) (look : Look) (x : Bool) (lines :
     comments = look.comments + count_ones (bit_and (bit_and lines.fronts within) marked);
   }
 
-  shows : (stop : ℕ) → Stands stop → IsLook slots text start (over stop)
+  shows : (stop : ℕ) → Stands stop → IsLook is_mark text start (over stop)
   shows stop s = record {
     low = s.low;
     order = s.order;
@@ -270,8 +269,8 @@ module _ (slots text : List ℕ) (start : ℕ) (look : Look) (x : Bool) (lines :
     on = s.on;
   }
 
-  pub shows_on : (stop : ℕ) → ended ≡ 0 → stop ≡ look.stop → IsLook slots text start (over stop)
+  pub shows_on : (stop : ℕ) → ended ≡ 0 → stop ≡ look.stop → IsLook is_mark text start (over stop)
   shows_on stop none e = shows stop (subst Stands (sym e) (stays none))
 
-  pub shows_begun : (stop : ℕ) → ended ≢ 0 → stop ≡ at + (64 - count_leading_zeros 64 ended) → IsLook slots text start (over stop)
+  pub shows_begun : (stop : ℕ) → ended ≢ 0 → stop ≡ at + (64 - count_leading_zeros 64 ended) → IsLook is_mark text start (over stop)
   shows_begun stop some e = shows stop (subst Stands (sym e) (begins (pos_of_ne-zero some)))

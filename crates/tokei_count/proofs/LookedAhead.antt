@@ -12,7 +12,6 @@ use lib.Lanes.{chunk, mask_l}
 use lib.Pow.{pow_mono}
 use Rattle.tokei_bytes.proofs.LineSums.{told}
 use Rattle.tokei_bytes.specs.Lines.{blank_after, blank_behind, flag, front_count, fronts, is_blank, newline, newline_count}
-use Rattle.tokei_bytes.specs.Slots.{is_slotted}
 use Rattle.tokei_table_row.specs.FirstOpener.{is_first, is_nonempty}
 use Rattle.tokei_table_row.specs.Bytes.{begins_with_one}
 use Rattle.tokei_table.specs.Row.{Row}
@@ -71,7 +70,7 @@ front_bit t x at k room low blank solid =
     bit_mask_l (fronts x v) k
     ∙ ap (λ b. cond b 1 0) (front_at v x k inside ∙ ap₂ (λ a b. a && not b) blank (ap is_blank (get_or-chunk at 32 t k 0 low) ∙ solid))
 
-module _ (row : Row) (slots text : List ℕ) (start at gap blank : ℕ) (low : start ≤ at) (room : at + 32 ≤ length text) (few : gap ≤ 32)
+module _ (row : Row) (is_mark : ℕ → Bool) (text : List ℕ) (start at gap blank : ℕ) (low : start ≤ at) (room : at + 32 ≤ length text) (few : gap ≤ 32)
     (blank_is : (blank == 1) ≡ blank_after true (between text start at)) where
   -- what a block leaves of the line that goes on behind it
   pub blank_on : (carried : ℕ) → carried ≡ flag (blank_after (blank == 1) (chunk at 32 text)) → (carried == 1) ≡ blank_after true (between text start (at + 32))
@@ -81,9 +80,9 @@ module _ (row : Row) (slots text : List ℕ) (start at gap blank : ℕ) (low : s
       ∙ sym (ap (blank_after true) (between_more text start at 32 low) ∙ blank_over (between text start at) (chunk at 32 text) true)
 
   -- a front of the block has its bit, and a marked one is a line comment
-  pub told_on : (f m : ℕ) → f ≡ mask_l (fronts (blank == 1) (chunk at 32 text)) → m ≡ mask_l (map (is_slotted slots) (chunk at 32 text))
-      → AreTold row slots text start at → ((k : ℕ) → k < 32 → bit_at (bit_and (bit_and f (2 ^ gap - 1)) m) k ≡ 1 → HasLineComment row text (at + k))
-      → AreTold row slots text start (at + gap)
+  pub told_on : (f m : ℕ) → f ≡ mask_l (fronts (blank == 1) (chunk at 32 text)) → m ≡ mask_l (map is_mark (chunk at 32 text))
+      → AreTold row is_mark text start at → ((k : ℕ) → k < 32 → bit_at (bit_and (bit_and f (2 ^ gap - 1)) m) k ≡ 1 → HasLineComment row text (at + k))
+      → AreTold row is_mark text start (at + gap)
   told_on f m fs ms so_far each = λ p a h front marked. elim (cases_lt p at) [
     | inl b ↦ so_far p a b front marked
     | inr b ↦
@@ -98,7 +97,7 @@ module _ (row : Row) (slots text : List ℕ) (start at gap blank : ℕ) (low : s
         ∙ ap (λ x. blank_after x (take k (drop at text))) blank_is
         ∙ sym (blank_over (between text start at) (take k (drop at text)) true) ∙ sym (ap (blank_after true) up_to) ∙ front.blank in
         let f_bit : bit_at f k ≡ 1 = ap (λ n. bit_at n k) fs ∙ front_bit text (blank == 1) at k room inside blanks (ap is_blank byte ∙ front.solid) in
-        let m_bit : bit_at m k ≡ 1 = ap (λ n. bit_at n k) ms ∙ marked_bit (is_slotted slots) text at k room inside (ap (is_slotted slots) byte ∙ marked) in
+        let m_bit : bit_at m k ≡ 1 = ap (λ n. bit_at n k) ms ∙ marked_bit is_mark text at k room inside (ap is_mark byte ∙ marked) in
         let set : bit_at (bit_and (bit_and f (2 ^ gap - 1)) m) k ≡ 1 =
         bit_at_and (bit_and f (2 ^ gap - 1)) m k ∙ ap (λ n. min n (bit_at m k)) (bit_at_and f (2 ^ gap - 1) k)
         ∙ omega (arith, f_bit, m_bit, bit_at_ones gap k below) in
@@ -115,14 +114,14 @@ clear_from os t from n none p low high =
 nothing_looked_at : (t : List ℕ) (s : ℕ) → between t s s ≡ []
 nothing_looked_at t s = let none : s - s ≡ 0 = omega arith in ap (λ n. take n (drop s t)) none
 
-pub look_begun : (slots t : List ℕ) (s : ℕ) → s ≤ length t → IsLook slots t s (record { at = s; stop = s; newlines = 0; fronts = 0; comments = 0 })
-look_begun slots t s within = record {
+pub look_begun : (is_mark : ℕ → Bool) (t : List ℕ) (s : ℕ) → s ≤ length t → IsLook is_mark t s (record { at = s; stop = s; newlines = 0; fronts = 0; comments = 0 })
+look_begun is_mark t s within = record {
   low = omega arith;
   order = omega arith;
   high = within;
   newlines = sym (ap newline_count (nothing_looked_at t s));
   fronts = sym (ap (front_count true) (nothing_looked_at t s));
-  comments = sym (ap (mark_count slots true) (nothing_looked_at t s));
+  comments = sym (ap (mark_count is_mark true) (nothing_looked_at t s));
   begun = λ h. absurd (omega (arith, h));
   on = ap newline_count (nothing_looked_at t s);
 }
@@ -133,8 +132,8 @@ blank_begun t s = sym (ap (blank_after true) (nothing_looked_at t s))
 pub clear_begun : (os : List (List ℕ)) (t : List ℕ) (s : ℕ) → IsClear os t s s
 clear_begun os t s p low high = absurd (omega (arith, low, high))
 
-pub told_begun : (row : Row) (slots t : List ℕ) (s : ℕ) → AreTold row slots t s s
-told_begun row slots t s p low high front marked = absurd (omega (arith, low, high))
+pub told_begun : (row : Row) (is_mark : ℕ → Bool) (t : List ℕ) (s : ℕ) → AreTold row is_mark t s s
+told_begun row is_mark t s p low high front marked = absurd (omega (arith, low, high))
 
 -- no opener stands before a place, nor from there on before another
 pub clear_on : (os : List (List ℕ)) (t : List ℕ) (s at to : ℕ) → IsClear os t s at → IsClear os t at to → IsClear os t s to
@@ -159,11 +158,11 @@ pub gap_stays : (gap : ℕ) → gap ≤ 32 → 1 * 2 ^ gap % 1844674407370955161
 gap_stays gap few = let least : 2 ^ gap ≤ 2 ^ 32 = pow_mono few in omega (arith, least)
 
 -- no opener stands at a byte of a block whose bit isn't set
-pub none_marked : (os : List (List ℕ)) (slots text : List ℕ) (at : ℕ) → list_all is_nonempty os ≡ true → ((x : ℕ) → is_slotted slots x ≡ false → is_first os x ≡ false)
-    → at + 32 ≤ length text → (m : ℕ) → m ≡ mask_l (map (is_slotted slots) (chunk at 32 text)) → (k : ℕ) → k < 32 → bit_at m k ≡ 0 → begins_with_one os (drop (at + k) text) ≡ false
-none_marked os slots text at all none room m ms k low h =
+pub none_marked : (os : List (List ℕ)) (is_mark : ℕ → Bool) (text : List ℕ) (at : ℕ) → list_all is_nonempty os ≡ true → ((x : ℕ) → is_mark x ≡ false → is_first os x ≡ false)
+    → at + 32 ≤ length text → (m : ℕ) → m ≡ mask_l (map is_mark (chunk at 32 text)) → (k : ℕ) → k < 32 → bit_at m k ≡ 0 → begins_with_one os (drop (at + k) text) ≡ false
+none_marked os is_mark text at all none room m ms k low h =
     none_at os text (at + k) all (omega (arith, room, low))
-    (none (get_or text (at + k) 0) (unmarked (is_slotted slots) text at k room low (sym (ap (λ n. bit_at n k) ms) ∙ h)))
+    (none (get_or text (at + k) 0) (unmarked is_mark text at k room low (sym (ap (λ n. bit_at n k) ms) ∙ h)))
 
 -- no bit is set of none
 pub unset : (m k : ℕ) → m ≡ 0 → bit_at m k ≡ 0
@@ -173,23 +172,23 @@ pub unset_with : (a m k : ℕ) → m ≡ 0 → bit_at (bit_and a m) k ≡ 0
 unset_with a m k none = bit_at_and a m k ∙ omega (arith, unset m k none)
 
 -- an opener begins with a marked byte, which is no blank
-solid_opener : (os : List (List ℕ)) (slots text : List ℕ) (n : ℕ) → list_all is_nonempty os ≡ true → ((x : ℕ) → is_slotted slots x ≡ false → is_first os x ≡ false)
-    → ((x : ℕ) → is_blank x ≡ true → is_slotted slots x ≡ false) → n < length text → begins_with_one os (drop n text) ≡ true → is_blank (get_or text n 0) ≡ false
-solid_opener os slots text n all none blanks inside here =
+solid_opener : (os : List (List ℕ)) (is_mark : ℕ → Bool) (text : List ℕ) (n : ℕ) → list_all is_nonempty os ≡ true → ((x : ℕ) → is_mark x ≡ false → is_first os x ≡ false)
+    → ((x : ℕ) → is_blank x ≡ true → is_mark x ≡ false) → n < length text → begins_with_one os (drop n text) ≡ true → is_blank (get_or text n 0) ≡ false
+solid_opener os is_mark text n all none blanks inside here =
     not_true (is_blank (get_or text n 0))
     (λ blank. clash (begins_with_one os (drop n text)) (none_at os text n all inside (none (get_or text n 0) (blanks (get_or text n 0) blank))) here)
 
 -- so its bit among the fronts says whether its line had none before
-pub blank_at : (os : List (List ℕ)) (slots text : List ℕ) (start at gap blank : ℕ) → start ≤ at → at + 32 ≤ length text → (blank == 1) ≡ blank_after true (between text start at)
-    → list_all is_nonempty os ≡ true → ((x : ℕ) → is_slotted slots x ≡ false → is_first os x ≡ false)
-    → ((x : ℕ) → is_blank x ≡ true → is_slotted slots x ≡ false) → gap < 32 → begins_with_one os (drop (at + gap) text) ≡ true
+pub blank_at : (os : List (List ℕ)) (is_mark : ℕ → Bool) (text : List ℕ) (start at gap blank : ℕ) → start ≤ at → at + 32 ≤ length text → (blank == 1) ≡ blank_after true (between text start at)
+    → list_all is_nonempty os ≡ true → ((x : ℕ) → is_mark x ≡ false → is_first os x ≡ false)
+    → ((x : ℕ) → is_blank x ≡ true → is_mark x ≡ false) → gap < 32 → begins_with_one os (drop (at + gap) text) ≡ true
     → (f : ℕ) → f ≡ mask_l (fronts (blank == 1) (chunk at 32 text))
     → (bit_and (f / 2 ^ gap) 1 == 1) ≡ blank_after true (between text start (at + gap))
-blank_at os slots text start at gap blank low room blank_is all none blanks inside here f fs =
+blank_at os is_mark text start at gap blank low room blank_is all none blanks inside here f fs =
     let v : List ℕ = chunk at 32 text in
     let within : gap < length v = omega (arith, inside, length-chunk at 32 text room) in
     let solid : is_blank (get_or v gap 0) ≡ false =
-    ap is_blank (get_or-chunk at 32 text gap 0 inside) ∙ solid_opener os slots text (at + gap) all none blanks (omega (arith, room, inside)) here in
+    ap is_blank (get_or-chunk at 32 text gap 0 inside) ∙ solid_opener os is_mark text (at + gap) all none blanks (omega (arith, room, inside)) here in
     let front : get_or (fronts (blank == 1) v) gap false ≡ blank_after (blank == 1) (take gap v) =
     front_at v (blank == 1) gap within ∙ ap (λ x. blank_after (blank == 1) (take gap v) && not x) solid ∙ always (blank_after (blank == 1) (take gap v)) in
     let up_to : blank_after true (between text start (at + gap)) ≡ blank_after (blank == 1) (take gap v) =

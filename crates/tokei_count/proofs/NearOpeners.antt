@@ -60,7 +60,7 @@ pub of_line : (t : List ℕ) (start to : ℕ) → start ≤ to → to < length t
 of_line t start to low inside line = omega (arith, low, below_end (drop start t) (to - start) (omega (arith, length-drop start t, inside, low)) (omega (arith, line, low)))
 
 -- the opener that is next behind what a look showed
-module _ (os : List (List ℕ)) (slots t : List ℕ) (start to : ℕ) (look : Look) (is : IsLook slots t start look) (clear : IsClear os t start look.at) (inside : to < length t)
+module _ (os : List (List ℕ)) (is_mark : ℕ → Bool) (t : List ℕ) (start to : ℕ) (look : Look) (is : IsLook is_mark t start look) (clear : IsClear os t start look.at) (inside : to < length t)
     (next : IsNext os t look.at to) where
   pub next_found : to ≡ look.stop + opener_place os (drop look.stop t)
   next_found =

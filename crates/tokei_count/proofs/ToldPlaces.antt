@@ -1,5 +1,5 @@
 -- Places of a block at which an opener can stand, by the bytes that tell openers.
-use Rattle.std.proofs.Common.{◌≡◌, ℕ, zero, suc, ◌+◌, ◌/◌, ◌<◌, ◌≤◌, min, max, true, false, List, map, drop, length, get_or, bit_and, bit_or, inl, inr, refl, sym, ap, ◌∙◌, arith}
+use Rattle.std.proofs.Common.{Bool, ◌≡◌, ℕ, zero, suc, ◌+◌, ◌/◌, ◌<◌, ◌≤◌, min, max, true, false, List, map, drop, length, get_or, bit_and, bit_or, inl, inr, refl, sym, ap, ◌∙◌, arith}
 use Rattle.std.specs.Int.{bit_at}
 use Rattle.std.specs.List.{list_all}
 use Rattle.std.proofs.lemmas.Bool.{cases_lt}
@@ -36,9 +36,9 @@ pub last_place : (alone seconds m : ℕ) → bit_at (bit_and (bit_or (bit_or alo
 last_place alone seconds m h = omega (arith, h, bits alone seconds m 31, bit_at-pow_same 31, bit_at-lt m 31)
 
 -- no opener stands at the other places
-module _ (os : List (List ℕ)) (slots text : List ℕ) (t : Tellers) (from m can : ℕ) (all : list_all is_nonempty os ≡ true)
-    (none : (x : ℕ) → is_slotted slots x ≡ false → is_first os x ≡ false) (tellers : AreTellers t os) (room : from + 32 ≤ length text)
-    (ms : m ≡ mask_l (map (is_slotted slots) (chunk from 32 text)))
+module _ (os : List (List ℕ)) (is_mark : ℕ → Bool) (text : List ℕ) (t : Tellers) (from m can : ℕ) (all : list_all is_nonempty os ≡ true)
+    (none : (x : ℕ) → is_mark x ≡ false → is_first os x ≡ false) (tellers : AreTellers t os) (room : from + 32 ≤ length text)
+    (ms : m ≡ mask_l (map is_mark (chunk from 32 text)))
     (others : (k : ℕ) → bit_at can k ≡ 0 → bit_at m k ≡ 1 → k < 31
     → (is_slotted t.alone (get_or text (from + k) 0) ≡ false) × (is_slotted t.seconds (get_or text (from + k + 1) 0) ≡ false))
     (last : bit_at can 31 ≡ 0 → bit_at m 31 ≡ 0) where
@@ -59,6 +59,6 @@ module _ (os : List (List ℕ)) (slots text : List ℕ) (t : Tellers) (from m ca
   none_can k low h = by_bit (bit_at m k) refl (bit_at-lt m k)
     where
       by_bit : (b : ℕ) → bit_at m k ≡ b → b < 2 → begins_with_one os (drop (from + k) text) ≡ false
-      by_bit zero e l = none_marked os slots text from all none room m ms k low e
+      by_bit zero e l = none_marked os is_mark text from all none room m ms k low e
       by_bit (suc zero) e l = none_told k low h e
       by_bit (suc (suc b)) e l = absurd (omega (arith, l))

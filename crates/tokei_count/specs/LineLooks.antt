@@ -1,7 +1,6 @@
 -- What a look at the lines of a text shows, block after block.
 use Rattle.std.specs.Prelude.{◌≡◌, ℕ, ◌+◌, ◌-◌, ◌<◌, ◌≤◌, ◌&&◌, not, Bool, true, false, List, [], ◌∷◌, drop, length, slice_index}
 use Rattle.tokei_bytes.specs.Lines.{blank_after, blank_behind, flag, front_count, is_blank, newline, newline_count}
-use Rattle.tokei_bytes.specs.Slots.{is_slotted}
 use Rattle.tokei_table.specs.Bytes.{begins_with_one}
 use Rattle.tokei_table.specs.Row.{Row}
 use Rattle.tokei_table.specs.OuterLines.{between}
@@ -9,13 +8,13 @@ use Rattle.tokei_parts.specs.Class.{keeps_columns}
 use Rattle.tokei_parts.specs.CommentHeads.{any_solid_begins}
 use Rattle.tokei_count.specs.declared.line_look.Look.{Look}
 
--- How many fronts of lines stand in the slots of their low halves, where the text goes on in a line
+-- How many fronts of lines are marked bytes, where the text goes on in a line
 -- that has no front yet, or has one.
-abbrev pub mark_count : List ℕ → Bool → List ℕ → ℕ
-mark_count slots blank [] = 0
-mark_count slots blank (b ∷ t) =
-    flag ((blank && not (is_blank b)) && is_slotted slots b)
-    + mark_count slots (blank_behind blank b) t
+abbrev pub mark_count : (ℕ → Bool) → Bool → List ℕ → ℕ
+mark_count is_mark blank [] = 0
+mark_count is_mark blank (b ∷ t) =
+    flag ((blank && not (is_blank b)) && is_mark b)
+    + mark_count is_mark (blank_behind blank b) t
 
 -- the place is the front of its line, where `start` begins one
 pub record IsFrontAt (text : List ℕ) (start place : ℕ) : Type 0 where
@@ -27,10 +26,10 @@ pub record HasLineComment (row : Row) (text : List ℕ) (place : ℕ) : Type 0 w
   pub line : any_solid_begins row.line_comment (drop place text) ≡ true
   pub columns : keeps_columns row.key ≡ false
 
--- at each front from `start` to before `to` whose byte stands in its slot a line comment stands
-abbrev pub AreTold : Row → List ℕ → List ℕ → ℕ → ℕ → Type 0
-AreTold row slots text start to = (p : ℕ) → start ≤ p → p < to → IsFrontAt text start p
-    → is_slotted slots (slice_index text p) ≡ true → HasLineComment row text p
+-- at each front from `start` to before `to` whose byte is marked a line comment stands
+abbrev pub AreTold : Row → (ℕ → Bool) → List ℕ → ℕ → ℕ → Type 0
+AreTold row is_mark text start to = (p : ℕ) → start ≤ p → p < to → IsFrontAt text start p
+    → is_mark (slice_index text p) ≡ true → HasLineComment row text p
 
 -- no opener stands from `start` to before `to`
 abbrev pub IsClear : List (List ℕ) → List ℕ → ℕ → ℕ → Type 0
@@ -46,12 +45,12 @@ pub record IsNext (openers : List (List ℕ)) (text : List ℕ) (at to : ℕ) : 
 
 -- The look's numbers are those of the text from `start`, which begins a line, to before its place;
 -- the line that it ended in begins at its stop.
-pub record IsLook (slots text : List ℕ) (start : ℕ) (look : Look) : Type 0 where
+pub record IsLook (is_mark : ℕ → Bool) (text : List ℕ) (start : ℕ) (look : Look) : Type 0 where
   pub low : start ≤ look.stop
   pub order : look.stop ≤ look.at
   pub high : look.at ≤ length text
   pub newlines : look.newlines ≡ newline_count (between text start look.at)
   pub fronts : look.fronts ≡ front_count true (between text start look.at)
-  pub comments : look.comments ≡ mark_count slots true (between text start look.at)
+  pub comments : look.comments ≡ mark_count is_mark true (between text start look.at)
   pub begun : start < look.stop → slice_index text (look.stop - 1) ≡ newline
   pub on : newline_count (between text look.stop look.at) ≡ 0

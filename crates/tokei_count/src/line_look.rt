@@ -12,7 +12,7 @@ ghost use Rattle.tokei_table.specs.RowOf.{row_of};
 ghost use Rattle.tokei_table.specs.Tokens.{has_tokens};
 ghost use Rattle.tokei_table.specs.OuterLines.{between};
 ghost use Rattle.tokei_parts.specs.Glance.{opener_place};
-ghost use Rattle.tokei_parts.specs.LineMarks.{AreLineMarks};
+ghost use Rattle.tokei_parts.specs.LineMarks.{AreInOne, AreLineMarks, is_marked};
 ghost use Rattle.tokei_parts.specs.Lines.{line_len};
 ghost use Rattle.tokei_parts.specs.ReadingOf.{openers_in, row_in};
 ghost use Rattle.tokei_parts.specs.Seen.{chain_of};
@@ -24,7 +24,7 @@ ghost use Rattle.tokei_stats.specs.Overflow.{Fits};
 ghost use Rattle.tokei_stats.specs.Seen.{sums_of};
 
 use crate::text_reading::ReadSoFar;
-use tokei_bytes::{BLOCK, LineMasks, is_slotted, line_masks, marks_in_block};
+use tokei_bytes::{BLOCK, LineMasks, line_masks, marks_in_block};
 use tokei_parts::{LanguageMatchers, LineMarks, Reading, line_comment_stands};
 use tokei_stats::{CountError, Sums};
 use tokei_table_row::Syntax;
@@ -163,27 +163,27 @@ fn are_comments(syntax: &Syntax, text: &[u8], from: usize, heads: u64) -> bool
 /// Those of the marked bytes of the `BLOCK` bytes of the text from `from` on at which an opener can
 /// stand, by the bytes that tell openers: bit k is set where one can at byte k.
 #[inline(always)]
-fn can_open(tellers: Tellers, text: &[u8], from: usize, marked: u64) -> u64
+fn can_open(tellers: &Tellers, text: &[u8], from: usize, marked: u64) -> u64
     requires within { from + BLOCK ≤ length text.now }
     ensures low { marked < 2 ^ 32 → result < 2 ^ 32 }
     ensures marked { (k : ℕ) → bit_at result k ≡ 0 → bit_at marked k ≡ 1 → k < 31
-        → (is_slotted tellers.alone (slice_index text.now (from + k)) ≡ false)
-        × (is_slotted tellers.seconds (slice_index text.now (from + k + 1)) ≡ false) }
+        → (is_slotted tellers.now.alone (slice_index text.now (from + k)) ≡ false)
+        × (is_slotted tellers.now.seconds (slice_index text.now (from + k + 1)) ≡ false) }
     ensures last { bit_at result 31 ≡ 0 → bit_at marked 31 ≡ 0 }
 {
-    let alone = marks_in_block(tellers.alone, text, from);
-    let seconds = marks_in_block(tellers.seconds, text, from);
+    let alone = marks_in_block(&tellers.alone, text, from);
+    let seconds = marks_in_block(&tellers.seconds, text, from);
     // the byte behind the last one isn't looked at
     (alone | seconds >> 1 | 1 << 31) & marked
 }
 
 /// How many of the `BLOCK` bytes of the text from `from` on stand before the first opener: all
 /// where none stands there, and more than all where too many can begin one to be looked at. Bit k
-/// of `marked` is set where byte k is in the slots.
+/// of `marked` is set where lines are searched for byte k.
 #[inline(always)]
 fn gap_in_block(ahead: &Ahead, from: usize, marked: u64) -> usize
     requires within { from + BLOCK ≤ length ahead.now.reading.now.text.now }
-    requires marked { marked ≡ mask_l (map (is_slotted ahead.now.marks.now.slots)
+    requires marked { marked ≡ mask_l (map (is_marked ahead.now.marks.now)
         (chunk from 32 ahead.now.reading.now.text.now)) }
     requires some { marked ≢ 0 }
     ensures clear { result ≤ BLOCK → IsClear (openers_in ahead.now.reading.now)
@@ -197,7 +197,7 @@ fn gap_in_block(ahead: &Ahead, from: usize, marked: u64) -> usize
     if matchers.opener_stands(text, from + first) {
         return first;
     }
-    let can = can_open(ahead.marks.tellers, text, from, marked);
+    let can = can_open(&ahead.marks.tellers, text, from, marked);
     gap_to_opener(matchers, text, from, can)
 }
 
@@ -212,7 +212,7 @@ fn with_block(
     marked: u64,
     gap: usize,
 ) -> Look
-    requires look { IsLook ahead.now.marks.now.slots ahead.now.reading.now.text.now ahead.now.start
+    requires look { IsLook (is_marked ahead.now.marks.now) ahead.now.reading.now.text.now ahead.now.start
         look }
     requires within { look.at + BLOCK ≤ length ahead.now.reading.now.text.now }
     requires gap { gap ≤ BLOCK }
@@ -222,9 +222,9 @@ fn with_block(
         ≡ mask_l (map (λ x. x == newline) (chunk look.at 32 ahead.now.reading.now.text.now)) }
     requires fronts { lines.fronts
         ≡ mask_l (fronts (blank == 1) (chunk look.at 32 ahead.now.reading.now.text.now)) }
-    requires marked { marked ≡ mask_l (map (is_slotted ahead.now.marks.now.slots)
+    requires marked { marked ≡ mask_l (map (is_marked ahead.now.marks.now)
         (chunk look.at 32 ahead.now.reading.now.text.now)) }
-    ensures look { IsLook ahead.now.marks.now.slots ahead.now.reading.now.text.now ahead.now.start
+    ensures look { IsLook (is_marked ahead.now.marks.now) ahead.now.reading.now.text.now ahead.now.start
         result }
     ensures at { result.at ≡ look.at + gap }
 {
@@ -249,23 +249,24 @@ fn with_block(
 
 /// Looks at the lines up to the first opener or less far. The second answer is 1 where the line
 /// that the look ended in has no front yet, else 0; the third is the place of the opener, with no
-/// newline before it that the look hasn't shown, or the text's end where it came to none.
+/// newline before it that the look hasn't shown, or the text's end where it came to none. The
+/// second table of the marks isn't looked up where `TWO` is false.
 #[inline(always)]
-fn look_ahead(ahead: &Ahead) -> (Look, u64, usize)
-    ensures look { IsLook ahead.now.marks.now.slots ahead.now.reading.now.text.now ahead.now.start
+fn look_by<const TWO: bool>(ahead: &Ahead) -> (Look, u64, usize)
+    requires one { TWO ≡ false → AreInOne ahead.now.marks.now }
+    ensures look { IsLook (is_marked ahead.now.marks.now) ahead.now.reading.now.text.now ahead.now.start
         result.0 }
     ensures blank { (result.1 == 1)
         ≡ blank_after true (between ahead.now.reading.now.text.now ahead.now.start result.0.at) }
     ensures clear { IsClear (openers_in ahead.now.reading.now) ahead.now.reading.now.text.now
         ahead.now.start result.0.at }
-    ensures told { AreTold (row_in ahead.now.reading.now) ahead.now.marks.now.slots
+    ensures told { AreTold (row_in ahead.now.reading.now) (is_marked ahead.now.marks.now)
         ahead.now.reading.now.text.now ahead.now.start result.0.at }
     ensures found { result.2 < length ahead.now.reading.now.text.now
         → IsNext (openers_in ahead.now.reading.now) ahead.now.reading.now.text.now result.0.at
         result.2 }
 {
     let reading = ahead.reading;
-    let slots = ahead.marks.slots;
     let text = reading.text;
     // a block begins at each place before that
     let end = text.len().saturating_sub(BLOCK - 1);
@@ -278,7 +279,7 @@ fn look_ahead(ahead: &Ahead) -> (Look, u64, usize)
         comments: 0,
     };
     while look.at < end && look.at - look.stop < NEAR {
-        let marked = marks_in_block(slots, text, look.at);
+        let marked = ahead.marks.in_block::<TWO>(text, look.at);
         if marked == 0 {
             let lines = line_masks(text, look.at, blank);
             look = with_block(ahead, look, blank, lines, marked, BLOCK);
@@ -308,6 +309,28 @@ fn look_ahead(ahead: &Ahead) -> (Look, u64, usize)
     (look, blank, text.len())
 }
 
+/// The same by as many tables of marks as have some.
+#[inline(always)]
+fn look_ahead(ahead: &Ahead) -> (Look, u64, usize)
+    ensures look { IsLook (is_marked ahead.now.marks.now) ahead.now.reading.now.text.now ahead.now.start
+        result.0 }
+    ensures blank { (result.1 == 1)
+        ≡ blank_after true (between ahead.now.reading.now.text.now ahead.now.start result.0.at) }
+    ensures clear { IsClear (openers_in ahead.now.reading.now) ahead.now.reading.now.text.now
+        ahead.now.start result.0.at }
+    ensures told { AreTold (row_in ahead.now.reading.now) (is_marked ahead.now.marks.now)
+        ahead.now.reading.now.text.now ahead.now.start result.0.at }
+    ensures found { result.2 < length ahead.now.reading.now.text.now
+        → IsNext (openers_in ahead.now.reading.now) ahead.now.reading.now.text.now result.0.at
+        result.2 }
+{
+    if ahead.marks.in_one {
+        look_by::<false>(ahead)
+    } else {
+        look_by::<true>(ahead)
+    }
+}
+
 /// What so many blank lines and so many others count as, of which so many are comments, in a
 /// language that is literate or not.
 fn sums_with(literate: bool, blank: usize, solid: usize, comments: usize) -> Sums
@@ -333,10 +356,10 @@ fn sums_with(literate: bool, blank: usize, solid: usize, comments: usize) -> Sum
 /// stands in no caller's code, since few lines of a look are comments.
 #[inline(never)]
 fn marks_behind(ahead: &Ahead, look: Look) -> usize
-    requires look { IsLook ahead.now.marks.now.slots ahead.now.reading.now.text.now ahead.now.start
+    requires look { IsLook (is_marked ahead.now.marks.now) ahead.now.reading.now.text.now ahead.now.start
         look }
     requires some { ahead.now.start < look.stop }
-    ensures { result ≡ mark_count ahead.now.marks.now.slots true
+    ensures { result ≡ mark_count (is_marked ahead.now.marks.now) true
         (between ahead.now.reading.now.text.now look.stop look.at) }
 {
     let text = ahead.reading.text;
@@ -344,7 +367,7 @@ fn marks_behind(ahead: &Ahead, look: Look) -> usize
     if head == look.at {
         return 0;
     }
-    is_slotted(ahead.marks.slots, text[head]) as usize
+    ahead.marks.has(text[head]) as usize
 }
 
 /// Nothing but what the text's type says: contracts see it of no text in a struct.
@@ -357,14 +380,14 @@ fn has_bytes(text: &[u8])
 /// these are marked. `blank` is 1 where that one has no front yet, else 0.
 #[inline(always)]
 fn fronts_before(ahead: &Ahead, look: Look, blank: u64) -> (usize, usize)
-    requires look { IsLook ahead.now.marks.now.slots ahead.now.reading.now.text.now ahead.now.start
+    requires look { IsLook (is_marked ahead.now.marks.now) ahead.now.reading.now.text.now ahead.now.start
         look }
     requires some { ahead.now.start < look.stop }
     requires blank { (blank == 1)
         ≡ blank_after true (between ahead.now.reading.now.text.now ahead.now.start look.at) }
     ensures fronts { result.0
         ≡ front_count true (between ahead.now.reading.now.text.now ahead.now.start look.stop) }
-    ensures marks { result.1 ≡ mark_count ahead.now.marks.now.slots true
+    ensures marks { result.1 ≡ mark_count (is_marked ahead.now.marks.now) true
         (between ahead.now.reading.now.text.now ahead.now.start look.stop) }
     ensures fits { look.stop < 2 ^ 64 }
 {
@@ -390,13 +413,13 @@ fn count_looked(
     requires start { ahead.now.start ≡ so_far.old.start }
     requires under_way { IsUnderWay ahead.now.reading.now so_far.old }
     requires plain { chain_of so_far.old.stack.items ≡ [] }
-    requires look { IsLook ahead.now.marks.now.slots ahead.now.reading.now.text.now
+    requires look { IsLook (is_marked ahead.now.marks.now) ahead.now.reading.now.text.now
         so_far.old.start look }
     requires blank { (blank == 1)
         ≡ blank_after true (between ahead.now.reading.now.text.now so_far.old.start look.at) }
     requires clear { IsClear (openers_in ahead.now.reading.now) ahead.now.reading.now.text.now
         so_far.old.start look.at }
-    requires told { AreTold (row_in ahead.now.reading.now) ahead.now.marks.now.slots
+    requires told { AreTold (row_in ahead.now.reading.now) (is_marked ahead.now.marks.now)
         ahead.now.reading.now.text.now so_far.old.start look.at }
     ensures under_way { OnOk result (IsUnderWay ahead.now.reading.now so_far.new) }
     ensures start { OnOk result (so_far.new.start ≡ look.stop) }

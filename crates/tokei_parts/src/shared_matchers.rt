@@ -1,6 +1,6 @@
 //! What the texts of a language are searched for openers with.
 ghost use Rattle.std.specs.Prelude.{◌≡◌, ℕ, ◌<◌, ◌||◌, true, drop, length, IfOk, IfSome};
-ghost use Rattle.tokei_bytes.specs.Slots.{is_slotted};
+ghost use Rattle.tokei_bytes.specs.Slots.{in_slots};
 ghost use Rattle.tokei_table.specs.Bytes.{begins_with_one};
 ghost use Rattle.tokei_table.specs.FirstOpener.{first_opener, is_first};
 ghost use Rattle.tokei_table.specs.Lookups.{row_at};
@@ -77,12 +77,14 @@ impl SharedMatchers {
         self.openers.tellers()
     }
 
-    /// Puts the first byte of each opener into the slot of its low half; whether none that had one
-    /// of these was put there before.
-    pub(crate) fn put_firsts(&self, slots: &mut [u8; 16]) -> bool
-        ensures { result ≡ true → (x : ℕ)
-            → is_slotted slots.new x ≡ (is_slotted slots.old x || is_first self.now x) }
+    /// Puts the first byte of each opener into the slot of its low half in one of two tables;
+    /// whether each stands in one then, as those do that stood in one before.
+    pub(crate) fn put_firsts(&self, slots: &mut [u8; 16], others: &mut [u8; 16]) -> bool
+        ensures stays { result ≡ true → (x : ℕ) → in_slots slots.old others.old x ≡ true
+            → in_slots slots.new others.new x ≡ true }
+        ensures put { result ≡ true → (x : ℕ) → is_first self.now x ≡ true
+            → in_slots slots.new others.new x ≡ true }
     {
-        self.openers.put_firsts(slots)
+        self.openers.put_firsts(slots, others)
     }
 }

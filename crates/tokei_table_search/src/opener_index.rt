@@ -5,7 +5,7 @@ ghost use Rattle.std.specs.Prelude.{IfOk, IfSome, IsSome, OnOk, MatchOption};
 ghost use Rattle.std.specs.List.{list_all};
 ghost use Rattle.tokei_table_row.specs.FirstOpener.{first_opener, is_first, is_first_of, is_nonempty};
 ghost use Rattle.tokei_bytes.specs.OneOf.{is_one_of};
-ghost use Rattle.tokei_bytes.specs.Slots.{is_slotted};
+ghost use Rattle.tokei_bytes.specs.Slots.{in_slots, is_slotted};
 ghost use Rattle.tokei_table_search.specs.OpenerGroups.{IsGroupOf, AreGroupsOf};
 ghost use Rattle.tokei_table_row.specs.Bytes.{begins_with_one};
 ghost use Rattle.tokei_table_search.specs.NearBytes.{SameBytes, AreNear};
@@ -20,7 +20,8 @@ use memchr::{memchr, memchr2, memchr3};
 use std::alloc::{AllocError, Global};
 use std::marker::Model;
 use tokei_bytes::{
-    BLOCK, NO_SLOTS, first_of_two_or_four, first_slotted, next_pair, put_slot, told_end,
+    BLOCK, NO_SLOTS, first_of_two_or_four, first_slotted, next_pair, put_slot, put_slot_of_two,
+    told_end,
 };
 use tokei_table_row::ext::begins_with_one;
 
@@ -156,6 +157,21 @@ fn put_all(slots: &mut [u8; 16], bytes: &[u8]) -> bool
 {
     for byte in bytes {
         if !put_slot(slots, *byte) {
+            return false;
+        }
+    }
+    true
+}
+
+/// Puts each byte of the list into its slot in one of two tables; whether each stands in one then.
+fn put_all_in_two(slots: &mut [u8; 16], others: &mut [u8; 16], bytes: &[u8]) -> bool
+    ensures stays { result ≡ true → (x : ℕ) → in_slots slots.old others.old x ≡ true
+        → in_slots slots.new others.new x ≡ true }
+    ensures put { result ≡ true → (x : ℕ) → is_one_of bytes.now x ≡ true
+        → in_slots slots.new others.new x ≡ true }
+{
+    for byte in bytes {
+        if !put_slot_of_two(slots, others, *byte) {
             return false;
         }
     }
@@ -360,13 +376,15 @@ impl OpenerIndex {
         })
     }
 
-    /// Puts the first byte of each opener into the slot of its low half; whether none that had one
-    /// of these was put there before.
-    pub fn put_firsts(&self, slots: &mut [u8; 16]) -> bool
-        ensures { result ≡ true → (x : ℕ)
-            → is_slotted slots.new x ≡ (is_slotted slots.old x || is_first self.now x) }
+    /// Puts the first byte of each opener into the slot of its low half in one of two tables;
+    /// whether each stands in one then, as those do that stood in one before.
+    pub fn put_firsts(&self, slots: &mut [u8; 16], others: &mut [u8; 16]) -> bool
+        ensures stays { result ≡ true → (x : ℕ) → in_slots slots.old others.old x ≡ true
+            → in_slots slots.new others.new x ≡ true }
+        ensures put { result ≡ true → (x : ℕ) → is_first self.now x ≡ true
+            → in_slots slots.new others.new x ≡ true }
     {
-        put_all(slots, &self.firsts)
+        put_all_in_two(slots, others, &self.firsts)
     }
 
     /// The bytes that tell the openers, where slots have room for them.

@@ -5,4 +5,4 @@ pub swizzle : goal.swizzle
 swizzle c = may_be_looked_up c.args.lanes c.fits-lanes.0
 
 pub returns : goal.returns
-returns c = looked_up c.args.lanes c.fits-lanes.0 c.args.slots c.twice.result c.twice.ensures
+returns c = looked_up c.args.lanes c.fits-lanes.0 c.args.slots.now c.twice.result c.twice.ensures

@@ -5,7 +5,7 @@ use Rattle.tokei_bytes.proofs.slots.twice.Goals as goal
 
 pub returns : goal.returns
 returns c =
-    let half = take 16 c.args.slots in
+    let half = take 16 c.args.slots.now in
     let long : length half ≡ 16 = length-take-le 16 _ (omega arith) in
     record {
       long = refl;

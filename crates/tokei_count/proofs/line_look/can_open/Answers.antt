@@ -14,10 +14,10 @@ returns-clause-marked c = λ k h set low.
     let seconds = c.marks_in_block-seconds in
     let text : List ℕ = c.args.text.now in
     let next : c.args.from + (k + 1) ≡ c.args.from + k + 1 = omega arith in (
-      unmarked (is_slotted c.args.tellers.alone) text c.args.from k c.requires.within (omega (arith, low))
+      unmarked (is_slotted c.args.tellers.now.alone) text c.args.from k c.requires.within (omega (arith, low))
           (ap (λ n. bit_at n k) (sym alone.ensures) ∙ unset_alone alone.result seconds.result c.args.marked k h set),
-      ap (λ j. is_slotted c.args.tellers.seconds (get_or text j 0)) (sym next)
-          ∙ unmarked (is_slotted c.args.tellers.seconds) text c.args.from (k + 1) c.requires.within (omega (arith, low))
+      ap (λ j. is_slotted c.args.tellers.now.seconds (get_or text j 0)) (sym next)
+          ∙ unmarked (is_slotted c.args.tellers.now.seconds) text c.args.from (k + 1) c.requires.within (omega (arith, low))
           (ap (λ n. bit_at n (k + 1)) (sym seconds.ensures) ∙ unset_second alone.result seconds.result c.args.marked k h set),
     )
 

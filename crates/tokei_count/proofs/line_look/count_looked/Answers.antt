@@ -1,6 +1,7 @@
 use Rattle.std.proofs.Common.{◌-◌, true, ap, sym, subst, ◌∙◌, arith}
 use Rattle.tokei_table.specs.Row.{Row}
 use Rattle.tokei_table.specs.OuterLines.{between}
+use Rattle.tokei_parts.specs.LineMarks.{is_marked}
 use Rattle.tokei_count.specs.LineLooks.{IsLook, mark_count}
 use Rattle.tokei_bytes.specs.Lines.{blank_after, front_count}
 use Rattle.tokei_count.specs.NoComments.{counts_with}
@@ -11,7 +12,7 @@ use Rattle.tokei_count.proofs.line_look.count_looked.Goals as goal
 
 pub fronts_before-solid-requires : goal.fronts_before-solid-requires
 fronts_before-solid-requires c = record {
-  look = subst (λ s. IsLook c.args.ahead.now.marks.now.slots c.args.ahead.now.reading.now.text.now s c.args.look) (sym c.requires.start) c.requires.look;
+  look = subst (λ s. IsLook (is_marked c.args.ahead.now.marks.now) c.args.ahead.now.reading.now.text.now s c.args.look) (sym c.requires.start) c.requires.look;
   some = omega (arith, c.requires.start, seen_inside c.args.so_far.now.start c.args.look.stop c.requires.look.low (λ e. c.if-look-so_far.false (sym e)));
   blank = c.requires.blank ∙ ap (λ s. blank_after true (between c.args.ahead.now.reading.now.text.now s c.args.look.at)) (sym c.requires.start);
 }
@@ -19,33 +20,33 @@ fronts_before-solid-requires c = record {
 pub overflow_sub-blank : goal.overflow_sub-blank
 overflow_sub-blank c =
     let text = c.args.ahead.now.reading.now.text.now in
-    let slots = c.args.ahead.now.marks.now.slots in
+    let is_mark = is_marked c.args.ahead.now.marks.now in
     let e = c.fronts_before-solid in
     let fronts = e.ensures.fronts ∙ ap (λ s. front_count true (between text s c.args.look.stop)) c.requires.start in
-    let marks = e.ensures.marks ∙ ap (λ s. mark_count slots true (between text s c.args.look.stop)) c.requires.start in
+    let marks = e.ensures.marks ∙ ap (λ s. mark_count is_mark true (between text s c.args.look.stop)) c.requires.start in
     let some = seen_inside c.args.so_far.now.start c.args.look.stop c.requires.look.low (λ e. c.if-look-so_far.false (sym e)) in
-    solid_few c.args.ahead.now.reading.now c.args.so_far.now slots c.args.look some c.requires.look e.result.0 e.result.1 fronts marks
+    solid_few c.args.ahead.now.reading.now c.args.so_far.now is_mark c.args.look some c.requires.look e.result.0 e.result.1 fronts marks
 
 pub sums_with-lines-requires : goal.sums_with-lines-requires
 sums_with-lines-requires c =
     let text = c.args.ahead.now.reading.now.text.now in
-    let slots = c.args.ahead.now.marks.now.slots in
+    let is_mark = is_marked c.args.ahead.now.marks.now in
     let e = c.fronts_before-solid in
     let fronts = e.ensures.fronts ∙ ap (λ s. front_count true (between text s c.args.look.stop)) c.requires.start in
-    let marks = e.ensures.marks ∙ ap (λ s. mark_count slots true (between text s c.args.look.stop)) c.requires.start in
-    omega (arith, fronts, marks, marks_few slots (between text c.args.so_far.now.start c.args.look.stop) true)
+    let marks = e.ensures.marks ∙ ap (λ s. mark_count is_mark true (between text s c.args.look.stop)) c.requires.start in
+    omega (arith, fronts, marks, marks_few is_mark (between text c.args.so_far.now.start c.args.look.stop) true)
 
 pub returns-in_err-so_far-clause-quiet : goal.returns-in_err-so_far-clause-quiet
 returns-in_err-so_far-clause-quiet c = λ none.
     let r = c.args.ahead.now.reading.now in
     let p = c.args.so_far.now in
     let text = c.args.ahead.now.reading.now.text.now in
-    let slots = c.args.ahead.now.marks.now.slots in
+    let is_mark = is_marked c.args.ahead.now.marks.now in
     let e = c.fronts_before-solid in
     let fronts = e.ensures.fronts ∙ ap (λ s. front_count true (between text s c.args.look.stop)) c.requires.start in
-    let marks = e.ensures.marks ∙ ap (λ s. mark_count slots true (between text s c.args.look.stop)) c.requires.start in
+    let marks = e.ensures.marks ∙ ap (λ s. mark_count is_mark true (between text s c.args.look.stop)) c.requires.start in
     let some = seen_inside p.start c.args.look.stop c.requires.look.low (λ e. c.if-look-so_far.false (sym e)) in
-    let way = looked_way r p slots c.args.look some c.requires.look e.result.0 e.result.1 fronts marks c.sums_with-lines.result
+    let way = looked_way r p is_mark c.args.look some c.requires.look e.result.0 e.result.1 fronts marks c.sums_with-lines.result
     c.requires.skips c.requires.under_way c.requires.plain c.has_bytes.ensures c.args.ahead.now.marked.slots c.requires.clear c.requires.told
     (c.sums_with-lines.ensures ∙ ap (λ (g : Row). counts_with g.literate (c.args.look.newlines - e.result.0) e.result.0 e.result.1) r.row) in
     absurd (c.in_err-so_far.ensures.past (looked_fits r p c.sums_with-lines.result c.args.look.stop c.requires.skips e.ensures.fits way none))
@@ -55,12 +56,12 @@ returns-in_err-so_far-clause-overflow c =
     let r = c.args.ahead.now.reading.now in
     let p = c.args.so_far.now in
     let text = c.args.ahead.now.reading.now.text.now in
-    let slots = c.args.ahead.now.marks.now.slots in
+    let is_mark = is_marked c.args.ahead.now.marks.now in
     let e = c.fronts_before-solid in
     let fronts = e.ensures.fronts ∙ ap (λ s. front_count true (between text s c.args.look.stop)) c.requires.start in
-    let marks = e.ensures.marks ∙ ap (λ s. mark_count slots true (between text s c.args.look.stop)) c.requires.start in
+    let marks = e.ensures.marks ∙ ap (λ s. mark_count is_mark true (between text s c.args.look.stop)) c.requires.start in
     let some = seen_inside p.start c.args.look.stop c.requires.look.low (λ e. c.if-look-so_far.false (sym e)) in
-    let way = looked_way r p slots c.args.look some c.requires.look e.result.0 e.result.1 fronts marks c.sums_with-lines.result
+    let way = looked_way r p is_mark c.args.look some c.requires.look e.result.0 e.result.1 fronts marks c.sums_with-lines.result
     c.requires.skips c.requires.under_way c.requires.plain c.has_bytes.ensures c.args.ahead.now.marked.slots c.requires.clear c.requires.told
     (c.sums_with-lines.ensures ∙ ap (λ (g : Row). counts_with g.literate (c.args.look.newlines - e.result.0) e.result.0 e.result.1) r.row) in
     λ is fits. c.in_err-so_far.ensures.past (counts_fit r (gone_on p c.sums_with-lines.result c.args.look.stop) way fits)
@@ -70,12 +71,12 @@ returns-clause-under_way c =
     let r = c.args.ahead.now.reading.now in
     let p = c.args.so_far.now in
     let text = c.args.ahead.now.reading.now.text.now in
-    let slots = c.args.ahead.now.marks.now.slots in
+    let is_mark = is_marked c.args.ahead.now.marks.now in
     let e = c.fronts_before-solid in
     let fronts = e.ensures.fronts ∙ ap (λ s. front_count true (between text s c.args.look.stop)) c.requires.start in
-    let marks = e.ensures.marks ∙ ap (λ s. mark_count slots true (between text s c.args.look.stop)) c.requires.start in
+    let marks = e.ensures.marks ∙ ap (λ s. mark_count is_mark true (between text s c.args.look.stop)) c.requires.start in
     let some = seen_inside p.start c.args.look.stop c.requires.look.low (λ e. c.if-look-so_far.false (sym e)) in
-    let way = looked_way r p slots c.args.look some c.requires.look e.result.0 e.result.1 fronts marks c.sums_with-lines.result
+    let way = looked_way r p is_mark c.args.look some c.requires.look e.result.0 e.result.1 fronts marks c.sums_with-lines.result
     c.requires.skips c.requires.under_way c.requires.plain c.has_bytes.ensures c.args.ahead.now.marked.slots c.requires.clear c.requires.told
     (c.sums_with-lines.ensures ∙ ap (λ (g : Row). counts_with g.literate (c.args.look.newlines - e.result.0) e.result.0 e.result.1) r.row) in
     counted_on r p c.in_ok-so_far.field-0 c.args.look.stop c.sums_with-lines.result c.in_ok-so_far.ensures.ok way

@@ -1,4 +1,5 @@
 use Rattle.std.proofs.Common.{◌∙◌, arith}
+use Rattle.tokei_parts.specs.LineMarks.{is_marked}
 use Rattle.tokei_count.proofs.LastLines.{marks_before, told_blank, told_front, with_front, without_front}
 use Rattle.tokei_count.proofs.line_look.fronts_before.Goals as goal
 
@@ -6,30 +7,30 @@ pub returns-then-blank-eq1-clause-fronts : goal.returns-then-blank-eq1-clause-fr
 returns-then-blank-eq1-clause-fronts c =
     let look = c.requires.look in
     let ahead = c.args.ahead.now in
-    let slots = ahead.marks.now.slots in
+    let is_mark = is_marked ahead.marks.now in
     let text = ahead.reading.now.text.now in
-    look.fronts ∙ (without_front slots text ahead.start c.args.look.stop c.args.look.at c.requires.some look.order look.high (look.begun c.requires.some) look.on
+    look.fronts ∙ (without_front is_mark text ahead.start c.args.look.stop c.args.look.at c.requires.some look.order look.high (look.begun c.requires.some) look.on
     (told_blank c.args.blank _ c.requires.blank c.if-blank-eq1.true)).0
 
 pub returns-then-blank-eq1-clause-marks : goal.returns-then-blank-eq1-clause-marks
 returns-then-blank-eq1-clause-marks c =
     let look = c.requires.look in
     let ahead = c.args.ahead.now in
-    let slots = ahead.marks.now.slots in
+    let is_mark = is_marked ahead.marks.now in
     let text = ahead.reading.now.text.now in
-    look.comments ∙ (without_front slots text ahead.start c.args.look.stop c.args.look.at c.requires.some look.order look.high (look.begun c.requires.some) look.on
+    look.comments ∙ (without_front is_mark text ahead.start c.args.look.stop c.args.look.at c.requires.some look.order look.high (look.begun c.requires.some) look.on
     (told_blank c.args.blank _ c.requires.blank c.if-blank-eq1.true)).1
 
 pub overflow_sub-fronts : goal.overflow_sub-fronts
 overflow_sub-fronts c =
     let look = c.requires.look in
     let ahead = c.args.ahead.now in
-    let slots = ahead.marks.now.slots in
+    let is_mark = is_marked ahead.marks.now in
     let text = ahead.reading.now.text.now in
     omega (
       arith,
       look.fronts,
-      with_front slots text ahead.start c.args.look.stop c.args.look.at c.requires.some look.order look.high (look.begun c.requires.some) look.on
+      with_front is_mark text ahead.start c.args.look.stop c.args.look.at c.requires.some look.order look.high (look.begun c.requires.some) look.on
           (told_front c.args.blank _ c.requires.blank c.if-blank-eq1.false),
     )
 
@@ -37,12 +38,12 @@ pub returns-then-look-eq0-clause-fronts : goal.returns-then-look-eq0-clause-fron
 returns-then-look-eq0-clause-fronts c =
     let look = c.requires.look in
     let ahead = c.args.ahead.now in
-    let slots = ahead.marks.now.slots in
+    let is_mark = is_marked ahead.marks.now in
     let text = ahead.reading.now.text.now in
     omega (
       arith,
       look.fronts,
-      with_front slots text ahead.start c.args.look.stop c.args.look.at c.requires.some look.order look.high (look.begun c.requires.some) look.on
+      with_front is_mark text ahead.start c.args.look.stop c.args.look.at c.requires.some look.order look.high (look.begun c.requires.some) look.on
           (told_front c.args.blank _ c.requires.blank c.if-blank-eq1.false),
     )
 
@@ -50,28 +51,28 @@ pub returns-then-look-eq0-clause-marks : goal.returns-then-look-eq0-clause-marks
 returns-then-look-eq0-clause-marks c =
     let look = c.requires.look in
     let ahead = c.args.ahead.now in
-    let slots = ahead.marks.now.slots in
+    let is_mark = is_marked ahead.marks.now in
     let text = ahead.reading.now.text.now in
-    omega (arith, look.comments, c.if-look-eq0.true, marks_before slots text ahead.start c.args.look.stop c.args.look.at c.requires.some look.order look.high (look.begun c.requires.some) look.on)
+    omega (arith, look.comments, c.if-look-eq0.true, marks_before is_mark text ahead.start c.args.look.stop c.args.look.at c.requires.some look.order look.high (look.begun c.requires.some) look.on)
 
 pub overflow_sub-result : goal.overflow_sub-result
 overflow_sub-result c =
     let look = c.requires.look in
     let ahead = c.args.ahead.now in
-    let slots = ahead.marks.now.slots in
+    let is_mark = is_marked ahead.marks.now in
     let text = ahead.reading.now.text.now in
-    omega (arith, look.comments, c.marks_behind.ensures, marks_before slots text ahead.start c.args.look.stop c.args.look.at c.requires.some look.order look.high (look.begun c.requires.some) look.on)
+    omega (arith, look.comments, c.marks_behind.ensures, marks_before is_mark text ahead.start c.args.look.stop c.args.look.at c.requires.some look.order look.high (look.begun c.requires.some) look.on)
 
 pub returns-clause-fronts : goal.returns-clause-fronts
 returns-clause-fronts c =
     let look = c.requires.look in
     let ahead = c.args.ahead.now in
-    let slots = ahead.marks.now.slots in
+    let is_mark = is_marked ahead.marks.now in
     let text = ahead.reading.now.text.now in
     omega (
       arith,
       look.fronts,
-      with_front slots text ahead.start c.args.look.stop c.args.look.at c.requires.some look.order look.high (look.begun c.requires.some) look.on
+      with_front is_mark text ahead.start c.args.look.stop c.args.look.at c.requires.some look.order look.high (look.begun c.requires.some) look.on
           (told_front c.args.blank _ c.requires.blank c.if-blank-eq1.false),
     )
 
@@ -79,6 +80,6 @@ pub returns-clause-marks : goal.returns-clause-marks
 returns-clause-marks c =
     let look = c.requires.look in
     let ahead = c.args.ahead.now in
-    let slots = ahead.marks.now.slots in
+    let is_mark = is_marked ahead.marks.now in
     let text = ahead.reading.now.text.now in
-    omega (arith, look.comments, c.marks_behind.ensures, marks_before slots text ahead.start c.args.look.stop c.args.look.at c.requires.some look.order look.high (look.begun c.requires.some) look.on)
+    omega (arith, look.comments, c.marks_behind.ensures, marks_before is_mark text ahead.start c.args.look.stop c.args.look.at c.requires.some look.order look.high (look.begun c.requires.some) look.on)
