@@ -14,6 +14,7 @@ unfoldable mutual
   openings_in none = 0
   openings_in (more i is) = openings_by i + openings_in is
 
+  -- those of one item
   pub openings_by : Item → ℕ
   openings_by (one b) = 0
   openings_by (escaped a b) = 0

@@ -13,6 +13,7 @@ abbrev mutual
   pub depth : Statistics → ℕ
   depth (node c bs) = blobs_depth bs
 
+  -- those that the blobs of one language after another hold
   pub blobs_depth : Blobs → ℕ
   blobs_depth none = 0
   blobs_depth (blob k t rest) = max (depth t + 1) (blobs_depth rest)
@@ -22,6 +23,7 @@ abbrev mutual
   pub AreKnown : ℕ → Statistics → Type 0
   AreKnown n (node c bs) = BlobsAreKnown n bs
 
+  -- the same of blobs alone
   pub BlobsAreKnown : ℕ → Blobs → Type 0
   BlobsAreKnown n none = ⊤
   BlobsAreKnown n (blob k t rest) = (k < n) × (AreKnown n t × BlobsAreKnown n rest)

@@ -16,6 +16,7 @@ unfoldable mutual
   spelled none = []
   spelled (more i is) = spelled_by i ++ spelled is
 
+  -- the bytes of one item
   pub spelled_by : Item → List ℕ
   spelled_by (one b) = b ∷ []
   spelled_by (escaped a b) = a ∷ b ∷ []

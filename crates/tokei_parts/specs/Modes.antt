@@ -49,6 +49,7 @@ unfoldable mutual
   marks c none = []
   marks c (more i is) = marks_of c i ++ marks c is
 
+  -- those of one item
   pub marks_of : Chain → Item → List Mark
   marks_of c (one b) = byte_at b true c ∷ []
   marks_of c (escaped a b) = byte_at a true c ∷ byte_at b false c ∷ []

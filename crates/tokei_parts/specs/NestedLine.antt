@@ -15,6 +15,7 @@ turned_by true inner chain = inner ∷ chain
 turned_by false inner [] = []
 turned_by false inner (around ∷ chain) = chain
 
+-- the same behind that of the turn
 abbrev pub turned : Turn → Chain → Chain
 turned turn chain = turned_by turn.opens (enclosure_of turn.inner) chain
 

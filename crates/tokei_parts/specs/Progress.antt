@@ -19,30 +19,37 @@ use Rattle.tokei_table_row.specs.Counts.{Counts, plus}
 use Rattle.tokei_parts.specs.Tally.{tally, one_of, children}
 use Rattle.tokei_parts.specs.declared.class.Class.{Class}
 
-module _ (r : Row) (block : ℕ → List ℕ → Option Block) where
-  -- the body that is under way at the front of the text, where the items of c enclose it
+module _ (row : Row) (block : ℕ → List ℕ → Option Block) where
+  -- the body that is under way at the front of the text, where the items of the chain enclose it
   abbrev pub body : ℕ → Chain → List ℕ → Body
-  body l c t = derive r block t 0 l (innermost c)
+  body left chain text = derive row block text 0 left (innermost chain)
 
   -- the marks of what is left of the text: the body that is under way, its closer, and the bodies
   -- around it
   unfoldable pub marks_ahead : ℕ → Chain → List ℕ → List Mark
-  marks_ahead l [] t = marks [] (body l [] t).items
-  marks_ahead l (e ∷ c) t = marks (e ∷ c) (body l (e ∷ c) t).items
-      ++ (if (body l (e ∷ c) t).closed
-      then closing (e ∷ c) c e.closer ++ marks_ahead l c (drop (body l (e ∷ c) t).taken t)
+  marks_ahead left [] text = marks [] (body left [] text).items
+  marks_ahead left (item ∷ chain) text = marks (item ∷ chain) (body left (item ∷ chain) text).items
+      ++ (if (body left (item ∷ chain) text).closed
+      then closing (item ∷ chain) chain item.closer
+      ++ marks_ahead left chain (drop (body left (item ∷ chain) text).taken text)
       else [])
 
-  -- Through n bytes of its line the text leads from the items of c to those of d. Among the n bytes
-  -- and a newline behind them that no choice of its own takes, j choices begin more than where one
-  -- takes it.
-  pub record Leads (l : ℕ) (c : Chain) (n j : ℕ) (d : Chain) (t : List ℕ) : Type 0 where
-    pub within : n ≤ line_len t
-    pub same : (m : _) (s : List ℕ) → cut m s (innermost c) (marks_ahead l c t)
-        ≡ cut m (s ++ take n t) (innermost d) (marks_ahead l d (drop n t))
-    pub kids : children (marks_ahead l c t) ≡ children (marks_ahead l d (drop n t))
-    pub choices : (m : _) (s : List ℕ) (k : ℕ) → running m s k t (marks_ahead l c t)
-        ≡ running m (s ++ take n t) (k + j) (drop n t) (marks_ahead l d (drop n t))
+  -- Through the bytes taken of its line the text leads from the items of the chain to those of the
+  -- next one. Among these bytes and a newline behind them that no choice of its own takes, so many
+  -- choices begin more than where one takes it.
+  pub record Leads (left : ℕ) (chain : Chain) (taken begun : ℕ) (next : Chain)
+      (text : List ℕ) : Type 0 where
+    pub within : taken ≤ line_len text
+    pub same : (mode : _) (seen : List ℕ)
+        → cut mode seen (innermost chain) (marks_ahead left chain text)
+        ≡ cut mode (seen ++ take taken text) (innermost next)
+        (marks_ahead left next (drop taken text))
+    pub kids : children (marks_ahead left chain text)
+        ≡ children (marks_ahead left next (drop taken text))
+    pub choices : (mode : _) (seen : List ℕ) (so_far : ℕ)
+        → running mode seen so_far text (marks_ahead left chain text)
+        ≡ running mode (seen ++ take taken text) (so_far + begun) (drop taken text)
+        (marks_ahead left next (drop taken text))
 
 -- how many newlines end the first line: one, or none where the text ends it
 abbrev pub newlines : List ℕ → ℕ
@@ -50,80 +57,86 @@ newlines text = length (first_line text) - line_len text
 
 -- no child opens at a newline
 pub record OpensInLine (block : ℕ → List ℕ → Option Block) : Type 0 where
-  pub none : (l : ℕ) (u : List ℕ) → block l (newline ∷ u) ≡ None
+  pub none : (left : ℕ) (behind : List ℕ) → block left (newline ∷ behind) ≡ None
 
 -- each closer of the chain is a token
 abbrev pub IsClosable : Chain → Type 0
 IsClosable [] = ⊤
-IsClosable (e ∷ c) = (is_token e.closer ≡ true) × IsClosable c
+IsClosable (item ∷ chain) = (is_token item.closer ≡ true) × IsClosable chain
 
-module _ (r : Row) (block : ℕ → List ℕ → Option Block) (l : ℕ) where
-  -- one choice leads on from c to d: n bytes, at least one, all of one line; j is 1, or for a
-  -- choice that takes the newline behind them too 0
-  pub record Goes (c : Chain) (n j : ℕ) (d : Chain) (t : List ℕ) : Type 0 where
-    pub leads : Leads r block l c n j d t
-    pub some : 0 < n
-    pub within : n ≤ line_len t
-    pub closable : IsClosable d
+module _ (row : Row) (block : ℕ → List ℕ → Option Block) (left : ℕ) where
+  -- one choice leads on from the chain to the next one: by the bytes taken, at least one, all of
+  -- one line; one choice begins, or for one that takes the newline behind them too none
+  pub record Goes (chain : Chain) (taken begun : ℕ) (next : Chain) (text : List ℕ) : Type 0 where
+    pub leads : Leads row block left chain taken begun next text
+    pub some : 0 < taken
+    pub within : taken ≤ line_len text
+    pub closable : IsClosable next
 
   -- the counts of the parts that are left, given these items
   abbrev pub counts_left : Bool → Chain → List ℕ → Counts
-  counts_left docs_are_comments c t =
-      tally r docs_are_comments (cut (innermost c) [] (innermost c) (marks_ahead r block l c t))
+  counts_left docs_are_comments chain text = tally row docs_are_comments
+      (cut (innermost chain) [] (innermost chain) (marks_ahead row block left chain text))
 
   -- the children that are left, given these items
   abbrev pub children_left : Chain → List ℕ → List Block
-  children_left c t = children (marks_ahead r block l c t)
+  children_left chain text = children (marks_ahead row block left chain text)
 
   -- the choices that are left in the parts that a reading walks, which skips the others or not,
   -- given these items
   abbrev pub steps_left : Bool → Chain → List ℕ → ℕ
-  steps_left skips c t = choices_made skips (openers r)
-      (running (innermost c) [] 0 t (marks_ahead r block l c t))
+  steps_left skips chain text = choices_made skips (openers row)
+      (running (innermost chain) [] 0 text (marks_ahead row block left chain text))
 
-  -- One line: n bytes. It is one part, of this class, in which j choices begin, and the text goes
-  -- on from d.
-  pub record ReadsLine (docs_are_comments : Bool) (c : Chain) (n j : ℕ) (class : Class) (d : Chain)
-      (t : List ℕ) : Type 0 where
-    pub some : 0 < n
-    pub within : n ≤ length t
-    pub closable : IsClosable d
-    pub counts : counts_left docs_are_comments c t
-        ≡ plus (one_of class) (counts_left docs_are_comments d (drop n t))
-    pub kids : children_left c t ≡ children_left d (drop n t)
-    pub steps : (skips : Bool) → steps_left skips c t
-        ≡ (if walks skips (openers r) (innermost c) (take n t) then j else 0) + steps_left skips d
-        (drop n t)
+  -- One line: the bytes taken. It is one part, of this class, in which so many choices begin, and
+  -- the text goes on from the next chain.
+  pub record ReadsLine (docs_are_comments : Bool) (chain : Chain) (taken begun : ℕ) (class : Class)
+      (next : Chain) (text : List ℕ) : Type 0 where
+    pub some : 0 < taken
+    pub within : taken ≤ length text
+    pub closable : IsClosable next
+    pub counts : counts_left docs_are_comments chain text
+        ≡ plus (one_of class) (counts_left docs_are_comments next (drop taken text))
+    pub kids : children_left chain text ≡ children_left next (drop taken text)
+    pub steps : (skips : Bool) → steps_left skips chain text
+        ≡ (if walks skips (openers row) (innermost chain) (take taken text) then begun else 0)
+        + steps_left skips next (drop taken text)
 
-  -- A part that a child breaks off: the child k opens behind n bytes, at which j choices begin, in
-  -- plain text, and the text goes on behind it.
-  pub record ReadsChild (docs_are_comments : Bool) (c : Chain) (n j : ℕ) (k : Block) (d : Chain)
-      (t : List ℕ) : Type 0 where
-    pub some : 0 < k.size
-    pub within : n + k.size ≤ length t
-    pub plain : d ≡ []
-    pub counts : counts_left docs_are_comments c t
-        ≡ tally r docs_are_comments
-        (cut None [] None (marks_ahead r block (length t - (n + k.size)) [] (drop (n + k.size) t)))
-    pub kids : children_left c t ≡ k ∷ children
-        (marks_ahead r block (length t - (n + k.size)) [] (drop (n + k.size) t))
-    pub steps : (skips : Bool) → steps_left skips c t
-        ≡ (if walks skips (openers r) (innermost c) (first_line t) then j else 0)
-        + choices_made skips (openers r) (running None [] 0 (drop (n + k.size) t)
-        (marks_ahead r block (length t - (n + k.size)) [] (drop (n + k.size) t)))
+  -- A part that a child breaks off: the child opens behind the bytes taken, at which so many
+  -- choices begin, in plain text, and the text goes on behind it.
+  pub record ReadsChild (docs_are_comments : Bool) (chain : Chain) (taken begun : ℕ) (child : Block)
+      (next : Chain) (text : List ℕ) : Type 0 where
+    pub some : 0 < child.size
+    pub within : taken + child.size ≤ length text
+    pub plain : next ≡ []
+    pub counts : counts_left docs_are_comments chain text
+        ≡ tally row docs_are_comments (cut None [] None
+        (marks_ahead row block (length text - (taken + child.size)) []
+        (drop (taken + child.size) text)))
+    pub kids : children_left chain text ≡ child ∷ children
+        (marks_ahead row block (length text - (taken + child.size)) []
+        (drop (taken + child.size) text))
+    pub steps : (skips : Bool) → steps_left skips chain text
+        ≡ (if walks skips (openers row) (innermost chain) (first_line text) then begun else 0)
+        + choices_made skips (openers row) (running None [] 0 (drop (taken + child.size) text)
+        (marks_ahead row block (length text - (taken + child.size)) []
+        (drop (taken + child.size) text)))
 
-  -- the child k opens at the front of the text, which is plain there
-  pub record OpensChild (c : Chain) (k : Block) (d : Chain) (t : List ℕ) : Type 0 where
-    pub before : c ≡ []
-    pub after : d ≡ []
-    pub chosen : choice r None (block l t) t ≡ child_opens k
+  -- the child opens at the front of the text, which is plain there
+  pub record OpensChild (chain : Chain) (child : Block) (next : Chain)
+      (text : List ℕ) : Type 0 where
+    pub before : chain ≡ []
+    pub after : next ≡ []
+    pub chosen : choice row None (block left text) text ≡ child_opens child
 
 -- what the blocks of a text are held to: none opens at a newline; each takes a byte at least and no
 -- more than there are
 pub record FitsBlocks (block : ℕ → List ℕ → Option Block) : Type 0 where
   pub in_line : OpensInLine block
-  pub some : (l : ℕ) (t : List ℕ) (k : Block) → block l t ≡ Some k → 0 < k.size
-  pub within : (l : ℕ) (t : List ℕ) (k : Block) → block l t ≡ Some k → k.size ≤ length t
+  pub some : (left : ℕ) (text : List ℕ) (child : Block) → block left text ≡ Some child
+      → 0 < child.size
+  pub within : (left : ℕ) (text : List ℕ) (child : Block) → block left text ≡ Some child
+      → child.size ≤ length text
 
 -- a part of the text that began at `start` is under way at the place, where `left` bytes were left
 -- behind the last child
