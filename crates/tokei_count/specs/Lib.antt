@@ -1,7 +1,8 @@
--- What contracts say of counting: the items of a text and their parts, the class of each part, the
--- children, the plain reading, its steps and its weight.
+-- What contracts say of counting: the plain reading of a text and of its children, its steps and its
+-- weight, and what a call that counts one answers.
 -- The code's own words, which no public contract has:
 pub mod ClassLines
+pub mod CountedTexts
 pub mod Countings
 pub mod Gathered
 pub mod Languages

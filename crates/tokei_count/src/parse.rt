@@ -1,5 +1,6 @@
 //! The calls that count a text, and look at no more of it than they must.
 ghost use Rattle.std.specs.Prelude.{◌≡◌, ◌<◌, ◌≤◌, ◌^◌, length, IfOk, IsErrOf, IsOk};
+ghost use Rattle.tokei_count.specs.CountedTexts.{CountsText};
 ghost use Rattle.tokei_count.specs.Countings.{text_reading, text_steps, text_openings, text_work, text_weight};
 ghost use Rattle.tokei_count.specs.Countings.{all_lines, HasNoOpener};
 ghost use Rattle.tokei_count.specs.Steps.{capped};
@@ -84,20 +85,7 @@ pub fn parse_from_slice(
     config: &CountConfig,
 ) -> Result<CodeStats, CountError>
     requires { language < length counter.now }
-    ensures reads { IfOk result (λ s. stats_of s
-        ≡ text_reading counter.now config.now language text.now) }
-    ensures lines_at_most_weight { IfOk result (λ r. all_lines (stats_of r)
-        ≤ text_weight counter.now language text.now) }
-    ensures lines_at_most_bytes { HaveNoNotebook counter.now
-        → IfOk result (λ r. all_lines (stats_of r) ≤ length text.now) }
-    ensures no_overflow_of_light_texts { text_weight counter.now language text.now < 2 ^ 64
-        → ¬ IsErrOf result CountError.Overflow }
-    ensures no_overflow_without_notebooks { HaveNoNotebook counter.now
-        → ¬ IsErrOf result CountError.Overflow }
-    ensures never_refused_without_openers { HasNoOpener counter.now language text.now
-        → IsOk result }
-    ensures overflow { IsErrOf result CountError.Overflow
-        → ¬ Fits (text_reading counter.now config.now language text.now) }
+    ensures { CountsText counter.now config.now language text.now result }
 {
     let (stats, _) = parse_counted(alloc, counter, language, text, config)?;
     Ok(stats)
@@ -112,20 +100,7 @@ pub fn parse_from_str(
     config: &CountConfig,
 ) -> Result<CodeStats, CountError>
     requires { language < length counter.now }
-    ensures reads { IfOk result (λ s. stats_of s
-        ≡ text_reading counter.now config.now language text.now) }
-    ensures lines_at_most_weight { IfOk result (λ r. all_lines (stats_of r)
-        ≤ text_weight counter.now language text.now) }
-    ensures lines_at_most_bytes { HaveNoNotebook counter.now
-        → IfOk result (λ r. all_lines (stats_of r) ≤ length text.now) }
-    ensures no_overflow_of_light_texts { text_weight counter.now language text.now < 2 ^ 64
-        → ¬ IsErrOf result CountError.Overflow }
-    ensures no_overflow_without_notebooks { HaveNoNotebook counter.now
-        → ¬ IsErrOf result CountError.Overflow }
-    ensures never_refused_without_openers { HasNoOpener counter.now language text.now
-        → IsOk result }
-    ensures overflow { IsErrOf result CountError.Overflow
-        → ¬ Fits (text_reading counter.now config.now language text.now) }
+    ensures { CountsText counter.now config.now language text.now result }
 {
     parse_from_slice(alloc, counter, language, text.as_bytes(), config)
 }
