@@ -6,8 +6,8 @@ use crate::shown_languages::put_stats;
 use test_answers::{Answers, Members, Page, Row, RowError, Said};
 use tokei_count::Counter;
 use tokei_files::{ParseFault, from_path, from_shebang, parse_file};
+use tokei_languages::name_of;
 use tokei_memory::MemoryFolders;
-use tokei_print::name_of;
 use tokei_stats::Report;
 use tokei_table::{LanguageTable, LanguageType};
 

@@ -2,8 +2,7 @@
 //! inside it. Three numbers are blank, code and comment lines, and `(!)` marks a language of which
 //! a file couldn't be read.
 use test_answers::{Answers, Page};
-use tokei_languages::{Language, Languages};
-use tokei_print::name_of;
+use tokei_languages::{Language, Languages, name_of};
 use tokei_stats::{CodeStats, Report};
 use tokei_table::LanguageTable;
 

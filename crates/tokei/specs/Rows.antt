@@ -3,7 +3,7 @@ use Rattle.std.specs.Prelude.{ℕ, List, [], ◌++◌}
 use Rattle.serde_json.specs.Written.{compact_text}
 use Rattle.tokei_json.specs.ReportData.{line_data}
 use Rattle.tokei_stats.specs.Reports.{ReportValue}
-use Rattle.tokei_print.specs.Names.{name_in}
+use Rattle.tokei_languages.specs.Names.{name_in}
 use Rattle.tokei_print.specs.StreamRows.{stream_heading, stream_row}
 use Rattle.tokei_print.specs.Rules.{newline}
 use Rattle.tokei_options.specs.declared.streaming.Streaming.{Streaming}

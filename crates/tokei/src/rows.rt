@@ -9,8 +9,9 @@ ghost use Rattle.tokei_io.specs.Faults.{TellsFault, PassesNoFault};
 use std::alloc::Global;
 use tokei_io::{OutputError, Sink, put};
 use tokei_json::report_line;
+use tokei_languages::name_of;
 use tokei_options::Streaming;
-use tokei_print::{name_of, print_stream_heading, print_stream_row};
+use tokei_print::{print_stream_heading, print_stream_row};
 use tokei_stats::Report;
 use tokei_table::{LanguageTable, LanguageType};
 

@@ -6,7 +6,7 @@ use Rattle.std.specs.Cmp.Lexicographic.{slice_cmp}
 use Rattle.std.specs.List.{AllByRecursion}
 use Rattle.std.specs.Map.{values_of}
 use Rattle.std.specs.Ordering.{match_ordering}
-use Rattle.tokei_json.specs.ReportData.{name_of}
+use Rattle.tokei_languages.specs.Names.{name_in}
 use Rattle.tokei_json.specs.Tokens.{named}
 use Rattle.tokei_table.specs.Row.{Row}
 use denote.Param.Weighed.{most}
@@ -30,7 +30,7 @@ module _ {T : Type 0} (μ : T → ℕ) (m : ℕ) where
   named_within rows [] found h k = k
   named_within rows (e ∷ es) found h k =
       let both : max (μ e.1) (most μ (values_of es)) ≤ m = h in
-      named_within rows es (insert_entry (slice_cmp nat_cmp) found (name_of rows e.0) e.1) (omega arith) (insert_within found (name_of rows e.0) e.1 (omega arith) k)
+      named_within rows es (insert_entry (slice_cmp nat_cmp) found (name_in rows e.0) e.1) (omega arith) (insert_within found (name_in rows e.0) e.1 (omega arith) k)
 
   -- of a map of references
   pub AreWithin-seen : (es : List (Bor (List ℕ) × Bor T)) → AreWithin (map (λ e. (e.0.now, e.1.now)) es) → AllByRecursion (λ e. μ e.1.now ≤ m) es

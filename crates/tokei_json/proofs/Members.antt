@@ -8,7 +8,8 @@ use Rattle.std.specs.List.{AllByRecursion}
 use Rattle.std.specs.Cmp.Lexicographic.{slice_cmp}
 use Rattle.serde_json.specs.Data.{Data, Members, no_members, member, put}
 use Rattle.tokei_table.specs.Row.{Row}
-use Rattle.tokei_json.specs.ReportData.{name_of, named_data}
+use Rattle.tokei_languages.specs.Names.{name_in}
+use Rattle.tokei_json.specs.ReportData.{named_data}
 
 -- the texts that compare as equal are
 pub same_text : (k l : List ℕ) → slice_cmp nat_cmp k l ≡ Equal → k ≡ l
@@ -32,15 +33,15 @@ module _ (P : List ℕ → Data → Type 0) where
 
   -- entries that are put under their names, where it holds of each
   pub all_named : {S : Type 0} (rows : List Row) (value_of : S → Data) (es : List (ℕ × S)) (ms : Members)
-      → ((k : ℕ) (s : S) → P (name_of rows k) (value_of s)) → AllMembers ms → AllMembers (named_data rows value_of es ms)
+      → ((k : ℕ) (s : S) → P (name_in rows k) (value_of s)) → AllMembers ms → AllMembers (named_data rows value_of es ms)
   all_named rows value_of [] ms f h = h
-  all_named rows value_of (e ∷ es) ms f h = all_named rows value_of es (put (name_of rows e.0) (value_of e.1) ms) f (all_put (name_of rows e.0) (value_of e.1) ms (f e.0 e.1) h)
+  all_named rows value_of (e ∷ es) ms f h = all_named rows value_of es (put (name_in rows e.0) (value_of e.1) ms) f (all_put (name_in rows e.0) (value_of e.1) ms (f e.0 e.1) h)
 
   pub all_named_each : {S : Type 0} (rows : List Row) (value_of : S → Data) (es : List (ℕ × S)) (ms : Members)
-      → AllByRecursion (λ e. P (name_of rows e.0) (value_of e.1)) es → AllMembers ms → AllMembers (named_data rows value_of es ms)
+      → AllByRecursion (λ e. P (name_in rows e.0) (value_of e.1)) es → AllMembers ms → AllMembers (named_data rows value_of es ms)
   all_named_each rows value_of [] ms f h = h
   all_named_each rows value_of (e ∷ es) ms f h =
-      all_named_each rows value_of es (put (name_of rows e.0) (value_of e.1) ms) f.1 (all_put (name_of rows e.0) (value_of e.1) ms f.0 h)
+      all_named_each rows value_of es (put (name_in rows e.0) (value_of e.1) ms) f.1 (all_put (name_in rows e.0) (value_of e.1) ms f.0 h)
 
 -- what holds of each member, by what holds of each member
 pub all_mono : (P Q : List ℕ → Data → Type 0) (ms : Members) → ((k : List ℕ) (d : Data) → P k d → Q k d) → AllMembers P ms → AllMembers Q ms

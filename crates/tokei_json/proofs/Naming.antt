@@ -7,7 +7,8 @@ use Rattle.std.specs.List.Sorted.{IsStrictlySortedBy}
 use Rattle.std.specs.Map.{keys_of}
 use Rattle.std.specs.Ordering.{match_ordering}
 use Rattle.serde_json.specs.Data.{Data, Members, member, put}
-use Rattle.tokei_json.specs.ReportData.{name_of, named_data, blobs_data, statistics_data}
+use Rattle.tokei_languages.specs.Names.{name_in}
+use Rattle.tokei_json.specs.ReportData.{named_data, blobs_data, statistics_data}
 use Rattle.tokei_json.specs.Tokens.{named, members_by}
 use Rattle.tokei_json.proofs.Writing.{IsBelow, Ascend}
 use Rattle.tokei_stats.specs.Seen.{blobs_of}
@@ -67,10 +68,10 @@ pub named_members : {T S : Type 0} (rows : List Row) (seen : T → S) (value_of 
     → members_by (λ t. value_of (seen t)) (named rows es found) ≡ named_data rows value_of (map (λ e. (e.0, seen e.1)) es) (members_by (λ t. value_of (seen t)) found)
 named_members rows seen value_of [] found = refl
 named_members rows seen value_of (e ∷ es) found =
-    named_members rows seen value_of es (insert_entry (slice_cmp nat_cmp) found (name_of rows e.0) e.1)
-    ∙ ap (named_data rows value_of (map (λ e. (e.0, seen e.1)) es)) (insert_member (λ t. value_of (seen t)) found (name_of rows e.0) e.1)
+    named_members rows seen value_of es (insert_entry (slice_cmp nat_cmp) found (name_in rows e.0) e.1)
+    ∙ ap (named_data rows value_of (map (λ e. (e.0, seen e.1)) es)) (insert_member (λ t. value_of (seen t)) found (name_in rows e.0) e.1)
 
 -- blobs are put as other values are
 pub named_blobs : (rows : List Row) (es : List (ℕ × Statistics)) (ms : Members) → blobs_data rows (blobs_of es) ms ≡ named_data rows (statistics_data rows) es ms
 named_blobs rows [] ms = refl
-named_blobs rows (e ∷ es) ms = named_blobs rows es (put (name_of rows e.0) (statistics_data rows e.1) ms)
+named_blobs rows (e ∷ es) ms = named_blobs rows es (put (name_in rows e.0) (statistics_data rows e.1) ms)

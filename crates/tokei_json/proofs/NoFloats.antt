@@ -8,7 +8,8 @@ use Rattle.tokei_stats.specs.Statistics.{Statistics, Blobs}
 use Rattle.tokei_stats.specs.Statistics.Statistics.{node}
 use Rattle.tokei_stats.specs.Statistics.Blobs.{none, blob}
 use Rattle.tokei_table.specs.Row.{Row}
-use Rattle.tokei_json.specs.ReportData.{name_of, statistics_data, blobs_data, report_data}
+use Rattle.tokei_languages.specs.Names.{name_in}
+use Rattle.tokei_json.specs.ReportData.{statistics_data, blobs_data, report_data}
 use Rattle.tokei_json.proofs.Members.{AllMembers, all_put}
 
 pub neither : (a b : Bool) → a ≡ false → b ≡ false → (a || b) ≡ false
@@ -29,7 +30,7 @@ mutual
   whole_blobs : (rows : List Row) (bs : Blobs) (ms : Members) → AllMembers IsWhole ms → AllMembers IsWhole (blobs_data rows bs ms)
   whole_blobs rows none ms h = h
   whole_blobs rows (blob k t rest) ms h =
-      whole_blobs rows rest (put (name_of rows k) (statistics_data rows t) ms) (all_put IsWhole (name_of rows k) (statistics_data rows t) ms (whole_statistics rows t) h)
+      whole_blobs rows rest (put (name_in rows k) (statistics_data rows t) ms) (all_put IsWhole (name_in rows k) (statistics_data rows t) ms (whole_statistics rows t) h)
 
 whole_report : (rows : List Row) (r : ReportValue) → has_float (report_data rows r) ≡ false
 whole_report rows r = neither (has_float (statistics_data rows r.stats)) false (whole_statistics rows r.stats) refl

@@ -2,7 +2,8 @@
 -- byte order.
 use Rattle.std.specs.Prelude.{ℕ, List, codes}
 use Rattle.serde_json.specs.Data.{Data, boolean, object, no_members, member, put}
-pub use Rattle.tokei_json.specs.ReportData.{count, name_of, statistics_data, blobs_data, report_data}
+use Rattle.tokei_languages.specs.Names.{name_in}
+pub use Rattle.tokei_json.specs.ReportData.{count, statistics_data, blobs_data, report_data}
 pub use Rattle.tokei_json.specs.ReportData.{line_data, reports_data, named_data}
 use Rattle.tokei_languages.specs.Summaries.{total_of}
 use Rattle.tokei_languages.specs.Values.{LanguageValue}

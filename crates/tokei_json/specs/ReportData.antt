@@ -3,20 +3,16 @@
 use Rattle.std.specs.Prelude.{ℕ, List, [], ◌∷◌, codes, map}
 use Rattle.serde_json.specs.Data.{Data, unsigned, number, string, array, object, Members, no_members, member, put}
 use Rattle.serde_json.specs.View.{items_of}
+use Rattle.tokei_languages.specs.Names.{name_in}
 use Rattle.tokei_stats.specs.Reports.{ReportValue}
 use Rattle.tokei_stats.specs.Statistics.{Statistics, Blobs}
 use Rattle.tokei_stats.specs.Statistics.Statistics.{node}
 use Rattle.tokei_stats.specs.Statistics.Blobs.{none, blob}
 use Rattle.tokei_table.specs.Row.{Row}
-use Rattle.tokei_table.specs.Lookups.{row_at}
 
 -- a count as a number
 abbrev pub count : ℕ → Data
 count n = number (unsigned n)
-
--- the name of a language; one that isn't of the table has an empty name
-abbrev pub name_of : List Row → ℕ → List ℕ
-name_of rows language = (row_at rows language).name
 
 -- statistics; `blobs_data` puts the blobs behind the members that are there
 abbrev mutual
@@ -31,7 +27,7 @@ abbrev mutual
   pub blobs_data : List Row → Blobs → Members → Members
   blobs_data rows none ms = ms
   blobs_data rows (blob k t rest) ms =
-      blobs_data rows rest (put (name_of rows k) (statistics_data rows t) ms)
+      blobs_data rows rest (put (name_in rows k) (statistics_data rows t) ms)
 
 -- a report: its name and its statistics
 abbrev pub report_data : List Row → ReportValue → Data
@@ -42,7 +38,7 @@ report_data rows report = object
 -- a file's report beside the name of its language
 abbrev pub line_data : List Row → ℕ → ReportValue → Data
 line_data rows language report = object
-    (member (codes "language") (string (name_of rows language))
+    (member (codes "language") (string (name_in rows language))
     (member (codes "stats") (report_data rows report) no_members))
 
 -- the reports in their order
@@ -53,4 +49,4 @@ reports_data rows rs = array (items_of (map (report_data rows) rs))
 abbrev pub named_data : {S : Type 0} → List Row → (S → Data) → List (ℕ × S) → Members → Members
 named_data rows value_of [] ms = ms
 named_data rows value_of (e ∷ es) ms =
-    named_data rows value_of es (put (name_of rows e.0) (value_of e.1) ms)
+    named_data rows value_of es (put (name_in rows e.0) (value_of e.1) ms)

@@ -13,7 +13,8 @@ use Rattle.json.specs.Written as json
 use Rattle.serde_json.specs.Data.{Data, Members, no_members, member}
 use Rattle.serde_json.specs.Read.{of_json}
 use Rattle.serde_json.specs.Written.{outline}
-use Rattle.tokei_json.specs.ReportData.{name_of, reports_data}
+use Rattle.tokei_languages.specs.Names.{name_in}
+use Rattle.tokei_json.specs.ReportData.{reports_data}
 use Rattle.tokei_stats.specs.Reports.{reports_of}
 use Rattle.tokei_stats.specs.declared.report.Report.{Report}
 use Rattle.tokei_table.specs.Row.{Row}
@@ -34,7 +35,7 @@ pub record IsMember (name : List ℕ) (value : Data) (old new : json.Written) : 
 abbrev pub named : {T : Type 0} → List Row → List (ℕ × T) → List (List ℕ × T) → List (List ℕ × T)
 named rows [] found = found
 named rows (e ∷ es) found =
-    named rows es (insert_entry (slice_cmp nat_cmp) found (name_of rows e.0) e.1)
+    named rows es (insert_entry (slice_cmp nat_cmp) found (name_in rows e.0) e.1)
 
 -- values under their names as members
 abbrev pub members_by : {T : Type 0} → (T → Data) → List (List ℕ × T) → Members

@@ -4,8 +4,9 @@ ghost use Rattle.std.specs.Result.{IsOkAnd};
 ghost use Rattle.serde_json.specs.Data.{no_members, put as with_member};
 ghost use Rattle.serde_json.specs.View.{view, members_view};
 ghost use Rattle.serde_json.specs.Written.{compact_text};
-ghost use Rattle.tokei_json.specs.ReportData.{name_of as name_in, statistics_data, blobs_data, report_data};
+ghost use Rattle.tokei_json.specs.ReportData.{statistics_data, blobs_data, report_data};
 ghost use Rattle.tokei_json.specs.ReportData.{reports_data, named_data, line_data};
+ghost use Rattle.tokei_languages.specs.Names.{name_in};
 ghost use Rattle.tokei_stats.specs.Reports.{report_of, reports_of, children_of};
 ghost use Rattle.tokei_stats.specs.Seen.{blobs_of, entries_of, stats_of};
 
@@ -15,19 +16,9 @@ use json::Writer;
 use serde_json::{Map, Value, json, put};
 use std::alloc::{AllocError, Global};
 use std::collections::BTreeMap;
+use tokei_languages::name_of;
 use tokei_stats::{CodeStats, Report};
 use tokei_table::{LanguageTable, LanguageType};
-
-/// The name of a language; one that isn't of the table has an empty name.
-pub fn name_of(table: &LanguageTable, language: LanguageType) -> &str
-    ensures { result.now ≡ name_in table.entry.now language }
-{
-    if table.has(language) {
-        language.name(table)
-    } else {
-        ""
-    }
-}
 
 /// Puts a value, where it could be made, under the name of the language.
 pub(crate) fn put_named(

@@ -13,12 +13,11 @@ ghost use Rattle.tokei_stats.specs.Overflow.{CountsFit};
 ghost use Rattle.tokei_stats.specs.Reports.{report_of};
 ghost use Rattle.tokei_stats.specs.Seen.{sums_of};
 
-use crate::reports::name_of;
 use crate::tokens::{by_name, text_of, write_children, write_count, write_reports};
 use json::Writer;
 use std::alloc::{AllocError, Global};
 use std::collections::BTreeMap;
-use tokei_languages::{Language, Languages};
+use tokei_languages::{Language, Languages, name_of};
 use tokei_stats::{CountError, Report, Sums};
 use tokei_table::LanguageTable;
 

@@ -9,11 +9,11 @@ ghost use Rattle.tokei_json.specs.Tokens.{IsMember, IsWritten, children_members,
 ghost use Rattle.tokei_stats.specs.Reports.{report_of};
 ghost use Rattle.tokei_stats.specs.Seen.{blobs_of, entries_of, stats_of};
 
-use crate::reports::name_of;
 use json::Writer;
 use std::alloc::{AllocError, Global};
 use std::collections::BTreeMap;
 use std::collections::btree_map::Iter;
+use tokei_languages::name_of;
 use tokei_stats::{CodeStats, Report};
 use tokei_table::{LanguageTable, LanguageType};
 

@@ -4,6 +4,7 @@ pub mod AnyOrder
 pub mod Laws
 pub mod Maps
 pub mod Merging
+pub mod Names
 pub mod Renewing
 pub mod Seen
 pub mod Sorting

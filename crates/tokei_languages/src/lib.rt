@@ -5,13 +5,15 @@
 mod before;
 mod children;
 mod copies;
-pub mod language;
-pub mod languages;
+mod language;
+mod languages;
 pub mod laws;
 mod merge;
+mod names;
 mod sorting;
 mod sums;
 mod totals;
 
 pub use language::Language;
 pub use languages::Languages;
+pub use names::name_of;

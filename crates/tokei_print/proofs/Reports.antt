@@ -4,7 +4,7 @@ use Rattle.tokei_languages.specs.Values.{LanguageValue}
 use Rattle.tokei_print.proofs.Behind.{four_behind}
 use Rattle.tokei_print.specs.Heading.{header}
 use Rattle.tokei_print.specs.declared.layout.Layout.{Layout}
-use Rattle.tokei_print.specs.Names.{name_in}
+use Rattle.tokei_languages.specs.Names.{name_in}
 use Rattle.tokei_print.specs.Results.{results_text}
 use Rattle.tokei_print.specs.Total.{total_text}
 use Rattle.tokei_table.specs.Row.{Row}

@@ -17,7 +17,6 @@ pub mod ListedLanguages
 pub mod ListedReports
 pub mod NameOrder
 pub mod NameSection
-pub mod Names
 pub mod PrintedReports
 pub mod ReportSums
 pub mod Results

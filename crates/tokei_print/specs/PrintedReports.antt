@@ -6,7 +6,7 @@ use Rattle.tokei_languages.specs.Values.{LanguageValue}
 use Rattle.tokei_options.specs.declared.sort.Sort.{Sort}
 use Rattle.tokei_print.specs.Heading.{header, warning}
 use Rattle.tokei_print.specs.declared.layout.Layout.{Layout}
-use Rattle.tokei_print.specs.Names.{name_in}
+use Rattle.tokei_languages.specs.Names.{name_in}
 use Rattle.tokei_print.specs.Results.{results_text}
 use Rattle.tokei_print.specs.Total.{total_text}
 use Rattle.tokei_print.specs.Sorted.{listed_by}

@@ -2,9 +2,9 @@
 use crate::cells::counted_row;
 use crate::joined::joined;
 use crate::layout::Layout;
-use crate::names::name_of;
 use std::alloc::{AllocError, Global};
 use std::collections::BTreeMap;
+use tokei_languages::name_of;
 use tokei_options::columns::LINES_COLUMN_WIDTH;
 use tokei_stats::{CodeStats, CountError, CountsCells, ReportRow};
 use tokei_table::{LanguageTable, LanguageType};
@@ -14,7 +14,7 @@ impl Layout {
     ghost use Rattle.tokei_stats.specs.Seen.{blobs_of, counts_of, entries_of, stats_of};
     ghost use Rattle.tokei_print.specs.BlobRows.{BlobRowsFit, blob_row, blob_rows, name_line, own_row};
     ghost use Rattle.tokei_print.specs.LinesFit.{LinesFit};
-    ghost use Rattle.tokei_print.specs.Names.{name_in};
+    ghost use Rattle.tokei_languages.specs.Names.{name_in};
 
     /// A file's name: alone where no other file stands above, and else between dashes.
     pub fn name_line(&self, alloc: Global, name: &str, first: bool) -> Result<String, AllocError>

@@ -1,7 +1,7 @@
 //! The rows of the languages inside the files of another, and the subtotal below them.
 ghost use Rattle.std.specs.Prelude.{◌≡◌, IfOk, IsErrOf, string_bytes};
 ghost use Rattle.tokei_languages.specs.Seen.{language_of};
-ghost use Rattle.tokei_print.specs.Names.{name_in};
+ghost use Rattle.tokei_languages.specs.Names.{name_in};
 ghost use Rattle.tokei_print.specs.ChildrenBlock.{children_block};
 ghost use Rattle.tokei_print.specs.ChildrenBlockFits.{ChildrenBlockFits};
 

@@ -1,6 +1,6 @@
 //! The rows of a language's files.
 ghost use Rattle.std.specs.Prelude.{◌≡◌, IfOk, IsErrOf, filter, not, string_bytes};
-ghost use Rattle.tokei_print.specs.Names.{name_in};
+ghost use Rattle.tokei_languages.specs.Names.{name_in};
 ghost use Rattle.tokei_print.specs.FileRows.{file_block, file_blocks, file_row, file_rows, has_row_alone};
 ghost use Rattle.tokei_print.specs.FileRows.{listed_files};
 ghost use Rattle.tokei_print.specs.FilesFit.{FileBlockFits, FileBlocksFit};

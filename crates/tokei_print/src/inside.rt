@@ -1,7 +1,7 @@
 //! The rows of the languages inside the files of another.
 ghost use Rattle.std.specs.Prelude.{◌≡◌, IfOk, IfErr, IsErrOf, OnErr, map, string_bytes};
 ghost use Rattle.tokei_print.specs.LinesFit.{LinesFit};
-ghost use Rattle.tokei_print.specs.Names.{name_in};
+ghost use Rattle.tokei_languages.specs.Names.{name_in};
 ghost use Rattle.tokei_print.specs.ChildRows.{child_row, child_rows};
 ghost use Rattle.tokei_print.specs.ChildrenFit.{ChildrenFit};
 ghost use Rattle.tokei_stats.specs.Overflow.{CountsFit};
@@ -11,9 +11,9 @@ ghost use Rattle.tokei_stats.specs.Seen.{sums_of};
 use crate::counts::files_and_counts;
 use crate::joined::joined;
 use crate::layout::Layout;
-use crate::names::name_of;
 use std::alloc::Global;
 use std::collections::BTreeMap;
+use tokei_languages::name_of;
 use tokei_stats::{CountError, Report, Sums};
 use tokei_table::{LanguageTable, LanguageType};
 

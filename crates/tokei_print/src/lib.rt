@@ -13,7 +13,6 @@ mod joined;
 mod language_row;
 mod layout;
 mod name_section;
-mod names;
 mod order;
 mod ordered;
 mod printer;
@@ -25,7 +24,6 @@ mod subtotal;
 mod total;
 
 pub use layout::Layout;
-pub use names::name_of;
 pub use printer::Printer;
 pub use report::text_of_report;
 pub use stream_rows::{print_stream_heading, print_stream_row};

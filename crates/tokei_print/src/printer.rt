@@ -29,7 +29,7 @@ impl<W: Sink + Drop> Printer<W> {
     ghost use Rattle.tokei_print.specs.NameSection.{name_section, prefix_of};
     ghost use Rattle.tokei_io.specs.Printing.{CountsWriteFault};
     ghost use Rattle.tokei_print.specs.ListedLanguages.{languages_in};
-    ghost use Rattle.tokei_print.specs.Names.{name_in};
+    ghost use Rattle.tokei_languages.specs.Names.{name_in};
     ghost use Rattle.tokei_print.specs.Results.{results_text};
     ghost use Rattle.tokei_print.specs.ResultsFit.{ResultsFit};
     ghost use Rattle.tokei_print.specs.Total.{total_text, TotalFits};

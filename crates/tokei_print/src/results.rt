@@ -1,7 +1,7 @@
 //! The rows of all languages.
 ghost use Rattle.std.specs.Prelude.{◌≡◌, IfOk, IsErrOf, string_bytes};
 ghost use Rattle.tokei_languages.specs.Seen.{language_of};
-ghost use Rattle.tokei_print.specs.Names.{name_in};
+ghost use Rattle.tokei_languages.specs.Names.{name_in};
 ghost use Rattle.tokei_print.specs.ListedLanguages.{languages_in};
 ghost use Rattle.tokei_print.specs.Results.{counts_block, files_block, group_of, is_empty_language, is_of_group};
 ghost use Rattle.tokei_print.specs.Results.{language_block, language_blocks, parting, results_text, shows_children};
@@ -12,10 +12,9 @@ use crate::file_rows::{ListedLanguage, listed_files};
 use crate::joined::joined;
 use crate::language_row::language_row;
 use crate::layout::Layout;
-use crate::names::name_of;
 use crate::ordered::in_order;
 use std::alloc::Global;
-use tokei_languages::Language;
+use tokei_languages::{Language, name_of};
 use tokei_stats::CountError;
 use tokei_table::{LanguageTable, LanguageType};
 

@@ -3,7 +3,8 @@ use Rattle.serde_json.proofs.Views.{view-Object}
 use Rattle.serde_json.specs.Data.{no_members, object, put}
 use Rattle.serde_json.specs.View.{members_view}
 use Rattle.tokei_json.specs.CountedObjects.{count_members}
-use Rattle.tokei_json.specs.ReportData.{blobs_data, name_of, statistics_data}
+use Rattle.tokei_languages.specs.Names.{name_in}
+use Rattle.tokei_json.specs.ReportData.{blobs_data, statistics_data}
 use Rattle.tokei_stats.specs.Seen.{blobs_of, entries_of, stats_of, stats_step, sums_of}
 use Rattle.tokei_stats.specs.Statistics.{Counts, Statistics, own}
 use Rattle.tokei_stats.specs.Statistics.Statistics.{node}
@@ -16,7 +17,7 @@ blobs_value-loop-language-preserved t c =
     let l = c.loop-language in
     let rows = c.args.table.now in
     let left = c.next.new.self in
-    let put_here = made_put c.statistics_value-value.result (name_of rows c.in-Some.language.now) (statistics_data rows (stats_of c.in-Some.stats.now))
+    let put_here = made_put c.statistics_value-value.result (name_in rows c.in-Some.language.now) (statistics_data rows (stats_of c.in-Some.stats.now))
     (members_view l.members.entries) (members_view c.put_named.new.members.entries)
     c.statistics_value-value.ensures c.in_ok-put_named.ensures in
     l.invariant

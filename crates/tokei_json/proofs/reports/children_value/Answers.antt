@@ -1,7 +1,8 @@
 use Rattle.std.proofs.Common.{sym, ap, ◌∙◌}
 use Rattle.serde_json.specs.Data.{no_members}
 use Rattle.serde_json.specs.View.{members_view}
-use Rattle.tokei_json.specs.ReportData.{named_data, name_of, reports_data}
+use Rattle.tokei_languages.specs.Names.{name_in}
+use Rattle.tokei_json.specs.ReportData.{named_data, reports_data}
 use Rattle.tokei_stats.specs.Reports.{children_of, reports_of}
 use Rattle.tokei_json.proofs.Made.{made_put}
 use Rattle.tokei_json.proofs.reports.children_value.Goals as goal
@@ -11,7 +12,7 @@ loop-language-preserved c =
     let l = c.loop-language in
     let rows = c.args.table.now in
     let left = c.next.new.self in
-    let put_here = made_put c.reports_value-value.result (name_of rows c.in-Some.language.now) (reports_data rows (reports_of c.in-Some.reports.now))
+    let put_here = made_put c.reports_value-value.result (name_in rows c.in-Some.language.now) (reports_data rows (reports_of c.in-Some.reports.now))
     (members_view l.members.entries) (members_view c.put_named.new.members.entries)
     c.reports_value-value.ensures c.in_ok-put_named.ensures in
     l.invariant

@@ -1,7 +1,8 @@
 use Rattle.std.proofs.Common.{sym, ap, ◌∙◌}
 use Rattle.serde_json.specs.Data.{no_members}
 use Rattle.serde_json.specs.View.{members_view}
-use Rattle.tokei_json.specs.Document.{named_data, name_of, language_data}
+use Rattle.tokei_languages.specs.Names.{name_in}
+use Rattle.tokei_json.specs.Document.{named_data, language_data}
 use Rattle.tokei_languages.specs.Seen.{entries_of, language_of}
 use Rattle.tokei_json.proofs.Made.{made_put}
 use Rattle.tokei_json.proofs.write.languages_value.Goals as goal
@@ -11,7 +12,7 @@ loop-language-preserved c =
     let l = c.loop-language in
     let rows = c.args.table.now in
     let left = c.next.new.self in
-    let put_here = made_put c.language_value-value.result (name_of rows c.in-Some.language.now) (language_data rows (language_of c.in-Some.value.now))
+    let put_here = made_put c.language_value-value.result (name_in rows c.in-Some.language.now) (language_data rows (language_of c.in-Some.value.now))
     (members_view l.members.entries) (members_view c.put_named.new.members.entries)
     c.language_value-value.ensures c.in_ok-put_named.ensures in
     l.invariant

@@ -6,7 +6,7 @@ use Rattle.tokei_stats.specs.Statistics.{Counts, blobs}
 use Rattle.tokei_stats.specs.declared.error.CountError.TheVariants.{Overflow}
 use Rattle.tokei_print.specs.BlobRows.{BlobRowsFit, blob_rows, name_line, own_row}
 use Rattle.tokei_print.specs.LinesFit.{LinesFit}
-use Rattle.tokei_print.specs.Names.{name_in}
+use Rattle.tokei_languages.specs.Names.{name_in}
 use Rattle.tokei_print.specs.Subtotal.{subtotal}
 use Rattle.tokei_print.proofs.Behind.{four_behind}
 use Rattle.tokei_languages.proofs.Refusals.{no_refusal}

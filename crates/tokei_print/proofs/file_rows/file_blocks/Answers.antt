@@ -4,7 +4,7 @@ use Rattle.tokei_stats.specs.declared.report.Report.{Report}
 use Rattle.tokei_print.specs.FileRows.{file_block, file_blocks, has_row_alone}
 use Rattle.tokei_print.specs.FilesFit.{FileBlocksFit}
 use Rattle.tokei_print.specs.ListedReports.{reports_in}
-use Rattle.tokei_print.specs.Names.{name_in}
+use Rattle.tokei_languages.specs.Names.{name_in}
 use Rattle.tokei_print.proofs.Behind.{none_yet, one_more, no_more, one_kept, one_passed, none_kept}
 use Rattle.tokei_stats.specs.declared.error.CountError.TheVariants.{Overflow}
 use Rattle.tokei_print.proofs.file_rows.file_blocks.Goals as goal

@@ -1,7 +1,7 @@
 use Rattle.std.proofs.Common.{◌≡◌, ◌++◌, drop, filter, not, string_bytes}
 use Rattle.tokei_print.specs.FileRows.{file_blocks, has_row_alone}
 use Rattle.tokei_print.specs.FilesFit.{FileBlocksFit}
-use Rattle.tokei_print.specs.Names.{name_in}
+use Rattle.tokei_languages.specs.Names.{name_in}
 use Rattle.tokei_print.specs.ListedReports.{reports_in}
 use Rattle.tokei_print.proofs.file_rows.file_blocks.Given as goal
 

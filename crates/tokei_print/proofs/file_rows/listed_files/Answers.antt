@@ -3,7 +3,7 @@ use Rattle.std.specs.Prelude.{◌==◌}
 use Rattle.std.specs.String.{string_len}
 use Rattle.tokei_print.specs.FileRows.{file_blocks, has_row_alone, with_blocks}
 use Rattle.tokei_print.specs.ListedReports.{reports_in}
-use Rattle.tokei_print.specs.Names.{name_in}
+use Rattle.tokei_languages.specs.Names.{name_in}
 use Rattle.tokei_print.proofs.Files.{no_rows}
 use Rattle.tokei_print.proofs.file_rows.listed_files.Goals as goal
 

@@ -3,7 +3,7 @@ use Rattle.tokei_stats.specs.Reports.{children_of, report_of, reports_summary}
 use Rattle.tokei_stats.specs.declared.report.Report.{Report}
 use Rattle.tokei_print.specs.ChildRows.{child_row, child_rows}
 use Rattle.tokei_print.specs.ChildrenFit.{ChildrenFit}
-use Rattle.tokei_print.specs.Names.{name_in}
+use Rattle.tokei_languages.specs.Names.{name_in}
 use Rattle.tokei_print.proofs.Behind.{one_more, no_more}
 use Rattle.tokei_stats.specs.declared.error.CountError.TheVariants.{Overflow}
 use Rattle.tokei_print.specs.LinesFit.{LinesFit}

@@ -2,7 +2,7 @@ use Rattle.std.proofs.Common.{◌≡◌, ◌++◌, string_bytes}
 use Rattle.tokei_stats.specs.Reports.{children_of}
 use Rattle.tokei_print.specs.ChildRows.{child_rows}
 use Rattle.tokei_print.specs.ChildrenFit.{ChildrenFit}
-use Rattle.tokei_print.specs.Names.{name_in}
+use Rattle.tokei_languages.specs.Names.{name_in}
 use Rattle.tokei_print.proofs.inside.child_rows.Given as goal
 
 abbrev pub invariant-loop-language : goal.invariant-loop-language

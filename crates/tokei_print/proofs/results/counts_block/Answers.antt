@@ -3,7 +3,7 @@ use Rattle.std.proofs.lemmas.List.{append-nil}
 use Rattle.tokei_languages.specs.Seen.{language_of}
 use Rattle.tokei_print.specs.ChildrenBlock.{children_block}
 use Rattle.tokei_print.specs.LanguageRow.{language_row}
-use Rattle.tokei_print.specs.Names.{name_in}
+use Rattle.tokei_languages.specs.Names.{name_in}
 use Rattle.tokei_languages.proofs.Refusals.{no_refusal}
 use Rattle.tokei_print.proofs.results.counts_block.Goals as goal
 

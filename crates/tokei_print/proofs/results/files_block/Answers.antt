@@ -5,7 +5,7 @@ use Rattle.tokei_print.specs.FileRows.{listed_files, with_blocks}
 use Rattle.tokei_print.specs.FilesFit.{FileBlocksFit}
 use Rattle.tokei_print.specs.ListedReports.{reports_in}
 use Rattle.tokei_print.specs.NameOrder.{in_order}
-use Rattle.tokei_print.specs.Names.{name_in}
+use Rattle.tokei_languages.specs.Names.{name_in}
 use Rattle.tokei_print.specs.Rules.{subrow}
 use Rattle.tokei_print.proofs.results.files_block.Goals as goal
 

@@ -3,7 +3,7 @@ use Rattle.tokei_languages.specs.Seen.{language_of}
 use Rattle.tokei_languages.specs.Values.{LanguageValue}
 use Rattle.tokei_languages.specs.declared.language.Language.{Language}
 use Rattle.tokei_print.specs.ListedLanguages.{languages_in}
-use Rattle.tokei_print.specs.Names.{name_in}
+use Rattle.tokei_languages.specs.Names.{name_in}
 use Rattle.tokei_print.specs.Results.{is_of_group, language_block, language_blocks}
 use Rattle.tokei_print.specs.ResultsFit.{LanguagesFit}
 use Rattle.tokei_print.proofs.Behind.{none_yet, one_more, no_more, one_kept, one_passed, none_kept}

@@ -1,6 +1,6 @@
 use Rattle.std.proofs.Common.{◌≡◌, ◌++◌, drop, string_bytes}
 use Rattle.tokei_print.specs.ListedLanguages.{languages_in}
-use Rattle.tokei_print.specs.Names.{name_in}
+use Rattle.tokei_languages.specs.Names.{name_in}
 use Rattle.tokei_print.specs.Results.{group_of, language_blocks}
 use Rattle.tokei_print.specs.ResultsFit.{LanguagesFit}
 use Rattle.tokei_print.proofs.results.group_rows.Given as goal

@@ -1,6 +1,6 @@
 use Rattle.std.proofs.Common.{◌≡◌, ℕ, List, ◌++◌, IfOk, string_bytes, append_assoc, ap, subst, ◌∙◌}
 use Rattle.tokei_languages.specs.Seen.{language_of}
-use Rattle.tokei_print.specs.Names.{name_in}
+use Rattle.tokei_languages.specs.Names.{name_in}
 use Rattle.tokei_print.specs.Results.{counts_block, files_block, parting}
 use Rattle.tokei_print.proofs.results.language_block.Goals as goal
 

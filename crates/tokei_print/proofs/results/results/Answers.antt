@@ -2,7 +2,7 @@ use Rattle.std.proofs.Common.{◌≡◌, ◌++◌, Bool, true, false, IfOk, leng
 use Rattle.std.specs.Prelude.{◌==◌}
 use Rattle.std.specs.String.{string_len}
 use Rattle.tokei_print.specs.ListedLanguages.{languages_in}
-use Rattle.tokei_print.specs.Names.{name_in}
+use Rattle.tokei_languages.specs.Names.{name_in}
 use Rattle.tokei_print.specs.Results.{group_of, language_blocks}
 use Rattle.tokei_print.proofs.Blocks.{no_blocks}
 use Rattle.tokei_print.proofs.results.results.Goals as goal

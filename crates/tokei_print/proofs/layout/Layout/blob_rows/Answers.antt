@@ -2,7 +2,7 @@ use Rattle.std.proofs.Common.{◌≡◌, ℕ, List, ◌++◌, string_bytes, sym,
 use Rattle.tokei_stats.specs.Seen.{blobs_of, entries_of, stats_of}
 use Rattle.tokei_stats.specs.declared.stats.CodeStats.{CodeStats}
 use Rattle.tokei_print.specs.BlobRows.{BlobRowsFit, blob_row, blob_rows}
-use Rattle.tokei_print.specs.Names.{name_in}
+use Rattle.tokei_languages.specs.Names.{name_in}
 use Rattle.tokei_print.proofs.Behind.{one_more, no_more}
 use Rattle.tokei_stats.specs.declared.error.CountError.TheVariants.{Overflow}
 use Rattle.tokei_print.proofs.layout.Layout.blob_rows.Goals as goal

@@ -1,7 +1,7 @@
 use Rattle.std.proofs.Common.{◌≡◌, ◌++◌, string_bytes}
 use Rattle.tokei_stats.specs.Seen.{blobs_of, entries_of}
 use Rattle.tokei_print.specs.BlobRows.{BlobRowsFit, blob_rows}
-use Rattle.tokei_print.specs.Names.{name_in}
+use Rattle.tokei_languages.specs.Names.{name_in}
 use Rattle.tokei_print.proofs.layout.Layout.blob_rows.Given as goal
 
 abbrev pub invariant-loop-language : goal.invariant-loop-language

@@ -1,6 +1,6 @@
 //! The names under which languages are shown.
 ghost use Rattle.std.specs.Prelude.{◌≡◌};
-ghost use Rattle.tokei_print.specs.Names.{name_in};
+ghost use Rattle.tokei_languages.specs.Names.{name_in};
 
 use tokei_table::{LanguageTable, LanguageType};
 
