@@ -7,11 +7,11 @@
 //! with the extensions that it adds, by `extended_table`; the other members it reads.
 #![tactic(auto)]
 
-pub mod config;
+mod config;
 mod document;
-pub mod files;
-pub mod flaws;
-pub mod language_config;
+mod files;
+mod flaws;
+mod language_config;
 mod languages;
 mod members;
 

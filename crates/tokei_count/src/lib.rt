@@ -1,9 +1,9 @@
 //! Counts the blank, code and comment lines of a text in its language, and of the texts of other
 //! languages inside it.
 //!
-//! `specs/` holds the rules, one idea a file: items, the choice at a place, the derivation, the
-//! mode at a place, parts, the class of a part, where a child opens in a language of each family,
-//! the plain reading.
+//! `specs/` holds what the calls promise, one idea a file: the plain reading of a text and of its
+//! children, its steps, its weight, and what a call answers. The rules of one text, from its items
+//! to the class of a part, are those of `tokei_parts`.
 #![tactic(auto)]
 
 mod counter;

@@ -2,10 +2,10 @@
 //! others; and the formats in which a document is printed and read.
 #![tactic(auto)]
 
-pub mod document;
-pub mod error;
-pub mod format;
-pub mod input;
+mod document;
+mod error;
+mod format;
+mod input;
 mod read;
 mod reading;
 

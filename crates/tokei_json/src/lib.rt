@@ -3,13 +3,13 @@
 #![tactic(auto)]
 
 mod counted_objects;
-pub mod language_maps;
-pub mod layout;
-pub mod named_table;
-pub mod reports;
-pub mod text;
+mod language_maps;
+mod layout;
+mod named_table;
+mod reports;
+mod text;
 mod tokens;
-pub mod write;
+mod write;
 
 pub use language_maps::{all_known, all_once};
 pub use layout::has_layout;

@@ -4,12 +4,12 @@
 #![tactic(auto)]
 
 pub mod converted;
-pub mod counts;
-pub mod fractions;
-pub mod lookups;
+mod counts;
+mod fractions;
+mod lookups;
 pub mod ordering;
-pub mod reading;
-pub mod tree;
+mod reading;
+mod tree;
 
 pub use counts::count;
 pub use fractions::has_float;

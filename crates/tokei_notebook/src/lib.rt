@@ -2,6 +2,6 @@
 #![tactic(auto)]
 
 mod layout;
-pub mod notebook;
+mod notebook;
 
 pub use notebook::{Cell, cells};

@@ -4,10 +4,10 @@
 #![tactic(auto)]
 
 pub mod columns;
-pub mod count_config;
-pub mod number_format;
-pub mod sort;
-pub mod streaming;
+mod count_config;
+mod number_format;
+mod sort;
+mod streaming;
 
 pub use count_config::CountConfig;
 pub use number_format::{NumberFormat, NumberFormatStyle, StyleError};

@@ -4,15 +4,15 @@
 #![tactic(auto)]
 
 mod counts_cells;
-pub mod error;
+mod error;
 pub mod laws;
 mod name_cell;
-pub mod report;
+mod report;
 mod report_row;
 pub mod shown;
-pub mod stats;
+mod stats;
 pub mod sum_laws;
-pub mod sums;
+mod sums;
 
 pub use counts_cells::CountsCells;
 pub use error::CountError;

@@ -1,4 +1,4 @@
--- What contracts say of a table: which texts are tables, the rows of one, and its look-ups.
+-- What contracts say of a table: its rows, which are well formed, and its look-ups.
 pub use Rattle.tokei_table_row.specs.Bytes
 pub use Rattle.tokei_table_row.specs.FirstOpener
 pub use Rattle.tokei_table_row.specs.NewRow

@@ -3,10 +3,10 @@
 #![tactic(auto)]
 
 mod extend;
-pub mod language_type;
-pub mod lookups;
+mod language_type;
+mod lookups;
 mod openers;
-pub mod table;
+mod table;
 pub mod table_laws;
 
 pub use language_type::LanguageType;

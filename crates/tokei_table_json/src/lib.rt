@@ -2,15 +2,15 @@
 //! holds, and the table of them, or why there is none.
 #![tactic(auto)]
 
-pub mod error;
+mod error;
 pub mod escaped;
 pub mod escapes;
-pub mod flaw;
+mod flaw;
 pub mod laws;
 pub mod layout;
 pub mod members;
 pub mod misfits;
-pub mod reading;
+mod reading;
 pub mod rows;
 pub mod token_lists;
 pub mod token_rows;

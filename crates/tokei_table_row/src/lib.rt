@@ -4,7 +4,7 @@
 
 pub mod ext;
 pub mod laws;
-pub mod syntax;
+mod syntax;
 
 pub use ext::{
     contains_slice, is_blank_text, is_line_ending_whitespace, is_whitespace, trim,

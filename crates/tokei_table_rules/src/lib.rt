@@ -5,8 +5,8 @@
 
 pub mod extend;
 pub mod family;
-pub mod indexed_rows;
-pub mod known_texts;
+mod indexed_rows;
+mod known_texts;
 pub mod lookups;
 pub mod names;
 pub mod openers;

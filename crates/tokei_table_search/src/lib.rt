@@ -2,9 +2,9 @@
 //! at its front.
 #![tactic(auto)]
 
-pub mod blanks;
+mod blanks;
 mod opener_group;
-pub mod opener_index;
+mod opener_index;
 mod tellers;
 
 pub use blanks::blanks_end;
