@@ -10,7 +10,9 @@ ghost use Rattle.tokei_parts.specs.LineWalk.{item_in, mode_in};
 ghost use Rattle.tokei_parts.specs.Class.{in_comment, in_string, in_doc_string, ends_opened};
 ghost use Rattle.tokei_parts.specs.Class.{keeps_columns};
 ghost use Rattle.tokei_parts.specs.CodeHeads.{BeginsNoComment, HasCodeHead, HasSolid};
-ghost use Rattle.tokei_parts.specs.CommentHeads.{HasCommentHead, any_solid_begins, ends_solid};
+ghost use Rattle.tokei_parts.specs.CommentHeads.{HasCommentHead, OpensComment, any_solid_begins, ends_solid};
+ghost use Rattle.tokei_parts.specs.CommentHeads.{opens_solid};
+ghost use Rattle.tokei_parts.specs.Derivation.{closer_of};
 ghost use Rattle.tokei_parts.specs.Modes.{innermost};
 ghost use Rattle.tokei_parts.specs.PlainBytes.{BeginsNone};
 ghost use Rattle.tokei_parts.specs.ReadingOf.{row_in};
@@ -408,6 +410,20 @@ fn class_by_all(
     class_by(reading, begun, start, start, stop, stack_of(&ended))
 }
 
+/// Whether the part of the text from `start` to before `stop` ends in that item, a comment, which a
+/// pair at the part's head opened.
+#[inline(always)]
+fn ends_in_own_comment(reading: &Reading, start: usize, stop: usize, ended: LineItem) -> bool
+    requires order { start ≤ stop }
+    requires within { stop ≤ length reading.now.text.now }
+    ensures comment { result ≡ true → in_comment (mode_of (item_in ended.entry)) ≡ true }
+    ensures opens { result ≡ true → OpensComment (row_in reading.now)
+        (take (stop - start) (drop start reading.now.text.now))
+        (closer_of (mode_of (item_in ended.entry))) }
+{
+    is_comment(ended.kind) && opens_comment(reading.syntax, reading.text, start, stop, ended.closer)
+}
+
 /// The same, where most lines are told at once by the kinds of the items, by a solid byte, or by
 /// one that begins no comment.
 #[inline(always)]
@@ -445,6 +461,7 @@ pub fn class_by_item(
                 && !is_doc_string(ended.kind)
                 && is_solid_at(reading.text, front, stop)
                 && begins_no_comment(reading.matchers, reading.text[front]) => { Class::Code }
+        None if !literate && ends_in_own_comment(reading, start, stop, ended) => Class::Comment,
         Some(_) if is_comment(begun) && !is_string(ended.kind) => Class::Comment,
         Some(_) if !is_comment(begun) && !reading.docs_are_comments && !literate => Class::Code,
         _ => class_by_all(reading, begun, start, stop, ended.kind, ended.closer),
@@ -532,6 +549,38 @@ fn begins_comment(syntax: &Syntax, text: &[u8], start: usize, solid: usize, stop
         return false;
     }
     any_solid_begins(&syntax.line_comment, &text[head..stop])
+}
+
+/// Whether a pair with this closer opens at the front of the text, by an opener that doesn't end in
+/// a blank.
+#[inline(always)]
+fn opens_solid(pairs: &[(String, String)], text: &[u8], closer: &[u8]) -> bool
+    ensures { result ≡ opens_solid (pairs_of pairs.now) text.now closer.now }
+{
+    for pair in pairs {
+        if ends_solid(pair.0.as_bytes()) && begins(&pair.0, text) && pair.1.as_bytes() == closer {
+            return true;
+        }
+    }
+    false
+}
+
+/// Whether a comment with this closer opens at the head of the part of the text from `start` to
+/// before `stop`, by an opener that doesn't end in a blank.
+#[inline(never)]
+fn opens_comment(syntax: &Syntax, text: &[u8], start: usize, stop: usize, closer: &[u8]) -> bool
+    requires order { start ≤ stop }
+    requires within { stop ≤ length text.now }
+    ensures { result ≡ true → OpensComment (row_of syntax.now)
+        (take (stop - start) (drop start text.now)) closer.now }
+{
+    let head = blanks_end(text, start, stop);
+    if start < head && keeps_columns(syntax.key.as_str()) {
+        return false;
+    }
+    let behind = &text[head..stop];
+    opens_solid(&syntax.multi_line_comments, behind, closer)
+        || opens_solid(&syntax.nested_comments, behind, closer)
 }
 
 /// Whether a line comment that doesn't end in a blank stands at the place of the text, in a

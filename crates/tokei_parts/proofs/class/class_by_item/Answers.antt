@@ -6,6 +6,7 @@ use Rattle.tokei_parts.specs.ReadingOf.{row_in}
 use Rattle.tokei_parts.specs.SeenChoices.{mode_of}
 use Rattle.tokei_parts.specs.declared.items.ItemKind.{ItemKind}
 use Rattle.tokei_parts.specs.declared.reading.Reading.{Reading}
+use Rattle.tokei_parts.proofs.CommentHeads.{opened_line}
 use Rattle.tokei_parts.proofs.CodeHeads.{code_head, comment_part, ends_in_string, front_part, solid_front, solid_part, string_part}
 use Rattle.tokei_parts.specs.LineWalk.{item_in}
 use Rattle.tokei_parts.proofs.OneItem.{kind_of_item, mode_of_item}
@@ -58,6 +59,16 @@ returns-in-None-3 c = λ m is.
     r.text.now c.args.start c.args.stop c.args.front c.requires.low (solid.place c.if-is_solid_at-2.true) c.requires.within c.requires.plain
     (solid.solid c.if-is_solid_at-2.true) (c.begins_no_comment.ensures c.if-begins_no_comment.true))
 
+pub returns-in-None-4 : goal.returns-in-None-4
+returns-in-None-4 c = λ m is.
+    let r : Reading = c.args.reading.now in
+    let part : List ℕ = part_bytes r c.args.start c.args.stop in
+    let ended : Mode = mode_of (item_in c.args.ended) in
+    let literate : (row_in r).literate ≡ false = ap (λ (g : Row). g.literate) (sym r.row) ∙ c.if-not-literate-4.true in
+    let own = c.ends_in_own_comment.ensures in
+    sym (ap (λ (n : Mode). class_of (row_in r) r.docs_are_comments (record { begun = n; bytes = part; ended = ended })) (plain_of m (is ∙ c.in-None-4.is))
+    ∙ opened_line (row_in r) r.docs_are_comments part ended literate (own.comment c.if-ends_in_own_comment.true) (own.opens c.if-ends_in_own_comment.true))
+
 pub returns-in-Some : goal.returns-in-Some
 returns-in-Some c = λ m is.
     let r : Reading = c.args.reading.now in
@@ -68,7 +79,7 @@ pub returns-in-Some-2 : goal.returns-in-Some-2
 returns-in-Some-2 c = λ m is.
     let r : Reading = c.args.reading.now in
     let part : List ℕ = part_bytes r c.args.start c.args.stop in
-    let literate : (row_in r).literate ≡ false = ap (λ (g : Row). g.literate) (sym r.row) ∙ c.if-not-literate-4.true in
+    let literate : (row_in r).literate ≡ false = ap (λ (g : Row). g.literate) (sym r.row) ∙ c.if-not-literate-5.true in
     sym (ap (λ docs. class_of (row_in r) docs (record { begun = m; bytes = part; ended = mode_of (item_in c.args.ended) })) c.if-not-reading-2.true
     ∙ string_part (row_in r) part m (mode_of (item_in c.args.ended)) (sym (c.if-not-is_comment.ensures m is)) (begun_some m c.in-Some-2.field-0 (is ∙ c.in-Some-2.is)) literate)
 
