@@ -16,12 +16,12 @@ loop-language-preserved c =
     let rows = c.args.counted.now.table.now in
     let data_of = member_data rows (languages_of c.args.counted.now.languages.now) in
     let here = seen_by (λ x. x) l.members.entries in
-    let called : c.name_in.result.now ≡ name_in rows c.in-Some.language.now = search rules in
+    let called : c.name_of.result.now ≡ name_in rows c.in-Some.language.now = search rules in
     let put_here : members_by data_of (seen_by (λ x. x) c.insert.new.self.entries)
     ≡ put (name_in rows c.in-Some.language.now) (language_data rows (language_of c.in-Some.value.now)) (members_by data_of here) =
     ap (λ es. members_by data_of (seen_by (λ x. x) es)) c.in-Ok.ensures.entries
-    ∙ ap (members_by data_of) (insert_seen (λ x. x) l.members.entries c.name_in.result (Language c.in-Some.value))
-    ∙ insert_member data_of here c.name_in.result.now (Language c.in-Some.value) ∙ rw called refl in
+    ∙ ap (members_by data_of) (insert_seen (λ x. x) l.members.entries c.name_of.result (Language c.in-Some.value))
+    ∙ insert_member data_of here c.name_of.result.now (Language c.in-Some.value) ∙ rw called refl in
     l.invariant
     ∙ ap (λ es. named_data rows (language_data rows) (entries_of es) (members_by data_of here)) c.in-Some.ensures.steps
     ∙ ap (named_data rows (language_data rows) (entries_of c.next.new.self)) (sym put_here)

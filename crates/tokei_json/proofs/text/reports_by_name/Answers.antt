@@ -16,12 +16,12 @@ loop-language-preserved c =
     let rows = c.args.counted.now.table.now in
     let f = λ (v : Vec Report Global). reports_data rows (reports_of v) in
     let here = seen_by now_of l.members.entries in
-    let called : c.name_in.result.now ≡ name_in rows c.in-Some.language.now = search rules in
+    let called : c.name_of.result.now ≡ name_in rows c.in-Some.language.now = search rules in
     let put_here : children_members rows c.insert.new.self.entries
     ≡ put (name_in rows c.in-Some.language.now) (reports_data rows (reports_of c.in-Some.value.now.reports)) (children_members rows l.members.entries) =
     ap (children_members rows) c.in-Ok.ensures.entries
-    ∙ ap (members_by f) (insert_seen now_of l.members.entries c.name_in.result _)
-    ∙ insert_member f here c.name_in.result.now _ ∙ rw called refl in
+    ∙ ap (members_by f) (insert_seen now_of l.members.entries c.name_of.result _)
+    ∙ insert_member f here c.name_of.result.now _ ∙ rw called refl in
     l.invariant
     ∙ ap (λ es. named_data rows (reports_data rows) (reports_by_language (entries_of es)) (children_members rows l.members.entries)) c.in-Some.ensures.steps
     ∙ ap (named_data rows (reports_data rows) (reports_by_language (entries_of c.next.new.self))) (sym put_here)

@@ -11,9 +11,9 @@ loop-language-preserved g c =
     let l = c.loop-language in
     let rows = c.args.table.now in
     let here = seen_by now_of l.members.entries in
-    let called : c.name_in.result.now ≡ name_in rows c.in-Some.language.now = search rules in
+    let called : c.name_of.result.now ≡ name_in rows c.in-Some.language.now = search rules in
     let put_here : seen_by now_of c.insert.new.self.entries ≡ insert_entry (slice_cmp nat_cmp) here (name_in rows c.in-Some.language.now) c.in-Some.value.now =
-    ap (seen_by now_of) c.in-Ok.ensures.entries ∙ insert_seen now_of l.members.entries c.name_in.result c.in-Some.value ∙ rw called refl in
+    ap (seen_by now_of) c.in-Ok.ensures.entries ∙ insert_seen now_of l.members.entries c.name_of.result c.in-Some.value ∙ rw called refl in
     l.invariant
     ∙ ap (λ es. named rows es here) c.in-Some.ensures.steps
     ∙ ap (named rows c.next.new.self) (sym put_here)

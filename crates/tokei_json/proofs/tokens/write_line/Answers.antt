@@ -17,7 +17,7 @@ returns c =
     let first = c.begin_object.new.self in
     let w1 = c.write_text.new.out in
     let w2 = c.write_report.new.out in
-    let called : c.name_in.result.now ≡ name = search rules in
+    let called : c.name_of.result.now ≡ name = search rules in
     on_ok_weaker c.end_object.result (λ e.
     named_stats_written (codes "language") name stats c.args.out.now first w1 w2 c.end_object.new.self refl
     (record { tokens = c.in_ok-begin_object.ensures.ok; before = c.in_ok-begin_object.ensures.room.0 })
