@@ -10,10 +10,10 @@ use Rattle.tokei_table.specs.Row.{Row}
 use Rattle.tokei_count.specs.Countings.{HasNoOpener, all_lines, text_reading, text_weight}
 use Rattle.tokei_count.specs.WeightLaws.{HaveNoNotebook}
 
--- The statistics of the text's plain reading, with no more lines than its weight, or its bytes where
--- no language is a notebook. It is refused for a sum only where the reading has none that fits, never
--- for one where the weight is below 2^64 or no language is a notebook, and never at all where a text
--- in another language has no opener.
+-- The statistics of the text's plain reading, with no more lines than its weight, or its bytes
+-- where no language is a notebook. It is refused for a sum only where the reading has none that
+-- fits, never for one where the weight is below 2^64 or no language is a notebook, and never at all
+-- where a text in another language than notebooks has no opener.
 pub record CountsText (rows : List Row) (config : CountConfig) (language : ℕ) (text : List ℕ)
     (result : Result CodeStats CountError) : Type 0 where
   pub reads : IfOk result (λ stats. stats_of stats ≡ text_reading rows config language text)

@@ -1,5 +1,5 @@
--- What contracts say of counting: the plain reading of a text and of its children, its steps and its
--- weight, and what a call that counts one answers.
+-- What contracts say of counting: the plain reading of a text and of its children, its steps and
+-- its weight, and what a call that counts one answers.
 -- The code's own words, which no public contract has:
 pub mod ClassLines
 pub mod CountedTexts

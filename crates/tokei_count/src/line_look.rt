@@ -212,8 +212,8 @@ fn with_block(
     marked: u64,
     gap: usize,
 ) -> Look
-    requires look { IsLook (is_marked ahead.now.marks.now) ahead.now.reading.now.text.now ahead.now.start
-        look }
+    requires look { IsLook (is_marked ahead.now.marks.now) ahead.now.reading.now.text.now
+        ahead.now.start look }
     requires within { look.at + BLOCK ≤ length ahead.now.reading.now.text.now }
     requires gap { gap ≤ BLOCK }
     requires blank { (blank == 1)
@@ -224,8 +224,8 @@ fn with_block(
         ≡ mask_l (fronts (blank == 1) (chunk look.at 32 ahead.now.reading.now.text.now)) }
     requires marked { marked ≡ mask_l (map (is_marked ahead.now.marks.now)
         (chunk look.at 32 ahead.now.reading.now.text.now)) }
-    ensures look { IsLook (is_marked ahead.now.marks.now) ahead.now.reading.now.text.now ahead.now.start
-        result }
+    ensures look { IsLook (is_marked ahead.now.marks.now) ahead.now.reading.now.text.now
+        ahead.now.start result }
     ensures at { result.at ≡ look.at + gap }
 {
     // there are no more lines than bytes, and so many can be counted
@@ -254,8 +254,8 @@ fn with_block(
 #[inline(always)]
 fn look_by<const TWO: bool>(ahead: &Ahead) -> (Look, u64, usize)
     requires one { TWO ≡ false → AreInOne ahead.now.marks.now }
-    ensures look { IsLook (is_marked ahead.now.marks.now) ahead.now.reading.now.text.now ahead.now.start
-        result.0 }
+    ensures look { IsLook (is_marked ahead.now.marks.now) ahead.now.reading.now.text.now
+        ahead.now.start result.0 }
     ensures blank { (result.1 == 1)
         ≡ blank_after true (between ahead.now.reading.now.text.now ahead.now.start result.0.at) }
     ensures clear { IsClear (openers_in ahead.now.reading.now) ahead.now.reading.now.text.now
@@ -309,11 +309,11 @@ fn look_by<const TWO: bool>(ahead: &Ahead) -> (Look, u64, usize)
     (look, blank, text.len())
 }
 
-/// The same by as many tables of marks as have some.
+/// The same, by the tables of marks that have some.
 #[inline(always)]
 fn look_ahead(ahead: &Ahead) -> (Look, u64, usize)
-    ensures look { IsLook (is_marked ahead.now.marks.now) ahead.now.reading.now.text.now ahead.now.start
-        result.0 }
+    ensures look { IsLook (is_marked ahead.now.marks.now) ahead.now.reading.now.text.now
+        ahead.now.start result.0 }
     ensures blank { (result.1 == 1)
         ≡ blank_after true (between ahead.now.reading.now.text.now ahead.now.start result.0.at) }
     ensures clear { IsClear (openers_in ahead.now.reading.now) ahead.now.reading.now.text.now
@@ -356,8 +356,8 @@ fn sums_with(literate: bool, blank: usize, solid: usize, comments: usize) -> Sum
 /// stands in no caller's code, since few lines of a look are comments.
 #[inline(never)]
 fn marks_behind(ahead: &Ahead, look: Look) -> usize
-    requires look { IsLook (is_marked ahead.now.marks.now) ahead.now.reading.now.text.now ahead.now.start
-        look }
+    requires look { IsLook (is_marked ahead.now.marks.now) ahead.now.reading.now.text.now
+        ahead.now.start look }
     requires some { ahead.now.start < look.stop }
     ensures { result ≡ mark_count (is_marked ahead.now.marks.now) true
         (between ahead.now.reading.now.text.now look.stop look.at) }
@@ -380,8 +380,8 @@ fn has_bytes(text: &[u8])
 /// these are marked. `blank` is 1 where that one has no front yet, else 0.
 #[inline(always)]
 fn fronts_before(ahead: &Ahead, look: Look, blank: u64) -> (usize, usize)
-    requires look { IsLook (is_marked ahead.now.marks.now) ahead.now.reading.now.text.now ahead.now.start
-        look }
+    requires look { IsLook (is_marked ahead.now.marks.now) ahead.now.reading.now.text.now
+        ahead.now.start look }
     requires some { ahead.now.start < look.stop }
     requires blank { (blank == 1)
         ≡ blank_after true (between ahead.now.reading.now.text.now ahead.now.start look.at) }
