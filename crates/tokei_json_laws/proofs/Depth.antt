@@ -9,7 +9,8 @@ use Rattle.tokei_stats.specs.Statistics.{Statistics, Blobs}
 use Rattle.tokei_stats.specs.Statistics.Statistics.{node}
 use Rattle.tokei_stats.specs.Statistics.Blobs.{none, blob}
 use Rattle.tokei_table.specs.Row.{Row}
-use Rattle.tokei_json.specs.Document.{name_of, statistics_data, blobs_data, report_data, reports_data, named_data, language_data, document}
+use Rattle.tokei_languages.specs.Names.{name_in}
+use Rattle.tokei_json.specs.Document.{statistics_data, blobs_data, report_data, reports_data, named_data, language_data, document}
 use Rattle.tokei_json_laws.specs.Levels.{levels, blob_levels, ReportsWithin, ListsWithin, LanguagesWithin}
 use Rattle.tokei_json.proofs.Members.{AllMembers, all_put, all_named_each}
 
@@ -44,8 +45,8 @@ module _ (rows : List Row) where
     blobs_within : (bs : Blobs) (ms : Members) (m : ℕ) → blob_levels bs ≤ m → AllMembers (λ k d. depth d ≤ 2 * m) ms → AllMembers (λ k d. depth d ≤ 2 * m) (blobs_data rows bs ms)
     blobs_within none ms m h all = all
     blobs_within (blob k t rest) ms m h all =
-        blobs_within rest (put (name_of rows k) (statistics_data rows t) ms) m (right_within (levels t) (blob_levels rest) m h)
-        (all_put (λ k d. depth d ≤ 2 * m) (name_of rows k) (statistics_data rows t) ms
+        blobs_within rest (put (name_in rows k) (statistics_data rows t) ms) m (right_within (levels t) (blob_levels rest) m h)
+        (all_put (λ k d. depth d ≤ 2 * m) (name_in rows k) (statistics_data rows t) ms
         (joined_within (depth (statistics_data rows t)) (2 * levels t + 2) (2 * m) (statistics_within t (levels t) (same_within (levels t))) (left_within (levels t) (blob_levels rest) m h)) all)
 
   report_bound : (a m : ℕ) → a ≤ 2 * m + 2 → suc (max 0 (max a 0)) ≤ 2 * m + 3

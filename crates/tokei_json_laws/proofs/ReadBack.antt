@@ -9,7 +9,8 @@ use Rattle.std.specs.Cmp.Lexicographic.{slice_cmp}
 use Rattle.std.specs.BTreeMap.{insert_entry}
 use Rattle.serde_json.specs.Data.{Data, Members, no_members, member, put}
 use Rattle.tokei_table.specs.Row.{Row}
-use Rattle.tokei_json.specs.Document.{name_of, named_data}
+use Rattle.tokei_languages.specs.Names.{name_in}
+use Rattle.tokei_json.specs.Document.{named_data}
 use Rattle.tokei_json.specs.LanguageMaps.{language_named}
 use Rattle.tokei_earlier.specs.Reading.{put_named}
 use Rattle.tokei_json_laws.proofs.Commuting.{insert_commutes}
@@ -90,15 +91,15 @@ module _ (rows : List Row) {S : Type 0} (read : Data → S) where
   module _ (value_of : S → Data) where
     -- each entry's name leads back to its language, and its value is read back
     abbrev pub Returns : List (ℕ × S) → Type 0
-    Returns es = AllByRecursion (λ e. (language_named rows (name_of rows e.0) ≡ Some e.0) × (read (value_of e.1) ≡ e.1)) es
+    Returns es = AllByRecursion (λ e. (language_named rows (name_in rows e.0) ≡ Some e.0) × (read (value_of e.1) ≡ e.1)) es
 
     read_named : (es : List (ℕ × S)) (ms : Members) (found : List (ℕ × S)) → Returns es → IsStrictlySortedBy nat_cmp (keys_of es) → AllByRecursion (λ e. IsApart e.0 ms) es
         → all_read (named_data rows value_of es ms) found ≡ all_read ms (put_all es found)
     unfolding IsStrictlySortedBy
     read_named [] ms found back sorted h = refl
     read_named (e ∷ es) ms found back sorted h =
-        read_named es (put (name_of rows e.0) (value_of e.1) ms) found back.1 sorted.1 (apart_still e.0 (name_of rows e.0) (value_of e.1) es ms back.0.0 sorted.0 h.1)
-        ∙ pushed e.0 (name_of rows e.0) (value_of e.1) ms (put_all es found) back.0.0 h.0
+        read_named es (put (name_in rows e.0) (value_of e.1) ms) found back.1 sorted.1 (apart_still e.0 (name_in rows e.0) (value_of e.1) es ms back.0.0 sorted.0 h.1)
+        ∙ pushed e.0 (name_in rows e.0) (value_of e.1) ms (put_all es found) back.0.0 h.0
         ∙ ap (λ s. all_read ms (insert_entry nat_cmp (put_all es found) e.0 s)) back.0.1
 
     none_apart : (es : List (ℕ × S)) → AllByRecursion (λ e. IsApart e.0 no_members) es

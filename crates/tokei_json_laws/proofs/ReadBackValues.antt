@@ -15,7 +15,8 @@ use Rattle.tokei_stats.specs.Statistics.Statistics.{node}
 use Rattle.tokei_stats.specs.Statistics.Blobs.{none, blob}
 use Rattle.tokei_table.specs.Row.{Row}
 use Rattle.tokei_table.specs.RowNames.{names_twice}
-use Rattle.tokei_json.specs.Document.{name_of, statistics_data, blobs_data, report_data, reports_data, named_data, language_data, document}
+use Rattle.tokei_languages.specs.Names.{name_in}
+use Rattle.tokei_json.specs.Document.{statistics_data, blobs_data, report_data, reports_data, named_data, language_data, document}
 use Rattle.tokei_json.specs.LanguageMaps.{language_named}
 use Rattle.tokei_earlier.specs.ReadReports.{put_named, put_blob, counts_in, statistics_in, with_blobs, report_in}
 use Rattle.tokei_earlier.specs.ReadReports.{all_reports_in, reports_in, with_children}
@@ -50,7 +51,7 @@ entries_sorted (blob k t rest) h = (all_behind k rest h.1.0, entries_sorted rest
 module _ (rows : List Row) (once : names_twice rows ≡ false) where
   blobs_named : (bs : Blobs) (ms : Members) → blobs_data rows bs ms ≡ named_data rows (statistics_data rows) (entries bs) ms
   blobs_named none ms = refl
-  blobs_named (blob k t rest) ms = blobs_named rest (put (name_of rows k) (statistics_data rows t) ms)
+  blobs_named (blob k t rest) ms = blobs_named rest (put (name_in rows k) (statistics_data rows t) ms)
 
   put_as_blob : (o : Option ℕ) (es : List (ℕ × Statistics)) (t : Statistics) → put_blob o (blobs_of es) t ≡ blobs_of (put_named o es t)
   put_as_blob None es t = refl

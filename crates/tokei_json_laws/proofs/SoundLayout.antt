@@ -12,7 +12,8 @@ use Rattle.tokei_stats.specs.Statistics.Statistics.{node}
 use Rattle.tokei_stats.specs.Statistics.Blobs.{none, blob}
 use Rattle.tokei_table_json.specs.Layout.{all_items}
 use Rattle.tokei_table.specs.Row.{Row}
-use Rattle.tokei_json.specs.Document.{name_of, statistics_data, blobs_data, report_data, reports_data, named_data, language_data, document}
+use Rattle.tokei_languages.specs.Names.{name_in}
+use Rattle.tokei_json.specs.Document.{statistics_data, blobs_data, report_data, reports_data, named_data, language_data, document}
 use Rattle.tokei_json.specs.Layout.{has_counts, is_statistics, all_statistics, is_report, are_reports, all_reports, is_language, are_languages, has_layout}
 use Rattle.tokei_json.proofs.Members.{AllMembers, all_put, all_named}
 use Rattle.tokei_json.proofs.Names.{right_true}
@@ -47,7 +48,7 @@ module _ (rows : List Row) where
     blobs_stand : (bs : Blobs) (ms : Members) → AllMembers (λ k d. is_statistics d ≡ true) ms → AllMembers (λ k d. is_statistics d ≡ true) (blobs_data rows bs ms)
     blobs_stand none ms h = h
     blobs_stand (blob k t rest) ms h =
-        blobs_stand rest (put (name_of rows k) (statistics_data rows t) ms) (all_put (λ k d. is_statistics d ≡ true) (name_of rows k) (statistics_data rows t) ms (statistics_stand t) h)
+        blobs_stand rest (put (name_in rows k) (statistics_data rows t) ms) (all_put (λ k d. is_statistics d ≡ true) (name_in rows k) (statistics_data rows t) ms (statistics_stand t) h)
 
   reports_stand : (rs : List ReportValue) → all_items is_report (items_of (map (report_data rows) rs)) ≡ true
   reports_stand [] = refl
@@ -73,7 +74,7 @@ module _ (rows : List Row) where
       let languages : AllMembers IsTotalOrLanguage (put (codes "Total") total ms) =
       all_put IsTotalOrLanguage (codes "Total") total ms (right_true (bytes_eq (codes "Total") (codes "Total")) (is_language total) (language_stands (total_of es)))
       (all_named IsTotalOrLanguage rows (language_data rows) es no_members
-      (λ k l. right_true (bytes_eq (name_of rows k) (codes "Total"))
+      (λ k l. right_true (bytes_eq (name_in rows k) (codes "Total"))
       (is_language (language_data rows l)) (language_stands l))
       tt) in
       both (not (has_float (document rows es))) _ (ap not (whole_document rows es))

@@ -16,7 +16,8 @@ use Rattle.tokei_table_json.specs.Layout.{all_items}
 use Rattle.tokei_table.specs.Lookups.{row_at}
 use Rattle.tokei_table.specs.Row.{Row}
 use Rattle.tokei_table.specs.RowNames.{names_twice, is_total}
-use Rattle.tokei_json.specs.Document.{name_of, statistics_data, blobs_data, report_data, reports_data, named_data, language_data, document}
+use Rattle.tokei_languages.specs.Names.{name_in}
+use Rattle.tokei_json.specs.Document.{statistics_data, blobs_data, report_data, reports_data, named_data, language_data, document}
 use Rattle.tokei_json.specs.LanguageMaps.{language_named, all_names, has_both, names_once, passes, statistics_pass, each_passes, report_passes, reports_pass, lists_pass, language_passes, languages_pass, all_known, all_once}
 use Rattle.tokei_json_laws.specs.Known.{AreKnown, BlobsAreKnown}
 use Rattle.tokei_json_laws.proofs.Sound.{ReportsAreSound, ChildrenAreSound, IsSound, LanguagesAreSound}
@@ -47,7 +48,7 @@ module _ (rows : List Row) where
   pub record IsNamed (k : List ℕ) : Type 0 where
     pub language : ℕ
     pub within : language < length rows
-    pub name : k ≡ name_of rows language
+    pub name : k ≡ name_in rows language
 
   abbrev TopName : List ℕ → Type 0
   TopName k = (k ≡ codes "Total") ⊎ IsNamed k
@@ -66,7 +67,7 @@ module _ (rows : List Row) where
         cc
     key_apart i h differ k (inr n) e =
         let same : i ≡ n.language = some_injective i n.language (sym (named_by_key rows i h once) ∙ ap (language_named rows) e ∙ found k n) in
-        let named : (row_at rows i).key ≡ (row_at rows i).name = e ∙ n.name ∙ ap (name_of rows) (sym same) in
+        let named : (row_at rows i).key ≡ (row_at rows i).name = e ∙ n.name ∙ ap (name_in rows) (sym same) in
         true≢false (sym ((bytes_eq-Decides (row_at rows i).key (row_at rows i).name).1 named) ∙ differ)
 
     not_both : (b c d : Bool) → (b ≡ false → c ≡ false) → not (not b && (c && d)) ≡ true
@@ -112,8 +113,8 @@ module _ (rows : List Row) where
         blobs_accepted : (bs : Blobs) (ms : Members) → BlobsAreKnown (length rows) bs → AllMembers BlobPasses ms → AllMembers BlobPasses (blobs_data rows bs ms)
         blobs_accepted none ms known h = h
         blobs_accepted (blob k t rest) ms known h =
-            blobs_accepted rest (put (name_of rows k) (statistics_data rows t) ms) known.1.1
-            (all_put BlobPasses (name_of rows k) (statistics_data rows t) ms (record { language = k; within = known.0; name = refl }, statistics_accepted t known.1.0) h)
+            blobs_accepted rest (put (name_in rows k) (statistics_data rows t) ms) known.1.1
+            (all_put BlobPasses (name_in rows k) (statistics_data rows t) ms (record { language = k; within = known.0; name = refl }, statistics_accepted t known.1.0) h)
 
       reports_accepted : (rs : List ReportValue) → ReportsAreSound (length rows) rs → reports_pass test (reports_data rows rs) ≡ true
       reports_accepted [] h = refl
@@ -124,7 +125,7 @@ module _ (rows : List Row) where
       abbrev ChildPasses : List ℕ → Data → Type 0
       ChildPasses k d = IsNamed k × (reports_pass test d ≡ true)
 
-      children_accepted : (es : List (ℕ × List ReportValue)) → ChildrenAreSound (length rows) es → AllByRecursion (λ e. ChildPasses (name_of rows e.0) (reports_data rows e.1)) es
+      children_accepted : (es : List (ℕ × List ReportValue)) → ChildrenAreSound (length rows) es → AllByRecursion (λ e. ChildPasses (name_in rows e.0) (reports_data rows e.1)) es
       children_accepted [] h = tt
       children_accepted (e ∷ es) h = ((record { language = e.0; within = h.0; name = refl }, reports_accepted e.1 h.1.0), children_accepted es h.1.1)
 
@@ -142,12 +143,12 @@ module _ (rows : List Row) where
       abbrev TopPasses : List ℕ → Data → Type 0
       TopPasses k d = TopName k × ((bytes_eq k (codes "Total") || language_passes test d) ≡ true)
 
-      entries_accepted : (es : List (ℕ × LanguageValue)) → LanguagesAreSound (length rows) es → AllByRecursion (λ e. TopPasses (name_of rows e.0) (language_data rows e.1)) es
+      entries_accepted : (es : List (ℕ × LanguageValue)) → LanguagesAreSound (length rows) es → AllByRecursion (λ e. TopPasses (name_in rows e.0) (language_data rows e.1)) es
       entries_accepted [] h = tt
       entries_accepted (e ∷ es) h = (
         (
           inr (record { language = e.0; within = h.0; name = refl }),
-          right_true (bytes_eq (name_of rows e.0) (codes "Total"))
+          right_true (bytes_eq (name_in rows e.0) (codes "Total"))
               (language_passes test (language_data rows e.1)) (language_accepted e.1 h.1.0),
         ),
         entries_accepted es h.1.1,
