@@ -164,11 +164,14 @@ few_with_one flags few n b l has small = record {
       (λ any y k. stays_in flags b y l (has.held any y k)) x h;
 }
 
--- none of no bytes is without a slot
-pub none_slotted : (slots others : List ℕ) (have : Bool) → AreSlotted (replicate 256 false) slots others have
-none_slotted slots others have = λ all b fits h. absurd (true≢false (sym h ∙ get_or-replicate 256 b false false fits))
+-- no slot of no bytes has one
+pub none_slotted : AreSlotted (replicate 256 false) (1 ∷ replicate 15 0) (1 ∷ replicate 15 0) true
+none_slotted = λ all b fits.
+    ap (λ one. one || is_slotted (1 ∷ replicate 15 0) b) (no_slot b)
+    ∙ no_slot b
+    ∙ sym (get_or-replicate 256 b false false fits)
 
--- nor has a slot of no byte one
+-- nor has the one table any
 pub none_alone : AreSlottedAlone (replicate 256 false) (1 ∷ replicate 15 0) true
 none_alone = λ so b fits. no_slot b ∙ sym (get_or-replicate 256 b false false fits)
 
@@ -183,26 +186,40 @@ stays_put : (slots new : List ℕ) (alone : Bool) (b x : ℕ) → IsPut slots ne
 stays_put slots new true b x is h = is.stays refl x h
 stays_put slots new false b x is h = ap (λ s. is_slotted s x) (is.kept refl) ∙ h
 
+same_flag : (a c : Bool) → (a ≡ true → c ≡ true) → (c ≡ true → a ≡ true) → a ≡ c
+same_flag true c to from = sym (to refl)
+same_flag false true to from = from refl
+same_flag false false to from = refl
+
 -- a byte more, and its slot: of the first, or else of the others
 pub stay_slotted : (flags : List Bool) (slots others new new_others : List ℕ) (have all alone : Bool) (b : ℕ) → b < length flags
     → AreSlotted flags slots others have
     → IsPut slots new alone b
     → (all ≡ true → have ≡ true)
     → (all ≡ true → (x : ℕ) → is_slotted others x ≡ true → is_slotted new_others x ≡ true)
-    → (all ≡ true → alone ≡ false → is_slotted new_others b ≡ true) → AreSlotted (set flags b true) new new_others all
-stay_slotted flags slots others new new_others have all alone b l are is before stays put = λ so x fits h. elim (either_of (is_in flags x) (x == b) (sym (put_in flags b x l) ∙ h)) [
-  | inl old ↦ in_both slots others new new_others x (stays_put slots new alone b x is) (stays so x) (are (before so) x fits old)
-  | inr same ↦ subst (λ y. in_slots new new_others y ≡ true) (sym ((Decides-eqb x b).0 same)) (by_side so alone refl)
-]
+    → (all ≡ true → alone ≡ false → is_slotted new_others b ≡ true)
+    → ((x : ℕ) → is_slotted new_others x ≡ true → (is_slotted others x ≡ true) ⊎ (x ≡ b))
+    → AreSlotted (set flags b true) new new_others all
+stay_slotted flags slots others new new_others have all alone b l are is before stays put only = λ so x fits.
+    let in_set = are (before so) x fits in
+    same_flag (in_slots new new_others x) (is_in (set flags b true) x)
+    (λ h. put_in flags b x l ∙ (elim (either_of (is_slotted new x) (is_slotted new_others x) h) [
+      | inl first ↦ from_one x (in_set) (λ old. put_first slots others x old) (is.only x first)
+      | inr second ↦ from_one x (in_set) (λ old. put_second slots others x old) (only x second)
+    ]))
+    (λ h. elim (either_of (is_in flags x) (x == b) (sym (put_in flags b x l) ∙ h)) [
+      | inl old ↦ in_both slots others new new_others x (stays_put slots new alone b x is) (stays so x) (in_set ∙ old)
+      | inr same ↦ subst (λ y. in_slots new new_others y ≡ true) (sym ((Decides-eqb x b).0 same)) (by_side so alone refl)
+    ])
   where
     by_side : all ≡ true → (y : Bool) → alone ≡ y → in_slots new new_others b ≡ true
     by_side so true e = put_first new new_others b (is.put e)
     by_side so false e = put_second new new_others b (put so e)
 
-same_flag : (a c : Bool) → (a ≡ true → c ≡ true) → (c ≡ true → a ≡ true) → a ≡ c
-same_flag true c to from = sym (to refl)
-same_flag false true to from = from refl
-same_flag false false to from = refl
+    from_one : (x : ℕ) {there : Bool} → in_slots slots others x ≡ is_in flags x → (there ≡ true → in_slots slots others x ≡ true)
+        → (there ≡ true) ⊎ (x ≡ b) → (is_in flags x || (x == b)) ≡ true
+    from_one x in_set first (inl old) = left_of (is_in flags x) (x == b) (sym in_set ∙ first old)
+    from_one x in_set first (inr same) = right_of (is_in flags x) (x == b) ((Decides-eqb x b).1 same)
 
 -- a byte more among those that stand in slots alone
 pub stay_alone : (flags : List Bool) (slots new : List ℕ) (have alone all : Bool) (b : ℕ) → b < length flags
@@ -224,11 +241,7 @@ stay_alone flags slots new have alone all b l are is each = λ so x fits.
 -- a byte that is in no slot isn't in the set
 pub outside_slots : (flags : List Bool) (slots others : List ℕ) (have : Bool) (b : ℕ) → AreSlotted flags slots others have → have ≡ true → b < 256
     → in_slots slots others b ≡ false → is_in flags b ≡ false
-outside_slots flags slots others have b are so fits none = by_flag (is_in flags b) (are so b fits)
-  where
-    by_flag : (y : Bool) → (y ≡ true → in_slots slots others b ≡ true) → y ≡ false
-    by_flag false h = refl
-    by_flag true h = absurd (true≢false (sym (h refl) ∙ none))
+outside_slots flags slots others have b are so fits none = sym (are so b fits) ∙ none
 
 -- the flag of a byte that has one doesn't go by the default
 pub any_default : (flags : List Bool) (i : ℕ) (d e : Bool) → i < length flags → slice_index_or flags i d ≡ slice_index_or flags i e

@@ -21,10 +21,10 @@ abbrev pub with_one : List ℕ → ℕ → ℕ → List ℕ
 with_one few zero byte = byte ∷ byte ∷ byte ∷ byte ∷ []
 with_one few (suc n) byte = byte ∷ slice_index few 0 ∷ slice_index few 1 ∷ slice_index few 2 ∷ []
 
--- where all have one, each byte of the set is in its slot, one of two
+-- where all have one, a byte stands in its slot, one of two, if it is in the set
 abbrev pub AreSlotted : List Bool → List ℕ → List ℕ → Bool → Type 0
 AreSlotted flags slots others have =
-    have ≡ true → (b : ℕ) → b < 256 → is_in flags b ≡ true → in_slots slots others b ≡ true
+    have ≡ true → (b : ℕ) → b < 256 → in_slots slots others b ≡ is_in flags b
 
 -- where the slots are those of the set alone, a byte stands in the slot of its low half if it is in
 -- the set

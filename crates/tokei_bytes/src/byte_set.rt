@@ -1,5 +1,5 @@
 //! Sets of bytes that a text is searched for.
-ghost use Rattle.std.specs.Prelude.{◌≡◌, ℕ, ◌<◌, ◌≤◌, ◌==◌, ◌||◌, true, false, length, replicate, IfOk, IfSome};
+ghost use Rattle.std.specs.Prelude.{◌≡◌, ℕ, ◌<◌, ◌≤◌, ◌==◌, ◌||◌, ◌⊎◌, true, false, length, replicate, IfOk, IfSome};
 ghost use Rattle.std.specs.Prelude.{slice_index};
 ghost use Rattle.tokei_bytes.specs.ByteSets.{AreSlotted, AreSlottedAlone, HasFew, is_in, with_one};
 ghost use Rattle.tokei_bytes.specs.FirstPlace.{IsFirstPlace};
@@ -21,8 +21,8 @@ pub struct ByteSet {
     /// is one where there are any.
     few: [u8; 4],
     count: u8,
-    /// Each byte of the set in the slot of its low half, where `has_slots`, here or in `others`;
-    /// here alone, and no other byte, where `is_slotted`.
+    /// Each byte of the set, and no other, in the slot of its low half, where `has_slots`, here or
+    /// in `others`; here alone where `is_slotted`.
     slots: [u8; 16],
     others: [u8; 16],
     has_slots: bool,
@@ -60,6 +60,8 @@ fn put_beside(put: bool, others: &mut [u8; 16], have_slots: bool, byte: u8) -> b
     ensures stays { result ≡ true → (x : ℕ) → is_slotted others.old x ≡ true
         → is_slotted others.new x ≡ true }
     ensures put { result ≡ true → put ≡ false → is_slotted others.new byte ≡ true }
+    ensures only { (x : ℕ) → is_slotted others.new x ≡ true
+        → (is_slotted others.old x ≡ true) ⊎ (x ≡ byte) }
 {
     have_slots && (put || put_slot(others, byte))
 }
@@ -106,11 +108,11 @@ impl ByteSet {
         self.flags[byte as usize]
     }
 
-    /// Two tables of slots, in one of which each byte of the set stands, where no three of them have
-    /// the same low half. The second one has none where no two have.
+    /// Two tables of slots, in one of which each byte of the set stands, and no other byte, where no
+    /// three of them have the same low half. The second one has none where no two have.
     pub fn slots(&self) -> Option<([u8; 16], [u8; 16])>
-        ensures { IfSome result (λ tables. (b : ℕ) → b < 256 → is_in self.now b ≡ true
-            → in_slots tables.0 tables.1 b ≡ true) }
+        ensures { IfSome result (λ tables. (b : ℕ) → b < 256
+            → in_slots tables.0 tables.1 b ≡ is_in self.now b) }
     {
         if self.has_slots {
             Some((self.slots, self.others))

@@ -36,6 +36,10 @@ pub fn put_slot_of_two(slots: &mut [u8; 16], others: &mut [u8; 16], byte: u8) ->
     ensures stays { result ≡ true → (x : ℕ) → in_slots slots.old others.old x ≡ true
         → in_slots slots.new others.new x ≡ true }
     ensures put { result ≡ true → in_slots slots.new others.new byte ≡ true }
+    ensures only { (x : ℕ) → in_slots slots.new others.new x ≡ true
+        → (in_slots slots.old others.old x ≡ true) ⊎ (x ≡ byte) }
+    ensures kept { result ≡ false → slots.new ≡ slots.old }
+    ensures kept_too { result ≡ false → others.new ≡ others.old }
 {
     put_slot(slots, byte) || put_slot(others, byte)
 }

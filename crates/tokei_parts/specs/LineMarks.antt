@@ -1,5 +1,5 @@
 -- The bytes that the lines of a plain text are searched for.
-use Rattle.std.specs.Prelude.{◌≡◌, ℕ, ◌<◌, Bool, true, false, List}
+use Rattle.std.specs.Prelude.{◌≡◌, ℕ, ◌<◌, ◌||◌, Bool, true, false, List}
 use Rattle.tokei_bytes.specs.ByteSets.{is_in}
 use Rattle.tokei_bytes.specs.Slots.{in_slots, is_slotted}
 use Rattle.tokei_table.specs.Bytes.{is_blank}
@@ -23,10 +23,11 @@ pub record AreMarks (is_mark : ℕ → Bool) (begins : List Bool)
   pub none : (x : ℕ) → is_mark x ≡ false → is_first openers x ≡ false
   pub blanks : (x : ℕ) → is_blank x ≡ true → is_mark x ≡ false
 
--- The bytes in the tables are such, the second table has some only where it is said, and the other
--- bytes tell the openers.
+-- The bytes in the tables are such, and no others; the second table has some only where it is said;
+-- the other bytes tell the openers.
 pub record AreLineMarks (marks : LineMarks) (begins : List Bool)
     (openers : List (List ℕ)) : Type 0 where
   pub slots : AreMarks (is_marked marks) begins openers
+  pub only : (x : ℕ) → x < 256 → is_marked marks x ≡ (is_in begins x || is_first openers x)
   pub one : marks.in_one ≡ true → AreInOne marks
   pub tellers : AreTellers marks.tellers openers

@@ -78,12 +78,10 @@ impl SharedMatchers {
     }
 
     /// Puts the first byte of each opener into the slot of its low half in one of two tables;
-    /// whether each stands in one then, as those do that stood in one before.
+    /// whether each stands in one then, beside those alone that stood in one before.
     pub(crate) fn put_firsts(&self, slots: &mut [u8; 16], others: &mut [u8; 16]) -> bool
-        ensures stays { result ≡ true → (x : ℕ) → in_slots slots.old others.old x ≡ true
-            → in_slots slots.new others.new x ≡ true }
-        ensures put { result ≡ true → (x : ℕ) → is_first self.now x ≡ true
-            → in_slots slots.new others.new x ≡ true }
+        ensures { result ≡ true → (x : ℕ) → in_slots slots.new others.new x
+            ≡ (in_slots slots.old others.old x || is_first self.now x) }
     {
         self.openers.put_firsts(slots, others)
     }

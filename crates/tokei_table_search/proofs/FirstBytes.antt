@@ -9,7 +9,6 @@ use Rattle.memchr.specs.Find.{IsFirstByte, is_byte, is_byte2, is_byte3}
 use Rattle.tokei_table_row.specs.RowOf.{tokens_of}
 use Rattle.tokei_table_row.specs.FirstOpener.{is_first_of, is_first}
 use Rattle.tokei_bytes.specs.OneOf.{is_one_of}
-use Rattle.tokei_bytes.specs.Slots.{in_slots, is_slotted}
 
 -- a search for another test, which answers the same at each byte of the text
 pub same_first : (p q : ℕ → Bool) (t : List ℕ) (r : Option ℕ)
@@ -241,39 +240,25 @@ pub or_assoc : (a b c : Bool) → ((a || b) || c) ≡ (a || (b || c))
 or_assoc true b c = refl
 or_assoc false b c = refl
 
-pub put_more : (old slots new bytes : List ℕ) (i byte : ℕ) → i < length bytes → byte ≡ get_or bytes i 0
-    → ((x : ℕ) → is_slotted slots x ≡ true → is_slotted new x ≡ true) → is_slotted new byte ≡ true
-    → ((x : ℕ) → is_slotted new x ≡ true → (is_slotted slots x ≡ true) ⊎ (x ≡ byte))
-    → ((x : ℕ) → is_slotted slots x ≡ (is_slotted old x || is_one_of (take i bytes) x))
-    → (x : ℕ) → is_slotted new x ≡ (is_slotted old x || is_one_of (take (i + 1) bytes) x)
-put_more old slots new bytes i byte l here stays put only so_far x =
-    or_either (is_slotted slots x) (x == byte) (is_slotted new x) (stays x)
-    (λ e. ap (is_slotted new) ((Decides-eqb x byte).0 e) ∙ put)
+-- of the bytes that stand in tables, as the tests say: before all, now, and with one more of the list
+pub put_more : (old so_far new : ℕ → Bool) (bytes : List ℕ) (i byte : ℕ) → i < length bytes → byte ≡ get_or bytes i 0
+    → ((x : ℕ) → so_far x ≡ true → new x ≡ true) → new byte ≡ true
+    → ((x : ℕ) → new x ≡ true → (so_far x ≡ true) ⊎ (x ≡ byte))
+    → ((x : ℕ) → so_far x ≡ (old x || is_one_of (take i bytes) x))
+    → (x : ℕ) → new x ≡ (old x || is_one_of (take (i + 1) bytes) x)
+put_more old so_far new bytes i byte l here stays put only are x =
+    or_either (so_far x) (x == byte) (new x) (stays x)
+    (λ e. ap new ((Decides-eqb x byte).0 e) ∙ put)
     (λ h. elim (only x h) [ inl e ↦ inl e | inr e ↦ inr ((Decides-eqb x byte).1 e) ])
-    ∙ ap (λ a. a || (x == byte)) (so_far x)
-    ∙ or_assoc (is_slotted old x) (is_one_of (take i bytes) x) (x == byte)
-    ∙ ap (λ a. is_slotted old x || a)
+    ∙ ap (λ a. a || (x == byte)) (are x)
+    ∙ or_assoc (old x) (is_one_of (take i bytes) x) (x == byte)
+    ∙ ap (λ a. old x || a)
     (ap (λ b. is_one_of (take i bytes) x || (x == b)) here
     ∙ sym (is_one_of-push (take i bytes) (get_or bytes i 0) x)
     ∙ ap (λ bs. is_one_of bs x) (sym (take_more bytes i 0 l)))
 
-pub put_none : (old : List ℕ) (x : ℕ) → is_slotted old x ≡ (is_slotted old x || is_one_of [] x)
-put_none old x = or_none (is_slotted old x)
-
--- a byte more of the list stands in one of two tables, which have all that they had
-pub put_in_two : (slots others new new_others bytes : List ℕ) (i byte : ℕ) → i < length bytes → byte ≡ get_or bytes i 0
-    → ((x : ℕ) → in_slots slots others x ≡ true → in_slots new new_others x ≡ true) → in_slots new new_others byte ≡ true
-    → ((x : ℕ) → is_one_of (take i bytes) x ≡ true → in_slots slots others x ≡ true)
-    → (x : ℕ) → is_one_of (take (i + 1) bytes) x ≡ true → in_slots new new_others x ≡ true
-put_in_two slots others new new_others bytes i byte l here stays put so_far x h =
-    by_side (is_one_of (take i bytes) x) (x == get_or bytes i 0) (λ e. stays x (so_far x e))
-    (λ e. ap (in_slots new new_others) ((Decides-eqb x (get_or bytes i 0)).0 e ∙ sym here) ∙ put)
-    (sym (ap (λ bs. is_one_of bs x) (take_more bytes i 0 l) ∙ is_one_of-push (take i bytes) (get_or bytes i 0) x) ∙ h)
-  where
-    by_side : (a b : Bool) → (a ≡ true → in_slots new new_others x ≡ true) → (b ≡ true → in_slots new new_others x ≡ true) → (a || b) ≡ true
-        → in_slots new new_others x ≡ true
-    by_side true b f g h = f refl
-    by_side false b f g h = g h
+pub put_none : (old : ℕ → Bool) (x : ℕ) → old x ≡ (old x || is_one_of [] x)
+put_none old x = or_none (old x)
 
 pub first_equals : (o : List ℕ) (x : ℕ) → 1 ≤ length o → (x == get_or o 0 0) ≡ is_first_of x o
 first_equals [] x l = absurd (omega (arith, l))

@@ -165,10 +165,8 @@ fn put_all(slots: &mut [u8; 16], bytes: &[u8]) -> bool
 
 /// Puts each byte of the list into its slot in one of two tables; whether each stands in one then.
 fn put_all_in_two(slots: &mut [u8; 16], others: &mut [u8; 16], bytes: &[u8]) -> bool
-    ensures stays { result ≡ true → (x : ℕ) → in_slots slots.old others.old x ≡ true
-        → in_slots slots.new others.new x ≡ true }
-    ensures put { result ≡ true → (x : ℕ) → is_one_of bytes.now x ≡ true
-        → in_slots slots.new others.new x ≡ true }
+    ensures { result ≡ true → (x : ℕ) → in_slots slots.new others.new x
+        ≡ (in_slots slots.old others.old x || is_one_of bytes.now x) }
 {
     for byte in bytes {
         if !put_slot_of_two(slots, others, *byte) {
@@ -377,12 +375,10 @@ impl OpenerIndex {
     }
 
     /// Puts the first byte of each opener into the slot of its low half in one of two tables;
-    /// whether each stands in one then, as those do that stood in one before.
+    /// whether each stands in one then, beside those alone that stood in one before.
     pub fn put_firsts(&self, slots: &mut [u8; 16], others: &mut [u8; 16]) -> bool
-        ensures stays { result ≡ true → (x : ℕ) → in_slots slots.old others.old x ≡ true
-            → in_slots slots.new others.new x ≡ true }
-        ensures put { result ≡ true → (x : ℕ) → is_first self.now x ≡ true
-            → in_slots slots.new others.new x ≡ true }
+        ensures { result ≡ true → (x : ℕ) → in_slots slots.new others.new x
+            ≡ (in_slots slots.old others.old x || is_first self.now x) }
     {
         put_all_in_two(slots, others, &self.firsts)
     }

@@ -1,7 +1,7 @@
-use Rattle.std.proofs.Common.{◌∷◌, false, replicate}
+use Rattle.std.proofs.Common.{false}
 use Rattle.std.proofs.lemmas.List.{length-replicate}
 use Rattle.tokei_bytes.proofs.Sets.{none_in, none_slotted, none_alone}
 use Rattle.tokei_bytes.proofs.byte_set.ByteSet.empty.Goals as goal
 
 pub invariant_of-result : goal.invariant_of-result
-invariant_of-result c = (length-replicate 256 false, (none_in, (none_slotted (1 ∷ replicate 15 0) (1 ∷ replicate 15 0) _, none_alone)))
+invariant_of-result c = (length-replicate 256 false, (none_in, (none_slotted, none_alone)))

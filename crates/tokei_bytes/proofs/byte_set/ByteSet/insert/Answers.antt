@@ -21,7 +21,7 @@ invariant_of-self c =
         subst (λ f. HasFew (slice_set flags byte true) f (count + 1)) (sym c.with_one-self-inside.ensures)
             (few_with_one flags few count byte inside c.self.invariant.1.0 c.if-self-le-FEW.true),
         (
-          stay_slotted flags _ _ _ _ _ _ _ byte inside slotted.0 is beside.before beside.stays beside.put,
+          stay_slotted flags _ _ _ _ _ _ _ byte inside slotted.0 is beside.before beside.stays beside.put beside.only,
           stay_alone flags _ _ _ _ _ byte inside slotted.1 is (elim c.if-self.branch [
             | then-self w ↦ λ so. (w.if-self.true, sym w.self-is ∙ so)
             | else-self w ↦ λ so. absurd (true≢false (sym so ∙ w.self-is ∙ w.if-self.false))
