@@ -24,6 +24,7 @@ use Rattle.tokei_parts.specs.declared.items.Enclosure.{Enclosure}
 use Rattle.tokei_parts.specs.declared.openings.Block as CodeBlock
 use Rattle.tokei_parts.specs.declared.reading.Reading.{Reading}
 use Rattle.tokei_count.specs.declared.text_reading.ReadSoFar.{ReadSoFar}
+use Rattle.tokei_parts.specs.declared.walk.PartEnd.{PartEnd}
 use Rattle.tokei_parts.specs.declared.walk.PartEnd.TheVariants.{Line, Broken}
 use Rattle.tokei_stats.specs.Overflow.{CountsFit, Fits}
 use Rattle.tokei_stats.specs.Seen.{sums_of, blobs_of, entries_of}
@@ -50,6 +51,13 @@ some_same a b e = cc
 -- where the text's first line goes to
 pub first_end : (t : List ℕ) (start end : ℕ) → start ≡ 0 → end ≡ line_len t → end ≡ start + line_len (drop start t)
 first_end t start end none is = omega (arith, none, is, ap (λ n. line_len (drop n t)) none ∙ ap line_len (drop_none t))
+
+-- a part that is read to an end, by another word for that end
+pub ends_as : (r : Reading) (p : ReadSoFar) (made : ℕ) (last : Chain) (x y : PartEnd) → x ≡ y
+    → ReadsTo (row_in r) (blocks_of r) p.behind_child r.docs_are_comments (chain_of p.stack.items) last p.start r.text.now made x
+    → ReadsTo (row_in r) (blocks_of r) p.behind_child r.docs_are_comments (chain_of p.stack.items) last p.start r.text.now made y
+ends_as r p made last x y same part =
+    subst (ReadsTo (row_in r) (blocks_of r) p.behind_child r.docs_are_comments (chain_of p.stack.items) last p.start r.text.now made) same part
 
 -- as many lines more
 abbrev pub sums_with : Sums → Sums → Sums

@@ -15,10 +15,8 @@ use Rattle.tokei_table.specs.Tokens.{has_tokens}
 use Rattle.tokei_count.specs.Languages.{is_notebook, languages_of}
 use Rattle.tokei_count.specs.Gathered.{gathered}
 use Rattle.tokei_count.specs.PlainReading.{child_reading}
-use Rattle.tokei_parts.specs.ReadingOf.{row_in, blocks_of}
 use Rattle.tokei_parts.specs.Seen.{chain_of, block_of}
 use Rattle.tokei_count.specs.Steps.{made_steps, child_steps, capped, sum_over}
-use Rattle.tokei_parts.specs.Walked.{ReadsTo}
 use Rattle.tokei_stats.specs.Overflow.{CountsFit, Fits}
 use Rattle.tokei_stats.specs.Seen.{sums_of, blobs_of, entries_of, stats_of}
 use Rattle.tokei_stats.specs.Statistics.{Counts, Blobs, plus, at, put, joined, sum}
@@ -31,7 +29,7 @@ use Rattle.tokei_count.proofs.StepReading.{knows_later, child_steps-is, steps-no
 use Rattle.tokei_count.proofs.TextReading.{reading-no_notebook}
 use Rattle.tokei_count.proofs.Refusals.{answered, same_refusal}
 use Rattle.tokei_count.proofs.Skipping.{goes_past, less_left, none_left}
-use Rattle.tokei_count.proofs.UnderWay.{child_past, child_within, walked_past, first_end, all_read, all_made, unwalked, walked_fits, walked_on, child_deep, child_known, broken_fits, inner_fits, added_fits, broken_on}
+use Rattle.tokei_count.proofs.UnderWay.{child_past, child_within, walked_past, first_end, all_read, all_made, unwalked, walked_fits, walked_on, child_deep, child_known, broken_fits, inner_fits, added_fits, broken_on, ends_as}
 use Rattle.tokei_count.proofs.text_reading.+read_text.Goals as goal
 use Rattle.tokei_count.proofs.text_reading.+read_text.Goals.{read_child-then-child, read_child-else-child}
 
@@ -233,9 +231,7 @@ pub read_walked-returns-in_err-add_line-in-Line-clause-overflow : goal.read_walk
 read_walked-returns-in_err-add_line-in-Line-clause-overflow t c =
     λ is fits. c.in_err-add_line-in-Line.ensures.past
     (walked_fits c.args.reading.now c.args.so_far.now c.requires.under_way c.in-Line.class c.in-Line.behind c.in_ok-part.part.steps
-    c.read_part.new.stack (subst (ReadsTo (row_in c.args.reading.now) (blocks_of c.args.reading.now) c.args.so_far.now.behind_child
-    c.args.reading.now.docs_are_comments (chain_of c.args.so_far.now.stack.items) (chain_of c.read_part.new.stack.items) c.args.so_far.now.start
-    c.args.reading.now.text.now c.in_ok-part.part.steps) c.in-Line.is c.in_ok-part.ensures.reads) fits)
+    c.read_part.new.stack (ends_as c.args.reading.now c.args.so_far.now c.in_ok-part.part.steps (chain_of c.read_part.new.stack.items) _ _ c.in-Line.is c.in_ok-part.ensures.reads) fits)
 
 pub read_walked-returns-in_err-so_far-in-Broken-clause-overflow : goal.read_walked-returns-in_err-so_far-in-Broken-clause-overflow
 read_walked-returns-in_err-so_far-in-Broken-clause-overflow t c =
@@ -243,9 +239,7 @@ read_walked-returns-in_err-so_far-in-Broken-clause-overflow t c =
     (sym c.share_of.ensures)
     (broken_fits c.args.reading.now c.args.so_far.now c.requires.under_way c.in-Broken.at c.in_ok-part.part.steps
     (chain_of c.read_part.new.stack.items) (block_of c.read_part.new.found)
-    (subst (ReadsTo (row_in c.args.reading.now) (blocks_of c.args.reading.now) c.args.so_far.now.behind_child
-    c.args.reading.now.docs_are_comments (chain_of c.args.so_far.now.stack.items) (chain_of c.read_part.new.stack.items) c.args.so_far.now.start
-    c.args.reading.now.text.now c.in_ok-part.part.steps) c.in-Broken.is c.in_ok-part.ensures.reads)
+    (ends_as c.args.reading.now c.args.so_far.now c.in_ok-part.part.steps (chain_of c.read_part.new.stack.items) _ _ c.in-Broken.is c.in_ok-part.ensures.reads)
     (c.in_ok-part.ensures.found c.in-Broken.at c.in-Broken.is) fits))
 
 pub read_walked-read_child-requires : goal.read_walked-read_child-requires
@@ -258,15 +252,11 @@ read_walked-read_child-requires t c = (
       (
         child_deep c.args.reading.now c.args.so_far.now c.requires.under_way c.in-Broken.at c.in_ok-part.part.steps
             (chain_of c.read_part.new.stack.items) (block_of c.read_part.new.found)
-            (subst (ReadsTo (row_in c.args.reading.now) (blocks_of c.args.reading.now) c.args.so_far.now.behind_child
-            c.args.reading.now.docs_are_comments (chain_of c.args.so_far.now.stack.items) (chain_of c.read_part.new.stack.items) c.args.so_far.now.start
-            c.args.reading.now.text.now c.in_ok-part.part.steps) c.in-Broken.is c.in_ok-part.ensures.reads)
+            (ends_as c.args.reading.now c.args.so_far.now c.in_ok-part.part.steps (chain_of c.read_part.new.stack.items) _ _ c.in-Broken.is c.in_ok-part.ensures.reads)
             (c.in_ok-part.ensures.found c.in-Broken.at c.in-Broken.is),
         child_known c.args.reading.now c.args.so_far.now c.requires.under_way
             c.in-Broken.at c.in_ok-part.part.steps (chain_of c.read_part.new.stack.items) (block_of c.read_part.new.found)
-            (subst (ReadsTo (row_in c.args.reading.now) (blocks_of c.args.reading.now) c.args.so_far.now.behind_child
-            c.args.reading.now.docs_are_comments (chain_of c.args.so_far.now.stack.items) (chain_of c.read_part.new.stack.items) c.args.so_far.now.start
-            c.args.reading.now.text.now c.in_ok-part.part.steps) c.in-Broken.is c.in_ok-part.ensures.reads)
+            (ends_as c.args.reading.now c.args.so_far.now c.in_ok-part.part.steps (chain_of c.read_part.new.stack.items) _ _ c.in-Broken.is c.in_ok-part.ensures.reads)
             (c.in_ok-part.ensures.found c.in-Broken.at c.in-Broken.is),
       ),
     ),
@@ -280,32 +270,24 @@ read_walked-returns-in_err-read_child-in-Broken-clause-overflow t c =
     c.in_err-read_child-in-Broken.ensures.overflow (same_refusal _ _ is)
     (inner_fits c.args.reading.now c.args.so_far.now c.requires.under_way c.in-Broken.at c.in_ok-part.part.steps
     (chain_of c.read_part.new.stack.items) (block_of c.read_part.new.found)
-    (subst (ReadsTo (row_in c.args.reading.now) (blocks_of c.args.reading.now) c.args.so_far.now.behind_child
-    c.args.reading.now.docs_are_comments (chain_of c.args.so_far.now.stack.items) (chain_of c.read_part.new.stack.items) c.args.so_far.now.start
-    c.args.reading.now.text.now c.in_ok-part.part.steps) c.in-Broken.is c.in_ok-part.ensures.reads)
+    (ends_as c.args.reading.now c.args.so_far.now c.in_ok-part.part.steps (chain_of c.read_part.new.stack.items) _ _ c.in-Broken.is c.in_ok-part.ensures.reads)
     (c.in_ok-part.ensures.found c.in-Broken.at c.in-Broken.is) fits)
     (added_fits c.args.reading.now c.args.so_far.now c.requires.under_way c.in-Broken.at c.in_ok-part.part.steps
     (chain_of c.read_part.new.stack.items) (block_of c.read_part.new.found)
-    (subst (ReadsTo (row_in c.args.reading.now) (blocks_of c.args.reading.now) c.args.so_far.now.behind_child
-    c.args.reading.now.docs_are_comments (chain_of c.args.so_far.now.stack.items) (chain_of c.read_part.new.stack.items) c.args.so_far.now.start
-    c.args.reading.now.text.now c.in_ok-part.part.steps) c.in-Broken.is c.in_ok-part.ensures.reads)
+    (ends_as c.args.reading.now c.args.so_far.now c.in_ok-part.part.steps (chain_of c.read_part.new.stack.items) _ _ c.in-Broken.is c.in_ok-part.ensures.reads)
     (c.in_ok-part.ensures.found c.in-Broken.at c.in-Broken.is) fits))
 
 pub read_walked-returns-in_ok-add_line-in-Line-clause-under_way : goal.read_walked-returns-in_ok-add_line-in-Line-clause-under_way
 read_walked-returns-in_ok-add_line-in-Line-clause-under_way t c =
     walked_on c.args.reading.now c.args.so_far.now c.requires.under_way c.in-Line.class c.in-Line.behind c.in_ok-part.part.steps
-    c.read_part.new.stack (subst (ReadsTo (row_in c.args.reading.now) (blocks_of c.args.reading.now) c.args.so_far.now.behind_child
-    c.args.reading.now.docs_are_comments (chain_of c.args.so_far.now.stack.items) (chain_of c.read_part.new.stack.items) c.args.so_far.now.start
-    c.args.reading.now.text.now c.in_ok-part.part.steps) c.in-Line.is c.in_ok-part.ensures.reads) c.add_line.new.lines
+    c.read_part.new.stack (ends_as c.args.reading.now c.args.so_far.now c.in_ok-part.part.steps (chain_of c.read_part.new.stack.items) _ _ c.in-Line.is c.in_ok-part.ensures.reads) c.add_line.new.lines
     c.read_part.new.search c.read_part.new.found
     c.in_ok-add_line-in-Line.ensures.ok (c.in_ok-part.ensures.same ∙ c.requires.under_way.searched) c.requires.walked
 
 pub read_walked-returns-in_ok-read_child-in-Broken-clause-under_way : goal.read_walked-returns-in_ok-read_child-in-Broken-clause-under_way
 read_walked-returns-in_ok-read_child-in-Broken-clause-under_way t c =
     broken_on c.args.reading.now c.args.so_far.now c.requires.under_way c.in-Broken.at c.in_ok-part.part.steps (chain_of c.read_part.new.stack.items)
-    (block_of c.read_part.new.found) (subst (ReadsTo (row_in c.args.reading.now) (blocks_of c.args.reading.now) c.args.so_far.now.behind_child
-    c.args.reading.now.docs_are_comments (chain_of c.args.so_far.now.stack.items) (chain_of c.read_part.new.stack.items) c.args.so_far.now.start
-    c.args.reading.now.text.now c.in_ok-part.part.steps) c.in-Broken.is c.in_ok-part.ensures.reads)
+    (block_of c.read_part.new.found) (ends_as c.args.reading.now c.args.so_far.now c.in_ok-part.part.steps (chain_of c.read_part.new.stack.items) _ _ c.in-Broken.is c.in_ok-part.ensures.reads)
     (c.in_ok-part.ensures.found c.in-Broken.at c.in-Broken.is) _
     (c.in_ok-so_far-in-Broken.ensures.ok ∙ ap (plus (sums_of c.args.so_far.now.own)) c.share_of.ensures)
     c.in_ok-read_child-in-Broken.ensures.reads
@@ -315,24 +297,18 @@ read_walked-returns-in_ok-read_child-in-Broken-clause-under_way t c =
 pub read_walked-overflow_sub-so_far : goal.read_walked-overflow_sub-so_far
 read_walked-overflow_sub-so_far t c = child_within c.args.reading.now c.args.so_far.now c.requires.under_way c.in-Broken.at c.in_ok-part.part.steps
     (chain_of c.read_part.new.stack.items) (block_of c.read_part.new.found)
-    (subst (ReadsTo (row_in c.args.reading.now) (blocks_of c.args.reading.now) c.args.so_far.now.behind_child
-    c.args.reading.now.docs_are_comments (chain_of c.args.so_far.now.stack.items) (chain_of c.read_part.new.stack.items) c.args.so_far.now.start
-    c.args.reading.now.text.now c.in_ok-part.part.steps) c.in-Broken.is c.in_ok-part.ensures.reads)
+    (ends_as c.args.reading.now c.args.so_far.now c.in_ok-part.part.steps (chain_of c.read_part.new.stack.items) _ _ c.in-Broken.is c.in_ok-part.ensures.reads)
     (c.in_ok-part.ensures.found c.in-Broken.at c.in-Broken.is)
 
 pub read_walked-returns-in_ok-read_child-in-Broken-clause-on : goal.read_walked-returns-in_ok-read_child-in-Broken-clause-on
 read_walked-returns-in_ok-read_child-in-Broken-clause-on t c = child_past c.args.reading.now c.args.so_far.now c.requires.under_way c.in-Broken.at c.in_ok-part.part.steps
     (chain_of c.read_part.new.stack.items) (block_of c.read_part.new.found)
-    (subst (ReadsTo (row_in c.args.reading.now) (blocks_of c.args.reading.now) c.args.so_far.now.behind_child
-    c.args.reading.now.docs_are_comments (chain_of c.args.so_far.now.stack.items) (chain_of c.read_part.new.stack.items) c.args.so_far.now.start
-    c.args.reading.now.text.now c.in_ok-part.part.steps) c.in-Broken.is c.in_ok-part.ensures.reads)
+    (ends_as c.args.reading.now c.args.so_far.now c.in_ok-part.part.steps (chain_of c.read_part.new.stack.items) _ _ c.in-Broken.is c.in_ok-part.ensures.reads)
     (c.in_ok-part.ensures.found c.in-Broken.at c.in-Broken.is)
 
 pub read_walked-returns-in_ok-add_line-in-Line-clause-on : goal.read_walked-returns-in_ok-add_line-in-Line-clause-on
 read_walked-returns-in_ok-add_line-in-Line-clause-on t c = walked_past c.args.reading.now c.args.so_far.now c.requires.under_way c.in-Line.class c.in-Line.behind c.in_ok-part.part.steps
-    c.read_part.new.stack (subst (ReadsTo (row_in c.args.reading.now) (blocks_of c.args.reading.now) c.args.so_far.now.behind_child
-    c.args.reading.now.docs_are_comments (chain_of c.args.so_far.now.stack.items) (chain_of c.read_part.new.stack.items) c.args.so_far.now.start
-    c.args.reading.now.text.now c.in_ok-part.part.steps) c.in-Line.is c.in_ok-part.ensures.reads)
+    c.read_part.new.stack (ends_as c.args.reading.now c.args.so_far.now c.in_ok-part.part.steps (chain_of c.read_part.new.stack.items) _ _ c.in-Line.is c.in_ok-part.ensures.reads)
 
 pub read_walked-returns-in_ok-read_child-in-Broken-clause-overflow : goal.read_walked-returns-in_ok-read_child-in-Broken-clause-overflow
 read_walked-returns-in_ok-read_child-in-Broken-clause-overflow t c = λ is fits. answered _ _ is
@@ -360,9 +336,7 @@ pub read_walked-overflow_add-so_far-in-Broken : goal.read_walked-overflow_add-so
 read_walked-overflow_add-so_far-in-Broken t c =
     let within = child_within c.args.reading.now c.args.so_far.now c.requires.under_way c.in-Broken.at c.in_ok-part.part.steps
     (chain_of c.read_part.new.stack.items) (block_of c.read_part.new.found)
-    (subst (ReadsTo (row_in c.args.reading.now) (blocks_of c.args.reading.now) c.args.so_far.now.behind_child
-    c.args.reading.now.docs_are_comments (chain_of c.args.so_far.now.stack.items) (chain_of c.read_part.new.stack.items) c.args.so_far.now.start
-    c.args.reading.now.text.now c.in_ok-part.part.steps) c.in-Broken.is c.in_ok-part.ensures.reads)
+    (ends_as c.args.reading.now c.args.so_far.now c.in_ok-part.part.steps (chain_of c.read_part.new.stack.items) _ _ c.in-Broken.is c.in_ok-part.ensures.reads)
     (c.in_ok-part.ensures.found c.in-Broken.at c.in-Broken.is) in
     omega (arith, within)
 
