@@ -2,7 +2,7 @@
 ghost use Rattle.std.specs.Prelude.{◌≡◌, ◌++◌, ◌∷◌, [], map, IfOk, OnOk, string_bytes};
 ghost use Rattle.tokei_config.specs.Seen.{additions_of};
 ghost use Rattle.tokei_table.specs.Extended.{addition_of};
-ghost use Rattle.tokei_folders.specs.AsTheyWere.{SameTree, NoFault};
+ghost use Rattle.tokei_folders.specs.AsTheyWere.{AsTheyWere};
 
 use crate::files::{ConfigDirs, config_behind, config_in};
 use crate::flaws::Flaw;
@@ -84,10 +84,9 @@ impl Config {
         folders: &mut F,
         dirs: &ConfigDirs,
     ) -> Result<Config, AllocError>
-        ensures same { SameTree F.tree folders.old folders.new }
+        ensures folders { AsTheyWere F.tree F.memory_faults folders.old folders.new result }
         ensures told { Told (F.tree folders.old) (λ t. IfOk result (λ c. settings_of c
             ≡ configuration table.now t dirs.now)) }
-        ensures honest { NoFault F.memory_faults folders.old folders.new result }
     {
         let read = Config::read_config_files(alloc, table, folders, dirs)?;
         Ok(read.config)
@@ -103,12 +102,11 @@ impl Config {
         folders: &mut F,
         dirs: &ConfigDirs,
     ) -> Result<ConfigRead, AllocError>
-        ensures same { SameTree F.tree folders.old folders.new }
+        ensures folders { AsTheyWere F.tree F.memory_faults folders.old folders.new result }
         ensures told { Told (F.tree folders.old) (λ t. IfOk result (λ r. settings_of r.config
             ≡ configuration table.now t dirs.now)) }
         ensures flawed { Told (F.tree folders.old) (λ t. IfOk result (λ r.
             placed_causes r.flaws.items ≡ flaws_of table.now t dirs.now)) }
-        ensures honest { NoFault F.memory_faults folders.old folders.new result }
     {
         let mut flaws = Vec::new(alloc);
         let current = config_in(alloc, table, folders, &dirs.current, &mut flaws)?;

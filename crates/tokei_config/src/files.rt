@@ -11,7 +11,7 @@ ghost use Rattle.tokei_config.specs.Settings.{first_of_each};
 ghost use Rattle.tokei_folders.specs.Answers.{Told};
 ghost use Rattle.tokei_folders.specs.Places.{joined as joined_places};
 ghost use Rattle.tokei_folders.specs.Tree.{names_of, node_at};
-ghost use Rattle.tokei_folders.specs.AsTheyWere.{SameTree, NoFault};
+ghost use Rattle.tokei_folders.specs.AsTheyWere.{AsTheyWere};
 
 use crate::config::Config;
 use crate::document::{FileRead, Reason, config_of_text};
@@ -79,14 +79,13 @@ fn content_at<F: Folders>(
     folders: &mut F,
     place: &str,
 ) -> Result<FileRead, AllocError>
-    ensures same { SameTree F.tree folders.old folders.new }
+    ensures folders { AsTheyWere F.tree F.memory_faults folders.old folders.new result }
     ensures told { Told (F.tree folders.old) (λ t. IfOk result (λ r.
         option_map settings_of r.config ≡ option_map (settings_of_text table.now)
         (option_and_then as_text (node_content (node_at t (names_of place.now)))))) }
     ensures cause { Told (F.tree folders.old) (λ t. IfOk result (λ r.
         option_map (λ w. w.cause) r.reason
         ≡ cause_of_found table.now (Some (node_content (node_at t (names_of place.now)))))) }
-    ensures honest { NoFault F.memory_faults folders.old folders.new result }
 {
     match folders.read(place) {
         Ok(bytes) => config_of_bytes(alloc, table, bytes.as_slice()),
@@ -103,14 +102,13 @@ fn read_at<F: Folders>(
     folders: &mut F,
     place: &str,
 ) -> Result<FileRead, AllocError>
-    ensures same { SameTree F.tree folders.old folders.new }
+    ensures folders { AsTheyWere F.tree F.memory_faults folders.old folders.new result }
     ensures told { Told (F.tree folders.old) (λ t. IfOk result (λ r.
         option_map settings_of r.config ≡ option_map (settings_of_text table.now)
         (option_and_then as_text (node_content (node_at t (names_of place.now)))))) }
     ensures cause { Told (F.tree folders.old) (λ t. IfOk result (λ r.
         option_map (λ w. w.cause) r.reason
         ≡ cause_of_found table.now (file_found (node_at t (names_of place.now))))) }
-    ensures honest { NoFault F.memory_faults folders.old folders.new result }
 {
     match folders.kind_if_any(place) {
         Ok(Some(Kind::File)) => content_at(alloc, table, folders, place),
@@ -152,14 +150,13 @@ fn config_at<F: Folders>(
     file: (&str, &str),
     flaws: &mut Vec<Flaw>,
 ) -> Result<Option<Config>, AllocError>
-    ensures same { SameTree F.tree folders.old folders.new }
+    ensures folders { AsTheyWere F.tree F.memory_faults folders.old folders.new result }
     ensures told { Told (F.tree folders.old) (λ t. IfOk result (λ c. option_map settings_of c
         ≡ option_map (settings_of_text table.now)
         (text_at t (names_of file.entry.0.now) file.entry.1.now))) }
     ensures flawed { Told (F.tree folders.old) (λ t. OnOk result (placed_causes flaws.new.items
         ≡ placed_causes flaws.old.items
         ++ listed (flaw_at table.now t file.entry.0.now file.entry.1.now))) }
-    ensures honest { NoFault F.memory_faults folders.old folders.new result }
 {
     let (folder, name) = file;
     let place = joined(alloc, folder, name)?;
@@ -176,12 +173,11 @@ pub(crate) fn config_in<F: Folders>(
     folder: &Option<String>,
     flaws: &mut Vec<Flaw>,
 ) -> Result<Config, AllocError>
-    ensures same { SameTree F.tree folders.old folders.new }
+    ensures folders { AsTheyWere F.tree F.memory_faults folders.old folders.new result }
     ensures told { Told (F.tree folders.old) (λ t. IfOk result (λ c. settings_of c
         ≡ settings_of_folder table.now t folder.now)) }
     ensures flawed { Told (F.tree folders.old) (λ t. OnOk result (placed_causes flaws.new.items
         ≡ placed_causes flaws.old.items ++ flaws_in table.now t folder.now)) }
-    ensures honest { NoFault F.memory_faults folders.old folders.new result }
 {
     let Some(folder) = folder else {
         return Ok(Config::new());
@@ -205,14 +201,13 @@ pub(crate) fn config_behind<F: Folders>(
     dirs: &ConfigDirs,
     flaws: &mut Vec<Flaw>,
 ) -> Result<Config, AllocError>
-    ensures same { SameTree F.tree folders.old folders.new }
+    ensures folders { AsTheyWere F.tree F.memory_faults folders.old folders.new result }
     ensures told { Told (F.tree folders.old) (λ t. IfOk result (λ c. settings_of c
         ≡ first_of_each (settings_of_folder table.now t dirs.now.home)
         (settings_of_folder table.now t dirs.now.config))) }
     ensures flawed { Told (F.tree folders.old) (λ t. OnOk result (placed_causes flaws.new.items
         ≡ placed_causes flaws.old.items
         ++ (flaws_in table.now t dirs.now.home ++ flaws_in table.now t dirs.now.config))) }
-    ensures honest { NoFault F.memory_faults folders.old folders.new result }
 {
     let home = config_in(alloc, table, folders, &dirs.home, flaws)?;
     let config = config_in(alloc, table, folders, &dirs.config, flaws)?;

@@ -24,7 +24,7 @@ returns-in-Some-3-clause-told g c = λ t e.
     let first = answered c.args.table.now t (codes "tokei.toml") c.as_str-place.result.now (string_bytes c.in-Some.folder) c.in_ok-config.field-0 None
     c.in_default-2.is c.as_str-place.ensures.value (c.in_ok-config.ensures.told t e) in
     let second = answered c.args.table.now t (codes ".tokeirc") c.as_str-place.result.now (string_bytes c.in-Some.folder) c.in_ok-config-2.field-0 (Some c.in-Some-3.config)
-    c.in-Some-3.is c.as_str-place.ensures.value (c.in_ok-config-2.ensures.told t (c.in_ok-config.ensures.same ∙ e)) in
+    c.in-Some-3.is c.as_str-place.ensures.value (c.in_ok-config-2.ensures.told t (c.in_ok-config.ensures.folders.same ∙ e)) in
     rw c.in-Some.is (second_file c.args.table.now _ _ (settings_of c.in-Some-3.config) first second)
 
 pub returns-in-None-clause-told : goal.returns-in-None-clause-told
@@ -32,7 +32,7 @@ returns-in-None-clause-told g c = λ t e.
     let first = answered c.args.table.now t (codes "tokei.toml") c.as_str-place.result.now (string_bytes c.in-Some.folder) c.in_ok-config.field-0 None
     c.in_default-2.is c.as_str-place.ensures.value (c.in_ok-config.ensures.told t e) in
     let second = answered c.args.table.now t (codes ".tokeirc") c.as_str-place.result.now (string_bytes c.in-Some.folder) c.in_ok-config-2.field-0 None
-    c.in-None.is c.as_str-place.ensures.value (c.in_ok-config-2.ensures.told t (c.in_ok-config.ensures.same ∙ e)) in
+    c.in-None.is c.as_str-place.ensures.value (c.in_ok-config-2.ensures.told t (c.in_ok-config.ensures.folders.same ∙ e)) in
     rw c.in-Some.is (no_file c.args.table.now _ _ (settings_of c.new-in-None.result) first second c.new-in-None.ensures)
 
 pub returns-in-Some-2-clause-flawed : goal.returns-in-Some-2-clause-flawed
@@ -53,7 +53,7 @@ returns-in-Some-3-clause-flawed g c = λ t e.
     let fs = listed (flaw_at c.args.table.now t place (codes "tokei.toml")) in
     let text = text_at t (names_of place) (codes "tokei.toml") in
     let begun = c.in_ok-config.ensures.flawed t e ∙ ap (λ r. placed_causes c.args.flaws.now.items ++ listed (flaw_at c.args.table.now t r (codes "tokei.toml"))) c.as_str-place.ensures.value in
-    let more = c.in_ok-config-2.ensures.flawed t (c.in_ok-config.ensures.same ∙ e)
+    let more = c.in_ok-config-2.ensures.flawed t (c.in_ok-config.ensures.folders.same ∙ e)
     ∙ ap (λ r. placed_causes c.config_at.new.flaws.items ++ listed (flaw_at c.args.table.now t r (codes ".tokeirc"))) c.as_str-place.ensures.value in
     rw c.in-Some.is (second_flaws c.args.table.now t place (placed_causes c.args.flaws.now.items) fs _ _ text first begun more)
 
@@ -65,25 +65,6 @@ returns-in-None-clause-flawed g c = λ t e.
     let fs = listed (flaw_at c.args.table.now t place (codes "tokei.toml")) in
     let text = text_at t (names_of place) (codes "tokei.toml") in
     let begun = c.in_ok-config.ensures.flawed t e ∙ ap (λ r. placed_causes c.args.flaws.now.items ++ listed (flaw_at c.args.table.now t r (codes "tokei.toml"))) c.as_str-place.ensures.value in
-    let more = c.in_ok-config-2.ensures.flawed t (c.in_ok-config.ensures.same ∙ e)
+    let more = c.in_ok-config-2.ensures.flawed t (c.in_ok-config.ensures.folders.same ∙ e)
     ∙ ap (λ r. placed_causes c.config_at.new.flaws.items ++ listed (flaw_at c.args.table.now t r (codes ".tokeirc"))) c.as_str-place.ensures.value in
     rw c.in-Some.is (second_flaws c.args.table.now t place (placed_causes c.args.flaws.now.items) fs _ _ text first begun more)
-
-pub returns-in-Some-3-clause-same : goal.returns-in-Some-3-clause-same
-returns-in-Some-3-clause-same g c = c.in_ok-config-2.ensures.same ∙ c.in_ok-config.ensures.same
-
-pub returns-in-Some-3-clause-honest : goal.returns-in-Some-3-clause-honest
-returns-in-Some-3-clause-honest g c = λ below.
-    let first = c.in_ok-config.ensures.honest below in
-    c.in_ok-config-2.ensures.honest (rw first below) ∙ first
-
-pub returns-in-None-clause-same : goal.returns-in-None-clause-same
-returns-in-None-clause-same g c = c.in_ok-config-2.ensures.same ∙ c.in_ok-config.ensures.same
-
-pub returns-in-None-clause-honest : goal.returns-in-None-clause-honest
-returns-in-None-clause-honest g c = λ below.
-    let first = c.in_ok-config.ensures.honest below in
-    c.in_ok-config-2.ensures.honest (rw first below) ∙ first
-
-pub returns-in-Some-2-clause-honest : goal.returns-in-Some-2-clause-honest
-returns-in-Some-2-clause-honest g c = c.in_ok-config.ensures.honest
