@@ -1,7 +1,7 @@
 //! All kept files at once.
 ghost use Rattle.std.specs.Prelude.{◌≡◌, IfOk};
 ghost use Rattle.tokei_folders.specs.Answers.{Told};
-ghost use Rattle.tokei_folders.specs.AsTheyWere.{SameTree, NoFault};
+ghost use Rattle.tokei_folders.specs.AsTheyWere.{AsTheyWere};
 ghost use Rattle.tokei_walk.specs.Kept.{kept_in};
 ghost use Rattle.tokei_walk.specs.Notes.{Grows, notes_of, notes_of_excludes};
 ghost use Rattle.tokei_walk.specs.Walks.{excludes_of, texts_of, to_come};
@@ -25,11 +25,10 @@ fn files_to_come<F: Folders>(
     folders: &mut F,
     walk: &mut Walk,
 ) -> Result<Vec<KeptFile>, AllocError>
-    ensures same { SameTree F.tree folders.old folders.new }
+    ensures folders { AsTheyWere F.tree F.memory_faults folders.old folders.new result }
     ensures told { Told (F.tree folders.old) (λ t. IfOk result
         (λ files. files.items ≡ to_come t walk.old)) }
     ensures notes { Grows (notes_of walk.old) (notes_of walk.new) }
-    ensures honest { NoFault F.memory_faults folders.old folders.new result }
 {
     let mut files = Items::new(alloc);
     while let Some(file) = walk.next(folders)? {
@@ -48,12 +47,11 @@ pub fn kept_files<F: Folders>(
     excludes: &[String],
     rules: &Rules,
 ) -> Result<Kept, AllocError>
-    ensures same { SameTree F.tree folders.old folders.new }
+    ensures folders { AsTheyWere F.tree F.memory_faults folders.old folders.new result }
     ensures told { Told (F.tree folders.old) (λ t. IfOk result (λ k. k.files.items
         ≡ kept_in (excludes_of (texts_of excludes.now)) rules.now t (texts_of roots.now))) }
     ensures notes { IfOk result (λ k. Grows (notes_of_excludes (texts_of excludes.now))
         k.notes.items) }
-    ensures honest { NoFault F.memory_faults folders.old folders.new result }
 {
     let mut walk = Walk::new(alloc, roots, excludes, rules)?;
     let files = files_to_come(alloc, folders, &mut walk);

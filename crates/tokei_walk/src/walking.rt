@@ -1,7 +1,7 @@
 //! A walk that answers one kept file at a time.
 ghost use Rattle.std.specs.Prelude.{◌≡◌, ◌<◌, [], true, false, None, Ok, OnOk, OnErr, OnSome, IfOk};
 ghost use Rattle.tokei_folders.specs.Answers.{Told};
-ghost use Rattle.tokei_folders.specs.AsTheyWere.{AsTheyWere, SameTree, NoFault};
+ghost use Rattle.tokei_folders.specs.AsTheyWere.{AsTheyWere};
 ghost use Rattle.tokei_folders.specs.Tree.{Tree, is_sound};
 ghost use Rattle.tokei_walk.specs.Kept.{kept_in};
 ghost use Rattle.tokei_walk.specs.Notes.{Grows, notes_of, notes_of_excludes};
@@ -152,7 +152,7 @@ impl Walk {
     /// alone, ends the walk: later calls answer `None`.
     #[tactic(auto, unfolding(crate::specs::Walks::has_failed))]
     pub fn next<F: Folders>(&mut self, folders: &mut F) -> Result<Option<KeptFile>, AllocError>
-        ensures same { SameTree F.tree folders.old folders.new }
+        ensures folders { AsTheyWere F.tree F.memory_faults folders.old folders.new result }
         ensures told { Told (F.tree folders.old) (λ t. IfOk result
             (λ o. Advances (to_come t self.old) (to_come t self.new) o)) }
         ensures fewer { IfOk result (λ o. OnSome o (rank self.new < rank self.old)) }
@@ -163,7 +163,6 @@ impl Walk {
         ensures notes { Grows (notes_of self.old) (notes_of self.new) }
         ensures refused { OnErr result (walk_failed self.new ≡ true) }
         ensures failed { walk_failed self.old ≡ true → result ≡ Ok None }
-        ensures honest { NoFault F.memory_faults folders.old folders.new result }
     {
         if self.is_over() {
             return Ok(None);

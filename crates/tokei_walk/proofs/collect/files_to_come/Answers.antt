@@ -3,7 +3,7 @@ use Rattle.tokei_walk.specs.declared.kept_file.KeptFile.{KeptFile}
 use Rattle.tokei_walk.specs.Walks.{to_come, Advances}
 use Rattle.tokei_walk.proofs.Growing.{grows_on, grows_same}
 use Rattle.tokei_walk.proofs.RootSteps.{more}
-use Rattle.tokei_walk.proofs.Lasting.{stay_on}
+use Rattle.tokei_walk.proofs.Lasting.{stay_on, refused}
 use Rattle.tokei_walk.proofs.collect.files_to_come.Goals as goal
 
 pub loop-files-init : goal.loop-files-init
@@ -18,8 +18,8 @@ pub loop-files-preserved : goal.loop-files-preserved
 loop-files-preserved g c =
     let inv = c.loop-files.invariant in record {
       notes = grows_on _ _ _ inv.notes c.next.ensures.notes;
-      same = c.next.ensures.same ∙ inv.same;
-      honest = stay_on g.F.Folders.memory_faults _ _ _ inv.honest c.in_ok-file.ensures.honest;
+      same = c.next.ensures.folders.same ∙ inv.same;
+      honest = stay_on g.F.Folders.memory_faults _ _ _ inv.honest c.in_ok-file.ensures.folders.honest;
       told = λ t e.
           let given = subst (λ (o : Option KeptFile). Advances (to_come t c.loop-files.walk) (to_come t c.next.new.self) o) c.in-Some.is (c.in_ok-file.ensures.told t (inv.same ∙ e)) in
           more c.loop-files.files c.push.new.self (to_come t c.loop-files.walk) (to_come t c.next.new.self) _ c.in-Some.file c.in_ok-push.ensures.ok given (inv.told t e);
@@ -40,14 +40,15 @@ returns-in_err-push-clause-notes g c = grows_on _ _ _ c.loop-files.invariant.not
 pub returns-clause-notes : goal.returns-clause-notes
 returns-clause-notes g c = grows_on _ _ _ c.loop-files.invariant.notes c.next.ensures.notes
 
-pub returns-in_err-file-clause-same : goal.returns-in_err-file-clause-same
-returns-in_err-file-clause-same g c = c.next.ensures.same ∙ c.loop-files.invariant.same
+pub returns-in_err-file-clause-folders : goal.returns-in_err-file-clause-folders
+returns-in_err-file-clause-folders g c = refused c.from_residual.ensures.0 (c.next.ensures.folders.same ∙ c.loop-files.invariant.same)
 
-pub returns-in_err-push-clause-same : goal.returns-in_err-push-clause-same
-returns-in_err-push-clause-same g c = c.next.ensures.same ∙ c.loop-files.invariant.same
+pub returns-in_err-push-clause-folders : goal.returns-in_err-push-clause-folders
+returns-in_err-push-clause-folders g c = refused c.from_residual-in_err-push.ensures.0 (c.next.ensures.folders.same ∙ c.loop-files.invariant.same)
 
-pub returns-clause-same : goal.returns-clause-same
-returns-clause-same g c = c.next.ensures.same ∙ c.loop-files.invariant.same
-
-pub returns-clause-honest : goal.returns-clause-honest
-returns-clause-honest g c = stay_on g.F.Folders.memory_faults _ _ _ c.loop-files.invariant.honest c.in_ok-file.ensures.honest
+pub returns-clause-folders : goal.returns-clause-folders
+returns-clause-folders g c =
+    let inv = c.loop-files.invariant in record {
+      same = c.next.ensures.folders.same ∙ inv.same;
+      honest = stay_on g.F.Folders.memory_faults _ _ _ inv.honest c.in_ok-file.ensures.folders.honest;
+    }
