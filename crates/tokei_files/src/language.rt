@@ -3,7 +3,7 @@ ghost use Rattle.std.specs.Prelude.{◌≡◌, ◌<◌, length, OnOk, IfOk, IfSo
 ghost use Rattle.tokei_folders.specs.Answers.{Told};
 ghost use Rattle.tokei_files.specs.Files.{counts, language_of_file};
 ghost use Rattle.tokei_files.specs.Seen.{counting_of};
-ghost use Rattle.tokei_folders.specs.AsTheyWere.{SameTree, NoFault};
+ghost use Rattle.tokei_folders.specs.AsTheyWere.{AsTheyWere};
 
 use crate::counting::Counting;
 use crate::paths::language_of_path;
@@ -29,11 +29,10 @@ impl Counting<'_, '_> {
         folders: &mut F,
         file: &KeptFile,
     ) -> Result<Option<LanguageType>, AllocError>
-        ensures same { SameTree F.tree folders.old folders.new }
+        ensures folders { AsTheyWere F.tree F.memory_faults folders.old folders.new result }
         ensures told { Told (F.tree folders.old) (λ t. IfOk result (λ o.
             o ≡ language_of_file (counting_of self.now) t file.now)) }
         ensures of_table { IfOk result (λ o. IfSome o (λ l. l < length self.now.counter.now)) }
-        ensures honest { NoFault F.memory_faults folders.old folders.new result }
     {
         let table = self.counter.table();
         match language_of_path(self.alloc, table, folders, file.place.as_str())? {

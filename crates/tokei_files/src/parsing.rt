@@ -8,7 +8,7 @@ ghost use Rattle.tokei_files.specs.declared.error.ParseFault.TheVariants.{Refuse
 ghost use Rattle.tokei_files.specs.Configs.{is_on};
 ghost use Rattle.tokei_files.specs.Contents.{content_at};
 ghost use Rattle.tokei_files.specs.ContentStatistics.{stats_at};
-ghost use Rattle.tokei_folders.specs.AsTheyWere.{SameTree, NoFault, FaultsStay};
+ghost use Rattle.tokei_folders.specs.AsTheyWere.{AsTheyWere, FaultsStay};
 
 use crate::counting::Counting;
 use crate::error::ParseFault;
@@ -31,7 +31,7 @@ pub fn parse_file<F: Folders>(
     config: &Config,
 ) -> Result<Report, (ParseFault, String)>
     requires { language < length counter.now }
-    ensures same { SameTree F.tree folders.old folders.new }
+    ensures folders { AsTheyWere F.tree F.memory_faults folders.old folders.new result }
     ensures told { Told (F.tree folders.old) (λ t. IfOk result (λ r. Some (stats_of r.stats)
         ≡ stats_at t counter.now (is_on (settings_of config.now).treat_doc_strings_as_comments)
         language (string_bytes path))) }
@@ -44,7 +44,6 @@ pub fn parse_file<F: Folders>(
         (stats_at t counter.now (is_on (settings_of config.now).treat_doc_strings_as_comments)
         language (string_bytes path))
         (λ s. ¬ Fits s))) }
-    ensures honest { NoFault F.memory_faults folders.old folders.new result }
     ensures counted { IfErr result (λ e. e.0 ≢ OutOfMemory
         → FaultsStay F.memory_faults folders.old folders.new) }
 {

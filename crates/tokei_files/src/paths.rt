@@ -4,7 +4,7 @@ ghost use Rattle.std.specs.Prelude.{◌≡◌, ◌<◌, length, IfOk, IfSome, On
 ghost use Rattle.tokei_config.specs.Seen.{settings_of};
 ghost use Rattle.tokei_folders.specs.Answers.{Told};
 ghost use Rattle.tokei_files.specs.Paths.{name_of, language_by_head, language_by_path, rows_by};
-ghost use Rattle.tokei_folders.specs.AsTheyWere.{SameTree, NoFault};
+ghost use Rattle.tokei_folders.specs.AsTheyWere.{AsTheyWere};
 
 use std::alloc::{AllocError, Global};
 use tokei_config::Config;
@@ -27,11 +27,10 @@ pub fn from_shebang<F: Folders>(
     folders: &mut F,
     path: &str,
 ) -> Result<Option<LanguageType>, AllocError>
-    ensures same { SameTree F.tree folders.old folders.new }
+    ensures folders { AsTheyWere F.tree F.memory_faults folders.old folders.new result }
     ensures told { Told (F.tree folders.old) (λ t. IfOk result (λ o.
         o ≡ language_by_head t table.now path.now)) }
     ensures of_table { IfOk result (λ o. IfSome o (λ l. l < length table.now)) }
-    ensures honest { NoFault F.memory_faults folders.old folders.new result }
 {
     match folders.head(path) {
         Ok(head) => Ok(LanguageType::from_shebang_bytes(table, &head)),
@@ -49,11 +48,10 @@ pub fn language_of_path<F: Folders>(
     folders: &mut F,
     path: &str,
 ) -> Result<Option<LanguageType>, AllocError>
-    ensures same { SameTree F.tree folders.old folders.new }
+    ensures folders { AsTheyWere F.tree F.memory_faults folders.old folders.new result }
     ensures told { Told (F.tree folders.old) (λ t. IfOk result (λ o.
         o ≡ language_by_path t table.now path.now)) }
     ensures of_table { IfOk result (λ o. IfSome o (λ l. l < length table.now)) }
-    ensures honest { NoFault F.memory_faults folders.old folders.new result }
 {
     let name = file_name(path);
     match LanguageType::from_file_name(alloc, table, name)? {
@@ -72,11 +70,10 @@ pub fn from_path<F: Folders>(
     path: &str,
     config: &Config,
 ) -> Result<Option<LanguageType>, AllocError>
-    ensures same { SameTree F.tree folders.old folders.new }
+    ensures folders { AsTheyWere F.tree F.memory_faults folders.old folders.new result }
     ensures told { Told (F.tree folders.old) (λ t. IfOk result (λ o.
         o ≡ language_by_path t (rows_by table.now (settings_of config.now)) path.now)) }
     ensures of_table { IfOk result (λ o. IfSome o (λ l. l < length table.now)) }
-    ensures honest { NoFault F.memory_faults folders.old folders.new result }
 {
     let extended = config.extended_table(alloc, table)?;
     language_of_path(alloc, &extended, folders, path)
