@@ -12,7 +12,7 @@ ghost use Rattle.tokei_walk.specs.Kept.{kept_in};
 ghost use Rattle.tokei_walk.specs.Notes.{Grows, notes_of, notes_of_excludes};
 ghost use Rattle.tokei_walk.specs.Walks.{to_come, excludes_of, texts_of};
 ghost use Rattle.tokei_statistics.specs.Runs.{AddsFiles, AddsFirst, language_from, languages_of_file};
-ghost use Rattle.tokei_folders.specs.AsTheyWere.{SameTree, NoFault, FaultsStay};
+ghost use Rattle.tokei_folders.specs.AsTheyWere.{AsTheyWere, SameTree, FaultsStay};
 
 use tokei_files::{Counting, ParseFault, note_unread};
 use tokei_folders::Folders;
@@ -97,7 +97,7 @@ pub fn count_files<F: Folders>(
     languages: &mut Languages,
     unread: &mut Vec<Note>,
 ) -> Result<(), CountError>
-    ensures same { SameTree F.tree folders.old folders.new }
+    ensures folders { AsTheyWere F.tree F.memory_faults folders.old folders.new result }
     ensures told { Told (F.tree folders.old) (λ t. OnOk result
         (AddsFiles (counting_of counting.now) t (to_come t walk.old)
         (languages_of languages.old) (languages_of languages.new))) }
@@ -109,7 +109,6 @@ pub fn count_files<F: Folders>(
     ensures notes { Grows (notes_of walk.old) (notes_of walk.new) }
     ensures unread { Told (F.tree folders.old) (λ t. OnOk result (unread.new.items
         ≡ unread.old.items ++ unread_of (counting_of counting.now) t (to_come t walk.old))) }
-    ensures honest { NoFault F.memory_faults folders.old folders.new result }
 {
     while let Some(file) = walk.next(folders)? {
         add_file(counting, folders, file, languages, unread)?;
@@ -128,7 +127,7 @@ pub fn count_roots<F: Folders>(
     rules: &Rules,
     languages: &mut Languages,
 ) -> Result<Vec<Note>, CountError>
-    ensures same { SameTree F.tree folders.old folders.new }
+    ensures folders { AsTheyWere F.tree F.memory_faults folders.old folders.new result }
     ensures told { Told (F.tree folders.old) (λ t. OnOk result
         (AddsFiles (counting_of counting.now) t
         (kept_in (excludes_of (texts_of excludes.now)) rules.now t (texts_of roots.now))
@@ -145,7 +144,6 @@ pub fn count_roots<F: Folders>(
         (unread_of (counting_of counting.now) t
         (kept_in (excludes_of (texts_of excludes.now)) rules.now t (texts_of roots.now)))
         n.items)) }
-    ensures honest { NoFault F.memory_faults folders.old folders.new result }
 {
     let mut walk = Walk::new(counting.alloc, roots, excludes, rules)?;
     let mut unread = Vec::new(counting.alloc);

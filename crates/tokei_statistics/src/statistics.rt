@@ -9,7 +9,7 @@ ghost use Rattle.tokei_languages.specs.Seen.{languages_of};
 ghost use Rattle.tokei_walk.specs.Notes.{Grows, notes_of_excludes};
 ghost use Rattle.tokei_walk.specs.Walks.{texts_of};
 ghost use Rattle.tokei_statistics.specs.Runs.{AddsFiles, AddsFirst, AddsRun, RunFits};
-ghost use Rattle.tokei_folders.specs.AsTheyWere.{SameTree, NoFault};
+ghost use Rattle.tokei_folders.specs.AsTheyWere.{AsTheyWere};
 
 use crate::counting::count_roots;
 use tokei_config::Config;
@@ -65,7 +65,7 @@ impl CountFiles for Languages {
         ignored: &[String],
         config: &Config,
     ) -> Result<Vec<Note>, CountError>
-        ensures same { SameTree F.tree folders.old folders.new }
+        ensures folders { AsTheyWere F.tree F.memory_faults folders.old folders.new result }
         ensures told { Told (F.tree folders.old) (λ t. OnOk result
             (AddsFiles (counting_by table.now (settings_of config.now)) t
             (kept_by (settings_of config.now) t (texts_of paths.now) (texts_of ignored.now))
@@ -83,7 +83,6 @@ impl CountFiles for Languages {
             (unread_of (counting_by table.now (settings_of config.now)) t
             (kept_by (settings_of config.now) t (texts_of paths.now) (texts_of ignored.now)))
             n.items)) }
-        ensures honest { NoFault F.memory_faults folders.old folders.new result }
     {
         let alloc = self.allocator();
         let extended = config.extended_table(alloc, table)?;
@@ -105,7 +104,7 @@ impl CountFiles for Languages {
         ignored: &[String],
         config: &Config,
     ) -> Result<Vec<Note>, CountError>
-        ensures same { SameTree F.tree folders.old folders.new }
+        ensures folders { AsTheyWere F.tree F.memory_faults folders.old folders.new result }
         ensures told { Told (F.tree folders.old) (λ t. OnOk result
             (AddsRun (counting_by table.now (settings_of config.now)) t
             (kept_by (settings_of config.now) t (texts_of paths.now) (texts_of ignored.now))
@@ -124,7 +123,6 @@ impl CountFiles for Languages {
             (unread_of (counting_by table.now (settings_of config.now)) t
             (kept_by (settings_of config.now) t (texts_of paths.now) (texts_of ignored.now)))
             n.items)) }
-        ensures honest { NoFault F.memory_faults folders.old folders.new result }
     {
         let notes = self.get_all_files(table, folders, paths, ignored, config)?;
         self.renew_counts()?;

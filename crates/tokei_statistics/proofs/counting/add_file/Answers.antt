@@ -11,7 +11,7 @@ returns-in-None-clause-told g c = λ t e.
 
 pub returns-clause-told : goal.returns-clause-told
 returns-clause-told g c = λ t e.
-    let here = c.language.ensures.same ∙ e in
+    let here = c.language.ensures.folders.same ∙ e in
     file_added (counting_of c.args.counting.now) t c.add_counted.result c.count_file-counted.result
     c.args.file c.in_ok-language.field-0 c.in-Some.language _ (languages_of c.args.languages.now)
     (languages_of c.add_counted.new.languages) (c.in_ok-language.ensures.told t e) c.in-Some.is c.as_str.ensures
@@ -24,7 +24,7 @@ returns-in-None-clause-unread g c = λ t e.
 
 pub returns-clause-unread : goal.returns-clause-unread
 returns-clause-unread g c = λ t e.
-    let here = c.language.ensures.same ∙ e in
+    let here = c.language.ensures.folders.same ∙ e in
     file_noted (counting_of c.args.counting.now) t c.add_counted.result c.count_file-counted.result
     c.args.file c.in_ok-language.field-0 c.in-Some.language _ c.args.unread.now.items
     c.add_counted.new.unread.items (c.in_ok-language.ensures.told t e) c.in-Some.is c.as_str.ensures

@@ -1,20 +1,17 @@
-use Rattle.std.proofs.Common.{◌≡◌, ◌<◌, ◌++◌, append-nil, Option, Err, refl, ap, sym, ◌∙◌, subst, rules, List, ℕ}
+use Rattle.std.proofs.Common.{◌≡◌, ◌++◌, append-nil, Option, Err, refl, ap, sym, ◌∙◌, subst, rules, List, ℕ}
 use Rattle.tokei_languages.specs.Seen.{languages_of}
 use Rattle.tokei_languages.specs.Values.{LanguageValue}
 use Rattle.tokei_stats.specs.declared.error.CountError.TheVariants.{Overflow}
 use Rattle.tokei_walk.specs.declared.kept_file.KeptFile.{KeptFile}
 use Rattle.tokei_walk.specs.Walks.{to_come, Advances}
 use Rattle.tokei_walk.proofs.Growing.{grows_same, grows_on}
+use Rattle.tokei_walk.proofs.Lasting.{stay_on, refused}
 use Rattle.tokei_statistics.specs.Runs.{AddsFirst}
 use Rattle.tokei_files.specs.Seen.{counting_of}
 use Rattle.tokei_files.specs.Unread.{unread_of}
 use Rattle.tokei_files.proofs.UnreadNotes.{noted_more}
 use Rattle.tokei_statistics.proofs.Running.{none_yet, one_more, all_done, first_done, one_over, always_err}
 use Rattle.tokei_statistics.proofs.counting.count_files.Goals as goal
-
--- a count that two steps leave where it was below its greatest value
-faults_on : (a b d most : ℕ) → (a < most → b ≡ a) → (b < most → d ≡ b) → a < most → d ≡ a
-faults_on a b d most first next low = next (subst (λ (n : ℕ). n < most) (sym (first low)) low) ∙ first low
 
 pub loop-file-init : goal.loop-file-init
 loop-file-init g c = record {
@@ -31,17 +28,17 @@ returns-in_err-file-clause-partly g c = λ t e. always_err c.from_residual.resul
 pub loop-file-preserved : goal.loop-file-preserved
 loop-file-preserved g c =
     let inv = c.loop-file.invariant in record {
-      same = c.add_file.ensures.same ∙ c.next.ensures.same ∙ inv.same;
+      same = c.add_file.ensures.same ∙ c.next.ensures.folders.same ∙ inv.same;
       notes = grows_on _ _ _ inv.notes c.next.ensures.notes;
-      honest = faults_on _ _ _ _ (faults_on _ _ _ _ inv.honest c.in_ok-file.ensures.honest) (c.in_ok-add_file.ensures.honest (λ q. cc));
+      honest = stay_on g.F.Folders.memory_faults _ _ _ inv.honest (stay_on g.F.Folders.memory_faults _ _ _ c.in_ok-file.ensures.folders.honest (c.in_ok-add_file.ensures.honest (λ q. cc)));
       told = λ t e.
           let here = inv.same ∙ e in
           let given = subst (λ (o : Option KeptFile). Advances (to_come t c.loop-file.walk) (to_come t c.next.new.self) o) c.in-Some.is (c.in_ok-file.ensures.told t here) in
-          one_more (counting_of c.args.counting.now) t _ _ _ c.in-Some.file _ _ _ (inv.told t e) given (c.in_ok-add_file.ensures.told t (c.next.ensures.same ∙ here));
+          one_more (counting_of c.args.counting.now) t _ _ _ c.in-Some.file _ _ _ (inv.told t e) given (c.in_ok-add_file.ensures.told t (c.next.ensures.folders.same ∙ here));
       unread = λ t e.
           let here = inv.same ∙ e in
           let given = subst (λ (o : Option KeptFile). Advances (to_come t c.loop-file.walk) (to_come t c.next.new.self) o) c.in-Some.is (c.in_ok-file.ensures.told t here) in
-          noted_more (counting_of c.args.counting.now) t _ _ c.in-Some.file _ _ _ (inv.unread t e) given (c.in_ok-add_file.ensures.unread t (c.next.ensures.same ∙ here));
+          noted_more (counting_of c.args.counting.now) t _ _ c.in-Some.file _ _ _ (inv.unread t e) given (c.in_ok-add_file.ensures.unread t (c.next.ensures.folders.same ∙ here));
     }
 
 pub returns-in_err-add_file-clause-partly : goal.returns-in_err-add_file-clause-partly
@@ -58,7 +55,7 @@ returns-in_err-add_file-clause-overflow g c = λ q t e.
     let inv = c.loop-file.invariant in let here = inv.same ∙ e in
     let given = subst (λ (o : Option KeptFile). Advances (to_come t c.loop-file.walk) (to_come t c.next.new.self) o) c.in-Some.is (c.in_ok-file.ensures.told t here) in
     let same : c.in_err-add_file.field-0.0 ≡ Overflow = search rules in
-    one_over (counting_of c.args.counting.now) t _ _ _ c.in-Some.file _ _ (inv.told t e) given (c.in_err-add_file.ensures.overflow (ap (λ x. Err x) same) t (c.next.ensures.same ∙ here))
+    one_over (counting_of c.args.counting.now) t _ _ _ c.in-Some.file _ _ (inv.told t e) given (c.in_err-add_file.ensures.overflow (ap (λ x. Err x) same) t (c.next.ensures.folders.same ∙ here))
 
 pub returns-clause-told : goal.returns-clause-told
 returns-clause-told g c = λ t e.
@@ -82,5 +79,16 @@ returns-in_err-file-clause-notes g c = grows_on _ _ _ c.loop-file.invariant.note
 pub returns-in_err-add_file-clause-notes : goal.returns-in_err-add_file-clause-notes
 returns-in_err-add_file-clause-notes g c = grows_on _ _ _ c.loop-file.invariant.notes c.next.ensures.notes
 
-pub returns-clause-honest : goal.returns-clause-honest
-returns-clause-honest g c = faults_on _ _ _ _ c.loop-file.invariant.honest c.in_ok-file.ensures.honest
+pub returns-in_err-file-clause-folders : goal.returns-in_err-file-clause-folders
+returns-in_err-file-clause-folders g c = refused c.from_residual.ensures.0 (c.next.ensures.folders.same ∙ c.loop-file.invariant.same)
+
+pub returns-in_err-add_file-clause-folders : goal.returns-in_err-add_file-clause-folders
+returns-in_err-add_file-clause-folders g c =
+    refused c.from_residual-in_err-add_file.ensures.0 (c.add_file.ensures.same ∙ c.next.ensures.folders.same ∙ c.loop-file.invariant.same)
+
+pub returns-clause-folders : goal.returns-clause-folders
+returns-clause-folders g c =
+    let inv = c.loop-file.invariant in record {
+      same = c.next.ensures.folders.same ∙ inv.same;
+      honest = stay_on g.F.Folders.memory_faults _ _ _ inv.honest c.in_ok-file.ensures.folders.honest;
+    }

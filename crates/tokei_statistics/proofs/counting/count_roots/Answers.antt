@@ -12,6 +12,7 @@ use Rattle.tokei_walk.specs.Walks.{to_come}
 use Rattle.tokei_statistics.specs.Runs.{AddsFiles, AddsFirst}
 use Rattle.tokei_walk.specs.Notes.{Grows}
 use Rattle.tokei_walk.proofs.Growing.{grows_same, grows_on}
+use Rattle.tokei_walk.proofs.Lasting.{answers}
 use Rattle.tokei_statistics.proofs.Running.{none_added, all_added, always_err}
 use Rattle.tokei_statistics.proofs.counting.count_roots.Goals as goal
 
@@ -63,8 +64,5 @@ pub returns-clause-notes : goal.returns-clause-notes
 returns-clause-notes g c =
     grown_behind _ _ _ _ _ _ c.in_ok-walk.ensures.notes c.count_files-counted.ensures.notes c.into_notes-notes.ensures c.in_ok-append.ensures.items
 
-pub returns-clause-same : goal.returns-clause-same
-returns-clause-same g c = c.count_files-counted.ensures.same
-
-pub returns-clause-honest : goal.returns-clause-honest
-returns-clause-honest g c = c.in_ok-counted.ensures.honest
+pub returns-clause-folders : goal.returns-clause-folders
+returns-clause-folders g c = answers c.in_ok-counted.ensures.folders
