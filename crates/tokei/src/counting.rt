@@ -9,7 +9,7 @@ ghost use Rattle.tokei_walk.specs.Walks.{texts_of};
 ghost use Rattle.tokei_io.specs.declared.error.OutputError.TheVariants.{Overflow as SumOverflow, Write};
 ghost use Rattle.tokei.specs.Runs.{languages_after};
 ghost use Rattle.tokei.specs.Sums.{TallyFits};
-ghost use Rattle.tokei_folders.specs.AsTheyWere.{SameTree, NoFault};
+ghost use Rattle.tokei_folders.specs.AsTheyWere.{AsTheyWere};
 
 use crate::earlier::earlier_languages;
 use crate::job::Job;
@@ -36,7 +36,7 @@ pub(crate) fn tally_of<F: Folders>(
     folders: &mut F,
     job: &Job,
 ) -> Result<Tally, OutputError>
-    ensures same { SameTree F.tree folders.old folders.new }
+    ensures folders { AsTheyWere F.tree F.memory_faults folders.old folders.new result }
     ensures told { Told (F.tree folders.old) (λ t. IfOk result (λ tally.
         languages_of tally.languages ≡ languages_after table.now job.now t)) }
     ensures unwritten { result ≢ Err Write }
@@ -46,7 +46,6 @@ pub(crate) fn tally_of<F: Folders>(
         Grows (notes_of_excludes (texts_of job.now.ignored.items)) tally.notes.items) }
     ensures unread { Told (F.tree folders.old) (λ t. IfOk result (λ tally. EndsIn
         (unread_of (counting_of table.now job.now) t (files_of job.now t)) tally.notes.items)) }
-    ensures honest { NoFault F.memory_faults folders.old folders.new result }
 {
     let mut languages = earlier_languages(alloc, job)?;
     let notes = languages.get_statistics(table, folders, &job.paths, &job.ignored, &job.config)?;

@@ -7,7 +7,7 @@ ghost use Rattle.tokei.specs.Runs.{languages_after};
 ghost use Rattle.tokei.specs.Texts.{WritesText};
 ghost use Rattle.tokei.specs.Refused.{IsUntouched};
 ghost use Rattle.tokei.specs.Sums.{CountedFits, EarlierFits, Fits};
-ghost use Rattle.tokei_folders.specs.AsTheyWere.{SameTree, NoFault};
+ghost use Rattle.tokei_folders.specs.AsTheyWere.{AsTheyWere};
 ghost use Rattle.tokei_io.specs.Faults.{TellsFault, PassesNoFault};
 ghost use Rattle.tokei_statistics.specs.Unread.{EndsIn, unread_of};
 ghost use Rattle.tokei.specs.Counted.{counting_of, files_of};
@@ -36,7 +36,7 @@ fn write_counted<F: Folders, W: Sink>(
     format: Option<Format>,
     writer: &mut W,
 ) -> Result<Vec<Note>, OutputError>
-    ensures same { SameTree F.tree folders.old folders.new }
+    ensures folders { AsTheyWere F.tree F.memory_faults folders.old folders.new result }
     ensures told { Told (F.tree folders.old) (λ t. OnOk result (WritesText format table.now
         job.now (languages_after table.now job.now t)
         (W.contents writer.old) (W.contents writer.new))) }
@@ -50,7 +50,6 @@ fn write_counted<F: Folders, W: Sink>(
         Grows (notes_of_excludes (texts_of job.now.ignored.items)) n.items) }
     ensures unread { Told (F.tree folders.old) (λ t. IfOk result (λ n. EndsIn
         (unread_of (counting_of table.now job.now) t (files_of job.now t)) n.items)) }
-    ensures honest { NoFault F.memory_faults folders.old folders.new result }
 {
     let tally = tally_of(alloc, table, folders, job)?;
     let text = text_of(alloc, table, job, format, tally.languages)?;
@@ -73,7 +72,7 @@ pub fn run<F: Folders, W: Sink>(
     job: &Job,
     writer: &mut W,
 ) -> Result<Vec<Note>, OutputError>
-    ensures same { SameTree F.tree folders.old folders.new }
+    ensures folders { AsTheyWere F.tree F.memory_faults folders.old folders.new result }
     ensures told { Told (F.tree folders.old) (λ t. OnOk result (Outputs job.now.wanted
         table.now job.now t (W.contents writer.old) (W.contents writer.new))) }
     ensures overflow { result ≡ Err SumOverflow → Told (F.tree folders.old) (λ t.
@@ -87,7 +86,6 @@ pub fn run<F: Folders, W: Sink>(
         Grows (notes_of_excludes (texts_of job.now.ignored.items)) n.items) }
     ensures unread { Told (F.tree folders.old) (λ t. IfOk result (λ n. EndsIn
         (unread_of (counting_of table.now job.now) t (files_of job.now t)) n.items)) }
-    ensures honest { NoFault F.memory_faults folders.old folders.new result }
 {
     match &job.wanted {
         Wanted::Stream(form) => {

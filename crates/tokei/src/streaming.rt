@@ -14,7 +14,7 @@ ghost use Rattle.tokei.specs.Earlier.{earlier_of};
 ghost use Rattle.tokei.specs.Counted.{counting_of, files_of};
 ghost use Rattle.tokei.specs.JobStreams.{StreamFits, WritesStream};
 ghost use Rattle.tokei.specs.Streams.{file_row, rows_of, stream_text};
-ghost use Rattle.tokei_folders.specs.AsTheyWere.{SameTree, NoFault};
+ghost use Rattle.tokei_folders.specs.AsTheyWere.{AsTheyWere};
 ghost use Rattle.tokei_io.specs.Faults.{TellsFault, PassesNoFault};
 
 use crate::earlier::earlier_languages;
@@ -44,7 +44,7 @@ fn write_file<F: Folders, W: Sink>(
     writer: &mut W,
     unread: &mut Vec<Note>,
 ) -> Result<(), OutputError>
-    ensures same { SameTree F.tree folders.old folders.new }
+    ensures folders { AsTheyWere F.tree F.memory_faults folders.old folders.new result }
     ensures told { Told (F.tree folders.old) (λ t. OnOk result
         (Appends (W.contents writer.old) (W.contents writer.new)
         (file_row by.now.rows.now.form by.now.rows.now.table.now
@@ -55,7 +55,6 @@ fn write_file<F: Folders, W: Sink>(
     ensures no_fault { PassesNoFault W.faults writer.old writer.new result WriteFault }
     ensures unread { Told (F.tree folders.old) (λ t. OnOk result (unread.new.items
         ≡ unread.old.items ++ unread_of_file (counting_value by.now.counting.now) t file)) }
-    ensures honest { NoFault F.memory_faults folders.old folders.new result }
 {
     let language = match by.counting.language(folders, &file)? {
         Some(language) => language,
@@ -87,7 +86,7 @@ fn write_rows<F: Folders, W: Sink>(
     writer: &mut W,
     unread: &mut Vec<Note>,
 ) -> Result<(), OutputError>
-    ensures same { SameTree F.tree folders.old folders.new }
+    ensures folders { AsTheyWere F.tree F.memory_faults folders.old folders.new result }
     ensures told { Told (F.tree folders.old) (λ t. OnOk result
         (Appends (W.contents writer.old) (W.contents writer.new)
         (rows_of by.now.rows.now.form by.now.rows.now.table.now
@@ -100,7 +99,6 @@ fn write_rows<F: Folders, W: Sink>(
     ensures unread { Told (F.tree folders.old) (λ t. OnOk result (unread.new.items
         ≡ unread.old.items
         ++ unread_of (counting_value by.now.counting.now) t (to_come t walk.old))) }
-    ensures honest { NoFault F.memory_faults folders.old folders.new result }
 {
     while let Some(file) = walk.next(folders)? {
         write_file(by, folders, file, writer, unread)?;
@@ -137,7 +135,7 @@ fn write_stream<F: Folders, W: Sink>(
     job: &Job,
     writer: &mut W,
 ) -> Result<Vec<Note>, OutputError>
-    ensures same { SameTree F.tree folders.old folders.new }
+    ensures folders { AsTheyWere F.tree F.memory_faults folders.old folders.new result }
     ensures told { Told (F.tree folders.old) (λ t. OnOk result
         (Appends (W.contents writer.old) (W.contents writer.new)
         (stream_text rows.now.form rows.now.table.now (counting_value counting.now) t
@@ -150,7 +148,6 @@ fn write_stream<F: Folders, W: Sink>(
         Grows (notes_of_excludes (texts_of job.now.ignored.items)) n.items) }
     ensures unread { Told (F.tree folders.old) (λ t. IfOk result (λ n. EndsIn
         (unread_of (counting_value counting.now) t (files_of job.now t)) n.items)) }
-    ensures honest { NoFault F.memory_faults folders.old folders.new result }
 {
     write_heading(rows.form, writer)?;
     let mut walk = walk_of(counting.alloc, job)?;
@@ -172,7 +169,7 @@ pub fn stream<F: Folders, W: Sink>(
     job: &Job,
     writer: &mut W,
 ) -> Result<Vec<Note>, OutputError>
-    ensures same { SameTree F.tree folders.old folders.new }
+    ensures folders { AsTheyWere F.tree F.memory_faults folders.old folders.new result }
     ensures told { Told (F.tree folders.old) (λ t. OnOk result (WritesStream rows.now.form
         rows.now.table.now job.now t (W.contents writer.old) (W.contents writer.new))) }
     ensures overflow { result ≡ Err SumOverflow → Told (F.tree folders.old) (λ t.
@@ -184,7 +181,6 @@ pub fn stream<F: Folders, W: Sink>(
         Grows (notes_of_excludes (texts_of job.now.ignored.items)) n.items) }
     ensures unread { Told (F.tree folders.old) (λ t. IfOk result (λ n. EndsIn
         (unread_of (counting_of rows.now.table.now job.now) t (files_of job.now t)) n.items)) }
-    ensures honest { NoFault F.memory_faults folders.old folders.new result }
 {
     test_earlier(rows.alloc, job)?;
     let extended = job.config.extended_table(rows.alloc, rows.table)?;

@@ -26,7 +26,7 @@ pub returns-in-Ok-clause-told : goal.returns-in-Ok-clause-told
 returns-in-Ok-clause-told g c = λ t e.
     let rows = c.args.by.now.rows.now in
     let by = counting_of c.args.by.now.counting.now in
-    let here = c.language.ensures.same ∙ e in
+    let here = c.language.ensures.folders.same ∙ e in
     let read = c.in-Ok.ensures.told t here ∙ ap (stats_at t by.rows by.docs c.in-Some.language) c.as_str.ensures in
     let row : ReportValue = record { name = string_bytes c.into_string-name.result; stats = stats_of c.in-Ok.stats } in
     subst (λ (o : Option (ℕ × ReportValue)). OnOk c.write_row.result (Appends (g.W.Sink.contents c.args.writer.now) (g.W.Sink.contents c.write_row.new.writer)
@@ -39,7 +39,7 @@ pub returns-in_ok-note_unread-in-Err-Refused-clause-told : goal.returns-in_ok-no
 returns-in_ok-note_unread-in-Err-Refused-clause-told g c = λ t e.
     let rows = c.args.by.now.rows.now in
     let by = counting_of c.args.by.now.counting.now in
-    let here = c.language.ensures.same ∙ e in
+    let here = c.language.ensures.folders.same ∙ e in
     let refused = c.in-Err-Refused.ensures.refused (ap (λ x. Err x) c.in-Err-Refused.field-0-is) t here in
     subst (λ (o : Option (ℕ × ReportValue)). Appends (g.W.Sink.contents c.args.writer.now) (g.W.Sink.contents c.args.writer.now)
     (row_of rows.form rows.table.now o))
@@ -53,7 +53,7 @@ returns-in-None-clause-unread g c = λ t e.
 pub returns-in-Ok-clause-unread : goal.returns-in-Ok-clause-unread
 returns-in-Ok-clause-unread g c = λ t e.
     let by = counting_of c.args.by.now.counting.now in
-    let here = c.language.ensures.same ∙ e in
+    let here = c.language.ensures.folders.same ∙ e in
     let read = c.in-Ok.ensures.told t here ∙ ap (stats_at t by.rows by.docs c.in-Some.language) c.as_str.ensures in
     on_ok_weaker c.write_row.result
     (λ _. none_more c.args.unread.now.items _
@@ -63,7 +63,7 @@ returns-in-Ok-clause-unread g c = λ t e.
 pub returns-in_ok-note_unread-in-Err-Refused-clause-unread : goal.returns-in_ok-note_unread-in-Err-Refused-clause-unread
 returns-in_ok-note_unread-in-Err-Refused-clause-unread g c = λ t e.
     let by = counting_of c.args.by.now.counting.now in
-    let here = c.language.ensures.same ∙ e in
+    let here = c.language.ensures.folders.same ∙ e in
     let refused = c.in-Err-Refused.ensures.refused (ap (λ x. Err x) c.in-Err-Refused.field-0-is) t here in
     let none = sym (ap (content_at t) c.as_str.ensures) ∙ refused in
     c.in_ok-note_unread-in-Err-Refused.ensures ∙ ap (λ (q : List Note). c.args.unread.now.items ++ q)

@@ -5,6 +5,7 @@ use Rattle.tokei_files.proofs.UnreadNotes.{noted_more}
 use Rattle.tokei_walk.specs.declared.kept_file.KeptFile.{KeptFile}
 use Rattle.tokei_walk.specs.Walks.{to_come, Advances}
 use Rattle.tokei_walk.proofs.Growing.{grows_same, grows_on}
+use Rattle.tokei_walk.proofs.Lasting.{stay_on, refused}
 use Rattle.tokei.proofs.WrittenRows.{no_row_yet, one_row_more}
 use Rattle.tokei.specs.Streams.{file_row}
 use Rattle.tokei_io.specs.declared.error.OutputError.TheVariants.{Overflow}
@@ -25,12 +26,12 @@ pub loop-file-preserved : goal.loop-file-preserved
 loop-file-preserved g c =
     let inv = c.loop-file.invariant in
     let by = counting_of c.args.by.now.counting.now in record {
-      same = c.write_file.ensures.same ∙ c.next.ensures.same ∙ inv.same;
+      same = c.write_file.ensures.folders.same ∙ c.next.ensures.folders.same ∙ inv.same;
       told = λ t e.
           let here = inv.same ∙ e in
           let given = subst (λ (o : Option KeptFile). Advances (to_come t c.loop-file.walk) (to_come t c.next.new.self) o) c.in-Some.is (c.in_ok-file.ensures.told t here) in
           one_row_more (file_row c.args.by.now.rows.now.form c.args.by.now.rows.now.table.now by t) _ _ _ c.in-Some.file _ _ _ (inv.told t e) given
-          (c.in_ok-write_file.ensures.told t (c.next.ensures.same ∙ here));
+          (c.in_ok-write_file.ensures.told t (c.next.ensures.folders.same ∙ here));
       fits = λ t e f.
           let here = inv.same ∙ e in
           let given = subst (λ (o : Option KeptFile). Advances (to_come t c.loop-file.walk) (to_come t c.next.new.self) o) c.in-Some.is (c.in_ok-file.ensures.told t here) in
@@ -39,9 +40,9 @@ loop-file-preserved g c =
       unread = λ t e.
           let here = inv.same ∙ e in
           let given = subst (λ (o : Option KeptFile). Advances (to_come t c.loop-file.walk) (to_come t c.next.new.self) o) c.in-Some.is (c.in_ok-file.ensures.told t here) in
-          noted_more by t _ _ c.in-Some.file _ _ _ (inv.unread t e) given (c.in_ok-write_file.ensures.unread t (c.next.ensures.same ∙ here));
+          noted_more by t _ _ c.in-Some.file _ _ _ (inv.unread t e) given (c.in_ok-write_file.ensures.unread t (c.next.ensures.folders.same ∙ here));
       no_fault = search rules;
-      honest = search rules;
+      honest = stay_on g.F.Folders.memory_faults _ _ _ inv.honest (stay_on g.F.Folders.memory_faults _ _ _ c.in_ok-file.ensures.folders.honest c.in_ok-write_file.ensures.folders.honest);
     }
 
 pub returns-in_err-write_file-clause-overflow : goal.returns-in_err-write_file-clause-overflow
@@ -49,8 +50,22 @@ returns-in_err-write_file-clause-overflow g c = λ q t e f.
     let inv = c.loop-file.invariant in let here = inv.same ∙ e in
     let given = subst (λ (o : Option KeptFile). Advances (to_come t c.loop-file.walk) (to_come t c.next.new.self) o) c.in-Some.is (c.in_ok-file.ensures.told t here) in
     let same : c.in_err-write_file.field-0.0 ≡ Overflow = search rules in
-    c.in_err-write_file.ensures.overflow (ap (λ x. Err x) same) t (c.next.ensures.same ∙ here)
+    c.in_err-write_file.ensures.overflow (ap (λ x. Err x) same) t (c.next.ensures.folders.same ∙ here)
     (subst (λ (ks : List KeptFile). ReadingsFit (counting_of c.args.by.now.counting.now) t ks) given (inv.fits t e f)).0
 
 pub returns-clause-notes : goal.returns-clause-notes
 returns-clause-notes g c = grows_on _ _ _ c.loop-file.invariant.notes c.next.ensures.notes
+
+pub returns-in_err-file-clause-folders : goal.returns-in_err-file-clause-folders
+returns-in_err-file-clause-folders g c = refused c.from_residual.ensures.0 (c.next.ensures.folders.same ∙ c.loop-file.invariant.same)
+
+pub returns-in_err-write_file-clause-folders : goal.returns-in_err-write_file-clause-folders
+returns-in_err-write_file-clause-folders g c =
+    refused c.from_residual-in_err-write_file.ensures.0 (c.write_file.ensures.folders.same ∙ c.next.ensures.folders.same ∙ c.loop-file.invariant.same)
+
+pub returns-clause-folders : goal.returns-clause-folders
+returns-clause-folders g c =
+    let inv = c.loop-file.invariant in record {
+      same = c.next.ensures.folders.same ∙ inv.same;
+      honest = stay_on g.F.Folders.memory_faults _ _ _ inv.honest c.in_ok-file.ensures.folders.honest;
+    }
