@@ -30,4 +30,4 @@ pub use members::Members;
 pub use page::Page;
 pub use row::{Row, has_word};
 pub use said::Said;
-pub use tables::{Asked, Tables, made_tables, own_table};
+pub use tables::{Asked, Tables, made_tables, own_table, program_table};

@@ -6,6 +6,7 @@ use crate::page::Page;
 use crate::row::Row;
 use std::alloc::Global;
 use std::fs;
+use std::io::ErrorKind;
 use tokei_table::LanguageTable;
 use tokei_table_json::{FromJson, TableError};
 
@@ -16,12 +17,17 @@ pub struct Tables {
     pub named: Option<LanguageTable>,
     /// The bench table, where another one is named in its place.
     pub bench: Option<LanguageTable>,
+    /// The program's table, which rows name as `languages.json`; else why they can't be asked by it.
+    pub program: Result<LanguageTable, RowError>,
 }
+
+/// Why a row can't be asked that names a table which isn't there.
+const NO_TABLE: RowError = RowError::Words("there is no such table");
 
 /// The tables by which one row is asked.
 #[derive(Clone, Copy)]
 pub struct Asked<'a> {
-    /// The row's own table, or the one of rows that have none.
+    /// The row's own table, the one that it names, or the one of rows that have neither.
     pub by: Option<&'a LanguageTable>,
     /// The bench table, where the row is asked by another one in its place.
     pub bench: Option<&'a LanguageTable>,
@@ -38,9 +44,33 @@ impl<'a> Asked<'a> {
 }
 
 impl Tables {
-    /// The tables by which a row is asked that has its own one, or none.
-    pub fn asked<'a>(&'a self, own: Option<&'a LanguageTable>) -> Asked<'a> {
-        match own {
+    /// The table that a row names as `table_file`, else its own one.
+    fn own<'a>(
+        &'a self,
+        row: &Row,
+        own: Option<&'a LanguageTable>,
+        answers: &mut Answers,
+    ) -> Option<&'a LanguageTable> {
+        match (answers.text_if(row, "table_file"), own) {
+            (None, own) => return own,
+            (Some("languages.json"), None) => match &self.program {
+                Ok(table) => return Some(table),
+                Err(cause) => answers.fail(*cause),
+            },
+            (Some(_), None) => answers.fail(NO_TABLE),
+            (Some(_), Some(_)) => answers.fail(RowError::Words("it has two tables")),
+        }
+        None
+    }
+
+    /// The tables by which a row is asked that has its own one, names one, or neither.
+    pub fn asked<'a>(
+        &'a self,
+        row: &Row,
+        own: Option<&'a LanguageTable>,
+        answers: &mut Answers,
+    ) -> Asked<'a> {
+        match self.own(row, own, answers) {
             Some(own) => Asked {
                 by: Some(own),
                 bench: None,
@@ -64,6 +94,19 @@ fn bench_table(rt: &HostRuntime) -> anyhow::Result<LanguageTable> {
     Ok(LanguageTable::from_json(rt.alloc(), bench_json())?)
 }
 
+/// The program's table, which is at a path.
+pub fn program_table(rt: &HostRuntime, path: &str) -> Result<LanguageTable, RowError> {
+    match fs::read(rt, path) {
+        Ok(bytes) => match LanguageTable::from_json(rt.alloc(), &bytes) {
+            Ok(table) => Ok(table),
+            Err(TableError::Memory) => Err(RowError::Memory),
+            Err(_) => Err(RowError::Words("the table that it names can't be read")),
+        },
+        Err(cause) if cause.kind() == ErrorKind::OutOfMemory => Err(RowError::Memory),
+        Err(_) => Err(NO_TABLE),
+    }
+}
+
 /// The tables of a file whose rows may be asked by the table at a path, else by the bench table;
 /// none where they have tables of their own.
 pub fn made_tables(rt: &HostRuntime, by_table: bool, path: Option<&str>) -> anyhow::Result<Tables> {
@@ -76,10 +119,12 @@ pub fn made_tables(rt: &HostRuntime, by_table: bool, path: Option<&str>) -> anyh
         Some(path) => Ok(Tables {
             named: Some(table_at(rt, path)?),
             bench,
+            program: Err(NO_TABLE),
         }),
         None => Ok(Tables {
             named: bench,
             bench: None,
+            program: Err(NO_TABLE),
         }),
     }
 }

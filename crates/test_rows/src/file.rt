@@ -6,7 +6,7 @@ use anyhow::bail;
 use std::alloc::Global;
 use std::collections::BTreeSet;
 use std::fs;
-use test_answers::{Answers, Page, Row, Tables, made_tables, own_table};
+use test_answers::{Answers, Page, Row, Tables, made_tables, own_table, program_table};
 use toml::{Table, Value};
 
 /// How a file's rows are asked.
@@ -15,6 +15,7 @@ struct How<'a, 't> {
     alloc: Global,
     subject: &'a Subject,
     only: Option<&'a str>,
+    has_program_table: bool,
     tables: &'t Tables,
 }
 
@@ -30,19 +31,23 @@ struct List<'a> {
 fn tell(how: &How, row: &Row, answers: &mut Answers) {
     answers.refuse_unshared(row);
     let own = own_table(row, answers);
-    let asked = how.tables.asked(own.as_ref());
+    let asked = how.tables.asked(row, own.as_ref(), answers);
     if !answers.is_wrong() {
         how.subject.ask(&asked, row, answers);
     }
     answers.finish();
 }
 
-/// Asks a row with its name.
+/// Asks a row with its name. One that names the program's table waits where that isn't given.
 fn ask_named(how: &How, told: &mut Told, row: &Row) {
     let (file, members) = (how.subject.file(), how.subject.members());
     let known = [&["name"], members.given, members.wanted, members.optional];
     if let Some(member) = row.unknown(&known) {
         told.refuse_row(file, row.name, &["  the member ", member, " isn't known\n"]);
+        return;
+    }
+    if !how.has_program_table && row.has("table_file") {
+        told.wait = told.wait.saturating_add(1);
         return;
     }
     let mut answers = Answers::new(how.alloc, *row, members);
@@ -118,23 +123,60 @@ fn ask_members(how: &How, told: &mut Told, members: &Table) {
 }
 
 /// Tells that a file isn't TOML, and why.
-fn tell_cause(how: &How, told: &mut Told, cause: toml::de::Error) {
+fn tell_cause(alloc: Global, file: &str, told: &mut Told, cause: toml::de::Error) {
     if cause.is_memory() {
         told.lines.cut();
     } else {
-        let mut shown = Page::new(how.alloc);
+        let mut shown = Page::new(alloc);
         shown.put_shown(&cause);
-        told.refuse(how.subject.file(), &["it isn't TOML"]);
+        told.refuse(file, &["it isn't TOML"]);
         told.lines.put_indented(&shown);
     }
 }
 
-/// Asks the rows of a file's text.
-fn ask_text(how: &How, told: &mut Told, text: &str) {
-    match toml::table_from_str(how.alloc, text) {
-        Ok(members) => ask_members(how, told, &members),
-        Err(cause) => tell_cause(how, told, cause),
+/// Whether a row that is asked names the program's table.
+fn names_table(members: &Table, only: Option<&str>) -> bool {
+    let Some(Value::Array(rows)) = members.get("row") else {
+        return false;
+    };
+    for row in rows.as_slice() {
+        if row.get("table_file").is_some() {
+            let name = row.get("name").and_then(Value::as_str);
+            if only.is_none() || name == only {
+                return true;
+            }
+        }
     }
+    false
+}
+
+/// Asks the rows of a file's text. The program's table is read where a row names it.
+fn ask_text(
+    rt: &HostRuntime,
+    subject: &Subject,
+    request: &Request,
+    tables: &mut Tables,
+    told: &mut Told,
+    text: &str,
+) {
+    let members = match toml::table_from_str(rt.alloc(), text) {
+        Ok(members) => members,
+        Err(cause) => return tell_cause(rt.alloc(), subject.file(), told, cause),
+    };
+    let only = request.row.as_ref().map(String::as_str);
+    if let Some(path) = &request.program_table {
+        if names_table(&members, only) {
+            tables.program = program_table(rt, path.as_str());
+        }
+    }
+    let how = How {
+        alloc: rt.alloc(),
+        subject,
+        only,
+        has_program_table: request.program_table.is_some(),
+        tables,
+    };
+    ask_members(&how, told, &members);
 }
 
 /// Asks the rows of a subject's file.
@@ -145,15 +187,9 @@ fn ask_file(
     told: &mut Told,
 ) -> anyhow::Result<()> {
     let path = request.table.as_ref().map(String::as_str);
-    let tables = made_tables(rt, subject.members().by_table, path)?;
-    let how = How {
-        alloc: rt.alloc(),
-        subject,
-        only: request.row.as_ref().map(String::as_str),
-        tables: &tables,
-    };
+    let mut tables = made_tables(rt, subject.members().by_table, path)?;
     match fs::read_to_string(rt, subject.file()) {
-        Ok(text) => ask_text(&how, told, text.as_str()),
+        Ok(text) => ask_text(rt, subject, request, &mut tables, told, text.as_str()),
         Err(_) => told.refuse(subject.file(), &["it can't be read"]),
     }
     Ok(())
@@ -164,7 +200,10 @@ fn print_told(rt: &HostRuntime, file: &str, told: &Told) -> anyhow::Result<bool>
     let Some(lines) = told.lines.text() else {
         bail!("out of memory");
     };
-    let (hold, fail) = (told.hold, told.fail);
+    let (hold, fail, wait) = (told.hold, told.fail, told.wait);
+    if wait != 0 {
+        println!(rt; "{file}: {wait} rows wait for the program's table")?;
+    }
     if fail == 0 {
         println!(rt; "{file}: {hold} rows hold")?;
     } else {

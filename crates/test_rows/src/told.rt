@@ -9,6 +9,8 @@ pub struct Told {
     pub hold: usize,
     /// How many don't.
     pub fail: usize,
+    /// How many aren't asked, since the program's table isn't given.
+    pub wait: usize,
     /// The lines on those that don't.
     pub lines: Page,
 }
@@ -19,6 +21,7 @@ impl Told {
         Told {
             hold: 0,
             fail: 0,
+            wait: 0,
             lines: Page::new(alloc),
         }
     }

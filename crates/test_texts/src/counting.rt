@@ -18,6 +18,7 @@ pub const MEMBERS: Members = Members {
         "text",
         "text_hex",
         "table_json",
+        "table_file",
         "doc_strings_are_comments",
     ],
     wanted: &["counts", "blobs"],
