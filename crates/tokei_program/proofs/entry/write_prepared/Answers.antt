@@ -29,6 +29,6 @@ returns-in_ok-text-in-Ok-clause-noted g c t told table empty =
     (record {
       table = table;
       empty = empty;
-      plain = c.in_ok-shown-in-Ok.ensures.silent t (c.run.ensures.same ∙ told) ∙ ap (λ (ns : List Note). map shown_note ns) c.deref.ensures.value;
+      plain = c.in_ok-shown-in-Ok.ensures.silent t (c.run.ensures.folders.same ∙ told) ∙ ap (λ (ns : List Note). map shown_note ns) c.deref.ensures.value;
     })
     c.requires.excludes c.in-Ok.ensures.notes shown
