@@ -1,9 +1,14 @@
 -- Bytes in slots: at each low half of a byte the one that has it, or a byte with another.
-use Rattle.std.specs.Prelude.{◌≡◌, ℕ, ◌%◌, ◌<◌, ◌==◌, ◌&&◌, ◌||◌, Bool, List, length, slice_index}
+use Rattle.std.specs.Prelude.{◌≡◌, ℕ, ◌%◌, ◌<◌, ◌==◌, ◌&&◌, ◌||◌, not, Bool, List, length, slice_index}
 
 -- Whether the byte stands in the slot of its low half.
 abbrev pub is_slotted : List ℕ → ℕ → Bool
 is_slotted slots byte = slice_index slots (byte % 16) == byte
+
+-- Whether the slot of its low half has room for the byte: it holds the byte itself, or none.
+abbrev pub has_room : List ℕ → ℕ → Bool
+has_room slots byte =
+    is_slotted slots byte || not (slice_index slots (byte % 16) % 16 == byte % 16)
 
 -- Whether it stands in one of two.
 abbrev pub in_slots : List ℕ → List ℕ → ℕ → Bool

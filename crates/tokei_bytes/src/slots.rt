@@ -1,8 +1,8 @@
 //! Sets of bytes that one look-up tests, 32 at a time: no two bytes of one have the same low half.
-ghost use Rattle.std.specs.Prelude.{◌≡◌, ℕ, ◌+◌, ◌%◌, ◌<◌, ◌≤◌, ◌⊎◌, true, false, length, map, slice_index};
+ghost use Rattle.std.specs.Prelude.{◌≡◌, ℕ, ◌+◌, ◌%◌, ◌<◌, ◌≤◌, ◌||◌, ◌⊎◌, true, false, length, map, slice_index};
 ghost use Rattle.std.specs.Simd.Lanes.{chunk, mask_l};
 ghost use Rattle.tokei_bytes.specs.FirstPlace.{IsFirstPlace};
-ghost use Rattle.tokei_bytes.specs.Slots.{HasSlots, in_slots, is_slotted, is_told};
+ghost use Rattle.tokei_bytes.specs.Slots.{HasSlots, has_room, in_slots, is_slotted, is_told};
 
 use crate::one_of::BLOCK;
 use std::simd::prelude::*;
@@ -12,6 +12,7 @@ pub const NO_SLOTS: [u8; 16] = [1, 0, 0, 0, 0, 0, 0, 0, 0, 0, 0, 0, 0, 0, 0, 0];
 
 /// Puts the byte into its slot; whether none that had it was put there before.
 pub fn put_slot(slots: &mut [u8; 16], byte: u8) -> bool
+    ensures room { result ≡ has_room slots.old byte }
     ensures stays { result ≡ true → (x : ℕ) → is_slotted slots.old x ≡ true
         → is_slotted slots.new x ≡ true }
     ensures put { result ≡ true → is_slotted slots.new byte ≡ true }
@@ -33,6 +34,8 @@ pub fn put_slot(slots: &mut [u8; 16], byte: u8) -> bool
 /// Puts the byte into its slot in the first table, or where that has another byte in the second;
 /// whether one of them has it then.
 pub fn put_slot_of_two(slots: &mut [u8; 16], others: &mut [u8; 16], byte: u8) -> bool
+    ensures room { result ≡ (has_room slots.old byte || has_room others.old byte) }
+    ensures first { has_room slots.old byte ≡ true → others.new ≡ others.old }
     ensures stays { result ≡ true → (x : ℕ) → in_slots slots.old others.old x ≡ true
         → in_slots slots.new others.new x ≡ true }
     ensures put { result ≡ true → in_slots slots.new others.new byte ≡ true }

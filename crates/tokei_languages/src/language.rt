@@ -130,6 +130,10 @@ impl Language {
         ensures memory { IfErr result (λ e. e ≡ CountError.Memory) }
         ensures err { OnErr result (language_of self.new ≡ language_of self.old) }
     {
+        if report.stats.blobs.is_empty() {
+            self.reports.push(report)?;
+            return Ok(());
+        }
         let more = blob_reports(self.alloc, &report.name, &report.stats.blobs)?;
         self.reports.reserve(1)?;
         let _before = append(self.alloc, &mut self.children, more)?;

@@ -1,8 +1,10 @@
 //! Which language of a table a word, a MIME type, a file's name or a script's head stands for. Of
 //! two languages the first in the table is answered.
-ghost use Rattle.std.specs.Prelude.{◌≡◌, ◌<◌, length, IfOk, IfSome};
+ghost use Rattle.std.specs.Prelude.{◌≡◌, ◌<◌, length, not, IfOk, IfSome};
+ghost use Rattle.std.specs.Char.{is_ascii_uppercase};
+ghost use Rattle.std.specs.List.{list_any};
 ghost use Rattle.tokei_table_rules.specs.Lookups.{first_where, has_name, has_name_in_any_case, has_mime};
-ghost use Rattle.tokei_table_rules.specs.Lookups.{has_extension, from_file_name};
+ghost use Rattle.tokei_table_rules.specs.Lookups.{has_extension, from_file_name, from_lowered_name};
 ghost use Rattle.tokei_table_rules.specs.Shebangs.{from_shebang};
 
 use crate::language_type::LanguageType;
@@ -20,6 +22,26 @@ fn language(found: Option<usize>) -> Option<LanguageType>
         Some(at) => Some(LanguageType::at(at)),
         None => None,
     }
+}
+
+/// Whether a name has no letter that a look-up lowers.
+fn is_lowered(name: &str) -> bool
+    ensures { result ≡ not (list_any is_ascii_uppercase name.now) }
+{
+    for byte in name.as_bytes() {
+        if byte.is_ascii_uppercase() {
+            return false;
+        }
+    }
+    true
+}
+
+/// The language of a file of that name, which is in lower case.
+fn of_lowered(table: &LanguageTable, name: &[u8]) -> Option<LanguageType>
+    ensures value { result ≡ from_lowered_name table.now name.now }
+    ensures of_table { IfSome result (λ l. l < length table.now) }
+{
+    language(in_lowered_name(table.indexed_rows(), name))
 }
 
 impl LanguageType {
@@ -65,9 +87,13 @@ impl LanguageType {
         ensures value { IfOk result (λ o. o ≡ from_file_name table.now name.now) }
         ensures of_table { IfOk result (λ o. IfSome o (λ l. l < length table.now)) }
     {
+        // most names have no capital, and so needn't be copied
+        if is_lowered(name) {
+            return Ok(of_lowered(table, name.as_bytes()));
+        }
         let mut lowered = String::from_str(alloc, name)?;
         lowered.make_ascii_lowercase();
-        Ok(language(in_lowered_name(table.indexed_rows(), lowered.as_bytes())))
+        Ok(of_lowered(table, lowered.as_bytes()))
     }
 
     /// The language of a script with that head, of which the first line of the first 128 bytes is

@@ -8,6 +8,7 @@ pub mod Lasting
 pub mod ListedFiles
 pub mod NearestFirst
 pub mod NeverRefused
+pub mod NoPatterns
 pub mod Over
 pub mod Ranking
 pub mod RootSteps

@@ -1,6 +1,6 @@
 -- The rules that a folder's ignore files give, and what the rules of folders inside one another
 -- decide.
-use Rattle.std.specs.Prelude.{ℕ, ◌&&◌, List, [], ◌∷◌, ◌++◌, Bool, true, false, Option, Some, None, is_some, if◌then◌else◌, cond, codes}
+use Rattle.std.specs.Prelude.{ℕ, ◌&&◌, ◌||◌, List, [], ◌∷◌, ◌++◌, Bool, true, false, Option, Some, None, is_some, if◌then◌else◌, cond, codes}
 use Rattle.std.specs.List.{list_any}
 use Rattle.tokei_folders.specs.declared.nodes.Node.{Node}
 use Rattle.tokei_folders.specs.declared.nodes.Node.TheVariants.{File as file, Folder as folder}
@@ -50,6 +50,17 @@ patterns_from Tokeignore level = level.tokeignore
 patterns_from Plain level = level.ignore
 patterns_from Gitignore level = level.gitignore
 patterns_from GitExclude level = level.git_exclude
+
+-- whether there is a pattern
+abbrev pub has_some : List Pattern → Bool
+has_some [] = false
+has_some (p ∷ ps) = true
+
+-- whether the ignore files of a folder have a pattern
+abbrev pub has_patterns : Level → Bool
+has_patterns level =
+    has_some level.tokeignore
+    || (has_some level.ignore || (has_some level.gitignore || has_some level.git_exclude))
 
 -- from the top down: what a nearer folder decides takes the place of what those above decided; the
 -- names are those from the first folder down to the entry

@@ -1,7 +1,9 @@
 //! What the rules of folders inside one another decide.
 ghost use Rattle.std.specs.Prelude.{◌≡◌, ◌++◌, [], ◌∷◌, None, OnOk, IfOk, drop};
+ghost use Rattle.std.specs.List.{list_any};
 ghost use Rattle.tokei_folders.specs.Ends.{without_first as rest_of, begins_with};
 ghost use Rattle.tokei_folders.specs.Tree.{dot};
+ghost use Rattle.tokei_walk.specs.Levels.{has_some, has_patterns};
 ghost use Rattle.tokei_walk.specs.Levels.{patterns_from as level_patterns, decision as level_decision, repository as repository_of, decided as level_decided, is_excluded as excluded_by, is_dropped_by as dropped_by, drops};
 
 use std::alloc::AllocError;
@@ -124,11 +126,43 @@ fn repository<'a>(levels: &'a [Level], names: &'a [Text]) -> (&'a [Level], &'a [
     (found_levels, found_names)
 }
 
+/// Whether there is a pattern.
+fn has_some(patterns: &IndexedPatterns) -> bool
+    ensures { result ≡ has_some patterns.now }
+{
+    !patterns.as_slice().is_empty()
+}
+
+/// Whether the ignore files of a folder have a pattern.
+fn has_patterns(level: &Level) -> bool
+    ensures { result ≡ has_patterns level.now }
+{
+    has_some(&level.tokeignore)
+        || has_some(&level.ignore)
+        || has_some(&level.gitignore)
+        || has_some(&level.git_exclude)
+}
+
+/// Whether the ignore files of one of the folders have a pattern.
+fn have_patterns(levels: &[Level]) -> bool
+    ensures { result ≡ list_any has_patterns levels.now }
+{
+    for level in levels {
+        if has_patterns(level) {
+            return true;
+        }
+    }
+    false
+}
+
 /// What the ignore files decide about an entry.
 #[tactic(auto, unfolding(crate::specs::Levels::decided))]
 fn decided(levels: &[Level], names: &[Text], is_folder: bool) -> Option<Verdict>
     ensures { result ≡ level_decided levels.now names.now is_folder }
 {
+    if !have_patterns(levels) {
+        return None;
+    }
     if let Some(verdict) = decision(IgnoreKind::Tokeignore, levels, names, is_folder) {
         return Some(verdict);
     }

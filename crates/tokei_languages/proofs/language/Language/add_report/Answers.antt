@@ -10,7 +10,7 @@ pub returns-clause-ok : goal.returns-clause-ok
 returns-clause-ok c =
     let self = c.args.self.now in
     let report = c.args.report in
-    let pushed : c.push.new.self.items ≡ c.reserve.new.self.items ++ report ∷ [] = rw c.unwrap.ensures at c.push.ensures.items in
+    let pushed : c.push-2.new.self.items ≡ c.reserve.new.self.items ++ report ∷ [] = rw c.unwrap.ensures at c.push-2.ensures.items in
     same_language _ _ refl
     (ap (map report_of) (pushed ∙ ap (λ rs. rs ++ report ∷ []) c.in_ok-reserve.ensures.items) ∙ map-append report_of self.reports.items (report ∷ []))
     (c.in_ok-_before.ensures.ok

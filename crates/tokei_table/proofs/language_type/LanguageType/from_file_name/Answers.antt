@@ -1,11 +1,9 @@
-use Rattle.std.proofs.Common.{◌∙◌, ap}
+use Rattle.std.proofs.Common.{ap, ◌∙◌, rules}
 use Rattle.tokei_table_rules.specs.Lookups.{from_lowered_name}
-use Rattle.tokei_table_rules.proofs.OfTable.{name_within, same_within}
+use Rattle.tokei_table.proofs.Lowered.{is_lowered}
 use Rattle.tokei_table.proofs.language_type.LanguageType.from_file_name.Goals as goal
 
-pub returns-clause-of_table : goal.returns-clause-of_table
-returns-clause-of_table c =
-    same_within c.args.table.now c.language.result (from_lowered_name c.args.table.now c.as_bytes.result.now)
-    (c.language.ensures ∙ c.in_lowered_name.ensures
-    ∙ ap (λ rs. from_lowered_name rs c.as_bytes.result.now) c.indexed_rows.ensures)
-    (name_within c.args.table.now c.as_bytes.result.now)
+pub returns-then-is_lowered-clause-value : goal.returns-then-is_lowered-clause-value
+returns-then-is_lowered-clause-value c =
+    let rows = c.args.table.now in
+    c.of_lowered.ensures.value ∙ ap (from_lowered_name rows) (c.as_bytes.ensures.value ∙ is_lowered c.args.name.now (search rules))
