@@ -1,6 +1,5 @@
 -- What a look-up in slots gives, lane by lane.
-use Rattle.std.proofs.Common.{◌≡◌, ℕ, zero, suc, ◌+◌, ◌*◌, ◌/◌, ◌%◌, ◌^◌, ◌<◌, ◌≤◌, List, [], ◌∷◌, Bool, cond, eqb, length, get_or, map, replicate, bit_and, bit_or, min, max, set, ap₂, ◌&&◌, ◌||◌, false, ◌==◌, true, ◌⊎◌, inl, inr, refl, sym, ap, ◌∙◌, arith, w8, get_or-set_same, get_or-set_other}
-use Rattle.std.proofs.lemmas.Bool.{cases_eq}
+use Rattle.std.proofs.Common.{◌≡◌, ℕ, zero, suc, ◌+◌, ◌*◌, ◌/◌, ◌%◌, ◌^◌, ◌<◌, ◌≤◌, List, [], ◌∷◌, Bool, cond, eqb, length, get_or, map, replicate, bit_and, bit_or, min, max, ap₂, ◌&&◌, ◌||◌, false, true, ◌⊎◌, inl, inr, refl, sym, ap, ◌∙◌, arith, w8}
 use Rattle.std.proofs.lemmas.Bool.Decides.{Decides-eqb}
 use lib.Bits.{or_step}
 use lib.Lanes.{chunk, zip2, mask_l, top}
@@ -61,32 +60,6 @@ mask_of_slotted slots v found long is =
     ap (λ ms. mask_l ms % 2 ^ 64)
     (tops_compared w8 eqb found v ∙ ap (λ f. zip2 eqb f v) is ∙ compared slots v)
     ∙ mask_l-mod (map (is_slotted slots) v) 64 (omega (arith, length-map v (is_slotted slots), long))
-
--- a byte that is put into a slot that no byte has leaves the others in theirs
-pub put_stays : (slots : List ℕ) (byte x : ℕ) → (get_or slots (byte % 16) 0 % 16 ≡ byte % 16 → ⊥)
-    → is_slotted slots x ≡ true → is_slotted (set slots (byte % 16) byte) x ≡ true
-put_stays slots byte x free h = elim (cases_eq (x % 16) (byte % 16)) [
-  | inl same ↦
-      let there : get_or slots (x % 16) 0 ≡ x = (Decides-eqb (get_or slots (x % 16) 0) x).0 h in
-      absurd (free (ap (λ k. get_or slots k 0 % 16) (sym same) ∙ ap (λ y. y % 16) there ∙ same))
-  | inr other ↦ ap (λ y. y == x) (get_or-set_other slots (byte % 16) (x % 16) byte 0 other) ∙ h
-]
-
--- and stands there itself
-pub put_there : (slots : List ℕ) (byte : ℕ) → byte % 16 < length slots → is_slotted (set slots (byte % 16) byte) byte ≡ true
-put_there slots byte l = (Decides-eqb (get_or (set slots (byte % 16) byte) (byte % 16) 0) byte).1 (get_or-set_same slots (byte % 16) byte 0 l)
-
--- and the slots have no other byte more
-pub put_only : (slots : List ℕ) (byte x : ℕ) → is_slotted (set slots (byte % 16) byte) x ≡ true → byte % 16 < length slots
-    → (is_slotted slots x ≡ true) ⊎ (x ≡ byte)
-put_only slots byte x h l = elim (cases_eq (x % 16) (byte % 16)) [
-  | inl same ↦
-      let there : get_or (set slots (byte % 16) byte) (x % 16) 0 ≡ x = (Decides-eqb (get_or (set slots (byte % 16) byte) (x % 16) 0) x).0 h in
-      let put : get_or (set slots (byte % 16) byte) (x % 16) 0 ≡ byte =
-      ap (λ k. get_or (set slots (byte % 16) byte) k 0) same ∙ get_or-set_same slots (byte % 16) byte 0 l in
-      inr (sym there ∙ put)
-  | inr other ↦ inl (ap (λ y. y == x) (sym (get_or-set_other slots (byte % 16) (x % 16) byte 0 other)) ∙ h)
-]
 
 -- a slot of no byte has a byte with another low half
 pub no_slot : (b : ℕ) → is_slotted (1 ∷ replicate 15 0) b ≡ false

@@ -1,5 +1,5 @@
 -- The few bytes of a set.
-use Rattle.std.proofs.Common.{◌≡◌, ◌≢◌, ℕ, zero, suc, ◌+◌, ◌<◌, ◌≤◌, ◌⊎◌, inl, inr, ◌==◌, ◌||◌, Bool, true, false, cond, List, [], ◌∷◌, take, length, get_or, slice_index_or, set, replicate, refl, sym, ap, subst, ◌∙◌, arith, true≢false, get_or-set_same, get_or-set_other}
+use Rattle.std.proofs.Common.{◌≡◌, ℕ, zero, suc, ◌+◌, ◌<◌, ◌≤◌, ◌⊎◌, inl, inr, ◌==◌, ◌||◌, Bool, true, false, cond, List, [], ◌∷◌, take, length, get_or, slice_index_or, set, replicate, refl, sym, ap, subst, ◌∙◌, arith, true≢false, get_or-set_same, get_or-set_other}
 use Rattle.std.proofs.lemmas.Bool.Decides.{Decides-eqb}
 use Rattle.std.proofs.lemmas.List.{get_or-replicate}
 use Rattle.tokei_bytes.specs.OneOf.{is_one_of}
@@ -46,10 +46,6 @@ three (a ∷ b ∷ c ∷ d ∷ []) (suc (suc (suc (suc n)))) x four small = absu
 pub alone : (few : List ℕ) (n x : ℕ) → n ≡ 0 → x ∷ x ∷ x ∷ x ∷ [] ≡ with_one few n x
 alone few zero x h = refl
 alone few (suc n) x h = absurd (omega arith)
-
-pub in_company : (few : List ℕ) (n x : ℕ) → n ≢ 0 → x ∷ get_or few 0 0 ∷ get_or few 1 0 ∷ get_or few 2 0 ∷ [] ≡ with_one few n x
-in_company few zero x h = absurd (h refl)
-in_company few (suc n) x h = refl
 
 with_front : (few : List ℕ) (n x : ℕ) → length few ≡ 4 → n < 4 → take (n + 1) (with_one few n x) ≡ x ∷ take n few
 with_front [] n x four small = absurd (omega arith)
@@ -162,6 +158,14 @@ few_with_one flags few n b l has small = record {
       each_with_one (λ y. is_in (set flags b true) y ≡ true) few n b has.four
       (put_in flags b b l ∙ right_of (is_in flags b) (b == b) ((Decides-eqb b b).1 refl))
       (λ any y k. stays_in flags b y l (has.held any y k)) x h;
+}
+
+-- and where there are more than four already
+pub few_past : (flags : List Bool) (few : List ℕ) (n b : ℕ) → b < length flags → HasFew flags few n → 4 < n → HasFew (set flags b true) few n
+few_past flags few n b l has past = record {
+  four = has.four;
+  holds = λ small x fits h. absurd (omega (arith, small, past));
+  held = λ some x h. stays_in flags b x l (has.held some x h);
 }
 
 -- no slot of no bytes has one

@@ -1,7 +1,7 @@
 use Rattle.std.proofs.Common.{◌+◌, ◌<◌, ◌∙◌, true, length, slice_set, sym, subst, true≢false, arith}
 use Rattle.std.proofs.lemmas.List.{length-set}
 use Rattle.tokei_bytes.specs.ByteSets.{HasFew}
-use Rattle.tokei_bytes.proofs.Sets.{IsPut, few_with_one, stay_alone, stay_slotted}
+use Rattle.tokei_bytes.proofs.Sets.{IsPut, few_past, few_with_one, stay_alone, stay_slotted}
 use Rattle.tokei_bytes.proofs.byte_set.ByteSet.insert.Goals as goal
 use Rattle.tokei_bytes.proofs.byte_set.ByteSet.insert.Goals.{then-self, else-self}
 
@@ -20,6 +20,28 @@ invariant_of-self c =
       (
         subst (λ f. HasFew (slice_set flags byte true) f (count + 1)) (sym c.with_one-self-inside.ensures)
             (few_with_one flags few count byte inside c.self.invariant.1.0 c.if-self-le-FEW.true),
+        (
+          stay_slotted flags _ _ _ _ _ _ _ byte inside slotted.0 is beside.before beside.stays beside.put beside.only,
+          stay_alone flags _ _ _ _ _ byte inside slotted.1 is (elim c.if-self.branch [
+            | then-self w ↦ λ so. (w.if-self.true, sym w.self-is ∙ so)
+            | else-self w ↦ λ so. absurd (true≢false (sym so ∙ w.self-is ∙ w.if-self.false))
+          ]),
+        ),
+      ),
+    )
+
+pub invariant_of-self-else-self-le-FEW : goal.invariant_of-self-else-self-le-FEW
+invariant_of-self-else-self-le-FEW c =
+    let flags = c.self.inside.flags in
+    let byte = c.args.byte in
+    let inside : byte < length flags = omega (arith, c.self.invariant.0, c.ranges.byte.fits) in
+    let slotted = c.self.invariant.1.1 in
+    let put = c.put_slot-alone.ensures in
+    let is : IsPut c.self.inside.slots _ c.put_slot-alone.result byte = record { stays = put.stays; put = put.put; only = put.only; kept = put.kept } in
+    let beside = c.put_beside-self-inside.ensures in (
+      length-set flags byte true ∙ c.self.invariant.0,
+      (
+        few_past flags c.self.inside.few c.self.inside.count byte inside c.self.invariant.1.0 c.if-self-le-FEW.false,
         (
           stay_slotted flags _ _ _ _ _ _ _ byte inside slotted.0 is beside.before beside.stays beside.put beside.only,
           stay_alone flags _ _ _ _ _ byte inside slotted.1 is (elim c.if-self.branch [
