@@ -21,7 +21,7 @@ pub struct Answers<'a> {
     row: Row<'a>,
     members: Members,
     said: Vec<&'static str>,
-    left: Option<&'static str>,
+    left: &'static str,
     parts: Table,
     /// The lines that tell why the row doesn't hold; none where it holds.
     pub told: Page,
@@ -48,7 +48,7 @@ impl<'a> Answers<'a> {
             row,
             members,
             said: Vec::new(alloc),
-            left: None,
+            left: "",
             parts: Table::new(alloc),
             told: Page::new(alloc),
             wrong: None,
@@ -99,7 +99,7 @@ impl<'a> Answers<'a> {
 
     /// Leaves a member out of what is compared, whatever is then answered for it.
     pub fn leave(&mut self, member: &'static str) {
-        self.left = Some(member);
+        self.left = member;
     }
 
     /// Whether what came for a member is what is wanted.
@@ -114,7 +114,7 @@ impl<'a> Answers<'a> {
     fn compare(&mut self, member: &'static str, came: &Value) {
         let said = self.said.push(member);
         self.done(said);
-        if self.wrong.is_none() && self.left != Some(member) && !self.agrees(member, came) {
+        if self.wrong.is_none() && self.left != member && !self.agrees(member, came) {
             let wanted = self.row.value(member);
             put_difference(self.alloc, &mut self.told, member, wanted, came);
         }
@@ -204,7 +204,7 @@ impl<'a> Answers<'a> {
     /// Tells the members of a list for which nothing came, though the row wants something.
     fn miss_all(&mut self, members: &'static [&'static str]) {
         for member in members {
-            if !has_word(&self.said, member) && self.left != Some(*member) {
+            if !has_word(&self.said, member) && self.left != *member {
                 if let Some(wanted) = self.row.value(member) {
                     put_missed(self.alloc, &mut self.told, member, wanted);
                 }

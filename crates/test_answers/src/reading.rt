@@ -159,9 +159,9 @@ impl Answers<'_> {
 
     /// The values of a list that a value is.
     pub fn list_of<'v>(&mut self, member: &'static str, value: &'v Value) -> &'v [Value] {
-        match value {
-            Value::Array(values) => values.as_slice(),
-            _ => {
+        match value.as_array() {
+            Some(values) => values.as_slice(),
+            None => {
                 self.fail(RowError::Kind(member, "a list"));
                 &[]
             }

@@ -27,9 +27,10 @@ pub enum Said<'a> {
 impl Answers<'_> {
     /// A number as a value.
     fn number_value(&mut self, number: u128) -> Value {
-        match i64::try_from(number) {
-            Ok(number) => Value::Integer(number),
-            Err(_) => Value::String(self.made(format!(in self.alloc; "{number}"))),
+        if number <= i64::MAX as u128 {
+            Value::Integer(number as i64)
+        } else {
+            Value::String(self.made(format!(in self.alloc; "{number}")))
         }
     }
 
@@ -49,12 +50,18 @@ impl Answers<'_> {
         }
     }
 
+    /// Adds a value to a list.
+    fn push(&mut self, values: &mut Vec<Value>, value: Value) {
+        let pushed = values.push(value);
+        self.done(pushed);
+    }
+
     /// A list of numbers as a value.
     fn numbers_value(&mut self, numbers: &[usize]) -> Value {
         let mut values = Vec::new(self.alloc);
         for number in numbers {
             let value = self.number_value(*number as u128);
-            self.done(values.push(value));
+            self.push(&mut values, value);
         }
         Value::Array(values)
     }
@@ -64,7 +71,7 @@ impl Answers<'_> {
         let mut values = Vec::new(self.alloc);
         for text in texts {
             let value = self.text_value(text.as_str());
-            self.done(values.push(value));
+            self.push(&mut values, value);
         }
         Value::Array(values)
     }
@@ -74,7 +81,7 @@ impl Answers<'_> {
         let mut values = Vec::new(self.alloc);
         for text in [first, second] {
             let value = self.text_value(text);
-            self.done(values.push(value));
+            self.push(&mut values, value);
         }
         Value::Array(values)
     }
@@ -84,7 +91,7 @@ impl Answers<'_> {
         let mut values = Vec::new(self.alloc);
         for (first, second) in pairs {
             let value = self.pair_value(first.as_str(), second.as_str());
-            self.done(values.push(value));
+            self.push(&mut values, value);
         }
         Value::Array(values)
     }

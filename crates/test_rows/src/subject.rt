@@ -6,8 +6,8 @@ use test_texts::{
     syntaxes, tables, texts,
 };
 use test_trees::{
-    documents, files, ignore_files, languages, patterns, printed, read_back, statistics, walks,
-    words,
+    documents, files, ignore_files, languages, memory_folders, patterns, printed, read_back,
+    statistics, walks, words,
 };
 use tokei::LanguageTable;
 
@@ -31,6 +31,7 @@ enum About {
     Files,
     IgnoreFiles,
     Languages,
+    MemoryFolders,
     Patterns,
     Printed,
     ReadBack,
@@ -51,7 +52,7 @@ pub struct Subject(&'static str, &'static Members, About);
 
 /// All of them: rows of texts, of trees and of the program, each in the order of their files'
 /// names. A constant's parts would be code wherever it is named.
-static SUBJECTS: [Subject; 32] = [
+static SUBJECTS: [Subject; 33] = [
     Subject("blocks.toml", &blocks::MEMBERS, About::Blocks),
     Subject("bytes.toml", &bytes::MEMBERS, About::Bytes),
     Subject("captures.toml", &captures::MEMBERS, About::Captures),
@@ -73,6 +74,11 @@ static SUBJECTS: [Subject; 32] = [
         About::IgnoreFiles,
     ),
     Subject("languages.toml", &languages::MEMBERS, About::Languages),
+    Subject(
+        "memory_folders.toml",
+        &memory_folders::MEMBERS,
+        About::MemoryFolders,
+    ),
     Subject("patterns.toml", &patterns::MEMBERS, About::Patterns),
     Subject("printed.toml", &printed::MEMBERS, About::Printed),
     Subject("read_back.toml", &read_back::MEMBERS, About::ReadBack),
@@ -127,6 +133,7 @@ impl Subject {
             About::NextPlaces => next_places::came(row, answers),
             About::Texts => texts::came(row, answers),
             About::IgnoreFiles => ignore_files::came(row, answers),
+            About::MemoryFolders => memory_folders::came(row, answers),
             About::Patterns => patterns::came(row, answers),
             About::Walks => walks::came(row, answers),
             About::Words => words::came(row, answers),

@@ -28,9 +28,11 @@ fn report_of(table: &LanguageTable, row: &Row, answers: &mut Answers) -> Report 
 fn say_shown(report: &Report, row: &Row, answers: &mut Answers) {
     let mut page = Page::new(answers.alloc);
     if row.has("width") {
-        match u16::try_from(answers.number(row, "width")) {
-            Ok(width) => page.put_shown(&report.display_in(usize::from(width))),
-            Err(_) => answers.fail(RowError::Words("the width is above 65535")),
+        let width = answers.place(row, "width");
+        if width <= 65_535 {
+            page.put_shown(&report.display_in(width));
+        } else {
+            answers.fail(RowError::Words("the width is above 65535"));
         }
     } else {
         page.put_shown(report);

@@ -5,7 +5,6 @@ pub mod CalmLines
 pub mod ChildReading
 pub mod ChildSums
 pub mod ClearLines
-pub mod Encloses
 pub mod Fitting
 pub mod Gathered
 pub mod GlanceReading

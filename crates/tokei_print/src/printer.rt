@@ -10,6 +10,9 @@ use tokei_options::NumberFormat;
 use tokei_stats::CountError;
 use tokei_table::{LanguageTable, LanguageType};
 
+/// The note that counts can be inaccurate.
+const WARNING: &str = "Note: results can be inaccurate for languages marked with '(!)'\n";
+
 /// Writes the rows of a report to a sink. After a refused call nothing is said of the bytes that it
 /// wrote.
 #[derive(Drop)]
@@ -59,17 +62,6 @@ impl<W: Sink + Drop> Printer<W> {
         })
     }
 
-    /// Puts the text behind what stands in the writer.
-    fn put(&mut self, text: &str) -> Result<(), OutputError>
-        ensures bytes { OnOk result
-            (Appends (W.contents self.old.writer) (W.contents self.new.writer) text.now) }
-        ensures faults { CountsWriteFault W.faults self.old.writer self.new.writer result }
-        ensures overflow { result ≢ Err OutputError.Overflow }
-        ensures layout { self.new.layout ≡ self.old.layout }
-    {
-        put(&mut self.writer, text.as_bytes())
-    }
-
     /// Puts the text behind what stands in the writer, where it was made.
     fn put_made(&mut self, text: Result<String, CountError>) -> Result<(), OutputError>
         ensures bytes { (bytes : List ℕ) → IfOk text (λ s. string_bytes s ≡ bytes) → OnOk result
@@ -79,7 +71,7 @@ impl<W: Sink + Drop> Printer<W> {
         ensures overflow { IsErrOf result OutputError.Overflow → IsErrOf text CountError.Overflow }
         ensures layout { self.new.layout ≡ self.old.layout }
     {
-        self.put(text?.as_str())
+        put(&mut self.writer, text?.as_bytes())
     }
 
     /// The names of the columns, between two rows.
@@ -91,7 +83,7 @@ impl<W: Sink + Drop> Printer<W> {
         ensures layout { self.new.layout ≡ self.old.layout }
     {
         let text = self.layout.header(self.alloc)?;
-        self.put(text.as_str())
+        put(&mut self.writer, text.as_bytes())
     }
 
     /// The note that counts can be inaccurate.
@@ -102,7 +94,7 @@ impl<W: Sink + Drop> Printer<W> {
         ensures overflow { result ≢ Err OutputError.Overflow }
         ensures layout { self.new.layout ≡ self.old.layout }
     {
-        self.put("Note: results can be inaccurate for languages marked with '(!)'\n")
+        put(&mut self.writer, WARNING.as_bytes())
     }
 
     /// The name at the head of a row, with the mark of an inaccurate language, and no newline.
@@ -124,7 +116,7 @@ impl<W: Sink + Drop> Printer<W> {
         let text = self
             .layout
             .name_section(self.alloc, inaccurate, name, prefix)?;
-        self.put(text.as_str())
+        put(&mut self.writer, text.as_bytes())
     }
 
     /// A language's row under this name. `Overflow` only where its lines pass the greatest `usize`.

@@ -15,5 +15,6 @@ pub mod NoPairs
 pub mod NumberData
 pub mod Pairs
 pub mod PlainTables
+pub mod Refused
 pub mod RowKinds
 pub mod Utf8

@@ -59,6 +59,38 @@ fn form_of(member: &str) -> &str {
     }
 }
 
+impl TableFlaw {
+    /// How the sentence begins, up to the language's key: a text, a name and a text.
+    fn subject(&self) -> (&str, &str, &str) {
+        let word = self.word.as_str();
+        match self.cause {
+            TableError::Layout if word.is_empty() => ("the language '", "", ""),
+            TableError::Layout | TableError::Escape => ("'", word, "' of the language '"),
+            TableError::NamedTwice => ("the name '", word, "' stands for the languages '"),
+            _ => ("the language '", "", ""),
+        }
+    }
+
+    /// How the sentence goes on behind the quote that closes the key: a text, a name and a text.
+    fn fault(&self) -> (&str, &str, &str) {
+        let word = self.word.as_str();
+        match self.cause {
+            TableError::Layout if word.is_empty() => (" is no object", "", ""),
+            TableError::Layout => (" is no ", form_of(word), ""),
+            TableError::Escape => (" has an unknown escape", "", ""),
+            TableError::Token => (
+                ": a token of '",
+                word,
+                "' is empty, blank or holds a newline",
+            ),
+            TableError::NamedTwice => (" and '", self.other.as_str(), "'"),
+            TableError::NamedTotal => (" is named Total", "", ""),
+            TableError::Fallback => (" needs '", word, "', which is missing"),
+            TableError::NotJson | TableError::Memory => ("", "", ""),
+        }
+    }
+}
+
 /// The flaw in a sentence, which names the language and the member.
 impl fmt::Display for TableFlaw {
     ghost use Rattle.std.specs.Prelude.{None};
@@ -66,42 +98,10 @@ impl fmt::Display for TableFlaw {
     ghost output = { λ _. None };
 
     fn fmt<W: fmt::Write>(&self, f: &mut fmt::Formatter<W>) -> fmt::Result {
+        let (start, name, joint) = self.subject();
         let language = self.language.as_str();
-        let word = self.word.as_str();
-        let other = self.other.as_str();
-        match self.cause {
-            TableError::Layout => {
-                if word.is_empty() {
-                    return write!(f, "the language '{language}' is no object");
-                }
-                let form = form_of(word);
-                write!(f, "'{word}' of the language '{language}' is no {form}")
-            }
-            TableError::Escape => {
-                write!(
-                    f,
-                    "'{word}' of the language '{language}' has an unknown escape"
-                )
-            }
-            TableError::Token => write!(
-                f,
-                "the language '{language}': a token of '{word}' is empty, blank or holds a newline"
-            ),
-            TableError::NamedTwice => {
-                write!(
-                    f,
-                    "the name '{word}' stands for the languages '{language}' and '{other}'"
-                )
-            }
-            TableError::NamedTotal => write!(f, "the language '{language}' is named Total"),
-            TableError::Fallback => {
-                write!(
-                    f,
-                    "the language '{language}' needs '{word}', which is missing"
-                )
-            }
-            TableError::NotJson | TableError::Memory => write!(f, "the language '{language}'"),
-        }
+        let (verb, object, end) = self.fault();
+        write!(f, "{start}{name}{joint}{language}'{verb}{object}{end}")
     }
 }
 
@@ -245,6 +245,19 @@ fn reading_flaw(alloc: Global, read: &Reading<'_>) -> Result<Option<TableFlaw>, 
     row_flaw(alloc, &rows)
 }
 
+/// What of a text, whose tree stands in the room, keeps it from being a table.
+fn flaw_in(alloc: Global, room: &mut Room, text: &str) -> Result<Option<TableFlaw>, AllocError>
+    ensures found { IfOk result (λ o. is_some o ≡ is_flawed_data (read_text text.now)) }
+    ensures tells { IfOk result (λ o. IfSome o
+        (Tells (outcome_of (read_text text.now)) (rows_in_data (read_text text.now)))) }
+{
+    match read(alloc, room, text) {
+        Ok(read) => reading_flaw(alloc, &read),
+        Err(ReadError::Memory) => Err(AllocError),
+        Err(ReadError::NotJson) => Ok(None),
+    }
+}
+
 /// What of a text keeps it from being a table.
 fn text_flaw(alloc: Global, text: &str) -> Result<Option<TableFlaw>, AllocError>
     ensures found { IfOk result (λ o. is_some o ≡ is_flawed_data (read_text text.now)) }
@@ -252,11 +265,7 @@ fn text_flaw(alloc: Global, text: &str) -> Result<Option<TableFlaw>, AllocError>
         (Tells (outcome_of (read_text text.now)) (rows_in_data (read_text text.now)))) }
 {
     let mut room = Room::new(alloc);
-    match read(alloc, &mut room, text) {
-        Ok(read) => reading_flaw(alloc, &read),
-        Err(ReadError::Memory) => Err(AllocError),
-        Err(ReadError::NotJson) => Ok(None),
-    }
+    flaw_in(alloc, &mut room, text)
 }
 
 impl TableFlaw {

@@ -18,7 +18,7 @@ use crate::escaped::is_escaped_table;
 use crate::layout::has_layout;
 use crate::rows::rows_of;
 use crate::token_rows::rows_in_order;
-use std::alloc::Global;
+use std::alloc::{AllocError, Global};
 use tokei_json_tree::{Reading, Room, read};
 use tokei_table::LanguageTable;
 use tokei_table_row::Syntax;
@@ -55,6 +55,19 @@ fn rows_in(alloc: Global, read: &Reading<'_>) -> Result<Vec<Syntax>, TableError>
     Ok(rows_of(alloc, &read.tree)?)
 }
 
+/// The rows of a table's text, in the order of their keys, by a tree that stands in the room.
+fn rows_by_tree(alloc: Global, room: &mut Room, text: &str) -> Result<Vec<Syntax>, TableError>
+    ensures value { result ≢ Err MemoryFault → MatchResult result
+        (λ v. outcome_of (read_text text.now) ≡ tested (map row_of v.items))
+        (λ e. outcome_of (read_text text.now) ≡ Err e) }
+    ensures ordered { IfOk result (λ v. IsInKeyOrder (map row_of v.items)) }
+{
+    match read(alloc, room, text) {
+        Ok(read) => rows_in(alloc, &read),
+        Err(refused) => Err(TableError::from(refused)),
+    }
+}
+
 /// The rows of a table's text, in the order of their keys.
 fn rows_of_text(alloc: Global, text: &str) -> Result<Vec<Syntax>, TableError>
     ensures value { result ≢ Err MemoryFault → MatchResult result
@@ -62,12 +75,14 @@ fn rows_of_text(alloc: Global, text: &str) -> Result<Vec<Syntax>, TableError>
         (λ e. outcome_of (read_text text.now) ≡ Err e) }
     ensures ordered { IfOk result (λ v. IsInKeyOrder (map row_of v.items)) }
 {
-    if let Some(rows) = rows_in_order(alloc, text)? {
-        return Ok(rows);
+    match rows_in_order(alloc, text) {
+        Ok(Some(rows)) => Ok(rows),
+        Ok(None) => {
+            let mut room = Room::new(alloc);
+            rows_by_tree(alloc, &mut room, text)
+        }
+        Err(AllocError) => Err(TableError::Memory),
     }
-    let mut room = Room::new(alloc);
-    let read = read(alloc, &mut room, text)?;
-    rows_in(alloc, &read)
 }
 
 /// Tests whether rows in the order of their keys can be counted with.

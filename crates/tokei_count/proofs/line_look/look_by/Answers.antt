@@ -138,3 +138,43 @@ returns-then-gap-lt-BLOCK-2-clause-found g c = λ inside.
     let r = c.args.ahead.now.reading.now in
     next_here (openers_in r) r.text.now c.with_block-look-else-marked-eq0.result.at
     (ap (λ n. begins_with_one (openers_in r) (drop n r.text.now)) c.with_block-look-else-marked-eq0.ensures.at ∙ c.gap_in_block-gap.ensures.found c.if-gap-lt-BLOCK-2.true)
+
+pub with_block-look-requires : goal.with_block-look-requires
+with_block-look-requires g c =
+    let i = c.loop-look.invariant in record {
+      look = i.look;
+      within = omega (arith, c.loop-look-test.true, c.args.ahead.now.inside);
+      gap = omega arith;
+      blank = i.blank;
+      newlines = c.line_masks-lines.ensures.newlines;
+      fronts = c.line_masks-lines.ensures.fronts;
+      marked = c.in_block-marked.ensures;
+    }
+
+pub with_block-look-requires-else-marked-eq0 : goal.with_block-look-requires-else-marked-eq0
+with_block-look-requires-else-marked-eq0 g c =
+    let i = c.loop-look.invariant in
+    let lines = c.line_masks-lines-else-marked-eq0 in record {
+      look = i.look;
+      within = omega (arith, c.loop-look-test.true, c.args.ahead.now.inside);
+      gap = omega (arith, c.if-gap-gt-BLOCK.false);
+      blank = i.blank;
+      newlines = lines.ensures.newlines;
+      fronts = lines.ensures.fronts;
+      marked = c.in_block-marked.ensures;
+    }
+
+pub returns-then-gap-lt-BLOCK-2-clause-look : goal.returns-then-gap-lt-BLOCK-2-clause-look
+returns-then-gap-lt-BLOCK-2-clause-look g c = c.with_block-look-else-marked-eq0.ensures.look
+
+pub returns-then-not-are_comments-clause-look : goal.returns-then-not-are_comments-clause-look
+returns-then-not-are_comments-clause-look g c = c.loop-look.invariant.look
+
+pub returns-then-gap-gt-BLOCK-clause-look : goal.returns-then-gap-gt-BLOCK-clause-look
+returns-then-gap-gt-BLOCK-clause-look g c = c.loop-look.invariant.look
+
+pub returns-then-gap-lines-clause-look : goal.returns-then-gap-lines-clause-look
+returns-then-gap-lines-clause-look g c = c.loop-look.invariant.look
+
+pub returns-else-look-lt-NEAR-clause-look : goal.returns-else-look-lt-NEAR-clause-look
+returns-else-look-lt-NEAR-clause-look g c = c.loop-look.invariant.look

@@ -6,6 +6,7 @@ use Rattle.tokei_count.proofs.StepReading.{line_some, lines_of-one}
 use Rattle.tokei_stats.specs.Seen.{sums_of}
 use Rattle.tokei_stats.specs.Statistics.{lines_of}
 use Rattle.tokei_parts.specs.ReadingOf.{openers_in}
+use Rattle.tokei_count.proofs.LookedLines.{looked_fits}
 use Rattle.tokei_count.proofs.Refusals.{answered}
 use Rattle.tokei_count.proofs.Skipping.{ends_over, front_line, goes_far, goes_from, less_left, line_on, stays}
 use Rattle.tokei_count.proofs.UnderWay.{counted_on, gone_on, none_more, counts_fit, skipped_more}
@@ -51,6 +52,10 @@ loop-at-preserved c =
 pub returns-in_err-so_far-clause-overflow : goal.returns-in_err-so_far-clause-overflow
 returns-in_err-so_far-clause-overflow c = λ is fits. c.in_err-so_far.ensures.past
     (counts_fit c.args.reading.now (gone_on c.args.so_far.now c.loop-at.lines c.loop-at.at) c.loop-at.invariant.under_way fits)
+
+pub returns-in_err-so_far-clause-quiet : goal.returns-in_err-so_far-clause-quiet
+returns-in_err-so_far-clause-quiet c = λ none. absurd (c.in_err-so_far.ensures.past
+    (looked_fits c.args.reading.now c.args.so_far.now c.loop-at.lines c.loop-at.at c.requires.skips (omega (arith, c.loop-at.invariant.high)) c.loop-at.invariant.under_way none))
 
 pub returns-clause-more : goal.returns-clause-more
 returns-clause-more c some =

@@ -1,4 +1,5 @@
 use Rattle.std.proofs.Common.{◌≤◌, ℕ, List, refl, sym, ap, ◌∙◌}
+use Rattle.std.proofs.lemmas.Result.{on_ok_weaker}
 use Rattle.std.specs.Global.{Vec}
 use Rattle.tokei_parts.specs.Modes.{innermost}
 use Rattle.tokei_parts.specs.Seen.{chain_of}
@@ -60,3 +61,7 @@ line_end-requires-in-Some c =
 pub skip_far_lines-requires-clause-known : goal.skip_far_lines-requires-clause-known
 skip_far_lines-requires-clause-known c =
     knows_later _ c.args.reading.now.text.now c.args.so_far.now.start c.read_near.new.so_far.start c.args.next.now c.in_ok-end.ensures.low c.requires.known
+
+pub returns-clause-on : goal.returns-clause-on
+returns-clause-on c = on_ok_weaker c.skip_far_lines.result
+    (goes_on c.args.so_far.now.start c.read_near.new.so_far.start c.skip_far_lines.new.so_far.start c.in_ok-end.ensures.low) c.skip_far_lines.ensures.on

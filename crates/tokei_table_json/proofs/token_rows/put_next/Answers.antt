@@ -4,6 +4,7 @@ use Rattle.tokei_table_json.specs.Escaped.{is_escaped_value, is_escaped_list, ar
 use Rattle.tokei_table_json.specs.Layout.{is_list, is_text, is_text_pair, is_truth_value}
 use Rattle.tokei_table_json.specs.Next.{IsNext}
 use Rattle.tokei_table_json.specs.Rows.{text_of, texts_at, pairs_at, truth_at}
+use Rattle.tokei_table_json.proofs.Refused.{not_done}
 use Rattle.tokei_table_json.proofs.NextRows.{texts_member, pairs_member, name_member, truth_member}
 use Rattle.tokei_table_json.proofs.token_rows.put_next.Goals as goal
 
@@ -41,3 +42,15 @@ returns-in-Some-3 c e =
     let new = c.next_text.new.reader in
     let next = subst (λ o. IfSome o (λ s. (depth : ℕ) → IsNext is_text is_escaped_value text_of depth old new (string_bytes s))) c.in-Some-3.is c.in_ok-name-in-Name.ensures in
     name_member c.args.key.now (row_of c.args.row.now) (row_of c.put_name.new.row) 124 old new _ (sym c.in-Name.is ∙ c.member_of.ensures) c.put_name.ensures (next 124)
+
+pub returns-in-None : goal.returns-in-None
+returns-in-None c e = not_done e
+
+pub returns-in-None-2 : goal.returns-in-None-2
+returns-in-None-2 c e = not_done e
+
+pub returns-in-None-3 : goal.returns-in-None-3
+returns-in-None-3 c e = not_done e
+
+pub returns-in-None-next_truth : goal.returns-in-None-next_truth
+returns-in-None-next_truth c e = not_done e

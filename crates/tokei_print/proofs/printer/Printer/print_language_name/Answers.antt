@@ -11,8 +11,8 @@ prefix_text (Some q) none e = refl
 
 pub returns-clause-bytes : goal.returns-clause-bytes
 returns-clause-bytes g c =
-    subst (λ t. OnOk c.put.result (Appends (g.W.Sink.contents c.args.self.now.writer) (g.W.Sink.contents c.put.new.self.writer) t))
-    (c.as_str.ensures.value ∙ c.in_ok-text.ensures
+    subst (λ t. OnOk c.put.result (Appends (g.W.Sink.contents c.args.self.now.writer) (g.W.Sink.contents c.put.new.writer) t))
+    (c.as_bytes.ensures.value ∙ c.in_ok-text.ensures
     ∙ ap (name_section c.args.self.now.layout.columns c.args.inaccurate c.args.name.now)
     (ap (λ r. r.now) c.unwrap_or-prefix.ensures ∙ prefix_text c.args.prefix _ refl))
     c.put.ensures.bytes
@@ -22,6 +22,3 @@ returns-clause-faults g c = c.put.ensures.faults
 
 pub returns-clause-overflow : goal.returns-clause-overflow
 returns-clause-overflow g c = c.put.ensures.overflow
-
-pub returns-clause-layout : goal.returns-clause-layout
-returns-clause-layout g c = c.put.ensures.layout

@@ -3,7 +3,7 @@ use Rattle.std.specs.Option.{IfSome}
 use Rattle.std.specs.Result.{IfOk}
 use Rattle.tokei_table_json.specs.Flaws.{Tells, rows_in_data, is_flawed_data}
 use Rattle.tokei_table_json.specs.Outcome.{outcome_of}
-use Rattle.tokei_table_json.proofs.flaw.text_flaw.Goals as goal
+use Rattle.tokei_table_json.proofs.flaw.flaw_in.Goals as goal
 
 pub returns-in-Ok-clause-found : goal.returns-in-Ok-clause-found
 returns-in-Ok-clause-found c =
