@@ -212,11 +212,11 @@ fn print_told(rt: &HostRuntime, file: &str, told: &Told) -> anyhow::Result<bool>
     Ok(fail == 0)
 }
 
-/// Asks the rows of the file that is asked for, or of all, and prints what is told of each; whether
+/// Asks the rows of those of some files that are asked for, and prints what is told of each; whether
 /// all hold.
-pub fn ask_files(rt: &HostRuntime, request: &Request) -> anyhow::Result<bool> {
+fn ask_list(rt: &HostRuntime, request: &Request, subjects: &[Subject]) -> anyhow::Result<bool> {
     let mut all_hold = true;
-    for subject in Subject::all() {
+    for subject in subjects {
         if request.asks(subject.file()) {
             let mut told = Told::new(rt.alloc());
             ask_file(rt, subject, request, &mut told)?;
@@ -224,4 +224,13 @@ pub fn ask_files(rt: &HostRuntime, request: &Request) -> anyhow::Result<bool> {
         }
     }
     Ok(all_hold)
+}
+
+/// Asks the rows of the file that is asked for, or of all, and prints what is told of each; whether
+/// all hold.
+pub fn ask_files(rt: &HostRuntime, request: &Request) -> anyhow::Result<bool> {
+    let texts_hold = ask_list(rt, request, Subject::of_texts())?;
+    let trees_hold = ask_list(rt, request, Subject::of_trees())?;
+    let program_holds = ask_list(rt, request, Subject::of_program())?;
+    Ok(texts_hold && trees_hold && program_holds)
 }
