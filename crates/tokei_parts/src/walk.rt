@@ -151,21 +151,8 @@ pub(crate) fn choice_within<'t>(place: &Place<'_, '_, 't>, item: Enclosure<'t>) 
     choose_within(place.reading.syntax, item, &place.reading.text[place.at..])
 }
 
-/// Takes the byte at a place at which nothing but the byte itself can begin: a choice, which is one
-/// step.
-#[inline(always)]
-fn take_byte<'t>(place: &Place<'_, '_, 't>, mode: Option<Enclosure<'t>>, steps: &mut usize)
-    requires room { steps.old < length (text_of place.now) }
-    requires plain { choice_here place.now (mode_of mode) ≡ takes_byte }
-    ensures { steps.new ≡ steps.old + 1 }
-{
-    // there are no more steps than bytes, and so many can be counted
-    let _length = place.reading.text.len();
-    *steps += 1;
-}
-
 /// Takes the bytes from the place that the walk has come to on to before `to`, if that lies ahead.
-/// Nothing but the byte itself can begin at any, in that mode. Each is a choice.
+/// Nothing but the byte itself can begin at any, in that mode: each is a choice, which is one step.
 #[inline(always)]
 fn take_bytes<'t>(
     part: &Place<'_, '_, 't>,
@@ -187,14 +174,11 @@ fn take_bytes<'t>(
     ensures goes_on { (last : Chain) → innermost last ≡ mode_of mode.entry
         → GoesOn part.now last reach.old last reach.new }
 {
-    while reach.at < to {
-        let here = Place {
-            at: reach.at,
-            ..*part
-        };
-        take_byte(&here, mode, &mut reach.steps);
-        reach.at += 1;
-    }
+    // there are no more steps than bytes, and so many can be counted
+    let _length = part.reading.text.len();
+    let bytes = to.saturating_sub(reach.at);
+    reach.steps += bytes;
+    reach.at += bytes;
 }
 
 /// Takes the choice at a place, which is one step, in the mode of the stack's items.
@@ -277,20 +261,6 @@ fn take_step<'t>(
         Move::Child => {}
     }
     Ok(taken)
-}
-
-/// Takes the newline that ends a line behind which the stack's items go on: one step. No token
-/// holds a newline, and no child opens at one, so nothing but the byte itself can begin there.
-#[inline(always)]
-fn take_newline<'t>(place: &Place<'_, '_, 't>, stack: &[Enclosure<'t>], steps: &mut usize)
-    requires closable { IsClosable (chain_of stack.now) }
-    requires here { IsAt place.now }
-    requires last { place.now.at ≡ place.now.end }
-    requires some { place.now.at < length (text_of place.now) }
-    requires room { steps.old < length (text_of place.now) }
-    ensures { steps.new ≡ steps.old + 1 }
-{
-    take_byte(place, innermost(stack), steps);
 }
 
 /// Takes the bytes from the place that the walk has come to, which the item encloses, up to where a
@@ -444,15 +414,12 @@ fn end_line<'t>(
         part.now.behind_child part.now.reading.now.docs_are_comments chain (chain_of stack.now)
         part.now.start (text_of part.now) result }
     ensures line { (at : ℕ) → result.end ≡ PartEnd.Broken at → ⊥ }
+    ensures newline { reach.at < stop
+        → choice_from part.now reach.at (innermost (chain_of stack.now)) ≡ takes_byte }
 {
-    let mut steps = reach.steps;
-    if reach.at < stop {
-        let newline = Place {
-            at: reach.at,
-            ..*part
-        };
-        take_newline(&newline, stack, &mut steps);
-    }
+    // a newline that is left is one byte, and one choice; there are no more steps than bytes
+    let _length = part.reading.text.len();
+    let steps = reach.steps + (stop - reach.at);
     let class = class_by(part.reading, begun, part.start, front, stop, stack);
     let end = PartEnd::Line(class, stop);
     PartRead { end, steps }

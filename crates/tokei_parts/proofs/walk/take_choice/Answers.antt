@@ -3,7 +3,7 @@ use Rattle.std.proofs.lemmas.List.{append-nil}
 use Rattle.tokei_table.specs.RowOf.{pair_of}
 use Rattle.tokei_parts.specs.Choice.{Choice, choice, or_else}
 use Rattle.tokei_parts.specs.Choice.Choice.{closes, escapes, child_opens, opens, passes_over, begins_line_comment, takes_byte}
-use Rattle.tokei_parts.specs.Lines.{line_len}
+use Rattle.tokei_table_row.specs.Bytes.{line_len}
 use Rattle.tokei_parts.specs.Modes.{innermost}
 use Rattle.tokei_parts.specs.ReadingOf.{row_in, blocks_of}
 use Rattle.tokei_parts.specs.Places.{block_here}
