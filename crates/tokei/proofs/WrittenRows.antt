@@ -1,5 +1,5 @@
 -- Rows that are written one behind the other.
-use Rattle.std.proofs.Common.{◌≡◌, ℕ, List, [], ◌∷◌, ◌++◌, Option, refl, sym, ap, ◌∙◌, subst, append_assoc, append-nil}
+use Rattle.std.proofs.Common.{◌≡◌, ℕ, List, [], ◌∷◌, ◌++◌, Option, refl, sym, ap, ◌∙◌, append_assoc}
 use Rattle.std.proofs.KnownBytes.{Appends-nil, Appends-trans}
 use Rattle.std.specs.List.{flat_map}
 use Rattle.std.specs.Io.KnownBytes.{Appends}
@@ -22,8 +22,3 @@ module _ {A : Type 0} (row : A → List ℕ) where
     appended = Appends-trans old mid new h.written (row a) h.appended one;
     rest = append_assoc h.written (row a) (flat_map row rest) ∙ ap (λ (l : List A). h.written ++ flat_map row l) (sym is) ∙ h.rest;
   }
-
-  -- all of them
-  pub all_rows : (all left : List A) (old new : Option (List ℕ)) → RowsSoFar all left old new → left ≡ [] → Appends old new (flat_map row all)
-  all_rows all left old new h none =
-      subst (Appends old new) (sym (append-nil h.written) ∙ ap (λ (l : List A). h.written ++ flat_map row l) (sym none) ∙ h.rest) h.appended

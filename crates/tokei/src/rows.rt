@@ -1,5 +1,5 @@
 //! The rows of a stream, and its heading.
-ghost use Rattle.std.specs.Prelude.{◌≡◌, ◌≢◌, ◌<◌, Err, OnOk};
+ghost use Rattle.std.specs.Prelude.{◌≢◌, ◌<◌, Err, OnOk};
 ghost use Rattle.std.specs.Io.KnownBytes.{Appends};
 ghost use Rattle.tokei_stats.specs.Reports.{report_of as report_value};
 ghost use Rattle.tokei_io.specs.declared.error.OutputError.TheVariants.{Overflow as SumOverflow, Write as WriteFault};

@@ -247,12 +247,6 @@ pub outside_slots : (flags : List Bool) (slots others : List ℕ) (have : Bool) 
     → in_slots slots others b ≡ false → is_in flags b ≡ false
 outside_slots flags slots others have b are so fits none = sym (are so b fits) ∙ none
 
--- the flag of a byte that has one doesn't go by the default
-pub any_default : (flags : List Bool) (i : ℕ) (d e : Bool) → i < length flags → slice_index_or flags i d ≡ slice_index_or flags i e
-any_default [] i d e h = absurd (omega (arith, h))
-any_default (f ∷ flags) zero d e h = refl
-any_default (f ∷ flags) (suc i) d e h = any_default flags i d e (omega (arith, h))
-
 -- none of three of a few and another byte, or one
 pub apart_of_three : (few : List ℕ) (x b : ℕ) → is_one_of (get_or few 0 0 ∷ get_or few 1 0 ∷ get_or few 2 0 ∷ x ∷ []) b ≡ false → (b == x) ≡ false
 apart_of_three few x b h = by_tests (b == get_or few 0 0) (b == get_or few 1 0) (b == get_or few 2 0) (b == x) h

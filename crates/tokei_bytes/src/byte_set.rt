@@ -1,5 +1,5 @@
 //! Sets of bytes that a text is searched for.
-ghost use Rattle.std.specs.Prelude.{◌≡◌, ℕ, ◌<◌, ◌≤◌, ◌==◌, ◌||◌, ◌⊎◌, true, false, length, replicate, IfOk, IfSome};
+ghost use Rattle.std.specs.Prelude.{◌≡◌, ℕ, ◌<◌, ◌≤◌, ◌==◌, ◌||◌, ◌⊎◌, true, false, length, replicate, IfSome};
 ghost use Rattle.std.specs.Prelude.{slice_index};
 ghost use Rattle.tokei_bytes.specs.ByteSets.{AreSlotted, AreSlottedAlone, HasFew, is_in, with_one};
 ghost use Rattle.tokei_bytes.specs.FirstPlace.{IsFirstPlace};

@@ -1,5 +1,5 @@
 //! The lines of a text, 32 bytes at a time.
-ghost use Rattle.std.specs.Prelude.{◌≡◌, ℕ, ◌+◌, ◌<◌, ◌≤◌, ◌==◌, true, drop, length, map};
+ghost use Rattle.std.specs.Prelude.{◌≡◌, ◌+◌, ◌<◌, ◌≤◌, ◌==◌, true, drop, length, map};
 ghost use Rattle.std.specs.Simd.Lanes.{chunk, mask_l};
 ghost use Rattle.tokei_bytes.specs.Lines.{newline, is_blank, flag, blank_after, front_count, fronts, goes_on, line_count, newline_count};
 

@@ -1,5 +1,5 @@
 //! The first place of one byte that mostly stands near.
-ghost use Rattle.std.specs.Prelude.{◌≡◌, ◌≤◌, ◌==◌, length};
+ghost use Rattle.std.specs.Prelude.{◌≤◌, ◌==◌, length};
 ghost use Rattle.tokei_bytes.specs.FirstPlace.{IsFirstPlace};
 
 use crate::one_of::{BLOCK, first_of_four};

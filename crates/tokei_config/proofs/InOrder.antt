@@ -78,10 +78,6 @@ clash-put es es' k v w rest new puts =
     (or_moved (list_any (λ b. is_there es b.0) rest) (list_any (λ b. b.0 == k) rest)
     (named_twice rest))
 
--- one more addition whose language has an entry
-pub clash-there : (es : Entries) (k : ℕ) (w : List (List ℕ)) (rest : List Addition) → is_there es k ≡ true → clash es ((k, w) ∷ rest) ≡ true
-clash-there es k w rest there = rw there
-
 -- one more member that is read
 pub additions-read : (rows : List Row) (found : Entries) (k : String Global) (v : Value) (es iterator : List (String Global × Value)) (a : ℕ × LanguageConfig) → iterator ≡ (k, v) ∷ es
     → addition rows (string_bytes k) (view v) ≡ Some (a.0, extensions_of a.1)

@@ -11,10 +11,6 @@ use Rattle.tokei_config.specs.Members.{all_of}
 abbrev pub behind : {X : Type 0} → List X → Option (List X) → Option (List X)
 behind done rest = option_map (λ xs. done ++ xs) rest
 
-pub behind-nothing : {X : Type 0} (rest : Option (List X)) → behind [] rest ≡ rest
-behind-nothing None = refl
-behind-nothing (Some xs) = refl
-
 pub behind-more : {X : Type 0} (done : List X) (x : X) (rest : Option (List X)) → behind done (option_map (λ xs. x ∷ xs) rest) ≡ behind (done ++ x ∷ []) rest
 behind-more done x None = refl
 behind-more done x (Some xs) = ap (λ ys. Some ys) (sym (append_assoc done (x ∷ []) xs))

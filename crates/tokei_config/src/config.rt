@@ -1,5 +1,5 @@
 //! The configuration of a run.
-ghost use Rattle.std.specs.Prelude.{◌≡◌, ◌++◌, ◌∷◌, [], map, IfOk, OnOk, string_bytes};
+ghost use Rattle.std.specs.Prelude.{◌≡◌, map, IfOk, OnOk};
 ghost use Rattle.tokei_config.specs.Seen.{additions_of};
 ghost use Rattle.tokei_table.specs.Extended.{addition_of};
 ghost use Rattle.tokei_folders.specs.AsTheyWere.{AsTheyWere};

@@ -1,5 +1,5 @@
 //! The configuration files of a user.
-ghost use Rattle.std.specs.Prelude.{◌≡◌, ◌<◌, ◌++◌, IfOk, OnOk, option_map, option_and_then, string_bytes, None, Some};
+ghost use Rattle.std.specs.Prelude.{◌≡◌, ◌<◌, ◌++◌, IfOk, OnOk, option_map, option_and_then, None, Some};
 ghost use Rattle.tokei_config.specs.Document.{settings_of_text};
 ghost use Rattle.tokei_config.specs.Files.{as_text, text_at, settings_of_folder};
 ghost use Rattle.tokei_config.specs.Flaws.{cause_of_bytes, cause_of_found, flaw_at, flaws_in, listed, placed_causes};

@@ -15,7 +15,7 @@ use Rattle.tokei_bytes.specs.Lines.{newline, is_blank, flag, blank_behind, blank
 use Rattle.tokei_bytes.proofs.Carries.{and_one}
 use Rattle.tokei_bytes.proofs.LineSums.{flag_small, ones_fronts, ones_newlines, fronts_over, newlines_over, newlines_within, fronts_within}
 use Rattle.tokei_bytes.specs.declared.lines.LineMasks.{LineMasks}
-use Rattle.tokei_table.specs.OuterLines.{between}
+use Rattle.tokei_table.specs.Slices.{between}
 use Rattle.tokei_count.specs.LineLooks.{IsLook, mark_count}
 use Rattle.tokei_count.specs.declared.line_look.Look.{Look}
 

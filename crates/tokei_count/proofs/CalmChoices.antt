@@ -9,7 +9,7 @@ use Rattle.tokei_parts.specs.Choice.{choice, opened, any_begins, is_escape}
 use Rattle.tokei_parts.specs.Choice.Choice.{escapes, opens, passes_over, begins_line_comment, takes_byte}
 use Rattle.tokei_parts.specs.Glance.{holds}
 use Rattle.tokei_parts.specs.Items.{Block}
-use Rattle.tokei_parts.specs.Lines.{first_line}
+use Rattle.tokei_embedding.specs.DocComments.{first_line}
 use Rattle.tokei_parts.specs.declared.items.ItemKind.{ItemKind}
 use Rattle.tokei_parts.proofs.OpenersInLines.{one-line, none_here, none_next, none_front, none_back}
 use Rattle.tokei_count.proofs.TokenOpeners.{openers_in_line}

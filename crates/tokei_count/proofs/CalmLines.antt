@@ -8,7 +8,8 @@ use Rattle.tokei_parts.specs.Choice.Choice.{takes_byte}
 use Rattle.tokei_parts.specs.Class.{class_of}
 use Rattle.tokei_parts.specs.Glance.{is_walked}
 use Rattle.tokei_parts.specs.Items.{Block, Enclosure}
-use Rattle.tokei_parts.specs.Lines.{first_line, line_len}
+use Rattle.tokei_embedding.specs.DocComments.{first_line}
+use Rattle.tokei_table_row.specs.Bytes.{line_len}
 use Rattle.tokei_parts.specs.Modes.{Chain, innermost}
 use Rattle.tokei_parts.specs.Tally.{one_of}
 use Rattle.tokei_parts.specs.Progress.{Leads, Goes, IsClosable, IsPart, ReadsLine, newlines}

@@ -11,7 +11,7 @@ use Rattle.tokei_parts.proofs.Lines.{take-first, first_within}
 use Rattle.tokei_parts.specs.Class.{class_of}
 use Rattle.tokei_parts.specs.CodeHeads.{FrontBeginsNone, HasCodeHead}
 use Rattle.tokei_parts.specs.Glance.{opener_place}
-use Rattle.tokei_parts.specs.Lines.{first_line}
+use Rattle.tokei_embedding.specs.DocComments.{first_line}
 use Rattle.tokei_parts.specs.Matchers.{Matchers}
 use Rattle.tokei_parts.specs.PlainBytes.{BeginsNone}
 use Rattle.tokei_parts.specs.ReadingOf.{row_in, openers_in}

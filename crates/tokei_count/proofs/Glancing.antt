@@ -2,7 +2,7 @@
 use Rattle.std.proofs.Common.{◌≡◌, ℕ, suc, zero, ◌+◌, ◌-◌, ◌<◌, ◌≤◌, ◌==◌, Bool, true, false, ◌||◌, cond, List, [], ◌∷◌, ◌++◌, drop, Option, None, Some, refl, sym, ◌∙◌, ap, subst, arith}
 use Rattle.std.specs.Prelude.{⊤}
 use Rattle.std.proofs.lemmas.List.{drop-drop}
-use Rattle.tokei_table.specs.Bytes.{begins, begins_with_one}
+use Rattle.tokei_table.specs.Bytes.{begins, begins_with_one, line_len}
 use Rattle.tokei_table.specs.Families.{family_of}
 use Rattle.tokei_table.specs.Openers.{starts_of, tag_starts, child_openers, openers}
 use Rattle.tokei_table.specs.Row.{Pair, Row}
@@ -12,7 +12,7 @@ use Rattle.tokei_parts.specs.Choice.{Choice, choice, opened, any_begins, is_esca
 use Rattle.tokei_parts.specs.Choice.Choice.{closes, escapes, child_opens, opens, passes_over, begins_line_comment, takes_byte}
 use Rattle.tokei_parts.specs.Glance.{holds}
 use Rattle.tokei_parts.specs.Items.{Block}
-use Rattle.tokei_parts.specs.Lines.{first_line, line_len}
+use Rattle.tokei_embedding.specs.DocComments.{first_line}
 use Rattle.tokei_parts.specs.Progress.{Leads, OpensInLine, newlines}
 use Rattle.tokei_parts.specs.declared.items.ItemKind.TheVariants.{DocString, VerbatimString, OrdinaryString, MultiLineComment}
 use Rattle.tokei_parts.proofs.Fits.{FitsIn, choice_fits}
@@ -46,25 +46,6 @@ calm_if false x y h k = k
 calm_else : {A : Type 0} (o : Option A) (f : A → Choice) (y : Choice) → o ≡ None → IsCalm y → IsCalm (or_else o f y)
 calm_else None f y e k = k
 calm_else (Some p) f y e k = cc
-
--- no comment opens where no opener stands
-pub no_comments : (g : Row) (u : List ℕ) → begins_with_one (openers g) u ≡ false
-    → (begins_with_one (starts_of g.multi_line_comments) u ≡ false)
-    × (begins_with_one (starts_of g.nested_comments) u ≡ false)
-no_comments g u h =
-    let q = starts_of g.quotes in
-    let d = starts_of g.doc_quotes in
-    let m = starts_of g.multi_line_comments in
-    let n = starts_of g.nested_comments in
-    let v = starts_of g.verbatim_quotes in
-    let more = g.important_syntax ++ tag_starts g.contexts in
-    let h0 = none_front (q ++ (d ++ (m ++ (n ++ more)))) (v ++ child_openers (family_of g.key)) u h in
-    let h1 = none_back q (d ++ (m ++ (n ++ more))) u h0 in
-    let h2 = none_back d (m ++ (n ++ more)) u h1 in
-    let h3 = none_back m (n ++ more) u h2 in (
-      none_front m (n ++ more) u h2,
-      none_front n more u h3,
-    )
 
 calm_plain : (g : Row) (o : Option Block) (u : List ℕ) → o ≡ None → begins_with_one (openers g) u ≡ false → IsCalm (choice_in_plain g o u)
 calm_plain g o u none h =

@@ -3,7 +3,8 @@ use Rattle.std.proofs.Common.{◌≡◌, ℕ, zero, suc, ◌+◌, ◌-◌, ◌�
 use Rattle.std.specs.Prelude.{option_and_then}
 use Rattle.std.proofs.lemmas.List.{take-append-drop}
 use Rattle.tokei_table.specs.Bytes.{is_blank, all_blank, trim_start, trim_end, trim}
-use Rattle.tokei_table.specs.OuterLines.{start_behind, end_behind, first_stop, last_stop, between, trim_outer_lines}
+use Rattle.tokei_table.specs.OuterLines.{start_behind, end_behind, first_stop, last_stop, trim_outer_lines}
+use Rattle.tokei_table.specs.Slices.{between}
 use Rattle.tokei_table.specs.Row.{Row}
 use Rattle.tokei_table.specs.Lookups.{row_at}
 use Rattle.tokei_table.specs.Families.{family_of}
@@ -11,7 +12,7 @@ use Rattle.tokei_table.specs.Family.{Family}
 use Rattle.tokei_table.specs.Family.TheVariants.{Plain, Markdown, HtmlLike, Rust, LinguaFranca, Jupyter}
 use Rattle.tokei_embedding.specs.Fences.{fence_block}
 use Rattle.tokei_embedding.specs.Tags.{tag_block}
-use Rattle.tokei_embedding.specs.DocComments.{doc_block}
+use Rattle.tokei_embedding.specs.DocComments.{doc_block, first_line}
 use Rattle.tokei_embedding.specs.TargetBlocks.{target_block}
 use Rattle.tokei_embedding.specs.declared.tags.Tag.{Tag}
 use Rattle.tokei_embedding.specs.declared.tags.Tag.TheVariants.{Script, Style, Template}
@@ -19,7 +20,6 @@ use Rattle.tokei_embedding.specs.BlockLaws.{Reaches}
 use Rattle.tokei_embedding.proofs.BlockLaws.{fence_reach, tag_reach, target_reach}
 use Rattle.tokei_embedding.proofs.DocLaws.{doc_reach}
 use Rattle.tokei_stats.specs.Statistics.{lines_of}
-use Rattle.tokei_parts.specs.Lines.{first_line}
 use Rattle.tokei_parts.specs.Items.{Block}
 use Rattle.tokei_parts.specs.MarkdownChildren.{known_piece, fence_as, fence_child}
 use Rattle.tokei_parts.specs.HtmlChildren.{element_child, element_at, first_block}

@@ -12,11 +12,10 @@ use Rattle.tokei_table.specs.Family.{Family}
 use Rattle.tokei_table.specs.Family.TheVariants.{Plain, Markdown, HtmlLike, Rust, LinguaFranca, Jupyter}
 use Rattle.tokei_embedding.specs.Fences.{Fence, fence_block}
 use Rattle.tokei_embedding.specs.Tags.{tag_block}
-use Rattle.tokei_embedding.specs.DocComments.{doc_block}
+use Rattle.tokei_embedding.specs.DocComments.{doc_block, first_line}
 use Rattle.tokei_embedding.specs.TargetBlocks.{target_block, target_of}
 use Rattle.tokei_embedding.specs.declared.tags.Tag.{Tag}
 use Rattle.tokei_embedding.specs.declared.tags.Tag.TheVariants.{Script, Style, Template}
-use Rattle.tokei_parts.specs.Lines.{first_line}
 use Rattle.tokei_parts.specs.Items.{Block}
 use Rattle.tokei_parts.specs.NamedLanguages.{by_word, by_name}
 use Rattle.tokei_table.specs.Families.{fallback}

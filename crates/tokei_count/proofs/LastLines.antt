@@ -6,7 +6,7 @@ use Rattle.std.proofs.lemmas.Bool.Decides.{Decides-eqb}
 use Rattle.std.proofs.lemmas.List.{drop_more, get_or-drop, get_or-take, length-take-le}
 use Rattle.tokei_bytes.proofs.LineSums.{fronts_over, newlines_over, fronts_in_lines}
 use Rattle.tokei_bytes.specs.Lines.{blank_after, blank_behind, flag, front_count, goes_on, is_blank, newline, newline_count}
-use Rattle.tokei_table.specs.OuterLines.{between}
+use Rattle.tokei_table.specs.Slices.{between}
 use Rattle.tokei_count.proofs.BlockLooks.{marks_over, between_more}
 use Rattle.tokei_count.proofs.LookedAhead.{blank_over}
 use Rattle.tokei_count.specs.LineLooks.{mark_count}

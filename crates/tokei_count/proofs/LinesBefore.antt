@@ -14,7 +14,7 @@ use Rattle.tokei_parts.proofs.Lines.{take-first, first_within}
 use Rattle.tokei_parts.proofs.OpenersInLines.{opener_later}
 use Rattle.tokei_parts.specs.Class.{class_of}
 use Rattle.tokei_parts.specs.Glance.{opener_place}
-use Rattle.tokei_parts.specs.Lines.{first_line}
+use Rattle.tokei_embedding.specs.DocComments.{first_line}
 use Rattle.tokei_parts.specs.ReadingOf.{row_in, openers_in}
 use Rattle.tokei_parts.specs.Seen.{chain_of}
 use Rattle.tokei_parts.specs.Tally.{one_of}

@@ -8,7 +8,7 @@ use Rattle.tokei_table.specs.Row.{Pair, Row}
 use Rattle.tokei_parts.specs.Choice.{any_begins}
 use Rattle.tokei_parts.specs.Class.{class_of, encloses, head_of}
 use Rattle.tokei_parts.specs.Glance.{opener_place}
-use Rattle.tokei_parts.specs.Lines.{first_line}
+use Rattle.tokei_embedding.specs.DocComments.{first_line}
 use Rattle.tokei_parts.specs.ReadingOf.{row_in, openers_in}
 use Rattle.tokei_parts.specs.Seen.{chain_of}
 use Rattle.tokei_parts.specs.declared.class.Class.TheVariants.{Blank, Code, Comment}

@@ -10,7 +10,7 @@ use Rattle.tokei_parts.proofs.LineEnds.{below_or}
 use Rattle.tokei_parts.proofs.Lines.{first_within}
 use Rattle.tokei_parts.specs.Calm.{IsCalm}
 use Rattle.tokei_parts.specs.Class.{class_of}
-use Rattle.tokei_parts.specs.Lines.{first_line}
+use Rattle.tokei_embedding.specs.DocComments.{first_line}
 use Rattle.tokei_parts.specs.Modes.{innermost}
 use Rattle.tokei_parts.specs.ReadingOf.{row_in}
 use Rattle.tokei_parts.specs.Seen.{chain_of}

@@ -7,7 +7,7 @@ use Rattle.tokei_parts.specs.Choice.{Choice, choice}
 use Rattle.tokei_parts.specs.Choice.Choice.{closes, escapes, child_opens, opens, passes_over, begins_line_comment, takes_byte}
 use Rattle.tokei_parts.specs.Derivation.{items_of, second}
 use Rattle.tokei_parts.specs.Items.{Block, enclosure}
-use Rattle.tokei_parts.specs.Lines.{first_line}
+use Rattle.tokei_embedding.specs.DocComments.{first_line}
 use Rattle.tokei_parts.specs.Modes.{Mark, Chain, innermost, marks, of_choice, closing}
 use Rattle.tokei_parts.specs.Modes.Mark.{byte_at}
 use Rattle.tokei_parts.specs.Tally.{children}

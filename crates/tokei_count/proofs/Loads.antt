@@ -4,7 +4,7 @@ use Rattle.tokei_table.specs.Row.{Row}
 use Rattle.tokei_parts.specs.Class.{class_of}
 use Rattle.tokei_parts.specs.Glance.{is_walked}
 use Rattle.tokei_parts.specs.Items.{Block, Mode}
-use Rattle.tokei_parts.specs.Lines.{first_line}
+use Rattle.tokei_embedding.specs.DocComments.{first_line}
 use Rattle.tokei_parts.specs.Modes.{Mark, Chain, innermost, inside, of_choice, closing, closing_from}
 use Rattle.tokei_parts.specs.Modes.Mark.{byte_at, child_at}
 use Rattle.tokei_parts.specs.Parts.{Part, cut}

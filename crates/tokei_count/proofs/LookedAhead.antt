@@ -11,14 +11,14 @@ use lib.Count.{count_trailing_zeros}
 use lib.Lanes.{chunk, mask_l}
 use lib.Pow.{pow_mono}
 use Rattle.tokei_bytes.proofs.LineSums.{told}
-use Rattle.tokei_bytes.specs.Lines.{blank_after, blank_behind, flag, front_count, fronts, is_blank, newline, newline_count}
+use Rattle.tokei_bytes.specs.Lines.{blank_after, blank_behind, flag, fronts, is_blank, newline, newline_count}
 use Rattle.tokei_table_row.specs.FirstOpener.{is_first, is_nonempty}
 use Rattle.tokei_table_row.specs.Bytes.{begins_with_one}
 use Rattle.tokei_table.specs.Row.{Row}
-use Rattle.tokei_table.specs.OuterLines.{between}
+use Rattle.tokei_table.specs.Slices.{between}
 use Rattle.tokei_count.proofs.BlockLooks.{between_more}
 use Rattle.tokei_count.proofs.SetBits.{unset_first}
-use Rattle.tokei_count.specs.LineLooks.{AreTold, HasLineComment, IsClear, IsLook, IsNext, mark_count}
+use Rattle.tokei_count.specs.LineLooks.{AreTold, HasLineComment, IsClear, IsNext}
 use Rattle.tokei_table_search.proofs.OpenerGroups.{not_true, starts_first}
 
 -- what a bit of a mask says
@@ -114,26 +114,8 @@ clear_from os t from n none p low high =
 nothing_looked_at : (t : List ℕ) (s : ℕ) → between t s s ≡ []
 nothing_looked_at t s = let none : s - s ≡ 0 = omega arith in ap (λ n. take n (drop s t)) none
 
-pub look_begun : (is_mark : ℕ → Bool) (t : List ℕ) (s : ℕ) → s ≤ length t → IsLook is_mark t s (record { at = s; stop = s; newlines = 0; fronts = 0; comments = 0 })
-look_begun is_mark t s within = record {
-  low = omega arith;
-  order = omega arith;
-  high = within;
-  newlines = sym (ap newline_count (nothing_looked_at t s));
-  fronts = sym (ap (front_count true) (nothing_looked_at t s));
-  comments = sym (ap (mark_count is_mark true) (nothing_looked_at t s));
-  begun = λ h. absurd (omega (arith, h));
-  on = ap newline_count (nothing_looked_at t s);
-}
-
-pub blank_begun : (t : List ℕ) (s : ℕ) → true ≡ blank_after true (between t s s)
-blank_begun t s = sym (ap (blank_after true) (nothing_looked_at t s))
-
 pub clear_begun : (os : List (List ℕ)) (t : List ℕ) (s : ℕ) → IsClear os t s s
 clear_begun os t s p low high = absurd (omega (arith, low, high))
-
-pub told_begun : (row : Row) (is_mark : ℕ → Bool) (t : List ℕ) (s : ℕ) → AreTold row is_mark t s s
-told_begun row is_mark t s p low high front marked = absurd (omega (arith, low, high))
 
 -- no opener stands before a place, nor from there on before another
 pub clear_on : (os : List (List ℕ)) (t : List ℕ) (s at to : ℕ) → IsClear os t s at → IsClear os t at to → IsClear os t s to

@@ -4,7 +4,7 @@ use Rattle.std.proofs.Common.{Bool, ◌≡◌, ℕ, ◌+◌, ◌-◌, ◌<◌, �
 use Rattle.tokei_bytes.specs.Lines.{front_count, newline_count}
 use Rattle.tokei_table.specs.FirstOpener.{first_opener}
 use Rattle.tokei_table.specs.Openers.{openers}
-use Rattle.tokei_table.specs.OuterLines.{between}
+use Rattle.tokei_table.specs.Slices.{between}
 use Rattle.tokei_parts.specs.LineMarks.{AreMarks}
 use Rattle.tokei_parts.specs.ReadingOf.{openers_in, row_in}
 use Rattle.tokei_parts.specs.Seen.{chain_of}

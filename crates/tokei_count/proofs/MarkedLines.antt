@@ -11,7 +11,7 @@ use Rattle.tokei_embedding.proofs.NextDocs.{drop_first}
 use Rattle.tokei_table.specs.Bytes.{all_blank, begins, begins_with_one, is_blank, trim_start}
 use Rattle.tokei_table.specs.FirstOpener.{first_opener}
 use Rattle.tokei_table.specs.Sound.{is_token, no_newline}
-use Rattle.tokei_table.specs.OuterLines.{between}
+use Rattle.tokei_table.specs.Slices.{between}
 use Rattle.tokei_parts.proofs.CodeHeads.{blank_part, no_head}
 use Rattle.tokei_parts.proofs.CommentHeads.{comment_head, comment_line}
 use Rattle.tokei_parts.proofs.Fits.{and_left, and_right}
@@ -23,7 +23,7 @@ use Rattle.tokei_parts.specs.CodeHeads.{FrontBeginsNone, HasCodeHead}
 use Rattle.tokei_parts.specs.CommentHeads.{HasCommentHead, any_solid_begins, ends_solid}
 use Rattle.tokei_parts.specs.Glance.{opener_place}
 use Rattle.tokei_parts.specs.LineMarks.{AreMarks}
-use Rattle.tokei_parts.specs.Lines.{first_line}
+use Rattle.tokei_embedding.specs.DocComments.{first_line}
 use Rattle.tokei_parts.specs.PlainBytes.{BeginsNone}
 use Rattle.tokei_parts.specs.ReadingOf.{row_in, openers_in}
 use Rattle.tokei_parts.specs.Seen.{chain_of}

@@ -3,12 +3,12 @@ use Rattle.std.proofs.Common.{◌≡◌, ℕ, zero, suc, ◌+◌, ◌-◌, ◌<�
 use Rattle.std.proofs.lemmas.List.{drop-drop}
 use Rattle.tokei_bytes.proofs.LineSums.{newlines_over}
 use Rattle.tokei_bytes.specs.Lines.{flag, newline_count}
-use Rattle.tokei_table.specs.Bytes.{begins_with_one, newline}
+use Rattle.tokei_table.specs.Bytes.{begins_with_one, newline, line_len}
 use Rattle.tokei_table.specs.FirstOpener.{first_opener}
 use Rattle.tokei_table_search.proofs.FirstPlaces.{first_at}
-use Rattle.tokei_table.specs.OuterLines.{between}
+use Rattle.tokei_table.specs.Slices.{between}
 use Rattle.tokei_parts.specs.Glance.{opener_place}
-use Rattle.tokei_parts.specs.Lines.{first_line, line_len}
+use Rattle.tokei_embedding.specs.DocComments.{first_line}
 use Rattle.tokei_count.proofs.BlockLooks.{between_more}
 use Rattle.tokei_count.proofs.LookedAhead.{clear_on}
 use Rattle.tokei_count.specs.LineLooks.{IsClear, IsLook, IsNext}

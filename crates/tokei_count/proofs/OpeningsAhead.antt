@@ -7,7 +7,7 @@ use Rattle.tokei_parts.specs.Choice.Choice.{closes, escapes, child_opens, opens,
 use Rattle.tokei_parts.specs.Derivation.{Body, before, behind, follow, derive, second}
 use Rattle.tokei_parts.specs.Items.{Block, Item, Items, Enclosure, enclosure, enclosing_item}
 use Rattle.tokei_parts.specs.Items.Item.{one, escaped, passed_over, line_comment, child}
-use Rattle.tokei_parts.specs.Lines.{first_line}
+use Rattle.tokei_embedding.specs.DocComments.{first_line}
 use Rattle.tokei_parts.specs.Modes.{Chain, innermost}
 use Rattle.tokei_count.specs.OpeningItems.{openings_in, openings_by}
 use Rattle.tokei_parts.specs.Progress.{body as body_of}

@@ -1,7 +1,7 @@
 -- No child opens at a place whose line holds no opener.
 use Rattle.std.proofs.Common.{◌≡◌, ℕ, zero, suc, ◌<◌, Bool, true, false, ◌||◌, List, [], ◌∷◌, ◌++◌, length, drop, codes, None, option_map, is_some, refl, sym, ◌∙◌, ap, arith}
 use Rattle.std.specs.Prelude.{option_and_then}
-use Rattle.tokei_table.specs.Bytes.{begins, begins_with_one}
+use Rattle.tokei_table.specs.Bytes.{begins, begins_with_one, line_len}
 use Rattle.tokei_table.specs.Families.{family_of}
 use Rattle.tokei_table.specs.FirstOpener.{first_opener}
 use Rattle.tokei_table.specs.Lookups.{row_at}
@@ -13,7 +13,7 @@ use Rattle.tokei_embedding.specs.BlockLaws.{BeginWithOpeners}
 use Rattle.tokei_embedding.specs.declared.tags.Tag.TheVariants.{Script, Style, Template}
 use Rattle.tokei_embedding.proofs.Openers.{begin_with_openers}
 use Rattle.tokei_parts.specs.Glance.{holds}
-use Rattle.tokei_parts.specs.Lines.{first_line, line_len}
+use Rattle.tokei_embedding.specs.DocComments.{first_line}
 use Rattle.tokei_parts.specs.MarkdownChildren.{fence_child}
 use Rattle.tokei_parts.specs.HtmlChildren.{element_child, element_at, first_block}
 use Rattle.tokei_parts.specs.RustChildren.{doc_child}

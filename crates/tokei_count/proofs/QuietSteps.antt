@@ -1,7 +1,7 @@
 -- A text that holds no opener takes no steps.
 use Rattle.std.proofs.Common.{◌≡◌, ℕ, zero, suc, ◌+◌, ◌<◌, nat_eq, Bool, true, false, ◌&&◌, ◌||◌, cond, List, [], ◌∷◌, ◌++◌, length, take, drop, Option, None, Some, is_some, option_map, refl, sym, ◌∙◌, ap, ap₂, subst, append_assoc}
 use Rattle.std.proofs.lemmas.List.{append-nil, take-append-drop}
-use Rattle.tokei_table.specs.Bytes.{begins, begins_with_one}
+use Rattle.tokei_table.specs.Bytes.{begins, begins_with_one, line_len}
 use Rattle.tokei_table.specs.FirstOpener.{first_opener}
 use Rattle.tokei_table.specs.Lookups.{row_at}
 use Rattle.tokei_table.specs.Openers.{openers}
@@ -11,7 +11,7 @@ use Rattle.tokei_parts.specs.Derivation.{items_of}
 use Rattle.tokei_parts.specs.Glance.{holds, is_walked}
 use Rattle.tokei_parts.specs.Items.{Block}
 use Rattle.tokei_count.specs.Languages.{is_notebook}
-use Rattle.tokei_parts.specs.Lines.{first_line, line_len}
+use Rattle.tokei_embedding.specs.DocComments.{first_line}
 use Rattle.tokei_parts.specs.Modes.{Chain, marks}
 use Rattle.tokei_count.specs.Languages.{languages_of}
 use Rattle.tokei_count.specs.PlainReading.{blocks}

@@ -6,7 +6,7 @@ use Rattle.tokei_table.specs.Openers.{openers}
 use Rattle.tokei_table.specs.Row.{Row}
 use Rattle.tokei_parts.specs.Glance.{is_walked}
 use Rattle.tokei_parts.specs.Items.{Items, Mode}
-use Rattle.tokei_parts.specs.Lines.{first_line}
+use Rattle.tokei_embedding.specs.DocComments.{first_line}
 use Rattle.tokei_parts.specs.Modes.{Mark, innermost, marks}
 use Rattle.tokei_parts.specs.Modes.Mark.{byte_at, child_at}
 use Rattle.tokei_parts.specs.Running.{Passed, running, choices_made, choices_passed}

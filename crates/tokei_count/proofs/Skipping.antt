@@ -9,7 +9,8 @@ use Rattle.tokei_parts.specs.Glance.{holds, is_walked}
 use Rattle.tokei_parts.specs.Glanced.{Knows}
 use Rattle.tokei_parts.specs.Items.{Mode}
 use Rattle.tokei_parts.specs.LineWalk.{chain_in, item_in}
-use Rattle.tokei_parts.specs.Lines.{first_line, line_len}
+use Rattle.tokei_embedding.specs.DocComments.{first_line}
+use Rattle.tokei_table_row.specs.Bytes.{line_len}
 use Rattle.tokei_parts.specs.Modes.{Chain, innermost}
 use Rattle.tokei_parts.specs.Seen.{chain_of}
 use Rattle.tokei_parts.specs.SeenChoices.{enclosure_of, mode_of}

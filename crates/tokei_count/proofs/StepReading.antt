@@ -10,7 +10,8 @@ use Rattle.tokei_parts.specs.Glance.{holds, is_walked, opener_place, walks}
 use Rattle.tokei_parts.specs.Glanced.{AreInLine, Knows}
 use Rattle.tokei_parts.specs.Items.{Block}
 use Rattle.tokei_count.specs.Languages.{is_notebook}
-use Rattle.tokei_parts.specs.Lines.{first_line, line_len}
+use Rattle.tokei_embedding.specs.DocComments.{first_line}
+use Rattle.tokei_table_row.specs.Bytes.{line_len}
 use Rattle.tokei_parts.specs.Matchers.{Matchers, matchers_of}
 use Rattle.tokei_parts.specs.Modes.{Chain, innermost}
 use Rattle.tokei_count.specs.NotebookCells.{cell_blocks}

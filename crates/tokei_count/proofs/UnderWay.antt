@@ -8,7 +8,8 @@ use Rattle.tokei_parts.specs.Class.{class_of}
 use Rattle.tokei_parts.specs.Glance.{holds, is_walked, opener_place, walks}
 use Rattle.tokei_parts.specs.Glanced.{AreInLine}
 use Rattle.tokei_parts.specs.Items.{Block}
-use Rattle.tokei_parts.specs.Lines.{first_line, line_len}
+use Rattle.tokei_embedding.specs.DocComments.{first_line}
+use Rattle.tokei_table_row.specs.Bytes.{line_len}
 use Rattle.tokei_parts.specs.Modes.{Chain, innermost}
 use Rattle.tokei_count.specs.Languages.{languages_of}
 use Rattle.tokei_parts.specs.Tally.{one_of}
@@ -233,10 +234,6 @@ module _ (r : Reading) (p : ReadSoFar) (way : IsUnderWay r p) where
           quiet = quiet;
         }
 
-  -- by what is seen of the stack
-  pub walked_here : (e : Chain) → e ≡ c → is_walked (openers_in r) (innermost e) (line_from r p.start) ≡ true → is_walked (openers_in r) (innermost c) (line_from r p.start) ≡ true
-  walked_here e is walked = ap (λ d. is_walked (openers_in r) (innermost d) (line_from r p.start)) (sym is) ∙ walked
-
   -- a line that is skipped, which stops there
   module _ (class : Class) (stop : ℕ) (some : p.start < length text) (plain : c ≡ []) (stop_is : stop ≡ p.start + length (first_line rest)) (none : holds (openers_in r) (first_line rest) ≡ false)
       (class_is : class ≡ class_of (row_in r) r.docs_are_comments (record { begun = None; bytes = take (stop - p.start) rest; ended = None })) where
@@ -252,9 +249,6 @@ module _ (r : Reading) (p : ReadSoFar) (way : IsUnderWay r p) where
     line : (j : ℕ) × ReadsLine (row_in r) (blocks_of r) p.behind_child r.docs_are_comments c (stop - p.start) j class c rest
     line = glance_reads r.table.now r.docs_are_comments r.levels r.language text p.behind_child rest class c (stop - p.start) plain size way.tokens
         (omega (arith, length-drop p.start text, some)) holds_none class_is
-
-    pub skipped_fits : Fits (reading_of r) → CountsFit (plus own (one_of class))
-    skipped_fits fits = line_sum_fits class stop line.0 p.stack low line.1 fits
 
     pub skipped_on : r.skips ≡ true → (o : Sums) → sums_of o ≡ plus own (one_of class)
         → IsUnderWay r (record {

@@ -8,7 +8,8 @@ use Rattle.tokei_table.specs.Tokens.{has_tokens}
 use Rattle.tokei_parts.specs.Derivation.{items_of}
 use Rattle.tokei_parts.specs.Glance.{holds, is_walked}
 use Rattle.tokei_parts.specs.Items.{Block, Mode}
-use Rattle.tokei_parts.specs.Lines.{first_line, line_len}
+use Rattle.tokei_embedding.specs.DocComments.{first_line}
+use Rattle.tokei_table_row.specs.Bytes.{line_len}
 use Rattle.tokei_parts.specs.Modes.{Chain, Mark, innermost, marks}
 use Rattle.tokei_count.specs.PartLaw.{IsInPlainText, UnwalkedStayPlain}
 use Rattle.tokei_parts.specs.Parts.{cut}

@@ -7,7 +7,8 @@ use Rattle.tokei_table.specs.Tokens.{has_tokens}
 use Rattle.tokei_parts.specs.Derivation.{items_of}
 use Rattle.tokei_parts.specs.Glance.{holds, is_walked}
 use Rattle.tokei_parts.specs.Items.{Block, Mode}
-use Rattle.tokei_parts.specs.Lines.{first_line, line_len}
+use Rattle.tokei_embedding.specs.DocComments.{first_line}
+use Rattle.tokei_table_row.specs.Bytes.{line_len}
 use Rattle.tokei_parts.specs.Modes.{Chain, innermost}
 use Rattle.tokei_count.specs.OpeningItems.{own_openings}
 use Rattle.tokei_parts.specs.Progress.{marks_ahead, FitsBlocks}

@@ -3,7 +3,7 @@ use Rattle.std.specs.Prelude.{◌≡◌, ℕ, ◌+◌, ◌-◌, ◌<◌, ◌≤�
 use Rattle.tokei_bytes.specs.Lines.{blank_after, blank_behind, flag, front_count, is_blank, newline, newline_count}
 use Rattle.tokei_table.specs.Bytes.{begins_with_one}
 use Rattle.tokei_table.specs.Row.{Row}
-use Rattle.tokei_table.specs.OuterLines.{between}
+use Rattle.tokei_table.specs.Slices.{between}
 use Rattle.tokei_parts.specs.Class.{keeps_columns}
 use Rattle.tokei_parts.specs.CommentHeads.{any_solid_begins}
 use Rattle.tokei_count.specs.declared.line_look.Look.{Look}

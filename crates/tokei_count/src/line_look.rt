@@ -1,19 +1,18 @@
 //! Lines before an opener that is near, counted by the masks of blocks.
-ghost use Rattle.std.specs.Prelude.{◌≡◌, ◌≢◌, ℕ, ◌+◌, ◌-◌, ◌<◌, ◌≤◌, ◌==◌, ◌^◌, true, false, [], None, drop, length, map, bit_and, slice_index};
+ghost use Rattle.std.specs.Prelude.{◌≡◌, ◌≢◌, ℕ, ◌+◌, ◌-◌, ◌<◌, ◌≤◌, ◌==◌, ◌^◌, true, false, [], None, drop, length, map, slice_index};
 ghost use Rattle.std.specs.Prelude.{IfOk, IsErrOf, IsOk, OnOk};
 ghost use Rattle.std.specs.Int.{bit_at};
 ghost use Rattle.std.specs.Simd.Lanes.{chunk, mask_l};
-ghost use Rattle.tokei_bytes.specs.Lines.{blank_after, front_count, fronts, newline, newline_count};
+ghost use Rattle.tokei_bytes.specs.Lines.{blank_after, front_count, fronts, newline};
 ghost use Rattle.tokei_bytes.specs.Slots.{is_slotted};
-ghost use Rattle.tokei_table.specs.Bytes.{begins_with_one};
+ghost use Rattle.tokei_table.specs.Bytes.{begins_with_one, line_len};
 ghost use Rattle.tokei_table.specs.FirstOpener.{first_opener};
 ghost use Rattle.tokei_table.specs.Openers.{openers};
 ghost use Rattle.tokei_table.specs.RowOf.{row_of};
 ghost use Rattle.tokei_table.specs.Tokens.{has_tokens};
-ghost use Rattle.tokei_table.specs.OuterLines.{between};
+ghost use Rattle.tokei_table.specs.Slices.{between};
 ghost use Rattle.tokei_parts.specs.Glance.{opener_place};
 ghost use Rattle.tokei_parts.specs.LineMarks.{AreInOne, AreLineMarks, is_marked};
-ghost use Rattle.tokei_parts.specs.Lines.{line_len};
 ghost use Rattle.tokei_parts.specs.ReadingOf.{openers_in, row_in};
 ghost use Rattle.tokei_parts.specs.Seen.{chain_of};
 ghost use Rattle.tokei_count.specs.LineLooks.{AreTold, HasLineComment, IsClear, IsLook, IsNext, mark_count};

@@ -7,7 +7,7 @@ ghost use Rattle.tokei_table.specs.Openers.{openers};
 ghost use Rattle.tokei_parts.specs.Glance.{is_walked};
 ghost use Rattle.tokei_parts.specs.LineMarks.{AreLineMarks};
 ghost use Rattle.tokei_parts.specs.LineWalk.{chain_in, item_in};
-ghost use Rattle.tokei_parts.specs.Lines.{line_len};
+ghost use Rattle.tokei_table_row.specs.Bytes.{line_len};
 ghost use Rattle.tokei_parts.specs.Modes.{innermost};
 ghost use Rattle.tokei_parts.specs.ReadingOf.{line_from, openers_in, row_in};
 ghost use Rattle.tokei_parts.specs.Seen.{chain_of};

@@ -1,5 +1,5 @@
 //! Texts are read part by part: each is walked, or skipped where nothing can open in it.
-ghost use Rattle.std.specs.Prelude.{◌≡◌, ◌+◌, ◌^◌, ◌<◌, ◌≤◌, true, false, [], None, Some, drop, is_some, length, map};
+ghost use Rattle.std.specs.Prelude.{◌≡◌, ◌+◌, ◌^◌, ◌<◌, ◌≤◌, true, false, [], None, Some, drop, length, map};
 ghost use Rattle.std.specs.Prelude.{IfErr, IfOk, IsErrOf, IsOk, OnErr, OnOk};
 ghost use Rattle.tokei_table.specs.FirstOpener.{first_opener};
 ghost use Rattle.tokei_table.specs.Lookups.{row_at};
@@ -11,11 +11,10 @@ ghost use Rattle.tokei_parts.specs.Calm.{IsCalm};
 ghost use Rattle.tokei_parts.specs.Glance.{is_walked, opener_place};
 ghost use Rattle.tokei_parts.specs.Glanced.{Knows};
 ghost use Rattle.tokei_count.specs.Languages.{is_notebook};
-ghost use Rattle.tokei_parts.specs.Lines.{line_len};
+ghost use Rattle.tokei_table_row.specs.Bytes.{line_len};
 ghost use Rattle.tokei_parts.specs.Matchers.{matchers_of};
 ghost use Rattle.tokei_stats.specs.Overflow.{CountsFit, Fits};
 ghost use Rattle.tokei_parts.specs.Tally.{one_of};
-ghost use Rattle.tokei_parts.specs.Places.{IsAt, block_here, text_of};
 ghost use Rattle.tokei_parts.specs.Modes.{innermost};
 ghost use Rattle.tokei_count.specs.Readers.{reading_by, steps_by};
 ghost use Rattle.tokei_count.specs.Readers.{reading_of};

@@ -45,15 +45,6 @@ over_one t from third p apart h n l m = by (cases_lt (p + 2) third)
     by (inl k) = before_third t from third p apart l k
     by (inr k) = at_end (cases_lt (p + 1) third) k
 
--- and with one, where none stands two places before it
-pub over_two : (t : List ℕ) (from third p : ℕ) → ((q : ℕ) → from + 2 ≤ q → q < third → (get_or t q 0 == 96) ≡ false) → (get_or t (third - 2) 0 ≡ 96 → ⊥) → from + 2 ≤ third → from ≤ p → p < third - 1
-    → begins fence (drop p t) ≡ false
-over_two t from third p apart h n l m = by (cases_lt (p + 2) third)
-  where
-    by : (p + 2 < third) ⊎ (third ≤ p + 2) → begins fence (drop p t) ≡ false
-    by (inl k) = before_third t from third p apart l k
-    by (inr k) = other_byte t p 0 (third - 2) (omega arith) (omega arith) h
-
 -- no fence stands in the rest, where no backtick does
 pub none_left : (t : List ℕ) (from third p : ℕ) → third ≡ length t → ((q : ℕ) → from + 2 ≤ q → q < third → (get_or t q 0 == 96) ≡ false) → from ≤ p → begins fence (drop p t) ≡ false
 none_left t from third p e apart l = by (cases_lt (p + 2) third)

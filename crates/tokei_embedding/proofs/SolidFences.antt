@@ -3,9 +3,9 @@ use Rattle.std.proofs.Common.{◌≡◌, ℕ, suc, zero, ◌+◌, ◌-◌, ◌�
 use Rattle.std.proofs.lemmas.List.{drop-drop}
 use Rattle.std.proofs.lemmas.Map.Views.{exact_unsigned_eq}
 use Rattle.std.proofs.Math.Nat.{lt_of_not-le}
-use Rattle.tokei_table_row.specs.Bytes.{is_blank, begins}
+use Rattle.tokei_table_row.specs.Bytes.{is_blank, begins, solid_len}
 use Rattle.tokei_embedding.proofs.Places.{not_true}
-use Rattle.tokei_embedding.specs.Fences.{fence, solid_len, opens_fence, is_solid_fence}
+use Rattle.tokei_embedding.specs.Fences.{fence, opens_fence, is_solid_fence}
 
 solid_rest : (b : ℕ) (t : List ℕ) (x : Bool) → is_blank b ≡ x → cond x 0 (suc (solid_len t)) ≡ suc (length t) → solid_len t ≡ length t
 solid_rest b t true e h = absurd (omega (arith, h))

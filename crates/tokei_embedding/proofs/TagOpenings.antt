@@ -1,5 +1,6 @@
 -- The opening of a tag in a part of a text, by what is found in the text.
 use Rattle.std.proofs.Common.{◌≡◌, ℕ, ◌+◌, ◌-◌, ◌≤◌, List, length, take, drop, codes, Option, None, Some, option_map, IfSome, sym, ◌∙◌, ap, arith, take-take}
+use Rattle.tokei_table_row.specs.Slices.{between}
 use Rattle.tokei_embedding.proofs.Places.{part_from}
 use Rattle.tokei_embedding.specs.Remembered.{Sought, sought}
 use Rattle.tokei_embedding.specs.Searches.{first_of, last_of}
@@ -8,10 +9,6 @@ use Rattle.tokei_embedding.specs.Spans.{Span, shifted}
 use Rattle.tokei_embedding.specs.Tags.{token_of, attribute_of, value_in, value_end, opening_past, opening_before, opening_at}
 use Rattle.tokei_embedding.specs.declared.spans.Span as CodeSpan
 use Rattle.tokei_embedding.specs.declared.tags.Tag.{Tag}
-
--- the bytes of a text between two places
-abbrev between : List ℕ → ℕ → ℕ → List ℕ
-between t from to = take (to - from) (drop from t)
 
 inside_is : (t : List ℕ) (from n to : ℕ) → from + n ≤ to → drop n (between t from to) ≡ between t (from + n) to
 inside_is t from n to l =

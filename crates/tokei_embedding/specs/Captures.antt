@@ -2,7 +2,7 @@
 use Rattle.std.specs.Prelude.{ℕ, ◌+◌, Bool, false, ◌&&◌, ◌==◌, nat_le, if◌then◌else◌, List, [], ◌∷◌, length, drop}
 use Rattle.std.specs.Prelude.{Option, None, Some, option_map}
 use Rattle.tokei_embedding.specs.Fences.{fence, first_fence, info_len, closing_len}
-use Rattle.tokei_embedding.specs.NextOpenings.{part_of}
+use Rattle.tokei_table_row.specs.Slices.{between}
 use Rattle.tokei_embedding.specs.Searches.{first_of}
 use Rattle.tokei_embedding.specs.Spans.{Span, shifted, bytes_of}
 use Rattle.tokei_embedding.specs.Tags.{Opening, first_opening}
@@ -48,7 +48,7 @@ opening_captured text from opening =
 -- What `text[from..to]` opens of the tag.
 abbrev pub start_tag : Tag → List ℕ → ℕ → ℕ → Option (List (Option Captured))
 start_tag tag text from to =
-    option_map (opening_captured text from) (first_opening tag (part_of text from to))
+    option_map (opening_captured text from) (first_opening tag (between text from to))
 
 -- Whether the capture begins at one place and ends by the other.
 abbrev pub lies_in : ℕ → ℕ → Captured → Bool

@@ -1,17 +1,12 @@
 -- Fences: code between three backticks and three backticks.
-use Rattle.std.specs.Prelude.{ℕ, suc, ◌+◌, Bool, true, false, ◌&&◌, ◌==◌, nat_lt, if◌then◌else◌, Option, None, Some}
+use Rattle.std.specs.Prelude.{ℕ, ◌+◌, Bool, true, false, ◌&&◌, ◌==◌, nat_lt, if◌then◌else◌, Option, None, Some}
 use Rattle.std.specs.Prelude.{List, [], ◌∷◌, length, take, drop, codes}
-use Rattle.tokei_table_row.specs.Bytes.{is_blank, begins}
+use Rattle.tokei_table_row.specs.Bytes.{is_blank, begins, solid_len}
 use Rattle.tokei_embedding.specs.Searches.{first_where, first_of, is_at}
 
 -- A fence is three backticks.
 abbrev pub fence : List ℕ
 fence = codes "```"
-
--- How many bytes stand before the first blank, or before the end.
-abbrev pub solid_len : List ℕ → ℕ
-solid_len [] = 0
-solid_len (b ∷ t) = if is_blank b then 0 else suc (solid_len t)
 
 -- Whether the text begins with a byte or more that aren't blank, and a blank behind the longest run
 -- of them.

@@ -1,7 +1,8 @@
 //! The search for the blocks of one text.
 ghost use Rattle.std.specs.Prelude.{◌≡◌, ℕ, ◌-◌, ◌≤◌, ◌<◌, true, IfSome, List, length, drop, option_map};
 ghost use Rattle.tokei_embedding.specs.DocComments.{doc_block};
-ghost use Rattle.tokei_embedding.specs.NextOpenings.{part_of, OpensNoElement};
+ghost use Rattle.tokei_embedding.specs.NextOpenings.{OpensNoElement};
+ghost use Rattle.tokei_table_row.specs.Slices.{between};
 ghost use Rattle.tokei_embedding.specs.Remembered.{SearchDocs};
 ghost use Rattle.tokei_embedding.specs.Searches.{first_of, is_at};
 ghost use Rattle.tokei_embedding.specs.Seen.{tag_seen};
@@ -69,7 +70,7 @@ impl<'a> BlockSearch<'a> {
         requires inside { place < to }
         requires ends { to ≤ length self.old }
         ensures block { option_map tag_seen result
-            ≡ tag_block tag (part_of self.old from to) (place - from) (drop place self.old) }
+            ≡ tag_block tag (between self.old from to) (place - from) (drop place self.old) }
         ensures same { self.new ≡ self.old }
     {
         match &mut self.tags {
@@ -86,7 +87,7 @@ impl<'a> BlockSearch<'a> {
         requires inside { place < to }
         requires ends { to ≤ length self.old }
         ensures block { option_map tag_seen result
-            ≡ tag_block tag (part_of self.old from to) (place - from) (drop place self.old) }
+            ≡ tag_block tag (between self.old from to) (place - from) (drop place self.old) }
         ensures same { self.new ≡ self.old }
     {
         let mut tags = TagSearches::new(self.text);
@@ -116,7 +117,7 @@ impl<'a> BlockSearch<'a> {
         ensures high { result ≤ to }
         ensures none { OpensNoElement tag self.old start to at result }
         ensures exact { result < to
-            → is_at (result - start) (first_of (token_of tag) (part_of self.old start to)) ≡ true }
+            → is_at (result - start) (first_of (token_of tag) (between self.old start to)) ≡ true }
         ensures same { self.new ≡ self.old }
     {
         match &mut self.tags {
@@ -136,7 +137,7 @@ impl<'a> BlockSearch<'a> {
         ensures high { result ≤ to }
         ensures none { OpensNoElement tag self.old start to at result }
         ensures exact { result < to
-            → is_at (result - start) (first_of (token_of tag) (part_of self.old start to)) ≡ true }
+            → is_at (result - start) (first_of (token_of tag) (between self.old start to)) ≡ true }
         ensures same { self.new ≡ self.old }
     {
         let mut tags = TagSearches::new(self.text);

@@ -1,14 +1,14 @@
 //! The fences of Markdown.
 ghost use Rattle.std.specs.Prelude.{◌≡◌, ℕ, ◌+◌, ◌-◌, ◌≤◌, ◌<◌, true, false, IfSome, length, take, drop, option_map};
 ghost use Rattle.tokei_table_row.specs.Bytes.{begins};
-ghost use Rattle.tokei_embedding.specs.Fences.{fence, solid_len, opens_fence, is_solid_fence, info_len};
+ghost use Rattle.tokei_embedding.specs.Fences.{fence, opens_fence, is_solid_fence, info_len};
 ghost use Rattle.tokei_embedding.specs.Fences.{first_fence, closing_len, fence_from, fence_block};
 ghost use Rattle.tokei_embedding.specs.Searches.{first_of};
 ghost use Rattle.tokei_embedding.specs.Seen.{fence_seen};
 
 use crate::searches::is_at;
 use tokei_bytes::first_of_one;
-use tokei_table_row::ext::is_whitespace;
+use tokei_table_row::ext::{is_whitespace, solid_len};
 
 const FENCE: &[u8] = b"```";
 
@@ -24,19 +24,6 @@ pub struct FenceAt<'a> {
     pub size: usize,
     /// Whether the closing fence came.
     pub closed: bool,
-}
-
-/// How many bytes stand before the first blank, or before the end.
-fn solid_len(text: &[u8]) -> usize
-    ensures value { result ≡ solid_len text.now }
-    ensures within { result ≤ length text.now }
-{
-    for (i, byte) in text.iter().enumerate() {
-        if is_whitespace(*byte) {
-            return i;
-        }
-    }
-    text.len()
 }
 
 /// Whether a fence opening stands at the front.

@@ -4,7 +4,8 @@ ghost use Rattle.std.specs.Prelude.{length, drop, codes, slice_index};
 ghost use Rattle.tokei_table_row.specs.Bytes.{is_blank};
 ghost use Rattle.tokei_embedding.specs.DocComments.{first_line, front_mark, doc_block};
 ghost use Rattle.tokei_embedding.specs.Fences.{first_fence};
-ghost use Rattle.tokei_embedding.specs.NextOpenings.{part_of, OpensNoFence, OpensNoTarget};
+ghost use Rattle.tokei_embedding.specs.NextOpenings.{OpensNoFence, OpensNoTarget};
+ghost use Rattle.tokei_table_row.specs.Slices.{between};
 ghost use Rattle.tokei_embedding.specs.Searches.{first_of, is_at};
 
 use crate::doc_comments::front_mark;
@@ -41,7 +42,7 @@ pub fn next_fence(text: &[u8], start: usize, at: usize, to: usize) -> usize
     ensures high { result ≤ to }
     ensures none { OpensNoFence text.now start to at result }
     ensures exact { result < to
-        → is_at (result - start) (first_fence (part_of text.now start to)) ≡ true }
+        → is_at (result - start) (first_fence (between text.now start to)) ≡ true }
 {
     next_of(first_fence(text, start, to), start, at, to)
 }
@@ -57,7 +58,7 @@ pub fn next_target(text: &[u8], start: usize, at: usize, to: usize) -> usize
     ensures high { result ≤ to }
     ensures none { OpensNoTarget text.now start to at result }
     ensures exact { result < to
-        → is_at (result - start) (first_of (codes "{=") (part_of text.now start to)) ≡ true }
+        → is_at (result - start) (first_of (codes "{=") (between text.now start to)) ≡ true }
 {
     next_of(first_of(&text[start..to], OPENER), start, at, to)
 }

@@ -1,7 +1,7 @@
 //! The openings and closings of a part, as captures.
-ghost use Rattle.std.specs.Prelude.{◌≡◌, ◌+◌, ◌≤◌, ◌<◌, ◌^◌, length, option_map, codes, IfSome};
+ghost use Rattle.std.specs.Prelude.{◌≡◌, ◌+◌, ◌≤◌, ◌<◌, length, option_map, codes};
 ghost use Rattle.tokei_embedding.specs.Captures.{captured, token_span, fence_opening, fence_closing, start_tag};
-ghost use Rattle.tokei_embedding.specs.NextOpenings.{part_of};
+ghost use Rattle.tokei_table_row.specs.Slices.{between};
 ghost use Rattle.tokei_embedding.specs.declared.tags.Tag.TheVariants.{Script, Style, Template};
 
 use crate::captures::{Capture, captured};
@@ -36,7 +36,7 @@ fn first_token<'a>(text: &'a [u8], from: usize, to: usize, token: &[u8]) -> Opti
     requires ends { to ≤ length text.now }
     requires some { 0 < length token.now }
     ensures { result
-        ≡ option_map (captured text.now from) (token_span token.now (part_of text.now from to)) }
+        ≡ option_map (captured text.now from) (token_span token.now (between text.now from to)) }
 {
     let start = first_of(&text[from..to], token)?;
     Some(captured(
@@ -82,7 +82,7 @@ pub fn end_script(text: &[u8], from: usize, to: usize) -> Option<Capture<'_>>
     requires ends { to ≤ length text.now }
     ensures { result
         ≡ option_map (captured text.now from)
-        (token_span (codes "</script>") (part_of text.now from to)) }
+        (token_span (codes "</script>") (between text.now from to)) }
 {
     first_token(text, from, to, closer_of(Tag::Script))
 }
@@ -93,7 +93,7 @@ pub fn end_style(text: &[u8], from: usize, to: usize) -> Option<Capture<'_>>
     requires ends { to ≤ length text.now }
     ensures { result
         ≡ option_map (captured text.now from)
-        (token_span (codes "</style>") (part_of text.now from to)) }
+        (token_span (codes "</style>") (between text.now from to)) }
 {
     first_token(text, from, to, closer_of(Tag::Style))
 }
@@ -104,7 +104,7 @@ pub fn end_template(text: &[u8], from: usize, to: usize) -> Option<Capture<'_>>
     requires ends { to ≤ length text.now }
     ensures { result
         ≡ option_map (captured text.now from)
-        (token_span (codes "</template>") (part_of text.now from to)) }
+        (token_span (codes "</template>") (between text.now from to)) }
 {
     first_token(text, from, to, closer_of(Tag::Template))
 }
@@ -115,7 +115,7 @@ pub fn start_markdown(text: &[u8], from: usize, to: usize) -> Option<Capture<'_>
     requires order { from ≤ to }
     requires ends { to ≤ length text.now }
     ensures { result
-        ≡ option_map (captured text.now from) (fence_opening (part_of text.now from to)) }
+        ≡ option_map (captured text.now from) (fence_opening (between text.now from to)) }
 {
     let part = &text[from..to];
     let start = first_fence(text, from, to)?;
@@ -135,7 +135,7 @@ pub fn end_markdown(text: &[u8], from: usize, to: usize) -> Option<Capture<'_>>
     requires order { from ≤ to }
     requires ends { to ≤ length text.now }
     ensures { result
-        ≡ option_map (captured text.now from) (fence_closing (part_of text.now from to)) }
+        ≡ option_map (captured text.now from) (fence_closing (between text.now from to)) }
 {
     let part = &text[from..to];
     let start = first_of(part, FENCE)?;
@@ -154,7 +154,7 @@ pub fn start_lf(text: &[u8], from: usize, to: usize) -> Option<Capture<'_>>
     requires order { from ≤ to }
     requires ends { to ≤ length text.now }
     ensures { result
-        ≡ option_map (captured text.now from) (token_span (codes "{=") (part_of text.now from to)) }
+        ≡ option_map (captured text.now from) (token_span (codes "{=") (between text.now from to)) }
 {
     first_token(text, from, to, b"{=")
 }
@@ -164,7 +164,7 @@ pub fn end_lf(text: &[u8], from: usize, to: usize) -> Option<Capture<'_>>
     requires order { from ≤ to }
     requires ends { to ≤ length text.now }
     ensures { result
-        ≡ option_map (captured text.now from) (token_span (codes "=}") (part_of text.now from to)) }
+        ≡ option_map (captured text.now from) (token_span (codes "=}") (between text.now from to)) }
 {
     first_token(text, from, to, b"=}")
 }

@@ -1,5 +1,5 @@
 //! A range of places.
-ghost use Rattle.std.specs.Prelude.{◌≡◌, ◌+◌, ◌≤◌, ◌<◌, ◌^◌, length, take, drop, IfSome, option_map};
+ghost use Rattle.std.specs.Prelude.{◌≡◌, ◌+◌, ◌≤◌, ◌<◌, ◌^◌, length, IfSome, option_map};
 ghost use Rattle.tokei_embedding.specs.Spans.{shifted, bytes_of};
 ghost use Rattle.tokei_embedding.specs.Seen.{span_seen};
 

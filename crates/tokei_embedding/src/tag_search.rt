@@ -1,6 +1,7 @@
 //! The elements of one tag in a text.
 ghost use Rattle.std.specs.Prelude.{◌≡◌, ◌-◌, ◌≤◌, ◌<◌, true, length, drop, option_map};
-ghost use Rattle.tokei_embedding.specs.NextOpenings.{part_of, OpensNoElement};
+ghost use Rattle.tokei_embedding.specs.NextOpenings.{OpensNoElement};
+ghost use Rattle.tokei_table_row.specs.Slices.{between};
 ghost use Rattle.tokei_embedding.specs.Searches.{first_of, is_at};
 ghost use Rattle.tokei_embedding.specs.Seen.{tag_seen};
 ghost use Rattle.tokei_embedding.specs.TagSearches.{TagSought, SeeksElements};
@@ -58,7 +59,7 @@ impl<'a> TagSearch<'a> {
         requires inside { place < to }
         requires ends { to ≤ length self.old.text }
         ensures block { option_map tag_seen result
-            ≡ tag_block self.old.tag (part_of self.old.text from to) (place - from)
+            ≡ tag_block self.old.tag (between self.old.text from to) (place - from)
             (drop place self.old.text) }
         ensures same { self.new ≡ self.old }
     {
@@ -108,7 +109,7 @@ impl<'a> TagSearch<'a> {
         ensures none { OpensNoElement self.old.tag self.old.text start to at result }
         ensures exact { result < to
             → is_at (result - start)
-            (first_of (token_of self.old.tag) (part_of self.old.text start to))
+            (first_of (token_of self.old.tag) (between self.old.text start to))
             ≡ true }
         ensures same { self.new ≡ self.old }
     {

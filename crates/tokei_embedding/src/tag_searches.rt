@@ -1,6 +1,7 @@
 //! The elements of a text, of each tag.
 ghost use Rattle.std.specs.Prelude.{◌≡◌, ℕ, ◌-◌, ◌≤◌, ◌<◌, true, List, length, drop, option_map};
-ghost use Rattle.tokei_embedding.specs.NextOpenings.{part_of, OpensNoElement};
+ghost use Rattle.tokei_embedding.specs.NextOpenings.{OpensNoElement};
+ghost use Rattle.tokei_table_row.specs.Slices.{between};
 ghost use Rattle.tokei_embedding.specs.Searches.{first_of, is_at};
 ghost use Rattle.tokei_embedding.specs.Seen.{tag_seen};
 ghost use Rattle.tokei_embedding.specs.TagSearches.{SeeksTags};
@@ -51,7 +52,7 @@ impl<'a> TagSearches<'a> {
         requires inside { place < to }
         requires ends { to ≤ length self.old }
         ensures block { option_map tag_seen result
-            ≡ tag_block tag (part_of self.old from to) (place - from) (drop place self.old) }
+            ≡ tag_block tag (between self.old from to) (place - from) (drop place self.old) }
         ensures same { self.new ≡ self.old }
     {
         match tag {
@@ -71,7 +72,7 @@ impl<'a> TagSearches<'a> {
         ensures high { result ≤ to }
         ensures none { OpensNoElement tag self.old start to at result }
         ensures exact { result < to
-            → is_at (result - start) (first_of (token_of tag) (part_of self.old start to)) ≡ true }
+            → is_at (result - start) (first_of (token_of tag) (between self.old start to)) ≡ true }
         ensures same { self.new ≡ self.old }
     {
         match tag {

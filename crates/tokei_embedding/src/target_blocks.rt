@@ -1,5 +1,5 @@
 //! Lingua Franca's blocks of the target language, and the target itself.
-ghost use Rattle.std.specs.Prelude.{◌≡◌, ◌+◌, ◌-◌, ◌≤◌, ◌<◌, IfSome, length, take, drop, option_map};
+ghost use Rattle.std.specs.Prelude.{◌≡◌, ◌+◌, ◌-◌, ◌≤◌, ◌<◌, length, take, drop, option_map};
 ghost use Rattle.tokei_embedding.specs.TargetBlocks.{target_from, target_block, is_word, word_len};
 ghost use Rattle.tokei_embedding.specs.TargetBlocks.{ends_line, ends_target, target_word};
 ghost use Rattle.tokei_embedding.specs.TargetBlocks.{word_behind_blanks, target_here, target_of};

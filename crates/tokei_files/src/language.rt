@@ -1,5 +1,5 @@
 //! The language in which a file is counted.
-ghost use Rattle.std.specs.Prelude.{◌≡◌, ◌<◌, length, OnOk, IfOk, IfSome};
+ghost use Rattle.std.specs.Prelude.{◌≡◌, ◌<◌, length, IfOk, IfSome};
 ghost use Rattle.tokei_folders.specs.Answers.{Told};
 ghost use Rattle.tokei_files.specs.Files.{counts, language_of_file};
 ghost use Rattle.tokei_files.specs.Seen.{counting_of};

@@ -1,6 +1,6 @@
 //! Which language a file has: by its name, and by its head where the name decides nothing and has
 //! no extension.
-ghost use Rattle.std.specs.Prelude.{◌≡◌, ◌<◌, length, IfOk, IfSome, OnOk};
+ghost use Rattle.std.specs.Prelude.{◌≡◌, ◌<◌, length, IfOk, IfSome};
 ghost use Rattle.tokei_config.specs.Seen.{settings_of};
 ghost use Rattle.tokei_folders.specs.Answers.{Told};
 ghost use Rattle.tokei_files.specs.Paths.{name_of, language_by_head, language_by_path, rows_by};

@@ -1,5 +1,5 @@
 //! The names of a place, and their order.
-ghost use Rattle.std.specs.Prelude.{◌≡◌, ◌++◌, IfOk, OnOk, map, take, codes, None, option_map};
+ghost use Rattle.std.specs.Prelude.{◌≡◌, IfOk, None, option_map};
 ghost use Rattle.std.specs.List.{last_or};
 ghost use Rattle.tokei_folders.specs.Tree.{names_of, is_name as is_a_name, names_cmp};
 

@@ -21,10 +21,6 @@ own p names folder = cond (fits_entry p names folder) (Some (verdict_of p)) None
 or_else_some : (o : Option Verdict) (v : Verdict) (q : Option Verdict) → o ≡ Some v → or_else o q ≡ Some v
 or_else_some o v q e = ap (λ r. or_else r q) e
 
-or_else_none : (o q : Option Verdict) → q ≡ None → or_else o q ≡ o
-or_else_none (Some v) q e = refl
-or_else_none None q e = e
-
 pub decided : (ps : List Pattern) (p : Pattern) (names : List (List ℕ)) (folder : Bool) → fits_entry p names folder ≡ true → last_fitting (ps ++ p ∷ []) names folder ≡ Some (verdict_of p)
 unfolding last_fitting
 decided [] p names folder e = ap (λ b. cond b (Some (verdict_of p)) None) e

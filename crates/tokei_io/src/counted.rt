@@ -1,5 +1,5 @@
 //! Readers and writers of the standard library as sources and sinks.
-ghost use Rattle.std.specs.Prelude.{◌≡◌, ◌+◌, ◌<◌};
+ghost use Rattle.std.specs.Prelude.{◌≡◌, ◌<◌};
 
 use crate::sink::Sink;
 use crate::source::Source;

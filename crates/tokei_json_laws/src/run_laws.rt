@@ -1,6 +1,6 @@
 //! The laws of what a run writes as a document: its languages are read back. Two are the contracts
 //! of functions that do nothing; the third counts, prints and reads.
-ghost use Rattle.std.specs.Prelude.{◌≡◌, ◌≢◌, [], IfErr, IfOk};
+ghost use Rattle.std.specs.Prelude.{◌≡◌, ◌≢◌, IfErr, IfOk};
 ghost use Rattle.tokei_config.specs.Seen.{settings_of};
 ghost use Rattle.tokei_files.specs.Configs.{kept_by};
 ghost use Rattle.tokei_folders.specs.Answers.{Told};

@@ -1,7 +1,7 @@
 -- Which texts read as a count.
 use Rattle.std.proofs.Common.{◌≡◌, ℕ, ◌^◌, ◌<◌, ◌==◌, List, length, slice_index}
 use Rattle.std.proofs.Common.{Bool, true, false, ◌&&◌, not, ℤ, Float, nat_lt, nat_le, drop, Option}
-use Rattle.std.proofs.Common.{Some, None, is_some, IsSome, option_map, option_and_then, if◌then◌else◌, refl, sym, ap, ◌∙◌, arith}
+use Rattle.std.proofs.Common.{Some, None, is_some, option_and_then, if◌then◌else◌, refl, sym, ap, ◌∙◌, arith}
 use Rattle.std.proofs.lemmas.Bool.Decides.{nat_tests}
 use Rattle.std.specs.Float.{binary64, float_is_finite}
 use Rattle.std.specs.Option.{SomeIff}
@@ -10,9 +10,6 @@ use Rattle.json.specs.Json as json
 use Rattle.serde_json.specs.Data.{Num, unsigned, negative, float, number}
 use Rattle.serde_json.specs.Find.{as_u64}
 use Rattle.serde_json.specs.Read.{float_of, is_integer, number_from, number_of}
-use Rattle.serde_json.specs.Written.{has_float}
-use Rattle.tokei_json_tree.specs.Orderings.{IsOrderingOf}
-use Rattle.tokei_json_tree.specs.TreeData.{number_data}
 
 -- the count of a number, if there is one and it is a count
 abbrev pub count_of : Option Num → Option ℕ
@@ -69,19 +66,3 @@ without_minus s p o same e h =
     ∙ sym (ap count_of (second_of (slice_index s 0 == minus) (number_from true (scan (drop 1 s))) (number_from false (scan s)) e)
     ∙ ap (λ q. count_of (number_from false q)) (sym same)
     ∙ unsigned_or t (digits_of p) (float_of false p) (no_float false p))
-
-unsigned_of : (o : Option Num) → IsSome (count_of o) → (n : ℕ) × (o ≡ Some (unsigned n))
-unsigned_of None h = absurd cc
-unsigned_of (Some (unsigned n)) h = (n, refl)
-unsigned_of (Some (negative z)) h = absurd cc
-unsigned_of (Some (float x)) h = absurd cc
-
--- a number whose text is a count stands for itself
-pub count_stands : (s : List ℕ) → IsSome (count_of (number_of s)) → IsOrderingOf (json.number s) (json.number s)
-count_stands s h =
-    let n = unsigned_of (number_of s) h in
-    record {
-      reads = ap (option_map number) n.1 ∙ sym (ap (λ o. Some (number_data o)) n.1);
-      ordered = tt;
-      whole = ap (λ o. has_float (number_data o)) n.1;
-    }

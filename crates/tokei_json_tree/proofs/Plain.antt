@@ -1,18 +1,17 @@
 -- Trees that stand for what they read as: members whose keys ascend as they stand.
-use Rattle.std.proofs.Common.{◌≡◌, ℕ, suc, ◌+◌, ◌<◌, ◌≤◌, List, [], ◌∷◌, ◌++◌, Bor, None, Some, Option, IfSome, arith, sym, ap, ◌∙◌, subst}
+use Rattle.std.proofs.Common.{◌≡◌, ℕ, suc, ◌+◌, ◌<◌, List, [], ◌∷◌, ◌++◌, Bor, None, Some, Option, IfSome, arith, sym, ap, ◌∙◌, subst}
 use Rattle.std.proofs.Common.{Less, drop, get_or, length, take}
-use Rattle.std.proofs.Math.ListN.{drop_of_length-le}
 use Rattle.std.proofs.Math.Seq.{take-suc}
 use Rattle.std.proofs.lemmas.Cmp.{nat_list_cmp_total}
-use Rattle.std.proofs.lemmas.List.{append-nil, take-append-drop}
+use Rattle.std.proofs.lemmas.List.{append-nil}
 use Rattle.std.specs.Cmp.Lexicographic.{slice_cmp}
 use Rattle.std.specs.Ordering.{nat_cmp}
 use Rattle.json.specs.Json as json
 use Rattle.json.specs.Value.{value_view, members_view}
 use Rattle.json.specs.declared.value.Value.{Value}
 use Rattle.tokei_json_tree.specs.Ordered.{keys_of, AreBefore, AreKeysInOrder}
-use Rattle.tokei_json_tree.specs.Orderings.{IsOrderingOf, AreMembersOrderingOf, IsPut}
-use Rattle.tokei_json_tree.proofs.Orderings.{IsOrderingSoFar, all_put, none_yet, one_more, put_there}
+use Rattle.tokei_json_tree.specs.Orderings.{IsOrderingOf, IsPut}
+use Rattle.tokei_json_tree.proofs.Orderings.{IsOrderingSoFar, none_yet, one_more, put_there}
 use Rattle.tokei_json_tree.proofs.Steps.{from_item}
 
 abbrev Key : Type 0
@@ -69,12 +68,3 @@ module _ (A : Type 0) where
             (next_put es i x plain before (from_item es i x within e) h.so_far);
         before = λ k less. subst (λ ys. AreBefore (keys ys) k) longer (before_more k (take i es) x before less);
       }
-
-  pub all_taken : (es : List Entry) (i : ℕ) (last : Option (Bor (List ℕ))) → length es ≤ i → ArePlainUpTo es i last
-      → AreMembersOrderingOf (members_view es) (members_view es)
-  all_taken es i last end h =
-      let none_left = drop_of_length-le es end in
-      let all : take i es ≡ es = sym (append-nil (take i es)) ∙ ap (λ ys. take i es ++ ys) (sym none_left) ∙ take-append-drop i es in
-      all_put (members_view es) (members_view es)
-      (subst (λ ys. IsOrderingSoFar (members_view es) json.no_members (members_view ys)) all
-      (subst (λ ys. IsOrderingSoFar (members_view es) (members_view ys) (members_view (take i es))) none_left h.so_far))

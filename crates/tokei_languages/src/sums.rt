@@ -1,8 +1,8 @@
 //! Sums of the counts of reports.
 ghost use Rattle.std.specs.Prelude.{◌≡◌, IfOk, IfErr, OnErr, map};
 ghost use Rattle.tokei_stats.specs.Overflow.{CountsFit};
-ghost use Rattle.tokei_stats.specs.Seen.{counts_of, sums_of, stats_of};
-ghost use Rattle.tokei_stats.specs.Statistics.{plus, summary};
+ghost use Rattle.tokei_stats.specs.Seen.{sums_of};
+ghost use Rattle.tokei_stats.specs.Statistics.{plus};
 ghost use Rattle.tokei_languages.specs.Renewing.{own_sum};
 ghost use Rattle.tokei_languages.specs.Seen.{children_of, report_of};
 ghost use Rattle.tokei_languages.specs.Summaries.{children_summary, reports_summary};

@@ -1,5 +1,5 @@
 //! A known tree, and what can be added to it.
-ghost use Rattle.std.specs.Prelude.{◌≡◌, ◌≢◌, ◌≤◌, ◌+◌, ◌||◌, true, not, is_some, ◌<◌, ◌++◌, [], ◌∷◌, insert, length, vec_len, vec_capacity, option_map, OnOk, OnErr, IfOk, IsOk, MatchOption};
+ghost use Rattle.std.specs.Prelude.{◌≡◌, ◌≤◌, ◌+◌, ◌||◌, true, not, is_some, ◌<◌, ◌++◌, [], ◌∷◌, insert, length, vec_len, vec_capacity, option_map, OnOk, OnErr, IfOk, IsOk, MatchOption};
 ghost use Rattle.std.specs.List.{list_all};
 ghost use Rattle.tokei_folders.specs.declared.nodes.Node.{Node};
 ghost use Rattle.tokei_folders.specs.declared.nodes.PlacedNode.{PlacedNode};

@@ -1,5 +1,5 @@
 //! The cells of a notebook.
-ghost use Rattle.std.specs.Prelude.{◌≡◌, ◌<◌, ◌++◌, length, map, option_map, IfOk, IfSome, codes};
+ghost use Rattle.std.specs.Prelude.{◌≡◌, ◌<◌, length, map, option_map, IfOk, IfSome};
 ghost use Rattle.serde_json.specs.View.{view, items_view};
 ghost use Rattle.tokei_notebook.specs.Cells.{cell_of, by_kernel, by_extension, get_in, code_language, text_of, joined};
 ghost use Rattle.tokei_notebook.specs.Cells.{source_of, cells_in, cells_at, cells_of, notebook_cells, AreKnown};

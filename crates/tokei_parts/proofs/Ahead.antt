@@ -6,7 +6,7 @@ use Rattle.tokei_parts.specs.Choice.Choice.{closes, escapes, child_opens, opens,
 use Rattle.tokei_parts.specs.Derivation.{Body, before, behind, follow, derive, second}
 use Rattle.tokei_parts.specs.Items.{Block, Item, Items, Enclosure, Mode, enclosure, enclosing_item}
 use Rattle.tokei_parts.specs.Items.Item.{one, escaped, passed_over, line_comment, child}
-use Rattle.tokei_parts.specs.Lines.{first_line}
+use Rattle.tokei_embedding.specs.DocComments.{first_line}
 use Rattle.tokei_parts.specs.Modes.{Mark, Chain, innermost, marks, marks_of, of_choice, closing}
 use Rattle.tokei_parts.specs.Modes.Mark.{byte_at, child_at}
 use Rattle.tokei_parts.specs.Progress.{body as body_of, marks_ahead as marks_ahead_of}

@@ -10,7 +10,7 @@ use Rattle.tokei_table.specs.Family.{Family}
 use Rattle.tokei_table.specs.Family.TheVariants.{Plain, Markdown, HtmlLike, Rust, LinguaFranca, Jupyter}
 use Rattle.tokei_embedding.specs.Fences.{fence_block}
 use Rattle.tokei_embedding.specs.Tags.{tag_block}
-use Rattle.tokei_embedding.specs.DocComments.{doc_block}
+use Rattle.tokei_embedding.specs.DocComments.{doc_block, first_line}
 use Rattle.tokei_embedding.specs.TargetBlocks.{target_block}
 use Rattle.tokei_embedding.specs.declared.tags.Tag.{Tag}
 use Rattle.tokei_embedding.specs.declared.tags.Tag.TheVariants.{Script, Style, Template}
@@ -18,7 +18,6 @@ use Rattle.tokei_embedding.specs.BlockLaws.{Reaches}
 use Rattle.tokei_embedding.proofs.BlockLaws.{fence_reach, tag_reach, target_reach}
 use Rattle.tokei_embedding.proofs.DocLaws.{doc_reach}
 use Rattle.tokei_embedding.proofs.Newlines.{none_at_newline}
-use Rattle.tokei_parts.specs.Lines.{first_line}
 use Rattle.tokei_parts.proofs.Lines.{take-first}
 use Rattle.tokei_parts.specs.Items.{Block}
 use Rattle.tokei_parts.specs.Derivation.{no_child}

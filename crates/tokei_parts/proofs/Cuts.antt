@@ -69,10 +69,6 @@ pub cut_closing : (m : Mode) (s : List ℕ) (e : Mode) (c d : Chain) (p : List �
     → cut m s e (closing c d p ++ ms) ≡ cut m (s ++ p) (innermost d) ms
 cut_closing m s e c d p ms l h = cut_closing_from true m s e c d p ms l h
 
-pub cut_end : (m : Mode) (b : ℕ) (t : List ℕ) (e : Mode) → cut m (b ∷ t) e [] ≡ record { begun = m; bytes = b ∷ t; ended = e } ∷ []
-unfolding cut
-cut_end m b t e = refl
-
 -- The same of stretches. A newline that a choice of its own takes adds one choice.
 running_one : (m : Mode) (s : List ℕ) (n : ℕ) (t : List ℕ) (b : ℕ) (x : Bool) (c : Chain)
     (ms : List Mark)

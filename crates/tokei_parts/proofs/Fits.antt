@@ -9,10 +9,9 @@ use Rattle.tokei_parts.specs.Choice.{Choice, choice, opened, any_begins, is_esca
 use Rattle.tokei_parts.specs.Choice.Choice.{closes, escapes, child_opens, opens, passes_over, begins_line_comment, takes_byte}
 use Rattle.tokei_parts.specs.Derivation.{closer_of}
 use Rattle.tokei_parts.specs.Items.{Block, Enclosure, Mode}
-use Rattle.tokei_parts.specs.Lines.{line_len}
 use Rattle.tokei_parts.specs.declared.items.ItemKind.{ItemKind}
 use Rattle.tokei_parts.specs.declared.items.ItemKind.TheVariants.{DocString, VerbatimString, OrdinaryString, MultiLineComment}
-use Rattle.tokei_table.specs.Bytes.{begins, all_blank}
+use Rattle.tokei_table.specs.Bytes.{begins, all_blank, line_len}
 use Rattle.tokei_table.specs.Row.{Row, Pair}
 use Rattle.tokei_table.specs.Sound.{no_newline, is_token, is_pair, IsSound}
 

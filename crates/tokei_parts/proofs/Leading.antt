@@ -10,7 +10,8 @@ use Rattle.tokei_parts.specs.Choice.{Choice, choice}
 use Rattle.tokei_parts.specs.Choice.Choice.{closes, escapes, child_opens, opens, passes_over, begins_line_comment, takes_byte}
 use Rattle.tokei_parts.specs.Derivation.{second}
 use Rattle.tokei_parts.specs.Items.{Block, Enclosure, enclosure, Mode}
-use Rattle.tokei_parts.specs.Lines.{first_line, line_len}
+use Rattle.tokei_embedding.specs.DocComments.{first_line}
+use Rattle.tokei_table_row.specs.Bytes.{line_len}
 use Rattle.tokei_parts.specs.Modes.{Mark, Chain, innermost, inside, of_choice, closing}
 use Rattle.tokei_parts.specs.Modes.Mark.{byte_at}
 use Rattle.tokei_parts.specs.Parts.{cut}

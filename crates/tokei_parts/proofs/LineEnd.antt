@@ -3,7 +3,7 @@ use Rattle.std.proofs.Common.{◌≡◌, ℕ, suc, zero, ◌+◌, ◌-◌, ◌<�
 use Rattle.std.proofs.lemmas.List.{drop-drop, get_or-drop}
 use Rattle.tokei_bytes.proofs.Blocks.{other_than}
 use Rattle.tokei_bytes.specs.OneOf.{is_one_of}
-use Rattle.tokei_parts.specs.Lines.{line_len}
+use Rattle.tokei_table_row.specs.Bytes.{line_len}
 
 -- each byte before the place is no newline
 pub line_len-at : (t : List ℕ) (n : ℕ) → n < length t → (get_or t n 0 == 10) ≡ true → ((k : ℕ) → k < n → (get_or t k 0 == 10) ≡ false) → n ≡ line_len t

@@ -1,7 +1,8 @@
 -- Where a line ends in its text.
 use Rattle.std.proofs.Common.{◌≡◌, ◌∙◌, ap, ℕ, suc, zero, ◌+◌, ◌-◌, ◌<◌, ◌≤◌, ◌⊎◌, inl, inr, List, length, drop, arith, length-drop}
 use Rattle.std.proofs.lemmas.List.{drop-drop}
-use Rattle.tokei_parts.specs.Lines.{first_line, line_len}
+use Rattle.tokei_embedding.specs.DocComments.{first_line}
+use Rattle.tokei_table_row.specs.Bytes.{line_len}
 use Rattle.tokei_parts.proofs.Leading.{line_len-drop}
 use Rattle.tokei_parts.proofs.Lines.{length-whole, length-broken}
 use Rattle.tokei_parts.proofs.PartFronts.{line_len_within}
@@ -55,14 +56,6 @@ first_line-high u = by_case (below_or (line_len u) (length u))
     by_case (inl h) = omega (arith, length-broken u h)
     by_case (inr h) = omega (arith, length-whole u h)
 
--- a line that doesn't end with the text ends behind its newline
-pub ends_more : (n end stop : ℕ) → end ≤ n → (end < n → stop ≡ end + 1) → (end ≡ n → stop ≡ end) → stop < n → stop ≡ end + 1
-ends_more n end stop h more last below = by_case (below_or end n)
-  where
-    by_case : (end < n) ⊎ (n ≤ end) → stop ≡ end + 1
-    by_case (inl b) = more b
-    by_case (inr b) = let e : stop ≡ end = last (omega (arith, h, b)) in absurd (omega (arith, e, b, below))
-
 -- a later place of the line has the line's end
 pub end_later : (text : List ℕ) (start next end : ℕ) → start ≤ next → end ≡ start + line_len (drop start text) → next ≤ end → end ≡ next + line_len (drop next text)
 end_later text start next end low e high =
@@ -70,14 +63,6 @@ end_later text start next end low e high =
     let place : start + n ≡ next = omega (arith, low) in
     let there : drop n (drop start text) ≡ drop next text = drop-drop n start text ∙ ap (λ m. drop m text) place in
     omega (arith, e, low, high, line_len-drop n (drop start text) (omega (arith, e, low, high)), ap line_len there)
-
--- a line that has no newline before the place, which is in the text, goes on behind it
-pub line_goes_on : (text : List ℕ) (at next : ℕ) → at ≤ next → next < length text → next ≤ at + line_len (drop at text) → next < at + length (first_line (drop at text))
-line_goes_on text at next low high clear = by_case (below_or (line_len (drop at text)) (length (drop at text)))
-  where
-    by_case : (line_len (drop at text) < length (drop at text)) ⊎ (length (drop at text) ≤ line_len (drop at text)) → next < at + length (first_line (drop at text))
-    by_case (inl h) = omega (arith, length-broken (drop at text) h, clear)
-    by_case (inr h) = omega (arith, length-whole (drop at text) h, length-drop at text, high, low)
 
 -- the first newline before the place `next`, or that place, and where a line that goes to it stops
 module _ (text : List ℕ) (at newline next stop : ℕ) (some : at < next) (within : next ≤ length text) (high : newline ≤ next) (line : newline ≤ at + line_len (drop at text))
@@ -92,12 +77,3 @@ module _ (text : List ℕ) (at newline next stop : ℕ) (some : at < next) (with
       by_case : (newline < next) ⊎ (next ≤ newline) → newline ≡ at + line_len (drop at text)
       by_case (inl b) = found b
       by_case (inr b) = at_end (omega (arith, b, high)) (below_or newline (length text))
-
-  pub line_goes_over : next < stop → next < at + length (first_line (drop at text))
-  line_goes_over h = by_case (below_or newline (length text))
-    where
-      by_case : (newline < length text) ⊎ (length text ≤ newline) → next < at + length (first_line (drop at text))
-      by_case (inl b) =
-          let t : stop ≡ newline + 1 = more b in
-          line_goes_on text at next (omega (arith, some)) (omega (arith, t, h, high, b)) (omega (arith, t, h, high, line))
-      by_case (inr b) = let t : stop ≡ newline = last (omega (arith, b, high, within)) in absurd (omega (arith, t, h, high))

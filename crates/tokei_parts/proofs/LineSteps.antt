@@ -1,7 +1,7 @@
 -- Where the choices of a line lead, of which each takes as many bytes as are counted for it.
 use Rattle.std.proofs.Common.{◌≡◌, ◌∙◌, ℕ, ◌+◌, ◌-◌, ◌<◌, ◌≤◌, inl, inr, Option, None, Some, arith, drop, length, refl, slice_index, subst, sym, zero, suc}
 use Rattle.tokei_parts.specs.LineWalk.{chain_in, reach_of}
-use Rattle.tokei_parts.specs.Lines.{line_len}
+use Rattle.tokei_table_row.specs.Bytes.{line_len}
 use Rattle.tokei_parts.specs.Modes.{Chain, innermost}
 use Rattle.tokei_parts.specs.PlainBytes.{IsPlainByte}
 use Rattle.tokei_parts.specs.Places.{Begins, block_from, text_of}

@@ -5,12 +5,13 @@ use Rattle.tokei_parts.proofs.Ahead.{marks_ahead-end}
 use Rattle.tokei_parts.proofs.Stepping.{top_closed}
 use Rattle.tokei_parts.specs.Class.{class_of}
 use Rattle.tokei_parts.specs.Items.{Block}
-use Rattle.tokei_parts.specs.Lines.{first_line, line_len}
+use Rattle.tokei_embedding.specs.DocComments.{first_line}
+use Rattle.tokei_table_row.specs.Bytes.{line_len}
 use Rattle.tokei_parts.specs.Modes.{Chain, innermost}
 use Rattle.tokei_parts.specs.Parts.{cut}
 use Rattle.tokei_parts.specs.Tally.{tally, one_of, children}
 use Rattle.tokei_parts.specs.Progress.{Leads, ReadsLine, OpensInLine, counts_left, children_left, steps_left, newlines, IsClosable}
-use Rattle.tokei_table_row.specs.Counts.{Counts, plus, no_lines}
+use Rattle.tokei_table_row.specs.Counts.{plus, no_lines}
 use Rattle.tokei_parts.specs.declared.class.Class.{Class}
 use Rattle.tokei_table.specs.Openers.{openers}
 use Rattle.tokei_table.specs.Row.{Row}
@@ -85,16 +86,3 @@ module _ (g : Row) (block : ℕ → List ℕ → Option Block) (l : ℕ) (docs_a
 
   pub children_left-none : (c : Chain) → children_left g block l c [] ≡ []
   children_left-none c = ap children (marks_ahead-end g block l c)
-
-pub plus-no_lines : (a : Counts) → plus a no_lines ≡ a
-plus-no_lines a =
-    let x : a.blanks + 0 ≡ a.blanks = omega arith in
-    let y : a.code + 0 ≡ a.code = omega arith in
-    let z : a.comments + 0 ≡ a.comments = omega arith in
-    ap (λ w. record { blanks = w; code = a.code + 0; comments = a.comments + 0 }) x
-    ∙ ap (λ w. record { blanks = a.blanks; code = w; comments = a.comments + 0 }) y
-    ∙ ap (λ w. record { blanks = a.blanks; code = a.code; comments = w }) z
-
-pub empty_is : (t : List ℕ) → length t ≡ 0 → t ≡ []
-empty_is [] h = refl
-empty_is (b ∷ t) h = absurd (omega arith)

@@ -4,7 +4,8 @@ use Rattle.tokei_table.specs.Row.{Pair}
 use Rattle.tokei_parts.specs.Choice.Choice.{closes, opens}
 use Rattle.tokei_parts.specs.Class.{in_comment, in_string}
 use Rattle.tokei_parts.specs.Items.{Enclosure, Mode, enclosure}
-use Rattle.tokei_parts.specs.Lines.{first_line, line_len}
+use Rattle.tokei_embedding.specs.DocComments.{first_line}
+use Rattle.tokei_table_row.specs.Bytes.{line_len}
 use Rattle.tokei_parts.specs.Modes.{Chain, innermost}
 use Rattle.tokei_parts.specs.PlainBytes.{IsPlainByte}
 use Rattle.tokei_parts.specs.Places.{Begins, IsAt, choice_here, text_of}

@@ -1,6 +1,6 @@
 -- The place at which a line's newline stands.
 use Rattle.std.proofs.Common.{◌≡◌, ◌∙◌, ◌<◌, ap, List, ℕ, ◌∷◌, None, length, drop, arith, length-drop}
-use Rattle.tokei_parts.specs.Lines.{line_len}
+use Rattle.tokei_table_row.specs.Bytes.{line_len}
 use Rattle.tokei_parts.specs.Places.{IsAt, block_here, text_of}
 use Rattle.tokei_parts.specs.ReadingOf.{blocks_of}
 use Rattle.tokei_parts.specs.declared.place.Place.{Place}

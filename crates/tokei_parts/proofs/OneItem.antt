@@ -8,7 +8,8 @@ use Rattle.tokei_parts.specs.Choice.{Choice}
 use Rattle.tokei_parts.specs.Choice.Choice.{begins_line_comment, closes, escapes, opens, passes_over, takes_byte}
 use Rattle.tokei_parts.specs.Items.{enclosure, kind_in}
 use Rattle.tokei_parts.specs.LineWalk.{chain_in, item_in, mode_in}
-use Rattle.tokei_parts.specs.Lines.{first_line, line_len}
+use Rattle.tokei_embedding.specs.DocComments.{first_line}
+use Rattle.tokei_table_row.specs.Bytes.{line_len}
 use Rattle.tokei_parts.specs.Modes.{innermost}
 use Rattle.tokei_parts.specs.Openings.{block_by, block_in}
 use Rattle.tokei_parts.specs.Parts.{part_front}

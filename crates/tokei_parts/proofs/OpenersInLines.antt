@@ -3,11 +3,11 @@ use Rattle.std.proofs.Common.{◌≡◌, ℕ, suc, zero, ◌-◌, ◌<◌, ◌�
 use Rattle.std.specs.List.{list_all}
 use Rattle.std.proofs.lemmas.List.{drop-drop}
 use Rattle.std.proofs.lemmas.Bool.Decides.{Decides-eqb, nat_tests}
-use Rattle.tokei_table.specs.Bytes.{begins, begins_with_one}
+use Rattle.tokei_table.specs.Bytes.{begins, begins_with_one, line_len}
 use Rattle.tokei_table.specs.FirstOpener.{first_opener}
 use Rattle.tokei_table.specs.Sound.{no_newline}
 use Rattle.tokei_parts.specs.Glance.{holds, opener_place}
-use Rattle.tokei_parts.specs.Lines.{first_line, line_len}
+use Rattle.tokei_embedding.specs.DocComments.{first_line}
 use Rattle.tokei_parts.proofs.Cuts.{no_newline_first, no_newline_later}
 use Rattle.tokei_parts.proofs.Fits.{and_left, and_right}
 

@@ -8,7 +8,8 @@ use Rattle.tokei_parts.specs.Items.{Block}
 use Rattle.tokei_parts.specs.Choice.{choice}
 use Rattle.tokei_parts.specs.Choice.Choice.{child_opens}
 use Rattle.tokei_parts.specs.Items.{Mode}
-use Rattle.tokei_parts.specs.Lines.{first_line, line_len}
+use Rattle.tokei_embedding.specs.DocComments.{first_line}
+use Rattle.tokei_table_row.specs.Bytes.{line_len}
 use Rattle.tokei_parts.specs.Glance.{walks}
 use Rattle.tokei_parts.specs.Running.{choices_made, running}
 use Rattle.tokei_parts.specs.Modes.{Mark, Chain, innermost}

@@ -5,7 +5,8 @@ use Rattle.tokei_table.specs.Row.{Row}
 use Rattle.tokei_table.specs.Lookups.{row_at}
 use Rattle.tokei_table.specs.Families.{family_of}
 use Rattle.tokei_table.specs.Family.{Family}
-use Rattle.tokei_parts.specs.Lines.{first_line, line_len}
+use Rattle.tokei_embedding.specs.DocComments.{first_line}
+use Rattle.tokei_table_row.specs.Bytes.{line_len}
 use Rattle.tokei_parts.specs.Openings.{block_by, block_in}
 use Rattle.tokei_parts.specs.Parts.{part_front}
 use Rattle.tokei_parts.specs.Tally.{blocks_at}

@@ -14,9 +14,6 @@ use Rattle.tokei_parts.specs.Choice.Choice.{closes, escapes, opens, takes_byte}
 use Rattle.tokei_parts.specs.Items.{Block, Enclosure, Mode}
 use Rattle.tokei_parts.specs.Matchers.{begins_opener, begins_choice, begins_comment, begins_in_comment, flags, Matchers, matchers_of}
 use Rattle.tokei_parts.specs.PlainBytes.{BeginsNone, BeginsNoneWithin, IsOutside, IsPlainByte}
-use Rattle.tokei_parts.specs.SeenChoices.{choice_of}
-use Rattle.tokei_parts.specs.declared.choice.Choice as CodeChoice
-use Rattle.tokei_parts.specs.declared.choice.Choice.TheVariants.{Closes, Escapes, ChildOpens, Opens, PassesOver, BeginsLineComment, TakesByte}
 use Rattle.tokei_parts.specs.declared.items.ItemKind.{ItemKind}
 use Rattle.tokei_parts.specs.declared.items.ItemKind.TheVariants.{DocString, VerbatimString, OrdinaryString, MultiLineComment}
 use Rattle.tokei_parts.proofs.Fits.{and_left, and_right}
@@ -224,23 +221,3 @@ pub plain_byte_at : (r : Row) (s : IsSound r) (mode : Mode) (o : Option Block) (
     → m ≡ matchers_of r → at < length text → IsPlainByte m mode (get_or text at 0)
     → (mode ≡ None → o ≡ None) → choice r mode o (drop at text) ≡ takes_byte
 plain_byte_at r s mode o text at m e some h none = plain_byte r s mode o (get_or text at 0) (drop at text) m (text_here text at some) e h none
-
--- a choice that is no child, in an item or where no child can open, is the same whatever can open there
-pub same_choice : (r : Row) (mode : Mode) (o : Option Block) (u : List ℕ) (x : CodeChoice.Choice)
-    → (mode ≡ None → o ≡ None) → (x ≡ ChildOpens → false ≡ true)
-    → choice_of None x ≡ choice r mode None u → choice_of o x ≡ choice r mode o u
-unfolding choice
-same_choice r None o u x e n h = let none : o ≡ None = e refl in ap (λ p. choice_of p x) none ∙ h ∙ ap (λ p. choice_in_plain r p u) (sym none)
-same_choice r (Some m) o u x e n h = by_choice x n ∙ h
-  where
-    by_choice : (y : CodeChoice.Choice) → (y ≡ ChildOpens → false ≡ true) → choice_of o y ≡ choice_of None y
-    by_choice Closes n = refl
-    by_choice Escapes n = refl
-    by_choice ChildOpens n = absurd (not_both (n refl))
-      where
-        not_both : false ≡ true → ⊥
-        not_both h = cc
-    by_choice (Opens k p) n = refl
-    by_choice (PassesOver p) n = refl
-    by_choice BeginsLineComment n = refl
-    by_choice TakesByte n = refl

@@ -7,7 +7,7 @@ use Rattle.tokei_parts.proofs.Stepping.{goes_opener, goes_closer, no_closer}
 use Rattle.tokei_parts.specs.Choice.{Choice, choice, or_else}
 use Rattle.tokei_parts.specs.Choice.Choice.{closes, opens, child_opens, begins_line_comment, takes_byte}
 use Rattle.tokei_parts.specs.Items.{Block, Mode, enclosure}
-use Rattle.tokei_parts.specs.Lines.{line_len}
+use Rattle.tokei_table_row.specs.Bytes.{line_len}
 use Rattle.tokei_parts.specs.Modes.{Chain, innermost}
 use Rattle.tokei_parts.specs.Progress.{Goes, OpensChild, OpensInLine, IsClosable}
 use Rattle.tokei_parts.specs.SeenChoices.{enclosure_of}

@@ -5,7 +5,7 @@ use Rattle.tokei_parts.proofs.Leading.{lead_byte, lead_escape, lead_pass, lead_r
 use Rattle.tokei_parts.specs.Choice.{Choice, choice}
 use Rattle.tokei_parts.specs.Choice.Choice.{closes, escapes, opens, passes_over, begins_line_comment, takes_byte}
 use Rattle.tokei_parts.specs.Items.{Block, Enclosure, enclosure}
-use Rattle.tokei_parts.specs.Lines.{line_len}
+use Rattle.tokei_table_row.specs.Bytes.{line_len}
 use Rattle.tokei_parts.specs.Modes.{Chain, innermost}
 use Rattle.tokei_parts.specs.Progress.{Leads, Goes, OpensInLine, IsClosable, newlines}
 use Rattle.tokei_parts.specs.declared.items.ItemKind.{ItemKind}

@@ -2,7 +2,7 @@
 use Rattle.std.specs.Prelude.{ℕ, zero, suc, ◌+◌, ◌-◌, Bool, true, false}
 use Rattle.std.specs.Prelude.{List, [], ◌∷◌, length, take, Option, None, Some}
 use Rattle.tokei_table.specs.Row.{Row}
-use Rattle.tokei_parts.specs.Lines.{first_line}
+use Rattle.tokei_embedding.specs.DocComments.{first_line}
 use Rattle.tokei_parts.specs.Items.{Block, Item, Items, Mode, enclosing_item, enclosure}
 use Rattle.tokei_parts.specs.Items.Item.{one, escaped, passed_over, line_comment, child}
 use Rattle.tokei_parts.specs.Items.Items.{none, more}

@@ -13,7 +13,6 @@ pub mod HtmlChildren
 pub mod Items
 pub mod LineMarks
 pub mod LineWalk
-pub mod Lines
 pub mod LinguaFrancaChildren
 pub mod MarkdownChildren
 pub mod Matchers

@@ -5,7 +5,7 @@ use Rattle.tokei_table.specs.Lookups.{row_at}
 use Rattle.tokei_table.specs.Families.{family_of}
 use Rattle.tokei_table.specs.Family.{Family}
 use Rattle.tokei_table.specs.Family.TheVariants.{Plain, Markdown, HtmlLike, Rust, LinguaFranca, Jupyter}
-use Rattle.tokei_parts.specs.Lines.{first_line}
+use Rattle.tokei_embedding.specs.DocComments.{first_line}
 use Rattle.tokei_parts.specs.Items.{Block}
 use Rattle.tokei_parts.specs.Parts.{part_front}
 use Rattle.tokei_parts.specs.MarkdownChildren.{markdown_block}

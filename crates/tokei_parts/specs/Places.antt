@@ -1,6 +1,7 @@
 -- A place in a part that is read, as the definitions see it.
 use Rattle.std.specs.Prelude.{◌≡◌, ℕ, ◌+◌, ◌-◌, ◌<◌, ◌≤◌, List, Option, None, drop, take, length}
-use Rattle.tokei_parts.specs.Lines.{first_line, line_len}
+use Rattle.tokei_embedding.specs.DocComments.{first_line}
+use Rattle.tokei_table_row.specs.Bytes.{line_len}
 use Rattle.tokei_parts.specs.Items.{Block, Mode}
 use Rattle.tokei_parts.specs.Choice.{Choice, choice}
 use Rattle.tokei_parts.specs.Progress.{IsPart}

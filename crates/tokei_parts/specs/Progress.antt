@@ -5,8 +5,8 @@ use Rattle.std.specs.Prelude.{List, [], ◌∷◌, ◌++◌, take, drop, length,
 use Rattle.tokei_table.specs.Openers.{openers}
 use Rattle.tokei_table.specs.Row.{Row}
 use Rattle.tokei_table.specs.Sound.{is_token}
-use Rattle.tokei_parts.specs.Lines.{first_line, line_len}
-use Rattle.tokei_table.specs.Bytes.{newline}
+use Rattle.tokei_embedding.specs.DocComments.{first_line}
+use Rattle.tokei_table.specs.Bytes.{newline, line_len}
 use Rattle.tokei_parts.specs.Items.{Block}
 use Rattle.tokei_parts.specs.Choice.{choice}
 use Rattle.tokei_parts.specs.Choice.Choice.{child_opens}

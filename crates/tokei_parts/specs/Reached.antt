@@ -1,6 +1,7 @@
 -- How far the walk of a part has come, and where a step of it leads.
 use Rattle.std.specs.Prelude.{◌≡◌, ℕ, ◌+◌, ◌-◌, ◌<◌, ◌≤◌, None, length, slice_index}
-use Rattle.tokei_parts.specs.Lines.{first_line, line_len}
+use Rattle.tokei_embedding.specs.DocComments.{first_line}
+use Rattle.tokei_table_row.specs.Bytes.{line_len}
 use Rattle.tokei_parts.specs.Modes.{Chain}
 use Rattle.tokei_parts.specs.PlainBytes.{BeginsNone}
 use Rattle.tokei_parts.specs.Places.{Begins, block_from, text_from, text_of}

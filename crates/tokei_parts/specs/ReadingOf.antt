@@ -3,7 +3,7 @@ use Rattle.std.specs.Prelude.{ℕ, List, Option, drop}
 use Rattle.tokei_table.specs.Row.{Row}
 use Rattle.tokei_table.specs.Lookups.{row_at}
 use Rattle.tokei_parts.specs.Items.{Block}
-use Rattle.tokei_parts.specs.Lines.{first_line}
+use Rattle.tokei_embedding.specs.DocComments.{first_line}
 use Rattle.tokei_parts.specs.Openings.{block_in}
 use Rattle.tokei_parts.specs.Tally.{blocks_at}
 use Rattle.tokei_parts.specs.declared.reading.Reading.{Reading}

@@ -3,7 +3,7 @@ use Rattle.std.specs.Prelude.{ℕ, ◌+◌, Bool, true, ◌==◌, if◌then◌el
 use Rattle.tokei_table.specs.Bytes.{newline}
 use Rattle.tokei_parts.specs.Glance.{walks}
 use Rattle.tokei_parts.specs.Items.{Mode}
-use Rattle.tokei_parts.specs.Lines.{first_line}
+use Rattle.tokei_embedding.specs.DocComments.{first_line}
 use Rattle.tokei_parts.specs.Modes.{Mark, innermost}
 use Rattle.tokei_parts.specs.Modes.Mark.{byte_at, child_at}
 use Rattle.tokei_parts.specs.Stretches.{one_if}

@@ -1,7 +1,8 @@
 -- What a step of the walk and the reading of a part come to.
 use Rattle.std.specs.Prelude.{◌≡◌, ℕ, ◌+◌, ◌-◌, ◌<◌, ◌≤◌, Bool, List, length, drop, Option, Some}
 use Rattle.tokei_table.specs.Row.{Row}
-use Rattle.tokei_parts.specs.Lines.{first_line, line_len}
+use Rattle.tokei_embedding.specs.DocComments.{first_line}
+use Rattle.tokei_table_row.specs.Bytes.{line_len}
 use Rattle.tokei_parts.specs.Items.{Block}
 use Rattle.tokei_parts.specs.Modes.{Chain}
 use Rattle.tokei_parts.specs.Progress.{IsPart, Goes, OpensChild, ReadsLine, ReadsChild, newlines}

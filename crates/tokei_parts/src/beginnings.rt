@@ -1,5 +1,5 @@
 //! The bytes at which a choice can begin.
-ghost use Rattle.std.specs.Prelude.{◌≡◌, ℕ, ◌||◌, length, IfOk};
+ghost use Rattle.std.specs.Prelude.{◌≡◌, ℕ, ◌||◌, length};
 ghost use Rattle.std.specs.List.{list_any};
 ghost use Rattle.tokei_bytes.specs.ByteSets.{is_in};
 ghost use Rattle.tokei_table.specs.FirstOpener.{is_first_of};

@@ -1,7 +1,6 @@
 //! Where lines end.
 ghost use Rattle.std.specs.Prelude.{◌≡◌, ℕ, ◌+◌, ◌<◌, ◌≤◌, true, drop, length, slice_index};
-ghost use Rattle.tokei_table.specs.Bytes.{is_blank};
-ghost use Rattle.tokei_parts.specs.Lines.{line_len};
+ghost use Rattle.tokei_table.specs.Bytes.{is_blank, line_len};
 
 use tokei_bytes::{BLOCK, first_of_one, first_other_in_block, gap_in_block};
 

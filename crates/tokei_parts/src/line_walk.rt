@@ -1,5 +1,5 @@
 //! A line is walked in one piece where no child opens in it and no item within another.
-ghost use Rattle.std.specs.Prelude.{◌≡◌, ◌≢◌, ℕ, ◌+◌, ◌-◌, ◌<◌, ◌≤◌, true, None, Some};
+ghost use Rattle.std.specs.Prelude.{◌≡◌, ◌≢◌, ◌+◌, ◌-◌, ◌<◌, ◌≤◌, true, None, Some};
 ghost use Rattle.std.specs.Prelude.{IfSome, length};
 ghost use Rattle.tokei_parts.specs.Choice.Choice.{escapes};
 ghost use Rattle.tokei_parts.specs.Items.{kind_in};
@@ -116,10 +116,8 @@ fn take_one<'t>(
             }
             let opener = pair.0.as_bytes();
             let closer = pair.1.as_bytes();
-            *item = LineItem {
-                kind: Some(kind),
-                closer,
-            };
+            let kind = Some(kind);
+            *item = LineItem { kind, closer };
             take(part, opener.len(), reach);
             true
         }

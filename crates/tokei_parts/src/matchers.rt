@@ -1,10 +1,9 @@
 //! What the texts of a language are searched and walked with.
-ghost use Rattle.std.specs.Prelude.{◌≡◌, ◌≢◌, ℕ, ◌+◌, ◌<◌, ◌≤◌, ◌==◌, false, [], ◌∷◌, ◌++◌};
-ghost use Rattle.std.specs.Prelude.{drop, length, map, IfOk, IfSome, Option, slice_index, slice_index_or};
+ghost use Rattle.std.specs.Prelude.{◌≡◌, ◌≢◌, ℕ, ◌+◌, ◌<◌, ◌≤◌, ◌==◌, false};
+ghost use Rattle.std.specs.Prelude.{drop, length, IfOk, IfSome, Option, slice_index, slice_index_or};
 ghost use Rattle.tokei_table.specs.Bytes.{begins_with_one};
 ghost use Rattle.tokei_table.specs.FirstOpener.{first_opener};
 ghost use Rattle.tokei_table.specs.Lookups.{row_at};
-ghost use Rattle.tokei_table.specs.WellFormed.{IsWellFormed};
 ghost use Rattle.tokei_parts.specs.Items.{Block};
 ghost use Rattle.tokei_parts.specs.LineMarks.{AreLineMarks};
 ghost use Rattle.tokei_parts.specs.Matchers.{matchers_of};

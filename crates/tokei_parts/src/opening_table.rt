@@ -1,5 +1,5 @@
 //! What opens in plain text, by the first byte.
-ghost use Rattle.std.specs.Prelude.{◌≡◌, ◌≢◌, ℕ, ◌+◌, ◌<◌, ◌≤◌, List, ◌∷◌, ◌++◌, Option, None, Some, IfOk, OnOk};
+ghost use Rattle.std.specs.Prelude.{◌≡◌, ◌≢◌, ℕ, ◌+◌, ◌<◌, List, ◌∷◌, ◌++◌, Option, IfOk, OnOk};
 ghost use Rattle.std.specs.Prelude.{false};
 ghost use Rattle.tokei_table_row.specs.Bytes.{begins};
 ghost use Rattle.tokei_table_row.specs.RowOf.{pairs_of, row_of, tokens_of};

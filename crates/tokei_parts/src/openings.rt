@@ -1,9 +1,6 @@
 //! The children that open in a text.
 ghost use Rattle.std.specs.Prelude.{◌≡◌, ◌-◌, ◌<◌, ◌≤◌, length, option_map};
-ghost use Rattle.tokei_table.specs.Row.{Row};
-ghost use Rattle.tokei_embedding.specs.Fences.{fence_block};
 ghost use Rattle.tokei_embedding.specs.NextOpenings.{OpensNoElement};
-ghost use Rattle.tokei_embedding.specs.Seen.{fence_seen, tag_seen, target_seen};
 ghost use Rattle.tokei_parts.specs.NamedLanguages.{by_word, by_mime, by_name};
 ghost use Rattle.tokei_table.specs.Families.{fallback};
 ghost use Rattle.tokei_parts.specs.MarkdownChildren.{known_piece, markdown_block};

@@ -1,5 +1,5 @@
 //! Bytes at which nothing but the byte itself, or a child, can begin.
-ghost use Rattle.std.specs.Prelude.{◌≡◌, ℕ, ◌<◌, ◌≤◌, ◌==◌, true, None, Some, length, slice_index};
+ghost use Rattle.std.specs.Prelude.{◌≡◌, ℕ, ◌<◌, ◌≤◌, true, None, Some, length, slice_index};
 ghost use Rattle.tokei_parts.specs.PlainBytes.{BeginsNoneWithin, IsPlainByte};
 ghost use Rattle.tokei_parts.specs.SeenChoices.{mode_of};
 

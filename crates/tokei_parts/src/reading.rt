@@ -2,7 +2,6 @@
 ghost use Rattle.std.specs.Prelude.{◌≡◌, ◌<◌, codes, length};
 ghost use Rattle.tokei_table.specs.Families.{family_of};
 ghost use Rattle.tokei_table.specs.Lookups.{first_where, has_name, row_at};
-ghost use Rattle.tokei_table.specs.Row.{Row};
 ghost use Rattle.tokei_table.specs.RowOf.{row_of};
 ghost use Rattle.tokei_table.specs.Sound.{IsSound};
 ghost use Rattle.tokei_parts.specs.Matchers.{matchers_of};

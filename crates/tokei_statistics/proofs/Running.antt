@@ -263,10 +263,6 @@ pub always_err : {T E A : Type 0} (q : Result T E) → A → OnErr q A
 always_err (Ok x) a = tt
 always_err (Err e) a = a
 
-pub always_ok : {T E A : Type 0} (q : Result T E) → A → OnOk q A
-always_ok (Ok x) a = a
-always_ok (Err e) a = tt
-
 -- none of them
 pub none_added : (c : Counting) (t : Tree) (files : List KeptFile) (a : List (ℕ × LanguageValue)) → AddsFirst c t files a a
 none_added c t files a = record { count = 0; adds = refl }

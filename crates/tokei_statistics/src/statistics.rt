@@ -1,5 +1,5 @@
 //! The statistics of all files that a configuration keeps below some roots.
-ghost use Rattle.std.specs.Prelude.{◌≡◌, ◌<◌, OnOk, OnErr, IfOk, IsErrOf};
+ghost use Rattle.std.specs.Prelude.{◌<◌, OnOk, OnErr, IfOk, IsErrOf};
 ghost use Rattle.tokei_config.specs.Seen.{settings_of};
 ghost use Rattle.tokei_files.specs.Configs.{counting_by, kept_by};
 ghost use Rattle.tokei_files.specs.Files.{ReadingsFit};

@@ -6,7 +6,7 @@ use Rattle.std.specs.Ordering.{nat_cmp}
 use Rattle.std.specs.Cmp.Lexicographic.{slice_cmp}
 use Rattle.tokei_table_rules.proofs.ExtendedRows.{same_tokens, same_names, same_totals, same_fallbacks}
 use Rattle.tokei_table_rules.specs.Extended.{gained, listed_for, extended_from, extended, extensions_of, with_extensions}
-use Rattle.tokei_table.specs.KeyOrder.{keys_of}
+use Rattle.tokei_table_rules.specs.RowNames.{keys_of}
 use Rattle.tokei_table_row.specs.Row.{Row}
 use Rattle.tokei_table.specs.WellFormed.{IsWellFormed}
 

@@ -6,7 +6,8 @@ use Rattle.std.specs.Cmp.Lexicographic.{slice_cmp}
 use Rattle.serde_json.specs.Data.{Members, no_members, member}
 use Rattle.tokei_table_row.specs.Row.{Row}
 use Rattle.tokei_table_json.specs.Rows.{rows_in, row_in}
-use Rattle.tokei_table.specs.KeyOrder.{IsInKeyOrder, keys_of}
+use Rattle.tokei_table.specs.KeyOrder.{IsInKeyOrder}
+use Rattle.tokei_table_rules.specs.RowNames.{keys_of}
 use Rattle.tokei_table_json.proofs.MembersOnce.{AreInOrder, member_keys}
 
 row_keys : (ms : Members) → member_keys ms ≡ keys_of (rows_in ms)

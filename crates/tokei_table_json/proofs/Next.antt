@@ -118,13 +118,6 @@ module _ {X : Type 0} (layout escapes : Data → Bool) (read : Data → X) where
     pub goes_on : (new : List Token) (rest : List X) → AreItemsNext depth turns now new rest
         → AreItemsNext depth (length first) first new (so_far ++ rest)
 
-  pub no_items_yet : (depth : ℕ) (first : List Token) (so_far : List X) → so_far ≡ [] → ItemsSoFar depth first first so_far
-  no_items_yet depth first so_far e = record {
-    turns = length first;
-    enough = omega arith;
-    goes_on = λ new rest h. subst (λ xs. AreItemsNext depth (length first) first new (xs ++ rest)) (sym e) h;
-  }
-
   one_more : (depth n : ℕ) (now r new : List Token) (it : X) (rest : List X) → length now ≤ n → IsNext layout escapes read depth now r it
       → AreItemsNext depth (n - 1) r new rest → AreItemsNext depth n now new (it ∷ rest)
   one_more depth n now r new it rest enough next h =

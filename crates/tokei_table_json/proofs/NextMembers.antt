@@ -125,13 +125,6 @@ module _ {X : Type 0} (layout escapes : Key → Data → Bool) (step : X → Key
     pub enough : length now ≤ turns
     pub goes_on : (new : List Token) (end : X) → AreLeft depth turns now new last x end → AreLeft depth (length first) first new None start end
 
-  pub no_members_yet : (depth : ℕ) (first : List Token) (start : X) → MembersSoFar depth first first None start start
-  no_members_yet depth first start = record {
-    turns = length first;
-    enough = omega arith;
-    goes_on = λ new end h. h;
-  }
-
   one_more : (depth n : ℕ) (now s r new : List Token) (last : Option (Bor Key)) (k : Bor Key) (x y end : X) → length now ≤ n
       → read_key now ≡ Some (Some k.now, s) → IfSome last (λ l. slice_cmp nat_cmp l.now k.now ≡ Less)
       → IsNext (layout k.now) (escapes k.now) (step x k.now) depth s r y → AreLeft depth (n - 1) r new (Some k) y end

@@ -36,7 +36,7 @@ use Rattle.tokei_table_json.proofs.KeyOrder.{in_key_order}
 use Rattle.tokei_table_json.proofs.MemberKeys.{fits_tells, keeps_tells, row_by_key}
 use Rattle.tokei_table_json.proofs.MemberTests.{members_fit, members_keep}
 use Rattle.tokei_table_json.proofs.MembersOnce.{AreInOrder, found_here, in_order}
-use Rattle.tokei_table_json.proofs.NextMembers.{MembersSoFar, members_next, members_plain, next_member, no_members_yet, object_plain}
+use Rattle.tokei_table_json.proofs.NextMembers.{MembersSoFar, members_next, members_plain, next_member, object_plain}
 use Rattle.tokei_table_json.proofs.RowKinds.{kind_tells}
 use Rattle.tokei_table_row.specs.NewRow.{new_row}
 use Rattle.tokei_table_row.specs.Row.{Pair, Row, is_html}
@@ -271,9 +271,6 @@ language_next key depth old first new start row final within fresh e h tagged ot
 abbrev pub MembersRead : ℕ → List Token → List Token → Option (Bor (List ℕ)) → Row → Row → Type 0
 MembersRead = MembersSoFar (fits true) (keeps_escapes true) (λ row k d. with_member true k d row) (λ row ms. filled true ms row) (λ row. refl) (λ row k d ms. refl)
 
-pub no_member_read : (depth : ℕ) (first : List Token) (start : Row) → MembersRead depth first first None start start
-no_member_read = no_members_yet (fits true) (keeps_escapes true) (λ row k d. with_member true k d row) (λ row ms. filled true ms row) (λ row. refl) (λ row k d ms. refl)
-
 pub one_member_read : (depth : ℕ) (first now s r : List Token) (last : Option (Bor (List ℕ))) (k : Bor (List ℕ)) (start row longer : Row)
     → MembersRead depth first now last start row → read_key now ≡ Some (Some k.now, s) → IfSome last (λ l. slice_cmp nat_cmp l.now k.now ≡ Less)
     → IsNext (fits true k.now) (keeps_escapes true k.now) (λ d. with_member true k.now d row) depth s r longer
@@ -297,10 +294,6 @@ more_behind rows k d ms = sym (append_assoc rows (row_in k d ∷ []) (rows_in ms
 
 abbrev pub RowsRead : ℕ → List Token → List Token → Option (Bor (List ℕ)) → List Row → Type 0
 RowsRead depth first now last rows = MembersSoFar (λ k. is_language) (λ k. is_escaped_language) behind all_behind append-nil more_behind depth first now last [] rows
-
-pub no_row_read : (depth : ℕ) (first : List Token) (rows : List Row) → rows ≡ [] → RowsRead depth first first None rows
-no_row_read depth first rows e =
-    subst (RowsRead depth first first None) (sym e) (no_members_yet (λ k. is_language) (λ k. is_escaped_language) behind all_behind append-nil more_behind depth first [])
 
 pub one_row_read : (depth : ℕ) (first now s r : List Token) (last : Option (Bor (List ℕ))) (k : Bor (List ℕ)) (rows longer : List Row) (row : Row)
     → RowsRead depth first now last rows → read_key now ≡ Some (Some k.now, s) → IfSome last (λ l. slice_cmp nat_cmp l.now k.now ≡ Less)

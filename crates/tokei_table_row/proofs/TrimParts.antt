@@ -26,11 +26,6 @@ pub record DropsBack (text left : List ℕ) : Type 0 where
   pub joined : text ≡ left ++ back
   pub ends : EndsSolid left
 
-solid_more : (b : ℕ) (left t : List ℕ) → EndsSolid left → (all_blank t ≡ true → ⊥) → (left ≡ [] → ⊥)
-    → EndsSolid (b ∷ left)
-solid_more b [] t s u n = absurd (n refl)
-solid_more b (c ∷ left) t s u n = s
-
 -- nothing is left only of blanks
 empty_blank : (t : List ℕ) (d : DropsBack t (trim_end t)) → trim_end t ≡ [] → all_blank t ≡ true
 empty_blank t d e = ap all_blank (d.joined ∙ ap (λ l. l ++ d.back) e) ∙ d.blank_back

@@ -1,5 +1,5 @@
 -- Bytes by their names; blanks, and what is left of a text without those at its ends.
-use Rattle.std.specs.Prelude.{ℕ, Bool, true, ◌&&◌, ◌||◌, ◌==◌, nat_le, nat_eq, if◌then◌else◌, List, [], ◌∷◌, bytes_eq}
+use Rattle.std.specs.Prelude.{ℕ, suc, Bool, true, ◌&&◌, ◌||◌, ◌==◌, nat_le, nat_eq, if◌then◌else◌, List, [], ◌∷◌, bytes_eq}
 use Rattle.std.specs.List.{list_any, starts_with, ends_with}
 
 -- The byte of a horizontal tab.
@@ -45,6 +45,16 @@ trim_end (b ∷ t) = if all_blank (b ∷ t) then [] else b ∷ trim_end t
 -- The text without the blanks at both ends.
 abbrev pub trim : List ℕ → List ℕ
 trim text = trim_end (trim_start text)
+
+-- How many bytes stand before the first newline, or in all.
+abbrev pub line_len : List ℕ → ℕ
+line_len [] = 0
+line_len (b ∷ t) = if b == newline then 0 else suc (line_len t)
+
+-- How many bytes stand before the first blank, or in all.
+abbrev pub solid_len : List ℕ → ℕ
+solid_len [] = 0
+solid_len (b ∷ t) = if is_blank b then 0 else suc (solid_len t)
 
 -- Whether the text begins with the token.
 abbrev pub begins : List ℕ → List ℕ → Bool

@@ -1,7 +1,8 @@
 -- A block of text without the blank rest of its first line and the blank front of its last one.
 use Rattle.std.specs.Prelude.{ℕ, ◌+◌, ◌-◌, zero, suc, min, Bool, false, ◌&&◌, ◌||◌, ◌==◌, not, if◌then◌else◌}
-use Rattle.std.specs.Prelude.{List, [], ◌∷◌, length, take, drop, slice_index, Option, None, Some, option_map}
+use Rattle.std.specs.Prelude.{List, [], ◌∷◌, length, slice_index, Option, None, Some, option_map}
 use Rattle.tokei_table_row.specs.Bytes.{is_blank, newline, carriage_return}
+use Rattle.tokei_table_row.specs.Slices.{between}
 
 -- A stop is a newline or a byte that isn't blank.
 abbrev pub is_stop : ℕ → Bool
@@ -39,10 +40,6 @@ is_return_newline text (suc i) =
 abbrev pub end_behind : List ℕ → Option ℕ → ℕ
 end_behind text None = length text
 end_behind text (Some i) = if is_return_newline text i then i else i + 1
-
--- The bytes between both, none where the end isn't behind the start.
-abbrev pub between : List ℕ → ℕ → ℕ → List ℕ
-between text index j = take (j - index) (drop index text)
 
 -- The block that is left of a text.
 abbrev pub trim_outer_lines : List ℕ → List ℕ

@@ -3,7 +3,7 @@ ghost use Rattle.std.specs.Prelude.{◌≡◌, ◌==◌, ◌≤◌, ◌<◌, len
 ghost use Rattle.tokei_table_row.specs.Slices.{contains_slice};
 ghost use Rattle.tokei_table_row.specs.OuterLines.{is_stop, first_stop, last_stop, start_behind, is_return_newline};
 ghost use Rattle.tokei_table_row.specs.OuterLines.{end_behind, trim_outer_lines};
-ghost use Rattle.tokei_table_row.specs.Bytes.{is_blank, all_blank, trim_start, trim_end, trim};
+ghost use Rattle.tokei_table_row.specs.Bytes.{is_blank, all_blank, solid_len, trim_start, trim_end, trim};
 ghost use Rattle.tokei_table_row.specs.Bytes.{begins, begins_with_one, holds};
 ghost use Rattle.tokei_table_row.specs.RowOf.{tokens_of};
 
@@ -33,6 +33,19 @@ pub fn is_blank_text(text: &[u8]) -> bool
         }
     }
     true
+}
+
+/// How many bytes stand before the first blank, or in all.
+pub fn solid_len(text: &[u8]) -> usize
+    ensures value { result ≡ solid_len text.now }
+    ensures within { result ≤ length text.now }
+{
+    for (i, byte) in text.iter().enumerate() {
+        if is_whitespace(*byte) {
+            return i;
+        }
+    }
+    text.len()
 }
 
 /// The text without the blanks at its front.

@@ -1,28 +1,18 @@
 -- Which language of a table the head of a script stands for.
-use Rattle.std.specs.Prelude.{ℕ, suc, Bool, ◌==◌, if◌then◌else◌, List, [], ◌∷◌, Option, None, bytes_eq, codes}
+use Rattle.std.specs.Prelude.{ℕ, Bool, if◌then◌else◌, List, [], ◌∷◌, Option, None, bytes_eq, codes}
 use Rattle.std.specs.Prelude.{take, drop}
 use Rattle.std.specs.Str.{is_utf8}
-use Rattle.tokei_table_row.specs.Bytes.{is_blank, newline, trim_start, begins_with_one}
+use Rattle.tokei_table_row.specs.Bytes.{line_len, solid_len, trim_start, begins_with_one}
 use Rattle.tokei_table_rules.specs.Lookups.{first_where, or_else, holds}
 use Rattle.tokei_table_row.specs.Row.{Row}
 
--- How many bytes stand before the first newline, or in all.
-abbrev pub line_len : List ℕ → ℕ
-line_len [] = 0
-line_len (b ∷ t) = if b == newline then 0 else suc (line_len t)
-
--- How many bytes stand before the first blank, or in all.
-abbrev pub word_len : List ℕ → ℕ
-word_len [] = 0
-word_len (b ∷ t) = if is_blank b then 0 else suc (word_len t)
-
 -- The first longest run of bytes that aren't blank, and what stands behind it.
 abbrev pub first_word : List ℕ → List ℕ
-first_word text = take (word_len (trim_start text)) (trim_start text)
+first_word text = take (solid_len (trim_start text)) (trim_start text)
 
 -- What stands behind the first word.
 abbrev pub behind_word : List ℕ → List ℕ
-behind_word text = drop (word_len (trim_start text)) (trim_start text)
+behind_word text = drop (solid_len (trim_start text)) (trim_start text)
 
 -- A text of `env` begins the name of the program.
 abbrev pub has_env : List ℕ → Row → Bool

@@ -5,10 +5,11 @@ ghost use Rattle.std.specs.Str.{is_utf8};
 ghost use Rattle.tokei_table_rules.specs.Lookups.{first_where, has_name, has_name_in_any_case, has_mime};
 ghost use Rattle.tokei_table_rules.specs.Lookups.{has_extension, ends_with_one, has_path_suffix};
 ghost use Rattle.tokei_table_rules.specs.Lookups.{extension_of, from_lowered_name};
-ghost use Rattle.tokei_table_rules.specs.Shebangs.{line_len, word_len, first_word, behind_word, from_env};
+ghost use Rattle.tokei_table_rules.specs.Shebangs.{first_word, behind_word, from_env};
 ghost use Rattle.tokei_table_rules.specs.Shebangs.{from_words, head_line, from_shebang};
 ghost use Rattle.tokei_table_rules.specs.TextIndex.{has_text, misses_rows};
 ghost use Rattle.tokei_table_rules.specs.Walks.{has_walked};
+ghost use Rattle.tokei_table_row.specs.Bytes.{line_len};
 ghost use Rattle.tokei_table_row.specs.RowOf.{row_of, tokens_of};
 
 use crate::indexed_rows::IndexedRows;
@@ -17,7 +18,7 @@ use crate::text_index::TextKind;
 use memchr::memrchr;
 use tokei_table_row::Syntax;
 use tokei_table_row::ext::{
-    begins_with_one, holds, is_line_ending_whitespace, is_whitespace, trim_start,
+    begins_with_one, holds, is_line_ending_whitespace, solid_len, trim_start,
 };
 
 #[tactic(auto, unfolding(crate::specs::Lookups::ends_with_one))]
@@ -176,23 +177,11 @@ fn line_len(text: &[u8]) -> usize
     text.len()
 }
 
-fn word_len(text: &[u8]) -> usize
-    ensures value { result ≡ word_len text.now }
-    ensures within { result ≤ length text.now }
-{
-    for (i, byte) in text.iter().enumerate() {
-        if is_whitespace(*byte) {
-            return i;
-        }
-    }
-    text.len()
-}
-
 fn of_program(rows: &[Syntax], rest: &[u8]) -> Option<usize>
     ensures { result ≡ from_env (map row_of rows.now) (first_word rest.now) }
 {
     let rest = trim_start(rest);
-    let program = &rest[..word_len(rest)];
+    let program = &rest[..solid_len(rest)];
     if program.is_empty() {
         return None;
     }
@@ -204,7 +193,7 @@ fn in_line(rows: &[Syntax], line: &[u8]) -> Option<usize>
         ≡ from_words (map row_of rows.now) (first_word line.now) (behind_word line.now) }
 {
     let line = trim_start(line);
-    let (word, rest) = line.split_at(word_len(line));
+    let (word, rest) = line.split_at(solid_len(line));
     if word.is_empty() {
         return None;
     }

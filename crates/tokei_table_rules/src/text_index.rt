@@ -1,5 +1,5 @@
 //! Which rows of a table have a text, found without a walk over the table.
-ghost use Rattle.std.specs.Prelude.{◌≡◌, ◌<◌, ◌++◌, [], ◌∷◌, length, map, IfOk, OnOk, slice_index_or};
+ghost use Rattle.std.specs.Prelude.{◌≡◌, ◌<◌, ◌++◌, [], length, map, IfOk, OnOk, slice_index_or};
 ghost use Rattle.std.specs.Str.{str_to_ascii_lowercase};
 ghost use Rattle.tokei_table_row.specs.RowOf.{row_of, tokens_of};
 ghost use Rattle.tokei_table_rules.specs.TextIndex.{group_of, entries_of, entries_from, texts_of};

@@ -1,7 +1,6 @@
 //! Openers that are told by their first two bytes.
-ghost use Rattle.std.specs.Prelude.{◌≡◌, ℕ, ◌≤◌, ◌<◌, ◌+◌, true, false, length, drop, IfSome, slice_index};
+ghost use Rattle.std.specs.Prelude.{◌≡◌, ◌<◌, true, false, IfSome};
 ghost use Rattle.std.specs.List.{list_all};
-ghost use Rattle.tokei_bytes.specs.Slots.{is_told};
 ghost use Rattle.tokei_table_row.specs.RowOf.{tokens_of};
 ghost use Rattle.tokei_table_search.specs.Tellers.{AreTellers, tells};
 

@@ -99,10 +99,6 @@ none_map true f t h = absurd (cc)
 none_map false f [] h = refl
 none_map false f (e ∷ t) h = none_map false f t h
 
-all_map : (b : Bool) (f : PlacedNode → List KeptFile) (t : Tree) → b ≡ true → flat_map f t ≡ flat_map (λ (e : PlacedNode). cond b (f e) []) t
-all_map true f t h = refl
-all_map false f t h = absurd (cc)
-
 -- what a folder gives by the descent, and by all the places below it
 abbrev Descends : List Pattern → Rules → Tree → ℕ → Type 0
 Descends xs r t k =

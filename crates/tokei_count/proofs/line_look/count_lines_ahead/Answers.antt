@@ -1,6 +1,6 @@
 use Rattle.std.proofs.Common.{◌+◌, ◌≤◌, drop, ap, sym, subst, ◌∙◌, arith}
 use Rattle.tokei_parts.specs.Glance.{opener_place}
-use Rattle.tokei_parts.specs.Lines.{line_len}
+use Rattle.tokei_table_row.specs.Bytes.{line_len}
 use Rattle.tokei_parts.specs.ReadingOf.{openers_in}
 use Rattle.tokei_parts.specs.LineMarks.{is_marked}
 use Rattle.tokei_count.proofs.NearOpeners.{next_found, next_in_line}

@@ -1,6 +1,6 @@
 use Rattle.std.proofs.Common.{◌-◌, true, ap, sym, subst, ◌∙◌, arith}
 use Rattle.tokei_table.specs.Row.{Row}
-use Rattle.tokei_table.specs.OuterLines.{between}
+use Rattle.tokei_table.specs.Slices.{between}
 use Rattle.tokei_parts.specs.LineMarks.{is_marked}
 use Rattle.tokei_count.specs.LineLooks.{IsLook, mark_count}
 use Rattle.tokei_bytes.specs.Lines.{blank_after, front_count}

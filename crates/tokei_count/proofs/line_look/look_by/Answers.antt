@@ -8,7 +8,7 @@ use Rattle.tokei_table.specs.Bytes.{begins_with_one}
 use Rattle.tokei_table.specs.FirstOpener.{is_nonempty}
 use Rattle.tokei_table.specs.Row.{Row}
 use Rattle.tokei_table_rules.proofs.Nonempty.{openers_nonempty}
-use Rattle.tokei_table.specs.OuterLines.{between}
+use Rattle.tokei_table.specs.Slices.{between}
 use Rattle.tokei_parts.specs.ReadingOf.{openers_in, row_in}
 use Rattle.tokei_parts.specs.LineMarks.{is_marked}
 use Rattle.tokei_count.specs.LineLooks.{AreTold, HasLineComment, IsClear}

@@ -1,6 +1,6 @@
 use Rattle.std.proofs.Common.{◌≡◌, ◌-◌, ◌<◌, ◌==◌, true}
 use Rattle.tokei_bytes.specs.Lines.{blank_after}
-use Rattle.tokei_table.specs.OuterLines.{between}
+use Rattle.tokei_table.specs.Slices.{between}
 use Rattle.tokei_parts.specs.ReadingOf.{openers_in, row_in}
 use Rattle.tokei_parts.specs.LineMarks.{is_marked}
 use Rattle.tokei_count.specs.LineLooks.{AreTold, IsClear, IsLook}

@@ -3,7 +3,7 @@ use Rattle.std.specs.Global.{Vec}
 use Rattle.tokei_parts.specs.Glance.{is_walked}
 use Rattle.tokei_parts.specs.LineWalk.{chain_in, item_in}
 use Rattle.tokei_parts.specs.SeenChoices.{mode_of}
-use Rattle.tokei_parts.specs.Lines.{line_len}
+use Rattle.tokei_table_row.specs.Bytes.{line_len}
 use Rattle.tokei_parts.specs.Modes.{innermost}
 use Rattle.tokei_parts.specs.ReadingOf.{line_from, openers_in}
 use Rattle.tokei_parts.specs.Seen.{chain_of}

@@ -1,5 +1,5 @@
 use Rattle.std.proofs.Common.{◌≡◌, ℕ, ◌≤◌, ◌+◌, List, drop, sym, refl, subst, arith}
-use Rattle.tokei_parts.specs.Lines.{line_len}
+use Rattle.tokei_table_row.specs.Bytes.{line_len}
 use Rattle.tokei_count.specs.UnderWay.{IsUnderWay}
 use Rattle.tokei_count.specs.declared.text_reading.ReadSoFar.{ReadSoFar}
 use Rattle.tokei_count.proofs.Refusals.{answered}

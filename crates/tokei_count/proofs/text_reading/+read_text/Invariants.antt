@@ -1,7 +1,7 @@
 use Rattle.std.proofs.Common.{◌≡◌, ◌+◌, ◌*◌, map, ◌-◌, ◌≤◌, length, drop}
 use Rattle.tokei_notebook.specs.Cells.{cell_of}
 use Rattle.tokei_count.specs.NotebookCells.{cell_block, cell_blocks}
-use Rattle.tokei_parts.specs.Lines.{line_len}
+use Rattle.tokei_table_row.specs.Bytes.{line_len}
 use Rattle.tokei_count.specs.Languages.{languages_of}
 use Rattle.tokei_count.specs.Gathered.{gathered}
 use Rattle.tokei_count.specs.PlainReading.{child_reading}

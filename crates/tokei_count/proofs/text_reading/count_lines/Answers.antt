@@ -1,5 +1,5 @@
 use Rattle.std.proofs.Common.{◌≡◌, ◌+◌, ◌<◌, ◌≤◌, ℕ, List, length, drop, ap, arith}
-use Rattle.tokei_parts.specs.Lines.{first_line}
+use Rattle.tokei_embedding.specs.DocComments.{first_line}
 use Rattle.tokei_parts.proofs.LineEnds.{end_is, end_within}
 use Rattle.tokei_parts.proofs.OpenersInLines.{opener_later}
 use Rattle.tokei_count.proofs.StepReading.{line_some, lines_of-one}

@@ -1,8 +1,7 @@
 use Rattle.std.proofs.Common.{ℕ, ◌-◌, ◌≡◌, ◌+◌, ◌<◌, ◌≤◌, true, drop}
 use Rattle.std.specs.Prelude.{slice_index}
-use Rattle.tokei_table.specs.Bytes.{is_blank}
+use Rattle.tokei_table.specs.Bytes.{is_blank, line_len}
 use Rattle.tokei_parts.specs.Glance.{opener_place}
-use Rattle.tokei_parts.specs.Lines.{line_len}
 use Rattle.tokei_parts.specs.ReadingOf.{openers_in}
 use Rattle.tokei_count.specs.UnderWay.{IsUnderWay}
 use Rattle.tokei_stats.specs.Seen.{sums_of}

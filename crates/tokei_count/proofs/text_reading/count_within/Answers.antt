@@ -1,5 +1,5 @@
 use Rattle.std.proofs.Common.{◌≡◌, ◌+◌, ◌<◌, ℕ, List, length, drop, ap, arith}
-use Rattle.tokei_parts.specs.Lines.{first_line}
+use Rattle.tokei_embedding.specs.DocComments.{first_line}
 use Rattle.tokei_count.proofs.CalmLines.{calm_more, gone_within, none_within}
 use Rattle.tokei_parts.proofs.LineEnds.{line_stops}
 use Rattle.tokei_count.proofs.LinesWithin.{counted_within}

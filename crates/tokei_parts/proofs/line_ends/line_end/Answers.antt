@@ -1,5 +1,5 @@
 use Rattle.std.proofs.Common.{◌≡◌, ◌+◌, ◌≤◌, ℕ, List, length, drop, refl, sym, ◌∙◌, ap, arith}
-use Rattle.tokei_parts.specs.Lines.{line_len}
+use Rattle.tokei_table_row.specs.Bytes.{line_len}
 use Rattle.tokei_parts.proofs.Leading.{rest_is}
 use Rattle.tokei_parts.proofs.LineEnds.{end_within, end_later}
 use Rattle.tokei_parts.proofs.line_ends.line_end.Goals as goal

@@ -1,5 +1,5 @@
 use Rattle.std.proofs.Common.{◌≡◌, ℕ, List, length, drop, ap, arith, inl, inr}
-use Rattle.tokei_parts.specs.Lines.{line_len}
+use Rattle.tokei_table_row.specs.Bytes.{line_len}
 use Rattle.tokei_parts.proofs.LineEnd.{drop_none}
 use Rattle.tokei_parts.proofs.LineEnds.{below_or}
 use Rattle.tokei_parts.proofs.PartFronts.{line_len_within}

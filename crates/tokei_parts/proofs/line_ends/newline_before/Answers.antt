@@ -1,6 +1,6 @@
 use Rattle.std.proofs.Common.{◌≡◌, ◌+◌, ◌≤◌, ◌==◌, drop, length, ap, arith}
 use Rattle.tokei_bytes.proofs.Blocks.{other_than, the_one}
-use Rattle.tokei_parts.specs.Lines.{line_len}
+use Rattle.tokei_table_row.specs.Bytes.{line_len}
 use Rattle.tokei_parts.proofs.LineEnd.{ended, newline_at, newline_behind, sought}
 use Rattle.tokei_parts.proofs.line_ends.newline_before.Goals as goal
 

@@ -1,7 +1,7 @@
 use Rattle.std.proofs.Common.{◌≡◌, ◌+◌, ◌∙◌, length, drop, sym, arith, inl, inr}
 use Rattle.tokei_table.specs.Families.{family_of}
 use Rattle.tokei_table.specs.Family.TheVariants.{Markdown, HtmlLike, LinguaFranca, Plain, Rust, Jupyter}
-use Rattle.tokei_parts.specs.Lines.{first_line}
+use Rattle.tokei_embedding.specs.DocComments.{first_line}
 use Rattle.tokei_parts.specs.ReadingOf.{row_in}
 use Rattle.tokei_parts.proofs.LineEnds.{end_within, end_is, end_behind}
 use Rattle.tokei_parts.proofs.PartWhole.{block_is}
