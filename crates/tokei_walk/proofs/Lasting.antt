@@ -54,6 +54,10 @@ pub on_ok_by : {B D : Type 0} {P Q : Type 0} (r : Result B D) → (P → Q) → 
 on_ok_by (Ok b) f p = f p
 on_ok_by (Err e) f p = tt
 
+pub on_ok_by2 : {B D : Type 0} {P Q S : Type 0} (r : Result B D) → (P → Q → S) → OnOk r P → OnOk r Q → OnOk r S
+on_ok_by2 (Ok b) f p q = f p q
+on_ok_by2 (Err e) f p q = tt
+
 pub on_ok_by3 : {B D : Type 0} {P Q S T : Type 0} (r : Result B D) → (P → Q → S → T) → OnOk r P → OnOk r Q → OnOk r S → OnOk r T
 on_ok_by3 (Ok b) f p q s = f p q s
 on_ok_by3 (Err e) f p q s = tt

@@ -9,6 +9,9 @@ pub mod ListedFiles
 pub mod NearestFirst
 pub mod NeverRefused
 pub mod NoPatterns
+pub mod NoteRoots
+pub mod NoteSteps
+pub mod Noting
 pub mod Over
 pub mod Ranking
 pub mod RootSteps

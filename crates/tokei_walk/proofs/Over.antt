@@ -11,17 +11,22 @@ nothing_in : {X : Type 0} (xs : List X) → is_empty xs ≡ true → xs ≡ []
 nothing_in [] e = refl
 nothing_in (x ∷ xs) e = absurd (cc)
 
+-- a walk that is over, and hasn't failed, has nothing left
+pub nothing_left : (w : Walk) → (is_spent w.stack && is_empty w.roots) ≡ true → (w.stack.left ≡ []) × ((w.stack.holders ≡ []) × (w.roots ≡ []))
+nothing_left w h =
+    let spent = left_of_and (is_spent w.stack) (is_empty w.roots) h in (
+      nothing_in w.stack.left (left_of_and (is_empty w.stack.left) (is_empty w.stack.holders) spent),
+      (
+        nothing_in w.stack.holders (right_of_and (is_empty w.stack.left) (is_empty w.stack.holders) spent),
+        nothing_in w.roots (right_of_and (is_spent w.stack) (is_empty w.roots) h),
+      ),
+    )
+
 none_left : (t : Tree) (w : Walk) (b : Bool) → w.failed ≡ b → (b || (is_spent w.stack && is_empty w.roots)) ≡ true → to_come t w ≡ []
 none_left t w true is h = to_come_failed t w is
 none_left t w false is h =
-    let spent = left_of_and (is_spent w.stack) (is_empty w.roots) h in
-    to_come_left t w is
-    ∙ all_ended _ _ t w.stack w.roots
-    (nothing_in w.stack.left
-    (left_of_and (is_empty w.stack.left) (is_empty w.stack.holders) spent))
-    (nothing_in w.stack.holders
-    (right_of_and (is_empty w.stack.left) (is_empty w.stack.holders) spent))
-    (nothing_in w.roots (right_of_and (is_spent w.stack) (is_empty w.roots) h))
+    let ends = nothing_left w h in
+    to_come_left t w is ∙ all_ended _ _ t w.stack w.roots ends.0 ends.1.0 ends.1.1
 
 -- nothing is to come
 pub over_gives : (t : Tree) (w : Walk) → is_over w ≡ true → to_come t w ≡ []

@@ -30,7 +30,7 @@ use Rattle.tokei_walk.proofs.StackSteps.{same_stack, empty_gives, top_ends, same
 pub more : {X : Type 0} (xs ys zs rest whole : List X) (x : X) → ys ≡ xs ++ x ∷ [] → zs ≡ x ∷ rest → xs ++ zs ≡ whole → ys ++ rest ≡ whole
 more xs ys zs rest whole x is first so_far = ap (λ q. q ++ rest) is ∙ append_assoc xs (x ∷ []) rest ∙ ap (λ q. xs ++ q) (sym first) ∙ so_far
 
-turned : (found front : List Above) (a : Above) → found ≡ front ++ a ∷ [] → reverse found ≡ a ∷ reverse front
+pub turned : (found front : List Above) (a : Above) → found ≡ front ++ a ∷ [] → reverse found ≡ a ∷ reverse front
 turned found front a is = ap reverse is ∙ reverse-append front (a ∷ [])
 
 pub names_over_pop : (found front : List Above) (a : Above) → found ≡ front ++ a ∷ [] → names_over found ≡ a.name ∷ names_over front

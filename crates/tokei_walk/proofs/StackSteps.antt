@@ -165,7 +165,7 @@ same_top : (xs : List Pattern) (r : Rules) (t : Tree) {n n' : ℕ} {c c' : Conte
     → of_entries xs r (descend xs r t n) c p es ≡ of_entries xs r (descend xs r t n') c' p' es
 same_top xs r t es a b q = λ i. of_entries xs r (descend xs r t (a i)) (b i) (q i) es
 
-entered_context : (s u : Stack) (c : Context) (l : Level) (place name : List ℕ)
+pub entered_context : (s u : Stack) (c : Context) (l : Level) (place name : List ℕ)
     → c ≡ under s.context name → Enters (with_context s c) u place
     → u.context.levels ≡ c.levels ++ l ∷ [] → with_level (under s.context name) l ≡ u.context
 entered_context s u c l place name is h levels =
@@ -207,7 +207,7 @@ pub refused_told : (xs : List Pattern) (r : Rules) (t : Tree) (s u v : Stack) (n
 refused_told xs r t s u v name place true is at told = absurd (cc)
 refused_told xs r t s u v name place false is at told = ap (λ (p : List ℕ). of_folder xs r t s name p) (sym at) ∙ visit_refused xs r t s name place told
 
-outer_is : (s u : Stack) (c : Context) (name place : List ℕ) → c ≡ under s.context name → Enters (with_context s c) u place → outer u.context ≡ s.context
+pub outer_is : (s u : Stack) (c : Context) (name place : List ℕ) → c ≡ under s.context name → Enters (with_context s c) u place → outer u.context ≡ s.context
 outer_is s u c name place is h =
     same_context (h.levels_is ∙ ap (λ (d : Context). d.levels) is)
     (ap without_last (h.names_stay ∙ ap (λ (d : Context). d.names) is)

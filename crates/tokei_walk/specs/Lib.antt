@@ -12,6 +12,8 @@ pub use Rattle.tokei_ignore.specs.Trims
 pub mod Descent
 pub mod Kept
 pub mod Levels
+pub mod Noted
+pub mod NoteSteps
 pub mod Notes
 pub mod Ranks
 pub mod Sought

@@ -1,8 +1,9 @@
 //! All kept files at once.
-ghost use Rattle.std.specs.Prelude.{◌≡◌, IfOk};
+ghost use Rattle.std.specs.Prelude.{◌≡◌, IfOk, OnOk};
 ghost use Rattle.tokei_folders.specs.Answers.{Told};
 ghost use Rattle.tokei_folders.specs.AsTheyWere.{AsTheyWere};
 ghost use Rattle.tokei_walk.specs.Kept.{kept_in};
+ghost use Rattle.tokei_walk.specs.Noted.{NotesSay, noted_in, noted_to_come};
 ghost use Rattle.tokei_walk.specs.Notes.{Grows, notes_of, notes_of_excludes};
 ghost use Rattle.tokei_walk.specs.Walks.{excludes_of, texts_of, to_come};
 
@@ -29,6 +30,8 @@ fn files_to_come<F: Folders>(
     ensures told { Told (F.tree folders.old) (λ t. IfOk result
         (λ files. files.items ≡ to_come t walk.old)) }
     ensures notes { Grows (notes_of walk.old) (notes_of walk.new) }
+    ensures noted { Told (F.tree folders.old) (λ t. OnOk result
+        (NotesSay (notes_of walk.old) (notes_of walk.new) (noted_to_come t walk.old))) }
 {
     let mut files = Items::new(alloc);
     while let Some(file) = walk.next(folders)? {
@@ -38,8 +41,9 @@ fn files_to_come<F: Folders>(
 }
 
 /// All files that the ignore rules keep: the roots that are files, and those below a root, which a
-/// filter of all places keeps, in order of the roots and of the places. It is refused out of
-/// memory alone.
+/// filter of all places keeps, in order of the roots and of the places. The notes are those of bad
+/// excludes, and then of what the walk passes over, as it meets it. It is refused out of memory
+/// alone.
 pub fn kept_files<F: Folders>(
     alloc: Global,
     folders: &mut F,
@@ -52,6 +56,9 @@ pub fn kept_files<F: Folders>(
         ≡ kept_in (excludes_of (texts_of excludes.now)) rules.now t (texts_of roots.now))) }
     ensures notes { IfOk result (λ k. Grows (notes_of_excludes (texts_of excludes.now))
         k.notes.items) }
+    ensures noted { Told (F.tree folders.old) (λ t. IfOk result (λ k.
+        NotesSay (notes_of_excludes (texts_of excludes.now)) k.notes.items
+        (noted_in (excludes_of (texts_of excludes.now)) rules.now t (texts_of roots.now)))) }
 {
     let mut walk = Walk::new(alloc, roots, excludes, rules)?;
     let files = files_to_come(alloc, folders, &mut walk);

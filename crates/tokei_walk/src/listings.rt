@@ -4,6 +4,7 @@ ghost use Rattle.tokei_folders.specs.Answers.{Told, list_answer};
 ghost use Rattle.tokei_folders.specs.AsTheyWere.{AsTheyWere};
 ghost use Rattle.tokei_folders.specs.declared.fs.Fault.TheVariants.{Refused as RefusedFault};
 ghost use Rattle.tokei_folders.specs.Tree.{names_of};
+ghost use Rattle.tokei_walk.specs.Noted.{NotesSay, noted_unlisted};
 ghost use Rattle.tokei_walk.specs.Notes.{Grows, lost_notes, unnamed_notes, listing_notes};
 
 use crate::kept_file::{Note, NoteKind};
@@ -61,6 +62,8 @@ pub fn listing<F: Folders>(
     ensures told { Told (F.tree folders.old) (λ t. IfOk result (λ o. MatchOption o
         (list_answer t (names_of place.now) ≡ Err RefusedFault)
         (λ l. list_answer t (names_of place.now) ≡ Ok l.entries.items))) }
+    ensures said { Told (F.tree folders.old) (λ t. IfOk result (λ o.
+        NotesSay notes.old notes.new (noted_unlisted (names_of place.now) o))) }
 {
     match folders.list(place) {
         Ok(listing) => {

@@ -5,6 +5,7 @@ ghost use Rattle.tokei_folders.specs.AsTheyWere.{AsTheyWere};
 ghost use Rattle.tokei_folders.specs.Tree.{names_of, folders_above};
 ghost use Rattle.tokei_walk.specs.Descent.{root_context};
 ghost use Rattle.tokei_walk.specs.Levels.{level_at};
+ghost use Rattle.tokei_walk.specs.Noted.{NotesSay, noted_above, noted_level, noted_over};
 ghost use Rattle.tokei_walk.specs.Notes.{Grows};
 ghost use Rattle.tokei_walk.specs.Walks.{names_over, levels_over};
 
@@ -28,6 +29,7 @@ fn folders_over<F: Folders>(
     ensures notes { Grows notes.old notes.new }
     ensures told { Told (F.tree folders.old) (λ t. IfOk result (λ found.
         map above_view (reverse found) ≡ folders_above [] (names_of place.now))) }
+    ensures quiet { Told (F.tree folders.old) (λ t. OnOk result (notes.new ≡ notes.old)) }
 {
     match folders.above(place) {
         Ok(found) => Ok(Items::from_vec(found)),
@@ -54,6 +56,8 @@ fn read_above<F: Folders>(
     ensures names { OnOk result (context.new.names ≡ context.old.names ++ above.name ∷ []) }
     ensures levels { Told (F.tree folders.old) (λ t. OnOk result (context.new.levels
         ≡ context.old.levels ++ level_at t settings.now.rules (names_of above.place) ∷ [])) }
+    ensures noted { Told (F.tree folders.old) (λ t. OnOk result (NotesSay notes.old notes.new
+        (noted_level t settings.now.rules (names_of above.place)))) }
 {
     context.names.push(above.name)?;
     let place = above.place.as_str();
@@ -75,6 +79,8 @@ fn read_over<F: Folders>(
     ensures names { OnOk result (context.new.names ≡ context.old.names ++ names_over found) }
     ensures levels { Told (F.tree folders.old) (λ t. OnOk result (context.new.levels
         ≡ context.old.levels ++ levels_over t settings.now.rules found)) }
+    ensures noted { Told (F.tree folders.old) (λ t. OnOk result
+        (NotesSay notes.old notes.new (noted_over t settings.now.rules found))) }
 {
     while let Some(above) = found.pop() {
         read_above(settings, folders, notes, above, context)?;
@@ -94,6 +100,8 @@ pub fn set_root_context<F: Folders>(
     ensures notes { Grows notes.old notes.new }
     ensures told { Told (F.tree folders.old) (λ t. OnOk result
         (context.new ≡ root_context t settings.now.rules (names_of root.now))) }
+    ensures noted { Told (F.tree folders.old) (λ t. OnOk result (NotesSay notes.old notes.new
+        (noted_above t settings.now.rules (names_of root.now)))) }
 {
     context.levels.clear();
     context.names.clear();

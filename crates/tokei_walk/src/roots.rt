@@ -6,6 +6,7 @@ ghost use Rattle.tokei_folders.specs.Tree.{names_of, node_at};
 ghost use Rattle.tokei_ignore.specs.Fits.{is_empty};
 ghost use Rattle.tokei_walk.specs.Descent.{root_context, with_level, of_root, of_stack, descend};
 ghost use Rattle.tokei_walk.specs.Kept.{most_names};
+ghost use Rattle.tokei_walk.specs.Noted.{NotesCome, NotesSay, noted_above, noted_folder, noted_of, noted_root, noted_stack};
 ghost use Rattle.tokei_walk.specs.Notes.{Grows, missing_note};
 ghost use Rattle.tokei_walk.specs.Ranks.{weight, stack_rank};
 ghost use Rattle.tokei_walk.specs.Sought.{level_of};
@@ -46,6 +47,9 @@ fn set_context_in_root<F: Folders>(
     ensures told { Told (F.tree folders.old) (λ t. OnOk result (context.new
         ≡ with_level (root_context t settings.now.rules (names_of root.now))
         (level_of t sought (names_of root.now)))) }
+    ensures noted { Told (F.tree folders.old) (λ t. OnOk result (NotesSay notes.old notes.new
+        (noted_above t settings.now.rules (names_of root.now)
+        ++ noted_of t sought (names_of root.now)))) }
 {
     set_root_context(settings, folders, notes, root, context)?;
     read_sought(
@@ -91,6 +95,10 @@ fn enter_root<F: Folders>(
         descend settings.now.excludes settings.now.rules t most_names
         (root_context t settings.now.rules (names_of root)) root
         ≡ of_stack settings.now.excludes settings.now.rules t stack.new)) }
+    ensures noted { Told (F.tree folders.old) (λ t. OnOk result
+        (stack.old.left ≡ [] → stack.old.holders ≡ [] → NotesCome notes.old
+        (noted_folder settings.now.excludes settings.now.rules t root) notes.new
+        (noted_stack settings.now.excludes settings.now.rules t stack.new))) }
 {
     let Some(listing) = listing(settings.alloc, folders, notes, root.as_str())? else {
         return Ok(());
@@ -156,6 +164,10 @@ fn begin_known<F: Folders>(
         → IfOk result (λ o. stack.old.left ≡ [] → stack.old.holders ≡ [] → RootGives
         (of_root settings.now.excludes settings.now.rules t root.place)
         (of_stack settings.now.excludes settings.now.rules t stack.new) o)) }
+    ensures noted { Told (F.tree folders.old) (λ t. RootIs t root.place root.kind → OnOk result
+        (stack.old.left ≡ [] → stack.old.holders ≡ [] → NotesCome notes.old
+        (noted_root settings.now.excludes settings.now.rules t root.place) notes.new
+        (noted_stack settings.now.excludes settings.now.rules t stack.new))) }
 {
     let alloc = settings.alloc;
     let Root { place, kind } = root;
@@ -195,6 +207,10 @@ pub fn begin_root<F: Folders>(
         stack.old.left ≡ [] → stack.old.holders ≡ [] → RootGives
         (of_root settings.now.excludes settings.now.rules t root)
         (of_stack settings.now.excludes settings.now.rules t stack.new) o)) }
+    ensures noted { Told (F.tree folders.old) (λ t. OnOk result
+        (stack.old.left ≡ [] → stack.old.holders ≡ [] → NotesCome notes.old
+        (noted_root settings.now.excludes settings.now.rules t root) notes.new
+        (noted_stack settings.now.excludes settings.now.rules t stack.new))) }
 {
     let kind = kind_of_root(folders, &root)?;
     let root = Root { place: root, kind };

@@ -1,5 +1,6 @@
 //! The rules of a folder, read from its ignore files.
 ghost use Rattle.std.specs.Prelude.{◌≡◌, ◌++◌, ◌&&◌, [], ◌∷◌, OnOk, OnErr, IfOk, cond, is_some, codes};
+ghost use Rattle.tokei_walk.specs.Noted.{NotesSay, noted_at, noted_level, noted_of};
 ghost use Rattle.tokei_walk.specs.Notes.{Grows, bad_line_notes, ignore_notes};
 ghost use Rattle.tokei_folders.specs.Answers.{Told, node_kind};
 ghost use Rattle.tokei_folders.specs.AsTheyWere.{AsTheyWere};
@@ -130,6 +131,8 @@ fn patterns_of_name<F: Folders>(
     ensures told { Told (F.tree folders.old) (λ t. IfOk result (λ ps. ps
         ≡ cond file.entry.on (patterns_at (node_at t
         (names_of place.now ++ names_of file.entry.name.now))) [])) }
+    ensures noted { Told (F.tree folders.old) (λ t. OnOk result (NotesSay notes.old notes.new
+        (cond file.entry.on (noted_at t (names_of place.now) (names_of file.entry.name.now)) []))) }
 {
     if !file.on {
         return Ok(IndexedPatterns::new(alloc));
@@ -155,6 +158,10 @@ fn patterns_of_two<F: Folders>(
     ensures second { Told (F.tree folders.old) (λ t. IfOk result (λ p. p.1
         ≡ cond second.entry.on (patterns_at (node_at t
         (names_of place.now ++ names_of second.entry.name.now))) [])) }
+    ensures noted { Told (F.tree folders.old) (λ t. OnOk result (NotesSay notes.old notes.new
+        (cond first.entry.on (noted_at t (names_of place.now) (names_of first.entry.name.now)) []
+        ++ cond second.entry.on (noted_at t (names_of place.now) (names_of second.entry.name.now))
+        []))) }
 {
     let before = patterns_of_name(alloc, folders, notes, place, first)?;
     let after = patterns_of_name(alloc, folders, notes, place, second)?;
@@ -174,6 +181,7 @@ fn is_repository<F: Folders>(
     ensures notes { Grows notes.old notes.new }
     ensures told { Told (F.tree folders.old) (λ t. IfOk result
         (λ b. b ≡ (on && is_some (node_at t (names_of place.now ++ names_of (codes ".git")))))) }
+    ensures quiet { Told (F.tree folders.old) (λ t. OnOk result (notes.new ≡ notes.old)) }
 {
     if !on {
         return Ok(false);
@@ -231,6 +239,8 @@ pub fn read_sought<F: Folders>(
     ensures told { Told (F.tree folders.old) (λ t. OnOk result
         (levels.new ≡ levels.old ++ level_of t sought (names_of place.now) ∷ [])) }
     ensures last { OnOk result (without_last levels.new ≡ levels.old) }
+    ensures noted { Told (F.tree folders.old) (λ t. OnOk result
+        (NotesSay notes.old notes.new (noted_of t sought (names_of place.now)))) }
 {
     let named = IgnoreName {
         on: sought.tokeignore,
@@ -273,6 +283,8 @@ pub fn read_level<F: Folders>(
     ensures notes { Grows notes.old notes.new }
     ensures told { Told (F.tree folders.old) (λ t. OnOk result
         (levels.new ≡ levels.old ++ level_at t rules.now (names_of place.now) ∷ [])) }
+    ensures noted { Told (F.tree folders.old) (λ t. OnOk result
+        (NotesSay notes.old notes.new (noted_level t rules.now (names_of place.now)))) }
 {
     let git = is_repository(alloc, folders, notes, rules.git, place)?;
     let sought = Sought {

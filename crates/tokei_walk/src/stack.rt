@@ -1,6 +1,8 @@
 //! The folders that are walked, and the way through them.
 ghost use Rattle.std.specs.Prelude.{◌≡◌, ◌<◌, ◌+◌, ◌-◌, ◌^◌, ◌++◌, [], ◌∷◌, length, reverse, cond, OnOk, OnSome, IfOk, IfSome, Err, None, true, false};
 ghost use Rattle.std.specs.Bool.{MatchBool};
+ghost use Rattle.tokei_walk.specs.Noted.{NotesCome, NotesSay, noted_top};
+ghost use Rattle.tokei_walk.specs.NoteSteps.{ExploreNotes, StepNotes, VisitNotes, noted_entering, noted_visit};
 ghost use Rattle.tokei_walk.specs.Notes.{Grows};
 ghost use Rattle.tokei_folders.specs.Answers.{Told, list_answer};
 ghost use Rattle.tokei_folders.specs.AsTheyWere.{AsTheyWere};
@@ -148,6 +150,8 @@ pub fn enter<F: Folders>(
     ensures told { Told (F.tree folders.old) (λ t. IfOk result (λ b. MatchBool b
         (EntersTold t settings.now.rules stack.old stack.new place)
         (list_answer t (names_of place) ≡ Err RefusedFault))) }
+    ensures noted { Told (F.tree folders.old) (λ t. IfOk result (λ b. NotesSay notes.old notes.new
+        (noted_entering t settings.now.rules place b))) }
 {
     let alloc = settings.alloc;
     let Some(listing) = listing(alloc, folders, notes, place.as_str())? else {
@@ -203,6 +207,10 @@ fn push_folder_name(
     ensures passed { IfOk result (λ o. o ≡ None → (t : Tree)
         → of_folder settings.now.excludes settings.now.rules t stack.old name
         (joined_places stack.old.place name) ≡ []) }
+    ensures noted { IfOk result (λ o. o ≡ None → (t : Tree) → NotesSay notes.old notes.new
+        (noted_visit settings.now.excludes settings.now.rules t stack.old name
+        (joined_places stack.old.place name))) }
+    ensures quiet { IfOk result (λ o. OnSome o (notes.new ≡ notes.old)) }
 {
     let (dropped, name) = consider(settings, &mut stack.context, name, true)?;
     if dropped {
@@ -237,6 +245,10 @@ fn enter_entry<F: Folders>(
         of_folder settings.now.excludes settings.now.rules t stack.old name
         (joined_places stack.old.place name)
         ≡ cond b (of_top settings.now.excludes settings.now.rules t stack.new) [])) }
+    ensures noted { Told (F.tree folders.old) (λ t. IfOk result (λ b. NotesCome notes.old
+        (noted_visit settings.now.excludes settings.now.rules t stack.old name
+        (joined_places stack.old.place name)) notes.new
+        (cond b (noted_top settings.now.excludes settings.now.rules t stack.new) []))) }
 {
     let Some(place) = push_folder_name(settings, notes, stack, name)? else {
         return Ok(false);
@@ -265,6 +277,9 @@ fn visit<F: Folders>(
     ensures told { Told (F.tree folders.old) (λ t. IfOk result (λ o.
         VisitTells settings.now.excludes settings.now.rules t stack.old stack.new
         name (joined_places stack.old.place name) o)) }
+    ensures noted { Told (F.tree folders.old) (λ t. IfOk result (λ o.
+        VisitNotes settings.now.excludes settings.now.rules t stack.old stack.new notes.old
+        notes.new name (joined_places stack.old.place name) o)) }
 {
     if !enter_entry(settings, folders, notes, stack, name)? {
         return Ok(None);
@@ -292,6 +307,8 @@ fn meet_next<F: Folders>(
     ensures falls { IfOk result (λ s. FoundFalls stack.old stack.new s) }
     ensures told { Told (F.tree folders.old) (λ t. IfOk result (λ s.
         StepTells settings.now.excludes settings.now.rules t stack.old stack.new s)) }
+    ensures noted { Told (F.tree folders.old) (λ t. IfOk result (λ s. StepNotes
+        settings.now.excludes settings.now.rules t stack.old stack.new notes.old notes.new s)) }
 {
     let Some(entry) = next_entry(stack) else {
         return Ok(Step::Ended);
@@ -320,6 +337,8 @@ pub fn explore<F: Folders>(
     ensures falls { IfOk result (λ o. OnSome o (stack_rank stack.new < stack_rank stack.old)) }
     ensures told { Told (F.tree folders.old) (λ t. IfOk result (λ o.
         ExploreTells settings.now.excludes settings.now.rules t stack.old stack.new o)) }
+    ensures noted { Told (F.tree folders.old) (λ t. IfOk result (λ o. ExploreNotes
+        settings.now.excludes settings.now.rules t stack.old stack.new notes.old notes.new o)) }
 {
     loop {
         match meet_next(settings, folders, notes, stack)? {

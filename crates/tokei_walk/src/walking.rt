@@ -4,6 +4,7 @@ ghost use Rattle.tokei_folders.specs.Answers.{Told};
 ghost use Rattle.tokei_folders.specs.AsTheyWere.{AsTheyWere};
 ghost use Rattle.tokei_folders.specs.Tree.{Tree, is_sound};
 ghost use Rattle.tokei_walk.specs.Kept.{kept_in};
+ghost use Rattle.tokei_walk.specs.Noted.{NotesCome, noted_all, noted_in, noted_to_come};
 ghost use Rattle.tokei_walk.specs.Notes.{Grows, notes_of, notes_of_excludes};
 ghost use Rattle.tokei_walk.specs.Ranks.{all_rank, rank};
 ghost use Rattle.tokei_walk.specs.Turns.{TurnFalls, TurnTells};
@@ -35,6 +36,9 @@ fn go_on<F: Folders>(
     ensures told { Told (F.tree folders.old) (λ t. IfOk result (λ s. TurnTells
         (of_all settings.now.excludes settings.now.rules t stack.old roots.old)
         (of_all settings.now.excludes settings.now.rules t stack.new roots.new) s)) }
+    ensures noted { Told (F.tree folders.old) (λ t. OnOk result (NotesCome notes.old
+        (noted_all settings.now.excludes settings.now.rules t stack.old roots.old) notes.new
+        (noted_all settings.now.excludes settings.now.rules t stack.new roots.new))) }
 {
     if leave(stack) {
         return Ok(Step::Passed);
@@ -65,6 +69,9 @@ fn advance<F: Folders>(
     ensures told { Told (F.tree folders.old) (λ t. IfOk result (λ o. Advances
         (of_all settings.now.excludes settings.now.rules t stack.old roots.old)
         (of_all settings.now.excludes settings.now.rules t stack.new roots.new) o)) }
+    ensures noted { Told (F.tree folders.old) (λ t. OnOk result (NotesCome notes.old
+        (noted_all settings.now.excludes settings.now.rules t stack.old roots.old) notes.new
+        (noted_all settings.now.excludes settings.now.rules t stack.new roots.new))) }
 {
     loop {
         match explore(settings, folders, notes, stack)? {
@@ -121,6 +128,8 @@ impl Walk {
             ≡ kept_in (excludes_of (texts_of excludes.now)) rules.now t (texts_of roots.now)) }
         ensures failed { IfOk result (λ w. walk_failed w ≡ false) }
         ensures notes { IfOk result (λ w. notes_of w ≡ notes_of_excludes (texts_of excludes.now)) }
+        ensures noted { IfOk result (λ w. (t : Tree) → noted_to_come t w
+            ≡ noted_in (excludes_of (texts_of excludes.now)) rules.now t (texts_of roots.now)) }
     {
         let mut notes = Items::new(alloc);
         let excludes = read_excludes(alloc, &mut notes, excludes)?;
@@ -161,6 +170,8 @@ impl Walk {
         ensures again { over_now self.old ≡ true → (result ≡ Ok None) × (self.new ≡ self.old) }
         ensures stays { OnOk result (walk_failed self.new ≡ walk_failed self.old) }
         ensures notes { Grows (notes_of self.old) (notes_of self.new) }
+        ensures noted { Told (F.tree folders.old) (λ t. OnOk result (NotesCome (notes_of self.old)
+            (noted_to_come t self.old) (notes_of self.new) (noted_to_come t self.new))) }
         ensures refused { OnErr result (walk_failed self.new ≡ true) }
         ensures failed { walk_failed self.old ≡ true → result ≡ Ok None }
     {

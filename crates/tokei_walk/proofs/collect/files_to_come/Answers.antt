@@ -1,9 +1,11 @@
-use Rattle.std.proofs.Common.{◌++◌, refl, List, Option, ◌∙◌, sym, ap, append-nil, subst}
+use Rattle.std.proofs.Common.{◌++◌, refl, List, Option, Ok, ◌∙◌, sym, ap, append-nil, subst}
 use Rattle.tokei_walk.specs.declared.kept_file.KeptFile.{KeptFile}
 use Rattle.tokei_walk.specs.Walks.{to_come, Advances}
 use Rattle.tokei_walk.proofs.Growing.{grows_on, grows_same}
 use Rattle.tokei_walk.proofs.RootSteps.{more}
 use Rattle.tokei_walk.proofs.Lasting.{stay_on, refused}
+use Rattle.tokei_walk.proofs.NoteSteps.{come_all}
+use Rattle.tokei_walk.proofs.NoteRoots.{over_notes}
 use Rattle.tokei_walk.proofs.collect.files_to_come.Goals as goal
 
 pub loop-files-init : goal.loop-files-init
@@ -12,6 +14,7 @@ loop-files-init g c = record {
   same = refl;
   honest = λ h. refl;
   told = λ t e. ap (λ (x : List KeptFile). x ++ to_come t c.args.walk.now) c.new-files.ensures;
+  noted = λ t e. refl;
 }
 
 pub loop-files-preserved : goal.loop-files-preserved
@@ -23,6 +26,7 @@ loop-files-preserved g c =
       told = λ t e.
           let given = subst (λ (o : Option KeptFile). Advances (to_come t c.loop-files.walk) (to_come t c.next.new.self) o) c.in-Some.is (c.in_ok-file.ensures.told t (inv.same ∙ e)) in
           more c.loop-files.files c.push.new.self (to_come t c.loop-files.walk) (to_come t c.next.new.self) _ c.in-Some.file c.in_ok-push.ensures.ok given (inv.told t e);
+      noted = λ t e. inv.noted t e ∙ c.in_ok-file.ensures.noted t (inv.same ∙ e);
     }
 
 pub returns-clause-told : goal.returns-clause-told
@@ -52,3 +56,9 @@ returns-clause-folders g c =
       same = c.next.ensures.folders.same ∙ inv.same;
       honest = stay_on g.F.Folders.memory_faults _ _ _ inv.honest c.in_ok-file.ensures.folders.honest;
     }
+
+pub returns-clause-noted : goal.returns-clause-noted
+returns-clause-noted g c = λ t e.
+    let inv = c.loop-files.invariant in
+    come_all _ _ _ _ (over_notes t c.next.new.self (c.in_ok-file.ensures.over (ap Ok c.in_default.is)))
+    (inv.noted t e ∙ c.in_ok-file.ensures.noted t (inv.same ∙ e))

@@ -5,6 +5,7 @@ use Rattle.tokei_walk.specs.Notes.{lost_notes}
 use Rattle.tokei_walk.proofs.Growing.{grows_same, grows_on, both_noted}
 use Rattle.tokei_walk.proofs.Lasting.{refused, unharmed, refused_stays}
 use Rattle.tokei_walk.proofs.NeverRefused.{answer_lasts, refusal_lasts}
+use Rattle.tokei_walk.proofs.Noting.{listed_quiet, says_more, says_none}
 use Rattle.tokei_walk.proofs.listings.listing.Goals as goal
 
 pub returns-in_err-note_lost-in-Ok-clause-folders : goal.returns-in_err-note_lost-in-Ok-clause-folders
@@ -38,3 +39,13 @@ returns-in_ok-note-in-Err-Refused-clause-told g c = λ t e.
 
 pub returns-in-Err-Memory-clause-notes : goal.returns-in-Err-Memory-clause-notes
 returns-in-Err-Memory-clause-notes g c = grows_same _ _ refl
+
+pub returns-in_ok-note_lost-in-Ok-clause-said : goal.returns-in_ok-note_lost-in-Ok-clause-said
+returns-in_ok-note_lost-in-Ok-clause-said g c = λ t e.
+    says_none _ _
+    (listed_quiet _ _ c.args.place.now c.in-Ok.listing (c.in-Ok.ensures.named t e) (c.in-Ok.ensures.lost t e)
+    (both_noted _ _ _ _ _ c.in_ok-note_unnamed-in-Ok.ensures.unnamed
+    (c.in_ok-note_lost-in-Ok.ensures.lost ∙ ap (λ (x : List (List ℕ)). c.note_unnamed.new.notes ++ lost_notes c.args.place.now x) c.as_slice.ensures.value)))
+
+pub returns-in_ok-note-in-Err-Refused-clause-said : goal.returns-in_ok-note-in-Err-Refused-clause-said
+returns-in_ok-note-in-Err-Refused-clause-said g c = λ t e. says_more _ _ _ c.in_ok-note-in-Err-Refused.ensures.ok

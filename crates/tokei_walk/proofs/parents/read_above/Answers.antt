@@ -2,6 +2,7 @@ use Rattle.std.proofs.Common.{◌≡◌, ◌++◌, ◌∷◌, [], List, ℕ, OnO
 use Rattle.tokei_folders.specs.Tree.{names_of}
 use Rattle.tokei_walk.specs.Levels.{level_at}
 use Rattle.tokei_walk.proofs.Lasting.{on_ok}
+use Rattle.tokei_walk.specs.Noted.{NotesSay, noted_level}
 use Rattle.tokei_walk.proofs.parents.read_above.Goals as goal
 
 pub returns-clause-levels : goal.returns-clause-levels
@@ -18,3 +19,9 @@ returns-clause-folders g c = c.read_level.ensures.folders
 
 pub returns-clause-notes : goal.returns-clause-notes
 returns-clause-notes g c = c.read_level.ensures.notes
+
+pub returns-clause-noted : goal.returns-clause-noted
+returns-clause-noted g c = λ t e.
+    let r = c.args.settings.now.rules in
+    subst (λ (p : List ℕ). OnOk c.read_level.result (NotesSay c.args.notes.now c.read_level.new.notes (noted_level t r (names_of p))))
+    c.as_str-place.ensures (c.read_level.ensures.noted t e)

@@ -7,6 +7,8 @@ use Rattle.tokei_walk.proofs.Growing.{grows_on, grows_same}
 use Rattle.tokei_walk.proofs.RootSteps.{more, names_over_pop, levels_over_pop}
 use Rattle.tokei_walk.proofs.Lasting.{stay_on, refused}
 use Rattle.tokei_folders.specs.declared.fs.Above.{Above}
+use Rattle.tokei_walk.specs.Noted.{Noted, noted_level, noted_over, said_in}
+use Rattle.tokei_walk.proofs.Noting.{noted_over_pop, said_on}
 use Rattle.tokei_walk.proofs.parents.read_over.Goals as goal
 
 pub loop-above-preserved : goal.loop-above-preserved
@@ -24,6 +26,9 @@ loop-above-preserved g c =
       levels = λ t e. more old.levels new.levels (levels_over t r found) (levels_over t r front) _ (level_at t r (names_of a.place))
           (c.in_ok-read_above.ensures.levels t (inv.same ∙ e))
           (levels_over_pop t r found front a c.in-Some.ensures) (inv.levels t e);
+      noted = λ t e. said_on _ _ (noted_level t r (names_of a.place)) (noted_over t r front) (noted_over t r found) _
+          (c.in_ok-read_above.ensures.noted t (inv.same ∙ e))
+          (noted_over_pop t r found front a c.in-Some.ensures) (inv.noted t e);
     }
 
 pub returns-in_err-read_above-clause-notes : goal.returns-in_err-read_above-clause-notes
@@ -37,6 +42,7 @@ loop-above-init g c = record {
   shown = refl;
   names = refl;
   levels = λ t e. refl;
+  noted = λ t e. refl;
 }
 
 pub returns-in_err-read_above-clause-folders : goal.returns-in_err-read_above-clause-folders
@@ -57,3 +63,8 @@ returns-clause-folders g c = record { same = c.loop-above.invariant.same; honest
 
 pub loop-above-smaller : goal.loop-above-smaller
 loop-above-smaller g c = grind (arith, common_steps)
+
+pub returns-clause-noted : goal.returns-clause-noted
+returns-clause-noted g c = λ t e.
+    let said : List Noted = said_in c.loop-above.notes in
+    sym (append-nil said) ∙ ap (λ (q : List Above). said ++ noted_over t c.args.settings.now.rules q) (sym c.in_default.ensures.0) ∙ c.loop-above.invariant.noted t e

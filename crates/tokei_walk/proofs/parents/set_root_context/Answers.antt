@@ -4,7 +4,8 @@ use Rattle.tokei_folders.specs.Tree.{names_of}
 use Rattle.tokei_walk.specs.Walks.{names_over, levels_over}
 use Rattle.tokei_walk.proofs.RootSteps.{context_told, context_alone}
 use Rattle.tokei_walk.proofs.Growing.{grows_same, grows_on}
-use Rattle.tokei_walk.proofs.Lasting.{lasts, on_ok_by3}
+use Rattle.tokei_walk.proofs.Lasting.{lasts, on_ok_by, on_ok_by3}
+use Rattle.tokei_walk.proofs.Noting.{all_above, none_above}
 use Rattle.tokei_walk.proofs.parents.set_root_context.Goals as goal
 
 pub returns-clause-told : goal.returns-clause-told
@@ -32,3 +33,13 @@ returns-clause-notes g c = grows_on _ _ _ c.folders_over.ensures.notes c.read_ov
 
 pub returns-clause-folders : goal.returns-clause-folders
 returns-clause-folders g c = lasts c.in_ok-found.ensures.folders c.read_over.ensures.folders
+
+pub returns-clause-noted : goal.returns-clause-noted
+returns-clause-noted g c = λ t e.
+    on_ok_by c.read_over.result
+    (λ said. all_above t c.args.settings.now.rules (names_of c.args.root.now) c.in_ok-found.found _ _ _ c.if-not-settings.false
+    (c.in_ok-found.ensures.told t e) (c.in_ok-found.ensures.quiet t e) said)
+    (c.read_over.ensures.noted t (c.folders_over.ensures.folders.same ∙ e))
+
+pub returns-then-not-settings-clause-noted : goal.returns-then-not-settings-clause-noted
+returns-then-not-settings-clause-noted g c = λ t e. none_above t c.args.settings.now.rules (names_of c.args.root.now) _ _ c.if-not-settings.true refl

@@ -12,3 +12,8 @@ returns-clause-folders g c = lasts c.in_ok-kind.ensures.folders c.begin_known.en
 
 pub returns-clause-notes : goal.returns-clause-notes
 returns-clause-notes g c = c.begin_known.ensures.notes
+
+pub returns-clause-noted : goal.returns-clause-noted
+returns-clause-noted g c = λ t e.
+    c.begin_known.ensures.noted t (c.kind_of_root.ensures.folders.same ∙ e)
+    (c.in_ok-kind.ensures.empty, c.in_ok-kind.ensures.told t e)

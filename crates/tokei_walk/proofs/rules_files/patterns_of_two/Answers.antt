@@ -1,6 +1,7 @@
 use Rattle.std.proofs.Common.{◌∙◌}
 use Rattle.tokei_walk.proofs.Growing.{grows_on}
 use Rattle.tokei_walk.proofs.Lasting.{lasts, answers, refused}
+use Rattle.tokei_walk.proofs.Noting.{says_on}
 use Rattle.tokei_walk.proofs.rules_files.patterns_of_two.Goals as goal
 
 pub returns-in_err-after-clause-folders : goal.returns-in_err-after-clause-folders
@@ -20,3 +21,7 @@ returns-clause-first g c = λ t e. c.in_ok-before.ensures.told t e
 
 pub returns-clause-second : goal.returns-clause-second
 returns-clause-second g c = λ t e. c.in_ok-after.ensures.told t (c.patterns_of_name.ensures.folders.same ∙ e)
+
+pub returns-clause-noted : goal.returns-clause-noted
+returns-clause-noted g c = λ t e.
+    says_on _ _ _ _ _ (c.in_ok-before.ensures.noted t e) (c.in_ok-after.ensures.noted t (c.patterns_of_name.ensures.folders.same ∙ e))

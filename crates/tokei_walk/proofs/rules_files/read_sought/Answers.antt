@@ -6,6 +6,7 @@ use Rattle.tokei_folders.specs.Tree.{names_of}
 use Rattle.tokei_walk.proofs.RuleFiles.{tokeignore_told, ignore_told, gitignore_told, git_exclude_told, level_told}
 use Rattle.tokei_walk.proofs.Growing.{grows_on}
 use Rattle.tokei_walk.proofs.Lasting.{lasts, answers, refused}
+use Rattle.tokei_walk.proofs.Noting.{sought_noted}
 use Rattle.tokei_walk.proofs.rules_files.read_sought.Goals as goal
 
 pub returns-clause-told : goal.returns-clause-told
@@ -39,3 +40,8 @@ returns-clause-folders g c = answers (lasts c.in_ok-tokeignore.ensures.folders c
 
 pub returns-clause-notes : goal.returns-clause-notes
 returns-clause-notes g c = grows_on _ _ _ c.patterns_of_two.ensures.notes c.patterns_of_two-2.ensures.notes
+
+pub returns-clause-noted : goal.returns-clause-noted
+returns-clause-noted g c = λ t e.
+    sought_noted t c.args.sought (names_of c.args.place.now) _ _ _ (c.in_ok-tokeignore.ensures.noted t e)
+    (c.in_ok-gitignore.ensures.noted t (c.patterns_of_two.ensures.folders.same ∙ e))

@@ -15,6 +15,9 @@ use Rattle.tokei_walk.proofs.Growing.{grows_on, grows_same}
 use Rattle.tokei_walk.proofs.Ranking.{popped, entered_rank, stays_rank, file_falls, fewer_left, file_stays}
 use Rattle.tokei_walk.proofs.Lasting.{lasts, answers, refused, stay_on}
 use Rattle.tokei_walk.specs.declared.stack.Step.TheVariants.{Passed}
+use Rattle.tokei_walk.specs.Noted.{Noted, NotesCome, noted_stack, noted_top, said_in}
+use Rattle.tokei_walk.specs.NoteSteps.{ExploreNotes, StepNotes, VisitNotes, noted_visit}
+use Rattle.tokei_walk.proofs.NoteSteps.{come_all, come_in_stack, come_more, notes_ended, notes_none, notes_of_file, notes_other, notes_some, stack_entered as notes_entered}
 use Rattle.tokei_walk.proofs.stack.+exploring.Goals as goal
 
 pub meet_next-returns-in_default-clause-told : goal.meet_next-returns-in_default-clause-told
@@ -65,6 +68,8 @@ explore-loop-file-preserved g t c =
       stays = (stays.0.0 ∙ inv.stays.0, stays.0.1 ∙ inv.stays.1, stays.0.2 ∙ inv.stays.2);
       falls = omega (arith, stays_rank s v stays.0 fewer, inv.falls);
       told = λ t' e. inv.told t' e ∙ subst (λ (o : Step). StepTells x.excludes x.rules t' s v o) c.in-Passed.is (c.in_ok-file.ensures.told t' (inv.same ∙ e));
+      noted = λ t' e. inv.noted t' e
+          ∙ subst (λ (o : Step). StepNotes x.excludes x.rules t' s v c.loop-file.notes c.meet_next.new.notes o) c.in-Passed.is (c.in_ok-file.ensures.noted t' (inv.same ∙ e));
     }
 
 pub meet_next-returns-in-File-clause-falls : goal.meet_next-returns-in-File-clause-falls
@@ -160,6 +165,7 @@ explore-loop-file-init g t c = record {
   stays = (refl, refl, refl);
   falls = omega arith;
   told = λ t' e. refl;
+  noted = λ t' e. refl;
 }
 
 pub visit-returns-then-not-branch-clause-folders : goal.visit-returns-then-not-branch-clause-folders
@@ -254,3 +260,93 @@ pub meet_next-returns-in_default-clause-stays : goal.meet_next-returns-in_defaul
 meet_next-returns-in_default-clause-stays g t c =
     let pops = subst (λ (o : Option Entry). Pops c.args.stack.now c.next_entry.new.stack o) c.in_default.is c.next_entry.ensures in
     ((ap (λ (u : Stack). u.context) pops.1, ap (λ (u : Stack). u.place) pops.1, ap (λ (u : Stack). u.holders) pops.1), ap (λ (u : Stack). u.left) pops.1 ∙ pops.0)
+
+pub meet_next-returns-in_default-clause-noted : goal.meet_next-returns-in_default-clause-noted
+meet_next-returns-in_default-clause-noted g t c = λ t' e.
+    let s = c.args.stack.now in let x = c.args.settings.now in
+    let pops = subst (λ (o : Option Entry). Pops s c.next_entry.new.stack o) c.in_default.is c.next_entry.ensures in
+    notes_ended x.excludes x.rules t' s c.next_entry.new.stack c.args.notes.now pops
+
+pub meet_next-returns-in-Other-clause-noted : goal.meet_next-returns-in-Other-clause-noted
+meet_next-returns-in-Other-clause-noted g t c = λ t' e.
+    let s = c.args.stack.now in let x = c.args.settings.now in
+    let pops = subst (λ (o : Option Entry). Pops s c.next_entry.new.stack o) c.in-Some.is c.next_entry.ensures in
+    notes_other x.excludes x.rules t' s c.next_entry.new.stack c.in-Some.entry c.args.notes.now pops c.in-Other.is
+
+pub meet_next-returns-in-File-clause-noted : goal.meet_next-returns-in-File-clause-noted
+meet_next-returns-in-File-clause-noted g t c = λ t' e.
+    let s = c.args.stack.now in let x = c.args.settings.now in
+    let pops = subst (λ (o : Option Entry). Pops s c.next_entry.new.stack o) c.in-Some.is c.next_entry.ensures in
+    notes_of_file x.excludes x.rules t' s c.next_entry.new.stack c.file_step.new.stack c.in-Some.entry c.args.notes.now _ _ c.file_step.result pops c.in-File.is
+    c.file_step.ensures.stays c.file_step.ensures.kept
+
+pub meet_next-returns-in-Some-2-clause-noted : goal.meet_next-returns-in-Some-2-clause-noted
+meet_next-returns-in-Some-2-clause-noted g t c = λ t' e.
+    let s = c.args.stack.now in let x = c.args.settings.now in let u = c.next_entry.new.stack in let entry = c.in-Some.entry in
+    let pops = subst (λ (o : Option Entry). Pops s u o) c.in-Some.is c.next_entry.ensures in
+    let come =
+    subst (λ (o : Option KeptFile). VisitNotes x.excludes x.rules t' u c.visit.new.stack c.args.notes.now c.visit.new.notes entry.name (joined u.place entry.name) o)
+    c.in-Some-2.is (c.in_ok-file-in-Folder.ensures.noted t' e) in
+    notes_some x.excludes x.rules t' s u c.visit.new.stack entry c.args.notes.now c.visit.new.notes pops c.in-Folder.is come
+
+pub meet_next-returns-in-None-clause-noted : goal.meet_next-returns-in-None-clause-noted
+meet_next-returns-in-None-clause-noted g t c = λ t' e.
+    let s = c.args.stack.now in let x = c.args.settings.now in let u = c.next_entry.new.stack in let entry = c.in-Some.entry in
+    let pops = subst (λ (o : Option Entry). Pops s u o) c.in-Some.is c.next_entry.ensures in
+    let said =
+    subst (λ (o : Option KeptFile). VisitNotes x.excludes x.rules t' u c.visit.new.stack c.args.notes.now c.visit.new.notes entry.name (joined u.place entry.name) o)
+    c.in-None.is (c.in_ok-file-in-Folder.ensures.noted t' e) in
+    let same = subst (λ (o : Option KeptFile). NoneIsSame u c.visit.new.stack o) c.in-None.is c.in_ok-file-in-Folder.ensures.stays in
+    notes_none x.excludes x.rules t' s u c.visit.new.stack entry c.args.notes.now c.visit.new.notes pops c.in-Folder.is same said
+
+pub visit-returns-then-not-branch-clause-noted : goal.visit-returns-then-not-branch-clause-noted
+visit-returns-then-not-branch-clause-noted g t c = λ t' e.
+    let x = c.args.settings.now in let s = c.args.stack.now in let name = c.args.name in
+    let own = noted_visit x.excludes x.rules t' s name (joined s.place name) in
+    come_all c.args.notes.now c.enter_entry.new.notes own [] refl
+    (subst (λ (b : Bool). NotesCome c.args.notes.now own c.enter_entry.new.notes (cond b (noted_top x.excludes x.rules t' c.enter_entry.new.stack) [])) c.if-not-branch.true
+    (c.in_ok-enter_entry.ensures.noted t' e))
+
+pub visit-returns-in-Some-clause-noted : goal.visit-returns-in-Some-clause-noted
+visit-returns-in-Some-clause-noted g t c = λ t' e.
+    let x = c.args.settings.now in let s = c.args.stack.now in let u = c.enter_entry.new.stack in let name = c.args.name in
+    let enters = c.in_ok-enter_entry.ensures.entered c.if-not-branch.false in
+    let own = noted_visit x.excludes x.rules t' s name (joined s.place name) in
+    let n = c.args.notes.now in let m = c.enter_entry.new.notes in
+    let come =
+    subst (λ (b : Bool). NotesCome n own m (cond b (noted_top x.excludes x.rules t' u) [])) c.if-not-branch.false
+    (c.in_ok-enter_entry.ensures.noted t' e) in
+    let explored =
+    subst (λ (o : Option KeptFile). ExploreNotes x.excludes x.rules t' u c.explore.new.stack m c.explore.new.notes o) c.in-Some.is
+    (c.in_ok-file.ensures.noted t' (c.enter_entry.ensures.folders.same ∙ e)) in
+    come_more n m own (noted_top x.excludes x.rules t' u) (noted_stack x.excludes x.rules t' s) come
+    ∙ ap (λ (q : List Noted). said_in m ++ q) (sym (notes_entered x.excludes x.rules t' s u (under s.context name) name (joined s.place name) refl enters)) ∙ explored
+
+pub visit-returns-in-None-clause-noted : goal.visit-returns-in-None-clause-noted
+visit-returns-in-None-clause-noted g t c = λ t' e.
+    let x = c.args.settings.now in let s = c.args.stack.now in let u = c.enter_entry.new.stack in let name = c.args.name in
+    let own = noted_visit x.excludes x.rules t' s name (joined s.place name) in
+    let n = c.args.notes.now in let m = c.enter_entry.new.notes in
+    let come =
+    subst (λ (b : Bool). NotesCome n own m (cond b (noted_top x.excludes x.rules t' u) [])) c.if-not-branch.false
+    (c.in_ok-enter_entry.ensures.noted t' e) in
+    let explored =
+    subst (λ (o : Option KeptFile). ExploreNotes x.excludes x.rules t' u c.explore.new.stack m c.explore.new.notes o) c.in-None.is
+    (c.in_ok-file.ensures.noted t' (c.enter_entry.ensures.folders.same ∙ e)) in
+    explored ∙ sym come
+
+pub explore-returns-in-Found-clause-noted : goal.explore-returns-in-Found-clause-noted
+explore-returns-in-Found-clause-noted g t c = λ t' e.
+    let inv = c.loop-file.invariant in let x = c.args.settings.now in let s = c.loop-file.stack in
+    let found =
+    subst (λ (o : Step). StepNotes x.excludes x.rules t' s c.meet_next.new.stack c.loop-file.notes c.meet_next.new.notes o) c.in-Found.is
+    (c.in_ok-file.ensures.noted t' (inv.same ∙ e)) in
+    come_in_stack x.excludes x.rules t' c.args.stack.now s c.args.notes.now c.loop-file.notes inv.stays (inv.noted t' e) ∙ found
+
+pub explore-returns-in-Ended-clause-noted : goal.explore-returns-in-Ended-clause-noted
+explore-returns-in-Ended-clause-noted g t c = λ t' e.
+    let inv = c.loop-file.invariant in let x = c.args.settings.now in
+    let ended =
+    subst (λ (o : Step). StepNotes x.excludes x.rules t' c.loop-file.stack c.meet_next.new.stack c.loop-file.notes c.meet_next.new.notes o) c.in-Ended.is
+    (c.in_ok-file.ensures.noted t' (inv.same ∙ e)) in
+    ended ∙ sym (inv.noted t' e)

@@ -1,5 +1,6 @@
 use Rattle.std.proofs.Common.{◌≡◌, ◌+◌, ◌-◌, ◌*◌, ◌<◌, ◌≤◌, ◌^◌, length}
 use Rattle.tokei_folders.specs.Answers.{Told}
+use Rattle.tokei_walk.specs.Noted.{NotesCome, noted_top}
 use Rattle.tokei_walk.specs.Notes.{Grows}
 use Rattle.tokei_walk.specs.Descent.{of_top}
 use Rattle.tokei_walk.specs.Stacks.{Stays}
@@ -23,6 +24,7 @@ invariant-explore-loop-file g l = record {
   stays : Stays l.initial.stack l.stack;
   falls : stack_rank l.stack ≤ stack_rank l.initial.stack;
   told : Told (g.F.Folders.tree l.initial.folders) (λ t. of_top l.settings.excludes l.settings.rules t l.initial.stack ≡ of_top l.settings.excludes l.settings.rules t l.stack);
+  noted : Told (g.F.Folders.tree l.initial.folders) (λ t. NotesCome l.initial.notes (noted_top l.settings.excludes l.settings.rules t l.initial.stack) l.notes (noted_top l.settings.excludes l.settings.rules t l.stack));
 }
 
 abbrev pub decreases-explore-loop-file : goal.decreases-explore-loop-file

@@ -1,4 +1,4 @@
-use Rattle.std.proofs.Common.{◌≡◌, ◌++◌, ◌∷◌, [], ℕ, List, Option, Ok, Err, sym, ap, ap₂, ◌∙◌, subst}
+use Rattle.std.proofs.Common.{◌≡◌, ◌++◌, ◌∷◌, [], ℕ, List, Option, None, Ok, Err, sym, ap, ap₂, ◌∙◌, subst}
 use Rattle.std.specs.Prelude.{MatchOption}
 use Rattle.tokei_folders.specs.declared.fs.Listing.{Listing}
 use Rattle.tokei_folders.specs.declared.fs.Fault.TheVariants.{Refused}
@@ -11,6 +11,8 @@ use Rattle.tokei_walk.specs.Sought.{listed, level_of}
 use Rattle.tokei_walk.proofs.ListedFiles.{level_listed}
 use Rattle.tokei_walk.proofs.Growing.{grows_on}
 use Rattle.tokei_walk.proofs.Lasting.{lasts, answers, refused}
+use Rattle.tokei_walk.specs.Noted.{NotesSay, noted_of, noted_unlisted}
+use Rattle.tokei_walk.proofs.Noting.{listed_noted, says_on, says_what}
 use Rattle.tokei_walk.proofs.stack.enter.Goals as goal
 
 pub returns-clause-told : goal.returns-clause-told
@@ -77,3 +79,27 @@ returns-in_default-clause-told g c = λ t e.
     (λ l. list_answer t (names_of at) ≡ Ok l.entries.items))
     c.in_default.is (c.in_ok-listing.ensures.told t e) in
     ap (λ p. list_answer t (names_of p)) (sym c.as_str.ensures) ∙ told
+
+pub returns-in_default-clause-noted : goal.returns-in_default-clause-noted
+returns-in_default-clause-noted g c = λ t e.
+    subst (λ (p : List ℕ). NotesSay c.args.notes.now c.listing.new.notes (noted_unlisted (names_of p) None)) c.as_str.ensures
+    (subst (λ (o : Option Listing). NotesSay c.args.notes.now c.listing.new.notes (noted_unlisted (names_of c.as_str.result.now) o)) c.in_default.is
+    (c.in_ok-listing.ensures.said t e))
+
+pub returns-clause-noted : goal.returns-clause-noted
+returns-clause-noted g c = λ t e.
+    let r = c.args.settings.now.rules in let place = c.args.place in let at = c.as_str.result.now in
+    let told =
+    subst
+    (λ (o : Option Listing). MatchOption o (list_answer t (names_of at) ≡ Err Refused)
+    (λ l. list_answer t (names_of at) ≡ Ok l.entries.items))
+    c.in-Some.is (c.in_ok-listing.ensures.told t e) in
+    let listed_here = ap (λ p. list_answer t (names_of p)) (sym c.as_str.ensures) ∙ told in
+    let quiet =
+    subst (λ (o : Option Listing). NotesSay c.args.notes.now c.listing.new.notes (noted_unlisted (names_of at) o)) c.in-Some.is
+    (c.in_ok-listing.ensures.said t e) in
+    let sought = c.sought_among-sought.ensures ∙ ap (listed r) c.as_slice.ensures.value in
+    let level =
+    ap₂ (λ (s : Sought) (p : List ℕ). noted_of t s (names_of p)) sought (c.as_str-place.ensures ∙ c.in_ok-push_folder.ensures.place)
+    ∙ listed_noted t r (names_of place) c.in-Some.listing.entries.items listed_here in
+    says_what _ _ _ _ level (says_on _ _ _ [] _ quiet (c.in_ok-read_sought.ensures.noted t (c.listing.ensures.folders.same ∙ e)))

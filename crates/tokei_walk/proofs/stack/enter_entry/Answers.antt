@@ -1,4 +1,4 @@
-use Rattle.std.proofs.Common.{◌≡◌, ◌<◌, ℕ, List, length, true, false, Option, OnSome, refl, ◌∙◌, subst}
+use Rattle.std.proofs.Common.{◌≡◌, ◌<◌, ℕ, List, [], length, Bool, true, false, Option, OnSome, refl, ◌∙◌, subst}
 use Rattle.std.specs.Prelude.{IfSome}
 use Rattle.tokei_folders.specs.Places.{joined}
 use Rattle.tokei_walk.specs.declared.stack.Stack.{Stack}
@@ -7,6 +7,10 @@ use Rattle.tokei_walk.specs.Stacks.{Enters, at_entry}
 use Rattle.tokei_walk.proofs.StackSteps.{refused_stack, entered_told, refused_told}
 use Rattle.tokei_walk.proofs.Growing.{grows_on}
 use Rattle.tokei_walk.proofs.Lasting.{answers, refused}
+use Rattle.tokei_walk.specs.declared.kept_file.Note.{Note}
+use Rattle.tokei_walk.specs.Noted.{NotesSay}
+use Rattle.tokei_walk.specs.NoteSteps.{noted_entering}
+use Rattle.tokei_walk.proofs.NoteSteps.{all_come, entered_notes, refused_notes}
 use Rattle.tokei_walk.proofs.stack.enter_entry.Goals as goal
 
 pub returns-in_default-clause-refused : goal.returns-in_default-clause-refused
@@ -63,3 +67,31 @@ returns-then-branch-clause-folders g c = answers c.in_ok-enter.ensures.folders
 
 pub returns-clause-folders : goal.returns-clause-folders
 returns-clause-folders g c = answers c.in_ok-enter.ensures.folders
+
+pub returns-in_default-clause-noted : goal.returns-in_default-clause-noted
+returns-in_default-clause-noted g c = λ t e. all_come _ _ _ [] refl (c.in_ok-place.ensures.noted c.in_default.is t)
+
+pub returns-then-branch-clause-noted : goal.returns-then-branch-clause-noted
+returns-then-branch-clause-noted g c = λ t e.
+    let x = c.args.settings.now in let s = c.args.stack.now in let name = c.args.name in let u = c.push_folder_name.new.stack in
+    let at = subst (λ (o : Option (List ℕ)). IfSome o (λ p. p ≡ joined s.place name)) c.in-Some.is c.in_ok-place.ensures.place in
+    let named = subst (λ (o : Option (List ℕ)). OnSome o (u ≡ at_entry s name)) c.in-Some.is c.in_ok-place.ensures.named in
+    let shallow = subst (λ (o : Option (List ℕ)). OnSome o (length s.holders < 256)) c.in-Some.is c.in_ok-place.ensures.shallow in
+    let kept = subst (λ (o : Option (List ℕ)). OnSome o (drops x.excludes x.rules s.context name true ≡ false)) c.in-Some.is c.in_ok-place.ensures.kept in
+    let quiet = subst (λ (o : Option (List ℕ)). OnSome o (c.push_folder_name.new.notes ≡ c.args.notes.now)) c.in-Some.is c.in_ok-place.ensures.quiet in
+    let said = subst (λ (b : Bool). NotesSay c.push_folder_name.new.notes c.enter.new.notes (noted_entering t x.rules c.in-Some.place b)) c.if-branch.true (c.in_ok-enter.ensures.noted t e) in
+    entered_notes x.excludes x.rules t s u c.enter.new.stack name c.in-Some.place _ c.args.notes.now c.enter.new.notes c.if-branch.true named at kept shallow
+    c.in_ok-enter.ensures.entered (c.in_ok-enter.ensures.told t e)
+    (subst (λ (n : List Note). NotesSay n c.enter.new.notes (noted_entering t x.rules c.in-Some.place true)) quiet said)
+
+pub returns-clause-noted : goal.returns-clause-noted
+returns-clause-noted g c = λ t e.
+    let x = c.args.settings.now in let s = c.args.stack.now in let name = c.args.name in
+    let at = subst (λ (o : Option (List ℕ)). IfSome o (λ p. p ≡ joined s.place name)) c.in-Some.is c.in_ok-place.ensures.place in
+    let shallow = subst (λ (o : Option (List ℕ)). OnSome o (length s.holders < 256)) c.in-Some.is c.in_ok-place.ensures.shallow in
+    let kept = subst (λ (o : Option (List ℕ)). OnSome o (drops x.excludes x.rules s.context name true ≡ false)) c.in-Some.is c.in_ok-place.ensures.kept in
+    let quiet = subst (λ (o : Option (List ℕ)). OnSome o (c.push_folder_name.new.notes ≡ c.args.notes.now)) c.in-Some.is c.in_ok-place.ensures.quiet in
+    let said = subst (λ (b : Bool). NotesSay c.push_folder_name.new.notes c.enter.new.notes (noted_entering t x.rules c.in-Some.place b)) c.if-branch.false (c.in_ok-enter.ensures.noted t e) in
+    refused_notes x.excludes x.rules t s c.push_folder_name.new.stack c.enter.new.stack name c.in-Some.place _ c.args.notes.now c.enter.new.notes c.if-branch.false at kept shallow
+    (c.in_ok-enter.ensures.told t e)
+    (subst (λ (n : List Note). NotesSay n c.enter.new.notes (noted_entering t x.rules c.in-Some.place false)) quiet said)

@@ -1,9 +1,14 @@
-use Rattle.std.proofs.Common.{◌≤◌, ℕ, List, length, sym, ap, ap₂, ◌∙◌, arith, refl}
+use Rattle.std.proofs.Common.{◌≤◌, ◌∷◌, [], ℕ, List, length, sym, ap, ap₂, ◌∙◌, arith, refl}
 use Rattle.tokei_folders.specs.Places.{joined}
 use Rattle.tokei_walk.specs.declared.levels.Context.{Context}
 use Rattle.tokei_walk.specs.Levels.{under}
 use Rattle.tokei_walk.proofs.StackSteps.{with_context, visit_dropped, visit_deep}
 use Rattle.tokei_walk.proofs.Growing.{grows_same, grows_by}
+use Rattle.tokei_walk.specs.declared.kept_file.NoteKind.TheVariants.{TooDeep}
+use Rattle.tokei_walk.specs.Noted.{said_by}
+use Rattle.tokei_walk.specs.NoteSteps.{noted_visit}
+use Rattle.tokei_walk.proofs.Noting.{says_more, says_none, says_what}
+use Rattle.tokei_walk.proofs.NoteSteps.{visit_deep as notes_deep, visit_dropped as notes_dropped}
 use Rattle.tokei_walk.proofs.stack.push_folder_name.Goals as goal
 
 pub returns-then-dropped-clause-passed : goal.returns-then-dropped-clause-passed
@@ -58,3 +63,23 @@ returns-then-len-ge-MAX_DEPTH-clause-same c = λ q. ap (with_context c.args.stac
 
 pub returns-in_err-push-clause-notes : goal.returns-in_err-push-clause-notes
 returns-in_err-push-clause-notes c = grows_same _ _ c.in_err-push.ensures.err
+
+pub returns-then-dropped-clause-noted : goal.returns-then-dropped-clause-noted
+returns-then-dropped-clause-noted c = λ q t.
+    let x = c.args.settings.now in let s = c.args.stack.now in let name = c.args.name in
+    says_what _ _ [] (noted_visit x.excludes x.rules t s name (joined s.place name))
+    (sym (notes_dropped x.excludes x.rules t s name (joined s.place name) (sym c.in_ok-dropped.ensures.dropped ∙ c.if-dropped.true)))
+    (says_none _ _ refl)
+
+pub returns-then-len-ge-MAX_DEPTH-clause-noted : goal.returns-then-len-ge-MAX_DEPTH-clause-noted
+returns-then-len-ge-MAX_DEPTH-clause-noted c = λ q t.
+    let x = c.args.settings.now in let s = c.args.stack.now in let name = c.args.name in
+    let deep : 256 ≤ length s.holders = omega (arith, c.len.ensures) in
+    let place = c.in_ok-place.ensures.place ∙ ap₂ (λ (p n : List ℕ). joined p n) c.as_str.ensures (c.as_str-2.ensures ∙ c.in_ok-dropped.ensures.name) in
+    says_what _ _ _ (noted_visit x.excludes x.rules t s name (joined s.place name))
+    (ap (λ (p : List ℕ). said_by (record { kind = TooDeep; place = p }) ∷ []) place
+    ∙ sym (notes_deep x.excludes x.rules t s name (joined s.place name) (sym c.in_ok-dropped.ensures.dropped ∙ c.if-dropped.false) deep))
+    (says_more _ _ _ c.in_ok-push.ensures.ok)
+
+pub returns-clause-quiet : goal.returns-clause-quiet
+returns-clause-quiet c = refl

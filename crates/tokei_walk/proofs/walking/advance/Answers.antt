@@ -1,4 +1,4 @@
-use Rattle.std.proofs.Common.{◌<◌, Option, OnSome, length, ap, ◌∙◌, subst, arith, refl, List, ◌++◌}
+use Rattle.std.proofs.Common.{◌<◌, Option, OnSome, length, ap, ◌∙◌, subst, arith, refl, List, ◌++◌, reverse}
 use Rattle.tokei_walk.specs.declared.kept_file.KeptFile.{KeptFile}
 use Rattle.tokei_walk.specs.declared.stack.Step.{Step}
 use Rattle.tokei_walk.specs.Ranks.{stack_rank}
@@ -9,6 +9,10 @@ use Rattle.tokei_walk.proofs.Growing.{grows_on, grows_same}
 use Rattle.tokei_walk.proofs.Ranking.{explored_rank, all_falls, all_stays}
 use Rattle.tokei_walk.proofs.RootSteps.{all_explored}
 use Rattle.tokei_walk.proofs.Lasting.{stay_on, refused}
+use Rattle.tokei_walk.specs.Noted.{noted_in, noted_stack}
+use Rattle.tokei_walk.specs.NoteSteps.{ExploreNotes}
+use Rattle.tokei_walk.proofs.NoteSteps.{come_more}
+use Rattle.tokei_walk.proofs.NoteRoots.{all_explored_notes}
 use Rattle.tokei_walk.proofs.walking.advance.Goals as goal
 
 pub go_on-requires : goal.go_on-requires
@@ -37,6 +41,9 @@ loop-file-preserved g c =
           subst (λ (o : Step). TurnTells (of_all x.excludes x.rules t v roots) (of_all x.excludes x.rules t w front) o) c.in-Passed.is
           (c.in_ok-file-2.ensures.told t (c.explore.ensures.folders.same ∙ inv.same ∙ e)) in
           inv.told t e ∙ all_explored x.excludes x.rules t s v roots stays top ∙ turn;
+      noted = λ t e.
+          let top = subst (λ (o : Option KeptFile). ExploreNotes x.excludes x.rules t s v c.loop-file.notes c.explore.new.notes o) c.in-None.is (c.in_ok-file.ensures.noted t (inv.same ∙ e)) in
+          inv.noted t e ∙ all_explored_notes x.excludes x.rules t s v roots _ _ stays top ∙ c.in_ok-file-2.ensures.noted t (c.explore.ensures.folders.same ∙ inv.same ∙ e);
     }
 
 pub returns-in-Some-clause-fewer : goal.returns-in-Some-clause-fewer
@@ -98,6 +105,7 @@ loop-file-init g c = record {
   same = refl;
   honest = λ h. refl;
   told = λ t e. refl;
+  noted = λ t e. refl;
 }
 
 pub returns-in_err-file-clause-folders : goal.returns-in_err-file-clause-folders
@@ -132,3 +140,24 @@ returns-in-Some-clause-told g c = λ t e.
     let inv = c.loop-file.invariant in let x = c.args.settings.now in let s = c.loop-file.stack in let v = c.explore.new.stack in
     let explored = subst (λ (o : Option KeptFile). ExploreTells x.excludes x.rules t s v o) c.in-Some.is (c.in_ok-file.ensures.told t (inv.same ∙ e)) in
     inv.told t e ∙ ap (λ (q : List KeptFile). q ++ of_roots x.excludes x.rules t c.loop-file.roots) explored
+
+pub returns-in-Some-clause-noted : goal.returns-in-Some-clause-noted
+returns-in-Some-clause-noted g c = λ t e.
+    let inv = c.loop-file.invariant in let x = c.args.settings.now in let s = c.loop-file.stack in let v = c.explore.new.stack in
+    let explored = subst (λ (o : Option KeptFile). ExploreNotes x.excludes x.rules t s v c.loop-file.notes c.explore.new.notes o) c.in-Some.is (c.in_ok-file.ensures.noted t (inv.same ∙ e)) in
+    inv.noted t e
+    ∙ come_more _ _ (noted_stack x.excludes x.rules t s) (noted_stack x.excludes x.rules t v) (noted_in x.excludes x.rules t (reverse c.loop-file.roots)) explored
+
+pub returns-in-Found-clause-noted : goal.returns-in-Found-clause-noted
+returns-in-Found-clause-noted g c = λ t e.
+    let inv = c.loop-file.invariant in let x = c.args.settings.now in let s = c.loop-file.stack in let v = c.explore.new.stack in
+    let stays = subst (λ (o : Option KeptFile). NoneStays s v o) c.in-None.is c.in_ok-file.ensures.stays in
+    let top = subst (λ (o : Option KeptFile). ExploreNotes x.excludes x.rules t s v c.loop-file.notes c.explore.new.notes o) c.in-None.is (c.in_ok-file.ensures.noted t (inv.same ∙ e)) in
+    inv.noted t e ∙ all_explored_notes x.excludes x.rules t s v c.loop-file.roots _ _ stays top ∙ c.in_ok-file-2.ensures.noted t (c.explore.ensures.folders.same ∙ inv.same ∙ e)
+
+pub returns-in-Ended-clause-noted : goal.returns-in-Ended-clause-noted
+returns-in-Ended-clause-noted g c = λ t e.
+    let inv = c.loop-file.invariant in let x = c.args.settings.now in let s = c.loop-file.stack in let v = c.explore.new.stack in
+    let stays = subst (λ (o : Option KeptFile). NoneStays s v o) c.in-None.is c.in_ok-file.ensures.stays in
+    let top = subst (λ (o : Option KeptFile). ExploreNotes x.excludes x.rules t s v c.loop-file.notes c.explore.new.notes o) c.in-None.is (c.in_ok-file.ensures.noted t (inv.same ∙ e)) in
+    inv.noted t e ∙ all_explored_notes x.excludes x.rules t s v c.loop-file.roots _ _ stays top ∙ c.in_ok-file-2.ensures.noted t (c.explore.ensures.folders.same ∙ inv.same ∙ e)

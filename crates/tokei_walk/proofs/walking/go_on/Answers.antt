@@ -1,4 +1,4 @@
-use Rattle.std.proofs.Common.{◌++◌, ◌∷◌, [], List, Bool, Option, length, reverse, ap, ◌∙◌, subst, arith, refl}
+use Rattle.std.proofs.Common.{◌++◌, ◌∷◌, [], ℕ, List, Bool, Option, length, reverse, sym, ap, ap₂, ◌∙◌, subst, arith, refl}
 use Rattle.std.proofs.lemmas.List.{length-append}
 use Rattle.tokei_walk.specs.declared.kept_file.KeptFile.{KeptFile}
 use Rattle.tokei_walk.specs.declared.stack.Frame.{Frame}
@@ -12,6 +12,9 @@ use Rattle.tokei_walk.proofs.RootSteps.{all_ended, root_begins}
 use Rattle.tokei_walk.proofs.StackSteps.{left_gives, top_ends}
 use Rattle.tokei_walk.proofs.Growing.{grows_same}
 use Rattle.tokei_walk.proofs.Lasting.{answers}
+use Rattle.tokei_walk.specs.Noted.{Noted, noted_all, noted_in, noted_root, noted_stack, said_in}
+use Rattle.tokei_walk.proofs.NoteSteps.{come_more, come_same, left_notes, noted_ends}
+use Rattle.tokei_walk.proofs.NoteRoots.{root_begins_notes}
 use Rattle.tokei_walk.proofs.walking.go_on.Goals as goal
 
 pub returns-then-leave-clause-falls : goal.returns-then-leave-clause-falls
@@ -89,3 +92,33 @@ returns-in-Some-2-clause-folders g c = answers c.in_ok-file.ensures.folders
 
 pub returns-in-None-clause-folders : goal.returns-in-None-clause-folders
 returns-in-None-clause-folders g c = answers c.in_ok-file.ensures.folders
+
+pub returns-then-leave-clause-noted : goal.returns-then-leave-clause-noted
+returns-then-leave-clause-noted g c = λ t e.
+    let x = c.args.settings.now in let s = c.args.stack.now in let roots = c.args.roots.now in
+    come_same _ _ _ _ refl
+    (ap (λ (q : List Noted). q ++ noted_in x.excludes x.rules t (reverse roots))
+    (left_notes x.excludes x.rules t s c.leave.new.stack c.leave.result c.if-leave.true
+    (noted_ends x.excludes x.rules t s (ap reverse c.requires)) c.leave.ensures))
+
+pub returns-in_default-clause-noted : goal.returns-in_default-clause-noted
+returns-in_default-clause-noted g c = λ t e.
+    let x = c.args.settings.now in
+    come_same _ _ _ _ refl
+    (ap₂ (λ (u : Stack) (q : List (List ℕ)). noted_all x.excludes x.rules t u q) (sym c.if-leave.ensures.1) (c.in_default.ensures.0 ∙ sym c.in_default.ensures.1))
+
+pub returns-in-Some-2-clause-noted : goal.returns-in-Some-2-clause-noted
+returns-in-Some-2-clause-noted g c = λ t e.
+    let x = c.args.settings.now in let s = c.args.stack.now in let root = c.in-Some.root in let front = c.pop.new.self in
+    let left = c.if-leave.ensures in let n = c.args.notes.now in
+    let begun = c.in_ok-file.ensures.noted t e (ap (λ (u : Stack). u.left) left.1 ∙ c.requires) (ap (λ (u : Stack). u.holders) left.1 ∙ left.0) in
+    ap (λ (q : List Noted). said_in n ++ q) (root_begins_notes x.excludes x.rules t s c.args.roots.now front root c.requires left.0 c.in-Some.ensures)
+    ∙ come_more n c.begin_root.new.notes (noted_root x.excludes x.rules t root) (noted_stack x.excludes x.rules t c.begin_root.new.stack) (noted_in x.excludes x.rules t (reverse front)) begun
+
+pub returns-in-None-clause-noted : goal.returns-in-None-clause-noted
+returns-in-None-clause-noted g c = λ t e.
+    let x = c.args.settings.now in let s = c.args.stack.now in let root = c.in-Some.root in let front = c.pop.new.self in
+    let left = c.if-leave.ensures in let n = c.args.notes.now in
+    let begun = c.in_ok-file.ensures.noted t e (ap (λ (u : Stack). u.left) left.1 ∙ c.requires) (ap (λ (u : Stack). u.holders) left.1 ∙ left.0) in
+    ap (λ (q : List Noted). said_in n ++ q) (root_begins_notes x.excludes x.rules t s c.args.roots.now front root c.requires left.0 c.in-Some.ensures)
+    ∙ come_more n c.begin_root.new.notes (noted_root x.excludes x.rules t root) (noted_stack x.excludes x.rules t c.begin_root.new.stack) (noted_in x.excludes x.rules t (reverse front)) begun

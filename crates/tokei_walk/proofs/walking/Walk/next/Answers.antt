@@ -1,9 +1,11 @@
-use Rattle.std.proofs.Common.{refl, sym, ◌∙◌}
+use Rattle.std.proofs.Common.{◌++◌, List, refl, sym, ap, ◌∙◌}
 use Rattle.tokei_walk.specs.Notes.{notes_of}
 use Rattle.tokei_walk.specs.Ranks.{rank}
 use Rattle.tokei_walk.specs.Walks.{has_failed}
 use Rattle.tokei_walk.proofs.Over.{over_gives, not_failed, spent_over}
 use Rattle.tokei_walk.proofs.RootSteps.{to_come_left, all_ended, advances_by}
+use Rattle.tokei_walk.specs.Noted.{Noted, said_in}
+use Rattle.tokei_walk.proofs.NoteRoots.{notes_left}
 use Rattle.tokei_walk.proofs.walking.Walk.next.Goals as goal
 
 pub returns-then-is_over-clause-told : goal.returns-then-is_over-clause-told
@@ -50,3 +52,10 @@ returns-clause-fewer g c = c.in_ok-found.ensures.fewer
 pub returns-in_err-found-clause-failed : goal.returns-in_err-found-clause-failed
 unfolding has_failed
 returns-in_err-found-clause-failed g c = λ h. let live = not_failed c.args.self.now (sym c.is_over.ensures ∙ c.if-is_over.false) in absurd (cc)
+
+pub returns-clause-noted : goal.returns-clause-noted
+unfolding notes_of
+returns-clause-noted g c = λ t e.
+    let w = c.args.self.now in
+    ap (λ (q : List Noted). said_in w.notes ++ q) (notes_left t w (not_failed w (sym c.is_over.ensures ∙ c.if-is_over.false)))
+    ∙ c.in_ok-found.ensures.noted t e ∙ ap (λ (q : List Noted). said_in c.advance.new.notes ++ q) (sym (notes_left t _ refl))
