@@ -2,6 +2,7 @@
 -- leaves in its writer where one doesn't, or memory ran out.
 pub mod Counted
 pub mod Earlier
+pub mod JobNotes
 pub mod JobStreams
 pub mod Output
 pub mod Refused

@@ -2,8 +2,7 @@
 ghost use Rattle.std.specs.Prelude.{◌≡◌, ◌≢◌, ◌<◌, Err, IfOk};
 ghost use Rattle.tokei_folders.specs.Answers.{Told};
 ghost use Rattle.tokei_languages.specs.Seen.{languages_of};
-ghost use Rattle.tokei_statistics.specs.Unread.{EndsIn, unread_of};
-ghost use Rattle.tokei.specs.Counted.{counting_of, files_of};
+ghost use Rattle.tokei.specs.JobNotes.{AreNotesOf};
 ghost use Rattle.tokei_walk.specs.Notes.{Grows, notes_of_excludes};
 ghost use Rattle.tokei_walk.specs.Walks.{texts_of};
 ghost use Rattle.tokei_io.specs.declared.error.OutputError.TheVariants.{Overflow as SumOverflow, Write};
@@ -44,8 +43,8 @@ pub(crate) fn tally_of<F: Folders>(
         → Told (F.tree folders.old) (λ t. ¬ TallyFits table.now job.now t) }
     ensures notes { IfOk result (λ tally.
         Grows (notes_of_excludes (texts_of job.now.ignored.items)) tally.notes.items) }
-    ensures unread { Told (F.tree folders.old) (λ t. IfOk result (λ tally. EndsIn
-        (unread_of (counting_of table.now job.now) t (files_of job.now t)) tally.notes.items)) }
+    ensures noted { Told (F.tree folders.old) (λ t. IfOk result (λ tally.
+        AreNotesOf table.now job.now t tally.notes.items)) }
 {
     let mut languages = earlier_languages(alloc, job)?;
     let notes = languages.get_statistics(table, folders, &job.paths, &job.ignored, &job.config)?;

@@ -9,8 +9,7 @@ ghost use Rattle.tokei.specs.Refused.{IsUntouched};
 ghost use Rattle.tokei.specs.Sums.{CountedFits, EarlierFits, Fits};
 ghost use Rattle.tokei_folders.specs.AsTheyWere.{AsTheyWere};
 ghost use Rattle.tokei_io.specs.Faults.{TellsFault, PassesNoFault};
-ghost use Rattle.tokei_statistics.specs.Unread.{EndsIn, unread_of};
-ghost use Rattle.tokei.specs.Counted.{counting_of, files_of};
+ghost use Rattle.tokei.specs.JobNotes.{AreNotesOf};
 ghost use Rattle.tokei_walk.specs.Notes.{Grows, notes_of_excludes};
 ghost use Rattle.tokei_walk.specs.Walks.{texts_of};
 
@@ -48,8 +47,8 @@ fn write_counted<F: Folders, W: Sink>(
     ensures no_fault { PassesNoFault W.faults writer.old writer.new result WriteFault }
     ensures notes { IfOk result (λ n.
         Grows (notes_of_excludes (texts_of job.now.ignored.items)) n.items) }
-    ensures unread { Told (F.tree folders.old) (λ t. IfOk result (λ n. EndsIn
-        (unread_of (counting_of table.now job.now) t (files_of job.now t)) n.items)) }
+    ensures noted { Told (F.tree folders.old) (λ t. IfOk result (λ n.
+        AreNotesOf table.now job.now t n.items)) }
 {
     let tally = tally_of(alloc, table, folders, job)?;
     let text = text_of(alloc, table, job, format, tally.languages)?;
@@ -84,8 +83,8 @@ pub fn run<F: Folders, W: Sink>(
     ensures no_fault { PassesNoFault W.faults writer.old writer.new result WriteFault }
     ensures notes { IfOk result (λ n.
         Grows (notes_of_excludes (texts_of job.now.ignored.items)) n.items) }
-    ensures unread { Told (F.tree folders.old) (λ t. IfOk result (λ n. EndsIn
-        (unread_of (counting_of table.now job.now) t (files_of job.now t)) n.items)) }
+    ensures noted { Told (F.tree folders.old) (λ t. IfOk result (λ n.
+        AreNotesOf table.now job.now t n.items)) }
 {
     match &job.wanted {
         Wanted::Stream(form) => {

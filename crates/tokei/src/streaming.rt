@@ -6,12 +6,14 @@ ghost use Rattle.tokei_folders.specs.Tree.{Tree, is_sound};
 ghost use Rattle.tokei_languages.specs.Renewing.{RenewalFits};
 ghost use Rattle.tokei_files.specs.Files.{FileFits, ReadingsFit};
 ghost use Rattle.tokei_files.specs.Seen.{counting_of as counting_value};
-ghost use Rattle.tokei_files.specs.Unread.{EndsIn, unread_of, unread_of_file};
+ghost use Rattle.tokei_files.specs.Unread.{NotesAre, unread_of, unread_of_file};
+ghost use Rattle.tokei_walk.specs.Noted.{NotesSay, noted_to_come};
 ghost use Rattle.tokei_walk.specs.Notes.{Grows, notes_of, notes_of_excludes};
 ghost use Rattle.tokei_walk.specs.Walks.{texts_of, to_come};
 ghost use Rattle.tokei_io.specs.declared.error.OutputError.TheVariants.{Overflow as SumOverflow, Write as WriteFault};
 ghost use Rattle.tokei.specs.Earlier.{earlier_of};
-ghost use Rattle.tokei.specs.Counted.{counting_of, files_of};
+ghost use Rattle.tokei.specs.Counted.{files_of};
+ghost use Rattle.tokei.specs.JobNotes.{AreNotesOf, walk_notes};
 ghost use Rattle.tokei.specs.JobStreams.{StreamFits, WritesStream};
 ghost use Rattle.tokei.specs.Streams.{file_row, rows_of, stream_text};
 ghost use Rattle.tokei_folders.specs.AsTheyWere.{AsTheyWere};
@@ -96,6 +98,8 @@ fn write_rows<F: Folders, W: Sink>(
     ensures fault { TellsFault W.faults writer.old writer.new result WriteFault }
     ensures no_fault { PassesNoFault W.faults writer.old writer.new result WriteFault }
     ensures notes { OnOk result (Grows (notes_of walk.old) (notes_of walk.new)) }
+    ensures noted { Told (F.tree folders.old) (λ t. OnOk result
+        (NotesSay (notes_of walk.old) (notes_of walk.new) (noted_to_come t walk.old))) }
     ensures unread { Told (F.tree folders.old) (λ t. OnOk result (unread.new.items
         ≡ unread.old.items
         ++ unread_of (counting_value by.now.counting.now) t (to_come t walk.old))) }
@@ -123,6 +127,7 @@ fn walk_of(alloc: Global, job: &Job) -> Result<Walk, AllocError>
         → to_come t w ≡ files_of job.now t) }
     ensures notes { IfOk result (λ w. notes_of w
         ≡ notes_of_excludes (texts_of job.now.ignored.items)) }
+    ensures noted { IfOk result (λ w. (t : Tree) → noted_to_come t w ≡ walk_notes job.now t) }
 {
     Walk::new(alloc, &job.paths, &job.ignored, &rules(&job.config))
 }
@@ -146,7 +151,8 @@ fn write_stream<F: Folders, W: Sink>(
     ensures no_fault { PassesNoFault W.faults writer.old writer.new result WriteFault }
     ensures notes { IfOk result (λ n.
         Grows (notes_of_excludes (texts_of job.now.ignored.items)) n.items) }
-    ensures unread { Told (F.tree folders.old) (λ t. IfOk result (λ n. EndsIn
+    ensures noted { Told (F.tree folders.old) (λ t. IfOk result (λ n. NotesAre
+        (notes_of_excludes (texts_of job.now.ignored.items)) (walk_notes job.now t)
         (unread_of (counting_value counting.now) t (files_of job.now t)) n.items)) }
 {
     write_heading(rows.form, writer)?;
@@ -179,8 +185,8 @@ pub fn stream<F: Folders, W: Sink>(
     ensures no_fault { PassesNoFault W.faults writer.old writer.new result WriteFault }
     ensures notes { IfOk result (λ n.
         Grows (notes_of_excludes (texts_of job.now.ignored.items)) n.items) }
-    ensures unread { Told (F.tree folders.old) (λ t. IfOk result (λ n. EndsIn
-        (unread_of (counting_of rows.now.table.now job.now) t (files_of job.now t)) n.items)) }
+    ensures noted { Told (F.tree folders.old) (λ t. IfOk result (λ n.
+        AreNotesOf rows.now.table.now job.now t n.items)) }
 {
     test_earlier(rows.alloc, job)?;
     let extended = job.config.extended_table(rows.alloc, rows.table)?;

@@ -4,10 +4,13 @@ use Rattle.tokei_folders.specs.Tree.{Tree}
 use Rattle.tokei_stats.specs.Statistics.{Statistics}
 use Rattle.tokei_walk.specs.declared.kept_file.KeptFile.{KeptFile}
 use Rattle.tokei_walk.specs.declared.kept_file.Note.{Note}
+use Rattle.tokei_walk.specs.Noted.{Noted, NotesSay}
+use Rattle.tokei_walk.specs.Notes.{Grows}
+use Rattle.tokei_walk.proofs.Noting.{grown_says}
 use Rattle.tokei_files.specs.Contents.{content_at}
 use Rattle.tokei_files.specs.ContentStatistics.{stats_at, stats_in}
 use Rattle.tokei_files.specs.Files.{Counting, language_of_file}
-use Rattle.tokei_files.specs.Unread.{unread_note, note_without, unread_in, unread_of_file, unread_of, EndsIn}
+use Rattle.tokei_files.specs.Unread.{unread_note, note_without, unread_in, unread_of_file, unread_of, NotesAre}
 
 -- a content that has statistics is there
 leaves_none : (read : List ℕ → Statistics) (file : KeptFile) (content : Option (List ℕ)) (s : Statistics) → Some s ≡ option_map read content → note_without file content ≡ []
@@ -41,9 +44,16 @@ module _ (c : Counting) (t : Tree) where
       ∙ ap (λ (ks : List KeptFile). a ++ unread_of c t ks) (sym is)
       ∙ so
 
--- notes that these were put behind
-pub ends_in : (walked unread all : List Note) → all ≡ walked ++ unread → EndsIn unread all
-ends_in walked unread all is = record { before = walked; is = is }
+-- all notes of a run, by what its walk added and what was put behind that
+pub notes_are : (excludes begun walked taken unread all : List Note) (said : List Noted) → begun ≡ excludes → Grows begun walked → NotesSay begun walked said
+    → taken ≡ walked → all ≡ taken ++ unread → NotesAre excludes said unread all
+notes_are excludes begun walked taken unread all said first grown says same put = record {
+  walked = grown.more;
+  is =
+      put ∙ ap (λ (q : List Note). q ++ unread) (same ∙ grown.is ∙ ap (λ (q : List Note). q ++ grown.more) first)
+      ∙ append_assoc excludes grown.more unread;
+  says = grown_says begun walked grown said says;
+}
 
 -- no note more
 pub none_more : (a more : List Note) → more ≡ [] → a ≡ a ++ more

@@ -7,6 +7,7 @@ use Rattle.tokei_table.specs.Row.{Row}
 use Rattle.tokei_walk.specs.declared.kept_file.KeptFile.{KeptFile}
 use Rattle.tokei_walk.specs.declared.levels.Rules.{Rules}
 use Rattle.tokei_walk.specs.Kept.{kept_in}
+use Rattle.tokei_walk.specs.Noted.{Noted, noted_in}
 use Rattle.tokei_walk.specs.Walks.{excludes_of}
 use Rattle.tokei_files.specs.Files.{Counting}
 
@@ -33,6 +34,10 @@ counting_by rows settings =
           is_on settings.treat_doc_strings_as_comments;
       types = settings.types;
     }
+
+-- what the walk over these roots of a known tree notes
+unfoldable pub noted_by : Settings → Tree → List (List ℕ) → List (List ℕ) → List Noted
+noted_by settings tree roots excludes = noted_in (excludes_of excludes) (rules_of settings) tree roots
 
 -- the files of a known tree that are counted: those below the roots that the rules keep
 unfoldable pub kept_by : Settings → Tree → List (List ℕ) → List (List ℕ) → List KeptFile

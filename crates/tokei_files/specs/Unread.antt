@@ -1,10 +1,12 @@
--- The notes of files that count in a language and whose content can't be read.
+-- The notes of files that count in a language and whose content can't be read, and all notes of a
+-- run.
 use Rattle.std.specs.Prelude.{◌≡◌, ℕ, List, [], ◌∷◌, ◌++◌, Option, Some, None}
 use Rattle.std.specs.List.{flat_map}
 use Rattle.tokei_folders.specs.Tree.{Tree}
 use Rattle.tokei_walk.specs.declared.kept_file.KeptFile.{KeptFile}
 use Rattle.tokei_walk.specs.declared.kept_file.Note.{Note}
 use Rattle.tokei_walk.specs.declared.kept_file.NoteKind.TheVariants.{UnreadContent}
+use Rattle.tokei_walk.specs.Noted.{Noted, said_in}
 use Rattle.tokei_files.specs.Contents.{content_at}
 use Rattle.tokei_files.specs.Files.{Counting, language_of_file}
 
@@ -30,7 +32,10 @@ unread_of_file counting tree file = unread_in tree file (language_of_file counti
 abbrev pub unread_of : Counting → Tree → List KeptFile → List Note
 unread_of counting tree files = flat_map (unread_of_file counting tree) files
 
--- the last notes are these
-pub record EndsIn (last all : List Note) : Type 0 where
-  pub before : List Note
-  pub is : all ≡ before ++ last
+-- all notes of a run: those of its excludes, then those of its walk, which say this, and then those
+-- of files that can't be read
+pub record NotesAre (excludes : List Note) (said : List Noted) (unread all : List Note) : Type 0
+  where
+    pub walked : List Note
+    pub is : all ≡ excludes ++ (walked ++ unread)
+    pub says : said_in walked ≡ said

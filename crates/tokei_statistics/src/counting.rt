@@ -4,11 +4,12 @@ ghost use Rattle.tokei_languages.specs.Merging.{merged_languages};
 ghost use Rattle.tokei_languages.specs.Seen.{languages_of};
 ghost use Rattle.tokei_files.specs.Files.{FileFits, ReadingsFit};
 ghost use Rattle.tokei_files.specs.Seen.{counting_of};
-ghost use Rattle.tokei_files.specs.Unread.{EndsIn, unread_note, unread_of, unread_of_file};
+ghost use Rattle.tokei_files.specs.Unread.{NotesAre, unread_note, unread_of, unread_of_file};
 ghost use Rattle.tokei_files.specs.declared.error.ParseFault.TheVariants.{Refused as NotRead, Memory as OutOfMemory, Overflow as TooMany};
 ghost use Rattle.tokei_stats.specs.Seen.{stats_of};
 ghost use Rattle.tokei_folders.specs.Answers.{Told};
 ghost use Rattle.tokei_walk.specs.Kept.{kept_in};
+ghost use Rattle.tokei_walk.specs.Noted.{NotesSay, noted_in, noted_to_come};
 ghost use Rattle.tokei_walk.specs.Notes.{Grows, notes_of, notes_of_excludes};
 ghost use Rattle.tokei_walk.specs.Walks.{to_come, excludes_of, texts_of};
 ghost use Rattle.tokei_statistics.specs.Runs.{AddsFiles, AddsFirst, language_from, languages_of_file};
@@ -107,6 +108,8 @@ pub fn count_files<F: Folders>(
     ensures overflow { IsErrOf result CountError.Overflow → Told (F.tree folders.old) (λ t.
         ¬ ReadingsFit (counting_of counting.now) t (to_come t walk.old)) }
     ensures notes { Grows (notes_of walk.old) (notes_of walk.new) }
+    ensures noted { Told (F.tree folders.old) (λ t. OnOk result
+        (NotesSay (notes_of walk.old) (notes_of walk.new) (noted_to_come t walk.old))) }
     ensures unread { Told (F.tree folders.old) (λ t. OnOk result (unread.new.items
         ≡ unread.old.items ++ unread_of (counting_of counting.now) t (to_come t walk.old))) }
 {
@@ -140,7 +143,9 @@ pub fn count_roots<F: Folders>(
         ¬ ReadingsFit (counting_of counting.now) t
         (kept_in (excludes_of (texts_of excludes.now)) rules.now t (texts_of roots.now))) }
     ensures notes { IfOk result (λ n. Grows (notes_of_excludes (texts_of excludes.now)) n.items) }
-    ensures unread { Told (F.tree folders.old) (λ t. IfOk result (λ n. EndsIn
+    ensures noted { Told (F.tree folders.old) (λ t. IfOk result (λ n. NotesAre
+        (notes_of_excludes (texts_of excludes.now))
+        (noted_in (excludes_of (texts_of excludes.now)) rules.now t (texts_of roots.now))
         (unread_of (counting_of counting.now) t
         (kept_in (excludes_of (texts_of excludes.now)) rules.now t (texts_of roots.now)))
         n.items)) }

@@ -1,9 +1,9 @@
 //! The statistics of all files that a configuration keeps below some roots.
 ghost use Rattle.std.specs.Prelude.{◌<◌, OnOk, OnErr, IfOk, IsErrOf};
 ghost use Rattle.tokei_config.specs.Seen.{settings_of};
-ghost use Rattle.tokei_files.specs.Configs.{counting_by, kept_by};
+ghost use Rattle.tokei_files.specs.Configs.{counting_by, kept_by, noted_by};
 ghost use Rattle.tokei_files.specs.Files.{ReadingsFit};
-ghost use Rattle.tokei_files.specs.Unread.{EndsIn, unread_of};
+ghost use Rattle.tokei_files.specs.Unread.{NotesAre, unread_of};
 ghost use Rattle.tokei_folders.specs.Answers.{Told};
 ghost use Rattle.tokei_languages.specs.Seen.{languages_of};
 ghost use Rattle.tokei_walk.specs.Notes.{Grows, notes_of_excludes};
@@ -79,7 +79,9 @@ impl CountFiles for Languages {
             (kept_by (settings_of config.now) t (texts_of paths.now) (texts_of ignored.now))) }
         ensures notes { IfOk result (λ n. Grows (notes_of_excludes (texts_of ignored.now))
             n.items) }
-        ensures unread { Told (F.tree folders.old) (λ t. IfOk result (λ n. EndsIn
+        ensures noted { Told (F.tree folders.old) (λ t. IfOk result (λ n. NotesAre
+            (notes_of_excludes (texts_of ignored.now))
+            (noted_by (settings_of config.now) t (texts_of paths.now) (texts_of ignored.now))
             (unread_of (counting_by table.now (settings_of config.now)) t
             (kept_by (settings_of config.now) t (texts_of paths.now) (texts_of ignored.now)))
             n.items)) }
@@ -119,7 +121,9 @@ impl CountFiles for Languages {
             (languages_of self.old)) }
         ensures notes { IfOk result (λ n. Grows (notes_of_excludes (texts_of ignored.now))
             n.items) }
-        ensures unread { Told (F.tree folders.old) (λ t. IfOk result (λ n. EndsIn
+        ensures noted { Told (F.tree folders.old) (λ t. IfOk result (λ n. NotesAre
+            (notes_of_excludes (texts_of ignored.now))
+            (noted_by (settings_of config.now) t (texts_of paths.now) (texts_of ignored.now))
             (unread_of (counting_by table.now (settings_of config.now)) t
             (kept_by (settings_of config.now) t (texts_of paths.now) (texts_of ignored.now)))
             n.items)) }

@@ -1,4 +1,4 @@
-use Rattle.std.proofs.Common.{◌≡◌, Option, Err, refl, ap, ◌∙◌, subst, rules, List}
+use Rattle.std.proofs.Common.{◌≡◌, Option, Ok, Err, refl, ap, ◌∙◌, subst, rules, List}
 use Rattle.tokei_files.specs.Files.{ReadingsFit}
 use Rattle.tokei_files.specs.Seen.{counting_of}
 use Rattle.tokei_files.proofs.UnreadNotes.{noted_more}
@@ -9,6 +9,8 @@ use Rattle.tokei_walk.proofs.Lasting.{stay_on, refused}
 use Rattle.tokei.proofs.WrittenRows.{no_row_yet, one_row_more}
 use Rattle.tokei.specs.Streams.{file_row}
 use Rattle.tokei_io.specs.declared.error.OutputError.TheVariants.{Overflow}
+use Rattle.tokei_walk.proofs.NoteSteps.{come_all}
+use Rattle.tokei_walk.proofs.NoteRoots.{over_notes}
 use Rattle.tokei.proofs.streaming.write_rows.Goals as goal
 
 pub loop-file-init : goal.loop-file-init
@@ -18,6 +20,7 @@ loop-file-init g c = record {
   fits = λ t e f. f;
   notes = grows_same _ _ refl;
   unread = λ t e. refl;
+  noted = λ t e. refl;
   no_fault = λ h. refl;
   honest = λ h. refl;
 }
@@ -41,6 +44,7 @@ loop-file-preserved g c =
           let here = inv.same ∙ e in
           let given = subst (λ (o : Option KeptFile). Advances (to_come t c.loop-file.walk) (to_come t c.next.new.self) o) c.in-Some.is (c.in_ok-file.ensures.told t here) in
           noted_more by t _ _ c.in-Some.file _ _ _ (inv.unread t e) given (c.in_ok-write_file.ensures.unread t (c.next.ensures.folders.same ∙ here));
+      noted = λ t e. inv.noted t e ∙ c.in_ok-file.ensures.noted t (inv.same ∙ e);
       no_fault = search rules;
       honest = stay_on g.F.Folders.memory_faults _ _ _ inv.honest (stay_on g.F.Folders.memory_faults _ _ _ c.in_ok-file.ensures.folders.honest c.in_ok-write_file.ensures.folders.honest);
     }
@@ -69,3 +73,9 @@ returns-clause-folders g c =
       same = c.next.ensures.folders.same ∙ inv.same;
       honest = stay_on g.F.Folders.memory_faults _ _ _ inv.honest c.in_ok-file.ensures.folders.honest;
     }
+
+pub returns-clause-noted : goal.returns-clause-noted
+returns-clause-noted g c = λ t e.
+    let inv = c.loop-file.invariant in
+    come_all _ _ _ _ (over_notes t c.next.new.self (c.in_ok-file.ensures.over (ap Ok c.in_default.is)))
+    (inv.noted t e ∙ c.in_ok-file.ensures.noted t (inv.same ∙ e))

@@ -3,6 +3,7 @@ use Rattle.tokei_folders.specs.Answers.{Told}
 use Rattle.tokei_files.specs.Files.{ReadingsFit}
 use Rattle.tokei_files.specs.Seen.{counting_of}
 use Rattle.tokei_files.specs.Unread.{unread_of}
+use Rattle.tokei_walk.specs.Noted.{NotesCome, noted_to_come}
 use Rattle.tokei_walk.specs.Notes.{Grows, notes_of}
 use Rattle.tokei_walk.specs.Ranks.{rank}
 use Rattle.tokei_walk.specs.Walks.{to_come}
@@ -21,6 +22,7 @@ invariant-loop-file g l = record {
   notes : Grows (notes_of l.initial.walk) (notes_of l.walk);
   unread : Told (g.F.Folders.tree l.initial.folders) (λ t.
       l.unread.items ++ unread_of (counting_of l.by.counting.now) t (to_come t l.walk) ≡ l.initial.unread.items ++ unread_of (counting_of l.by.counting.now) t (to_come t l.initial.walk));
+  noted : Told (g.F.Folders.tree l.initial.folders) (λ t. NotesCome (notes_of l.initial.walk) (noted_to_come t l.initial.walk) (notes_of l.walk) (noted_to_come t l.walk));
   no_fault : g.W.Sink.faults l.initial.writer < 18446744073709551615 → g.W.Sink.faults l.writer ≡ g.W.Sink.faults l.initial.writer;
   honest : g.F.Folders.memory_faults l.initial.folders < 18446744073709551615 → g.F.Folders.memory_faults l.folders ≡ g.F.Folders.memory_faults l.initial.folders;
 }

@@ -1,4 +1,4 @@
-use Rattle.std.proofs.Common.{◌≡◌, ◌++◌, append-nil, Option, Err, refl, ap, sym, ◌∙◌, subst, rules, List, ℕ}
+use Rattle.std.proofs.Common.{◌≡◌, ◌++◌, append-nil, Option, Ok, Err, refl, ap, sym, ◌∙◌, subst, rules, List, ℕ}
 use Rattle.tokei_languages.specs.Seen.{languages_of}
 use Rattle.tokei_languages.specs.Values.{LanguageValue}
 use Rattle.tokei_stats.specs.declared.error.CountError.TheVariants.{Overflow}
@@ -11,6 +11,8 @@ use Rattle.tokei_files.specs.Seen.{counting_of}
 use Rattle.tokei_files.specs.Unread.{unread_of}
 use Rattle.tokei_files.proofs.UnreadNotes.{noted_more}
 use Rattle.tokei_statistics.proofs.Running.{none_yet, one_more, all_done, first_done, one_over, always_err}
+use Rattle.tokei_walk.proofs.NoteSteps.{come_all}
+use Rattle.tokei_walk.proofs.NoteRoots.{over_notes}
 use Rattle.tokei_statistics.proofs.counting.count_files.Goals as goal
 
 pub loop-file-init : goal.loop-file-init
@@ -20,6 +22,7 @@ loop-file-init g c = record {
   honest = λ h. refl;
   told = λ t e. none_yet (counting_of c.args.counting.now) t (to_come t c.args.walk.now) (languages_of c.args.languages.now);
   unread = λ t e. refl;
+  noted = λ t e. refl;
 }
 
 pub returns-in_err-file-clause-partly : goal.returns-in_err-file-clause-partly
@@ -39,6 +42,7 @@ loop-file-preserved g c =
           let here = inv.same ∙ e in
           let given = subst (λ (o : Option KeptFile). Advances (to_come t c.loop-file.walk) (to_come t c.next.new.self) o) c.in-Some.is (c.in_ok-file.ensures.told t here) in
           noted_more (counting_of c.args.counting.now) t _ _ c.in-Some.file _ _ _ (inv.unread t e) given (c.in_ok-add_file.ensures.unread t (c.next.ensures.folders.same ∙ here));
+      noted = λ t e. inv.noted t e ∙ c.in_ok-file.ensures.noted t (inv.same ∙ e);
     }
 
 pub returns-in_err-add_file-clause-partly : goal.returns-in_err-add_file-clause-partly
@@ -92,3 +96,9 @@ returns-clause-folders g c =
       same = c.next.ensures.folders.same ∙ inv.same;
       honest = stay_on g.F.Folders.memory_faults _ _ _ inv.honest c.in_ok-file.ensures.folders.honest;
     }
+
+pub returns-clause-noted : goal.returns-clause-noted
+returns-clause-noted g c = λ t e.
+    let inv = c.loop-file.invariant in
+    come_all _ _ _ _ (over_notes t c.next.new.self (c.in_ok-file.ensures.over (ap Ok c.in_default.is)))
+    (inv.noted t e ∙ c.in_ok-file.ensures.noted t (inv.same ∙ e))

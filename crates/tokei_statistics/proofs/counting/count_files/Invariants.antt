@@ -1,6 +1,7 @@
 use Rattle.std.proofs.Common.{◌≡◌, ◌<◌, ◌-◌, ◌^◌, ◌++◌}
 use Rattle.tokei_languages.specs.Seen.{languages_of}
 use Rattle.tokei_folders.specs.Answers.{Told}
+use Rattle.tokei_walk.specs.Noted.{NotesCome, noted_to_come}
 use Rattle.tokei_walk.specs.Notes.{Grows, notes_of}
 use Rattle.tokei_walk.specs.Ranks.{rank}
 use Rattle.tokei_walk.specs.Walks.{to_come}
@@ -18,6 +19,7 @@ invariant-loop-file g l = record {
   unread : Told (g.F.Folders.tree l.initial.folders)
       (λ t. l.unread.items ++ unread_of (counting_of l.counting) t (to_come t l.walk)
       ≡ l.initial.unread.items ++ unread_of (counting_of l.counting) t (to_come t l.initial.walk));
+  noted : Told (g.F.Folders.tree l.initial.folders) (λ t. NotesCome (notes_of l.initial.walk) (noted_to_come t l.initial.walk) (notes_of l.walk) (noted_to_come t l.walk));
 }
 
 abbrev pub decreases-loop-file : goal.decreases-loop-file

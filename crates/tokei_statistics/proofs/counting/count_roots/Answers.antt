@@ -6,13 +6,14 @@ use Rattle.tokei_walk.specs.declared.kept_file.KeptFile.{KeptFile}
 use Rattle.tokei_files.specs.Files.{ReadingsFit}
 use Rattle.tokei_files.specs.Seen.{counting_of}
 use Rattle.tokei_files.specs.Unread.{unread_of}
-use Rattle.tokei_files.proofs.UnreadNotes.{ends_in}
+use Rattle.tokei_files.proofs.UnreadNotes.{notes_are}
 use Rattle.tokei_walk.specs.declared.kept_file.Note.{Note}
 use Rattle.tokei_walk.specs.Walks.{to_come}
 use Rattle.tokei_statistics.specs.Runs.{AddsFiles, AddsFirst}
 use Rattle.tokei_walk.specs.Notes.{Grows}
 use Rattle.tokei_walk.proofs.Growing.{grows_same, grows_on}
 use Rattle.tokei_walk.proofs.Lasting.{answers}
+use Rattle.tokei_walk.proofs.Noting.{says_what}
 use Rattle.tokei_statistics.proofs.Running.{none_added, all_added, always_err}
 use Rattle.tokei_statistics.proofs.counting.count_roots.Goals as goal
 
@@ -32,11 +33,12 @@ returns-in_err-counted-clause-overflow g c = λ q t e.
     let comes = c.in_ok-walk.ensures.comes t (sound_of _ t (g.met.F.Folders.sound c.args.folders.now) e) in
     subst (λ (ks : List KeptFile). ReadingsFit by t ks → ⊥) comes (c.in_err-counted.ensures.overflow (ap (λ x. Err x) same) t e)
 
-pub returns-clause-unread : goal.returns-clause-unread
-returns-clause-unread g c = λ t e.
+pub returns-clause-noted : goal.returns-clause-noted
+returns-clause-noted g c = λ t e.
     let by = counting_of c.args.counting.now in
     let comes = c.in_ok-walk.ensures.comes t (sound_of _ t (g.met.F.Folders.sound c.args.folders.now) e) in
-    ends_in c.into_notes-notes.result.items _ _
+    notes_are _ _ _ _ _ _ _ c.in_ok-walk.ensures.notes c.count_files-counted.ensures.notes
+    (says_what _ _ _ _ (c.in_ok-walk.ensures.noted t) (c.in_ok-counted.ensures.noted t e)) c.into_notes-notes.ensures
     (c.in_ok-append.ensures.items ∙ ap (λ (q : List Note). c.into_notes-notes.result.items ++ q)
     (c.in_ok-counted.ensures.unread t e ∙ ap (λ (q : List Note). q ++ unread_of by t (to_come t c.in_ok-walk.walk)) c.new-unread.ensures.items ∙ ap (unread_of by t) comes))
 
