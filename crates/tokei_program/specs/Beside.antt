@@ -7,10 +7,13 @@ use Rattle.tokei_cli.specs.Lines.{IsLineOf}
 use Rattle.tokei_folders.specs.Tree.{Tree}
 use Rattle.tokei_invocation.specs.declared.environment.Env.{Env}
 use Rattle.tokei_config.specs.declared.flaws.Flaw.{Flaw}
-use Rattle.tokei_invocation.specs.Configs.{AreFlaws}
+use Rattle.tokei.specs.declared.job.Job.{Job}
+use Rattle.tokei.specs.JobNotes.{AreNotesOf}
+use Rattle.tokei_invocation.specs.Configs.{AreFlaws, IsConfig}
 use Rattle.tokei_invocation.specs.NotesText.{passed_text}
 use Rattle.tokei_invocation.specs.Shown.{AreShown, shown_note}
 use Rattle.tokei_invocation.specs.Tables.{place_of_table, table_at}
+use Rattle.tokei_program.specs.Jobs.{IsJob}
 use Rattle.tokei_program.specs.Writing.{WritesText}
 use Rattle.tokei_table.specs.Row.{Row}
 use Rattle.tokei_walk.specs.declared.kept_file.Note.{Note}
@@ -25,12 +28,16 @@ Met = Cli → List Row → List Flaw → List Note → List Note → Type 0
 abbrev pub AnyMet : Met
 AnyMet c rows flaws notes as_shown = AreShown notes as_shown
 
--- the rows of the table's file, and the configuration files that are there and count as empty; and
--- no note has words behind its place
+-- the rows of the table's file, the configuration files that are there and count as empty, and the
+-- notes of the job of a command line; and no note has words behind its place
 pub record AreMet (env : Env) (tree : Tree) (line : Cli) (rows : List Row) (flaws : List Flaw)
     (notes as_shown : List Note) : Type 0 where
   pub table : table_at tree (place_of_table env line) ≡ Some (Ok rows)
   pub empty : AreFlaws rows env tree flaws
+  pub job : Job
+  pub members : IsJob line job
+  pub config : IsConfig rows line env tree job.config
+  pub noted : AreNotesOf rows job tree notes
   pub plain : as_shown ≡ map shown_note notes
 
 -- those of a known tree

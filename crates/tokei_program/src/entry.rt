@@ -5,10 +5,11 @@ ghost use Rattle.tokei_cli.specs.CommandLines.{excludes_of, inputs_of};
 ghost use Rattle.tokei_folders.specs.Answers.{Told};
 ghost use Rattle.tokei_program.specs.Choices.{Chooses};
 ghost use Rattle.tokei_program.specs.Beside.{AnyMet, IsBeside, SaysBeside, ShowsAsked, ShowsNotes, MetIn};
-ghost use Rattle.tokei_invocation.specs.Configs.{AreFlaws};
+ghost use Rattle.tokei_invocation.specs.Configs.{AreFlaws, IsConfig};
 ghost use Rattle.tokei_invocation.specs.Messages.{Says};
 ghost use Rattle.tokei_invocation.specs.Statuses.{status_of};
 ghost use Rattle.tokei_invocation.specs.Tables.{place_of_table, table_at};
+ghost use Rattle.tokei_program.specs.Jobs.{IsJob};
 ghost use Rattle.tokei_program.specs.Writing.{Writes, WritesAsked, WritesCounts, WritesList};
 ghost use Rattle.tokei_folders.specs.AsTheyWere.{SameTree, NoFault};
 ghost use Rattle.tokei_walk.specs.Walks.{texts_of};
@@ -41,6 +42,8 @@ fn write_prepared<F: Folders, W: Sink>(
     ensures noted { Told (F.tree folders.old) (λ t.
         table_at t (place_of_table request.now.env.now request.now.cli.now) ≡ Some (Ok table.now)
         → AreFlaws table.now request.now.env.now t prepared.now.flaws.items
+        → IsJob request.now.cli.now prepared.now.job
+        → IsConfig table.now request.now.cli.now request.now.env.now t prepared.now.job.config
         → IfOk result (λ text.
         ShowsNotes (MetIn request.now.env.now t) request.now.cli.now (string_bytes text))) }
     ensures fault { NoFault W.faults out.old out.new result }

@@ -16,7 +16,9 @@ returns-clause-beside g c = c.write_prepared-said.ensures.beside
 pub returns-clause-noted : goal.returns-clause-noted
 returns-clause-noted g c t told =
     let read = c.table_of.ensures.same ∙ told in
+    let job = c.in_ok-prepared.ensures.told t read in
     c.write_prepared-said.ensures.noted t (c.prepare.ensures.same ∙ read) (c.in_ok-table.ensures.told t told) (c.in_ok-prepared.ensures.flawed t read)
+    job.members job.config
 
 pub returns-clause-fault : goal.returns-clause-fault
 returns-clause-fault g c = c.write_prepared-said.ensures.fault

@@ -20,7 +20,7 @@ returns-in_ok-text-in-Ok-clause-beside g c =
     c.requires.excludes c.in-Ok.ensures.notes shown
 
 pub returns-in_ok-text-in-Ok-clause-noted : goal.returns-in_ok-text-in-Ok-clause-noted
-returns-in_ok-text-in-Ok-clause-noted g c t told table empty =
+returns-in_ok-text-in-Ok-clause-noted g c t told table empty members config =
     let flaws = c.args.prepared.now.flaws.items in
     let as_shown = c.in_ok-shown-in-Ok.shown.items in
     let shown : string_bytes c.in_ok-text-in-Ok.text ≡ passed_text c.args.table.now c.args.request.now.cli.now as_shown flaws = search rules in
@@ -29,6 +29,10 @@ returns-in_ok-text-in-Ok-clause-noted g c t told table empty =
     (record {
       table = table;
       empty = empty;
+      job = c.args.prepared.now.job;
+      members = members;
+      config = config;
+      noted = c.in-Ok.ensures.noted t told;
       plain = c.in_ok-shown-in-Ok.ensures.silent t (c.run.ensures.folders.same ∙ told) ∙ ap (λ (ns : List Note). map shown_note ns) c.deref.ensures.value;
     })
     c.requires.excludes c.in-Ok.ensures.notes shown
