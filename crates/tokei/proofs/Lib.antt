@@ -1,3 +1,4 @@
+pub mod BegunStreams
 pub mod FileReports
 pub mod Filling
 pub mod StreamNotes

@@ -1,5 +1,5 @@
 //! The rows of a stream, and its heading.
-ghost use Rattle.std.specs.Prelude.{◌≢◌, ◌<◌, Err, OnOk};
+ghost use Rattle.std.specs.Prelude.{◌≡◌, ◌≢◌, ◌<◌, Err, IfErr, OnOk};
 ghost use Rattle.std.specs.Io.KnownBytes.{Appends};
 ghost use Rattle.tokei_stats.specs.Reports.{report_of as report_value};
 ghost use Rattle.tokei_io.specs.declared.error.OutputError.TheVariants.{Overflow as SumOverflow, Write as WriteFault};
@@ -37,6 +37,8 @@ pub fn write_row<W: Sink>(
     ensures fault { TellsFault W.faults writer.old writer.new result WriteFault }
     ensures no_fault { PassesNoFault W.faults writer.old writer.new result WriteFault }
     ensures overflow { result ≢ Err SumOverflow }
+    ensures untouched { IfErr result (λ e. e ≢ WriteFault
+        → W.contents writer.new ≡ W.contents writer.old) }
 {
     match rows.form {
         Streaming::Simple => {
@@ -59,6 +61,8 @@ pub fn write_heading<W: Sink>(form: Streaming, writer: &mut W) -> Result<(), Out
     ensures fault { TellsFault W.faults writer.old writer.new result WriteFault }
     ensures no_fault { PassesNoFault W.faults writer.old writer.new result WriteFault }
     ensures overflow { result ≢ Err SumOverflow }
+    ensures untouched { IfErr result (λ e. e ≢ WriteFault
+        → W.contents writer.new ≡ W.contents writer.old) }
 {
     match form {
         Streaming::Json => Ok(()),

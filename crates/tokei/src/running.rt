@@ -5,7 +5,7 @@ ghost use Rattle.tokei_io.specs.declared.error.OutputError.TheVariants.{Overflow
 ghost use Rattle.tokei.specs.Output.{Outputs};
 ghost use Rattle.tokei.specs.Runs.{languages_after};
 ghost use Rattle.tokei.specs.Texts.{WritesText};
-ghost use Rattle.tokei.specs.Refused.{IsUntouched};
+ghost use Rattle.tokei.specs.Refused.{IsBegun, IsUntouched};
 ghost use Rattle.tokei.specs.Sums.{CountedFits, EarlierFits, Fits};
 ghost use Rattle.tokei_folders.specs.AsTheyWere.{AsTheyWere};
 ghost use Rattle.tokei_io.specs.Faults.{TellsFault, PassesNoFault};
@@ -62,8 +62,8 @@ fn write_counted<F: Folders, W: Sink>(
 ///
 /// `Overflow` comes only where a sum passes the greatest `usize`, and `Write` only where the writer
 /// had a fault; after `Write` nothing is said of what was written. After `Memory` and `Overflow`
-/// nothing of a document or a report is written; of a stream nothing is said then. The folders keep
-/// their tree.
+/// nothing of a document or a report is written; a stream isn't begun then, or ends behind a row.
+/// The folders keep their tree.
 pub fn run<F: Folders, W: Sink>(
     alloc: Global,
     table: &LanguageTable,
@@ -78,6 +78,9 @@ pub fn run<F: Folders, W: Sink>(
         ¬ Fits job.now.wanted table.now job.now t) }
     ensures untouched { IfErr result (λ e. e ≢ WriteFault
         → IsUntouched job.now.wanted (W.contents writer.old) (W.contents writer.new)) }
+    ensures partly { Told (F.tree folders.old) (λ t. IfErr result (λ e. e ≢ WriteFault
+        → IsBegun job.now.wanted table.now job.now t
+        (W.contents writer.old) (W.contents writer.new))) }
     ensures earlier { OnOk result (EarlierFits job.now.wanted job.now) }
     ensures fault { TellsFault W.faults writer.old writer.new result WriteFault }
     ensures no_fault { PassesNoFault W.faults writer.old writer.new result WriteFault }

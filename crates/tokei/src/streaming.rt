@@ -1,5 +1,5 @@
 //! A row for each file, written as it is counted.
-ghost use Rattle.std.specs.Prelude.{◌≡◌, ◌<◌, ◌++◌, Err, IfOk, IsErrOf, OnOk, true};
+ghost use Rattle.std.specs.Prelude.{◌≡◌, ◌≢◌, ◌<◌, ◌++◌, Err, IfErr, IfOk, IsErrOf, OnOk, true};
 ghost use Rattle.std.specs.Io.KnownBytes.{Appends};
 ghost use Rattle.tokei_folders.specs.Answers.{Told};
 ghost use Rattle.tokei_folders.specs.Tree.{Tree, is_sound};
@@ -14,7 +14,7 @@ ghost use Rattle.tokei_io.specs.declared.error.OutputError.TheVariants.{Overflow
 ghost use Rattle.tokei.specs.Earlier.{earlier_of};
 ghost use Rattle.tokei.specs.Counted.{files_of};
 ghost use Rattle.tokei.specs.JobNotes.{AreNotesOf, walk_notes};
-ghost use Rattle.tokei.specs.JobStreams.{StreamFits, WritesStream};
+ghost use Rattle.tokei.specs.JobStreams.{BeginsJobStream, BeginsStream, StreamFits, WritesRows, WritesStream};
 ghost use Rattle.tokei.specs.Streams.{file_row, rows_of, stream_text};
 ghost use Rattle.tokei_folders.specs.AsTheyWere.{AsTheyWere};
 ghost use Rattle.tokei_io.specs.Faults.{TellsFault, PassesNoFault};
@@ -55,6 +55,8 @@ fn write_file<F: Folders, W: Sink>(
         ¬ FileFits (counting_value by.now.counting.now) t file) }
     ensures fault { TellsFault W.faults writer.old writer.new result WriteFault }
     ensures no_fault { PassesNoFault W.faults writer.old writer.new result WriteFault }
+    ensures untouched { IfErr result (λ e. e ≢ WriteFault
+        → W.contents writer.new ≡ W.contents writer.old) }
     ensures unread { Told (F.tree folders.old) (λ t. OnOk result (unread.new.items
         ≡ unread.old.items ++ unread_of_file (counting_value by.now.counting.now) t file)) }
 {
@@ -93,6 +95,10 @@ fn write_rows<F: Folders, W: Sink>(
         (Appends (W.contents writer.old) (W.contents writer.new)
         (rows_of by.now.rows.now.form by.now.rows.now.table.now
         (counting_value by.now.counting.now) t (to_come t walk.old)))) }
+    ensures partly { Told (F.tree folders.old) (λ t. IfErr result (λ e. e ≢ WriteFault
+        → WritesRows by.now.rows.now.form by.now.rows.now.table.now
+        (counting_value by.now.counting.now) t (to_come t walk.old)
+        (W.contents writer.old) (W.contents writer.new))) }
     ensures overflow { result ≡ Err SumOverflow → Told (F.tree folders.old) (λ t.
         ¬ ReadingsFit (counting_value by.now.counting.now) t (to_come t walk.old)) }
     ensures fault { TellsFault W.faults writer.old writer.new result WriteFault }
@@ -145,6 +151,9 @@ fn write_stream<F: Folders, W: Sink>(
         (Appends (W.contents writer.old) (W.contents writer.new)
         (stream_text rows.now.form rows.now.table.now (counting_value counting.now) t
         (files_of job.now t)))) }
+    ensures partly { Told (F.tree folders.old) (λ t. IfErr result (λ e. e ≢ WriteFault
+        → BeginsStream rows.now.form rows.now.table.now (counting_value counting.now) t
+        (files_of job.now t) (W.contents writer.old) (W.contents writer.new))) }
     ensures overflow { result ≡ Err SumOverflow → Told (F.tree folders.old) (λ t.
         ¬ ReadingsFit (counting_value counting.now) t (files_of job.now t)) }
     ensures fault { TellsFault W.faults writer.old writer.new result WriteFault }
@@ -178,6 +187,9 @@ pub fn stream<F: Folders, W: Sink>(
     ensures folders { AsTheyWere F.tree F.memory_faults folders.old folders.new result }
     ensures told { Told (F.tree folders.old) (λ t. OnOk result (WritesStream rows.now.form
         rows.now.table.now job.now t (W.contents writer.old) (W.contents writer.new))) }
+    ensures partly { Told (F.tree folders.old) (λ t. IfErr result (λ e. e ≢ WriteFault
+        → BeginsJobStream rows.now.form rows.now.table.now job.now t
+        (W.contents writer.old) (W.contents writer.new))) }
     ensures overflow { result ≡ Err SumOverflow → Told (F.tree folders.old) (λ t.
         ¬ StreamFits rows.now.table.now job.now t) }
     ensures earlier { OnOk result (RenewalFits (earlier_of job.now.earlier)) }

@@ -1,5 +1,5 @@
 //! The rows of a stream of columns.
-ghost use Rattle.std.specs.Prelude.{◌≡◌, ◌≢◌, Err, IfOk, OnOk, string_bytes};
+ghost use Rattle.std.specs.Prelude.{◌≡◌, ◌≢◌, Err, IfErr, IfOk, OnOk, string_bytes};
 ghost use Rattle.std.specs.Io.KnownBytes.{Appends};
 ghost use Rattle.tokei_stats.specs.Seen.{counts_of};
 ghost use Rattle.tokei_io.specs.Printing.{CountsWriteFault};
@@ -20,6 +20,8 @@ pub fn print_stream_heading<W: Sink>(writer: &mut W) -> Result<(), OutputError>
         (Appends (W.contents writer.old) (W.contents writer.new) stream_heading) }
     ensures faults { CountsWriteFault W.faults writer.old writer.new result }
     ensures overflow { result ≢ Err OutputError.Overflow }
+    ensures untouched { IfErr result (λ e. e ≢ OutputError.Write
+        → W.contents writer.new ≡ W.contents writer.old) }
 {
     put(writer, HEADING.as_bytes())
 }
@@ -51,6 +53,8 @@ pub fn print_stream_row<W: Sink>(
         (stream_row language.now (string_bytes report.now.name) (counts_of report.now.stats))) }
     ensures faults { CountsWriteFault W.faults writer.old writer.new result }
     ensures overflow { result ≢ Err OutputError.Overflow }
+    ensures untouched { IfErr result (λ e. e ≢ OutputError.Write
+        → W.contents writer.new ≡ W.contents writer.old) }
 {
     let text = stream_row(alloc, language, report)?;
     put(writer, text.as_bytes())

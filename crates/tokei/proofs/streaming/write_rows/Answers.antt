@@ -1,4 +1,4 @@
-use Rattle.std.proofs.Common.{◌≡◌, Option, Ok, Err, refl, ap, ◌∙◌, subst, rules, List}
+use Rattle.std.proofs.Common.{◌≡◌, Option, Ok, Err, refl, sym, ap, ◌∙◌, subst, rules, List, ℕ}
 use Rattle.tokei_files.specs.Files.{ReadingsFit}
 use Rattle.tokei_files.specs.Seen.{counting_of}
 use Rattle.tokei_files.proofs.UnreadNotes.{noted_more}
@@ -6,11 +6,13 @@ use Rattle.tokei_walk.specs.declared.kept_file.KeptFile.{KeptFile}
 use Rattle.tokei_walk.specs.Walks.{to_come, Advances}
 use Rattle.tokei_walk.proofs.Growing.{grows_same, grows_on}
 use Rattle.tokei_walk.proofs.Lasting.{stay_on, refused}
-use Rattle.tokei.proofs.WrittenRows.{no_row_yet, one_row_more}
-use Rattle.tokei.specs.Streams.{file_row}
+use Rattle.tokei.proofs.WrittenRows.{all_rows, no_row_yet, one_row_more}
+use Rattle.tokei.specs.Streams.{file_row, rows_of}
 use Rattle.tokei_io.specs.declared.error.OutputError.TheVariants.{Overflow}
 use Rattle.tokei_walk.proofs.NoteSteps.{come_all}
 use Rattle.tokei_walk.proofs.NoteRoots.{over_notes}
+use Rattle.std.specs.Io.KnownBytes.{Appends}
+use Rattle.std.proofs.lemmas.Result.{err_from_is_err_and}
 use Rattle.tokei.proofs.streaming.write_rows.Goals as goal
 
 pub loop-file-init : goal.loop-file-init
@@ -79,3 +81,31 @@ returns-clause-noted g c = λ t e.
     let inv = c.loop-file.invariant in
     come_all _ _ _ _ (over_notes t c.next.new.self (c.in_ok-file.ensures.over (ap Ok c.in_default.is)))
     (inv.noted t e ∙ c.in_ok-file.ensures.noted t (inv.same ∙ e))
+
+pub returns-clause-told : goal.returns-clause-told
+returns-clause-told g c = λ t e.
+    let by = c.args.by.now in
+    let inv = c.loop-file.invariant in let here = inv.same ∙ e in
+    let none = subst (λ (o : Option KeptFile). Advances (to_come t c.loop-file.walk) (to_come t c.next.new.self) o) c.in_default.is (c.in_ok-file.ensures.told t here) in
+    all_rows (file_row by.rows.now.form by.rows.now.table.now (counting_of by.counting.now) t) _ _ _ _ (inv.told t e) none
+
+pub returns-in_err-file-clause-partly : goal.returns-in_err-file-clause-partly
+returns-in_err-file-clause-partly g c = λ t e.
+    let p = err_from_is_err_and c.from_residual.result c.from_residual.ensures.1 in
+    let h = c.loop-file.invariant.told t e in
+    rw (p.1, p.2) (λ q. record { first = h.first; others = _; are = h.are; appended = h.appended })
+
+pub returns-in_err-write_file-clause-partly : goal.returns-in_err-write_file-clause-partly
+returns-in_err-write_file-clause-partly g c = λ t e.
+    let p = err_from_is_err_and c.from_residual-in_err-write_file.result c.from_residual-in_err-write_file.ensures.1 in
+    let h = c.loop-file.invariant.told t e in
+    rw (p.1, p.2) (λ q. record {
+      first = h.first;
+      others = _;
+      are = h.are;
+      appended =
+          subst
+          (λ (w : Option (List ℕ)). Appends (g.W.Sink.contents c.args.writer.now) w
+          (rows_of c.args.by.now.rows.now.form c.args.by.now.rows.now.table.now (counting_of c.args.by.now.counting.now) t h.first))
+          (sym (c.in_err-write_file.ensures.untouched q)) h.appended;
+    })

@@ -1,4 +1,4 @@
-use Rattle.std.proofs.Common.{◌≡◌, ◌++◌, Err, List, ap, subst, rules, ◌∙◌}
+use Rattle.std.proofs.Common.{◌≡◌, ◌++◌, Err, List, ap, subst, rules, inl, inr, ◌∙◌}
 use Rattle.std.proofs.KnownBytes.{Appends-trans}
 use Rattle.std.specs.Io.KnownBytes.{Appends}
 use Rattle.tokei_folders.proofs.Contents.{sound_of}
@@ -14,6 +14,9 @@ use Rattle.tokei_io.specs.declared.error.OutputError.TheVariants.{Overflow}
 use Rattle.tokei.proofs.StreamNotes.{noted_behind}
 use Rattle.tokei.specs.Rows.{heading_of}
 use Rattle.tokei.specs.Streams.{rows_of, stream_text}
+use Rattle.std.proofs.lemmas.Result.{err_from_is_err_and}
+use Rattle.tokei.specs.JobStreams.{WritesRows}
+use Rattle.tokei.proofs.BegunStreams.{begun_by, heading_alone, rows_behind, whole_stream}
 use Rattle.tokei.proofs.streaming.write_stream.Goals as goal
 
 pub returns-clause-told : goal.returns-clause-told
@@ -48,3 +51,35 @@ returns-clause-noted g c = λ t e.
 pub returns-clause-notes : goal.returns-clause-notes
 returns-clause-notes g c =
     noted_behind _ _ _ _ _ _ c.in_ok-walk.ensures.notes c.in_ok-written.ensures.notes c.into_notes-notes.ensures c.in_ok-append.ensures.items
+
+pub returns-in_err-write_heading-clause-partly : goal.returns-in_err-write_heading-clause-partly
+returns-in_err-write_heading-clause-partly g c = λ t e.
+    let p = err_from_is_err_and c.from_residual.result c.from_residual.ensures.1 in
+    rw (p.1, p.2) (λ q. inl (c.in_err-write_heading.ensures.untouched q))
+
+pub returns-in_err-walk-clause-partly : goal.returns-in_err-walk-clause-partly
+returns-in_err-walk-clause-partly g c = λ t e.
+    let rows = c.args.rows.now in
+    begun_by c.from_residual-in_err-walk.result
+    (heading_alone rows.form rows.table.now (counting_of c.args.counting.now) t _ _ _ c.in_ok-write_heading.ensures.bytes)
+
+pub returns-in_err-written-clause-partly : goal.returns-in_err-written-clause-partly
+returns-in_err-written-clause-partly g c = λ t e.
+    let p = err_from_is_err_and c.from_residual-in_err-written.result c.from_residual-in_err-written.ensures.1 in
+    let rows = c.args.rows.now in
+    let by = counting_of c.args.counting.now in
+    let sound = sound_of _ t (g.met.F.Folders.sound c.args.folders.now) e in
+    rw (p.1, p.2) (λ q.
+    inr (rows_behind rows.form rows.table.now by t _ _ _ _ c.in_ok-write_heading.ensures.bytes
+    (subst (λ (files : List KeptFile). WritesRows rows.form rows.table.now by t files (g.W.Sink.contents c.write_heading.new.writer) (g.W.Sink.contents c.write_rows-written.new.writer))
+    (c.in_ok-walk.ensures.comes t sound) (c.in_err-written.ensures.partly t e q))))
+
+pub returns-in_err-append-clause-partly : goal.returns-in_err-append-clause-partly
+returns-in_err-append-clause-partly g c = λ t e.
+    let rows = c.args.rows.now in
+    let by = counting_of c.args.counting.now in
+    let sound = sound_of _ t (g.met.F.Folders.sound c.args.folders.now) e in
+    begun_by c.from_residual-in_err-append.result
+    (whole_stream rows.form rows.table.now by t _ _ _ _ c.in_ok-write_heading.ensures.bytes
+    (subst (λ (files : List KeptFile). Appends (g.W.Sink.contents c.write_heading.new.writer) (g.W.Sink.contents c.write_rows-written.new.writer) (rows_of rows.form rows.table.now by t files))
+    (c.in_ok-walk.ensures.comes t sound) (c.in_ok-written.ensures.told t e)))
