@@ -1,2 +1,3 @@
 pub mod Asking
 pub mod Jobs
+pub mod Leaving

@@ -4,5 +4,6 @@ pub mod Beside
 pub mod Choices
 pub mod Columns
 pub mod Jobs
+pub mod Leaving
 pub mod Words
 pub mod Writing

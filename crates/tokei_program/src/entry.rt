@@ -1,6 +1,7 @@
 //! The whole program but for its real ends.
-ghost use Rattle.std.specs.Prelude.{◌≡◌, ◌≢◌, ◌<◌, ◌≤◌, [], IfErr, IfOk, Ok, OnOk, Some, map, string_bytes};
+ghost use Rattle.std.specs.Prelude.{◌≡◌, ◌≢◌, ◌<◌, ◌≤◌, ◌⊎◌, [], IfErr, IfOk, Ok, OnErr, OnOk, Some, map, string_bytes};
 ghost use Rattle.tokei.specs.Output.{Outputs};
+ghost use Rattle.tokei.specs.Refused.{IsBegun};
 ghost use Rattle.tokei_cli.specs.CommandLines.{excludes_of, inputs_of};
 ghost use Rattle.tokei_folders.specs.Answers.{Told};
 ghost use Rattle.tokei_program.specs.Choices.{Chooses};
@@ -10,6 +11,7 @@ ghost use Rattle.tokei_invocation.specs.Messages.{Says};
 ghost use Rattle.tokei_invocation.specs.Statuses.{status_of};
 ghost use Rattle.tokei_invocation.specs.Tables.{place_of_table, table_at};
 ghost use Rattle.tokei_program.specs.Jobs.{IsJob};
+ghost use Rattle.tokei_program.specs.Leaving.{HasNoFault, Leaves, LeavesAsked, LeavesCounts};
 ghost use Rattle.tokei_program.specs.Writing.{Writes, WritesAsked, WritesCounts, WritesList};
 ghost use Rattle.tokei_folders.specs.AsTheyWere.{SameTree, NoFault};
 ghost use Rattle.tokei_walk.specs.Walks.{texts_of};
@@ -47,6 +49,11 @@ fn write_prepared<F: Folders, W: Sink>(
         → IfOk result (λ text.
         ShowsNotes (MetIn request.now.env.now t) request.now.cli.now (string_bytes text))) }
     ensures fault { NoFault W.faults out.old out.new result }
+    ensures left { Told (F.tree folders.old) (λ t. OnErr result
+        (HasNoFault W.faults out.old out.new → Outputs prepared.now.job.wanted table.now
+        prepared.now.job t (W.contents out.old) (W.contents out.new)
+        ⊎ IsBegun prepared.now.job.wanted table.now prepared.now.job t
+        (W.contents out.old) (W.contents out.new))) }
     ensures failed { IfErr result (λ e. status_of e ≡ 1) }
 {
     match run(alloc, table, folders, &prepared.job, out) {
@@ -79,6 +86,9 @@ fn write_counts<F: Folders, S: Source, W: Sink>(
     ensures noted { Told (F.tree folders.old) (λ t. IfOk result (λ text.
         ShowsNotes (MetIn request.now.env.now t) request.now.cli.now (string_bytes text))) }
     ensures fault { NoFault W.faults out.old out.new result }
+    ensures left { Told (F.tree folders.old) (λ t. OnErr result
+        (HasNoFault W.faults out.old out.new → LeavesCounts request.now.cli.now request.now.env.now
+        t (S.remaining input.old) (W.contents out.old) (W.contents out.new))) }
     ensures failed { IfErr result (λ e. status_of e ≡ 1) }
 {
     let table = table_of(alloc, request.cli, request.env, folders)?;
@@ -102,6 +112,8 @@ fn write_list<F: Folders, W: Sink>(
         cli.now env.now t (W.contents out.old) (W.contents out.new))) }
     ensures beside { IfOk result (λ text. string_bytes text ≡ []) }
     ensures fault { NoFault W.faults out.old out.new result }
+    ensures left { OnErr result (HasNoFault W.faults out.old out.new
+        → W.contents out.new ≡ W.contents out.old) }
     ensures failed { IfErr result (λ e. status_of e ≡ 1) }
 {
     let table = table_of(alloc, cli, env, folders)?;
@@ -129,6 +141,9 @@ fn carry_out<F: Folders, S: Source, W: Sink>(
     ensures noted { Told (F.tree folders.old) (λ t. IfOk result (λ text.
         ShowsAsked (MetIn env.now t) cli.now (string_bytes text))) }
     ensures fault { NoFault W.faults out.old out.new result }
+    ensures left { Told (F.tree folders.old) (λ t. OnErr result
+        (HasNoFault W.faults out.old out.new → LeavesAsked cli.now env.now t
+        (S.remaining input.old) (W.contents out.old) (W.contents out.new))) }
     ensures unwritten { IfErr result (λ e. status_of e ≡ 2 → out.new ≡ out.old) }
     ensures unread { IfErr result (λ e. status_of e ≡ 2
         → (folders.new ≡ folders.old) × (input.new ≡ input.old)) }
@@ -160,6 +175,9 @@ fn answer_words<F: Folders, S: Source, W: Sink>(
         IsBeside (MetIn env.now t) (map (λ w. w.now) words.now)
         (W.contents out.old) (W.contents out.new) (string_bytes text))) }
     ensures fault { NoFault W.faults out.old out.new result }
+    ensures left { Told (F.tree folders.old) (λ t. OnErr result
+        (HasNoFault W.faults out.old out.new → Leaves (map (λ w. w.now) words.now) env.now t
+        (S.remaining input.old) (W.contents out.old) (W.contents out.new))) }
     ensures unwritten { IfErr result (λ e. status_of e ≡ 2 → out.new ≡ out.old) }
     ensures unread { IfErr result (λ e. status_of e ≡ 2
         → (folders.new ≡ folders.old) × (input.new ≡ input.old)) }
@@ -185,7 +203,8 @@ fn answer_words<F: Folders, S: Source, W: Sink>(
 /// as many as the command line shows. A refused
 /// command line is seen before anything is read or written. Any other status than 1 says that
 /// neither writer had a fault. Where the status is 1 and `err` had no fault, one message stands in
-/// it. Once a run has begun, the memory of its table isn't given back, since the process mostly
+/// it; where `out` had none, it has over a known tree what it held, all of what was asked for, or the
+/// heading of a stream and the rows of the first files, and nothing else. Once a run has begun, the memory of its table isn't given back, since the process mostly
 /// ends next.
 pub fn program<F: Folders, S: Source, W: Sink, E: Sink>(
     alloc: Global,
@@ -206,6 +225,10 @@ pub fn program<F: Folders, S: Source, W: Sink, E: Sink>(
     ensures noted { Told (F.tree folders.old) (λ t. result ≡ 0
         → SaysBeside (MetIn env.now t) (map (λ w. w.now) words.now)
         (W.contents out.old) (W.contents out.new) (E.contents err.old) (E.contents err.new)) }
+    ensures left { Told (F.tree folders.old) (λ t. result ≡ 1
+        → HasNoFault W.faults out.old out.new
+        → Leaves (map (λ w. w.now) words.now) env.now t (S.remaining input.old) (W.contents out.old)
+        (W.contents out.new)) }
     ensures status { result ≤ 2 }
     ensures refused { result ≡ 2 → out.new ≡ out.old }
     ensures unread { result ≡ 2 → (folders.new ≡ folders.old) × (input.new ≡ input.old) }

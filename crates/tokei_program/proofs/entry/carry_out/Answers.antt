@@ -1,6 +1,9 @@
 -- The list or the counts are what was asked for.
 use Rattle.tokei_program.proofs.Asking.{asked_by_list, asked_by_counts, beside_counts, beside_list}
 use Rattle.tokei_program.specs.Beside.{AnyMet, MetIn}
+use Rattle.tokei_program.specs.Leaving.{HasNoFault}
+use Rattle.tokei_program.proofs.Leaving.{asked_left, list_left, on_err}
+use Rattle.std.proofs.Common.{refl, inl}
 use Rattle.tokei_program.proofs.entry.carry_out.Goals as goal
 
 pub returns-then-cli-clause-told : goal.returns-then-cli-clause-told
@@ -28,3 +31,18 @@ returns-then-cli-clause-noted g c t told =
 pub returns-else-cli-clause-noted : goal.returns-else-cli-clause-noted
 returns-else-cli-clause-noted g c t told =
     beside_counts (MetIn c.args.env.now t) c.args.cli.now c.write_counts.result c.if-cli.false (c.write_counts.ensures.noted t told)
+
+pub returns-in_err-choices-clause-left : goal.returns-in_err-choices-clause-left
+returns-in_err-choices-clause-left g c = λ t told. on_err c.from_residual.result (λ _. inl refl)
+
+pub returns-then-cli-clause-left : goal.returns-then-cli-clause-left
+returns-then-cli-clause-left g c = λ t told.
+    list_left c.args.env.now t c.args.cli.now (g.S.Source.remaining c.args.input.now)
+    (g.W.Sink.contents c.args.out.now) (g.W.Sink.contents c.write_list.new.out) (HasNoFault g.W.Sink.faults c.args.out.now c.write_list.new.out)
+    c.write_list.result c.write_list.ensures.left
+
+pub returns-else-cli-clause-left : goal.returns-else-cli-clause-left
+returns-else-cli-clause-left g c = λ t told.
+    asked_left c.args.env.now t c.args.cli.now (g.S.Source.remaining c.args.input.now)
+    (g.W.Sink.contents c.args.out.now) (g.W.Sink.contents c.write_counts.new.out) (HasNoFault g.W.Sink.faults c.args.out.now c.write_counts.new.out)
+    c.write_counts.result c.requires.named c.if-cli.false (c.write_counts.ensures.left t told)

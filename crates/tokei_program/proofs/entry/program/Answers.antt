@@ -1,5 +1,5 @@
 -- The answer to the words is what the program writes and what it says beside that.
-use Rattle.std.proofs.Common.{arith, string_bytes, subst}
+use Rattle.std.proofs.Common.{inl, inr, arith, string_bytes, subst}
 use Rattle.std.specs.Io.KnownBytes.{Appends}
 use Rattle.tokei_program.proofs.entry.program.Goals as goal
 
@@ -34,3 +34,9 @@ returns-in-Err-clause-refused g c two = c.in-Err.ensures.unwritten (c.conclude.e
 
 pub returns-in-Err-clause-unread : goal.returns-in-Err-clause-unread
 returns-in-Err-clause-unread g c two = c.in-Err.ensures.unread (c.conclude.ensures.refused two)
+
+pub returns-in-Ok-clause-left : goal.returns-in-Ok-clause-left
+returns-in-Ok-clause-left g c = λ t told failed quiet. inr (inl (c.in-Ok.ensures.told t told))
+
+pub returns-in-Err-clause-left : goal.returns-in-Err-clause-left
+returns-in-Err-clause-left g c = λ t told failed quiet. c.in-Err.ensures.left t told quiet

@@ -1,6 +1,8 @@
 -- What is written is the output of the run that was prepared over the table.
-use Rattle.std.proofs.Common.{◌∙◌}
+use Rattle.std.proofs.Common.{refl, inl, ◌∙◌}
 use Rattle.tokei_program.proofs.Asking.{counts_written}
+use Rattle.tokei_program.specs.Leaving.{HasNoFault}
+use Rattle.tokei_program.proofs.Leaving.{counts_left, on_err}
 use Rattle.tokei_program.proofs.entry.write_counts.Goals as goal
 
 pub returns-clause-told : goal.returns-clause-told
@@ -31,3 +33,17 @@ returns-clause-same g c = c.write_prepared-said.ensures.same ∙ (c.prepare.ensu
 
 pub returns-in_err-prepared-clause-same : goal.returns-in_err-prepared-clause-same
 returns-in_err-prepared-clause-same g c = c.prepare.ensures.same ∙ c.table_of.ensures.same
+
+pub returns-in_err-table-clause-left : goal.returns-in_err-table-clause-left
+returns-in_err-table-clause-left g c = λ t told. on_err c.from_residual.result (λ _. inl refl)
+
+pub returns-in_err-prepared-clause-left : goal.returns-in_err-prepared-clause-left
+returns-in_err-prepared-clause-left g c = λ t told. on_err c.from_residual-in_err-prepared.result (λ _. inl refl)
+
+pub returns-clause-left : goal.returns-clause-left
+returns-clause-left g c = λ t told.
+    let read = c.table_of.ensures.same ∙ told in
+    counts_left c.args.request.now.env.now t c.args.request.now.cli.now (g.S.Source.remaining c.args.input.now)
+    (g.W.Sink.contents c.args.out.now) (g.W.Sink.contents c.write_prepared-said.new.out) (HasNoFault g.W.Sink.faults c.args.out.now c.write_prepared-said.new.out)
+    c.in_ok-table.table c.in_ok-prepared.prepared.job c.write_prepared-said.result
+    (c.in_ok-table.ensures.told t told) (c.in_ok-prepared.ensures.told t read) (c.write_prepared-said.ensures.left t (c.prepare.ensures.same ∙ read))

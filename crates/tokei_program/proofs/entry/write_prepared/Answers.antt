@@ -1,7 +1,8 @@
 -- What is said is what the run passed over, as it is shown.
-use Rattle.std.proofs.Common.{◌≡◌, ◌∙◌, List, ap, map, rules, string_bytes, subst}
+use Rattle.std.proofs.Common.{◌≡◌, ◌∙◌, List, Err, inl, inr, ap, map, arith, rules, string_bytes, subst}
 use Rattle.tokei_walk.specs.Walks.{texts_of}
 use Rattle.tokei_program.proofs.Asking.{notes_shown}
+use Rattle.tokei_program.proofs.Leaving.{on_err}
 use Rattle.tokei_program.specs.Beside.{AnyMet, MetIn}
 use Rattle.tokei_invocation.specs.NotesText.{passed_text}
 use Rattle.tokei_invocation.specs.Shown.{AreShown, shown_note}
@@ -36,3 +37,13 @@ returns-in_ok-text-in-Ok-clause-noted g c t told table empty members config =
       plain = c.in_ok-shown-in-Ok.ensures.silent t (c.run.ensures.folders.same ∙ told) ∙ ap (λ (ns : List Note). map shown_note ns) c.deref.ensures.value;
     })
     c.requires.excludes c.in-Ok.ensures.notes shown
+
+pub returns-in_err-shown-in-Ok-clause-left : goal.returns-in_err-shown-in-Ok-clause-left
+returns-in_err-shown-in-Ok-clause-left g c = λ t told. on_err c.from_residual.result (λ _. inl (c.in-Ok.ensures.told t told))
+
+pub returns-in_err-text-in-Ok-clause-left : goal.returns-in_err-text-in-Ok-clause-left
+returns-in_err-text-in-Ok-clause-left g c = λ t told. on_err c.from_residual-in_err-text-in-Ok.result (λ _. inl (c.in-Ok.ensures.told t told))
+
+pub returns-in-Err-clause-left : goal.returns-in-Err-clause-left
+returns-in-Err-clause-left g c = λ t told quiet.
+    inr (c.in-Err.ensures.partly t told (λ is. absurd (let more = c.in-Err.ensures.fault quiet.0 (ap Err is) in omega (arith, more, quiet.1))))
