@@ -177,7 +177,9 @@ fn write_stream<F: Folders, W: Sink>(
 
 /// Writes a row for each file of a job, as it is counted, and answers what was passed over: what
 /// the walk met, and then each file that counts in a language and can't be read. No report is kept,
-/// and no file is counted where the renewed counts of earlier results don't fit.
+/// and no file is counted where the renewed counts of earlier results don't fit. After `Memory` and
+/// `Overflow` the writer has what it held, or behind that the heading and the rows of the first
+/// files.
 pub fn stream<F: Folders, W: Sink>(
     rows: &Rows,
     folders: &mut F,

@@ -14,7 +14,8 @@ use tokei_stats::{CountsCells, Report};
 const HEADING: &str =
     "# language                                        path                                          lines         code       comments      blanks   \n########## ################################################################################ ############ ############ ############ ############\n";
 
-/// The two rows above a stream of columns.
+/// Writes the two rows above a stream of columns. After a fault of the writer, the only refusal,
+/// nothing is said of what was written.
 pub fn print_stream_heading<W: Sink>(writer: &mut W) -> Result<(), OutputError>
     ensures bytes { OnOk result
         (Appends (W.contents writer.old) (W.contents writer.new) stream_heading) }
@@ -42,7 +43,8 @@ fn stream_row(alloc: Global, language: &str, report: &Report) -> Result<String, 
     format!(in alloc; "{language:>10} {path:<80}{cells}\n")
 }
 
-/// Writes the file's row of a stream of columns, under the name of its language.
+/// Writes the file's row of a stream of columns, under the name of its language. Where memory runs
+/// out nothing is written; after a fault of the writer nothing is said of that.
 pub fn print_stream_row<W: Sink>(
     alloc: Global,
     writer: &mut W,
