@@ -10,9 +10,9 @@ use Rattle.tokei_io.specs.declared.error.OutputError.TheVariants.{Write}
 use Rattle.tokei_options.specs.declared.streaming.Streaming.{Streaming}
 use Rattle.tokei_table.specs.Row.{Row}
 use Rattle.tokei_walk.specs.declared.kept_file.KeptFile.{KeptFile}
-use Rattle.tokei.specs.JobStreams.{BeginsStream, WritesFirst, WritesRows}
+use Rattle.tokei.specs.JobStreams.{BeginsStream, WritesFirst}
 use Rattle.tokei.specs.Rows.{heading_of}
-use Rattle.tokei.specs.Streams.{rows_of}
+use Rattle.tokei.specs.Streams.{rows_of, stream_text}
 
 -- what holds whichever the refusal is
 pub begun_by : {A P : Type 0} (r : Result A OutputError) → P → IfErr r (λ e. e ≢ Write → P)
@@ -26,7 +26,7 @@ module _ (form : Streaming) (rows : List Row) (by : Counting) (t : Tree) (files 
       inr (record { first = []; others = files; are = refl; appended = subst (Appends old mid) (sym (append-nil (heading_of form))) heading })
 
   -- the rows of the first files below it
-  pub rows_behind : (new : Option (List ℕ)) → Appends old mid (heading_of form) → WritesRows form rows by t files mid new → WritesFirst form rows by t files old new
+  pub rows_behind : (new : Option (List ℕ)) → Appends old mid (heading_of form) → WritesFirst (rows_of form rows by t) files mid new → WritesFirst (stream_text form rows by t) files old new
   rows_behind new heading h = record {
     first = h.first;
     others = h.others;

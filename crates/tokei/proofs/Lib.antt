@@ -1,5 +1,6 @@
 pub mod BegunStreams
 pub mod FileReports
 pub mod Filling
+pub mod Shaping
 pub mod StreamNotes
 pub mod WrittenRows

@@ -7,7 +7,7 @@ use Rattle.tokei.specs.Earlier.{earlier_of}
 use Rattle.tokei_languages.specs.Renewing.{RenewalFits}
 use Rattle.tokei_files.specs.Files.{Counting, ReadingsFit}
 use Rattle.tokei.specs.Counted.{counting_of, files_of}
-use Rattle.tokei.specs.Streams.{rows_of, stream_text}
+use Rattle.tokei.specs.Streams.{stream_text}
 use Rattle.tokei_options.specs.declared.streaming.Streaming.{Streaming}
 use Rattle.tokei_table.specs.Row.{Row}
 use Rattle.tokei_walk.specs.declared.kept_file.KeptFile.{KeptFile}
@@ -18,29 +18,19 @@ abbrev pub WritesStream : Streaming → List Row → Job → Tree → Option (Li
 WritesStream form rows job tree old new =
     Appends old new (stream_text form rows (counting_of rows job) tree (files_of job tree))
 
--- behind what stood there a writer has the rows of the first of these files, and nothing else
-pub record WritesRows (form : Streaming) (rows : List Row) (counting : Counting) (tree : Tree)
-    (files : List KeptFile)
+-- behind what stood there a writer has the text of the first of these files, and nothing else
+pub record WritesFirst (text : List KeptFile → List ℕ) (files : List KeptFile)
     (old new : Option (List ℕ)) : Type 0 where
   pub first : List KeptFile
   pub others : List KeptFile
   pub are : files ≡ first ++ others
-  pub appended : Appends old new (rows_of form rows counting tree first)
-
--- the same behind the heading of a stream
-pub record WritesFirst (form : Streaming) (rows : List Row) (counting : Counting) (tree : Tree)
-    (files : List KeptFile)
-    (old new : Option (List ℕ)) : Type 0 where
-  pub first : List KeptFile
-  pub others : List KeptFile
-  pub are : files ≡ first ++ others
-  pub appended : Appends old new (stream_text form rows counting tree first)
+  pub appended : Appends old new (text first)
 
 -- a stream isn't begun, or its first rows are written
 abbrev pub BeginsStream : Streaming → List Row → Counting → Tree → List KeptFile → Option (List ℕ)
     → Option (List ℕ) → Type 0
 BeginsStream form rows counting tree files old new =
-    (new ≡ old) ⊎ WritesFirst form rows counting tree files old new
+    (new ≡ old) ⊎ WritesFirst (stream_text form rows counting tree) files old new
 
 -- of a job's files
 abbrev pub BeginsJobStream : Streaming → List Row → Job → Tree → Option (List ℕ)

@@ -8,6 +8,7 @@ pub mod Output
 pub mod Refused
 pub mod Rows
 pub mod Runs
+pub mod Shapes
 pub mod Streams
 pub mod Sums
 pub mod Texts

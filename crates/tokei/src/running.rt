@@ -4,6 +4,7 @@ ghost use Rattle.tokei_folders.specs.Answers.{Told};
 ghost use Rattle.tokei_io.specs.declared.error.OutputError.TheVariants.{Overflow as SumOverflow, Write as WriteFault};
 ghost use Rattle.tokei.specs.Output.{Outputs};
 ghost use Rattle.tokei.specs.Runs.{languages_after};
+ghost use Rattle.tokei.specs.Shapes.{HasBegun, HasShape, WritesSome};
 ghost use Rattle.tokei.specs.Texts.{WritesText};
 ghost use Rattle.tokei.specs.Refused.{IsBegun, IsUntouched};
 ghost use Rattle.tokei.specs.Sums.{CountedFits, EarlierFits, Fits};
@@ -41,6 +42,8 @@ fn write_counted<F: Folders, W: Sink>(
         (W.contents writer.old) (W.contents writer.new))) }
     ensures overflow { result ≡ Err SumOverflow → Told (F.tree folders.old) (λ t.
         ¬ CountedFits format table.now job.now t) }
+    ensures shaped { OnOk result (WritesSome format table.now job.now
+        (W.contents writer.old) (W.contents writer.new)) }
     ensures untouched { IfErr result (λ e. e ≢ WriteFault
         → W.contents writer.new ≡ W.contents writer.old) }
     ensures fault { TellsFault W.faults writer.old writer.new result WriteFault }
@@ -76,6 +79,10 @@ pub fn run<F: Folders, W: Sink>(
         table.now job.now t (W.contents writer.old) (W.contents writer.new))) }
     ensures overflow { result ≡ Err SumOverflow → Told (F.tree folders.old) (λ t.
         ¬ Fits job.now.wanted table.now job.now t) }
+    ensures shaped { OnOk result (HasShape job.now.wanted table.now job.now
+        (W.contents writer.old) (W.contents writer.new)) }
+    ensures begun { IfErr result (λ e. e ≢ WriteFault → HasBegun job.now.wanted table.now
+        (W.contents writer.old) (W.contents writer.new)) }
     ensures untouched { IfErr result (λ e. e ≢ WriteFault
         → IsUntouched job.now.wanted (W.contents writer.old) (W.contents writer.new)) }
     ensures partly { Told (F.tree folders.old) (λ t. IfErr result (λ e. e ≢ WriteFault

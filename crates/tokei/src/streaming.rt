@@ -14,8 +14,10 @@ ghost use Rattle.tokei_io.specs.declared.error.OutputError.TheVariants.{Overflow
 ghost use Rattle.tokei.specs.Earlier.{earlier_of};
 ghost use Rattle.tokei.specs.Counted.{files_of};
 ghost use Rattle.tokei.specs.JobNotes.{AreNotesOf, walk_notes};
-ghost use Rattle.tokei.specs.JobStreams.{BeginsJobStream, BeginsStream, StreamFits, WritesRows, WritesStream};
+ghost use Rattle.tokei.specs.JobStreams.{BeginsJobStream, BeginsStream, StreamFits, WritesFirst, WritesStream};
+ghost use Rattle.tokei.specs.Shapes.{HasBegun, WritesSomeRows, WritesSomeStream};
 ghost use Rattle.tokei.specs.Streams.{file_row, rows_of, stream_text};
+ghost use Rattle.tokei.specs.declared.job.Wanted.TheVariants.{Stream};
 ghost use Rattle.tokei_folders.specs.AsTheyWere.{AsTheyWere};
 ghost use Rattle.tokei_io.specs.Faults.{TellsFault, PassesNoFault};
 
@@ -57,6 +59,8 @@ fn write_file<F: Folders, W: Sink>(
     ensures no_fault { PassesNoFault W.faults writer.old writer.new result WriteFault }
     ensures untouched { IfErr result (λ e. e ≢ WriteFault
         → W.contents writer.new ≡ W.contents writer.old) }
+    ensures rows { OnOk result (WritesSomeRows by.now.rows.now.form by.now.rows.now.table.now
+        (W.contents writer.old) (W.contents writer.new)) }
     ensures unread { Told (F.tree folders.old) (λ t. OnOk result (unread.new.items
         ≡ unread.old.items ++ unread_of_file (counting_value by.now.counting.now) t file)) }
 {
@@ -96,9 +100,11 @@ fn write_rows<F: Folders, W: Sink>(
         (rows_of by.now.rows.now.form by.now.rows.now.table.now
         (counting_value by.now.counting.now) t (to_come t walk.old)))) }
     ensures partly { Told (F.tree folders.old) (λ t. IfErr result (λ e. e ≢ WriteFault
-        → WritesRows by.now.rows.now.form by.now.rows.now.table.now
-        (counting_value by.now.counting.now) t (to_come t walk.old)
+        → WritesFirst (rows_of by.now.rows.now.form by.now.rows.now.table.now
+        (counting_value by.now.counting.now) t) (to_come t walk.old)
         (W.contents writer.old) (W.contents writer.new))) }
+    ensures rows { result ≢ Err WriteFault → WritesSomeRows by.now.rows.now.form
+        by.now.rows.now.table.now (W.contents writer.old) (W.contents writer.new) }
     ensures overflow { result ≡ Err SumOverflow → Told (F.tree folders.old) (λ t.
         ¬ ReadingsFit (counting_value by.now.counting.now) t (to_come t walk.old)) }
     ensures fault { TellsFault W.faults writer.old writer.new result WriteFault }
@@ -154,6 +160,11 @@ fn write_stream<F: Folders, W: Sink>(
     ensures partly { Told (F.tree folders.old) (λ t. IfErr result (λ e. e ≢ WriteFault
         → BeginsStream rows.now.form rows.now.table.now (counting_value counting.now) t
         (files_of job.now t) (W.contents writer.old) (W.contents writer.new))) }
+    ensures shaped { OnOk result (WritesSomeStream rows.now.form rows.now.table.now
+        (W.contents writer.old) (W.contents writer.new)) }
+    ensures begun { IfErr result (λ e. e ≢ WriteFault
+        → HasBegun (Stream rows.now.form) rows.now.table.now
+        (W.contents writer.old) (W.contents writer.new)) }
     ensures overflow { result ≡ Err SumOverflow → Told (F.tree folders.old) (λ t.
         ¬ ReadingsFit (counting_value counting.now) t (files_of job.now t)) }
     ensures fault { TellsFault W.faults writer.old writer.new result WriteFault }
@@ -192,6 +203,11 @@ pub fn stream<F: Folders, W: Sink>(
     ensures partly { Told (F.tree folders.old) (λ t. IfErr result (λ e. e ≢ WriteFault
         → BeginsJobStream rows.now.form rows.now.table.now job.now t
         (W.contents writer.old) (W.contents writer.new))) }
+    ensures shaped { OnOk result (WritesSomeStream rows.now.form rows.now.table.now
+        (W.contents writer.old) (W.contents writer.new)) }
+    ensures begun { IfErr result (λ e. e ≢ WriteFault
+        → HasBegun (Stream rows.now.form) rows.now.table.now
+        (W.contents writer.old) (W.contents writer.new)) }
     ensures overflow { result ≡ Err SumOverflow → Told (F.tree folders.old) (λ t.
         ¬ StreamFits rows.now.table.now job.now t) }
     ensures earlier { OnOk result (RenewalFits (earlier_of job.now.earlier)) }

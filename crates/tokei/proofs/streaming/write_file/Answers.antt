@@ -12,6 +12,7 @@ use Rattle.tokei_files.proofs.UnreadNotes.{uncounted_unnoted, read_unnoted, refu
 use Rattle.tokei_walk.specs.declared.kept_file.Note.{Note}
 use Rattle.tokei.proofs.FileReports.{in_no_language, was_read, was_refused}
 use Rattle.tokei.specs.Streams.{row_of}
+use Rattle.tokei.proofs.Shaping.{no_row, one_row}
 use Rattle.tokei.proofs.streaming.write_file.Goals as goal
 
 pub returns-in-None-clause-told : goal.returns-in-None-clause-told
@@ -68,3 +69,17 @@ returns-in_ok-note_unread-in-Err-Refused-clause-unread g c = λ t e.
     let none = sym (ap (content_at t) c.as_str.ensures) ∙ refused in
     c.in_ok-note_unread-in-Err-Refused.ensures ∙ ap (λ (q : List Note). c.args.unread.now.items ++ q)
     (sym (refused_noted by t c.args.file c.in_ok-language.field-0 (c.in_ok-language.ensures.told t e) c.in-Some.language c.in-Some.is none))
+
+pub returns-in-None-clause-rows : goal.returns-in-None-clause-rows
+returns-in-None-clause-rows g c = no_row _ _ _
+
+pub returns-in-Ok-clause-rows : goal.returns-in-Ok-clause-rows
+returns-in-Ok-clause-rows g c =
+    let rows = c.args.by.now.rows.now in
+    on_ok_weaker c.write_row.result
+    (λ written. one_row rows.form rows.table.now (g.W.Sink.contents c.args.writer.now) (g.W.Sink.contents c.write_row.new.writer) c.in-Some.language
+    (record { name = string_bytes c.into_string-name.result; stats = stats_of c.in-Ok.stats }) written)
+    c.write_row.ensures.bytes
+
+pub returns-in_ok-note_unread-in-Err-Refused-clause-rows : goal.returns-in_ok-note_unread-in-Err-Refused-clause-rows
+returns-in_ok-note_unread-in-Err-Refused-clause-rows g c = no_row _ _ _

@@ -13,6 +13,8 @@ use Rattle.tokei_walk.proofs.NoteSteps.{come_all}
 use Rattle.tokei_walk.proofs.NoteRoots.{over_notes}
 use Rattle.std.specs.Io.KnownBytes.{Appends}
 use Rattle.std.proofs.lemmas.Result.{err_from_is_err_and}
+use Rattle.tokei.specs.Shapes.{WritesSomeRows}
+use Rattle.tokei.proofs.Shaping.{no_row, rows_on}
 use Rattle.tokei.proofs.streaming.write_rows.Goals as goal
 
 pub loop-file-init : goal.loop-file-init
@@ -23,6 +25,7 @@ loop-file-init g c = record {
   notes = grows_same _ _ refl;
   unread = λ t e. refl;
   noted = λ t e. refl;
+  rows = no_row _ _ _;
   no_fault = λ h. refl;
   honest = λ h. refl;
 }
@@ -47,6 +50,7 @@ loop-file-preserved g c =
           let given = subst (λ (o : Option KeptFile). Advances (to_come t c.loop-file.walk) (to_come t c.next.new.self) o) c.in-Some.is (c.in_ok-file.ensures.told t here) in
           noted_more by t _ _ c.in-Some.file _ _ _ (inv.unread t e) given (c.in_ok-write_file.ensures.unread t (c.next.ensures.folders.same ∙ here));
       noted = λ t e. inv.noted t e ∙ c.in_ok-file.ensures.noted t (inv.same ∙ e);
+      rows = rows_on _ _ _ _ _ inv.rows c.in_ok-write_file.ensures.rows;
       no_fault = search rules;
       honest = stay_on g.F.Folders.memory_faults _ _ _ inv.honest (stay_on g.F.Folders.memory_faults _ _ _ c.in_ok-file.ensures.folders.honest c.in_ok-write_file.ensures.folders.honest);
     }
@@ -109,3 +113,16 @@ returns-in_err-write_file-clause-partly g c = λ t e.
           (rows_of c.args.by.now.rows.now.form c.args.by.now.rows.now.table.now (counting_of c.args.by.now.counting.now) t h.first))
           (sym (c.in_err-write_file.ensures.untouched q)) h.appended;
     })
+
+pub returns-in_err-file-clause-rows : goal.returns-in_err-file-clause-rows
+returns-in_err-file-clause-rows g c = λ q. c.loop-file.invariant.rows
+
+pub returns-in_err-write_file-clause-rows : goal.returns-in_err-write_file-clause-rows
+returns-in_err-write_file-clause-rows g c = λ q.
+    let p = err_from_is_err_and c.from_residual-in_err-write_file.result c.from_residual-in_err-write_file.ensures.1 in
+    let by = c.args.by.now in
+    subst (λ (w : Option (List ℕ)). WritesSomeRows by.rows.now.form by.rows.now.table.now (g.W.Sink.contents c.args.writer.now) w)
+    (sym (c.in_err-write_file.ensures.untouched (λ is. q (p.1 ∙ ap Err (p.2 ∙ is))))) c.loop-file.invariant.rows
+
+pub returns-clause-rows : goal.returns-clause-rows
+returns-clause-rows g c = λ q. c.loop-file.invariant.rows

@@ -15,8 +15,9 @@ use Rattle.tokei.proofs.StreamNotes.{noted_behind}
 use Rattle.tokei.specs.Rows.{heading_of}
 use Rattle.tokei.specs.Streams.{rows_of, stream_text}
 use Rattle.std.proofs.lemmas.Result.{err_from_is_err_and}
-use Rattle.tokei.specs.JobStreams.{WritesRows}
+use Rattle.tokei.specs.JobStreams.{WritesFirst}
 use Rattle.tokei.proofs.BegunStreams.{begun_by, heading_alone, rows_behind, whole_stream}
+use Rattle.tokei.proofs.Shaping.{no_row, stream_of}
 use Rattle.tokei.proofs.streaming.write_stream.Goals as goal
 
 pub returns-clause-told : goal.returns-clause-told
@@ -71,7 +72,7 @@ returns-in_err-written-clause-partly g c = λ t e.
     let sound = sound_of _ t (g.met.F.Folders.sound c.args.folders.now) e in
     rw (p.1, p.2) (λ q.
     inr (rows_behind rows.form rows.table.now by t _ _ _ _ c.in_ok-write_heading.ensures.bytes
-    (subst (λ (files : List KeptFile). WritesRows rows.form rows.table.now by t files (g.W.Sink.contents c.write_heading.new.writer) (g.W.Sink.contents c.write_rows-written.new.writer))
+    (subst (λ (files : List KeptFile). WritesFirst (rows_of rows.form rows.table.now by t) files (g.W.Sink.contents c.write_heading.new.writer) (g.W.Sink.contents c.write_rows-written.new.writer))
     (c.in_ok-walk.ensures.comes t sound) (c.in_err-written.ensures.partly t e q))))
 
 pub returns-in_err-append-clause-partly : goal.returns-in_err-append-clause-partly
@@ -83,3 +84,30 @@ returns-in_err-append-clause-partly g c = λ t e.
     (whole_stream rows.form rows.table.now by t _ _ _ _ c.in_ok-write_heading.ensures.bytes
     (subst (λ (files : List KeptFile). Appends (g.W.Sink.contents c.write_heading.new.writer) (g.W.Sink.contents c.write_rows-written.new.writer) (rows_of rows.form rows.table.now by t files))
     (c.in_ok-walk.ensures.comes t sound) (c.in_ok-written.ensures.told t e)))
+
+pub returns-clause-shaped : goal.returns-clause-shaped
+returns-clause-shaped g c =
+    let rows = c.args.rows.now in
+    stream_of rows.form rows.table.now _ _ _ c.in_ok-write_heading.ensures.bytes (c.in_ok-written.ensures.rows (λ q. cc))
+
+pub returns-in_err-write_heading-clause-begun : goal.returns-in_err-write_heading-clause-begun
+returns-in_err-write_heading-clause-begun g c =
+    let p = err_from_is_err_and c.from_residual.result c.from_residual.ensures.1 in
+    rw (p.1, p.2) (λ q. inl (c.in_err-write_heading.ensures.untouched q))
+
+pub returns-in_err-walk-clause-begun : goal.returns-in_err-walk-clause-begun
+returns-in_err-walk-clause-begun g c =
+    let rows = c.args.rows.now in
+    begun_by c.from_residual-in_err-walk.result (inr (stream_of rows.form rows.table.now _ _ _ c.in_ok-write_heading.ensures.bytes (no_row rows.form rows.table.now _)))
+
+pub returns-in_err-written-clause-begun : goal.returns-in_err-written-clause-begun
+returns-in_err-written-clause-begun g c =
+    let p = err_from_is_err_and c.from_residual-in_err-written.result c.from_residual-in_err-written.ensures.1 in
+    let rows = c.args.rows.now in
+    rw (p.1, p.2) (λ q. inr (stream_of rows.form rows.table.now _ _ _ c.in_ok-write_heading.ensures.bytes (c.in_err-written.ensures.rows (λ is. q cc))))
+
+pub returns-in_err-append-clause-begun : goal.returns-in_err-append-clause-begun
+returns-in_err-append-clause-begun g c =
+    let rows = c.args.rows.now in
+    begun_by c.from_residual-in_err-append.result
+    (inr (stream_of rows.form rows.table.now _ _ _ c.in_ok-write_heading.ensures.bytes (c.in_ok-written.ensures.rows (λ q. cc))))
